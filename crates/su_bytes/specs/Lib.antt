@@ -1,0 +1,5 @@
+pub mod FileId
+pub mod Name
+pub mod Membership
+pub mod Roster
+pub mod Refusal
