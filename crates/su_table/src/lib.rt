@@ -4,6 +4,8 @@
 
 mod forests;
 mod inodes;
+mod laws;
 
 pub use forests::Forest;
 pub use inodes::Inode;
+pub use laws::edits_can_be_taken_back;
