@@ -99,7 +99,7 @@ pub edit-Inodes : (es fs : List (Place × Inode)) (m : FinMap place_cmp Place) (
 unfolding edit
 edit-Inodes es fs m T is p ch v h e =
     let a = from_entries-updates place_cmp_total place_cmp_exact es fs p v h
-        ∙ ap (set_key (from_entries es) p) (sym e ∙ ap (change ch) (sym (get-from_entries_lookup place_cmp_total es p))) in
+    ∙ ap (set_key (from_entries es) p) (sym e ∙ ap (change ch) (sym (get-from_entries_lookup place_cmp_total es p))) in
     ap (λ (n : FinMap place_cmp Inode). record { inodes = n; entries = m }) a ∙ ap (λ (t : Tree). edit t (Inodes p ch)) is
 
 pub edit-Inodes_absent : (es : List (Place × Inode)) (m : FinMap place_cmp Place) (T : Tree) → record { inodes = from_entries es; entries = m } ≡ T
@@ -148,6 +148,7 @@ listing-body T f p o names at found is = ap (listing_at T f) (sym at) ∙ sym (g
   where
     show : Option (List (Name × FileId)) → Result (List (Name × FileId)) Refusal
     show o = elim o [ None ↦ Err (WrongKind f) | Some names ↦ Ok names ]
+
     go : (o : Option (List (Name × FileId))) → ok_or o (WrongKind f) ≡ show o
     go None = refl
     go (Some x) = refl

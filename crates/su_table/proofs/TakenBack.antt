@@ -36,7 +36,7 @@ edit-back T (Inodes p ch) =
     let o = get T.inodes p in
     let returned = ap (change (change_back o ch)) (get-set_key_here place_cmp_total T.inodes p (change ch o)) ∙ change-change_back ch o in
     ap (λ (m : FinMap place_cmp Inode). record T { inodes = m })
-      (ap (set_key (set_key T.inodes p (change ch o)) p) returned ∙ set_key_back place_cmp_total place_cmp_exact T.inodes p (change ch o))
+    (ap (set_key (set_key T.inodes p (change ch o)) p) returned ∙ set_key_back place_cmp_total place_cmp_exact T.inodes p (change ch o))
 
 -- of two lists of edits, one after the other
 pub edits-append : (T : Tree) (es fs : List Edit) → edits T (es ++ fs) ≡ edits (edits T es) fs

@@ -162,9 +162,7 @@ impl Forest {
         ensures refused { IfErr result (λ e. (e ≡ NoMemory) ⊎ (listing self.now file ≡ Err e)) }
     {
         let (user, number) = self.body(file).ok_or(Refusal::NoFile(file))?;
-        let inode = self
-            .inode(user, number)
-            .ok_or(Refusal::WrongKind(file))?;
+        let inode = self.inode(user, number).ok_or(Refusal::WrongKind(file))?;
         inode.names()?.ok_or(Refusal::WrongKind(file))
     }
 
