@@ -39,6 +39,13 @@ impl Forest {
         ensures value { IfOk result (λ forest. forest ≡ genesis) }
         ensures refused { IfErr result (λ e. e ≡ NoMemory) }
     {
+        Forest::rooted(alloc)
+    }
+
+    pub(crate) fn rooted(alloc: Global) -> Result<Forest, Refusal>
+        ensures value { IfOk result (λ forest. forest ≡ genesis) }
+        ensures refused { IfErr result (λ e. e ≡ NoMemory) }
+    {
         let user = User::new(0)?;
         let group = Group::new(0)?;
         let number = Inum::new(1)?;

@@ -5,6 +5,8 @@
 mod forests;
 mod inodes;
 mod laws;
+#[cfg(test)]
+mod tests;
 
 pub use forests::Forest;
 pub use inodes::Inode;

@@ -2,7 +2,7 @@ use Rattle.std.proofs.Common.{◌≡◌, ◌∙◌, ap, sym}
 use Rattle.std.specs.BTreeMap.{insert_entry}
 use Rattle.su_table.specs.Place.{place_cmp}
 use Rattle.su_table.proofs.Stores.{genesis-made}
-use Rattle.su_table.proofs.forests.Forest.genesis.Goals as goal
+use Rattle.su_table.proofs.forests.Forest.rooted.Goals as goal
 
 pub returns-clause-value : goal.returns-clause-value
 returns-clause-value c =
