@@ -1,5 +1,5 @@
 -- What takes single edits back, where they add to what is free, and what an edit leaves as it was.
-use Rattle.std.proofs.Common.{◌≡◌, ◌∙◌, sym, refl, ap, ℕ, Bool, true, false, cond, List, [], ◌∷◌, Option, Some, None, nat_eq, arith}
+use Rattle.std.proofs.Common.{◌≡◌, ◌∙◌, sym, refl, ap, ℕ, Bool, true, false, cond, List, [], ◌∷◌, ◌++◌, ◌-◌, nat_le, Option, Some, None, nat_eq, arith}
 use Rattle.std.specs.Ordering.{eq_by_cmp}
 use Rattle.std.specs.Cmp.{eq_by_cmp_equiv}
 use Rattle.std.specs.FinMap.{get, len, empty_of_len, get-empty}
@@ -7,16 +7,19 @@ use Rattle.su_bytes.specs.declared.file_ids.FileId.{FileId}
 use Rattle.su_bytes.specs.declared.file_ids.FileId.TheVariants.{User, Group}
 use Rattle.su_bytes.specs.declared.file_ids.Kind.{Kind}
 use Rattle.su_table.specs.Place.{Place, Name, place_cmp, place_eq, name_cmp, file_eq}
-use Rattle.su_table.specs.Inode.{Inode, Content, Content.Bytes, Content.Names}
+use Rattle.su_table.specs.Inode.{Inode, Content, Content.Bytes, Content.Names, new_inode}
 use Rattle.su_table.specs.Tree.{Tree}
 use Rattle.su_table.specs.Cell.{Cell.At, Cell.Entry, Field, Field.KindOf, Field.LinksOf, Field.NameOf, Value, file_value, place_value, field_value, val}
 use Rattle.su_table.specs.Query.{is_nothing, number_of, is_file_id, is_free_at, is_name_free_at, is_entry_free, leads_to_at, links_at, is_bare_at, has_no_names, body, entry_body}
-use Rattle.su_table.specs.Edit.{Change, Change.Named, Change.Made, Change.Linked, Change.Copied, Change.Gone, change, Edit, Edit.Inodes, Edit.Entries, edit, back, name_in, links_in, restoring, named}
+use Rattle.su_table.specs.Edit.{Change, Change.Named, Change.Made, Change.Linked, Change.Copied, Change.Gone, change, Edit, Edit.Inodes, Edit.Entries, edit, edits, back, name_in, links_in, restoring, named}
 use Rattle.su_op.specs.declared.creation.Create.{Create}
 use Rattle.su_op.specs.Rule.{entry_edits}
 use Rattle.su_op.specs.Creation.{create_plan}
+use Rattle.su_op.specs.declared.unlinking.Unlink.{Unlink}
+use Rattle.su_op.specs.Unlinking.{unlink_plan, unlink_edits}
 use Rattle.su_op.specs.Growth.{AreFreeFor}
 use Rattle.su_table.proofs.Maps.{get-set_key, get-set_key_here, eq_by_cmp-same}
+use Rattle.su_table.proofs.TakenBack.{edit-back}
 use Rattle.su_table.proofs.Places.{place_cmp_total, place_cmp_exact, name_cmp_total}
 
 -- ---- values that are nothing
@@ -209,3 +212,34 @@ create_free T a c d name place entry = (name, (is_free_at-named T d c.name (Some
     go : (f : FileId) → is_entry_free T f ≡ true → AreFreeFor (edit (edit T (Inodes d (Named c.name (Some c.file)))) (Inodes (a, c.body) (Made c.file c.kind))) (entry_edits f (Some (a, c.body)))
     go (User u i) e = tt
     go (Group g k) e = (ap is_nothing (val-entry_inodes (edit T (Inodes d (Named c.name (Some c.file)))) (a, c.body) (Made c.file c.kind) (g, k) ∙ val-entry_inodes T d (Named c.name (Some c.file)) (g, k)) ∙ e, tt)
+
+-- ---- an unlink
+
+-- of more links than one: the name goes, and one link
+pub unlink_some : (T : Tree) (d f : Place) (u : Unlink) (l : ℕ) → l ≡ links_at (edit T (Inodes d (Named u.name None))) f → nat_le 2 l ≡ true
+    → edit (edit T (Inodes d (Named u.name None))) (Inodes f (Linked (l - 1))) ≡ edits T (unlink_plan (links_at T f) u d f).edits
+unlink_some T d f u l is more =
+    let same : l ≡ links_at T f = is ∙ links_at-named T d u.name None f in
+    ap (λ b. edits (edit T (Inodes d (Named u.name None))) (unlink_edits b l u.file f)) (sym more)
+    ∙ ap (λ n. edits (edit T (Inodes d (Named u.name None))) (unlink_edits (nat_le 2 n) n u.file f)) same
+
+-- of the last link: the name goes, and the file
+pub unlink_last : (T : Tree) (d f : Place) (u : Unlink) (l : ℕ) → l ≡ links_at (edit T (Inodes d (Named u.name None))) f → nat_le 2 l ≡ false
+    → edits (edit T (Inodes d (Named u.name None))) (entry_edits u.file None ++ Inodes f Gone ∷ []) ≡ edits T (unlink_plan (links_at T f) u d f).edits
+unlink_last T d f u l is more =
+    let same : l ≡ links_at T f = is ∙ links_at-named T d u.name None f in
+    ap (λ b. edits (edit T (Inodes d (Named u.name None))) (unlink_edits b l u.file f)) (sym more)
+    ∙ ap (λ n. edits (edit T (Inodes d (Named u.name None))) (unlink_edits (nat_le 2 n) n u.file f)) same
+
+-- ---- what was added is taken away again
+
+pub copied_gone : (T : Tree) (p : Place) (i : Inode) → is_free_at T p ≡ true → edit (edit T (Inodes p (Copied i))) (Inodes p Gone) ≡ T
+copied_gone T p i free = ap (edit (edit T (Inodes p (Copied i)))) (sym (back_copied T p i free)) ∙ edit-back T (Inodes p (Copied i))
+
+pub named_unnamed : (T : Tree) (d : Place) (x : Name) (f : FileId) → is_name_free_at T d x ≡ true → edit (edit T (Inodes d (Named x (Some f)))) (Inodes d (Named x None)) ≡ T
+named_unnamed T d x f free = ap (edit (edit T (Inodes d (Named x (Some f))))) (sym (back_name T d x f free)) ∙ edit-back T (Inodes d (Named x (Some f)))
+
+-- a new inode put there is an inode made there
+pub edit-copied_new : (T : Tree) (p : Place) (home : FileId) (kind : Kind) → edit T (Inodes p (Copied (new_inode home kind))) ≡ edit T (Inodes p (Made home kind))
+unfolding edit
+edit-copied_new T p home kind = refl

@@ -24,6 +24,7 @@ pub enum Change {
 }
 
 impl Op {
+    #[tactic(auto, unfolding(crate::specs::Operation::why))]
     /// Whether the operation by that author is accepted; else the first refusal. Takes no memory.
     pub fn check(&self, forest: &Forest, roster: &Roster, author: User) -> Result<(), Refusal>
         ensures accepted { OnOk result (why roster.now forest.now author self.now ≡ None) }
@@ -31,7 +32,7 @@ impl Op {
     {
         match self {
             Op::Create(create) => {
-                let _: FileId = create.dir;
+                let _dir: FileId = create.dir;
                 create.check(forest, roster, author)?;
             }
             Op::Unlink(unlink) => {
@@ -42,6 +43,7 @@ impl Op {
     }
 }
 
+#[tactic(auto, unfolding(crate::specs::Operation::why, crate::specs::Operation::effect))]
 /// Does an operation of that author. A refusal, the first in order or `NoMemory`, changes nothing.
 pub fn apply(
     alloc: Global,
@@ -57,7 +59,7 @@ pub fn apply(
 {
     match op {
         Op::Create(create) => {
-            let _: FileId = create.dir;
+            let _dir: FileId = create.dir;
             let directory = create.check(forest, roster, author)?;
             create.perform(alloc, forest, author, directory)
         }
