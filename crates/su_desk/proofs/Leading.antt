@@ -11,48 +11,52 @@ use Rattle.su_op.specs.declared.operations.Change.TheVariants.{Do, Undo}
 use Rattle.su_op.specs.Operation.{why, effect}
 use Rattle.su_desk.specs.declared.entries.Entry.{Entry}
 use Rattle.su_desk.specs.History.{Turn, turns_from, undoes, is_undone, live, live_numbers, replay, tree, entry_at, undoer_from, undoer, last_of, last_live}
-use Rattle.su_desk.specs.Keeping.{Kept, TakesBack, Leads, Keeps}
+use Rattle.su_desk.specs.declared.kept.KeptOperation.{KeptOperation}
+use Rattle.su_desk.specs.Taking.{edits_of, IsReady}
+use Rattle.su_desk.specs.Keeping.{TakesBack, Leads, Keeps}
 use Rattle.su_desk.proofs.Turns.{Rising, rising_live, last_taken_out, is_undone-append, live-do, live-undo}
 
 -- ---- lists of operations and what is kept of them
 
 -- the operations that lead to a tree have it as their replay
-pub replay_led : (ro : Membership) (S T : Tree) (ts : List Turn) (ks : List Kept) → Leads ro S ts ks T → replay ro S ts ≡ Some T
+pub replay_led : (ro : Membership) (S T : Tree) (ts : List Turn) (ks : List KeptOperation) → Leads ro S ts ks T → replay ro S ts ≡ Some T
 replay_led ro S T [] [] e = ap Some e
 replay_led ro S T (t ∷ ts) (k ∷ ks) (b, rest) =
     ap (λ w. cond (is_none w) (replay ro (effect ro S t.author t.op) ts) None) b.accepted ∙ replay_led ro (effect ro S t.author t.op) T ts ks rest
 replay_led ro S T [] (k ∷ ks) h = absurd h
 replay_led ro S T (t ∷ ts) [] h = absurd h
 
-pub numbers_led : (ro : Membership) (S T : Tree) (ts : List Turn) (ks : List Kept) → Leads ro S ts ks T → map (λ k. k.number) ks ≡ map (λ t. t.number) ts
+pub numbers_led : (ro : Membership) (S T : Tree) (ts : List Turn) (ks : List KeptOperation) → Leads ro S ts ks T → map (λ k. k.number) ks ≡ map (λ t. t.number) ts
 numbers_led ro S T [] [] e = refl
 numbers_led ro S T (t ∷ ts) (k ∷ ks) (b, rest) = λ i. b.number i ∷ numbers_led ro (effect ro S t.author t.op) T ts ks rest i
 numbers_led ro S T [] (k ∷ ks) h = absurd h
 numbers_led ro S T (t ∷ ts) [] h = absurd h
 
 -- one operation more
-pub led_further : (ro : Membership) (S T : Tree) (ts : List Turn) (ks : List Kept) (t : Turn) (k : Kept) → Leads ro S ts ks T → TakesBack ro T t k → Leads ro S (ts ++ t ∷ []) (ks ++ k ∷ []) (effect ro T t.author t.op)
+pub led_further : (ro : Membership) (S T : Tree) (ts : List Turn) (ks : List KeptOperation) (t : Turn) (k : KeptOperation) → Leads ro S ts ks T → TakesBack ro T t k → Leads ro S (ts ++ t ∷ []) (ks ++ k ∷ []) (effect ro T t.author t.op)
 led_further ro S T [] [] t k e b = (subst (λ R. TakesBack ro R t k) (sym e) b, ap (λ R. effect ro R t.author t.op) e)
 led_further ro S T (u ∷ ts) (l ∷ ks) t k (c, rest) b = (c, led_further ro (effect ro S u.author u.op) T ts ks t k rest b)
 led_further ro S T [] (l ∷ ks) t k h b = absurd h
 led_further ro S T (u ∷ ts) [] t k h b = absurd h
 
 -- the last operation, and where those before it lead
-pub record LastLed (ro : Membership) (S : Tree) (ts : List Turn) (ks : List Kept) (k : Kept) (T : Tree) : Type 0 where
+pub record LastLed (ro : Membership) (S : Tree) (ts : List Turn) (ks : List KeptOperation) (k : KeptOperation) (T : Tree) : Type 0 where
   pub front : List Turn
   pub last : Turn
   pub whole : ts ≡ front ++ last ∷ []
   pub number : k.number ≡ last.number
-  pub leads : Leads ro S front ks (edits T k.edits)
+  pub leads : Leads ro S front ks (edits T (edits_of k.undoing))
+  pub ready : IsReady k.undoing T
 
-pub last_led : (ro : Membership) (S T : Tree) (ts : List Turn) (ks : List Kept) (k : Kept) → Leads ro S ts (ks ++ k ∷ []) T → LastLed ro S ts ks k T
+pub last_led : (ro : Membership) (S T : Tree) (ts : List Turn) (ks : List KeptOperation) (k : KeptOperation) → Leads ro S ts (ks ++ k ∷ []) T → LastLed ro S ts ks k T
 last_led ro S T [] [] k h = absurd h
 last_led ro S T (t ∷ []) [] k (b, e) = record {
   front = [];
   last = t;
   whole = refl;
   number = b.number;
-  leads = sym b.back ∙ ap (λ R. edits R k.edits) e;
+  leads = sym b.back ∙ ap (λ R. edits R (edits_of k.undoing)) e;
+  ready = subst (IsReady k.undoing) e b.ready;
 }
 last_led ro S T (t ∷ u ∷ ts) [] k (b, h) = absurd h
 last_led ro S T [] (l ∷ ks) k h = absurd h
@@ -64,16 +68,17 @@ last_led ro S T (t ∷ ts) (l ∷ ks) k (b, rest) =
       whole = ap (λ xs. t ∷ xs) r.whole;
       number = r.number;
       leads = (b, r.leads);
+      ready = r.ready;
     }
 
 -- ---- the history
 
 -- the forest is the tree of the history
-pub tree_kept : (ro : Membership) (h : List Entry) (ks : List Kept) (T : Tree) → Keeps ro h ks T → tree ro h ≡ Some T
+pub tree_kept : (ro : Membership) (h : List Entry) (ks : List KeptOperation) (T : Tree) → Keeps ro h ks T → tree ro h ≡ Some T
 unfolding tree
 tree_kept ro h ks T keeps = replay_led ro genesis T (live h) ks keeps.leads
 
-pub numbers_kept : (ro : Membership) (h : List Entry) (ks : List Kept) (T : Tree) → Keeps ro h ks T → map (λ k. k.number) ks ≡ live_numbers h
+pub numbers_kept : (ro : Membership) (h : List Entry) (ks : List KeptOperation) (T : Tree) → Keeps ro h ks T → map (λ k. k.number) ks ≡ live_numbers h
 numbers_kept ro h ks T keeps = numbers_led ro genesis T (live h) ks keeps.leads
 
 -- an empty history
@@ -81,32 +86,32 @@ pub keeps_nothing : (ro : Membership) → Keeps ro [] [] genesis
 keeps_nothing ro = record { leads = refl; past = λ n l. refl }
 
 -- one operation more
-pub keeps_do : (ro : Membership) (h : List Entry) (ks : List Kept) (T : Tree) (a : ℕ) (op : Op) (k : Kept) → Keeps ro h ks T
-    → why ro T a op ≡ None → k.number ≡ length h + 1 → edits (effect ro T a op) k.edits ≡ T
+pub keeps_do : (ro : Membership) (h : List Entry) (ks : List KeptOperation) (T : Tree) (a : ℕ) (op : Op) (k : KeptOperation) → Keeps ro h ks T
+    → why ro T a op ≡ None → k.number ≡ length h + 1 → edits (effect ro T a op) (edits_of k.undoing) ≡ T → IsReady k.undoing (effect ro T a op)
     → Keeps ro (h ++ record { author = a; change = Do op } ∷ []) (ks ++ k ∷ []) (effect ro T a op)
-keeps_do ro h ks T a op k keeps accepted number back =
+keeps_do ro h ks T a op k keeps accepted number back ready =
     let t : Turn = record { number = length h + 1; author = a; op = op } in
-    let b : TakesBack ro T t k = record { accepted = accepted; number = number; back = back } in
+    let b : TakesBack ro T t k = record { accepted = accepted; number = number; back = back; ready = ready } in
     record {
       leads = subst (λ ts. Leads ro genesis ts (ks ++ k ∷ []) (effect ro T a op)) (sym (live-do h a op (keeps.past (length h + 1) (omega arith)))) (led_further ro genesis T (live h) ks t k keeps.leads b);
       past = λ n l. is_undone-append h (record { author = a; change = Do op }) n ∙ ap (λ b. b || false) (keeps.past n (let more = length-append h (record { author = a; change = Do op } ∷ []) in omega arith));
     }
 
 -- the last operation is undone
-pub keeps_undo : (ro : Membership) (h : List Entry) (ks : List Kept) (T : Tree) (a n : ℕ) (k : Kept) → Keeps ro h (ks ++ k ∷ []) T
-    → k.number ≡ n → n ≤ length h → Keeps ro (h ++ record { author = a; change = Undo n } ∷ []) ks (edits T k.edits)
+pub keeps_undo : (ro : Membership) (h : List Entry) (ks : List KeptOperation) (T : Tree) (a n : ℕ) (k : KeptOperation) → Keeps ro h (ks ++ k ∷ []) T
+    → k.number ≡ n → n ≤ length h → Keeps ro (h ++ record { author = a; change = Undo n } ∷ []) ks (edits T (edits_of k.undoing))
 keeps_undo ro h ks T a n k keeps number within =
     let r = last_led ro genesis T (live h) ks k keeps.leads in
     let named : n ≡ r.last.number = sym number ∙ r.number in
     let left : live (h ++ record { author = a; change = Undo n } ∷ []) ≡ r.front
-        = live-undo h a n ∙ ap (λ m. filter (λ (t : Turn). not (nat_eq t.number m)) (live h)) named
-        ∙ ap (filter (λ (t : Turn). not (nat_eq t.number r.last.number))) r.whole
-        ∙ last_taken_out 0 r.front r.last (subst (Rising 0) r.whole (rising_live h)) in
+    = live-undo h a n ∙ ap (λ m. filter (λ (t : Turn). not (nat_eq t.number m)) (live h)) named
+    ∙ ap (filter (λ (t : Turn). not (nat_eq t.number r.last.number))) r.whole
+    ∙ last_taken_out 0 r.front r.last (subst (Rising 0) r.whole (rising_live h)) in
     record {
-      leads = subst (λ ts. Leads ro genesis ts ks (edits T k.edits)) (sym left) r.leads;
+      leads = subst (λ ts. Leads ro genesis ts ks (edits T (edits_of k.undoing))) (sym left) r.leads;
       past = λ m l.
-        let more = length-append h (record { author = a; change = Undo n } ∷ []) in
-        is_undone-append h (record { author = a; change = Undo n }) m ∙ ap (λ b. b || nat_eq m n) (keeps.past m (omega arith)) ∙ other m n (omega arith);
+          let more = length-append h (record { author = a; change = Undo n } ∷ []) in
+          is_undone-append h (record { author = a; change = Undo n }) m ∙ ap (λ b. b || nat_eq m n) (keeps.past m (omega arith)) ∙ other m n (omega arith);
     }
   where
     other : (m n : ℕ) → n < m → nat_eq m n ≡ false
@@ -126,12 +131,12 @@ last_of-append : (m : ℕ) (ms : List ℕ) (n : ℕ) → last_of m (ms ++ n ∷ 
 last_of-append m [] n = refl
 last_of-append m (x ∷ ms) n = last_of-append x ms n
 
-map_last : (ks : List Kept) (k : Kept) → map (λ x. x.number) (ks ++ k ∷ []) ≡ map (λ x. x.number) ks ++ k.number ∷ []
+map_last : (ks : List KeptOperation) (k : KeptOperation) → map (λ x. x.number) (ks ++ k ∷ []) ≡ map (λ x. x.number) ks ++ k.number ∷ []
 map_last [] k = refl
 map_last (l ∷ ks) k = ap (λ xs. l.number ∷ xs) (map_last ks k)
 
 -- the last that is kept is the last live operation
-pub last_kept : (ro : Membership) (h : List Entry) (ks : List Kept) (k : Kept) (T : Tree) → Keeps ro h (ks ++ k ∷ []) T → last_live h ≡ k.number
+pub last_kept : (ro : Membership) (h : List Entry) (ks : List KeptOperation) (k : KeptOperation) (T : Tree) → Keeps ro h (ks ++ k ∷ []) T → last_live h ≡ k.number
 last_kept ro h ks k T keeps =
     ap (last_of 0) (sym (numbers_kept ro h (ks ++ k ∷ []) T keeps) ∙ map_last ks k) ∙ last_of-append 0 (map (λ x. x.number) ks) k.number
 
@@ -161,7 +166,7 @@ none_undoes k (x ∷ h) n e = go (undoes n x.change) e (none_undoes (k + 1) h n)
     go false e ih = ih e
 
 -- no undo names the last that is kept
-pub last_not_undone : (ro : Membership) (h : List Entry) (ks : List Kept) (k : Kept) (T : Tree) → Keeps ro h (ks ++ k ∷ []) T → undoer h k.number ≡ None
+pub last_not_undone : (ro : Membership) (h : List Entry) (ks : List KeptOperation) (k : KeptOperation) (T : Tree) → Keeps ro h (ks ++ k ∷ []) T → undoer h k.number ≡ None
 last_not_undone ro h ks k T keeps =
     let r = last_led ro genesis T (live h) ks k keeps.leads in
     let passed : not (is_undone h r.last.number) ≡ true = filtered_last (λ t. not (is_undone h t.number)) (turns_from 1 h) r.front r.last r.whole in
@@ -170,3 +175,7 @@ last_not_undone ro h ks k T keeps =
     not_true : (b : Bool) → not b ≡ true → b ≡ false
     not_true true e = absurd (let bad : false ≡ true = e in cc)
     not_true false e = refl
+
+-- the last that is kept can be undone
+pub last_ready : (ro : Membership) (h : List Entry) (ks : List KeptOperation) (k : KeptOperation) (T : Tree) → Keeps ro h (ks ++ k ∷ []) T → IsReady k.undoing T
+last_ready ro h ks k T keeps = (last_led ro genesis T (live h) ks k keeps.leads).ready

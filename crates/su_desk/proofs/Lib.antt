@@ -1,2 +1,5 @@
 pub mod Turns
 pub mod Leading
+pub mod Undone
+pub mod Answering
+pub mod Running

@@ -1,17 +1,26 @@
--- The edits that take back an operation, as they are kept.
-use Rattle.std.specs.Prelude.{List, [], ◌∷◌, ◌++◌, Some, None}
-use Rattle.su_table.specs.Edit.{Edit, Edit.Inodes, Change.Named, Change.Linked, Change.Copied, Change.Gone}
+-- What is kept of an operation: the edits that take it back, and when they can be made.
+use Rattle.std.specs.Prelude.{◌≡◌, true, List, [], ◌∷◌, ◌++◌, Some, None}
+use Rattle.su_table.specs.Tree.{Tree}
+use Rattle.su_table.specs.Query.{is_free_at}
+use Rattle.su_table.specs.Edit.{Edit, Edit.Inodes, Change.Named, Change.Linked, Change.Gone, restoring, edit}
 use Rattle.su_op.specs.Rule.{entry_edits}
+use Rattle.su_op.specs.Growth.{AreFreeFor}
+use Rattle.su_desk.specs.declared.kept.Entrance.{Entrance}
 use Rattle.su_desk.specs.declared.kept.Undoing.{Undoing}
-use Rattle.su_desk.specs.declared.kept.Undoing.TheVariants.{Create, Unlink, UnlinkLast}
-use Rattle.su_desk.specs.declared.kept.KeptOperation.{KeptOperation}
-use Rattle.su_desk.specs.Keeping.{Kept}
+use Rattle.su_desk.specs.declared.kept.Undoing.TheVariants.{Remove, Relink, Restore}
 
--- what was made goes, and its name; what went returns, and its name
+-- a group file's entry, and a name that leads to the file
+abbrev pub entering : Entrance → List Edit
+entering e = entry_edits e.file (Some e.place) ++ Inodes e.directory (Named e.name (Some e.file)) ∷ []
+
+-- The edits that take away a file and its name; that give back a name and a link; that give back a name and the file.
 abbrev pub edits_of : Undoing → List Edit
-edits_of (Create directory name file place) = entry_edits file None ++ Inodes place Gone ∷ Inodes directory (Named name None) ∷ []
-edits_of (Unlink directory name file place links) = Inodes place (Linked links) ∷ Inodes directory (Named name (Some file)) ∷ []
-edits_of (UnlinkLast directory name file place inode) = Inodes place (Copied inode) ∷ (entry_edits file (Some place) ++ Inodes directory (Named name (Some file)) ∷ [])
+edits_of (Remove e) = entry_edits e.file None ++ Inodes e.place Gone ∷ Inodes e.directory (Named e.name None) ∷ []
+edits_of (Relink e links) = Inodes e.place (Linked links) ∷ Inodes e.directory (Named e.name (Some e.file)) ∷ []
+edits_of (Restore e inode) = Inodes e.place (restoring inode) ∷ entering e
 
-abbrev pub kept_of : KeptOperation → Kept
-kept_of k = record { number = k.number; edits = edits_of k.undoing }
+-- what is given back stands nowhere
+abbrev pub IsReady : Undoing → Tree → Type 0
+IsReady (Remove e) T = Unit {0}
+IsReady (Relink e links) T = Unit {0}
+IsReady (Restore e inode) T = (is_free_at T e.place ≡ true) × AreFreeFor (edit T (Inodes e.place (restoring inode))) (entering e)

@@ -1,14 +1,9 @@
 //! A desk: a history of operations and undos, and the tree that its live operations make.
 #![tactic(auto)]
 
-ghost use Rattle.su_desk.specs.Keeping.{Keeps};
-
+mod desks;
 mod entries;
+mod kept;
 
+pub use desks::Desk;
 pub use entries::{DeskReply, Entry};
-
-/// tmp
-pub fn probe()
-    ensures { Unit {0} }
-{
-}

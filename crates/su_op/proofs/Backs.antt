@@ -32,7 +32,7 @@ no_place : (o : Option Place) → is_nothing (place_value o) ≡ true → o ≡ 
 no_place None e = refl
 no_place (Some p) e = absurd cc
 
-no_inode : (o : Option Inode) → is_nothing (field_value o KindOf) ≡ true → o ≡ None
+pub no_inode : (o : Option Inode) → is_nothing (field_value o KindOf) ≡ true → o ≡ None
 no_inode None e = refl
 no_inode (Some i) e = absurd cc
 

@@ -13,4 +13,4 @@ pub returns-clause-ok : goal.returns-clause-ok
 returns-clause-ok c =
     c.in_default.ensures.ok
     ∙ ap (λ T. edits T (entry_edits c.args.self.now.file (Some c.args.place)))
-        (c.in_ok-put_inode.ensures.ok ∙ ap (λ i. edit c.args.forest.now (Inodes c.args.place (Copied i))) c.new-inode.ensures ∙ edit-copied_new c.args.forest.now c.args.place c.args.self.now.file c.args.self.now.kind)
+    (c.in_ok-put_inode.ensures.ok ∙ ap (λ i. edit c.args.forest.now (Inodes c.args.place (Copied i))) c.new-inode.ensures ∙ edit-copied_new c.args.forest.now c.args.place c.args.self.now.file c.args.self.now.kind)

@@ -1,0 +1,236 @@
+// The desk: a history, what is kept of its live operations, and the forest that they make.
+ghost use Rattle.std.specs.Prelude.{◌≡◌, [], map, option_copied, Some, None, OnOk, IfOk, IfErr, OnErr};
+ghost use Rattle.su_bytes.specs.declared.refusals.Refusal.TheVariants.{NoMemory};
+ghost use Rattle.su_op.specs.declared.operations.Change.TheVariants.{Do, Undo};
+ghost use Rattle.su_desk.specs.History.{tree, live_numbers, last_live, entry_at, undoer};
+ghost use Rattle.su_desk.specs.Answer.{undo_refusal};
+ghost use Rattle.su_desk.specs.Desk.{Answers, Runs, result_of};
+
+use crate::entries::{DeskReply, Entry};
+use crate::kept::{KeptOperation, Undoing};
+use std::alloc::Global;
+use std::marker::Model;
+use su_bytes::{Refusal, Roster, User};
+use su_op::{Change, Op, apply};
+use su_table::Forest;
+
+/// A history of changes, and the tree of its live operations. It is seen as its roster and its history.
+#[derive(Drop)]
+pub struct Desk {
+    roster: Roster,
+    entries: Vec<Entry>,
+    kept: Vec<KeptOperation>,
+    forest: Forest,
+    alloc: Global,
+}
+
+impl Model for Desk {
+    ghost use Rattle.su_desk.specs.Desk.{DeskState};
+
+    ghost Value = { DeskState };
+
+    ghost use Rattle.su_desk.specs.Keeping.{Keeps};
+
+    ghost view = { λ d. record { roster = d.roster; history = d.entries.items } };
+
+    ghost invariant = { λ d. Keeps d.roster d.entries.items d.kept.items d.forest };
+}
+
+impl Desk {
+    /// A desk with an empty history. Only `NoMemory` can come.
+    pub fn new(alloc: Global, roster: Roster) -> Result<Desk, Refusal>
+        ensures value { IfOk result (λ desk. desk ≡ record { roster = roster; history = [] }) }
+        ensures refused { IfErr result (λ e. e ≡ NoMemory) }
+    {
+        let forest = Forest::genesis(alloc, &roster)?;
+        Ok(Desk {
+            roster,
+            entries: Vec::new(alloc),
+            kept: Vec::new(alloc),
+            forest,
+            alloc,
+        })
+    }
+
+    /// The tree of the live operations.
+    pub fn forest(&self) -> &Forest
+        ensures { tree self.now.roster self.now.history ≡ Some result.now }
+    {
+        &self.forest
+    }
+
+    /// The numbers of the live operations, ascending. Only `NoMemory` can come.
+    pub fn live(&self) -> Result<Vec<u64>, Refusal>
+        ensures value { IfOk result (λ numbers. numbers.items ≡ live_numbers self.now.history) }
+        ensures refused { IfErr result (λ e. e ≡ NoMemory) }
+    {
+        let numbers = numbers(self.alloc, self.kept.as_slice())?;
+        Ok(numbers)
+    }
+
+    /// Makes a change, and answers the number of its entry. A refusal, the first in order or `NoMemory`, changes nothing.
+    pub fn apply(&mut self, author: User, change: Change) -> Result<u64, Refusal>
+        ensures { Answers self.old author change result self.new }
+    {
+        match change {
+            Change::Do(op) => self.operate(author, op),
+            Change::Undo(number) => self.undo(author, number),
+        }
+    }
+
+    /// Undoes the last live operation; `NoOperation` with 0 where there is none.
+    pub fn undo_last(&mut self, author: User) -> Result<u64, Refusal>
+        ensures { Answers self.old author (Undo (last_live self.old.history)) result self.new }
+    {
+        let number = self.last();
+        self.undo(author, number)
+    }
+
+    /// Makes the changes one after another, and answers each. `NoMemory` comes where there is no room for the replies, and
+    /// then nothing is changed; want of memory for a single change is the reply to it.
+    pub fn run(&mut self, changes: &[(User, Change)]) -> Result<Vec<DeskReply>, Refusal>
+        ensures replies { IfOk result (λ replies. Runs self.old changes.now replies.items self.new) }
+        ensures refused { IfErr result (λ e. e ≡ NoMemory) }
+        ensures err { OnErr result (self.new ≡ self.old) }
+    {
+        let mut replies = Vec::with_capacity(self.alloc, changes.len())?;
+        for change in changes {
+            let reply = self.reply(change);
+            replies.push_reserved(reply);
+        }
+        Ok(replies)
+    }
+
+    /// The number of the last live operation, 0 where there is none.
+    fn last(&self) -> u64
+        ensures { result ≡ last_live self.now.history }
+    {
+        match self.kept.last() {
+            Some(kept) => kept.number,
+            None => 0,
+        }
+    }
+
+    /// Does an operation, and adds it to the history.
+    fn operate(&mut self, author: User, op: Op) -> Result<u64, Refusal>
+        ensures { Answers self.old author (Do op) result self.new }
+    {
+        if let Err(refusal) = op.check(&self.forest, &self.roster, author) {
+            return Err(refusal);
+        }
+        let undoing = Undoing::of(&self.forest, author, &op)?;
+        self.entries.reserve(1)?;
+        self.kept.reserve(1)?;
+        apply(self.alloc, &mut self.forest, &self.roster, author, &op)?;
+        let change = Change::Do(op);
+        self.entries.push_reserved(Entry { author, change });
+        let number = self.entries.len() as u64;
+        self.kept.push_reserved(KeptOperation { number, undoing });
+        Ok(number)
+    }
+
+    /// Undoes an operation, and adds that to the history.
+    fn undo(&mut self, author: User, number: u64) -> Result<u64, Refusal>
+        ensures { Answers self.old author (Undo number) result self.new }
+    {
+        if let Err(refusal) = self.check_undo(author, number) {
+            return Err(refusal);
+        }
+        self.entries.reserve(1)?;
+        let Some(kept) = self.kept.last() else {
+            return Err(Refusal::NoOperation(number));
+        };
+        kept.undoing.put_back(&mut self.forest)?;
+        self.kept.pop();
+        let change = Change::Undo(number);
+        self.entries.push_reserved(Entry { author, change });
+        Ok(self.entries.len() as u64)
+    }
+
+    /// Whether the author may undo that operation; else the first refusal.
+    fn check_undo(&self, author: User, number: u64) -> Result<(), Refusal>
+        ensures accepted { OnOk result (undo_refusal self.now.roster self.now.history author number ≡ None) }
+        ensures refused { IfErr result (λ e. undo_refusal self.now.roster self.now.history author number ≡ Some e) }
+    {
+        if !self.roster.has_user(author) {
+            return Err(Refusal::NoUser(author));
+        }
+        let Some(entry) = entry_at(self.entries.as_slice(), number) else {
+            return Err(Refusal::NoOperation(number));
+        };
+        let Change::Do(_) = &entry.change else {
+            return Err(Refusal::NotOperation(number));
+        };
+        if let Some(by) = self.undoer(number) {
+            return Err(Refusal::AlreadyUndone(number, by));
+        }
+        if author != entry.author {
+            return Err(Refusal::NotAuthor(entry.author));
+        }
+        let last = self.last();
+        if number != last {
+            return Err(Refusal::Blocked(last));
+        }
+        Ok(())
+    }
+
+    /// The number of the entry that undid that one. The last live operation was not undone, so nothing is searched for it.
+    fn undoer(&self, number: u64) -> Option<u64>
+        ensures { result ≡ undoer self.now.history number }
+    {
+        if let Some(kept) = self.kept.last()
+            && kept.number == number
+        {
+            return None;
+        }
+        undoer_in(self.entries.as_slice(), number)
+    }
+
+    /// What is answered to one of several changes.
+    fn reply(&mut self, change: &(User, Change)) -> DeskReply
+        ensures { Answers self.old change.now.0 change.now.1 (result_of result) self.new }
+    {
+        let copy = match change.1.clone() {
+            Ok(copy) => copy,
+            Err(_) => return DeskReply::Refused(Refusal::NoMemory),
+        };
+        match self.apply(change.0, copy) {
+            Ok(number) => DeskReply::Done(number),
+            Err(refusal) => DeskReply::Refused(refusal),
+        }
+    }
+}
+
+/// The entry of a number.
+fn entry_at(entries: &[Entry], number: u64) -> Option<&Entry>
+    ensures { option_copied result ≡ entry_at entries.now number }
+{
+    if number == 0 {
+        return None;
+    }
+    let index = usize::try_from(number - 1).ok()?;
+    entries.get(index)
+}
+
+/// The number of the first entry that undoes that one.
+fn undoer_in(entries: &[Entry], number: u64) -> Option<u64>
+    ensures { result ≡ undoer entries.now number }
+{
+    for (index, entry) in entries.iter().enumerate() {
+        if entry.undoes(number) {
+            return Some(index as u64 + 1);
+        }
+    }
+    None
+}
+
+fn numbers(alloc: Global, kept: &[KeptOperation]) -> Result<Vec<u64>, Refusal>
+    ensures value { IfOk result (λ v. v.items ≡ map (λ k. k.number) kept.now) }
+    ensures refused { IfErr result (λ e. e ≡ NoMemory) }
+{
+    let mut numbers = Vec::with_capacity(alloc, kept.len())?;
+    for operation in kept {
+        numbers.push(operation.number)?;
+    }
+    Ok(numbers)
+}
