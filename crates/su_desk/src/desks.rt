@@ -52,6 +52,13 @@ impl Desk {
         })
     }
 
+    /// Who belongs to the store.
+    pub fn roster(&self) -> &Roster
+        ensures { result.now ≡ self.now.roster }
+    {
+        &self.roster
+    }
+
     /// The tree of the live operations.
     pub fn forest(&self) -> &Forest
         ensures { tree self.now.roster self.now.history ≡ Some result.now }
