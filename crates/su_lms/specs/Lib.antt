@@ -1,0 +1,6 @@
+pub mod ParameterSets
+pub mod Strings
+pub mod OneTime
+pub mod MerkleTree
+pub mod Signature
+pub mod PrivateKey
