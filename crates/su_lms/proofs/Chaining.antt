@@ -5,6 +5,7 @@ use Rattle.sha2.specs.Sha256.{sha256}
 use Rattle.sha2.proofs.Facts256.{length-sha256}
 use Rattle.su_lms.specs.Strings.{u16str, u32str}
 use Rattle.su_lms.specs.OneTime.{chain, chain_step, chain_place, private_value}
+use Rattle.su_lms.specs.PrivateKey.{randomizer}
 
 -- one step more
 pub chain_more : (place : List ℕ) (from j : ℕ) (value : List ℕ) → from ≤ j → chain place from (j + 1 - from) value ≡ chain_step place j (chain place from (j - from) value)
@@ -102,3 +103,7 @@ private_parts place seed first second size seed_size is hashed =
 pub chain_same : (place : List ℕ) (from from' last last' : ℕ) (value value' : List ℕ) → from ≡ from' → last ≡ last' → value ≡ value' → chain place from (last - from) value ≡ chain place from' (last' - from') value'
 chain_same place from from' last last' value value' a b c =
     ap (λ n. chain place n (last - n) value) a ∙ ap (λ n. chain place from' (n - from') value) b ∙ ap (chain place from' (last' - from')) c
+
+pub length-randomizer : (seed : List ℕ) (q : ℕ) → length (randomizer seed q) ≡ 32
+unfolding randomizer
+length-randomizer seed q = length-sha256 _

@@ -4,3 +4,7 @@ pub mod Widths
 pub mod Places
 pub mod Climbing
 pub mod Hashing
+pub mod NodeTables
+pub mod Signing
+pub mod Spelling
+pub mod Decoding

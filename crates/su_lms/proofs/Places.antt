@@ -1,6 +1,6 @@
 -- The parts of a signature at their places.
-use Rattle.std.proofs.Common.{◌≡◌, ℕ, ◌+◌, ◌*◌, List, ◌++◌, length, take, drop, refl, ap, sym, ◌∙◌, arith}
-use Rattle.std.proofs.lemmas.List.{append_assoc, length-append, take_at, drop_at, drop-drop}
+use Rattle.std.proofs.Common.{◌≡◌, ℕ, ◌+◌, ◌*◌, ◌≤◌, List, ◌++◌, length, take, drop, refl, ap, sym, ◌∙◌, arith}
+use Rattle.std.proofs.lemmas.List.{append_assoc, length-append, take_at, drop_at, drop-drop, take_all}
 
 -- what stands behind a first part
 pub drop_past : (a b : List ℕ) (n k m : ℕ) → length a ≡ n → m ≡ n + k → drop m (a ++ b) ≡ drop k b
@@ -36,4 +36,27 @@ at_places q ots c values lms path size q_size ots_size c_size values_size lms_si
       values_on = ap (drop 40) all ∙ behind_c;
       tree_type = ap (λ s. take 4 (drop (40 + size) s)) all ∙ ap (take 4) behind_values ∙ take_at lms _ 4 lms_size;
       path_on = ap (drop (44 + size)) all ∙ behind_lms;
+    }
+
+-- the parts of a public key
+pub record KeyPlaces (lms ots id root key : List ℕ) : Type 0 where
+  pub tree_type : take 4 (drop 0 key) ≡ lms
+  pub one_time_type : take 4 (drop 4 key) ≡ ots
+  pub id_there : take 16 (drop 8 key) ≡ id
+  pub root_there : take 32 (drop 24 key) ≡ root
+  pub size : length key ≡ 56
+
+pub key_places : (lms ots id root : List ℕ) → length lms ≡ 4 → length ots ≡ 4 → length id ≡ 16 → length root ≡ 32 → KeyPlaces lms ots id root (lms ++ ots ++ id ++ root)
+key_places lms ots id root lms_size ots_size id_size root_size =
+    let all : lms ++ ots ++ id ++ root ≡ lms ++ (ots ++ (id ++ root)) = simp append_assoc in
+    let behind_lms : drop 4 (lms ++ (ots ++ (id ++ root))) ≡ ots ++ (id ++ root) = drop_at lms _ 4 lms_size in
+    let behind_ots : drop 8 (lms ++ (ots ++ (id ++ root))) ≡ id ++ root = drop_past lms _ 4 4 8 lms_size refl ∙ drop_at ots _ 4 ots_size in
+    let behind_id : drop 24 (lms ++ (ots ++ (id ++ root))) ≡ root =
+    drop_past lms _ 4 20 24 lms_size refl ∙ drop_past ots _ 4 16 20 ots_size refl ∙ drop_at id _ 16 id_size in
+    record {
+      tree_type = ap (take 4) all ∙ take_at lms _ 4 lms_size;
+      one_time_type = ap (λ s. take 4 (drop 4 s)) all ∙ ap (take 4) behind_lms ∙ take_at ots _ 4 ots_size;
+      id_there = ap (λ s. take 16 (drop 8 s)) all ∙ ap (take 16) behind_ots ∙ take_at id _ 16 id_size;
+      root_there = ap (λ s. take 32 (drop 24 s)) all ∙ ap (take 32) behind_id ∙ take_all 32 root (omega arith);
+      size = omega (arith, length-append lms ots, length-append (lms ++ ots) id, length-append (lms ++ ots ++ id) root);
     }

@@ -4,3 +4,6 @@ pub mod OneTime
 pub mod MerkleTree
 pub mod Signature
 pub mod PrivateKey
+pub mod KeyFile
+pub mod NodeTable
+pub mod Signer

@@ -4,7 +4,7 @@ ghost use Rattle.std.specs.Prelude.{◌≡◌, ◌≤◌, ◌+◌, ◌-◌, ◌+
 ghost use Rattle.sha2.specs.Sha256.{sha256};
 ghost use Rattle.su_lms.specs.OneTime.{chain_place, chain, private_value};
 
-use crate::strings::part_at;
+use crate::strings::{part_at, write_at};
 use sha2::{Digest, Sha256};
 
 /// The value of chain i of leaf q, a number of steps from its private value (RFC 8554, Section 4.3 and Appendix A).
@@ -57,12 +57,4 @@ fn hash_in_place(input: &mut [u8; 55])
 {
     let hash = Sha256::digest(&*input);
     write_at(input, 23, &hash);
-}
-
-// Puts bytes at a place.
-fn write_at(input: &mut [u8; 55], place: usize, bytes: &[u8])
-    requires { place + length bytes.now ≤ 55 }
-    ensures { input.new ≡ take place input.old ++ bytes.now ++ drop (place + length bytes.now) input.old }
-{
-    input[place..place + bytes.len()].copy_from_slice(bytes);
 }

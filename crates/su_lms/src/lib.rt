@@ -4,11 +4,20 @@
 
 mod chains;
 mod digits;
+mod key_files;
 mod one_time;
 mod parameters;
 mod public_keys;
+mod signers;
+mod stores;
 mod strings;
 mod trees;
 
+pub use key_files::KeyFile;
 pub use parameters::Params;
 pub use public_keys::PublicKey;
+pub use signers::Signer;
+pub use stores::{KeyStore, NoStore};
+
+#[cfg(test)]
+mod tests;

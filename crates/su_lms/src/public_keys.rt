@@ -1,12 +1,13 @@
 // Public keys, and the verification of signatures.
-ghost use Rattle.std.specs.Prelude.{◌≡◌, ◌≤◌, ◌<◌, ◌+◌, ◌^◌, ◌↔◌, IsTrue, IsOk, IfOk, IfErr, length};
+ghost use Rattle.std.specs.Prelude.{◌≡◌, ◌≤◌, ◌<◌, ◌+◌, ◌^◌, ◌++◌, ◌↔◌, IsTrue, IsOk, IfOk, IfErr, length};
 ghost use Rattle.su_lms.specs.ParameterSets.{IsOneTimeType, IsTreeType, height_of};
+ghost use Rattle.su_lms.specs.Strings.{u32str};
 ghost use Rattle.su_lms.specs.Signature.{IsPublicKey, IsSigned, HasShape, signature_size, leaf_of, candidate_root};
 ghost use Rattle.su_bytes.specs.declared.refusals.Refusal.TheVariants.{BadKey};
 
 use crate::one_time::candidate_key;
 use crate::parameters::{chain_count, height_of, leaf_count};
-use crate::strings::{number_at, part_at};
+use crate::strings::{number_at, part_at, write_at};
 use crate::trees::{leaf_value, parent_value};
 use std::marker::Model;
 use su_bytes::Refusal;
@@ -48,6 +49,20 @@ impl PublicKey {
         let mut key = [0u8; 56];
         key.copy_from_slice(bytes);
         Ok(PublicKey { bytes: key })
+    }
+
+    // The key of those parts.
+    pub(crate) fn of_parts(lms: u32, ots: u32, id: &[u8; 16], root: &[u8; 32]) -> PublicKey
+        requires tree_type { IsTreeType lms }
+        requires one_time_type { IsOneTimeType ots }
+        ensures { result ≡ u32str lms ++ u32str ots ++ id.now ++ root.now }
+    {
+        let mut bytes = [0u8; 56];
+        write_at(&mut bytes, 0, &lms.to_be_bytes());
+        write_at(&mut bytes, 4, &ots.to_be_bytes());
+        write_at(&mut bytes, 8, id);
+        write_at(&mut bytes, 24, root);
+        PublicKey { bytes }
     }
 
     /// The 56 bytes: LMS type, LM-OTS type, I, and the root of the tree (RFC 8554, Section 5.3).

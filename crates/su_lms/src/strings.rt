@@ -1,5 +1,5 @@
 // Parts of a byte string at fixed places, and the hashes that begin with I, a number and a purpose.
-ghost use Rattle.std.specs.Prelude.{◌≡◌, ◌≤◌, ◌+◌, ◌++◌, length};
+ghost use Rattle.std.specs.Prelude.{◌≡◌, ◌≤◌, ◌+◌, ◌++◌, length, take, drop};
 ghost use Rattle.sha2.specs.Hashers.{Holds256};
 ghost use Rattle.su_lms.specs.Strings.{number_at, part_at, u16str, u32str};
 
@@ -33,6 +33,14 @@ pub fn part_at(bytes: &[u8], place: usize) -> [u8; 32]
     let mut part = [0u8; 32];
     part.copy_from_slice(&bytes[place..place + 32]);
     part
+}
+
+/// Puts a part at a place.
+pub fn write_at(bytes: &mut [u8], place: usize, part: &[u8])
+    requires { place + length part.now ≤ length bytes.old }
+    ensures { bytes.new ≡ take place bytes.old ++ part.now ++ drop (place + length part.now) bytes.old }
+{
+    bytes[place..place + part.len()].copy_from_slice(part);
 }
 
 /// A hasher that has taken in `I || u32str(number) || u16str(purpose)`.
