@@ -1,15 +1,14 @@
 -- Key files read as they are spelled.
-use Rattle.std.proofs.Common.{◌≡◌, ℕ, ◌+◌, ◌*◌, ◌^◌, ◌≤◌, ◌<◌, ◌⊎◌, List, [], ◌++◌, length, take, drop, get_or, inl, inr, refl, ap, sym, ◌∙◌, arith}
+use Rattle.std.proofs.Common.{◌≡◌, ℕ, ◌+◌, ◌^◌, ◌≤◌, ◌<◌, List, ◌++◌, length, take, drop, get_or, inl, inr, refl, ap, sym, ◌∙◌, arith}
 use Rattle.std.specs.Prelude.{codes}
 use Rattle.std.proofs.lemmas.Bool.{cases_lt}
-use Rattle.std.proofs.lemmas.List.{append_assoc, append-nil, length-append, length-take-le, length-drop, take_at, take_all, drop_at, drop-drop, drop_all, take-append-drop, get_or-take, get_or-drop, get_or_past}
+use Rattle.std.proofs.lemmas.List.{append_assoc, length-append, length-take-le, length-drop, take_at, take_all, drop_at, drop-drop, take-append-drop, get_or-take, get_or-drop, get_or_past}
 use Rattle.std.proofs.lemmas.Nat.{be_bytes_4}
 use Rattle.std.proofs.Math.Pow.{pow_mono}
 use Rattle.su_lms.specs.ParameterSets.{height_of}
 use Rattle.su_lms.specs.Strings.{u32str, number_at, part_at}
 use Rattle.su_lms.specs.PrivateKey.{PrivateKey}
 use Rattle.su_lms.specs.KeyFile.{key_file_bytes, IsKept}
-use Rattle.su_lms.proofs.Places.{drop_past}
 use Rattle.su_lms.proofs.Signing.{number_at-u32str}
 
 -- a number is spelled as it was read

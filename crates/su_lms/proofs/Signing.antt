@@ -1,16 +1,16 @@
 -- What is signed verifies.
 use Rattle.std.proofs.Common.{◌≡◌, ℕ, zero, suc, ◌+◌, ◌-◌, ◌*◌, ◌/◌, ◌^◌, ◌≤◌, ◌<◌, List, [], ◌++◌, length, take, drop, refl, ap, sym, ◌∙◌, arith}
-use Rattle.std.proofs.lemmas.List.{append_assoc, append-nil, length-append, take_at, drop_at, take_all, drop-drop}
+use Rattle.std.proofs.lemmas.List.{append-nil, length-append, drop-drop}
 use Rattle.std.proofs.lemmas.Nat.{and_le_l, from_be_bytes-to_be_bytes_4}
 use Rattle.std.proofs.Math.Pow.{pow_mono}
 use Rattle.std.specs.Int.{w32, from_be_bytes}
 use Rattle.sha2.specs.Sha256.{sha256}
 use Rattle.sha2.proofs.Facts256.{length-sha256}
 use Rattle.su_lms.specs.ParameterSets.{width_of, chain_count, height_of}
-use Rattle.su_lms.specs.Strings.{u16str, u32str, number_at, part_at, coef, joined}
+use Rattle.su_lms.specs.Strings.{u16str, u32str, number_at, coef, joined}
 use Rattle.su_lms.specs.OneTime.{chain, chain_place, private_value, end_from, hash_of_ends, one_time_key, one_time_key_from, message_hash, with_checksum, steps_signed}
-use Rattle.su_lms.specs.MerkleTree.{node_value, leaf_value, inner_value, parent_value, sibling_of, climb}
-use Rattle.su_lms.specs.Signature.{IsPublicKey, HasShape, IsSigned, lms_of, ots_of, id_of, root_of, leaf_of, randomizer_of, chain_value_of, path_value_of, candidate_key, candidate_root}
+use Rattle.su_lms.specs.MerkleTree.{node_value, leaf_value, inner_value, parent_value, climb}
+use Rattle.su_lms.specs.Signature.{IsPublicKey, IsSigned, lms_of, ots_of, id_of, leaf_of, randomizer_of, chain_value_of, path_value_of, candidate_key, candidate_root}
 use Rattle.su_lms.specs.PrivateKey.{PrivateKey, IsPrivateKey, leaf_count, leaf_at, node_at, key_of, randomizer, signed_value, digits_of, one_time_signature, signature_of, path_at}
 use Rattle.su_lms.proofs.Chaining.{chain_add, length-chain, length-private_value, length-randomizer}
 use Rattle.su_lms.proofs.Joining.{joined_same, length-joined, part-joined}

@@ -1,5 +1,5 @@
 -- Key files: a private key and the leaf that signs next, as 64 bytes.
-use Rattle.std.specs.Prelude.{ℕ, ◌≡◌, ◌≤◌, List, ◌++◌, codes}
+use Rattle.std.specs.Prelude.{ℕ, ◌≤◌, List, ◌++◌, codes}
 use Rattle.su_lms.specs.Strings.{u32str}
 use Rattle.su_lms.specs.PrivateKey.{PrivateKey, IsPrivateKey, leaf_count}
 use Rattle.su_lms.specs.declared.parameters.Params.{Params}

@@ -1,8 +1,8 @@
 -- Private keys, and the public keys and signatures that they make (RFC 8554, Sections 5.2 to 5.4 and Appendix A).
-use Rattle.std.specs.Prelude.{ℕ, ◌≡◌, ◌≤◌, ◌<◌, ◌+◌, ◌*◌, ◌-◌, ◌/◌, ◌^◌, List, [], ◌∷◌, ◌++◌, length}
+use Rattle.std.specs.Prelude.{ℕ, ◌≡◌, ◌+◌, ◌-◌, ◌/◌, ◌^◌, List, [], ◌∷◌, ◌++◌, length}
 use Rattle.sha2.specs.Sha256.{sha256}
-use Rattle.su_lms.specs.ParameterSets.{CanBeMade, width_of, chain_count, height_of}
-use Rattle.su_lms.specs.Strings.{u16str, u32str, joined}
+use Rattle.su_lms.specs.ParameterSets.{CanBeMade, chain_count, height_of}
+use Rattle.su_lms.specs.Strings.{u32str, joined}
 use Rattle.su_lms.specs.OneTime.{chain_place, chain, private_value, one_time_key, message_hash, with_checksum, steps_signed}
 use Rattle.su_lms.specs.MerkleTree.{leaf_value, node_value, sibling_of}
 

@@ -109,6 +109,13 @@ impl<S: KeyStore> Signer<S> {
         leaf_count(self.file.params.lms) - self.file.next
     }
 
+    /// The store, as it is now.
+    pub fn store(&self) -> &S
+        ensures { result.now ≡ self.now.store }
+    {
+        &self.store
+    }
+
     /// Signs with the next leaf, after the store has kept the number of the one behind it. `KeySpent` where each leaf has
     /// signed; then `NoMemory`; then `KeyFileFault` where the store failed. After a refusal nothing was signed, and the
     /// next leaf is the same.

@@ -38,6 +38,6 @@ impl KeyStore for NoStore {
     }
 
     fn failures(&self) -> u64 {
-        0
+        u64::MIN
     }
 }

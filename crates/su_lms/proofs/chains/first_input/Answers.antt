@@ -1,5 +1,4 @@
-use Rattle.std.proofs.Common.{◌≡◌, ℕ, List, [], ◌∷◌, ◌++◌, ◌+◌, length, take, drop, replicate, refl, ap, sym, ◌∙◌, arith}
-use Rattle.std.proofs.lemmas.List.{append_assoc, append-nil, length-append}
+use Rattle.std.proofs.Common.{◌++◌, ◌+◌, length, take, drop, refl, ap, ◌∙◌}
 use Rattle.su_lms.specs.Strings.{u16str, u32str}
 use Rattle.su_lms.proofs.Chaining.{filled}
 use Rattle.su_lms.proofs.chains.first_input.Goals as goal

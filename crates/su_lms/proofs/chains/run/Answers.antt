@@ -1,4 +1,4 @@
-use Rattle.std.proofs.Common.{◌≡◌, refl, ap, sym, ◌∙◌, take, drop}
+use Rattle.std.proofs.Common.{refl, ap, sym, ◌∙◌, take, drop}
 use Rattle.su_lms.specs.OneTime.{chain_step}
 use Rattle.su_lms.proofs.Chaining.{chain_more, chain_none, step_in_place}
 use Rattle.su_lms.proofs.chains.run.Goals as goal

@@ -1,9 +1,8 @@
-use Rattle.std.proofs.Common.{◌≡◌, ℕ, ◌+◌, ◌*◌, ◌/◌, ◌-◌, ◌^◌, ◌%◌, ◌≤◌, ◌<◌, refl, ap, sym, ◌∙◌, arith}
-use Rattle.su_lms.specs.ParameterSets.{width_of, checksum_shift}
+use Rattle.std.proofs.Common.{◌≡◌, ℕ, ◌+◌, ◌/◌, ◌-◌, ◌^◌, ap, sym, ◌∙◌, arith}
+use Rattle.su_lms.specs.ParameterSets.{width_of}
 use Rattle.su_lms.specs.Strings.{coef, sum_below}
-use Rattle.su_lms.specs.OneTime.{checksum}
 use Rattle.su_lms.proofs.Joining.{sum_below_none, sum_below_more}
-use Rattle.su_lms.proofs.Widths.{hash_suffices, checksum_shifted}
+use Rattle.su_lms.proofs.Widths.{checksum_shifted}
 use Rattle.su_lms.proofs.digits.checksum.Goals as goal
 
 pub loop-i-init : goal.loop-i-init

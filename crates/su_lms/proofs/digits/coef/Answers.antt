@@ -1,9 +1,6 @@
-use Rattle.std.proofs.Common.{◌≡◌, ◌≤◌, ◌<◌, ◌*◌, ◌/◌, ◌%◌, ◌+◌, ◌-◌, ◌^◌, refl, arith}
-use Rattle.std.proofs.lemmas.Nat.{and_le_l}
-use Rattle.std.specs.Prelude.{bit_and}
-use Rattle.su_lms.specs.ParameterSets.{width_of}
+use Rattle.std.proofs.Common.{refl, arith}
 use Rattle.su_lms.specs.Strings.{coef}
-use Rattle.su_lms.proofs.Widths.{width_bounds, width_divides, coefficient_fits, width_times}
+use Rattle.su_lms.proofs.Widths.{width_divides, coefficient_fits, width_times}
 use Rattle.su_lms.proofs.digits.coef.Goals as goal
 
 pub overflow_mul-byte : goal.overflow_mul-byte

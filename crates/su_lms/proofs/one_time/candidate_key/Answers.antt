@@ -1,8 +1,8 @@
-use Rattle.std.proofs.Common.{◌≡◌, ℕ, ◌+◌, ◌*◌, ◌-◌, ◌^◌, ◌<◌, List, ◌++◌, ap, sym, ◌∙◌, arith}
+use Rattle.std.proofs.Common.{◌≡◌, ℕ, ◌+◌, ◌*◌, List, ◌++◌, ap, ◌∙◌, arith}
 use Rattle.sha2.specs.Sha256.{sha256}
-use Rattle.su_lms.specs.ParameterSets.{width_of, chain_count}
+use Rattle.su_lms.specs.ParameterSets.{chain_count}
 use Rattle.su_lms.specs.Strings.{u16str, u32str, joined, part_at}
-use Rattle.su_lms.specs.OneTime.{chain, chain_place, end_from, hash_of_ends, one_time_key_from, message_hash, with_checksum}
+use Rattle.su_lms.specs.OneTime.{chain_place, end_from, hash_of_ends, one_time_key_from, message_hash, with_checksum}
 use Rattle.su_lms.specs.Signature.{candidate_key, chain_value_of, randomizer_of}
 use Rattle.su_lms.proofs.Chaining.{chain_same}
 use Rattle.su_lms.proofs.Hashing.{holds_joined_none, holds_joined_more}

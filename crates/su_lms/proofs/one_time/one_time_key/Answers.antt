@@ -1,6 +1,6 @@
 use Rattle.std.proofs.Common.{◌≡◌, ℕ, ◌-◌, ◌^◌, List, ◌++◌, ap, ◌∙◌, arith}
 use Rattle.sha2.specs.Sha256.{sha256}
-use Rattle.su_lms.specs.ParameterSets.{width_of, chain_count}
+use Rattle.su_lms.specs.ParameterSets.{width_of}
 use Rattle.su_lms.specs.Strings.{u16str, u32str, joined}
 use Rattle.su_lms.specs.OneTime.{chain, chain_place, private_value, hash_of_ends, one_time_key}
 use Rattle.su_lms.proofs.Hashing.{holds_joined_none, holds_joined_more}

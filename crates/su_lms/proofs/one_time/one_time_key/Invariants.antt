@@ -1,5 +1,5 @@
 -- The hasher holds the ends of the chains before chain i.
-use Rattle.std.proofs.Common.{ℕ, ◌-◌, ◌^◌, List, ◌++◌}
+use Rattle.std.proofs.Common.{◌-◌, ◌^◌, ◌++◌}
 use Rattle.sha2.specs.Hashers.{Holds256}
 use Rattle.su_lms.specs.ParameterSets.{width_of}
 use Rattle.su_lms.specs.Strings.{u16str, u32str, joined}

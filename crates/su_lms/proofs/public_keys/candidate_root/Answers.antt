@@ -1,5 +1,5 @@
 use Rattle.std.proofs.Common.{◌≡◌, ℕ, ◌+◌, ◌*◌, ◌/◌, ◌^◌, List, refl, ap, sym, ◌∙◌, arith, add-one}
-use Rattle.su_lms.specs.ParameterSets.{chain_count, height_of}
+use Rattle.su_lms.specs.ParameterSets.{height_of}
 use Rattle.su_lms.specs.Strings.{part_at}
 use Rattle.su_lms.specs.MerkleTree.{leaf_value, parent_value, climb}
 use Rattle.su_lms.specs.Signature.{candidate_root, candidate_key, path_value_of, leaf_of}

@@ -1,5 +1,5 @@
 -- The leaves before leaf q stand at their places.
-use Rattle.std.proofs.Common.{◌≡◌, ℕ, ◌≤◌, ◌<◌, ◌+◌, ◌*◌, [], length, get_or}
+use Rattle.std.proofs.Common.{◌≡◌, ℕ, ◌≤◌, ◌<◌, ◌+◌, [], get_or}
 use Rattle.su_lms.specs.PrivateKey.{leaf_at}
 use Rattle.su_lms.specs.KeyFile.{private_key_of}
 use Rattle.su_lms.proofs.trees.set_leaves.Given as goal

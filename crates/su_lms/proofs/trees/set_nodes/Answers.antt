@@ -1,4 +1,4 @@
-use Rattle.std.proofs.Common.{◌≡◌, ◌≤◌, ◌<◌, ◌*◌, length, ◌∙◌, ap, arith}
+use Rattle.std.proofs.Common.{◌∙◌, arith}
 use Rattle.su_lms.specs.KeyFile.{private_key_of}
 use Rattle.su_lms.proofs.NodeTables.{node_table}
 use Rattle.su_lms.proofs.trees.set_nodes.Goals as goal

@@ -1,4 +1,4 @@
-use Rattle.std.proofs.Common.{◌≡◌, Bool, true, false, ◌≤◌, ◌^◌, ℕ, List, ap, sym, ◌∙◌, arith}
+use Rattle.std.proofs.Common.{◌≡◌, true, false, ◌^◌, ap, sym, ◌∙◌, arith}
 use Rattle.su_lms.specs.ParameterSets.{height_of}
 use Rattle.su_lms.proofs.Decoding.{key_file_found, key_file_holds, same_key}
 use Rattle.su_lms.proofs.key_files.KeyFile.decode.Goals as goal

@@ -1,4 +1,4 @@
-use Rattle.std.proofs.Common.{◌≡◌, ℕ, List, ◌++◌, ◌+◌, length, take, drop, replicate, refl, ap, ◌∙◌}
+use Rattle.std.proofs.Common.{◌≡◌, ◌++◌, ◌+◌, length, take, drop, replicate, refl, ap, ◌∙◌}
 use Rattle.su_lms.specs.Strings.{u32str}
 use Rattle.su_lms.proofs.Signing.{of_parts-is_public_key}
 use Rattle.su_lms.proofs.Spelling.{four_written}

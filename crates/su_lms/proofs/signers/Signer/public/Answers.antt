@@ -1,4 +1,4 @@
-use Rattle.std.proofs.Common.{◌≡◌, ℕ, List, ◌++◌, ap, ◌∙◌}
+use Rattle.std.proofs.Common.{◌++◌, ap, ◌∙◌}
 use Rattle.su_lms.specs.Strings.{u32str}
 use Rattle.su_lms.specs.PrivateKey.{PrivateKey, key_of}
 use Rattle.su_lms.specs.KeyFile.{private_key_of}

@@ -1,4 +1,4 @@
-use Rattle.std.proofs.Common.{◌≡◌, ℕ, ◌+◌, ◌<◌, ◌≤◌, List, [], ◌++◌, length, refl, ap, sym, ◌∙◌, subst, arith}
+use Rattle.std.proofs.Common.{ℕ, ◌<◌, List, ◌++◌, ap, sym, ◌∙◌, subst, arith}
 use Rattle.su_lms.specs.Strings.{u32str, joined}
 use Rattle.su_lms.specs.Signature.{IsSigned}
 use Rattle.su_lms.specs.PrivateKey.{PrivateKey, IsPrivateKey, key_of, signature_of, one_time_signature, path_at, leaf_count}
