@@ -1,0 +1,38 @@
+//! Measures key generation, signing and verification of `su_lms` on one core, beside what the hash function allows.
+//! It measures where it is given the argument `run`, and else says so: what it measures is another thing each time.
+#![tactic(auto)]
+
+mod counts;
+mod measures;
+
+use measures::{Fault, Pair, measure};
+use std::env::Env;
+use std::time::CpuClock;
+use std::{env, io};
+
+fn main(rt: HostRuntime) -> Result<(), Fault> {
+    if is_asked(&rt)? {
+        run(&rt)
+    } else {
+        println!(rt;
+            "lms_bench run: calls per second of generate, sign and verify, and the share of what SHA-256 allows"
+        )?;
+        Ok(())
+    }
+}
+
+// Whether the last argument is `run`.
+fn is_asked(rt: &(impl Env + AllocGlobal)) -> io::Result<bool> {
+    let mut is_asked = false;
+    for word in env::args(rt)? {
+        is_asked = word.as_str() == "run";
+    }
+    Ok(is_asked)
+}
+
+fn run<R: CpuClock + Print + AllocGlobal>(rt: &R) -> Result<(), Fault> {
+    measure(rt, &Pair::new("W4/H5", 5, 3))?;
+    measure(rt, &Pair::new("W8/H5", 5, 4))?;
+    measure(rt, &Pair::new("W4/H10", 6, 3))?;
+    measure(rt, &Pair::new("W8/H10", 6, 4))
+}

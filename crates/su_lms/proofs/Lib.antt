@@ -1,0 +1,10 @@
+pub mod Chaining
+pub mod Joining
+pub mod Widths
+pub mod Places
+pub mod Climbing
+pub mod Hashing
+pub mod NodeTables
+pub mod Signing
+pub mod Spelling
+pub mod Decoding

@@ -1,0 +1,38 @@
+use Rattle.std.proofs.Common.{◌≡◌, ℕ, ◌+◌, ◌*◌, ◌/◌, ◌^◌, List, refl, ap, sym, ◌∙◌, arith, add-one}
+use Rattle.su_lms.specs.ParameterSets.{height_of}
+use Rattle.su_lms.specs.Strings.{part_at}
+use Rattle.su_lms.specs.MerkleTree.{leaf_value, parent_value, climb}
+use Rattle.su_lms.specs.Signature.{candidate_root, candidate_key, path_value_of, leaf_of}
+use Rattle.su_lms.proofs.public_keys.candidate_root.Goals as goal
+
+pub loop-level-init : goal.loop-level-init
+unfolding climb
+loop-level-init c = refl
+
+pub loop-level-preserved : goal.loop-level-preserved
+unfolding climb
+loop-level-preserved c =
+    let id : List ℕ = c.args.id.now in
+    let leaf : ℕ = c.leaf_count.result + c.number_at.result in
+    let level : ℕ = c.loop-level.level in
+    let sibling : c.part_at-sibling.result ≡ path_value_of c.args.ots c.args.signature.now level =
+    c.part_at-sibling.ensures ∙ ap (λ n. part_at (44 + 32 * n + 32 * level) c.args.signature.now) (c.from.ensures ∙ c.chain_count.ensures.value) in
+    c.parent_value-value.ensures
+    ∙ ap (λ s. parent_value id (leaf / 2 ^ level) s c.loop-level.value) sibling
+    ∙ ap (λ v. parent_value id (leaf / 2 ^ level) (path_value_of c.args.ots c.args.signature.now level) v) c.loop-level.invariant
+    ∙ ap (λ n. climb id (path_value_of c.args.ots c.args.signature.now) leaf c.leaf_value-value.result n) (sym (add-one level))
+
+pub returns : goal.returns
+unfolding candidate_root
+returns c =
+    let id : List ℕ = c.args.id.now in
+    let signature : List ℕ = c.args.signature.now in
+    let all : c.loop-level.level ≡ height_of c.args.lms = omega (arith, c.height_of-level-end.ensures.value) in
+    let leaf : c.leaf_count.result + c.number_at.result ≡ 2 ^ height_of c.args.lms + leaf_of signature =
+    ap (λ n. n + c.number_at.result) c.leaf_count.ensures.value ∙ ap (λ n. 2 ^ height_of c.args.lms + n) c.number_at.ensures in
+    let start : c.leaf_value-value.result ≡ leaf_value id (c.leaf_count.result + c.number_at.result) (candidate_key c.args.ots id c.args.message.now signature) =
+    c.leaf_value-value.ensures ∙ ap (leaf_value id (c.leaf_count.result + c.number_at.result)) c.candidate_key.ensures in
+    c.loop-level.invariant
+    ∙ ap (λ v. climb id (path_value_of c.args.ots signature) (c.leaf_count.result + c.number_at.result) v c.loop-level.level) start
+    ∙ ap (λ r. climb id (path_value_of c.args.ots signature) r (leaf_value id r (candidate_key c.args.ots id c.args.message.now signature)) c.loop-level.level) leaf
+    ∙ ap (λ n. climb id (path_value_of c.args.ots signature) (2 ^ height_of c.args.lms + leaf_of signature) (leaf_value id (2 ^ height_of c.args.lms + leaf_of signature) (candidate_key c.args.ots id c.args.message.now signature)) n) all

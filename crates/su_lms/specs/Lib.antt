@@ -1,0 +1,9 @@
+pub mod ParameterSets
+pub mod Strings
+pub mod OneTime
+pub mod MerkleTree
+pub mod Signature
+pub mod PrivateKey
+pub mod KeyFile
+pub mod NodeTable
+pub mod Signer

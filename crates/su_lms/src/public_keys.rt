@@ -1,0 +1,129 @@
+// Public keys, and the verification of signatures.
+ghost use Rattle.std.specs.Prelude.{◌≡◌, ◌≤◌, ◌<◌, ◌+◌, ◌^◌, ◌++◌, ◌↔◌, IsTrue, IsOk, IfOk, IfErr, length};
+ghost use Rattle.su_lms.specs.ParameterSets.{IsOneTimeType, IsTreeType, height_of};
+ghost use Rattle.su_lms.specs.Strings.{u32str};
+ghost use Rattle.su_lms.specs.Signature.{IsPublicKey, IsSigned, HasShape, signature_size, leaf_of, candidate_root};
+ghost use Rattle.su_bytes.specs.declared.refusals.Refusal.TheVariants.{BadKey};
+
+use crate::one_time::candidate_key;
+use crate::parameters::{chain_count, height_of, leaf_count};
+use crate::strings::{number_at, part_at, write_at};
+use crate::trees::{leaf_value, parent_value};
+use std::marker::Model;
+use su_bytes::Refusal;
+
+/// A public key of any parameter set that RFC 8554 lists. It is seen as its 56 bytes (Section 5.3).
+#[derive(Clone, Copy, Debug, PartialEq, Eq)]
+pub struct PublicKey {
+    bytes: [u8; 56],
+}
+
+impl Model for PublicKey {
+    ghost use Rattle.std.specs.Prelude.{ℕ, List};
+    ghost use Rattle.su_lms.specs.Signature.{IsPublicKey};
+
+    ghost Value = { List ℕ };
+
+    ghost view = { λ key. key.bytes };
+
+    ghost invariant = { λ key. IsPublicKey key.bytes };
+
+    ghost inverse = { λ bytes. record { bytes = bytes } };
+}
+
+impl PublicKey {
+    /// The key that the bytes spell. `BadKey` where they are not 56, or a type is not listed (RFC 8554, Section 5.3).
+    pub fn parse(bytes: &[u8]) -> Result<PublicKey, Refusal>
+        ensures accepted { IsOk result ↔ IsPublicKey bytes.now }
+        ensures value { IfOk result (λ key. key ≡ bytes.now) }
+        ensures refused { IfErr result (λ e. e ≡ BadKey) }
+    {
+        if bytes.len() != 56 {
+            return Err(Refusal::BadKey);
+        }
+        let lms = number_at(bytes, 0);
+        let ots = number_at(bytes, 4);
+        if lms < 5 || 9 < lms || ots < 1 || 4 < ots {
+            return Err(Refusal::BadKey);
+        }
+        let mut key = [0u8; 56];
+        key.copy_from_slice(bytes);
+        Ok(PublicKey { bytes: key })
+    }
+
+    // The key of those parts.
+    pub(crate) fn of_parts(lms: u32, ots: u32, id: &[u8; 16], root: &[u8; 32]) -> PublicKey
+        requires tree_type { IsTreeType lms }
+        requires one_time_type { IsOneTimeType ots }
+        ensures { result ≡ u32str lms ++ u32str ots ++ id.now ++ root.now }
+    {
+        let mut bytes = [0u8; 56];
+        write_at(&mut bytes, 0, &lms.to_be_bytes());
+        write_at(&mut bytes, 4, &ots.to_be_bytes());
+        write_at(&mut bytes, 8, id);
+        write_at(&mut bytes, 24, root);
+        PublicKey { bytes }
+    }
+
+    /// The 56 bytes: LMS type, LM-OTS type, I, and the root of the tree (RFC 8554, Section 5.3).
+    pub fn as_bytes(&self) -> &[u8; 56]
+        ensures value { result.now ≡ self.now }
+        ensures key { IsPublicKey result.now }
+    {
+        &self.bytes
+    }
+
+    /// Whether the message is signed under this key by this signature (RFC 8554, Section 5.4.2). It takes no memory.
+    pub fn verify(&self, message: &[u8], signature: &[u8]) -> bool
+        ensures { IsTrue result ↔ IsSigned self.now message.now signature.now }
+    {
+        let key = self.as_bytes();
+        if !has_shape(key, signature) {
+            return false;
+        }
+        let mut id = [0u8; 16];
+        id.copy_from_slice(&key[8..24]);
+        let root = candidate_root(
+            number_at(key, 0),
+            number_at(key, 4),
+            &id,
+            message,
+            signature,
+        );
+        root == part_at(key, 24)
+    }
+}
+
+// Whether the signature has the key's length and types, and a leaf of its tree.
+fn has_shape(key: &[u8; 56], signature: &[u8]) -> bool
+    requires { IsPublicKey key.now }
+    ensures { IsTrue result ↔ HasShape key.now signature.now }
+{
+    let lms = number_at(key, 0);
+    let ots = number_at(key, 4);
+    let values_end = 40 + 32 * usize::from(chain_count(ots));
+    if signature.len() != values_end + 4 + 32 * height_of(lms) as usize {
+        return false;
+    }
+    number_at(signature, 4) == ots
+        && number_at(signature, values_end) == lms
+        && number_at(signature, 0) < leaf_count(lms)
+}
+
+// The root that the signature leads to.
+fn candidate_root(lms: u32, ots: u32, id: &[u8; 16], message: &[u8], signature: &[u8]) -> [u8; 32]
+    requires tree_type { IsTreeType lms }
+    requires one_time_type { IsOneTimeType ots }
+    requires size { length signature.now ≡ signature_size lms ots }
+    requires leaf { leaf_of signature.now < 2 ^ height_of lms }
+    ensures { result ≡ candidate_root lms ots id.now message.now signature.now }
+{
+    let leaf = leaf_count(lms) + number_at(signature, 0);
+    let path = 44 + 32 * usize::from(chain_count(ots));
+    let mut value = leaf_value(id, leaf, &candidate_key(ots, id, message, signature));
+    for level in 0..height_of(lms) {
+        let sibling = part_at(signature, path + 32 * level as usize);
+        value = parent_value(id, leaf >> level, &sibling, &value);
+    }
+    value
+}
