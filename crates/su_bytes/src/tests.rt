@@ -36,6 +36,8 @@ fn numbers_come_back(rt: HostRuntime) -> Result<(), Fail> {
     assert!(rt; User::new(0)? == User::FIRST);
     assert!(rt; Group::new(0)? == Group::FIRST);
     assert!(rt; Principal::User(User::new(1)?) != Principal::Group(Group::new(1)?));
+    let place = Inum::new(1)?;
+    assert!(rt; FileId::User(User::new(1)?, place) != FileId::Group(Group::new(1)?, place));
     Ok(())
 }
 
@@ -136,13 +138,9 @@ fn rosters_keep_their_rules(rt: HostRuntime) {
         ),
     ];
     for (users, groups, good, what) in rosters {
-        match roster_of(rt.alloc(), users, groups) {
-            Ok(_) => assert!(rt; good, "{what}"),
-            Err(refusal) => {
-                assert!(rt; !good, "{what}: {refusal}");
-                assert!(rt; refusal == Refusal::BadRoster, "{what}: {refusal}");
-            }
-        }
+        let refusal = roster_of(rt.alloc(), users, groups).err();
+        let wanted = if good { None } else { Some(Refusal::BadRoster) };
+        assert!(rt; refusal == wanted, "{what}");
     }
 }
 
