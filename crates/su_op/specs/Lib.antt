@@ -1,0 +1,4 @@
+pub mod Rule
+pub mod Creation
+pub mod Unlinking
+pub mod Operation

@@ -1,0 +1,10 @@
+//! The operations on a store: when one is accepted, what it does, and nothing else.
+#![tactic(auto)]
+
+mod creation;
+mod operations;
+mod unlinking;
+
+pub use creation::Create;
+pub use operations::{Change, Op};
+pub use unlinking::Unlink;

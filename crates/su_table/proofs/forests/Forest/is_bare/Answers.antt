@@ -1,0 +1,12 @@
+use Rattle.std.proofs.Common.{◌≡◌, ◌∙◌, ap, sym, refl, Some, None, Option, not, Bool, true, false}
+use Rattle.su_table.specs.Query.{has_no_names, is_bare_at}
+use Rattle.su_table.proofs.Stores.{get-inodes}
+use Rattle.su_table.proofs.forests.Forest.is_bare.Goals as goal
+
+pub returns-in-Some : goal.returns-in-Some
+unfolding is_bare_at
+returns-in-Some c = c.is_bare.ensures ∙ sym (ap has_no_names (get-inodes c.self.inside.inodes.entries _ _ c.self.view_is c.args.place _ c.in-Some.ensures.value))
+
+pub returns-in-None : goal.returns-in-None
+unfolding is_bare_at
+returns-in-None c = sym (ap has_no_names (get-inodes c.self.inside.inodes.entries _ _ c.self.view_is c.args.place _ c.in-None.ensures.value))

@@ -1,0 +1,89 @@
+-- Edits: the single changes of a tree of which operations are made.
+use Rattle.std.specs.Prelude.{◌≡◌, ℕ, List, [], ◌∷◌, ◌++◌, Option, Some, None}
+use Rattle.std.specs.declared.cmp.Ordering.{Ordering}
+use Rattle.std.specs.FinMap.{FinMap, get, insert, remove}
+use Rattle.su_bytes.specs.declared.file_ids.FileId.{FileId}
+use Rattle.su_bytes.specs.declared.file_ids.Kind.{Kind}
+use Rattle.su_table.specs.Place.{Place, Name, name_cmp}
+use Rattle.su_table.specs.Inode.{Inode, Content, Content.Bytes, Content.Names, new_inode}
+use Rattle.su_table.specs.Tree.{Tree}
+
+-- a change of what stands at one place
+pub data Change : Type 0 where
+  -- a new inode, empty, with one link
+  Made : FileId → Kind → Change
+  -- the name leads there, or is gone
+  Named : Name → Option FileId → Change
+  -- so many links
+  Linked : ℕ → Change
+  -- this inode in place of what stands there
+  Copied : Inode → Change
+  Gone : Change
+
+-- a map with a key set, or taken away
+abbrev pub set_key : {K X : Type 0} {R : K → K → Ordering} → FinMap R X → K → Option X → FinMap R X
+set_key m k None = remove m k
+set_key m k (Some x) = insert m k x
+
+abbrev pub named : Name → Option FileId → Content → Content
+named x v (Bytes bs) = Bytes bs
+named x v (Names m) = Names (set_key m x v)
+
+abbrev pub change : Change → Option Inode → Option Inode
+change (Made home kind) o = Some (new_inode home kind)
+change (Copied i) o = Some i
+change Gone o = None
+change (Named x v) None = None
+change (Named x v) (Some i) = Some (record i { content = named x v i.content })
+change (Linked n) None = None
+change (Linked n) (Some i) = Some (record i { links = n })
+
+pub data Edit : Type 0 where
+  -- of what stands at a place
+  Inodes : Place → Change → Edit
+  -- the entry of a group file points there, or is gone
+  Entries : Place → Option Place → Edit
+
+unfoldable pub edit : Tree → Edit → Tree
+edit T (Inodes p ch) = record T { inodes = set_key T.inodes p (change ch (get T.inodes p)) }
+edit T (Entries g v) = record T { entries = set_key T.entries g v }
+
+-- one after another
+abbrev pub edits : Tree → List Edit → Tree
+edits T [] = T
+edits T (e ∷ es) = edits (edit T e) es
+
+-- ---- putting back
+
+abbrev pub restoring : Option Inode → Change
+restoring None = Gone
+restoring (Some i) = Copied i
+
+abbrev pub name_in : Option Inode → Name → Option FileId
+name_in None x = None
+name_in (Some i) x = elim i.content [ Bytes bs ↦ None | Names m ↦ get m x ]
+
+abbrev pub links_in : Option Inode → ℕ
+links_in None = 0
+links_in (Some i) = i.links
+
+abbrev pub change_back : Option Inode → Change → Change
+change_back o (Named x v) = Named x (name_in o x)
+change_back o (Linked n) = Linked (links_in o)
+change_back o (Made home kind) = restoring o
+change_back o (Copied i) = restoring o
+change_back o Gone = restoring o
+
+-- the edit that puts back what an edit of T overwrites
+unfoldable pub back : Tree → Edit → Edit
+back T (Inodes p ch) = Inodes p (change_back (get T.inodes p) ch)
+back T (Entries g v) = Entries g (get T.entries g)
+
+-- the edits that take back edits of T, the last one first
+abbrev pub edits_back : Tree → List Edit → List Edit
+edits_back T [] = []
+edits_back T (e ∷ es) = edits_back (edit T e) es ++ (back T e ∷ [])
+
+-- edits can be taken back: what was overwritten is put back, and the tree is the one before
+abbrev pub EditsCanBeTakenBack : Type 0
+EditsCanBeTakenBack = (T : Tree) (es : List Edit) → edits (edits T es) (edits_back T es) ≡ T

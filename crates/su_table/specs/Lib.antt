@@ -1,0 +1,8 @@
+pub mod Place
+pub mod Inode
+pub mod Tree
+pub mod Cell
+pub mod Query
+pub mod Edit
+pub mod Code
+pub mod View

@@ -1,0 +1,99 @@
+-- What is asked of a tree, by its cells alone: bodies, kinds, links, names; and the names of a directory in order.
+use Rattle.std.specs.Prelude.{ℕ, Bool, true, false, List, Option, Some, None, Result, Ok, Err, nat_eq, cond}
+use Rattle.std.specs.FinMap.{get, len, entries}
+use Rattle.su_bytes.specs.declared.file_ids.FileId.{FileId}
+use Rattle.su_bytes.specs.declared.file_ids.FileId.TheVariants.{User, Group}
+use Rattle.su_bytes.specs.declared.file_ids.Kind.TheVariants.{File, Dir}
+use Rattle.su_bytes.specs.declared.refusals.Refusal.{Refusal}
+use Rattle.su_bytes.specs.declared.refusals.Refusal.TheVariants.{NoFile, WrongKind}
+use Rattle.su_table.specs.Place.{Place, Name, file_eq}
+use Rattle.su_table.specs.Inode.{Inode, Content, Content.Bytes, Content.Names}
+use Rattle.su_table.specs.Tree.{Tree}
+use Rattle.su_table.specs.Cell.{Cell.At, Cell.Entry, Field.KindOf, Field.LinksOf, Field.NameOf, Value, Value.Nothing, Value.AKind, Value.ANumber, Value.AFile, Value.APlace, val}
+
+abbrev pub is_nothing : Value → Bool
+is_nothing Nothing = true
+is_nothing _ = false
+
+abbrev pub is_dir : Value → Bool
+is_dir (AKind Dir home) = true
+is_dir _ = false
+
+abbrev pub is_file : Value → Bool
+is_file (AKind File home) = true
+is_file _ = false
+
+abbrev pub number_of : Value → ℕ
+number_of (ANumber n) = n
+number_of _ = 0
+
+abbrev pub is_file_id : Value → FileId → Bool
+is_file_id (AFile g) f = file_eq g f
+is_file_id _ f = false
+
+-- no inode stands there
+abbrev pub is_free_at : Tree → Place → Bool
+is_free_at T p = is_nothing (val T (At p KindOf))
+
+-- a directory stands there; a file stands there
+abbrev pub is_dir_at : Tree → Place → Bool
+is_dir_at T p = is_dir (val T (At p KindOf))
+
+abbrev pub is_file_at : Tree → Place → Bool
+is_file_at T p = is_file (val T (At p KindOf))
+
+-- how many names lead to it
+abbrev pub links_at : Tree → Place → ℕ
+links_at T p = number_of (val T (At p LinksOf))
+
+-- the directory there doesn't have the name
+abbrev pub is_name_free_at : Tree → Place → Name → Bool
+is_name_free_at T p x = is_nothing (val T (At p (NameOf x)))
+
+-- in the directory there the name leads to the file
+abbrev pub leads_to_at : Tree → Place → Name → FileId → Bool
+leads_to_at T p x f = is_file_id (val T (At p (NameOf x))) f
+
+-- a user's file has no entry; a group file's entry is free
+abbrev pub is_entry_free : Tree → FileId → Bool
+is_entry_free T (User u i) = true
+is_entry_free T (Group g k) = is_nothing (val T (Entry (g, k)))
+
+-- ---- bodies
+
+abbrev pub home_body : Value → FileId → Place → Option Place
+home_body (AKind kind home) f p = cond (file_eq home f) (Some p) None
+home_body _ f p = None
+
+abbrev pub entry_body : Value → Option Place
+entry_body (APlace p) = Some p
+entry_body _ = None
+
+-- Where a file's inode stands: of a user's file at its own place, if an inode with that home stands there; of a group file
+-- where its entry points.
+unfoldable pub body : Tree → FileId → Option Place
+body T (User u i) = home_body (val T (At (u, i) KindOf)) (User u i) (u, i)
+body T (Group g k) = entry_body (val T (Entry (g, k)))
+
+-- ---- names
+
+abbrev pub has_no_names : Option Inode → Bool
+has_no_names None = true
+has_no_names (Some i) = elim i.content [ Bytes bs ↦ true | Names m ↦ nat_eq (len m) 0 ]
+
+-- what stands there has no names
+unfoldable pub is_bare_at : Tree → Place → Bool
+is_bare_at T p = has_no_names (get T.inodes p)
+
+abbrev pub names_of : Option Inode → Option (List (Name × FileId))
+names_of None = None
+names_of (Some i) = elim i.content [ Bytes bs ↦ None | Names m ↦ Some (entries m) ]
+
+abbrev pub listing_at : Tree → FileId → Option Place → Result (List (Name × FileId)) Refusal
+listing_at T f None = Err (NoFile f)
+listing_at T f (Some p) = elim (names_of (get T.inodes p)) [ None ↦ Err (WrongKind f) | Some names ↦ Ok names ]
+
+-- The names of a directory by their bytes, and where they lead: `NoFile` where the file has no body, `WrongKind` where its
+-- body is no directory.
+unfoldable pub listing : Tree → FileId → Result (List (Name × FileId)) Refusal
+listing T f = listing_at T f (body T f)

@@ -1,0 +1,9 @@
+//! All i-tables of a store in memory: inodes by user and i-number, and the bodies of group files. They are seen as the
+//! plain tree.
+#![tactic(auto)]
+
+mod forests;
+mod inodes;
+
+pub use forests::Forest;
+pub use inodes::Inode;
