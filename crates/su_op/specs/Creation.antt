@@ -4,7 +4,7 @@ use Rattle.su_bytes.specs.declared.file_ids.FileId.{FileId}
 use Rattle.su_bytes.specs.declared.file_ids.FileId.TheVariants.{User, Group}
 use Rattle.su_bytes.specs.declared.refusals.Refusal.TheVariants.{NoUser, BadNumber, NotMember, NoFile, WrongKind, NotHolder, Held, Exists}
 use Rattle.su_bytes.specs.Membership.{Membership, has_user}
-use Rattle.su_table.specs.Place.{Place, place_eq}
+use Rattle.su_table.specs.Place.{Place}
 use Rattle.su_table.specs.Tree.{Tree}
 use Rattle.su_table.specs.Query.{body, is_dir_at, is_free_at, is_name_free_at, is_entry_free}
 use Rattle.su_table.specs.Edit.{Change.Made, Change.Named, Edit.Inodes}
@@ -17,7 +17,7 @@ group_files_can_be_made = false
 
 -- a user's file stands at its own place
 abbrev pub is_own_number : ℕ → ℕ → FileId → Bool
-is_own_number a n (User u i) = place_eq (u, i) (a, n)
+is_own_number a n (User u i) = nat_eq u a && nat_eq i n
 is_own_number a n (Group g k) = group_files_can_be_made
 
 abbrev pub create_plan : ℕ → Create → Place → Plan

@@ -34,12 +34,6 @@ plan_of (Demand b r k) = plan_of k
 plan_of (Find None r k) = record { edits = [] }
 plan_of (Find (Some p) r k) = plan_of (k p)
 
--- each check passes, and this is the plan
-abbrev pub Gives : Rule → Plan → Type 0
-Gives (Accept q) p = q ≡ p
-Gives (Demand b r k) p = (b ≡ true) × Gives k p
-Gives (Find o r k) p = (x : Place) × (o ≡ Some x) × Gives (k x) p
-
 -- ---- words of the rules
 
 -- a group file may be touched by the members of its group

@@ -1,5 +1,13 @@
 // A name goes.
-use su_bytes::{FileId, Name};
+ghost use Rattle.std.specs.Prelude.{◌≡◌, ◌++◌, ◌∷◌, [], Some, None, IfOk, OnOk, IfErr};
+ghost use Rattle.su_table.specs.Query.{links_at};
+ghost use Rattle.su_table.specs.Edit.{Change.Gone, Edit.Inodes, edits};
+ghost use Rattle.su_op.specs.Unlinking.{unlink_rule, unlink_plan};
+ghost use Rattle.su_op.specs.Rule.{refusal, plan_of, entry_edits};
+
+use crate::access::closed_group;
+use su_bytes::{FileId, Inum, Name, Refusal, Roster, User};
+use su_table::Forest;
 
 /// Takes a name out of a directory; with the last name the file goes, and a directory only if it is empty.
 #[derive(Clone, Debug, Drop)]
@@ -9,4 +17,74 @@ pub struct Unlink {
     pub name: Name,
     /// The file that the name leads to.
     pub file: FileId,
+}
+
+impl Unlink {
+    /// Where the directory and the file stand, if the author may unlink; else the first refusal.
+    pub(crate) fn check(
+        &self,
+        forest: &Forest,
+        roster: &Roster,
+        author: User,
+    ) -> Result<((User, Inum), (User, Inum)), Refusal>
+        ensures accepted { OnOk result (refusal (unlink_rule roster.now forest.now author self.now) ≡ None) }
+        ensures plan { IfOk result (λ p. plan_of (unlink_rule roster.now forest.now author self.now) ≡ unlink_plan (links_at forest.now p.1) self.now p.0 p.1) }
+        ensures refused { IfErr result (λ e. refusal (unlink_rule roster.now forest.now author self.now) ≡ Some e) }
+    {
+        if !roster.has_user(author) {
+            return Err(Refusal::NoUser(author));
+        }
+        if let Some(group) = closed_group(roster, author, self.dir) {
+            return Err(Refusal::NotMember(group));
+        }
+        if let Some(group) = closed_group(roster, author, self.file) {
+            return Err(Refusal::NotMember(group));
+        }
+        let Some(directory) = forest.body(self.dir) else {
+            return Err(Refusal::NoFile(self.dir));
+        };
+        let Some(place) = forest.body(self.file) else {
+            return Err(Refusal::NoFile(self.file));
+        };
+        if !forest.is_directory(directory) {
+            return Err(Refusal::WrongKind(self.dir));
+        }
+        if directory.0 != author {
+            return Err(Refusal::NotHolder(directory.0));
+        }
+        if place.0 != author {
+            return Err(Refusal::NotHolder(place.0));
+        }
+        if !forest.leads_to(directory, &self.name, self.file) {
+            return Err(Refusal::NoName);
+        }
+        if !forest.is_bare(place) {
+            return Err(Refusal::NotEmpty);
+        }
+        Ok((directory, place))
+    }
+
+    /// Makes the edits. Nothing grows, so nothing can be refused.
+    pub(crate) fn perform(&self, forest: &mut Forest, directory: (User, Inum), place: (User, Inum))
+        ensures { forest.new ≡ edits forest.old (unlink_plan (links_at forest.old place) self.now directory place).edits }
+    {
+        let (user, number) = place;
+        forest.remove_name(directory, &self.name);
+        let links = forest.links((user, number));
+        if 2 <= links {
+            forest.set_links((user, number), links - 1);
+        } else {
+            self.remove_file(forest, (user, number));
+        }
+    }
+
+    /// The file and a group file's entry go.
+    fn remove_file(&self, forest: &mut Forest, place: (User, Inum))
+        ensures { forest.new ≡ edits forest.old (entry_edits self.now.file None ++ Inodes place Gone ∷ []) }
+    {
+        if let FileId::Group(group, number) = self.file {
+            forest.remove_entry((group, number));
+        }
+        forest.remove_inode(place);
+    }
 }

@@ -1,5 +1,5 @@
 -- What std's maps hold and how they change, as the tree sees it.
-use Rattle.std.proofs.Common.{◌≡◌, ◌∙◌, sym, refl, ap, ℕ, nat_eq, arith, Bool, true, false, not, ◌&&◌, cond, List, [], ◌∷◌, Option, Some, None}
+use Rattle.std.proofs.Common.{◌≡◌, ◌∙◌, sym, refl, ap, ℕ, nat_eq, arith, Bool, true, false, not, ◌&&◌, cond, List, [], ◌∷◌, Option, Some, None, Result, Ok, Err}
 use Rattle.std.specs.declared.cmp.Ordering.{Ordering}
 use Rattle.std.specs.declared.cmp.Ordering.TheVariants.{Less, Equal, Greater}
 use Rattle.std.specs.Ordering.{is_eq, nat_cmp, ordering_then}
@@ -7,11 +7,13 @@ use Rattle.std.specs.Map.{lookup}
 use Rattle.std.specs.BTreeMap.{is_at}
 use Rattle.std.specs.declared.collections.BTreeMap.{BTreeMap}
 use Rattle.std.proofs.Common.{Global}
-use Rattle.std.specs.Option.{is_some, option_eq}
+use Rattle.std.specs.Option.{is_some, option_eq, ok_or}
 use Rattle.std.specs.FinMap.{FinMap, get, empty, insert, from_entries}
 use Rattle.su_bytes.specs.declared.file_ids.FileId.{FileId}
 use Rattle.su_bytes.specs.declared.file_ids.FileId.TheVariants.{User, Group}
 use Rattle.su_bytes.specs.declared.file_ids.Kind.TheVariants.{Dir}
+use Rattle.su_bytes.specs.declared.refusals.Refusal.{Refusal}
+use Rattle.su_bytes.specs.declared.refusals.Refusal.TheVariants.{NoFile, WrongKind}
 use Rattle.su_bytes.specs.contracts.file_ids.FileIdPartialEq.TheImpl as block
 use Rattle.su_table.specs.declared.inodes.Stored.{Stored}
 use Rattle.su_table.specs.declared.inodes.Stored.TheVariants.{Bytes as StoredBytes, Names as StoredNames}
@@ -20,7 +22,7 @@ use Rattle.su_table.specs.Inode.{Inode, Content, Content.Bytes, Content.Names, n
 use Rattle.su_table.specs.Tree.{Tree, genesis}
 use Rattle.su_table.specs.View.{content_of}
 use Rattle.su_table.specs.Cell.{Cell.At, Cell.Entry, Field, Field.KindOf, Field.NameOf, field_value, content_value, file_value, place_value, val}
-use Rattle.su_table.specs.Query.{is_nothing, is_file_id, entry_body}
+use Rattle.su_table.specs.Query.{is_nothing, is_file_id, entry_body, body, names_of, listing_at, listing}
 use Rattle.su_table.specs.Edit.{Change, Change.Named, change, named, Edit.Inodes, Edit.Entries, edit, set_key}
 use Rattle.su_table.proofs.Maps.{get-from_entries_lookup, from_entries-updates, set_key-get}
 use Rattle.su_table.proofs.Places.{place_cmp_total, place_cmp_exact, name_cmp_total, name_cmp_exact}
@@ -97,7 +99,7 @@ pub edit-Inodes : (es fs : List (Place × Inode)) (m : FinMap place_cmp Place) (
 unfolding edit
 edit-Inodes es fs m T is p ch v h e =
     let a = from_entries-updates place_cmp_total place_cmp_exact es fs p v h
-        ∙ ap (set_key (from_entries es) p) (sym e ∙ ap (change ch) (sym (get-from_entries_lookup place_cmp_total es p))) in
+    ∙ ap (set_key (from_entries es) p) (sym e ∙ ap (change ch) (sym (get-from_entries_lookup place_cmp_total es p))) in
     ap (λ (n : FinMap place_cmp Inode). record { inodes = n; entries = m }) a ∙ ap (λ (t : Tree). edit t (Inodes p ch)) is
 
 pub edit-Inodes_absent : (es : List (Place × Inode)) (m : FinMap place_cmp Place) (T : Tree) → record { inodes = from_entries es; entries = m } ≡ T
@@ -133,3 +135,20 @@ genesis-made es fs u g n root es_is fs_is u_is g_is n_is root_is =
     let a : from_entries {R = place_cmp} es ≡ insert empty (0, 1) (new_inode (Group 0 1) Dir) = ap from_entries (es_is ∙ (λ i. ((u_is i, n_is i), made i) ∷ [])) in
     let b : from_entries {R = place_cmp} fs ≡ insert empty (0, 1) (0, 1) = ap from_entries (fs_is ∙ (λ i. ((g_is i, n_is i), (u_is i, n_is i)) ∷ [])) in
     λ i. record { inodes = a i; entries = b i }
+
+-- ---- the names of a directory
+
+pub listing-no_body : (T : Tree) (f : FileId) → None ≡ body T f → listing T f ≡ Err (NoFile f)
+unfolding listing
+listing-no_body T f none = ap (listing_at T f) (sym none)
+
+pub listing-body : (T : Tree) (f : FileId) (p : Place) (o : Option Inode) (names : Option (List (Name × FileId))) → Some p ≡ body T f → o ≡ get T.inodes p → names ≡ names_of o → listing T f ≡ ok_or names (WrongKind f)
+unfolding listing
+listing-body T f p o names at found is = ap (listing_at T f) (sym at) ∙ sym (go names ∙ ap show (is ∙ ap names_of found))
+  where
+    show : Option (List (Name × FileId)) → Result (List (Name × FileId)) Refusal
+    show o = elim o [ None ↦ Err (WrongKind f) | Some names ↦ Ok names ]
+
+    go : (o : Option (List (Name × FileId))) → ok_or o (WrongKind f) ≡ show o
+    go None = refl
+    go (Some x) = refl

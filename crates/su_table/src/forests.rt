@@ -39,6 +39,13 @@ impl Forest {
         ensures value { IfOk result (λ forest. forest ≡ genesis) }
         ensures refused { IfErr result (λ e. e ≡ NoMemory) }
     {
+        Forest::rooted(alloc)
+    }
+
+    pub(crate) fn rooted(alloc: Global) -> Result<Forest, Refusal>
+        ensures value { IfOk result (λ forest. forest ≡ genesis) }
+        ensures refused { IfErr result (λ e. e ≡ NoMemory) }
+    {
         let user = User::new(0)?;
         let group = Group::new(0)?;
         let number = Inum::new(1)?;
@@ -162,9 +169,7 @@ impl Forest {
         ensures refused { IfErr result (λ e. (e ≡ NoMemory) ⊎ (listing self.now file ≡ Err e)) }
     {
         let (user, number) = self.body(file).ok_or(Refusal::NoFile(file))?;
-        let inode = self
-            .inode(user, number)
-            .ok_or(Refusal::WrongKind(file))?;
+        let inode = self.inode(user, number).ok_or(Refusal::WrongKind(file))?;
         inode.names()?.ok_or(Refusal::WrongKind(file))
     }
 

@@ -21,10 +21,10 @@ returns-in_err-add_name-clause-err c =
 
 pub returns-clause-ok : goal.returns-clause-ok
 returns-clause-ok c = elim c.match-get_mut.branch [
-    in-Some+in_ok-add_name w ↦
+  | in-Some+in_ok-add_name w ↦
       let found = w.in-Some.ensures.value in
       let ch = Named c.args.name (Some c.args.file) in
       rw w.self-inside-is (edit-Inodes c.self.inside.inodes.entries _ _ _ c.self.view_is c.args.place ch _
-          ((c.get_mut.follows.holds w.add_name.new.self).3 (ap is_some (sym found))).0 (ap (change ch) (sym found) ∙ w.in_ok-add_name.ensures.ok))
+      ((c.get_mut.follows.holds w.add_name.new.self).3 (ap is_some (sym found))).0 (ap (change ch) (sym found) ∙ w.in_ok-add_name.ensures.ok))
   | in_default w ↦ rw (w.self-inside-is, c.get_mut.follows.holds-at-none) (edit-Inodes_absent c.self.inside.inodes.entries _ _ c.self.view_is c.args.place (Named c.args.name (Some c.args.file)) (sym w.in_default.ensures.value) refl)
-  ]
+]

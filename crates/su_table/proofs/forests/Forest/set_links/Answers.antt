@@ -7,9 +7,9 @@ use Rattle.su_table.proofs.forests.Forest.set_links.Goals.{in-Some, in_default}
 
 pub returns : goal.returns
 returns c = elim c.match-get_mut.branch [
-    in-Some w ↦
+  | in-Some w ↦
       let found = w.in-Some.ensures.value in
       rw w.self-inside-is (edit-Inodes c.self.inside.inodes.entries _ _ _ c.self.view_is c.args.place (Linked c.args.links) _
-          ((c.get_mut.follows.holds w.set_links.new.self).3 (ap is_some (sym found))).0 (ap (change (Linked c.args.links)) (sym found) ∙ w.set_links.ensures))
+      ((c.get_mut.follows.holds w.set_links.new.self).3 (ap is_some (sym found))).0 (ap (change (Linked c.args.links)) (sym found) ∙ w.set_links.ensures))
   | in_default w ↦ rw (w.self-inside-is, c.get_mut.follows.holds-at-none) (edit-Inodes_absent c.self.inside.inodes.entries _ _ c.self.view_is c.args.place (Linked c.args.links) (sym w.in_default.ensures.value) refl)
-  ]
+]

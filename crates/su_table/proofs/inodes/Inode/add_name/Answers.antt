@@ -11,6 +11,6 @@ returns-clause-ok c =
     let was = ap (λ (i : Inode). Some (record i { content = named c.args.name (Some c.args.file) i.content })) (sym c.self.view_is) in
     let with : Content → Option Inode = λ d. Some (record { home = c.self.inside.home; links = c.self.inside.links; content = d }) in
     elim c.match-self.branch [
-      in-Names+in_ok-insert w ↦ rw w.self-inside-is (was ∙ ap with (ap (λ s. named c.args.name (Some c.args.file) (content_of s)) w.in-Names.is ∙ named-Names w.in-Names.names.entries w.insert.new.self.entries c.args.name (Some c.args.file) w.in_ok-insert.ensures.updates.0))
-    | in_default w ↦ rw w.self-inside-is (was ∙ ap with (named-file c.args.name (Some c.args.file) c.self.inside.content w.in_default.not-Names))
+      | in-Names+in_ok-insert w ↦ rw w.self-inside-is (was ∙ ap with (ap (λ s. named c.args.name (Some c.args.file) (content_of s)) w.in-Names.is ∙ named-Names w.in-Names.names.entries w.insert.new.self.entries c.args.name (Some c.args.file) w.in_ok-insert.ensures.updates.0))
+      | in_default w ↦ rw w.self-inside-is (was ∙ ap with (named-file c.args.name (Some c.args.file) c.self.inside.content w.in_default.not-Names))
     ]

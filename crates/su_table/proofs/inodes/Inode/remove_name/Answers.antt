@@ -11,6 +11,6 @@ returns c =
     let was = ap (λ (i : Inode). Some (record i { content = named c.args.name.now None i.content })) (sym c.self.view_is) in
     let with : Content → Option Inode = λ d. Some (record { home = c.self.inside.home; links = c.self.inside.links; content = d }) in
     elim c.match-self.branch [
-      in-Names w ↦ rw w.self-inside-is (was ∙ ap with (ap (λ s. named c.args.name.now None (content_of s)) w.in-Names.is ∙ named-Names w.in-Names.names.entries w.remove.new.self.entries c.args.name.now None w.remove.ensures.updates.0))
-    | in_default w ↦ rw w.self-inside-is (was ∙ ap with (named-file c.args.name.now None c.self.inside.content w.in_default.not-Names))
+      | in-Names w ↦ rw w.self-inside-is (was ∙ ap with (ap (λ s. named c.args.name.now None (content_of s)) w.in-Names.is ∙ named-Names w.in-Names.names.entries w.remove.new.self.entries c.args.name.now None w.remove.ensures.updates.0))
+      | in_default w ↦ rw w.self-inside-is (was ∙ ap with (named-file c.args.name.now None c.self.inside.content w.in_default.not-Names))
     ]

@@ -1,0 +1,172 @@
+-- What a desk keeps leads from the first tree to its forest, step by step, and stays so with each entry.
+use Rattle.std.proofs.Common.{◌≡◌, ℕ, ◌+◌, ◌-◌, ◌<◌, ◌≤◌, ◌||◌, Bool, true, false, not, cond, List, [], ◌∷◌, ◌++◌, map, length, nat_eq, Option, None, Some, refl, sym, ap, ◌∙◌, subst, arith, slice_get, length-append}
+use Rattle.std.specs.Option.{is_none}
+use Rattle.std.proofs.lemmas.Option.{slice_get_within}
+use Rattle.std.specs.List.{filter, list_any}
+use Rattle.su_bytes.specs.Membership.{Membership}
+use Rattle.su_table.specs.Tree.{Tree, genesis}
+use Rattle.su_table.specs.Edit.{edits}
+use Rattle.su_op.specs.declared.operations.Op.{Op}
+use Rattle.su_op.specs.declared.operations.Change.TheVariants.{Do, Undo}
+use Rattle.su_op.specs.Operation.{why, effect}
+use Rattle.su_desk.specs.declared.entries.Entry.{Entry}
+use Rattle.su_desk.specs.History.{Turn, turns_from, undoes, is_undone, live, live_numbers, replay, tree, entry_at, undoer_from, undoer, last_of, last_live}
+use Rattle.su_desk.specs.Keeping.{Kept, TakesBack, Leads, Keeps}
+use Rattle.su_desk.proofs.Turns.{Rising, rising_live, last_taken_out, is_undone-append, live-do, live-undo}
+
+-- ---- lists of operations and what is kept of them
+
+-- the operations that lead to a tree have it as their replay
+pub replay_led : (ro : Membership) (S T : Tree) (ts : List Turn) (ks : List Kept) → Leads ro S ts ks T → replay ro S ts ≡ Some T
+replay_led ro S T [] [] e = ap Some e
+replay_led ro S T (t ∷ ts) (k ∷ ks) (b, rest) =
+    ap (λ w. cond (is_none w) (replay ro (effect ro S t.author t.op) ts) None) b.accepted ∙ replay_led ro (effect ro S t.author t.op) T ts ks rest
+replay_led ro S T [] (k ∷ ks) h = absurd h
+replay_led ro S T (t ∷ ts) [] h = absurd h
+
+pub numbers_led : (ro : Membership) (S T : Tree) (ts : List Turn) (ks : List Kept) → Leads ro S ts ks T → map (λ k. k.number) ks ≡ map (λ t. t.number) ts
+numbers_led ro S T [] [] e = refl
+numbers_led ro S T (t ∷ ts) (k ∷ ks) (b, rest) = λ i. b.number i ∷ numbers_led ro (effect ro S t.author t.op) T ts ks rest i
+numbers_led ro S T [] (k ∷ ks) h = absurd h
+numbers_led ro S T (t ∷ ts) [] h = absurd h
+
+-- one operation more
+pub led_further : (ro : Membership) (S T : Tree) (ts : List Turn) (ks : List Kept) (t : Turn) (k : Kept) → Leads ro S ts ks T → TakesBack ro T t k → Leads ro S (ts ++ t ∷ []) (ks ++ k ∷ []) (effect ro T t.author t.op)
+led_further ro S T [] [] t k e b = (subst (λ R. TakesBack ro R t k) (sym e) b, ap (λ R. effect ro R t.author t.op) e)
+led_further ro S T (u ∷ ts) (l ∷ ks) t k (c, rest) b = (c, led_further ro (effect ro S u.author u.op) T ts ks t k rest b)
+led_further ro S T [] (l ∷ ks) t k h b = absurd h
+led_further ro S T (u ∷ ts) [] t k h b = absurd h
+
+-- the last operation, and where those before it lead
+pub record LastLed (ro : Membership) (S : Tree) (ts : List Turn) (ks : List Kept) (k : Kept) (T : Tree) : Type 0 where
+  pub front : List Turn
+  pub last : Turn
+  pub whole : ts ≡ front ++ last ∷ []
+  pub number : k.number ≡ last.number
+  pub leads : Leads ro S front ks (edits T k.edits)
+
+pub last_led : (ro : Membership) (S T : Tree) (ts : List Turn) (ks : List Kept) (k : Kept) → Leads ro S ts (ks ++ k ∷ []) T → LastLed ro S ts ks k T
+last_led ro S T [] [] k h = absurd h
+last_led ro S T (t ∷ []) [] k (b, e) = record {
+  front = [];
+  last = t;
+  whole = refl;
+  number = b.number;
+  leads = sym b.back ∙ ap (λ R. edits R k.edits) e;
+}
+last_led ro S T (t ∷ u ∷ ts) [] k (b, h) = absurd h
+last_led ro S T [] (l ∷ ks) k h = absurd h
+last_led ro S T (t ∷ ts) (l ∷ ks) k (b, rest) =
+    let r = last_led ro (effect ro S t.author t.op) T ts ks k rest in
+    record {
+      front = t ∷ r.front;
+      last = r.last;
+      whole = ap (λ xs. t ∷ xs) r.whole;
+      number = r.number;
+      leads = (b, r.leads);
+    }
+
+-- ---- the history
+
+-- the forest is the tree of the history
+pub tree_kept : (ro : Membership) (h : List Entry) (ks : List Kept) (T : Tree) → Keeps ro h ks T → tree ro h ≡ Some T
+unfolding tree
+tree_kept ro h ks T keeps = replay_led ro genesis T (live h) ks keeps.leads
+
+pub numbers_kept : (ro : Membership) (h : List Entry) (ks : List Kept) (T : Tree) → Keeps ro h ks T → map (λ k. k.number) ks ≡ live_numbers h
+numbers_kept ro h ks T keeps = numbers_led ro genesis T (live h) ks keeps.leads
+
+-- an empty history
+pub keeps_nothing : (ro : Membership) → Keeps ro [] [] genesis
+keeps_nothing ro = record { leads = refl; past = λ n l. refl }
+
+-- one operation more
+pub keeps_do : (ro : Membership) (h : List Entry) (ks : List Kept) (T : Tree) (a : ℕ) (op : Op) (k : Kept) → Keeps ro h ks T
+    → why ro T a op ≡ None → k.number ≡ length h + 1 → edits (effect ro T a op) k.edits ≡ T
+    → Keeps ro (h ++ record { author = a; change = Do op } ∷ []) (ks ++ k ∷ []) (effect ro T a op)
+keeps_do ro h ks T a op k keeps accepted number back =
+    let t : Turn = record { number = length h + 1; author = a; op = op } in
+    let b : TakesBack ro T t k = record { accepted = accepted; number = number; back = back } in
+    record {
+      leads = subst (λ ts. Leads ro genesis ts (ks ++ k ∷ []) (effect ro T a op)) (sym (live-do h a op (keeps.past (length h + 1) (omega arith)))) (led_further ro genesis T (live h) ks t k keeps.leads b);
+      past = λ n l. is_undone-append h (record { author = a; change = Do op }) n ∙ ap (λ b. b || false) (keeps.past n (let more = length-append h (record { author = a; change = Do op } ∷ []) in omega arith));
+    }
+
+-- the last operation is undone
+pub keeps_undo : (ro : Membership) (h : List Entry) (ks : List Kept) (T : Tree) (a n : ℕ) (k : Kept) → Keeps ro h (ks ++ k ∷ []) T
+    → k.number ≡ n → n ≤ length h → Keeps ro (h ++ record { author = a; change = Undo n } ∷ []) ks (edits T k.edits)
+keeps_undo ro h ks T a n k keeps number within =
+    let r = last_led ro genesis T (live h) ks k keeps.leads in
+    let named : n ≡ r.last.number = sym number ∙ r.number in
+    let left : live (h ++ record { author = a; change = Undo n } ∷ []) ≡ r.front
+        = live-undo h a n ∙ ap (λ m. filter (λ (t : Turn). not (nat_eq t.number m)) (live h)) named
+        ∙ ap (filter (λ (t : Turn). not (nat_eq t.number r.last.number))) r.whole
+        ∙ last_taken_out 0 r.front r.last (subst (Rising 0) r.whole (rising_live h)) in
+    record {
+      leads = subst (λ ts. Leads ro genesis ts ks (edits T k.edits)) (sym left) r.leads;
+      past = λ m l.
+        let more = length-append h (record { author = a; change = Undo n } ∷ []) in
+        is_undone-append h (record { author = a; change = Undo n }) m ∙ ap (λ b. b || nat_eq m n) (keeps.past m (omega arith)) ∙ other m n (omega arith);
+    }
+  where
+    other : (m n : ℕ) → n < m → nat_eq m n ≡ false
+    other m n l = grind arith
+
+-- ---- looking numbers up
+
+-- an entry's number is 1 to the number of entries
+pub entry_within : (h : List Entry) (n : ℕ) (e : Entry) → entry_at h n ≡ Some e → n ≤ length h
+entry_within h n e is = go n (nat_eq n 0) refl is
+  where
+    go : (n : ℕ) (b : Bool) → nat_eq n 0 ≡ b → cond b None (slice_get h (n - 1)) ≡ Some e → n ≤ length h
+    go n true z is = absurd (let bad : None ≡ Some e = is in cc)
+    go n false z is = let inside = slice_get_within h (n - 1) e is in omega arith
+
+last_of-append : (m : ℕ) (ms : List ℕ) (n : ℕ) → last_of m (ms ++ n ∷ []) ≡ n
+last_of-append m [] n = refl
+last_of-append m (x ∷ ms) n = last_of-append x ms n
+
+map_last : (ks : List Kept) (k : Kept) → map (λ x. x.number) (ks ++ k ∷ []) ≡ map (λ x. x.number) ks ++ k.number ∷ []
+map_last [] k = refl
+map_last (l ∷ ks) k = ap (λ xs. l.number ∷ xs) (map_last ks k)
+
+-- the last that is kept is the last live operation
+pub last_kept : (ro : Membership) (h : List Entry) (ks : List Kept) (k : Kept) (T : Tree) → Keeps ro h (ks ++ k ∷ []) T → last_live h ≡ k.number
+last_kept ro h ks k T keeps =
+    ap (last_of 0) (sym (numbers_kept ro h (ks ++ k ∷ []) T keeps) ∙ map_last ks k) ∙ last_of-append 0 (map (λ x. x.number) ks) k.number
+
+pub none_kept : (ro : Membership) (h : List Entry) (T : Tree) → Keeps ro h [] T → last_live h ≡ 0
+none_kept ro h T keeps = ap (last_of 0) (sym (numbers_kept ro h [] T keeps))
+
+-- what a filter ends with passes the test
+filtered_last : (p : Turn → Bool) (xs ys : List Turn) (x : Turn) → filter p xs ≡ ys ++ x ∷ [] → p x ≡ true
+filtered_last p [] [] x e = absurd (let bad : [] ≡ x ∷ [] = e in cc)
+filtered_last p [] (y ∷ ys) x e = absurd (let bad : [] ≡ y ∷ (ys ++ x ∷ []) = e in cc)
+filtered_last p (z ∷ xs) ys x e = go (p z) refl (λ ys. filtered_last p xs ys x) ys e
+  where
+    here : p z ≡ true → (ys : List Turn) → z ∷ filter p xs ≡ ys ++ x ∷ [] → ((ys : List Turn) → filter p xs ≡ ys ++ x ∷ [] → p x ≡ true) → p x ≡ true
+    here is [] e ih = let same : z ≡ x = cc in ap p (sym same) ∙ is
+    here is (y ∷ ys) e ih = ih ys (let rest : filter p xs ≡ ys ++ x ∷ [] = cc in rest)
+
+    go : (b : Bool) → p z ≡ b → ((ys : List Turn) → filter p xs ≡ ys ++ x ∷ [] → p x ≡ true) → (ys : List Turn) → cond b (z ∷ filter p xs) (filter p xs) ≡ ys ++ x ∷ [] → p x ≡ true
+    go true is ih ys e = here is ys e ih
+    go false is ih ys e = ih ys e
+
+none_undoes : (k : ℕ) (h : List Entry) (n : ℕ) → is_undone h n ≡ false → undoer_from k h n ≡ None
+none_undoes k [] n e = refl
+none_undoes k (x ∷ h) n e = go (undoes n x.change) e (none_undoes (k + 1) h n)
+  where
+    go : (b : Bool) → (b || is_undone h n) ≡ false → (is_undone h n ≡ false → undoer_from (k + 1) h n ≡ None) → cond b (Some k) (undoer_from (k + 1) h n) ≡ None
+    go true e ih = absurd (let bad : true ≡ false = e in cc)
+    go false e ih = ih e
+
+-- no undo names the last that is kept
+pub last_not_undone : (ro : Membership) (h : List Entry) (ks : List Kept) (k : Kept) (T : Tree) → Keeps ro h (ks ++ k ∷ []) T → undoer h k.number ≡ None
+last_not_undone ro h ks k T keeps =
+    let r = last_led ro genesis T (live h) ks k keeps.leads in
+    let passed : not (is_undone h r.last.number) ≡ true = filtered_last (λ t. not (is_undone h t.number)) (turns_from 1 h) r.front r.last r.whole in
+    none_undoes 1 h k.number (ap (is_undone h) r.number ∙ not_true (is_undone h r.last.number) passed)
+  where
+    not_true : (b : Bool) → not b ≡ true → b ≡ false
+    not_true true e = absurd (let bad : false ≡ true = e in cc)
+    not_true false e = refl

@@ -1,0 +1,116 @@
+-- The operations of a history: their numbers rise, and what one more entry makes of the live ones.
+use Rattle.std.proofs.Common.{◌≡◌, ℕ, ◌+◌, ◌-◌, ◌<◌, ◌≤◌, ◌||◌, ◌&&◌, Bool, true, false, not, cond, List, [], ◌∷◌, ◌++◌, map, length, nat_eq, eqb, Option, None, Some, refl, sym, ap, ◌∙◌, arith, append_assoc, append-nil}
+use Rattle.std.specs.List.{filter, list_any}
+use Rattle.std.proofs.lemmas.List.Elements.{filter-append}
+use Rattle.std.proofs.lemmas.List.Folds.{list_any-append}
+use Rattle.su_op.specs.declared.operations.Op.{Op}
+use Rattle.su_op.specs.declared.operations.Change.{Change}
+use Rattle.su_op.specs.declared.operations.Change.TheVariants.{Do, Undo}
+use Rattle.su_desk.specs.declared.entries.Entry.{Entry}
+use Rattle.su_desk.specs.History.{Turn, turn_of, turns_from, undoes, is_undone, live, live_numbers, undoer_from, undoer, last_of}
+
+-- ---- lists
+
+and_not : (a b : Bool) → not (a || b) ≡ (not a && not b)
+and_not true b = refl
+and_not false b = refl
+
+or_false : (a : Bool) → (a || false) ≡ a
+or_false true = refl
+or_false false = refl
+
+pub filter_same : {A : Type 0} (p q : A → Bool) (xs : List A) → ((x : A) → p x ≡ q x) → filter p xs ≡ filter q xs
+filter_same p q [] e = refl
+filter_same p q (x ∷ xs) e = go (p x) (q x) (e x) (filter_same p q xs e)
+  where
+    go : (a b : Bool) → a ≡ b → filter p xs ≡ filter q xs → cond a (x ∷ filter p xs) (filter p xs) ≡ cond b (x ∷ filter q xs) (filter q xs)
+    go a b s ih i = cond (s i) (x ∷ ih i) (ih i)
+
+pub filter-and : {A : Type 0} (p q : A → Bool) (xs : List A) → filter (λ x. p x && q x) xs ≡ filter q (filter p xs)
+filter-and p q [] = refl
+filter-and p q (x ∷ xs) = go (p x) (filter-and p q xs)
+  where
+    go : (a : Bool) → filter (λ x. p x && q x) xs ≡ filter q (filter p xs) → cond (a && q x) (x ∷ filter (λ x. p x && q x) xs) (filter (λ x. p x && q x) xs) ≡ filter q (cond a (x ∷ filter p xs) (filter p xs))
+    go true ih = ap (λ ys. cond (q x) (x ∷ ys) ys) ih
+    go false ih = ih
+
+-- ---- numbers rise
+
+abbrev pub Rising : ℕ → List Turn → Type 0
+Rising low [] = Unit {0}
+Rising low (t ∷ ts) = (low < t.number) × Rising t.number ts
+
+rising_from_lower : (low high : ℕ) (ts : List Turn) → low ≤ high → Rising high ts → Rising low ts
+rising_from_lower low high [] le r = tt
+rising_from_lower low high (t ∷ ts) le (l, r) = (omega arith, r)
+
+rising_turns : (low n : ℕ) (h : List Entry) → low < n → Rising low (turns_from n h)
+rising_turns low n [] l = tt
+rising_turns low n (e ∷ es) l = go (rising_turns n (n + 1) es (omega arith)) (rising_turns low (n + 1) es (omega arith)) e.change
+  where
+    go : Rising n (turns_from (n + 1) es) → Rising low (turns_from (n + 1) es) → (c : Change) → Rising low (turn_of n e.author c ++ turns_from (n + 1) es)
+    go above rest (Do op) = (l, above)
+    go above rest (Undo m) = rest
+
+rising_filter : (p : Turn → Bool) (low : ℕ) (ts : List Turn) → Rising low ts → Rising low (filter p ts)
+rising_filter p low [] r = tt
+rising_filter p low (t ∷ ts) (l, r) = go (p t) (rising_filter p t.number ts r)
+  where
+    go : (b : Bool) → Rising t.number (filter p ts) → Rising low (cond b (t ∷ filter p ts) (filter p ts))
+    go true rest = (l, rest)
+    go false rest = rising_from_lower low t.number (filter p ts) (omega arith) rest
+
+pub rising_live : (h : List Entry) → Rising 0 (live h)
+rising_live h = rising_filter (λ t. not (is_undone h t.number)) 0 (turns_from 1 h) (rising_turns 0 1 h (omega arith))
+
+below_last : (low : ℕ) (ts : List Turn) (t : Turn) → Rising low (ts ++ t ∷ []) → low < t.number
+below_last low [] t (l, r) = l
+below_last low (x ∷ ts) t (l, r) = let m = below_last x.number ts t r in omega arith
+
+apart : (a b : ℕ) → a < b → nat_eq a b ≡ false
+apart a b l = grind arith
+
+itself : (a : ℕ) → nat_eq a a ≡ true
+itself a = grind arith
+
+-- the last of rising operations is taken out by its number
+pub last_taken_out : (low : ℕ) (ts : List Turn) (t : Turn) → Rising low (ts ++ t ∷ []) → filter (λ x. not (nat_eq x.number t.number)) (ts ++ t ∷ []) ≡ ts
+last_taken_out low [] t r = ap (λ b. cond (not b) (t ∷ []) []) (itself t.number)
+last_taken_out low (x ∷ ts) t (l, r) =
+    ap (λ b. cond (not b) (x ∷ filter (λ y. not (nat_eq y.number t.number)) (ts ++ t ∷ [])) (filter (λ y. not (nat_eq y.number t.number)) (ts ++ t ∷ []))) (apart x.number t.number (below_last x.number ts t r))
+    ∙ ap (λ ys. x ∷ ys) (last_taken_out x.number ts t r)
+
+-- ---- one more entry
+
+pub turns_from-append : (n : ℕ) (h : List Entry) (e : Entry) → turns_from n (h ++ e ∷ []) ≡ turns_from n h ++ turn_of (n + length h) e.author e.change
+turns_from-append n [] e = go (n + 0) (omega arith)
+  where
+    go : (m : ℕ) → m ≡ n → turn_of n e.author e.change ++ [] ≡ turn_of m e.author e.change
+    go m is = append-nil (turn_of n e.author e.change) ∙ ap (λ k. turn_of k e.author e.change) (sym is)
+turns_from-append n (x ∷ h) e =
+    ap (λ ts. turn_of n x.author x.change ++ ts) (turns_from-append (n + 1) h e)
+    ∙ sym (append_assoc (turn_of n x.author x.change) (turns_from (n + 1) h) (turn_of (n + 1 + length h) e.author e.change))
+    ∙ ap (λ k. (turn_of n x.author x.change ++ turns_from (n + 1) h) ++ turn_of k e.author e.change) (omega arith)
+
+pub is_undone-append : (h : List Entry) (e : Entry) (n : ℕ) → is_undone (h ++ e ∷ []) n ≡ (is_undone h n || undoes n e.change)
+is_undone-append h e n = list_any-append (λ x. undoes n x.change) h (e ∷ []) ∙ ap (λ b. is_undone h n || b) (or_false (undoes n e.change))
+
+-- an operation that is added is live, if no undo named it before it came
+pub live-do : (h : List Entry) (a : ℕ) (op : Op) → is_undone h (length h + 1) ≡ false
+    → live (h ++ record { author = a; change = Do op } ∷ []) ≡ live h ++ record { number = length h + 1; author = a; op = op } ∷ []
+live-do h a op new =
+    filter_same (λ t. not (is_undone (h ++ record { author = a; change = Do op } ∷ []) t.number)) (λ t. not (is_undone h t.number)) _ (λ t. ap not (is_undone-append h _ t.number ∙ or_false (is_undone h t.number)))
+    ∙ ap (filter (λ (t : Turn). not (is_undone h t.number))) (turns_from-append 1 h _)
+    ∙ filter-append (λ t. not (is_undone h t.number)) (turns_from 1 h) _
+    ∙ ap (λ ts. live h ++ ts) (go (1 + length h) (omega arith))
+  where
+    go : (m : ℕ) → m ≡ length h + 1 → filter (λ (t : Turn). not (is_undone h t.number)) (record { number = m; author = a; op = op } ∷ []) ≡ record { number = length h + 1; author = a; op = op } ∷ []
+    go m is = ap (λ k. filter (λ (t : Turn). not (is_undone h t.number)) (record { number = k; author = a; op = op } ∷ [])) is
+        ∙ ap (λ b. cond (not b) (record { number = length h + 1; author = a; op = op } ∷ []) []) new
+
+-- an undo takes the operation with that number out of the live ones
+pub live-undo : (h : List Entry) (a n : ℕ) → live (h ++ record { author = a; change = Undo n } ∷ []) ≡ filter (λ t. not (nat_eq t.number n)) (live h)
+live-undo h a n =
+    filter_same (λ t. not (is_undone (h ++ record { author = a; change = Undo n } ∷ []) t.number)) (λ t. not (is_undone h t.number) && not (nat_eq t.number n)) _ (λ t. ap not (is_undone-append h _ t.number) ∙ and_not (is_undone h t.number) (nat_eq t.number n))
+    ∙ filter-and (λ t. not (is_undone h t.number)) (λ t. not (nat_eq t.number n)) (turns_from 1 (h ++ record { author = a; change = Undo n } ∷ []))
+    ∙ ap (λ ts. filter (λ (t : Turn). not (nat_eq t.number n)) (filter (λ (t : Turn). not (is_undone h t.number)) ts)) (turns_from-append 1 h _ ∙ append-nil (turns_from 1 h))

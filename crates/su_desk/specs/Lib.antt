@@ -1,0 +1,5 @@
+pub mod History
+pub mod Answer
+pub mod Desk
+pub mod Keeping
+pub mod Taking

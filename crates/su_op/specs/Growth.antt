@@ -1,0 +1,19 @@
+-- Edits that add to what is free, and so can be taken away again.
+use Rattle.std.specs.Prelude.{◌≡◌, true, List, [], ◌∷◌, Some}
+use Rattle.su_table.specs.Tree.{Tree}
+use Rattle.su_table.specs.Cell.{Cell.Entry, val}
+use Rattle.su_table.specs.Query.{is_nothing, is_free_at, is_name_free_at}
+use Rattle.su_table.specs.Edit.{Change.Named, Change.Made, Change.Copied, Edit, Edit.Inodes, Edit.Entries, edit}
+
+-- what the edit adds stands nowhere yet
+abbrev pub IsFreeFor : Tree → Edit → Type 0
+IsFreeFor T (Inodes p (Named x (Some f))) = is_name_free_at T p x ≡ true
+IsFreeFor T (Inodes p (Made home kind)) = is_free_at T p ≡ true
+IsFreeFor T (Inodes p (Copied i)) = is_free_at T p ≡ true
+IsFreeFor T (Entries g (Some p)) = is_nothing (val T (Entry g)) ≡ true
+IsFreeFor T _ = Unit {0}
+
+-- each in its turn
+abbrev pub AreFreeFor : Tree → List Edit → Type 0
+AreFreeFor T [] = Unit {0}
+AreFreeFor T (e ∷ es) = IsFreeFor T e × AreFreeFor (edit T e) es
