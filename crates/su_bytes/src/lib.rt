@@ -7,6 +7,8 @@ mod names;
 mod principals;
 mod refusals;
 mod rosters;
+#[cfg(test)]
+mod tests;
 
 pub use file_ids::{FileId, Inum, Kind};
 pub use names::Name;

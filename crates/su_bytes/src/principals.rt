@@ -24,6 +24,9 @@ impl Model for User {
 }
 
 impl User {
+    /// User 0, who is in each roster.
+    pub const FIRST: User = User { number: 0 };
+
     /// The user of that number; `BadNumber` above 63.
     pub fn new(number: u64) -> Result<User, Refusal>
         ensures accepted { IsOk result ↔ (number ≤ 63) }
@@ -67,6 +70,9 @@ impl Model for Group {
 }
 
 impl Group {
+    /// Group 0, which is in each roster, with user 0 in it.
+    pub const FIRST: Group = Group { number: 0 };
+
     /// The group of that number; `BadNumber` above 15.
     pub fn new(number: u64) -> Result<Group, Refusal>
         ensures accepted { IsOk result ↔ (number ≤ 15) }
