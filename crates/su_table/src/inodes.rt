@@ -70,7 +70,8 @@ impl Inode {
     pub fn is_of(&self, file: FileId) -> bool
         ensures { result ≡ file_eq self.now.home file }
     {
-        self.home == file
+        let home = self.home();
+        home == file
     }
 
     pub fn kind(&self) -> Kind
