@@ -1,3 +1,4 @@
 pub mod Numbers
 pub mod Spelling
-pub mod LineFeeds
+pub mod Broken
+pub mod Turning

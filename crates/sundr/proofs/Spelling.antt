@@ -14,4 +14,3 @@ command_of-empty_word ws e = rw (list_any-map (λ w. nat_eq (length w) 0) (λ w.
 
 pub command_of-words : (ws : List (Bor (List ℕ))) → list_any (λ w. nat_eq (length w.now) 0) ws ≡ false → command_of (map (λ w. w.now) ws) ≡ spoken_words (map (λ w. w.now) ws)
 command_of-words ws e = rw (list_any-map (λ w. nat_eq (length w) 0) (λ w. w.now) ws, e) refl
-

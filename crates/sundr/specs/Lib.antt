@@ -1,6 +1,9 @@
 pub mod Script
 pub mod Range
+pub mod Fault
 pub mod Spoken
 pub mod SpokenFile
 pub mod Line
-pub mod Reading
+pub mod Lines
+pub mod Transcript
+pub mod Turn

@@ -41,10 +41,7 @@ pub fn line_of<'a>(alloc: Global, words: &'a [&'a str]) -> Result<Line, LineFaul
     };
     match matches.subcommand() {
         Some(("desk", values)) => desk(alloc, values),
-        _ => Err(LineFault::Usage(String::from_str(
-            alloc,
-            "no such subcommand",
-        )?)),
+        _ => Err(LineFault::Usage(String::from_str(alloc, "no such subcommand")?)),
     }
 }
 
@@ -57,7 +54,9 @@ fn program<'a>(alloc: Global) -> Result<Command<'a>, AllocError> {
         .default_value("2")
         .help("How many users there are, 1 to 64. Group 0 has all of them, group 1 has user 0");
     let desk = Command::new(alloc, "desk")
-        .about("Reads a script from standard input, a command a line, and answers each on standard output")
+        .about(
+            "Reads a script from standard input, a command a line, and answers each on standard output",
+        )
         .after_help(DESK_WORDS)
         .arg(users)?;
     Command::new(alloc, "sundr")
@@ -99,9 +98,6 @@ fn desk(alloc: Global, values: &ArgMatches<'_>) -> Result<Line, LineFault>
 {
     match values.get_one::<u8>("users") {
         Some(users) if 1 <= users && users <= 64 => Ok(Line::Desk { users }),
-        _ => Err(LineFault::Usage(String::from_str(
-            alloc,
-            "the number of users is 1 to 64",
-        )?)),
+        _ => Err(LineFault::Usage(String::from_str(alloc, "the number of users is 1 to 64")?)),
     }
 }

@@ -1,163 +1,145 @@
-// Reading lines from any reader.
-ghost use Rattle.std.specs.Prelude.{◌≡◌, ◌<◌, ◌≤◌, length, take, Ok, IfSome, IfOk, OnErr, false, nat_eq, vec_len};
-ghost use Rattle.std.specs.List.{position_or_len};
-ghost use Rattle.std.specs.Io.KnownBytes.{Keeps, Consumes, IsAtEnd};
+// Reading lines from any reader, as they come.
+ghost use Rattle.std.specs.Prelude.{◌≡◌, ℕ, ◌<◌, ◌≤◌, [], drop, length, vec_len, Some, true, false, IfOk, OnOk, MatchOption, slice_get, take};
+ghost use Rattle.std.specs.Bool.{OnFalse};
+ghost use Rattle.std.specs.Io.KnownBytes.{prepend_known};
+ghost use Rattle.sundr.specs.Lines.{lacks, Takes, Refills, Reads};
 
-use std::alloc::{AllocError, Global};
-use std::io;
-use std::io::Read;
+use std::alloc::Global;
+use std::io::{ErrorKind, Read};
 
-/// The most bytes that a line may have, its end not counted.
+/// Bytes of the longest line, its end not counted.
 pub const LONGEST_LINE: usize = 140_000;
 
-/// The most reads of one reader.
-const MOST_READS: u64 = 10_000_000;
+/// How often a reader is read at most.
+pub const MOST_READS: u32 = 10_000_000;
 
-const BUFFER_LENGTH: usize = 8192;
+/// Bytes asked for in one read.
+const CHUNK: usize = 4096;
 
-/// Why no line could be read.
-#[derive(Debug, Drop)]
-pub enum ReadFault {
-    /// The reader failed, or it was read 10,000,000 times without an end.
-    Link,
-    NoMemory,
-}
-
-impl From<AllocError> for ReadFault {
-    fn from(_refused: AllocError) -> ReadFault {
-        ReadFault::NoMemory
-    }
-}
-
-/// What was read.
+/// The lines could not be read: the reader failed, or never ended, or there was no memory for a line.
 #[derive(Clone, Copy, Debug, PartialEq, Eq)]
-pub enum Next {
-    /// A line.
-    Line,
-    /// The beginning of a line of more than 140,000 bytes.
+pub struct ReadFault;
+
+/// What comes next in a script.
+#[derive(Debug, Drop)]
+pub enum NextLine {
+    /// A line, without its end.
+    Line(Vec<u8>),
+    /// A line of more than `LONGEST_LINE` bytes, which is not kept.
     TooLong,
-    /// Nothing: the reader has ended.
+    /// No line is left.
     End,
 }
 
-/// What the bytes that are held add to a line.
-#[derive(Clone, Copy, Debug, PartialEq, Eq)]
-enum Taken {
-    /// All of them, without an end.
-    Part,
-    /// Those before the end of the line.
-    Whole,
-    /// Nothing, since the line has more than 140,000 bytes.
-    TooMuch,
-}
-
-/// Reads lines, and no more at a time than the reader gives at once.
+/// A reader's lines. What was read beyond a line is kept for the next.
 #[derive(Drop)]
-pub struct LineReader<R> {
+pub struct LineReader<R: Read + Drop> {
     reader: R,
-    buffer: Vec<u8>,
+    filled: Vec<u8>,
     start: usize,
-    end: usize,
-    reads: u64,
-    ghost has_room: { 0 < vec_len buffer },
-    ghost ordered: { start ≤ end },
-    ghost in_bounds: { end ≤ vec_len buffer },
+    reads_left: u32,
+    alloc: Global,
+    ghost within: { start ≤ vec_len filled },
 }
 
 impl<R: Read + Drop> LineReader<R> {
-    ghost use Rattle.sundr.specs.Reading.{is_end, held, known, Reads, Takes};
-
-    /// Lines from this reader.
-    pub fn new(alloc: Global, reader: R) -> Result<LineReader<R>, AllocError>
-        ensures { IfOk result (λ l. Keeps (R.remaining reader) (known R.remaining l)) }
+    pub fn new(alloc: Global, reader: R) -> LineReader<R>
+        ensures { prepend_known (drop result.start result.filled.items) (R.remaining result.reader) ≡ R.remaining reader }
     {
-        let buffer = vec![in alloc; 0; BUFFER_LENGTH]?;
-        Ok(LineReader {
+        LineReader {
             reader,
-            buffer,
+            filled: Vec::new(alloc),
             start: 0,
-            end: 0,
-            reads: 0,
-        })
+            reads_left: MOST_READS,
+            alloc,
+        }
     }
 
-    /// Reads the next line over `line`. `Link` where the reader fails, or was read 10,000,000 times without an end.
-    pub fn next_line(&mut self, line: &mut Vec<u8>) -> Result<Next, ReadFault>
-        ensures { IfOk result (λ next. IfSome (known R.remaining self.old) (λ bytes. Reads next bytes (known R.remaining self.new) line.new.items)) }
+    /// The next line. Waits for no more than is needed for it.
+    pub fn next_line(&mut self) -> Result<NextLine, ReadFault>
+        ensures { IfOk result (λ next. Reads next (prepend_known (drop self.old.start self.old.filled.items) (R.remaining self.old.reader)) (prepend_known (drop self.new.start self.new.filled.items) (R.remaining self.new.reader))) }
     {
-        line.clear();
-        for _ in 0..MOST_READS + 1 {
-            match self.take_held(line)? {
-                Taken::Part => {}
-                Taken::Whole => return Ok(Next::Line),
-                Taken::TooMuch => return Ok(Next::TooLong),
+        let mut line = Vec::new(self.alloc);
+        loop {
+            let ended = self.take(&mut line)?;
+            if LONGEST_LINE < line.len() {
+                return Ok(NextLine::TooLong);
             }
-            if !self.fill()? {
-                return Ok(if line.is_empty() { Next::End } else { Next::Line });
+            if ended {
+                return Ok(NextLine::Line(line));
+            }
+            if !self.refill()? {
+                if line.is_empty() {
+                    return Ok(NextLine::End);
+                }
+                return Ok(NextLine::Line(line));
             }
         }
-        Err(ReadFault::Link)
     }
 
-    /// Adds to the line what is held of it.
-    fn take_held(&mut self, line: &mut Vec<u8>) -> Result<Taken, AllocError>
-        requires { vec_len line.old ≤ 140000 }
-        ensures reader { self.new.reader ≡ self.old.reader }
-        ensures takes { IfOk result (λ taken. Takes taken (held self.old) (held self.new) line.old.items line.new.items) }
-        ensures emptied { result ≡ Ok Taken.Part → self.new.start ≡ self.new.end }
+    /// Moves what was read to the line, up to the end of the line, and takes that end. Whether the line has ended.
+    fn take(&mut self, line: &mut Vec<u8>) -> Result<bool, ReadFault>
+        ensures taken { IfOk result (λ ended. Takes ended line.old.items line.new.items (drop self.old.start self.old.filled.items) (drop self.new.start self.new.filled.items)) }
+        ensures reader { R.remaining self.new.reader ≡ R.remaining self.old.reader }
+        ensures reads { self.new.reads_left ≡ self.old.reads_left }
+        ensures empty { IfOk result (λ ended. OnFalse ended (drop self.new.start self.new.filled.items ≡ [])) }
     {
-        let (start, end) = (self.start, self.end);
-        let all = self.buffer.as_slice();
-        let held = &all[start..end];
-        let taken = length_before_end(held);
-        if LONGEST_LINE - line.len() < taken {
-            return Ok(Taken::TooMuch);
+        let rest = &self.filled[self.start..];
+        match first_place(rest, b'\n') {
+            Some(end) => {
+                line.extend_from_slice(&rest[..end]).map_err(|_| ReadFault)?;
+                self.start += end + 1;
+                Ok(true)
+            }
+            None => {
+                line.extend_from_slice(rest).map_err(|_| ReadFault)?;
+                self.start = self.filled.len();
+                Ok(false)
+            }
         }
-        line.extend_from_slice(&held[..taken])?;
-        if taken == end - start {
-            self.start = end;
-            return Ok(Taken::Part);
-        }
-        self.start = start + taken + 1;
-        Ok(Taken::Whole)
     }
 
-    /// Reads once, where nothing is held; whether there was more.
-    fn fill(&mut self) -> Result<bool, ReadFault>
-        requires { self.old.start ≡ self.old.end }
-        ensures keeps { IfOk result (λ _. Keeps (R.remaining self.old.reader) (known R.remaining self.new)) }
-        ensures end { result ≡ Ok false → (self.new.start ≡ self.new.end) × IsAtEnd (R.remaining self.new.reader) }
+    /// Reads once, where all that was read is taken. Whether there may be more.
+    fn refill(&mut self) -> Result<bool, ReadFault>
+        requires { drop self.old.start self.old.filled.items ≡ [] }
+        ensures bytes { IfOk result (λ more. Refills more (R.remaining self.old.reader) (prepend_known (drop self.new.start self.new.filled.items) (R.remaining self.new.reader))) }
+        ensures reads { OnOk result (self.new.reads_left < self.old.reads_left) }
     {
-        if self.reads >= MOST_READS {
-            return Err(ReadFault::Link);
+        if self.reads_left == 0 {
+            return Err(ReadFault);
         }
-        self.reads += 1;
-        self.start = 0;
-        self.end = 0;
-        match read_over(&mut self.reader, &mut self.buffer) {
+        self.reads_left -= 1;
+        let mut chunk = [0u8; CHUNK];
+        match self.reader.read(&mut chunk) {
             Ok(count) => {
-                self.end = count;
-                Ok(count != 0)
+                self.start = 0;
+                self.filled.clear();
+                self.filled
+                    .extend_from_slice(&chunk[..count])
+                    .map_err(|_| ReadFault)?;
+                Ok(0 < count)
             }
-            Err(_) => Err(ReadFault::Link),
+            Err(error) => {
+                if error.kind() == ErrorKind::Interrupted {
+                    Ok(true)
+                } else {
+                    Err(ReadFault)
+                }
+            }
         }
     }
 }
 
-/// One read over the whole buffer.
-fn read_over<R: Read>(reader: &mut R, buffer: &mut Vec<u8>) -> io::Result<usize>
-    ensures len { vec_len buffer.new ≡ vec_len buffer.old }
-    ensures bound { IfOk result (λ n. n ≤ vec_len buffer.new) }
-    ensures ok { IfOk result (λ n. Consumes (R.remaining reader.old) (R.remaining reader.new) (take n buffer.new.items)) }
-    ensures end { IfOk result (λ n. n ≡ 0 → 0 < vec_len buffer.old → IsAtEnd (R.remaining reader.new)) }
-    ensures err { OnErr result (Keeps (R.remaining reader.old) (R.remaining reader.new)) }
+/// Where a byte stands first.
+fn first_place(bytes: &[u8], byte: u8) -> Option<usize>
+    ensures { MatchOption result
+        (lacks byte bytes.now ≡ true)
+        (λ place. (slice_get bytes.now place ≡ Some byte) × (lacks byte (take place bytes.now) ≡ true)) }
 {
-    reader.read(buffer.as_mut_slice())
-}
-
-/// How many bytes stand before the first line feed.
-fn length_before_end(bytes: &[u8]) -> usize
-    ensures { result ≡ position_or_len (λ b. nat_eq b 10) bytes.now }
-{
-    bytes.iter().take_while(|byte| **byte != b'\n').count()
+    for (index, other) in bytes.iter().enumerate() {
+        if *other == byte {
+            return Some(index);
+        }
+    }
+    None
 }

@@ -20,17 +20,35 @@ pub fn command(alloc: Global, roster: &Roster, spoken: &Spoken<'_>) -> Result<Co
     ensures refused { IfErr result (λ e. (e ≡ NoMemory) ⊎ (word_refusal roster.now (said spoken.now) ≡ Some e)) }
 {
     match *spoken {
-        Spoken::Create { user, kind, dir, name, file, body } => {
+        Spoken::Create {
+            user,
+            kind,
+            dir,
+            name,
+            file,
+            body,
+        } => {
             check_listed(roster, user)?;
             let name = Name::new(alloc, name)?;
             let user = User::new(user)?;
             let dir = file_id(dir)?;
             let file = file_id(file)?;
             let body = Inum::new(body)?;
-            let create = Create { dir, name, file, body, kind };
+            let create = Create {
+                dir,
+                name,
+                file,
+                body,
+                kind,
+            };
             Ok(Command::Apply(user, Change::Do(Op::Create(create))))
         }
-        Spoken::Unlink { user, dir, name, file } => {
+        Spoken::Unlink {
+            user,
+            dir,
+            name,
+            file,
+        } => {
             check_listed(roster, user)?;
             let name = Name::new(alloc, name)?;
             let user = User::new(user)?;

@@ -28,11 +28,18 @@ pub enum Spoken<'a> {
         file: SpokenFile,
     },
     /// `U undo N`
-    Undo { user: u64, number: u64 },
+    Undo {
+        user: u64,
+        number: u64,
+    },
     /// `U undo_last`
-    UndoLast { user: u64 },
+    UndoLast {
+        user: u64,
+    },
     /// `ls DIR`
-    List { dir: SpokenFile },
+    List {
+        dir: SpokenFile,
+    },
 }
 
 /// What these words say; nothing where they are no command.
@@ -97,7 +104,14 @@ fn create<'a>(user: u64, kind: Kind, arguments: &[&'a [u8]]) -> Option<Spoken<'a
     let dir = file(dir)?;
     let file = file(own)?;
     let body = body(file, others)?;
-    Some(Spoken::Create { user, kind, dir, name, file, body })
+    Some(Spoken::Create {
+        user,
+        kind,
+        dir,
+        name,
+        file,
+        body,
+    })
 }
 
 /// `[BODY]`: a user's file has its own number where none is named.
@@ -120,7 +134,15 @@ fn unlink<'a>(user: u64, arguments: &[&'a [u8]]) -> Option<Spoken<'a>>
     let (linked, others) = others.split_first()?;
     let dir = file(dir)?;
     let file = file(linked)?;
-    at_end(others, Spoken::Unlink { user, dir, name, file })
+    at_end(
+        others,
+        Spoken::Unlink {
+            user,
+            dir,
+            name,
+            file,
+        },
+    )
 }
 
 /// A command after which no word is left.

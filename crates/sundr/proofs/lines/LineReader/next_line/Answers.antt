@@ -1,28 +1,24 @@
-use Rattle.std.proofs.Common.{arith, rules}
-use Rattle.sundr.specs.Reading.{known, held}
-use Rattle.std.proofs.lemmas.Bool.Decides.{nat_tests}
-use Rattle.sundr.proofs.LineFeeds.{reads_whole, reads_too_much, continues_filled, reads_last, part_short}
+use Rattle.std.proofs.Common.{◌≡◌, ◌∙◌, ◌<◌, sym, ap, subst, drop, length, arith, [], Some}
+use Rattle.std.specs.Io.KnownBytes.{prepend_known}
+use Rattle.sundr.specs.Script.{lines_of}
+use Rattle.sundr.proofs.Broken.{After, after_taken, reads_too_long, reads_ended, reads_last, on_false, has_items}
 use Rattle.sundr.proofs.lines.LineReader.next_line.Goals as goal
 
-pub returns-in-Whole : goal.returns-in-Whole
-returns-in-Whole g c =
-    reads_whole g.R.Read.remaining (known g.R.Read.remaining c.args.self.now) c.loop.self c.take_held.new.self c.loop.line.items c.take_held.new.line.items c.in_ok-take_held.field-0
-    c.loop.invariant.0 c.in_ok-take_held.ensures.reader c.in_ok-take_held.ensures.takes c.in-Whole.is
+pub returns-then-len-gt-LONGEST_LINE : goal.returns-then-len-gt-LONGEST_LINE
+returns-then-len-gt-LONGEST_LINE g c =
+    let a = after_taken _ _ _ _ _ _ _ c.loop-line.invariant c.in_ok-ended.ensures.taken in
+    let long : 140000 < length c.take.new.line.items = omega (arith, c.len.ensures, c.if-len-gt-LONGEST_LINE.true, c.take.new.line.ok.0) in
+    reads_too_long _ _ _ _ (subst (λ r. After c.in_ok-ended.ended c.take.new.line.items (prepend_known (drop c.args.self.now.start c.args.self.now.filled.items) (g.R.Read.remaining c.args.self.now.reader)) (prepend_known (drop c.take.new.self.start c.take.new.self.filled.items) r)) (sym c.in_ok-ended.ensures.reader) a) long
 
-pub returns-in-TooMuch : goal.returns-in-TooMuch
-returns-in-TooMuch g c =
-    reads_too_much g.R.Read.remaining (known g.R.Read.remaining c.args.self.now) (known g.R.Read.remaining c.take_held.new.self) c.loop.self c.take_held.new.self c.loop.line.items c.take_held.new.line.items c.in_ok-take_held.field-0
-    c.loop.invariant.0 c.in_ok-take_held.ensures.takes c.in-TooMuch.is
+pub returns-then-ended : goal.returns-then-ended
+returns-then-ended g c =
+    let a = after_taken _ _ _ _ _ _ _ c.loop-line.invariant c.in_ok-ended.ensures.taken in
+    reads_ended c.take.new.line c.in_ok-ended.ended _ _ (subst (λ r. After c.in_ok-ended.ended c.take.new.line.items (prepend_known (drop c.args.self.now.start c.args.self.now.filled.items) (g.R.Read.remaining c.args.self.now.reader)) (prepend_known (drop c.take.new.self.start c.take.new.self.filled.items) r)) (sym c.in_ok-ended.ensures.reader) a) c.if-ended.true
 
-pub loop-preserved : goal.loop-preserved
-loop-preserved g c =
-    (continues_filled g.R.Read.remaining (known g.R.Read.remaining c.args.self.now) (known g.R.Read.remaining c.fill.new.self) c.loop.self c.take_held.new.self c.loop.line.items c.take_held.new.line.items c.in_ok-take_held.field-0
-    c.loop.invariant.0 c.in_ok-take_held.ensures.reader c.in_ok-take_held.ensures.takes c.in-Part.is c.in_ok-fill.ensures.keeps,
-    omega (arith, c.take_held.new.line.ok.0, part_short (held c.loop.self) (held c.take_held.new.self) c.loop.line.items c.take_held.new.line.items c.in_ok-take_held.field-0 c.in_ok-take_held.ensures.takes c.in-Part.is))
-
-pub returns-else-is_empty : goal.returns-else-is_empty
-returns-else-is_empty g c =
-    let so_far = continues_filled g.R.Read.remaining (known g.R.Read.remaining c.args.self.now) (known g.R.Read.remaining c.fill.new.self) c.loop.self c.take_held.new.self c.loop.line.items c.take_held.new.line.items c.in_ok-take_held.field-0
-    c.loop.invariant.0 c.in_ok-take_held.ensures.reader c.in_ok-take_held.ensures.takes c.in-Part.is c.in_ok-fill.ensures.keeps in
-    let end = c.in_ok-fill.ensures.end (search rules) in
-    reads_last g.R.Read.remaining (known g.R.Read.remaining c.args.self.now) c.fill.new.self c.take_held.new.line.items so_far end.0 end.1 (grind (arith, nat_tests, c.take_held.new.line.ok.0, c.is_empty.ensures, c.if-is_empty.false)) (part_short (held c.loop.self) (held c.take_held.new.self) c.loop.line.items c.take_held.new.line.items c.in_ok-take_held.field-0 c.in_ok-take_held.ensures.takes c.in-Part.is)
+pub returns-then-not-branch : goal.returns-then-not-branch
+returns-then-not-branch g c =
+    let a = after_taken _ _ _ _ _ _ _ c.loop-line.invariant c.in_ok-ended.ensures.taken in
+    reads_last c.take.new.line c.in_ok-ended.ended c.in_ok-refill.field-0 (drop c.take.new.self.start c.take.new.self.filled.items) _ (g.R.Read.remaining c.take.new.self.reader) _
+    (subst (λ r. After c.in_ok-ended.ended c.take.new.line.items (prepend_known (drop c.args.self.now.start c.args.self.now.filled.items) (g.R.Read.remaining c.args.self.now.reader)) (prepend_known (drop c.take.new.self.start c.take.new.self.filled.items) r)) (sym c.in_ok-ended.ensures.reader) a)
+    c.if-ended.false (on_false c.in_ok-ended.ended _ c.in_ok-ended.ensures.empty c.if-ended.false) c.in_ok-refill.ensures.bytes c.if-not-branch.true
+    (has_items c.take.new.line.items _ c.is_empty.result c.take.new.line.ok.0 c.is_empty.ensures c.if-is_empty.false)
