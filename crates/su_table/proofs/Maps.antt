@@ -8,7 +8,7 @@ use Rattle.std.specs.List.{AllByRecursion}
 use Rattle.std.specs.List.Sorted.{IsStrictlySortedBy}
 use Rattle.std.specs.Map.{lookup, keys_of}
 use Rattle.std.specs.BTreeMap.{is_at, insert_entry}
-use Rattle.std.specs.FinMap.{FinMap, get, insert, remove, find, from_entries, entries, empty, len, len-entries, len-empty, entries-insert, put, get-from_entries, get-insert, get-remove, same_map, IsAntisymmetric}
+use Rattle.std.specs.FinMap.{FinMap, get, find, from_entries, entries, empty, len, len-entries, len-empty, entries-insert, put, get-from_entries, get-insert, get-remove, same_map, IsAntisymmetric}
 use Rattle.su_table.specs.Edit.{set_key}
 
 -- a scan from the front is std's look-up

@@ -1,5 +1,5 @@
 -- What std's maps hold and how they change, as the tree sees it.
-use Rattle.std.proofs.Common.{◌≡◌, ◌∙◌, sym, refl, ap, ℕ, nat_eq, arith, Bool, true, false, not, ◌&&◌, cond, List, [], ◌∷◌, Option, Some, None, Result, Ok, Err}
+use Rattle.std.proofs.Common.{◌≡◌, ◌∙◌, sym, refl, ap, ℕ, nat_eq, arith, not, ◌&&◌, cond, List, [], ◌∷◌, Option, Some, None, Result, Ok, Err}
 use Rattle.std.specs.declared.cmp.Ordering.{Ordering}
 use Rattle.std.specs.declared.cmp.Ordering.TheVariants.{Less, Equal, Greater}
 use Rattle.std.specs.Ordering.{is_eq, nat_cmp, ordering_then}
@@ -18,12 +18,12 @@ use Rattle.su_bytes.specs.contracts.file_ids.FileIdPartialEq.TheImpl as block
 use Rattle.su_table.specs.declared.inodes.Stored.{Stored}
 use Rattle.su_table.specs.declared.inodes.Stored.TheVariants.{Bytes as StoredBytes, Names as StoredNames}
 use Rattle.su_table.specs.Place.{Place, Name, place_cmp, name_cmp, place_eq, file_eq}
-use Rattle.su_table.specs.Inode.{Inode, Content, Content.Bytes, Content.Names, new_inode}
+use Rattle.su_table.specs.Inode.{Inode, Content.Names, new_inode}
 use Rattle.su_table.specs.Tree.{Tree, genesis}
 use Rattle.su_table.specs.View.{content_of}
-use Rattle.su_table.specs.Cell.{Cell.At, Cell.Entry, Field, Field.KindOf, Field.NameOf, field_value, content_value, file_value, place_value, val}
+use Rattle.su_table.specs.Cell.{Cell.At, Cell.Entry, Field, Field.KindOf, field_value, file_value, place_value, val}
 use Rattle.su_table.specs.Query.{is_nothing, is_file_id, entry_body, body, names_of, listing_at, listing}
-use Rattle.su_table.specs.Edit.{Change, Change.Named, change, named, Edit.Inodes, Edit.Entries, edit, set_key}
+use Rattle.su_table.specs.Edit.{Change, change, named, Edit.Inodes, Edit.Entries, edit, set_key}
 use Rattle.su_table.proofs.Maps.{get-from_entries_lookup, from_entries-updates, set_key-get}
 use Rattle.su_table.proofs.Places.{place_cmp_total, place_cmp_exact, name_cmp_total, name_cmp_exact}
 

@@ -1,12 +1,12 @@
 -- Edits can be taken back.
-use Rattle.std.proofs.Common.{◌≡◌, ◌∙◌, sym, refl, ap, List, [], ◌∷◌, ◌++◌, Option, Some, None, ℕ}
+use Rattle.std.proofs.Common.{◌≡◌, ◌∙◌, refl, ap, List, [], ◌∷◌, ◌++◌, Option, Some, None, ℕ}
 use Rattle.std.specs.FinMap.{FinMap, get}
 use Rattle.su_bytes.specs.declared.file_ids.FileId.{FileId}
 use Rattle.su_table.specs.Place.{Place, Name, place_cmp}
 use Rattle.su_table.specs.Inode.{Inode, Content, Content.Bytes, Content.Names}
 use Rattle.su_table.specs.Tree.{Tree}
 use Rattle.su_table.specs.Edit.{Change, Change.Made, Change.Named, Change.Linked, Change.Copied, Change.Gone, change, restoring, change_back, Edit, Edit.Inodes, Edit.Entries, set_key, edit, edits, back, edits_back, EditsCanBeTakenBack}
-use Rattle.su_table.proofs.Maps.{get-set_key_here, set_key-set_key, set_key-get, set_key_back}
+use Rattle.su_table.proofs.Maps.{get-set_key_here, set_key_back}
 use Rattle.su_table.proofs.Places.{place_cmp_total, place_cmp_exact, name_cmp_total, name_cmp_exact}
 
 change-restoring : (o p : Option Inode) → change (restoring o) p ≡ o

@@ -4,7 +4,7 @@ use Rattle.std.specs.declared.cmp.Ordering.{Ordering}
 use Rattle.std.specs.FinMap.{FinMap, get, insert, remove}
 use Rattle.su_bytes.specs.declared.file_ids.FileId.{FileId}
 use Rattle.su_bytes.specs.declared.file_ids.Kind.{Kind}
-use Rattle.su_table.specs.Place.{Place, Name, name_cmp}
+use Rattle.su_table.specs.Place.{Place, Name}
 use Rattle.su_table.specs.Inode.{Inode, Content, Content.Bytes, Content.Names, new_inode}
 use Rattle.su_table.specs.Tree.{Tree}
 

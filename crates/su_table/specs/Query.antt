@@ -7,7 +7,7 @@ use Rattle.su_bytes.specs.declared.file_ids.Kind.TheVariants.{File, Dir}
 use Rattle.su_bytes.specs.declared.refusals.Refusal.{Refusal}
 use Rattle.su_bytes.specs.declared.refusals.Refusal.TheVariants.{NoFile, WrongKind}
 use Rattle.su_table.specs.Place.{Place, Name, file_eq}
-use Rattle.su_table.specs.Inode.{Inode, Content, Content.Bytes, Content.Names}
+use Rattle.su_table.specs.Inode.{Inode, Content.Bytes, Content.Names}
 use Rattle.su_table.specs.Tree.{Tree}
 use Rattle.su_table.specs.Cell.{Cell.At, Cell.Entry, Field.KindOf, Field.LinksOf, Field.NameOf, Value, Value.Nothing, Value.AKind, Value.ANumber, Value.AFile, Value.APlace, val}
 

@@ -1,5 +1,4 @@
 -- The plain tree of a store: all users' i-tables as one map, all groups' i-tables as another. (SUNDR, section 3.)
-use Rattle.std.specs.Prelude.{ℕ}
 use Rattle.std.specs.FinMap.{FinMap, insert, empty}
 use Rattle.su_bytes.specs.declared.file_ids.FileId.TheVariants.{Group}
 use Rattle.su_bytes.specs.declared.file_ids.Kind.TheVariants.{Dir}

@@ -1,5 +1,5 @@
-use Rattle.std.proofs.Common.{◌≡◌, ◌∙◌, ap, sym, refl, Some, None, Option, not, Bool, true, false, cond}
-use Rattle.su_bytes.specs.declared.file_ids.FileId.TheVariants.{User, Group}
+use Rattle.std.proofs.Common.{◌≡◌, ◌∙◌, ap, sym, Some, None, true, false, cond}
+use Rattle.su_bytes.specs.declared.file_ids.FileId.TheVariants.{User}
 use Rattle.su_table.specs.Place.{Place, file_eq}
 use Rattle.su_table.specs.Query.{body, home_body, entry_body}
 use Rattle.su_table.specs.Cell.{Field.KindOf}

@@ -1,4 +1,4 @@
-use Rattle.std.proofs.Common.{◌≡◌, ◌∙◌, ap, sym, ◌++◌}
+use Rattle.std.proofs.Common.{◌∙◌, ap, sym, ◌++◌}
 use Rattle.std.specs.BTreeMap.{insert_entry}
 use Rattle.su_table.specs.Place.{place_cmp}
 use Rattle.su_table.proofs.Maps.{copied_more}

@@ -1,4 +1,4 @@
-use Rattle.std.proofs.Common.{◌≡◌, ◌∙◌, ap, sym, refl, Some, None, Option, not, Bool, true, false}
+use Rattle.std.proofs.Common.{sym}
 use Rattle.su_table.proofs.Stores.{get-inodes}
 use Rattle.su_table.proofs.forests.Forest.inode.Goals as goal
 

@@ -1,4 +1,4 @@
-use Rattle.std.proofs.Common.{◌≡◌, ◌∙◌, ap, sym, refl, Some, None, Option, not, Bool, true, false}
+use Rattle.std.proofs.Common.{◌∙◌, ap, sym}
 use Rattle.su_table.specs.Query.{has_no_names, is_bare_at}
 use Rattle.su_table.proofs.Stores.{get-inodes}
 use Rattle.su_table.proofs.forests.Forest.is_bare.Goals as goal

@@ -1,4 +1,4 @@
-use Rattle.std.proofs.Common.{◌≡◌, ◌∙◌, ap, sym, refl, Some, None, Option, not, Bool, true, false, cond}
+use Rattle.std.proofs.Common.{◌≡◌, ◌∙◌, ap, sym, refl}
 use denote.Enum.Bare.{sameb}
 use Rattle.su_bytes.specs.declared.file_ids.Kind.{Kind}
 use Rattle.su_bytes.specs.declared.file_ids.Kind.TheVariants.{File, Dir}

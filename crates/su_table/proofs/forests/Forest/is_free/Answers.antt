@@ -1,7 +1,7 @@
-use Rattle.std.proofs.Common.{◌≡◌, ◌∙◌, ap, sym, refl, Some, None, Option, not, Bool, true, false}
-use Rattle.su_table.specs.Query.{number_of, is_nothing, is_file_id, is_dir, is_file}
-use Rattle.su_table.specs.Cell.{Field.KindOf, Field.LinksOf, Field.NameOf}
-use Rattle.su_table.proofs.Stores.{val-At, val-Entry, is_nothing-field_value, is_nothing-file_value, is_nothing-place_value, is_file_id-derived}
+use Rattle.std.proofs.Common.{◌∙◌, ap, sym, refl, not}
+use Rattle.su_table.specs.Query.{is_nothing}
+use Rattle.su_table.specs.Cell.{Field.KindOf}
+use Rattle.su_table.proofs.Stores.{val-At, is_nothing-field_value}
 use Rattle.su_table.proofs.forests.Forest.is_free.Goals as goal
 
 pub returns : goal.returns

@@ -1,4 +1,4 @@
-use Rattle.std.proofs.Common.{◌≡◌, ◌∙◌, ap, sym, refl, Option, Some, None, Result, Ok, Err, IfOk, IfErr, ◌⊎◌, inl, inr}
+use Rattle.std.proofs.Common.{◌≡◌, ◌∙◌, ap, sym, refl, Option, Some, None, Result, Ok, Err, IfOk, IfErr, ◌⊎◌, inr}
 use Rattle.std.specs.Option.{ok_or, option_map, option_copied}
 use Rattle.std.proofs.lemmas.Result.{err_from_is_err_and}
 use Rattle.su_bytes.specs.declared.refusals.Refusal.TheVariants.{NoFile, WrongKind, NoMemory}

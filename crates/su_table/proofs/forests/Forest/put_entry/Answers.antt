@@ -1,4 +1,4 @@
-use Rattle.std.proofs.Common.{◌≡◌, ◌∙◌, ap, sym, refl, Some, None, Option, not, Bool, true, false}
+use Rattle.std.proofs.Common.{Some}
 use Rattle.su_table.proofs.Stores.{edit-Entries}
 use Rattle.su_table.proofs.forests.Forest.put_entry.Goals as goal
 

@@ -1,4 +1,4 @@
-use Rattle.std.proofs.Common.{◌≡◌, ◌∙◌, ap, sym, refl, Some, None, Option, not, Bool, true, false}
+use Rattle.std.proofs.Common.{None}
 use Rattle.su_table.proofs.Stores.{edit-Entries}
 use Rattle.su_table.proofs.forests.Forest.remove_entry.Goals as goal
 

@@ -1,4 +1,4 @@
-use Rattle.std.proofs.Common.{◌≡◌, ◌∙◌, ap, sym, refl, Some, None, Option, not, Bool, true, false}
+use Rattle.std.proofs.Common.{refl}
 use Rattle.su_table.specs.Edit.{Change.Gone}
 use Rattle.su_table.proofs.Stores.{edit-Inodes}
 use Rattle.su_table.proofs.forests.Forest.remove_inode.Goals as goal

@@ -1,4 +1,4 @@
-use Rattle.std.proofs.Common.{◌≡◌, ◌∙◌, ap, sym, refl, Some, None, Option, not, Bool, true, false}
+use Rattle.std.proofs.Common.{◌∙◌, ap, sym, refl, None}
 use Rattle.std.specs.Option.{is_some}
 use Rattle.su_table.specs.Edit.{Change.Named, change}
 use Rattle.su_table.proofs.Stores.{edit-Inodes, edit-Inodes_absent}

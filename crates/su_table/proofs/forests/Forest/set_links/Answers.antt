@@ -1,4 +1,4 @@
-use Rattle.std.proofs.Common.{◌≡◌, ◌∙◌, ap, sym, refl}
+use Rattle.std.proofs.Common.{◌∙◌, ap, sym, refl}
 use Rattle.std.specs.Option.{is_some}
 use Rattle.su_table.specs.Edit.{Change.Linked, change}
 use Rattle.su_table.proofs.Stores.{edit-Inodes, edit-Inodes_absent}

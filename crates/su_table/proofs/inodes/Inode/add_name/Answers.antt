@@ -1,4 +1,4 @@
-use Rattle.std.proofs.Common.{◌≡◌, ◌∙◌, ap, sym, refl, Some, None, Option, not, Bool, true, false}
+use Rattle.std.proofs.Common.{◌∙◌, ap, sym, Some, Option}
 use Rattle.su_table.specs.Inode.{Inode, Content}
 use Rattle.su_table.specs.View.{content_of}
 use Rattle.su_table.specs.Edit.{named}

@@ -1,5 +1,5 @@
-use Rattle.std.proofs.Common.{◌≡◌, ◌∙◌, ap, sym, refl, Some, None, Option, not, Bool, true, false}
-use Rattle.std.proofs.Common.{nat_eq, length}
+use Rattle.std.proofs.Common.{◌∙◌, ap, sym, Some}
+use Rattle.std.proofs.Common.{nat_eq}
 use Rattle.su_table.specs.View.{content_of}
 use Rattle.su_table.specs.Inode.{Inode}
 use Rattle.su_table.specs.Query.{has_no_names}

@@ -1,4 +1,4 @@
-use Rattle.std.proofs.Common.{◌≡◌, ◌∙◌, ap, sym}
+use Rattle.std.proofs.Common.{◌∙◌, ap}
 use Rattle.su_table.specs.Place.{file_eq}
 use Rattle.su_table.proofs.Stores.{file_eq-derived}
 use Rattle.su_table.proofs.inodes.Inode.is_of.Goals as goal

@@ -1,4 +1,4 @@
-use Rattle.std.proofs.Common.{◌≡◌, ◌∙◌, ap, sym, refl, Some, None, Option, not, Bool, true, false}
+use Rattle.std.proofs.Common.{◌∙◌, ap, sym, Some}
 use Rattle.su_table.specs.Cell.{Field.NameOf, file_value, content_value, field_value}
 use Rattle.su_table.specs.Inode.{Inode}
 use Rattle.su_table.specs.View.{content_of}

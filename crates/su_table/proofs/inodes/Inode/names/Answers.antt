@@ -1,4 +1,4 @@
-use Rattle.std.proofs.Common.{◌≡◌, ◌∙◌, ap, sym, ◌++◌, append-nil, Some}
+use Rattle.std.proofs.Common.{◌∙◌, ap, sym, ◌++◌, append-nil, Some}
 use Rattle.su_table.specs.View.{content_of}
 use Rattle.su_table.specs.Inode.{Inode}
 use Rattle.su_table.specs.Query.{names_of}
