@@ -4,6 +4,8 @@
 mod desks;
 mod entries;
 mod kept;
+#[cfg(test)]
+mod tests;
 
 pub use desks::Desk;
 pub use entries::{DeskReply, Entry};

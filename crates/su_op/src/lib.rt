@@ -4,6 +4,8 @@
 mod access;
 mod creation;
 mod operations;
+#[cfg(test)]
+mod tests;
 mod unlinking;
 
 pub use creation::Create;

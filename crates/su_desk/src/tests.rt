@@ -1,0 +1,106 @@
+// Each call on its happy path.
+use crate::{Desk, DeskReply};
+use std::alloc::Global;
+use std::test::Fail;
+use su_bytes::{
+    FileId, Group, Inum, KEY_LENGTH, Kind, Name, Refusal, Roster, RosterGroup, RosterUser, User,
+};
+use su_op::{Change, Create, Op, Unlink};
+
+fn own(user: u64, number: u64) -> Result<FileId, Refusal> {
+    Ok(FileId::User(User::new(user)?, Inum::new(number)?))
+}
+
+fn root() -> Result<FileId, Refusal> {
+    Ok(FileId::Group(Group::FIRST, Inum::new(1)?))
+}
+
+/// Users 0 and 1, both in group 0.
+fn two_users(alloc: Global) -> Result<Roster, Refusal> {
+    let mut users = Vec::new(alloc);
+    let mut members = Vec::new(alloc);
+    for number in 0..2u64 {
+        let user = User::new(number)?;
+        let key = [0; KEY_LENGTH];
+        users.push(RosterUser { user, key })?;
+        members.push(user)?;
+    }
+    let mut groups = Vec::new(alloc);
+    groups.push(RosterGroup {
+        group: Group::FIRST,
+        members,
+    })?;
+    Roster::new(users, groups)
+}
+
+/// A file of user 0 with that number, named in the root.
+fn create(alloc: Global, name: &[u8], number: u64) -> Result<Change, Refusal> {
+    Ok(Change::Do(Op::Create(Create {
+        dir: root()?,
+        name: Name::new(alloc, name)?,
+        file: own(0, number)?,
+        body: Inum::new(number)?,
+        kind: Kind::File,
+    })))
+}
+
+fn unlink(alloc: Global, name: &[u8], number: u64) -> Result<Change, Refusal> {
+    Ok(Change::Do(Op::Unlink(Unlink {
+        dir: root()?,
+        name: Name::new(alloc, name)?,
+        file: own(0, number)?,
+    })))
+}
+
+/// How many names the root has.
+fn names(desk: &Desk) -> Result<usize, Refusal> {
+    let listed = root()?;
+    let names = desk.forest().list(listed)?;
+    Ok(names.len())
+}
+
+#[test]
+fn an_undo_brings_the_name_back(rt: HostRuntime) -> Result<(), Fail> {
+    let alloc = rt.alloc();
+    let mut desk = Desk::new(alloc, two_users(alloc)?)?;
+    let author = User::FIRST;
+    let made = create(alloc, b"f", 2)?;
+    assert_eq!(rt; desk.apply(author, made)?, 1);
+    assert_eq!(rt; names(&desk)?, 1);
+    let gone = unlink(alloc, b"f", 2)?;
+    assert_eq!(rt; desk.apply(author, gone)?, 2);
+    assert_eq!(rt; names(&desk)?, 0);
+    assert_eq!(rt; desk.undo_last(author)?, 3);
+    assert_eq!(rt; names(&desk)?, 1);
+    let live = desk.live()?;
+    assert!(rt; live.as_slice() == [1u64].as_slice());
+    Ok(())
+}
+
+#[test]
+fn several_changes_are_answered_in_turn(rt: HostRuntime) -> Result<(), Fail> {
+    let alloc = rt.alloc();
+    let mut desk = Desk::new(alloc, two_users(alloc)?)?;
+    let author = User::FIRST;
+    let other = User::new(1)?;
+    let mut changes = Vec::new(alloc);
+    changes.push((author, create(alloc, b"a", 2)?))?;
+    changes.push((author, create(alloc, b"b", 3)?))?;
+    changes.push((author, Change::Undo(1)))?;
+    changes.push((other, Change::Undo(2)))?;
+    changes.push((author, Change::Undo(2)))?;
+    let replies = desk.run(changes.as_slice())?;
+    assert!(rt;
+        replies.as_slice()
+            == [
+                DeskReply::Done(1),
+                DeskReply::Done(2),
+                DeskReply::Refused(Refusal::Blocked(2)),
+                DeskReply::Refused(Refusal::NotAuthor(author)),
+                DeskReply::Done(3),
+            ]
+            .as_slice()
+    );
+    assert!(rt; desk.roster().has_user(other));
+    Ok(())
+}
