@@ -1,5 +1,5 @@
 -- Changes made one after another.
-use Rattle.std.proofs.Common.{◌≡◌, refl, subst, ℕ, List, [], ◌∷◌, ◌++◌}
+use Rattle.std.proofs.Common.{refl, subst, ℕ, List, [], ◌∷◌, ◌++◌}
 use Rattle.su_op.specs.declared.operations.Change.{Change}
 use Rattle.su_desk.specs.declared.entries.DeskReply.{DeskReply}
 use Rattle.su_desk.specs.Desk.{DeskState, Answers, result_of, Runs}

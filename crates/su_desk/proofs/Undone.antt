@@ -10,7 +10,7 @@ use Rattle.su_table.specs.Inode.{Inode}
 use Rattle.su_table.specs.Tree.{Tree}
 use Rattle.su_table.specs.Cell.{Cell.Entry, val}
 use Rattle.su_table.specs.Query.{body, is_nothing, is_free_at, is_name_free_at, is_entry_free, leads_to_at, is_bare_at, links_at}
-use Rattle.su_table.specs.Edit.{Change.Named, Change.Made, Change.Linked, Change.Copied, Change.Gone, Edit, Edit.Inodes, Edit.Entries, edit, edits, back, edits_back, restoring}
+use Rattle.su_table.specs.Edit.{Change.Named, Change.Made, Change.Linked, Change.Gone, Edit, Edit.Inodes, Edit.Entries, edit, edits, back, edits_back, restoring}
 use Rattle.su_table.proofs.Maps.{set_key-get}
 use Rattle.su_table.proofs.Places.{place_cmp_total, place_cmp_exact}
 use Rattle.su_table.proofs.TakenBack.{edit-back, edits_can_be_taken_back}
@@ -23,9 +23,6 @@ use Rattle.su_op.specs.Unlinking.{unlink_plan, unlink_edits, unlink_rule}
 use Rattle.su_op.specs.Operation.{why, effect}
 use Rattle.su_op.specs.Growth.{AreFreeFor}
 use Rattle.su_op.proofs.Backs.{no_inode, back_name, back_made, back_entry, back_unnamed, back_linked, back_gone, back_unentered, entry_from_body, apart_from_directory, get-edit_apart, get-inodes_entries, is_free_at-named, links_at-named, val-entry_inodes, is_name_free_at-unnamed, is_free_at-gone, entry_free-unentered, copied_gone}
-use Rattle.su_desk.specs.declared.kept.Entrance.{Entrance}
-use Rattle.su_desk.specs.declared.kept.Undoing.TheVariants.{Remove, Relink, Restore}
-use Rattle.su_desk.specs.Taking.{edits_of, entering, IsReady}
 
 -- ---- what an accepted rule tells
 
@@ -217,28 +214,28 @@ returns_with : (T : Tree) (x : Name) (d f : Place) (file : FileId) → body T fi
     → get (edit T (Inodes d (Named x None))).inodes f ≡ get T.inodes f
     → Returns T x file d f (edits (edit T (Inodes d (Named x None))) (entry_edits file None ++ Inodes f Gone ∷ []))
 returns_with T x d f (User v i) stands name_back same =
-    let T1 = edit T (Inodes d (Named x None)) in
+    let unnamed = edit T (Inodes d (Named x None)) in
     let o = get T.inodes f in
-    let ret : edit (edit T1 (Inodes f Gone)) (Inodes f (restoring o)) ≡ T1 = inode_returns T1 f o same in
-    let name : edit T1 (Inodes d (Named x (Some (User v i)))) ≡ T = ap (edit T1) (sym name_back) ∙ edit-back T (Inodes d (Named x None)) in
+    let ret : edit (edit unnamed (Inodes f Gone)) (Inodes f (restoring o)) ≡ unnamed = inode_returns unnamed f o same in
+    let name : edit unnamed (Inodes d (Named x (Some (User v i)))) ≡ T = ap (edit unnamed) (sym name_back) ∙ edit-back T (Inodes d (Named x None)) in
     record {
       back = ap (λ S. edit S (Inodes d (Named x (Some (User v i))))) ret ∙ name;
-      free = is_free_at-gone T1 f;
+      free = is_free_at-gone unnamed f;
       ready = subst (λ S. AreFreeFor S (Inodes d (Named x (Some (User v i))) ∷ [])) (sym ret) (is_name_free_at-unnamed T d x, tt);
     }
 returns_with T x d f (Group g k) stands name_back same =
-    let T1 = edit T (Inodes d (Named x None)) in
-    let T2 = edit T1 (Entries (g, k) None) in
+    let unnamed = edit T (Inodes d (Named x None)) in
+    let unentered = edit unnamed (Entries (g, k) None) in
     let o = get T.inodes f in
-    let ret : edit (edit T2 (Inodes f Gone)) (Inodes f (restoring o)) ≡ T2 = inode_returns T2 f o (get-inodes_entries T1 (g, k) None f ∙ same) in
-    let entry : edit T2 (Entries (g, k) (Some f)) ≡ T1 = entry_returns T1 (g, k) f (get-entries_inodes T d x None (g, k) ∙ entry_from_body T g k f stands) in
-    let name : edit T1 (Inodes d (Named x (Some (Group g k)))) ≡ T = ap (edit T1) (sym name_back) ∙ edit-back T (Inodes d (Named x None)) in
-    let free_name : is_name_free_at (edit T2 (Entries (g, k) (Some f))) d x ≡ true
-    = is_name_free_at-entries T2 (g, k) (Some f) d x ∙ is_name_free_at-entries T1 (g, k) None d x ∙ is_name_free_at-unnamed T d x in
+    let ret : edit (edit unentered (Inodes f Gone)) (Inodes f (restoring o)) ≡ unentered = inode_returns unentered f o (get-inodes_entries unnamed (g, k) None f ∙ same) in
+    let entry : edit unentered (Entries (g, k) (Some f)) ≡ unnamed = entry_returns unnamed (g, k) f (get-entries_inodes T d x None (g, k) ∙ entry_from_body T g k f stands) in
+    let name : edit unnamed (Inodes d (Named x (Some (Group g k)))) ≡ T = ap (edit unnamed) (sym name_back) ∙ edit-back T (Inodes d (Named x None)) in
+    let free_name : is_name_free_at (edit unentered (Entries (g, k) (Some f))) d x ≡ true
+    = is_name_free_at-entries unentered (g, k) (Some f) d x ∙ is_name_free_at-entries unnamed (g, k) None d x ∙ is_name_free_at-unnamed T d x in
     record {
       back = ap (λ S. edit (edit S (Entries (g, k) (Some f))) (Inodes d (Named x (Some (Group g k))))) ret ∙ ap (λ S. edit S (Inodes d (Named x (Some (Group g k))))) entry ∙ name;
-      free = is_free_at-gone T2 f;
-      ready = subst (λ S. AreFreeFor S (Entries (g, k) (Some f) ∷ Inodes d (Named x (Some (Group g k))) ∷ [])) (sym ret) (entry_free-unentered T1 (g, k), (free_name, tt));
+      free = is_free_at-gone unentered f;
+      ready = subst (λ S. AreFreeFor S (Entries (g, k) (Some f) ∷ Inodes d (Named x (Some (Group g k))) ∷ [])) (sym ret) (entry_free-unentered unnamed (g, k), (free_name, tt));
     }
 
 -- of the last link

@@ -1,7 +1,6 @@
 -- What takes single edits back, where they add to what is free, and what an edit leaves as it was.
-use Rattle.std.proofs.Common.{◌≡◌, ◌∙◌, sym, refl, ap, ℕ, Bool, true, false, cond, List, [], ◌∷◌, ◌++◌, ◌-◌, nat_le, Option, Some, None, nat_eq, arith}
+use Rattle.std.proofs.Common.{◌≡◌, ◌∙◌, sym, refl, ap, ℕ, Bool, true, false, cond, [], ◌∷◌, ◌++◌, ◌-◌, nat_le, Option, Some, None, arith}
 use Rattle.std.specs.Ordering.{eq_by_cmp}
-use Rattle.std.specs.Cmp.{eq_by_cmp_equiv}
 use Rattle.std.specs.FinMap.{get, len, empty_of_len, get-empty}
 use Rattle.su_bytes.specs.declared.file_ids.FileId.{FileId}
 use Rattle.su_bytes.specs.declared.file_ids.FileId.TheVariants.{User, Group}
@@ -9,9 +8,9 @@ use Rattle.su_bytes.specs.declared.file_ids.Kind.{Kind}
 use Rattle.su_table.specs.Place.{Place, Name, place_cmp, place_eq, name_cmp, file_eq}
 use Rattle.su_table.specs.Inode.{Inode, Content, Content.Bytes, Content.Names, new_inode}
 use Rattle.su_table.specs.Tree.{Tree}
-use Rattle.su_table.specs.Cell.{Cell.At, Cell.Entry, Field, Field.KindOf, Field.LinksOf, Field.NameOf, Value, file_value, place_value, field_value, val}
+use Rattle.su_table.specs.Cell.{Cell.Entry, Field.KindOf, Field.LinksOf, Field.NameOf, file_value, place_value, field_value, val}
 use Rattle.su_table.specs.Query.{is_nothing, number_of, is_file_id, is_free_at, is_name_free_at, is_entry_free, leads_to_at, links_at, is_bare_at, has_no_names, body, entry_body}
-use Rattle.su_table.specs.Edit.{Change, Change.Named, Change.Made, Change.Linked, Change.Copied, Change.Gone, change, Edit, Edit.Inodes, Edit.Entries, edit, edits, back, name_in, links_in, restoring, named}
+use Rattle.su_table.specs.Edit.{Change, Change.Named, Change.Made, Change.Linked, Change.Copied, Change.Gone, change, Edit.Inodes, Edit.Entries, edit, edits, back, name_in, links_in, restoring, named}
 use Rattle.su_op.specs.declared.creation.Create.{Create}
 use Rattle.su_op.specs.Rule.{entry_edits}
 use Rattle.su_op.specs.Creation.{create_plan}

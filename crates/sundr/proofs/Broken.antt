@@ -1,13 +1,13 @@
 -- Lines taken part by part are the lines of the whole.
-use Rattle.std.proofs.Common.{◌≡◌, ◌∙◌, sym, refl, ap, subst, ℕ, ◌<◌, ◌≤◌, ◌+◌, Bool, true, false, not, cond, ◌&&◌, List, [], ◌∷◌, ◌++◌, length, append_assoc, append-nil, length-append, nat_eq, Option, Some, None, arith}
-use Rattle.std.specs.List.{list_all, onto_first}
+use Rattle.std.proofs.Common.{◌≡◌, ◌∙◌, sym, refl, ap, ℕ, ◌<◌, Bool, true, false, not, cond, ◌&&◌, List, [], ◌∷◌, ◌++◌, length, append_assoc, append-nil, length-append, nat_eq, Option, Some, None, arith}
+use Rattle.std.specs.List.{onto_first}
 use Rattle.std.specs.Bool.{OnFalse}
 use Rattle.std.proofs.lemmas.Bool.Decides.{nat_tests}
 use Rattle.std.specs.Global.{Vec}
 use Rattle.std.specs.Io.KnownBytes.{prepend_known}
 use Rattle.std.proofs.lemmas.List.Folds.{list_all-append}
 use Rattle.sundr.specs.declared.lines.NextLine.{NextLine}
-use Rattle.sundr.specs.declared.lines.NextLine.TheVariants.{Line, TooLong, End}
+use Rattle.sundr.specs.declared.lines.NextLine.TheVariants.{Line, TooLong}
 use Rattle.sundr.specs.Script.{lines_of}
 use Rattle.sundr.specs.Lines.{is_unbroken, Takes, Refills, Reads, ReadsOf, Partly}
 

@@ -1,13 +1,13 @@
 -- When a word is a number, and which.
-use Rattle.std.proofs.Common.{◌≡◌, ℕ, ◌+◌, ◌-◌, ◌*◌, ◌^◌, ◌<◌, ◌≤◌, Bool, true, false, ◌&&◌, cond, List, [], ◌∷◌, length, get_or, take, drop, refl, ap, sym, ◌∙◌, arith}
+use Rattle.std.proofs.Common.{◌≡◌, ℕ, ◌+◌, ◌-◌, ◌*◌, ◌^◌, ◌<◌, ◌≤◌, Bool, true, false, ◌&&◌, cond, List, [], ◌∷◌, length, get_or, drop, refl, ap, arith}
 use Rattle.std.proofs.Common.{add-one}
 use Rattle.std.proofs.Math.Seq.{drop-cons}
-use Rattle.std.specs.Prelude.{Option, Some, None, nat_lt, nat_le}
+use Rattle.std.specs.Prelude.{Some, None, nat_lt, nat_le}
 use Rattle.std.specs.List.{list_all}
 use Rattle.std.specs.Char.{is_ascii_digit, digit_value}
 use Rattle.std.specs.Str.Parse.{digits_value, digits_value_after}
 use Rattle.std.proofs.lemmas.Bool.Decides.{nat_tests}
-use Rattle.sundr.specs.Script.{number_of, is_number}
+use Rattle.sundr.specs.Script.{number_of}
 
 third_fails : (a b c d : Bool) (n : ℕ) → c ≡ false → cond (a && b && c && d) (Some n) None ≡ None
 third_fails true true true d n e = cc

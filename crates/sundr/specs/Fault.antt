@@ -1,6 +1,5 @@
 -- Why a line gives no command.
 use Rattle.std.specs.Prelude.{◌≡◌, ℕ, ◌⊎◌, List, Some, None}
-use Rattle.su_bytes.specs.declared.refusals.Refusal.{Refusal}
 use Rattle.su_bytes.specs.declared.refusals.Refusal.TheVariants.{NoMemory}
 use Rattle.su_bytes.specs.Membership.{Membership}
 use Rattle.sundr.specs.declared.commands.Command.{Command}

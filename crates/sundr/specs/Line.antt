@@ -1,5 +1,5 @@
 -- The numbers of a command line.
-use Rattle.std.specs.Prelude.{ℕ, ◌≤◌, ⊤}
+use Rattle.std.specs.Prelude.{◌≤◌, ⊤}
 use Rattle.sundr.specs.declared.line.Line.{Line}
 use Rattle.sundr.specs.declared.line.Line.TheVariants.{Desk, Text}
 

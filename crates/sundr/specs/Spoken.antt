@@ -1,10 +1,6 @@
 -- A command as a line says it, and what it stands for: the same numbers, which may be outside their ranges.
-use Rattle.su_bytes.specs.declared.file_ids.FileId.{FileId}
-use Rattle.su_bytes.specs.declared.file_ids.FileId.TheVariants as file
 use Rattle.su_op.specs.declared.operations.Op.TheVariants as op
 use Rattle.su_op.specs.declared.operations.Change.TheVariants as change
-use Rattle.sundr.specs.declared.words.SpokenFile.{SpokenFile}
-use Rattle.sundr.specs.declared.words.SpokenFile.TheVariants as spoken_file
 use Rattle.sundr.specs.declared.commands.Command.{Command}
 use Rattle.sundr.specs.declared.commands.Command.TheVariants as command
 use Rattle.sundr.specs.declared.script.Spoken.{Spoken}

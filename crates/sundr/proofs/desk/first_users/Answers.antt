@@ -1,4 +1,4 @@
-use Rattle.std.proofs.Common.{◌≡◌, ◌∙◌, ◌+◌, ◌++◌, ◌∷◌, [], sym, ap, refl, ℕ, suc, zero, arith}
+use Rattle.std.proofs.Common.{◌≡◌, ◌∙◌, ◌+◌, ◌++◌, ◌∷◌, [], sym, ap, ℕ, suc, zero, arith}
 use Rattle.std.specs.List.{range_with_len}
 use Rattle.sundr.proofs.desk.first_users.Goals as goal
 

@@ -1,6 +1,4 @@
-use Rattle.std.proofs.Common.{subst}
 use Rattle.sundr.specs.declared.lines.NextLine.TheVariants.{Line, TooLong}
-use Rattle.sundr.specs.Turn.{LineTurns}
 use Rattle.sundr.proofs.Turning.{reads_at, turns_line, turns_too_long}
 use Rattle.sundr.proofs.Broken.{has_items}
 use Rattle.sundr.proofs.desk.next_turn.Goals as goal

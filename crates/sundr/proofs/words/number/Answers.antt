@@ -1,10 +1,10 @@
-use Rattle.std.proofs.Common.{rules, ◌∙◌, ◌≡◌, ◌<◌, sym, ap, ◌-◌, ◌+◌, ◌*◌, ◌^◌, get_or, length, drop, take, arith, refl, subst}
-use Rattle.std.specs.Char.{is_ascii_digit, digit_value}
+use Rattle.std.proofs.Common.{◌∙◌, ◌<◌, sym, ap, ◌+◌, ◌*◌, ◌^◌, arith, refl}
+use Rattle.std.specs.Char.{is_ascii_digit}
 use Rattle.std.specs.List.{list_all}
-use Rattle.std.specs.Str.Parse.{digits_value, digits_value_after}
+use Rattle.std.specs.Str.Parse.{digits_value_after}
 use Rattle.std.proofs.lemmas.Bool.Decides.{nat_tests}
 use Rattle.std.proofs.lemmas.List.{take_all, drop_all}
-use Rattle.sundr.proofs.Numbers.{number_of-no_digits, number_of-no_room, number_of-digits, digit_value-digit}
+use Rattle.sundr.proofs.Numbers.{number_of-no_room, number_of-digits, digit_value-digit}
 use Rattle.sundr.proofs.words.number.Goals as goal
 
 pub returns-in_err-checked_mul : goal.returns-in_err-checked_mul

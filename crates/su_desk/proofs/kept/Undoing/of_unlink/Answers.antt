@@ -1,4 +1,4 @@
-use Rattle.std.proofs.Common.{◌≡◌, sym, ◌∙◌, ap, subst, Some, None, [], ◌∷◌, ◌++◌, nat_le, true, false, arith}
+use Rattle.std.proofs.Common.{◌≡◌, sym, ◌∙◌, ap, subst, Some, [], ◌∷◌, ◌++◌, nat_le, true, false, arith}
 use Rattle.std.proofs.lemmas.Bool.Decides.{nat_tests}
 use Rattle.std.specs.FinMap.{get}
 use Rattle.su_table.specs.Query.{links_at}
@@ -7,7 +7,7 @@ use Rattle.su_op.specs.Rule.{entry_edits}
 use Rattle.su_op.specs.Operation.{effect}
 use Rattle.su_op.specs.Growth.{AreFreeFor}
 use Rattle.su_op.specs.declared.operations.Op.TheVariants.{Unlink}
-use Rattle.su_desk.proofs.Undone.{Returns, relinked, restored, unlink_has_directory, unlink_has_file}
+use Rattle.su_desk.proofs.Undone.{relinked, restored, unlink_has_directory, unlink_has_file}
 use Rattle.su_desk.proofs.kept.Undoing.of_unlink.Goals as goal
 
 pub returns-in_default-clause-refused : goal.returns-in_default-clause-refused

@@ -1,4 +1,4 @@
-use Rattle.std.proofs.Common.{◌≡◌, ◌∙◌, Some, ap}
+use Rattle.std.proofs.Common.{◌∙◌, Some, ap}
 use Rattle.su_table.specs.Edit.{Change.Gone, Change.Copied, Edit.Inodes, edit, edits}
 use Rattle.su_op.specs.Rule.{entry_edits}
 use Rattle.su_op.proofs.Backs.{copied_gone, edit-copied_new}

@@ -1,6 +1,4 @@
-use Rattle.std.proofs.Common.{◌≡◌, ◌∙◌, sym, true}
-use Rattle.su_bytes.specs.declared.file_ids.FileId.{FileId}
-use Rattle.su_bytes.specs.declared.file_ids.FileId.TheVariants.{User, Group}
+use Rattle.std.proofs.Common.{◌∙◌, sym}
 use Rattle.su_op.proofs.Backs.{create_free}
 use Rattle.su_op.proofs.creation.Create.check.Goals as goal
 

@@ -1,6 +1,5 @@
-use Rattle.std.proofs.Common.{◌≡◌, ◌∙◌, ◌<◌, sym, ap, subst, drop, length, arith, [], Some}
+use Rattle.std.proofs.Common.{◌<◌, sym, subst, drop, length, arith}
 use Rattle.std.specs.Io.KnownBytes.{prepend_known}
-use Rattle.sundr.specs.Script.{lines_of}
 use Rattle.sundr.proofs.Broken.{After, after_taken, reads_too_long, reads_ended, reads_last, on_false, has_items}
 use Rattle.sundr.proofs.lines.LineReader.next_line.Goals as goal
 
