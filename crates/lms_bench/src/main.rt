@@ -31,8 +31,8 @@ fn is_asked(rt: &(impl Env + AllocGlobal)) -> io::Result<bool> {
 }
 
 fn run<R: CpuClock + Print + AllocGlobal>(rt: &R) -> Result<(), Fault> {
-    measure(rt, &Pair::new("W4/H5", 5, 3))?;
-    measure(rt, &Pair::new("W8/H5", 5, 4))?;
-    measure(rt, &Pair::new("W4/H10", 6, 3))?;
-    measure(rt, &Pair::new("W8/H10", 6, 4))
+    measure(rt, &Pair::new("w=4, h=5", 5, 3))?;
+    measure(rt, &Pair::new("w=8, h=5", 5, 4))?;
+    measure(rt, &Pair::new("w=4, h=10", 6, 3))?;
+    measure(rt, &Pair::new("w=8, h=10", 6, 4))
 }

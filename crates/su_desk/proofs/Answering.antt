@@ -5,7 +5,7 @@ use Rattle.std.proofs.lemmas.Option.{slice_get-get_or}
 use Rattle.su_bytes.specs.Membership.{Membership, has_user}
 use Rattle.su_bytes.specs.declared.refusals.Refusal.{Refusal}
 use Rattle.su_table.specs.Tree.{Tree, genesis}
-use Rattle.su_table.specs.Edit.{edits}
+use Rattle.su_inverse.specs.Kept.{IsPutBack}
 use Rattle.su_op.specs.declared.operations.Op.{Op}
 use Rattle.su_op.specs.declared.operations.Change.{Change}
 use Rattle.su_op.specs.declared.operations.Change.TheVariants.{Do, Undo}
@@ -14,9 +14,8 @@ use Rattle.su_desk.specs.declared.entries.Entry.{Entry}
 use Rattle.su_bytes.specs.declared.refusals.Refusal.TheVariants.{NoUser, NoOperation, NotOperation, AlreadyUndone, NotAuthor, Blocked}
 use Rattle.su_desk.specs.History.{tree, entry_at, undoer, last_live}
 use Rattle.su_desk.specs.declared.kept.KeptOperation.{KeptOperation}
-use Rattle.su_desk.specs.Taking.{edits_of, IsReady}
 use Rattle.su_desk.specs.Keeping.{Keeps}
-use Rattle.su_desk.proofs.Leading.{keeps_undo, entry_within, last_kept, none_kept, last_not_undone, last_ready}
+use Rattle.su_desk.proofs.Leading.{keeps_undo, entry_within, last_kept, none_kept, last_not_undone}
 use Rattle.su_desk.specs.Answer.{blocker, blocked_refusal, undone_refusal, change_refusal, entry_refusal, undo_refusal, refusal_of, reply, answer}
 
 pub answer_done : (ro : Membership) (h : List Entry) (a : ℕ) (c : Change) → refusal_of ro h a c ≡ None → answer ro h a c ≡ Ok (length h + 1)
@@ -91,12 +90,9 @@ no_number ro h ks T keeps e = sym (none_kept ro h T (subst (λ xs. Keeps ro h xs
 pub not_undone : (ro : Membership) (h : List Entry) (ks : List KeptOperation) (k : KeptOperation) (T : Tree) (n : ℕ) → Keeps ro h ks T → slice_get ks (length ks - 1) ≡ Some k → k.number ≡ n → None ≡ undoer h n
 not_undone ro h ks k T n keeps e is = sym (ap (undoer h) (sym is) ∙ last_not_undone ro h (take (length ks - 1) ks) k T (subst (λ xs. Keeps ro h xs T) (ends_with ks k e) keeps))
 
-pub ready : (ro : Membership) (h : List Entry) (ks : List KeptOperation) (k : KeptOperation) (T : Tree) → Keeps ro h ks T → slice_get ks (length ks - 1) ≡ Some k → IsReady k.undoing T
-ready ro h ks k T keeps e = last_ready ro h (take (length ks - 1) ks) k T (subst (λ xs. Keeps ro h xs T) (ends_with ks k e) keeps)
-
 -- after the undo of what is kept last
-pub undone_last : (ro : Membership) (h : List Entry) (ks : List KeptOperation) (k : KeptOperation) (T : Tree) (a n : ℕ) → Keeps ro h ks T → slice_get ks (length ks - 1) ≡ Some k → undo_refusal ro h a n ≡ None
-    → Keeps ro (h ++ record { author = a; change = Undo n } ∷ []) (take (length ks - 1) ks) (edits T (edits_of k.undoing))
-undone_last ro h ks k T a n keeps e accepted =
+pub undone_last : (ro : Membership) (h : List Entry) (ks : List KeptOperation) (k : KeptOperation) (T T' : Tree) (a n : ℕ) → Keeps ro h ks T → slice_get ks (length ks - 1) ≡ Some k → undo_refusal ro h a n ≡ None
+    → ((B : Tree) → IsPutBack k.inverse T B → T' ≡ B) → Keeps ro (h ++ record { author = a; change = Undo n } ∷ []) (take (length ks - 1) ks) T'
+undone_last ro h ks k T T' a n keeps e accepted put =
     let u = undo_accepted ro h a n accepted in
-    keeps_undo ro h (take (length ks - 1) ks) T a n k (subst (λ xs. Keeps ro h xs T) (ends_with ks k e) keeps) (last_number ro h ks k T keeps e ∙ sym u.last) (entry_within h n u.entry u.there)
+    keeps_undo ro h (take (length ks - 1) ks) T T' a n k (subst (λ xs. Keeps ro h xs T) (ends_with ks k e) keeps) (last_number ro h ks k T keeps e ∙ sym u.last) (entry_within h n u.entry u.there) put

@@ -5,15 +5,19 @@ use Rattle.std.proofs.lemmas.Option.{slice_get_within}
 use Rattle.std.specs.List.{filter}
 use Rattle.su_bytes.specs.Membership.{Membership}
 use Rattle.su_table.specs.Tree.{Tree, genesis}
-use Rattle.su_table.specs.Edit.{edits}
 use Rattle.su_op.specs.declared.operations.Op.{Op}
 use Rattle.su_op.specs.declared.operations.Change.TheVariants.{Do, Undo}
 use Rattle.su_op.specs.Operation.{why, effect}
 use Rattle.su_desk.specs.declared.entries.Entry.{Entry}
 use Rattle.su_desk.specs.History.{Turn, turns_from, undoes, is_undone, live, live_numbers, replay, tree, entry_at, undoer_from, undoer, last_of, last_live}
 use Rattle.su_desk.specs.declared.kept.KeptOperation.{KeptOperation}
-use Rattle.su_desk.specs.Taking.{edits_of, IsReady}
-use Rattle.su_desk.specs.Keeping.{TakesBack, Leads, Keeps}
+use Rattle.su_op.specs.Area.{has}
+use Rattle.su_op.specs.Soundness.{Sound}
+use Rattle.su_op.specs.Store.{Action}
+use Rattle.su_op.proofs.Storing.{store_lawful}
+use Rattle.su_inverse.specs.Kept.{IsPutBack}
+use Rattle.su_inverse.proofs.Writing.{put_back_after}
+use Rattle.su_desk.specs.Keeping.{Fits, Leads, Keeps}
 use Rattle.su_desk.proofs.Turns.{Rising, rising_live, last_taken_out, is_undone-append, live-do, live-undo}
 
 -- ---- lists of operations and what is kept of them
@@ -32,43 +36,52 @@ numbers_led ro S T (t ∷ ts) (k ∷ ks) (b, rest) = λ i. b.number i ∷ number
 numbers_led ro S T [] (k ∷ ks) h = absurd h
 numbers_led ro S T (t ∷ ts) [] h = absurd h
 
+-- an accepted operation keeps a tree sound
+stays_sound : (ro : Membership) (S : Tree) (t : Turn) → why ro S t.author t.op ≡ None → Sound S → Sound (effect ro S t.author t.op)
+stays_sound ro S t accepted sound =
+    let x : Action = record { author = t.author; op = t.op } in (store_lawful ro).stays_sound S x sound (ap is_none accepted)
+
 -- one operation more
-pub led_further : (ro : Membership) (S T : Tree) (ts : List Turn) (ks : List KeptOperation) (t : Turn) (k : KeptOperation) → Leads ro S ts ks T → TakesBack ro T t k → Leads ro S (ts ++ t ∷ []) (ks ++ k ∷ []) (effect ro T t.author t.op)
-led_further ro S T [] [] t k e b = (subst (λ R. TakesBack ro R t k) (sym e) b, ap (λ R. effect ro R t.author t.op) e)
+pub led_further : (ro : Membership) (S T : Tree) (ts : List Turn) (ks : List KeptOperation) (t : Turn) (k : KeptOperation) → Leads ro S ts ks T → Fits ro T t k → Leads ro S (ts ++ t ∷ []) (ks ++ k ∷ []) (effect ro T t.author t.op)
+led_further ro S T [] [] t k e b = (subst (λ R. Fits ro R t k) (sym e) b, ap (λ R. effect ro R t.author t.op) e)
 led_further ro S T (u ∷ ts) (l ∷ ks) t k (c, rest) b = (c, led_further ro (effect ro S u.author u.op) T ts ks t k rest b)
 led_further ro S T [] (l ∷ ks) t k h b = absurd h
 led_further ro S T (u ∷ ts) [] t k h b = absurd h
 
--- the last operation, and where those before it lead
+-- the last operation, and where those before it lead: there what is kept of it is put back
 pub record LastLed (ro : Membership) (S : Tree) (ts : List Turn) (ks : List KeptOperation) (k : KeptOperation) (T : Tree) : Type 0 where
   pub front : List Turn
   pub last : Turn
   pub whole : ts ≡ front ++ last ∷ []
   pub number : k.number ≡ last.number
-  pub leads : Leads ro S front ks (edits T (edits_of k.undoing))
-  pub ready : IsReady k.undoing T
+  pub before : Tree
+  pub leads : Leads ro S front ks before
+  pub back : IsPutBack k.inverse T before
 
-pub last_led : (ro : Membership) (S T : Tree) (ts : List Turn) (ks : List KeptOperation) (k : KeptOperation) → Leads ro S ts (ks ++ k ∷ []) T → LastLed ro S ts ks k T
-last_led ro S T [] [] k h = absurd h
-last_led ro S T (t ∷ []) [] k (b, e) = record {
+pub last_led : (ro : Membership) (S T : Tree) (ts : List Turn) (ks : List KeptOperation) (k : KeptOperation) → Sound S → Leads ro S ts (ks ++ k ∷ []) T → LastLed ro S ts ks k T
+last_led ro S T [] [] k sound h = absurd h
+last_led ro S T (t ∷ []) [] k sound (b, e) = record {
   front = [];
   last = t;
   whole = refl;
   number = b.number;
-  leads = sym b.back ∙ ap (λ R. edits R (edits_of k.undoing)) e;
-  ready = subst (IsReady k.undoing) e b.ready;
+  before = S;
+  leads = refl;
+  back = subst (λ R. IsPutBack k.inverse R S) e
+      (put_back_after ro S t.author t.op k.inverse sound b.accepted (λ c. b.areas c ∙ ap (λ w. has w c) b.writes) b.kept);
 }
-last_led ro S T (t ∷ u ∷ ts) [] k (b, h) = absurd h
-last_led ro S T [] (l ∷ ks) k h = absurd h
-last_led ro S T (t ∷ ts) (l ∷ ks) k (b, rest) =
-    let r = last_led ro (effect ro S t.author t.op) T ts ks k rest in
+last_led ro S T (t ∷ u ∷ ts) [] k sound (b, h) = absurd h
+last_led ro S T [] (l ∷ ks) k sound h = absurd h
+last_led ro S T (t ∷ ts) (l ∷ ks) k sound (b, rest) =
+    let r = last_led ro (effect ro S t.author t.op) T ts ks k (stays_sound ro S t b.accepted sound) rest in
     record {
       front = t ∷ r.front;
       last = r.last;
       whole = ap (λ xs. t ∷ xs) r.whole;
       number = r.number;
+      before = r.before;
       leads = (b, r.leads);
-      ready = r.ready;
+      back = r.back;
     }
 
 -- ---- the history
@@ -87,28 +100,30 @@ keeps_nothing ro = record { leads = refl; past = λ n l. refl }
 
 -- one operation more
 pub keeps_do : (ro : Membership) (h : List Entry) (ks : List KeptOperation) (T : Tree) (a : ℕ) (op : Op) (k : KeptOperation) → Keeps ro h ks T
-    → why ro T a op ≡ None → k.number ≡ length h + 1 → edits (effect ro T a op) (edits_of k.undoing) ≡ T → IsReady k.undoing (effect ro T a op)
+    → Fits ro T (record { number = length h + 1; author = a; op = op }) k
     → Keeps ro (h ++ record { author = a; change = Do op } ∷ []) (ks ++ k ∷ []) (effect ro T a op)
-keeps_do ro h ks T a op k keeps accepted number back ready =
+keeps_do ro h ks T a op k keeps fits =
     let t : Turn = record { number = length h + 1; author = a; op = op } in
-    let b : TakesBack ro T t k = record { accepted = accepted; number = number; back = back; ready = ready } in
     record {
-      leads = subst (λ ts. Leads ro genesis ts (ks ++ k ∷ []) (effect ro T a op)) (sym (live-do h a op (keeps.past (length h + 1) (omega arith)))) (led_further ro genesis T (live h) ks t k keeps.leads b);
+      leads = subst (λ ts. Leads ro genesis ts (ks ++ k ∷ []) (effect ro T a op)) (sym (live-do h a op (keeps.past (length h + 1) (omega arith)))) (led_further ro genesis T (live h) ks t k keeps.leads fits);
       past = λ n l. is_undone-append h (record { author = a; change = Do op }) n ∙ ap (λ b. b || false) (keeps.past n (let more = length-append h (record { author = a; change = Do op } ∷ []) in omega arith));
     }
 
--- the last operation is undone
-pub keeps_undo : (ro : Membership) (h : List Entry) (ks : List KeptOperation) (T : Tree) (a n : ℕ) (k : KeptOperation) → Keeps ro h (ks ++ k ∷ []) T
-    → k.number ≡ n → n ≤ length h → Keeps ro (h ++ record { author = a; change = Undo n } ∷ []) ks (edits T (edits_of k.undoing))
-keeps_undo ro h ks T a n k keeps number within =
-    let r = last_led ro genesis T (live h) ks k keeps.leads in
+first_sound : (ro : Membership) → Sound genesis
+first_sound ro = (store_lawful ro).start_sound
+
+-- the last operation is undone: T' is the tree where what is kept of it is put back
+pub keeps_undo : (ro : Membership) (h : List Entry) (ks : List KeptOperation) (T T' : Tree) (a n : ℕ) (k : KeptOperation) → Keeps ro h (ks ++ k ∷ []) T
+    → k.number ≡ n → n ≤ length h → ((B : Tree) → IsPutBack k.inverse T B → T' ≡ B) → Keeps ro (h ++ record { author = a; change = Undo n } ∷ []) ks T'
+keeps_undo ro h ks T T' a n k keeps number within put =
+    let r = last_led ro genesis T (live h) ks k (first_sound ro) keeps.leads in
     let named : n ≡ r.last.number = sym number ∙ r.number in
     let left : live (h ++ record { author = a; change = Undo n } ∷ []) ≡ r.front
     = live-undo h a n ∙ ap (λ m. filter (λ (t : Turn). not (nat_eq t.number m)) (live h)) named
     ∙ ap (filter (λ (t : Turn). not (nat_eq t.number r.last.number))) r.whole
     ∙ last_taken_out 0 r.front r.last (subst (Rising 0) r.whole (rising_live h)) in
     record {
-      leads = subst (λ ts. Leads ro genesis ts ks (edits T (edits_of k.undoing))) (sym left) r.leads;
+      leads = subst (λ ts. Leads ro genesis ts ks T') (sym left) (subst (λ B. Leads ro genesis r.front ks B) (sym (put r.before r.back)) r.leads);
       past = λ m l.
           let more = length-append h (record { author = a; change = Undo n } ∷ []) in
           is_undone-append h (record { author = a; change = Undo n }) m ∙ ap (λ b. b || nat_eq m n) (keeps.past m (omega arith)) ∙ other m n (omega arith);
@@ -168,14 +183,10 @@ none_undoes k (x ∷ h) n e = go (undoes n x.change) e (none_undoes (k + 1) h n)
 -- no undo names the last that is kept
 pub last_not_undone : (ro : Membership) (h : List Entry) (ks : List KeptOperation) (k : KeptOperation) (T : Tree) → Keeps ro h (ks ++ k ∷ []) T → undoer h k.number ≡ None
 last_not_undone ro h ks k T keeps =
-    let r = last_led ro genesis T (live h) ks k keeps.leads in
+    let r = last_led ro genesis T (live h) ks k (first_sound ro) keeps.leads in
     let passed : not (is_undone h r.last.number) ≡ true = filtered_last (λ t. not (is_undone h t.number)) (turns_from 1 h) r.front r.last r.whole in
     none_undoes 1 h k.number (ap (is_undone h) r.number ∙ not_true (is_undone h r.last.number) passed)
   where
     not_true : (b : Bool) → not b ≡ true → b ≡ false
     not_true true e = absurd (let bad : false ≡ true = e in cc)
     not_true false e = refl
-
--- the last that is kept can be undone
-pub last_ready : (ro : Membership) (h : List Entry) (ks : List KeptOperation) (k : KeptOperation) (T : Tree) → Keeps ro h (ks ++ k ∷ []) T → IsReady k.undoing T
-last_ready ro h ks k T keeps = (last_led ro genesis T (live h) ks k keeps.leads).ready

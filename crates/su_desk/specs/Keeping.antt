@@ -2,28 +2,32 @@
 use Rattle.std.specs.Prelude.{◌≡◌, ℕ, ◌<◌, false, List, [], ◌∷◌, None, length}
 use Rattle.su_bytes.specs.Membership.{Membership}
 use Rattle.su_table.specs.Tree.{Tree, genesis}
-use Rattle.su_table.specs.Edit.{edits}
-use Rattle.su_op.specs.Operation.{why, effect}
+use Rattle.su_table.specs.Cell.{Cell}
+use Rattle.su_op.specs.Area.{has}
+use Rattle.su_op.specs.Operation.{why, effect, reads, writes}
+use Rattle.su_inverse.specs.Kept.{areas_of, IsKeptOf}
 use Rattle.su_desk.specs.declared.entries.Entry.{Entry}
 use Rattle.su_desk.specs.declared.kept.KeptOperation.{KeptOperation}
-use Rattle.su_desk.specs.Taking.{edits_of, IsReady}
 use Rattle.su_desk.specs.History.{Turn, live, is_undone}
 
--- the operation is accepted in T, and what is kept of it leads from its effect back to T
-pub record TakesBack (ro : Membership) (T : Tree) (t : Turn) (k : KeptOperation) : Type 0 where
+-- The operation is accepted in T; and what is kept of it is its number, the cells that it reads and writes there, and what
+-- those that it writes hold in T.
+pub record Fits (ro : Membership) (T : Tree) (t : Turn) (k : KeptOperation) : Type 0 where
   pub accepted : why ro T t.author t.op ≡ None
   pub number : k.number ≡ t.number
-  pub back : edits (effect ro T t.author t.op) (edits_of k.undoing) ≡ T
-  pub ready : IsReady k.undoing (effect ro T t.author t.op)
+  pub reads : k.footprint.reads.items ≡ reads ro T t.author t.op
+  pub writes : k.footprint.writes.items ≡ writes ro T t.author t.op
+  pub areas : (c : Cell) → has (areas_of k.inverse) c ≡ has k.footprint.writes.items c
+  pub kept : IsKeptOf k.inverse T
 
--- from S the operations lead to T, and of each is kept what takes it back
+-- from S the operations lead to T, and what is kept of each fits the tree where it is applied
 abbrev pub Leads : Membership → Tree → List Turn → List KeptOperation → Tree → Type 0
 Leads ro S [] [] T = S ≡ T
-Leads ro S (t ∷ ts) (k ∷ ks) T = TakesBack ro S t k × Leads ro (effect ro S t.author t.op) ts ks T
+Leads ro S (t ∷ ts) (k ∷ ks) T = Fits ro S t k × Leads ro (effect ro S t.author t.op) ts ks T
 Leads ro S [] (k ∷ ks) T = ⊥
 Leads ro S (t ∷ ts) [] T = ⊥
 
--- The forest of a desk is the tree of its live operations, and of each of them is kept what takes it back.
+-- the live operations lead from the first tree to the forest of a desk
 pub record Keeps (ro : Membership) (h : List Entry) (ks : List KeptOperation) (T : Tree) : Type 0 where
   pub leads : Leads ro genesis (live h) ks T
   -- no undo names an entry that is still to come

@@ -1,5 +1,4 @@
 pub mod History
 pub mod Answer
 pub mod Desk
-pub mod Taking
 pub mod Keeping

@@ -7,11 +7,12 @@ ghost use Rattle.su_desk.specs.Answer.{undo_refusal};
 ghost use Rattle.su_desk.specs.Desk.{Answers, Runs, result_of};
 
 use crate::entries::{DeskReply, Entry};
-use crate::kept::{KeptOperation, Undoing};
+use crate::kept::KeptOperation;
 use std::alloc::Global;
 use std::marker::Model;
 use su_bytes::{Refusal, Roster, User};
-use su_op::{Change, Op, apply};
+use su_inverse::build;
+use su_op::{Change, Op, apply, footprint};
 use su_table::Forest;
 
 /// A history of changes, and the tree of its live operations. It is seen as its roster and its history.
@@ -122,17 +123,19 @@ impl Desk {
     fn operate(&mut self, author: User, op: Op) -> Result<u64, Refusal>
         ensures { Answers self.old author (Do op) result self.new }
     {
-        if let Err(refusal) = op.check(&self.forest, &self.roster, author) {
-            return Err(refusal);
-        }
-        let undoing = Undoing::of(&self.forest, author, &op)?;
+        let footprint = footprint(self.alloc, &self.forest, &self.roster, author, &op)?;
+        let inverse = build(self.alloc, &self.forest, footprint.writes.as_slice())?;
         self.entries.reserve(1)?;
         self.kept.reserve(1)?;
         apply(self.alloc, &mut self.forest, &self.roster, author, &op)?;
         let change = Change::Do(op);
         self.entries.push_reserved(Entry { author, change });
         let number = self.entries.len() as u64;
-        self.kept.push_reserved(KeptOperation { number, undoing });
+        self.kept.push_reserved(KeptOperation {
+            number,
+            footprint,
+            inverse,
+        });
         Ok(number)
     }
 
@@ -147,7 +150,7 @@ impl Desk {
         let Some(kept) = self.kept.last() else {
             return Err(Refusal::NoOperation(number));
         };
-        kept.undoing.put_back(&mut self.forest)?;
+        kept.inverse.undo_on(&mut self.forest)?;
         self.kept.pop();
         let change = Change::Undo(number);
         self.entries.push_reserved(Entry { author, change });

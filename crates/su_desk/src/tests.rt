@@ -5,7 +5,7 @@ use std::test::Fail;
 use su_bytes::{
     FileId, Group, Inum, KEY_LENGTH, Kind, Name, Refusal, Roster, RosterGroup, RosterUser, User,
 };
-use su_op::{Change, Create, Op, Unlink};
+use su_op::{Change, Create, Op, Truncate, Unlink, Write};
 
 fn own(user: u64, number: u64) -> Result<FileId, Refusal> {
     Ok(FileId::User(User::new(user)?, Inum::new(number)?))
@@ -102,5 +102,53 @@ fn several_changes_are_answered_in_turn(rt: HostRuntime) -> Result<(), Fail> {
             .as_slice()
     );
     assert!(rt; desk.roster().has_user(other));
+    Ok(())
+}
+
+fn write(alloc: Global, off: u32, bytes: &[u8]) -> Result<Change, Refusal> {
+    let file = own(0, 2)?;
+    let bytes = Vec::from_slice(alloc, bytes)?;
+    Ok(Change::Do(Op::Write(Write { file, off, bytes })))
+}
+
+fn truncate(size: u32) -> Result<Change, Refusal> {
+    let file = own(0, 2)?;
+    Ok(Change::Do(Op::Truncate(Truncate { file, size })))
+}
+
+/// The bytes of that file.
+fn bytes(desk: &Desk) -> Result<Vec<u8>, Refusal> {
+    let file = own(0, 2)?;
+    desk.forest().read(file)
+}
+
+#[test]
+fn an_undo_brings_bytes_and_sizes_back(rt: HostRuntime) -> Result<(), Fail> {
+    let alloc = rt.alloc();
+    let mut desk = Desk::new(alloc, two_users(alloc)?)?;
+    let author = User::FIRST;
+    let made = create(alloc, b"f", 2)?;
+    desk.apply(author, made)?;
+    let first = write(alloc, 0, b"0123456789".as_slice())?;
+    desk.apply(author, first)?;
+    // within the file, past its end, and across it
+    for (off, text) in [(3u32, b"abc"), (5000, b"abc"), (8, b"abc")] {
+        let next = write(alloc, off, text.as_slice())?;
+        desk.apply(author, next)?;
+        assert_eq!(rt; bytes(&desk)?.len(), (off as usize + 3).max(10));
+        desk.undo_last(author)?;
+        let back = bytes(&desk)?;
+        assert_eq!(rt; back.as_slice(), b"0123456789".as_slice());
+    }
+    for size in [4u32, 10, 9000, 0] {
+        let next = truncate(size)?;
+        desk.apply(author, next)?;
+        assert_eq!(rt; bytes(&desk)?.len(), size as usize);
+        desk.undo_last(author)?;
+        let back = bytes(&desk)?;
+        assert_eq!(rt; back.as_slice(), b"0123456789".as_slice());
+    }
+    desk.undo_last(author)?;
+    assert!(rt; bytes(&desk)?.is_empty());
     Ok(())
 }

@@ -2,7 +2,7 @@
 -- Each hash has n = m = 32 bytes.
 use Rattle.std.specs.Prelude.{ℕ, ◌≤◌, ◌*◌, ◌-◌, nat_eq, if◌then◌else◌}
 
--- the LM-OTS types that the standard lists: W1, W2, W4 and W8 (Section 4.1)
+-- the LM-OTS types that the standard lists: coefficients of 1, 2, 4 and 8 bits (Section 4.1)
 abbrev pub IsOneTimeType : ℕ → Type 0
 IsOneTimeType ots = (1 ≤ ots) × (ots ≤ 4)
 

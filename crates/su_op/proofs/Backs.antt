@@ -5,21 +5,26 @@ use Rattle.std.specs.FinMap.{get, len, empty_of_len, get-empty}
 use Rattle.su_bytes.specs.declared.file_ids.FileId.{FileId}
 use Rattle.su_bytes.specs.declared.file_ids.FileId.TheVariants.{User, Group}
 use Rattle.su_bytes.specs.declared.file_ids.Kind.{Kind}
-use Rattle.su_table.specs.Place.{Place, Name, place_cmp, place_eq, name_cmp, file_eq}
-use Rattle.su_table.specs.Inode.{Inode, Content, Content.Bytes, Content.Names, new_inode}
+use Rattle.su_node.specs.Name.{Name, name_cmp}
+use Rattle.su_table.specs.Place.{Place, place_cmp, place_eq, file_eq}
+use Rattle.su_node.specs.Inode.{Inode, Content, Content.Bytes, Content.Names, new_inode}
 use Rattle.su_table.specs.Tree.{Tree}
-use Rattle.su_table.specs.Cell.{Cell.Entry, Field.KindOf, Field.LinksOf, Field.NameOf, file_value, place_value, field_value, val}
-use Rattle.su_table.specs.Query.{is_nothing, number_of, is_file_id, is_free_at, is_name_free_at, is_entry_free, leads_to_at, links_at, is_bare_at, has_no_names, body, entry_body}
-use Rattle.su_table.specs.Edit.{Change, Change.Named, Change.Made, Change.Linked, Change.Copied, Change.Gone, change, Edit.Inodes, Edit.Entries, edit, edits, back, name_in, links_in, restoring, named}
+use Rattle.su_node.specs.Field.{Field.KindOf, Field.LinksOf, Field.NameOf, file_value, field_value}
+use Rattle.su_table.specs.Cell.{Cell.Entry, place_value, val}
+use Rattle.su_node.specs.Inode.{has_no_names}
+use Rattle.su_table.specs.Query.{is_nothing, number_of, is_file_id, is_free_at, is_name_free_at, is_entry_free, leads_to_at, links_at, is_bare_at, body, entry_body}
+use Rattle.su_node.specs.Change.{Change, Change.Named, Change.Made, Change.Linked, Change.Copied, Change.Gone, change, named}
+use Rattle.su_table.specs.Edit.{Edit.Inodes, Edit.Entries, edit, edits, back, name_in, links_in, restoring}
 use Rattle.su_op.specs.declared.creation.Create.{Create}
 use Rattle.su_op.specs.Rule.{entry_edits}
 use Rattle.su_op.specs.Creation.{create_plan}
 use Rattle.su_op.specs.declared.unlinking.Unlink.{Unlink}
 use Rattle.su_op.specs.Unlinking.{unlink_plan, unlink_edits}
 use Rattle.su_op.specs.Growth.{AreFreeFor}
-use Rattle.su_table.proofs.Maps.{get-set_key, get-set_key_here, eq_by_cmp-same}
+use Rattle.su_node.proofs.Maps.{get-set_key, get-set_key_here, eq_by_cmp-same}
 use Rattle.su_table.proofs.TakenBack.{edit-back}
-use Rattle.su_table.proofs.Places.{place_cmp_total, place_cmp_exact, name_cmp_total}
+use Rattle.su_node.proofs.NameOrder.{name_cmp_total}
+use Rattle.su_table.proofs.Places.{place_cmp_total, place_cmp_exact}
 
 -- ---- values that are nothing
 

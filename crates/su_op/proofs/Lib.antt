@@ -1,1 +1,12 @@
 pub mod Backs
+pub mod Orders
+pub mod Blocks
+pub mod Changes
+pub mod Edits
+pub mod Overlapping
+pub mod Rules
+pub mod Creating
+pub mod Removing
+pub mod Resizing
+pub mod Storing
+pub mod Listing

@@ -7,9 +7,10 @@ use Rattle.su_bytes.specs.Membership.{Membership, has_user}
 use Rattle.su_table.specs.Place.{Place}
 use Rattle.su_table.specs.Tree.{Tree}
 use Rattle.su_table.specs.Query.{body, is_dir_at, is_free_at, is_name_free_at, is_entry_free}
-use Rattle.su_table.specs.Edit.{Change.Made, Change.Named, Edit.Inodes}
+use Rattle.su_node.specs.Change.{Change.Made, Change.Named}
+use Rattle.su_table.specs.Edit.{Edit.Inodes}
 use Rattle.su_op.specs.declared.creation.Create.{Create}
-use Rattle.su_op.specs.Rule.{Plan, Rule, Rule.Accept, Rule.Demand, Rule.Find, may_touch, group_of, entry_edits}
+use Rattle.su_op.specs.Rule.{Plan, Rule, Rule.Accept, Rule.Demand, Rule.Find, may_touch, group_of, entry_edits, file_areas}
 
 -- TEMPORARY: no group file can be made yet; a create of one is refused as a bad number. With `true` here it can.
 abbrev pub group_files_can_be_made : Bool
@@ -22,6 +23,7 @@ is_own_number a n (Group g k) = group_files_can_be_made
 
 abbrev pub create_plan : ℕ → Create → Place → Plan
 create_plan a c d = record {
+  reads = file_areas c.dir d;
   edits = Inodes d (Named c.name (Some c.file)) ∷ Inodes (a, c.body) (Made c.file c.kind) ∷ entry_edits c.file (Some (a, c.body));
 }
 

@@ -3,7 +3,8 @@ use Rattle.std.specs.Prelude.{◌≡◌, true, List, [], ◌∷◌, Some}
 use Rattle.su_table.specs.Tree.{Tree}
 use Rattle.su_table.specs.Cell.{Cell.Entry, val}
 use Rattle.su_table.specs.Query.{is_nothing, is_free_at, is_name_free_at}
-use Rattle.su_table.specs.Edit.{Change.Named, Change.Made, Change.Copied, Edit, Edit.Inodes, Edit.Entries, edit}
+use Rattle.su_node.specs.Change.{Change.Named, Change.Made, Change.Copied}
+use Rattle.su_table.specs.Edit.{Edit, Edit.Inodes, Edit.Entries, edit}
 
 -- what the edit adds stands nowhere yet
 abbrev pub IsFreeFor : Tree → Edit → Type 0

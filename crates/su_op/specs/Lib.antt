@@ -1,5 +1,14 @@
+pub mod Area
+pub mod Footprint
 pub mod Rule
+pub mod Limits
 pub mod Creation
 pub mod Unlinking
+pub mod Writing
+pub mod Truncation
 pub mod Operation
 pub mod Growth
+pub mod Soundness
+pub mod System
+pub mod Store
+pub mod Table

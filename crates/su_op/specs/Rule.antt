@@ -1,14 +1,19 @@
 -- How an operation is defined: its checks in their order, and the edits that it makes where they all pass.
-use Rattle.std.specs.Prelude.{ℕ, Bool, true, false, List, [], ◌∷◌, Option, Some, None}
+use Rattle.std.specs.Prelude.{ℕ, Bool, true, false, List, [], ◌∷◌, ◌++◌, Option, Some, None}
 use Rattle.su_bytes.specs.declared.file_ids.FileId.{FileId}
 use Rattle.su_bytes.specs.declared.file_ids.FileId.TheVariants.{User, Group}
 use Rattle.su_bytes.specs.declared.refusals.Refusal.{Refusal}
 use Rattle.su_bytes.specs.Membership.{Membership, is_member}
 use Rattle.su_table.specs.Place.{Place}
 use Rattle.su_table.specs.Edit.{Edit, Edit.Entries}
+use Rattle.su_op.specs.declared.areas.Part.TheVariants.{Kind as KindPart}
+use Rattle.su_op.specs.declared.areas.Area.{Area}
+use Rattle.su_op.specs.declared.areas.Area.TheVariants.{Inode as InodeArea, Entry as EntryArea}
+use Rattle.su_op.specs.Footprint.{areas_of}
 
--- what an accepted operation does
+-- what an accepted operation does, and the areas that it reads besides those that it writes
 pub record Plan : Type 0 where
+  pub reads : List Area
   pub edits : List Edit
 
 -- checks one after another, and the plan behind them
@@ -31,8 +36,15 @@ refusal (Find (Some p) r k) = refusal (k p)
 abbrev pub plan_of : Rule → Plan
 plan_of (Accept p) = p
 plan_of (Demand b r k) = plan_of k
-plan_of (Find None r k) = record { edits = [] }
+plan_of (Find None r k) = record { reads = []; edits = [] }
 plan_of (Find (Some p) r k) = plan_of (k p)
+
+-- what the plan writes, and what it reads: what is written is also read
+abbrev pub writes_of : Plan → List Area
+writes_of p = areas_of p.edits
+
+abbrev pub reads_of : Plan → List Area
+reads_of p = p.reads ++ writes_of p
 
 -- ---- words of the rules
 
@@ -49,3 +61,11 @@ group_of (Group g k) = g
 abbrev pub entry_edits : FileId → Option Place → List Edit
 entry_edits (User u i) v = []
 entry_edits (Group g k) v = Entries (g, k) v ∷ []
+
+abbrev pub entry_areas : FileId → List Area
+entry_areas (User u i) = []
+entry_areas (Group g k) = EntryArea (g, k) ∷ []
+
+-- the cells that show that the body of a file is at p, and of which kind it is
+abbrev pub file_areas : FileId → Place → List Area
+file_areas f p = InodeArea p KindPart ∷ entry_areas f

@@ -6,9 +6,10 @@ use Rattle.su_bytes.specs.Membership.{Membership, has_user}
 use Rattle.su_table.specs.Place.{Place}
 use Rattle.su_table.specs.Tree.{Tree}
 use Rattle.su_table.specs.Query.{body, is_dir_at, leads_to_at, is_bare_at, links_at}
-use Rattle.su_table.specs.Edit.{Change.Named, Change.Linked, Change.Gone, Edit, Edit.Inodes}
+use Rattle.su_node.specs.Change.{Change.Named, Change.Linked, Change.Gone}
+use Rattle.su_table.specs.Edit.{Edit, Edit.Inodes}
 use Rattle.su_op.specs.declared.unlinking.Unlink.{Unlink}
-use Rattle.su_op.specs.Rule.{Plan, Rule, Rule.Accept, Rule.Demand, Rule.Find, may_touch, group_of, entry_edits}
+use Rattle.su_op.specs.Rule.{Plan, Rule, Rule.Accept, Rule.Demand, Rule.Find, may_touch, group_of, entry_edits, file_areas}
 
 -- of an inode with that many links: one less, or gone with the last
 abbrev pub unlink_edits : Bool → ℕ → FileId → Place → List Edit
@@ -17,6 +18,7 @@ unlink_edits false links file f = entry_edits file None ++ Inodes f Gone ∷ []
 
 abbrev pub unlink_plan : ℕ → Unlink → Place → Place → Plan
 unlink_plan links u d f = record {
+  reads = file_areas u.dir d ++ file_areas u.file f;
   edits = Inodes d (Named u.name None) ∷ unlink_edits (nat_le 2 links) links u.file f;
 }
 

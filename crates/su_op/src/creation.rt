@@ -1,16 +1,20 @@
 // A new file or directory.
 ghost use Rattle.std.specs.Prelude.{◌≡◌, ◌∷◌, Some, None, true, IfOk, IfErr, OnOk, OnErr};
 ghost use Rattle.su_table.specs.Query.{is_free_at};
-ghost use Rattle.su_table.specs.Edit.{Change.Made, Edit.Inodes, edits};
+ghost use Rattle.su_node.specs.Change.{Change.Made};
+ghost use Rattle.su_table.specs.Edit.{Edit.Inodes, edits};
 ghost use Rattle.su_op.specs.Creation.{create_rule, create_plan, is_own_number};
-ghost use Rattle.su_op.specs.Rule.{refusal, plan_of, entry_edits};
+ghost use Rattle.su_op.specs.Rule.{refusal, plan_of, entry_edits, reads_of, writes_of};
 ghost use Rattle.su_op.specs.Growth.{AreFreeFor};
 ghost use Rattle.su_bytes.specs.declared.refusals.Refusal.TheVariants.{NoMemory};
 
 use crate::access::closed_group;
+use crate::areas::{Area, Part};
+use crate::footprints::{Footprint, push_entry, push_file};
 use std::alloc::Global;
 use su_bytes::{FileId, Inum, Kind, Name, Refusal, Roster, User};
-use su_table::{Forest, Inode};
+use su_node::Inode;
+use su_table::Forest;
 
 /// Makes an empty file or directory, and gives it a name. A user's file stands at its own number, which is `body` then.
 #[derive(Clone, Debug, Drop)]
@@ -79,6 +83,29 @@ impl Create {
             FileId::User(user, number) => user == author && number == self.body,
             FileId::Group(..) => GROUP_FILES_CAN_BE_MADE,
         }
+    }
+
+    /// What it reads and writes. Only `NoMemory` can come.
+    pub(crate) fn footprint(
+        &self,
+        alloc: Global,
+        author: User,
+        directory: (User, Inum),
+    ) -> Result<Footprint, Refusal>
+        ensures reads { IfOk result (λ footprint. footprint.reads.items ≡ reads_of (create_plan author self.now directory)) }
+        ensures writes { IfOk result (λ footprint. footprint.writes.items ≡ writes_of (create_plan author self.now directory)) }
+        ensures refused { IfErr result (λ e. e ≡ NoMemory) }
+    {
+        let (user, number) = directory;
+        let mut besides = Vec::new(alloc);
+        push_file(&mut besides, self.dir, (user, number))?;
+        let mut writes = Vec::new(alloc);
+        writes.push(Area::Inode((user, number), Part::Name(self.name.clone()?)))?;
+        writes.push(Area::Inode((author, self.body), Part::Kind))?;
+        writes.push(Area::Inode((author, self.body), Part::Links))?;
+        writes.push(Area::Inode((author, self.body), Part::Size))?;
+        push_entry(&mut writes, self.file)?;
+        Footprint::new(besides, writes)
     }
 
     /// Makes the edits. On `NoMemory`, which alone can come, nothing is changed.

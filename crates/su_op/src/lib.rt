@@ -2,12 +2,24 @@
 #![tactic(auto)]
 
 mod access;
+mod areas;
 mod creation;
+mod footprints;
+mod laws;
+mod limits;
 mod operations;
 #[cfg(test)]
 mod tests;
+mod truncation;
 mod unlinking;
+mod writing;
 
+pub use areas::{Area, BlockRun, Part};
 pub use creation::Create;
-pub use operations::{Change, Op, apply};
+pub use footprints::Footprint;
+pub use laws::{operations_are_local, table_of_cells};
+pub use limits::{LARGEST_FILE, LARGEST_WRITE};
+pub use operations::{Change, Op, apply, footprint};
+pub use truncation::Truncate;
 pub use unlinking::Unlink;
+pub use writing::Write;

@@ -1,10 +1,13 @@
 // The operations by cases.
-ghost use Rattle.std.specs.Prelude.{◌≡◌, ◌⊎◌, Some, None, IfErr, OnOk, OnErr};
-ghost use Rattle.su_op.specs.Operation.{why, effect};
+ghost use Rattle.std.specs.Prelude.{◌≡◌, ◌⊎◌, Some, None, IfOk, IfErr, OnOk, OnErr};
+ghost use Rattle.su_op.specs.Operation.{why, effect, reads, writes};
 ghost use Rattle.su_bytes.specs.declared.refusals.Refusal.TheVariants.{NoMemory};
 
 use crate::creation::Create;
+use crate::footprints::Footprint;
+use crate::truncation::Truncate;
 use crate::unlinking::Unlink;
+use crate::writing::Write;
 use std::alloc::Global;
 use su_bytes::{FileId, Refusal, Roster, User};
 use su_table::Forest;
@@ -14,6 +17,8 @@ use su_table::Forest;
 pub enum Op {
     Create(Create),
     Unlink(Unlink),
+    Write(Write),
+    Truncate(Truncate),
 }
 
 /// What an entry of the history does: an operation, or the undo of the operation with that number.
@@ -37,6 +42,12 @@ impl Op {
             }
             Op::Unlink(unlink) => {
                 unlink.check(forest, roster, author)?;
+            }
+            Op::Write(write) => {
+                write.check(forest, roster, author)?;
+            }
+            Op::Truncate(truncate) => {
+                truncate.check(forest, roster, author)?;
             }
         }
         Ok(())
@@ -67,6 +78,53 @@ pub fn apply(
             let (directory, place) = unlink.check(forest, roster, author)?;
             unlink.perform(forest, directory, place);
             Ok(())
+        }
+        Op::Write(write) => {
+            let place = write.check(forest, roster, author)?;
+            write.perform(forest, place)
+        }
+        Op::Truncate(truncate) => {
+            let place = truncate.check(forest, roster, author)?;
+            truncate.perform(forest, place)
+        }
+    }
+}
+
+#[tactic(auto, unfolding(crate::specs::Operation::why, crate::specs::Operation::reads, crate::specs::Operation::writes))]
+/// The cells that an operation of that author reads, and those that it writes. Refused as `apply` is, and with `NoMemory`.
+pub fn footprint(
+    alloc: Global,
+    forest: &Forest,
+    roster: &Roster,
+    author: User,
+    op: &Op,
+) -> Result<Footprint, Refusal>
+    ensures accepted { OnOk result (why roster.now forest.now author op.now ≡ None) }
+    ensures reads { IfOk result (λ footprint. footprint.reads.items ≡ reads roster.now forest.now author op.now) }
+    ensures writes { IfOk result (λ footprint. footprint.writes.items ≡ writes roster.now forest.now author op.now) }
+    ensures refused { IfErr result (λ e. (e ≡ NoMemory) ⊎ (why roster.now forest.now author op.now ≡ Some e)) }
+{
+    match op {
+        Op::Create(create) => {
+            let _dir: FileId = create.dir;
+            let directory = create.check(forest, roster, author)?;
+            create.footprint(alloc, author, directory)
+        }
+        Op::Unlink(unlink) => {
+            let (directory, place) = unlink.check(forest, roster, author)?;
+            let (user, number) = place;
+            let links = forest.links((user, number));
+            unlink.footprint(alloc, links, directory, (user, number))
+        }
+        Op::Write(write) => {
+            let (user, number) = write.check(forest, roster, author)?;
+            let size = forest.size((user, number));
+            write.footprint(alloc, size, (user, number))
+        }
+        Op::Truncate(truncate) => {
+            let (user, number) = truncate.check(forest, roster, author)?;
+            let size = forest.size((user, number));
+            truncate.footprint(alloc, size, (user, number))
         }
     }
 }

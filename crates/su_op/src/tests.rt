@@ -1,10 +1,14 @@
 // Each operation on its happy path, and the first refusal of several.
-use crate::{Create, Op, Unlink, apply};
+use crate::{
+    Area, BlockRun, Create, LARGEST_FILE, LARGEST_WRITE, Op, Part, Truncate, Unlink, Write, apply,
+    footprint, operations_are_local, table_of_cells,
+};
 use std::alloc::Global;
 use std::test::Fail;
 use su_bytes::{
     FileId, Group, Inum, KEY_LENGTH, Kind, Name, Refusal, Roster, RosterGroup, RosterUser, User,
 };
+use su_node::Inode;
 use su_table::Forest;
 
 fn own(user: u64, number: u64) -> Result<FileId, Refusal> {
@@ -90,5 +94,200 @@ fn the_first_refusal_is_told(rt: HostRuntime) -> Result<(), Fail> {
     assert!(rt; taken.check(&forest, &roster, other) == Err(Refusal::NotHolder(User::FIRST)));
     let unnamed = unlink(alloc, b"g", 2)?;
     assert!(rt; unnamed.check(&forest, &roster, User::FIRST) == Err(Refusal::NoName));
+    Ok(())
+}
+
+fn blocks(first: u32, more: u32) -> Result<Area, Refusal> {
+    let place = (User::FIRST, Inum::new(2)?);
+    Ok(Area::Inode(place, Part::Blocks(BlockRun { first, more })))
+}
+
+#[test]
+fn areas_overlap_where_they_share_a_cell(rt: HostRuntime) -> Result<(), Fail> {
+    let alloc = rt.alloc();
+    let run = BlockRun { first: 3, more: 2 };
+    assert_eq!(rt; run.last(), 5);
+    let three_to_five = blocks(3, 2)?;
+    assert!(rt; three_to_five.overlaps(&blocks(5, 0)?));
+    assert!(rt; three_to_five.overlaps(&blocks(0, 3)?));
+    assert!(rt; !three_to_five.overlaps(&blocks(6, 9)?));
+    assert!(rt; !three_to_five.overlaps(&blocks(0, 2)?));
+    let place = (User::FIRST, Inum::new(2)?);
+    let whole = Area::Inode(place, Part::Whole);
+    assert!(rt; whole.overlaps(&three_to_five) && three_to_five.overlaps(&whole));
+    let name = Area::Inode(place, Part::Name(Name::new(alloc, b"f")?));
+    let other = Area::Inode(place, Part::Name(Name::new(alloc, b"g")?));
+    assert!(rt; name.overlaps(&name) && !name.overlaps(&other));
+    let elsewhere = Area::Inode((User::FIRST, Inum::new(3)?), Part::Whole);
+    assert!(rt; !whole.overlaps(&elsewhere));
+    let entry = Area::Entry((Group::FIRST, Inum::new(2)?));
+    assert!(rt; entry.overlaps(&entry) && !entry.overlaps(&whole));
+    Ok(())
+}
+
+#[test]
+fn a_create_writes_a_name_and_an_inode(rt: HostRuntime) -> Result<(), Fail> {
+    let alloc = rt.alloc();
+    let roster = two_users(alloc)?;
+    let mut forest = Forest::genesis(alloc, &roster)?;
+    let made = create(alloc, b"f", 2)?;
+    let touched = footprint(alloc, &forest, &roster, User::FIRST, &made)?;
+    let directory = (User::FIRST, Inum::new(1)?);
+    let place = (User::FIRST, Inum::new(2)?);
+    assert_eq!(rt; touched.writes.len(), 4);
+    assert!(rt; touched.writes[0] == Area::Inode(directory, Part::Name(Name::new(alloc, b"f")?)));
+    assert!(rt; touched.writes[3] == Area::Inode(place, Part::Size));
+    assert_eq!(rt; touched.reads.len(), 6);
+    assert!(rt; touched.reads[1] == Area::Entry((Group::FIRST, Inum::new(1)?)));
+    apply(alloc, &mut forest, &roster, User::FIRST, &made)?;
+    let refused = footprint(alloc, &forest, &roster, User::FIRST, &made);
+    assert!(rt; refused.is_err());
+    let gone = unlink(alloc, b"f", 2)?;
+    let touched = footprint(alloc, &forest, &roster, User::FIRST, &gone)?;
+    assert_eq!(rt; touched.writes.len(), 2);
+    assert!(rt; touched.writes[1] == Area::Inode(place, Part::Whole));
+    operations_are_local();
+    table_of_cells();
+    Ok(())
+}
+
+/// So many bytes written to a file.
+fn write(alloc: Global, file: FileId, off: u32, count: usize) -> Result<Op, Refusal> {
+    let mut bytes = Vec::new(alloc);
+    bytes.resize(count, 7)?;
+    Ok(Op::Write(Write { file, off, bytes }))
+}
+
+fn truncate(file: FileId, size: u32) -> Op {
+    Op::Truncate(Truncate { file, size })
+}
+
+/// User 0 has a file with number 2, and user 1 has one with number 3.
+fn two_files(alloc: Global, roster: &Roster) -> Result<Forest, Refusal> {
+    let mut forest = Forest::genesis(alloc, roster)?;
+    let made = create(alloc, b"f", 2)?;
+    apply(alloc, &mut forest, roster, User::FIRST, &made)?;
+    let inode = Inode::new(alloc, own(1, 3)?, Kind::File);
+    forest.put_inode((User::new(1)?, Inum::new(3)?), inode)?;
+    Ok(forest)
+}
+
+#[test]
+fn bytes_are_written_and_cut(rt: HostRuntime) -> Result<(), Fail> {
+    let alloc = rt.alloc();
+    let roster = two_users(alloc)?;
+    let mut forest = two_files(alloc, &roster)?;
+    let author = User::FIRST;
+    let file = own(0, 2)?;
+    let steps = [
+        (write(alloc, file, 2, 3)?, 5),
+        (truncate(file, 4), 4),
+        (write(alloc, file, 0, LARGEST_WRITE)?, 65_536),
+        (truncate(file, LARGEST_FILE), 1_048_576),
+        (write(alloc, file, LARGEST_FILE - 1, 1)?, 1_048_576),
+        (truncate(file, 0), 0),
+    ];
+    for (op, size) in &steps {
+        apply(alloc, &mut forest, &roster, author, op)?;
+        assert_eq!(rt; forest.read(file)?.len(), *size);
+    }
+    let few = write(alloc, file, 2, 3)?;
+    apply(alloc, &mut forest, &roster, author, &few)?;
+    let bytes = forest.read(file)?;
+    assert_eq!(rt; bytes.as_slice(), [0u8, 0, 7, 7, 7].as_slice());
+    Ok(())
+}
+
+#[test]
+fn a_write_is_refused_by_its_first_check(rt: HostRuntime) -> Result<(), Fail> {
+    let alloc = rt.alloc();
+    let roster = two_users(alloc)?;
+    let forest = two_files(alloc, &roster)?;
+    let author = User::FIRST;
+    let other = User::new(1)?;
+    let stranger = User::new(2)?;
+    let file = own(0, 2)?;
+    let missing = own(0, 9)?;
+    let outside = FileId::Group(Group::new(1)?, Inum::new(1)?);
+    let far = LARGEST_FILE;
+    let cases = [
+        (
+            stranger,
+            write(alloc, missing, far, 0)?,
+            Refusal::NoUser(stranger),
+        ),
+        (author, write(alloc, outside, far, 0)?, Refusal::BadNumber),
+        (
+            author,
+            write(alloc, file, 0, LARGEST_WRITE + 1)?,
+            Refusal::BadNumber,
+        ),
+        (
+            author,
+            write(alloc, outside, far, 1)?,
+            Refusal::NotMember(Group::new(1)?),
+        ),
+        (
+            author,
+            write(alloc, missing, far, 1)?,
+            Refusal::NoFile(missing),
+        ),
+        (
+            other,
+            write(alloc, root()?, far, 1)?,
+            Refusal::WrongKind(root()?),
+        ),
+        (
+            author,
+            write(alloc, own(1, 3)?, far, 1)?,
+            Refusal::NotHolder(other),
+        ),
+        (author, write(alloc, file, far, 1)?, Refusal::TooBig),
+        (author, write(alloc, file, u32::MAX, 1)?, Refusal::TooBig),
+    ];
+    for (user, op, refusal) in &cases {
+        assert!(rt; op.check(&forest, &roster, *user).as_ref().err() == Some(refusal));
+    }
+    let last = write(alloc, file, LARGEST_FILE - 1, 1)?;
+    assert!(rt; last.check(&forest, &roster, author).is_ok());
+    Ok(())
+}
+
+#[test]
+fn a_truncate_is_refused_by_its_first_check(rt: HostRuntime) -> Result<(), Fail> {
+    let alloc = rt.alloc();
+    let roster = two_users(alloc)?;
+    let forest = two_files(alloc, &roster)?;
+    let author = User::FIRST;
+    let other = User::new(1)?;
+    let stranger = User::new(2)?;
+    let file = own(0, 2)?;
+    let missing = own(0, 9)?;
+    let outside = FileId::Group(Group::new(1)?, Inum::new(1)?);
+    let over = LARGEST_FILE + 1;
+    let cases = [
+        (stranger, truncate(outside, over), Refusal::NoUser(stranger)),
+        (
+            author,
+            truncate(outside, over),
+            Refusal::NotMember(Group::new(1)?),
+        ),
+        (author, truncate(missing, over), Refusal::NoFile(missing)),
+        (other, truncate(root()?, over), Refusal::WrongKind(root()?)),
+        (
+            author,
+            truncate(own(1, 3)?, over),
+            Refusal::NotHolder(other),
+        ),
+        (author, truncate(file, over), Refusal::TooBig),
+    ];
+    for (user, op, refusal) in &cases {
+        assert!(rt; op.check(&forest, &roster, *user).as_ref().err() == Some(refusal));
+    }
+    assert!(rt;
+        truncate(file, LARGEST_FILE)
+            .check(&forest, &roster, author)
+            .is_ok()
+    );
     Ok(())
 }

@@ -1,11 +1,16 @@
 // A name goes.
 ghost use Rattle.std.specs.Prelude.{◌≡◌, ◌++◌, ◌∷◌, [], Some, None, IfOk, OnOk, IfErr};
 ghost use Rattle.su_table.specs.Query.{links_at};
-ghost use Rattle.su_table.specs.Edit.{Change.Gone, Edit.Inodes, edits};
+ghost use Rattle.su_node.specs.Change.{Change.Gone};
+ghost use Rattle.su_table.specs.Edit.{Edit.Inodes, edits};
 ghost use Rattle.su_op.specs.Unlinking.{unlink_rule, unlink_plan};
-ghost use Rattle.su_op.specs.Rule.{refusal, plan_of, entry_edits};
+ghost use Rattle.su_op.specs.Rule.{refusal, plan_of, entry_edits, reads_of, writes_of};
+ghost use Rattle.su_bytes.specs.declared.refusals.Refusal.TheVariants.{NoMemory};
 
 use crate::access::closed_group;
+use crate::areas::{Area, Part};
+use crate::footprints::{Footprint, push_entry, push_file};
+use std::alloc::Global;
 use su_bytes::{FileId, Inum, Name, Refusal, Roster, User};
 use su_table::Forest;
 
@@ -62,6 +67,34 @@ impl Unlink {
             return Err(Refusal::NotEmpty);
         }
         Ok((directory, place))
+    }
+
+    /// What it reads and writes, where the file has that many links. Only `NoMemory` can come.
+    pub(crate) fn footprint(
+        &self,
+        alloc: Global,
+        links: u8,
+        directory: (User, Inum),
+        place: (User, Inum),
+    ) -> Result<Footprint, Refusal>
+        ensures reads { IfOk result (λ footprint. footprint.reads.items ≡ reads_of (unlink_plan links self.now directory place)) }
+        ensures writes { IfOk result (λ footprint. footprint.writes.items ≡ writes_of (unlink_plan links self.now directory place)) }
+        ensures refused { IfErr result (λ e. e ≡ NoMemory) }
+    {
+        let (user, number) = directory;
+        let (holder, body) = place;
+        let mut besides = Vec::new(alloc);
+        push_file(&mut besides, self.dir, (user, number))?;
+        push_file(&mut besides, self.file, (holder, body))?;
+        let mut writes = Vec::new(alloc);
+        writes.push(Area::Inode((user, number), Part::Name(self.name.clone()?)))?;
+        if links < 2 {
+            push_entry(&mut writes, self.file)?;
+            writes.push(Area::Inode((holder, body), Part::Whole))?;
+        } else {
+            writes.push(Area::Inode((holder, body), Part::Links))?;
+        }
+        Footprint::new(besides, writes)
     }
 
     /// Makes the edits. Nothing grows, so nothing can be refused.

@@ -1,4 +1,4 @@
-pub mod Maps
 pub mod Places
 pub mod Stores
 pub mod TakenBack
+pub mod Tables

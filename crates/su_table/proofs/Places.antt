@@ -1,18 +1,14 @@
--- The orders of places and of names are total, and tell them apart.
+-- The order of places is total, and tells them apart.
 use Rattle.std.proofs.Common.{◌≡◌, refl}
 use Rattle.std.specs.declared.cmp.Ordering.{Ordering}
 use Rattle.std.specs.declared.cmp.Ordering.TheVariants.{Less, Equal, Greater}
 use Rattle.std.specs.Ordering.{nat_cmp, ordering_then}
 use Rattle.std.specs.Cmp.{IsTotalOrder, nat_cmp_total, then_total, on_total}
-use Rattle.std.specs.Cmp.Lexicographic.{nat_list_cmp_total}
-use Rattle.std.specs.FinMap.{IsAntisymmetric, nat_cmp-IsAntisymmetric, slice_cmp-IsAntisymmetric}
-use Rattle.su_table.specs.Place.{Place, place_cmp, name_cmp}
+use Rattle.std.specs.FinMap.{IsAntisymmetric, nat_cmp-IsAntisymmetric}
+use Rattle.su_table.specs.Place.{Place, place_cmp}
 
 pub place_cmp_total : IsTotalOrder place_cmp
 place_cmp_total = then_total (on_total (λ (p : Place). p.0) nat_cmp_total) (on_total (λ (p : Place). p.1) nat_cmp_total)
-
-pub name_cmp_total : IsTotalOrder name_cmp
-name_cmp_total = nat_list_cmp_total
 
 both_equal : (r s : Ordering) → ordering_then r s ≡ Equal → (r ≡ Equal) × (s ≡ Equal)
 both_equal Less s e = (e, absurd cc)
@@ -23,6 +19,3 @@ pub place_cmp_exact : IsAntisymmetric place_cmp
 place_cmp_exact x y e =
     let (a, b) = both_equal (nat_cmp x.0 y.0) (nat_cmp x.1 y.1) e in
     λ i. (nat_cmp-IsAntisymmetric x.0 y.0 a i, nat_cmp-IsAntisymmetric x.1 y.1 b i)
-
-pub name_cmp_exact : IsAntisymmetric name_cmp
-name_cmp_exact = slice_cmp-IsAntisymmetric nat_cmp-IsAntisymmetric

@@ -1,38 +1,31 @@
 -- What std's maps hold and how they change, as the tree sees it.
-use Rattle.std.proofs.Common.{◌≡◌, ◌∙◌, sym, refl, ap, ℕ, nat_eq, arith, not, ◌&&◌, cond, List, [], ◌∷◌, Option, Some, None, Result, Ok, Err}
+use Rattle.std.proofs.Common.{◌≡◌, ◌∙◌, sym, refl, ap, ℕ, nat_eq, arith, not, ◌&&◌, cond, List, [], ◌∷◌, Option, Some, None, Result, Ok, Err, IfOk, IfErr, OnErr, ◌⊎◌, inr}
 use Rattle.std.specs.declared.cmp.Ordering.{Ordering}
 use Rattle.std.specs.declared.cmp.Ordering.TheVariants.{Less, Equal, Greater}
 use Rattle.std.specs.Ordering.{is_eq, nat_cmp, ordering_then}
 use Rattle.std.specs.Map.{lookup}
 use Rattle.std.specs.BTreeMap.{is_at}
-use Rattle.std.specs.declared.collections.BTreeMap.{BTreeMap}
-use Rattle.std.proofs.Common.{Global}
-use Rattle.std.specs.Option.{is_some, option_eq, ok_or}
+use Rattle.std.specs.Option.{is_some, option_eq, ok_or, option_map}
 use Rattle.std.specs.FinMap.{FinMap, get, empty, insert, from_entries}
 use Rattle.su_bytes.specs.declared.file_ids.FileId.{FileId}
 use Rattle.su_bytes.specs.declared.file_ids.FileId.TheVariants.{User, Group}
 use Rattle.su_bytes.specs.declared.file_ids.Kind.TheVariants.{Dir}
-use Rattle.su_bytes.specs.declared.refusals.Refusal.{Refusal}
 use Rattle.su_bytes.specs.declared.refusals.Refusal.TheVariants.{NoFile, WrongKind}
 use Rattle.su_bytes.specs.contracts.file_ids.FileIdPartialEq.TheImpl as block
-use Rattle.su_table.specs.declared.inodes.Stored.{Stored}
-use Rattle.su_table.specs.declared.inodes.Stored.TheVariants.{Bytes as StoredBytes, Names as StoredNames}
-use Rattle.su_table.specs.Place.{Place, Name, place_cmp, name_cmp, place_eq, file_eq}
-use Rattle.su_table.specs.Inode.{Inode, Content.Names, new_inode}
+use Rattle.su_table.specs.Place.{Place, place_cmp, place_eq, file_eq}
+use Rattle.su_node.specs.Inode.{Inode, new_inode}
 use Rattle.su_table.specs.Tree.{Tree, genesis}
-use Rattle.su_table.specs.View.{content_of}
-use Rattle.su_table.specs.Cell.{Cell.At, Cell.Entry, Field, Field.KindOf, field_value, file_value, place_value, val}
-use Rattle.su_table.specs.Query.{is_nothing, is_file_id, entry_body, body, names_of, listing_at, listing}
-use Rattle.su_table.specs.Edit.{Change, change, named, Edit.Inodes, Edit.Entries, edit, set_key}
-use Rattle.su_table.proofs.Maps.{get-from_entries_lookup, from_entries-updates, set_key-get}
-use Rattle.su_table.proofs.Places.{place_cmp_total, place_cmp_exact, name_cmp_total, name_cmp_exact}
+use Rattle.su_node.specs.Field.{Field, Field.KindOf, field_value, file_value}
+use Rattle.su_table.specs.Cell.{Cell.At, Cell.Entry, place_value, val}
+use Rattle.su_table.specs.Query.{is_nothing, is_file_id, entry_body, body, standing_at, standing, part}
+use Rattle.su_node.specs.Change.{Change, change, set_key}
+use Rattle.su_table.specs.Edit.{Edit.Inodes, Edit.Entries, edit}
+use Rattle.su_node.proofs.Maps.{get-from_entries_lookup, from_entries-updates, set_key-get}
+use Rattle.su_table.proofs.Places.{place_cmp_total, place_cmp_exact}
 
 -- what std finds among the entries
 abbrev pub at_place : {X : Type 0} → List (Place × X) → Place → Option X
 at_place es p = lookup (is_at (place_cmp p)) es
-
-abbrev pub at_name : List (Name × FileId) → Name → Option FileId
-at_name es x = lookup (is_at (name_cmp x)) es
 
 -- ---- reading
 
@@ -116,15 +109,6 @@ unfolding edit
 edit-Entries n es fs T is g v h =
     ap (λ (e : FinMap place_cmp Place). record { inodes = n; entries = e }) (from_entries-updates place_cmp_total place_cmp_exact es fs g v h) ∙ ap (λ (t : Tree). edit t (Entries g v)) is
 
-pub named-Names : (es fs : List (Name × FileId)) (x : Name) (v : Option FileId) → ((y : Name) → at_name fs y ≡ cond (is_at (name_cmp x) y) v (at_name es y))
-    → named x v (Names (from_entries es)) ≡ Names (from_entries fs)
-named-Names es fs x v h = ap Names (sym (from_entries-updates name_cmp_total name_cmp_exact es fs x v h))
-
--- a file has no names
-pub named-file : (x : Name) (v : Option FileId) (s : Stored) → ((names : BTreeMap Name FileId Global) → s ≡ StoredNames names → ⊥) → named x v (content_of s) ≡ content_of s
-named-file x v (StoredBytes bytes) apart = refl
-named-file x v (StoredNames names) apart = absurd (apart names refl)
-
 -- ---- the tree before the first operation
 
 pub genesis-made : (es : List (Place × Inode)) (fs : List (Place × Place)) (u g n : ℕ) (root : Inode) → es ≡ ((u, n), root) ∷ [] → fs ≡ ((g, n), (u, n)) ∷ []
@@ -136,19 +120,35 @@ genesis-made es fs u g n root es_is fs_is u_is g_is n_is root_is =
     let b : from_entries {R = place_cmp} fs ≡ insert empty (0, 1) (0, 1) = ap from_entries (fs_is ∙ (λ i. ((g_is i, n_is i), (u_is i, n_is i)) ∷ [])) in
     λ i. record { inodes = a i; entries = b i }
 
--- ---- the names of a directory
+-- ---- what stands for a file
 
-pub listing-no_body : (T : Tree) (f : FileId) → None ≡ body T f → listing T f ≡ Err (NoFile f)
-unfolding listing
-listing-no_body T f none = ap (listing_at T f) (sym none)
+module _ {X : Type 0} (of : Inode → Option X) (T : Tree) (f : FileId) where
+  pub part-no_body : None ≡ body T f → part of f (standing T f) ≡ Err (NoFile f)
+  unfolding standing
+  part-no_body none = ap (λ o. part of f (standing_at T f o)) (sym none)
 
-pub listing-body : (T : Tree) (f : FileId) (p : Place) (o : Option Inode) (names : Option (List (Name × FileId))) → Some p ≡ body T f → o ≡ get T.inodes p → names ≡ names_of o → listing T f ≡ ok_or names (WrongKind f)
-unfolding listing
-listing-body T f p o names at found is = ap (listing_at T f) (sym at) ∙ sym (go names ∙ ap show (is ∙ ap names_of found))
-  where
-    show : Option (List (Name × FileId)) → Result (List (Name × FileId)) Refusal
-    show o = elim o [ None ↦ Err (WrongKind f) | Some names ↦ Ok names ]
+  pub part-nothing : (p : Place) → Some p ≡ body T f → None ≡ get T.inodes p → part of f (standing T f) ≡ Err (WrongKind f)
+  unfolding standing
+  part-nothing p at none = ap (λ o. part of f (standing_at T f o)) (sym at) ∙ ap (λ o. part of f (ok_or o (WrongKind f))) (sym none)
 
-    go : (o : Option (List (Name × FileId))) → ok_or o (WrongKind f) ≡ show o
-    go None = refl
-    go (Some x) = refl
+  pub part-of : (p : Place) (i : Inode) (x : Option X) → Some p ≡ body T f → Some i ≡ get T.inodes p → x ≡ of i → part of f (standing T f) ≡ ok_or x (WrongKind f)
+  unfolding standing
+  part-of p i x at found is = ap (λ o. part of f (standing_at T f o)) (sym at) ∙ ap (λ o. part of f (ok_or o (WrongKind f))) (sym found) ∙ ap (λ o. ok_or o (WrongKind f)) (sym is)
+
+-- ---- what is there, or a refusal
+
+pub IfOk-ok_or : {X Y E : Type 0} (g : X → Y) (o : Option X) (e : E) (l : Result Y E) → l ≡ ok_or (option_map g o) e → IfOk (ok_or o e) (λ x. l ≡ Ok (g x))
+IfOk-ok_or g None e l is = tt
+IfOk-ok_or g (Some x) e l is = is
+
+pub IfErr-ok_or : {X Y E : Type 0} (g : X → Y) (n : E) (o : Option X) (e : E) (l : Result Y E) → l ≡ ok_or (option_map g o) e → IfErr (ok_or o e) (λ y. (y ≡ n) ⊎ (l ≡ Err y))
+IfErr-ok_or g n None e l is = inr is
+IfErr-ok_or g n (Some x) e l is = tt
+
+pub error-ok_or : {X E : Type 0} (x : E) (o : Option X) (e : E) → Err x ≡ ok_or o e → o ≡ None → x ≡ e
+error-ok_or x None e is none = cc
+error-ok_or x (Some y) e is none = absurd cc
+
+pub OnErr-always : {X Y P : Type 0} (r : Result X Y) → P → OnErr r P
+OnErr-always (Ok x) p = tt
+OnErr-always (Err y) p = p

@@ -2,12 +2,15 @@
 use Rattle.std.proofs.Common.{◌≡◌, ◌∙◌, refl, ap, List, [], ◌∷◌, ◌++◌, Option, Some, None, ℕ}
 use Rattle.std.specs.FinMap.{FinMap, get}
 use Rattle.su_bytes.specs.declared.file_ids.FileId.{FileId}
-use Rattle.su_table.specs.Place.{Place, Name, place_cmp}
-use Rattle.su_table.specs.Inode.{Inode, Content, Content.Bytes, Content.Names}
+use Rattle.su_node.specs.Name.{Name}
+use Rattle.su_table.specs.Place.{Place, place_cmp}
+use Rattle.su_node.specs.Inode.{Inode, Content, Content.Bytes, Content.Names}
 use Rattle.su_table.specs.Tree.{Tree}
-use Rattle.su_table.specs.Edit.{Change, Change.Made, Change.Named, Change.Linked, Change.Copied, Change.Gone, change, restoring, change_back, Edit, Edit.Inodes, Edit.Entries, set_key, edit, edits, back, edits_back, EditsCanBeTakenBack}
-use Rattle.su_table.proofs.Maps.{get-set_key_here, set_key_back}
-use Rattle.su_table.proofs.Places.{place_cmp_total, place_cmp_exact, name_cmp_total, name_cmp_exact}
+use Rattle.su_node.specs.Change.{Change, Change.Made, Change.Named, Change.Linked, Change.Written, Change.Resized, Change.Copied, Change.Gone, change, set_key}
+use Rattle.su_table.specs.Edit.{restoring, change_back, Edit, Edit.Inodes, Edit.Entries, edit, edits, back, edits_back, EditsCanBeTakenBack}
+use Rattle.su_node.proofs.Maps.{get-set_key_here, set_key_back}
+use Rattle.su_node.proofs.NameOrder.{name_cmp_total, name_cmp_exact}
+use Rattle.su_table.proofs.Places.{place_cmp_total, place_cmp_exact}
 
 change-restoring : (o p : Option Inode) → change (restoring o) p ≡ o
 change-restoring None p = refl
@@ -23,6 +26,8 @@ pub change-change_back : (ch : Change) (o : Option Inode) → change (change_bac
 change-change_back (Made home kind) o = change-restoring o _
 change-change_back (Copied i) o = change-restoring o _
 change-change_back Gone o = change-restoring o _
+change-change_back (Written size off xs) o = change-restoring o _
+change-change_back (Resized size new_size) o = change-restoring o _
 change-change_back (Named x v) None = refl
 change-change_back (Named x v) (Some i) = named_back i.home i.links x v i.content
 change-change_back (Linked n) None = refl

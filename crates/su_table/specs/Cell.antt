@@ -1,61 +1,18 @@
 -- Cells: the pieces of a tree that operations read and write, and what each holds.
-use Rattle.std.specs.Prelude.{ℕ, ◌*◌, List, [], ◌∷◌, take, drop, Option, Some, None}
+use Rattle.std.specs.Prelude.{Option, Some, None}
 use Rattle.std.specs.FinMap.{get}
-use Rattle.su_bytes.specs.declared.file_ids.FileId.{FileId}
-use Rattle.su_bytes.specs.declared.file_ids.Kind.{Kind}
-use Rattle.su_table.specs.Place.{Place, Name}
-use Rattle.su_table.specs.Inode.{Inode, Content, Content.Bytes, Content.Names, kind_of, size_of}
+use Rattle.su_node.specs.Field.{Field, Value, Value.Nothing, Value.APlace, field_value}
+use Rattle.su_table.specs.Place.{Place}
 use Rattle.su_table.specs.Tree.{Tree}
-
--- the cells of an inode: its kind and home, its links, its size, each block of 4,096 bytes, each name
-pub data Field : Type 0 where
-  KindOf LinksOf SizeOf : Field
-  BlockOf : ℕ → Field
-  NameOf : Name → Field
 
 -- the cells of a tree: those of the inode at a place, and the entry of a group file
 pub data Cell : Type 0 where
   At : Place → Field → Cell
   Entry : Place → Cell
 
--- what a cell may hold
-pub data Value : Type 0 where
-  Nothing : Value
-  AKind : Kind → FileId → Value
-  ANumber : ℕ → Value
-  ABlock : List ℕ → Value
-  AFile : FileId → Value
-  APlace : Place → Value
-
--- block n of a file's bytes: those from 4096 n on, at most 4096 of them
-unfoldable pub block : ℕ → List ℕ → List ℕ
-block n bs = take 4096 (drop (4096 * n) bs)
-
--- a block that has no byte is no block
-abbrev pub block_value : List ℕ → Value
-block_value [] = Nothing
-block_value (b ∷ bs) = ABlock (b ∷ bs)
-
-abbrev pub file_value : Option FileId → Value
-file_value None = Nothing
-file_value (Some f) = AFile f
-
 abbrev pub place_value : Option Place → Value
 place_value None = Nothing
 place_value (Some p) = APlace p
-
-abbrev pub content_value : Content → ℕ → FileId → Field → Value
-content_value c links home KindOf = AKind (kind_of c) home
-content_value c links home LinksOf = ANumber links
-content_value c links home SizeOf = ANumber (size_of c)
-content_value (Bytes bs) links home (BlockOf n) = block_value (block n bs)
-content_value (Bytes bs) links home (NameOf x) = Nothing
-content_value (Names m) links home (BlockOf n) = Nothing
-content_value (Names m) links home (NameOf x) = file_value (get m x)
-
-abbrev pub field_value : Option Inode → Field → Value
-field_value None f = Nothing
-field_value (Some i) f = content_value i.content i.links i.home f
 
 -- the value of a cell in a tree
 unfoldable pub val : Tree → Cell → Value

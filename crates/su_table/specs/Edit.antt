@@ -1,42 +1,12 @@
 -- Edits: the single changes of a tree of which operations are made.
 use Rattle.std.specs.Prelude.{◌≡◌, ℕ, List, [], ◌∷◌, ◌++◌, Option, Some, None}
-use Rattle.std.specs.declared.cmp.Ordering.{Ordering}
-use Rattle.std.specs.FinMap.{FinMap, get, insert, remove}
+use Rattle.std.specs.FinMap.{get}
 use Rattle.su_bytes.specs.declared.file_ids.FileId.{FileId}
-use Rattle.su_bytes.specs.declared.file_ids.Kind.{Kind}
-use Rattle.su_table.specs.Place.{Place, Name}
-use Rattle.su_table.specs.Inode.{Inode, Content, Content.Bytes, Content.Names, new_inode}
+use Rattle.su_node.specs.Name.{Name}
+use Rattle.su_table.specs.Place.{Place}
+use Rattle.su_node.specs.Inode.{Inode, Content.Bytes, Content.Names}
+use Rattle.su_node.specs.Change.{Change, Change.Made, Change.Named, Change.Linked, Change.Written, Change.Resized, Change.Copied, Change.Gone, change, set_key}
 use Rattle.su_table.specs.Tree.{Tree}
-
--- a change of what stands at one place
-pub data Change : Type 0 where
-  -- a new inode, empty, with one link
-  Made : FileId → Kind → Change
-  -- the name leads there, or is gone
-  Named : Name → Option FileId → Change
-  -- so many links
-  Linked : ℕ → Change
-  -- this inode in place of what stands there
-  Copied : Inode → Change
-  Gone : Change
-
--- a map with a key set, or taken away
-abbrev pub set_key : {K X : Type 0} {R : K → K → Ordering} → FinMap R X → K → Option X → FinMap R X
-set_key m k None = remove m k
-set_key m k (Some x) = insert m k x
-
-abbrev pub named : Name → Option FileId → Content → Content
-named x v (Bytes bs) = Bytes bs
-named x v (Names m) = Names (set_key m x v)
-
-abbrev pub change : Change → Option Inode → Option Inode
-change (Made home kind) o = Some (new_inode home kind)
-change (Copied i) o = Some i
-change Gone o = None
-change (Named x v) None = None
-change (Named x v) (Some i) = Some (record i { content = named x v i.content })
-change (Linked n) None = None
-change (Linked n) (Some i) = Some (record i { links = n })
 
 pub data Edit : Type 0 where
   -- of what stands at a place
@@ -71,6 +41,8 @@ abbrev pub change_back : Option Inode → Change → Change
 change_back o (Named x v) = Named x (name_in o x)
 change_back o (Linked n) = Linked (links_in o)
 change_back o (Made home kind) = restoring o
+change_back o (Written size off xs) = restoring o
+change_back o (Resized size new_size) = restoring o
 change_back o (Copied i) = restoring o
 change_back o Gone = restoring o
 

@@ -1,8 +1,7 @@
 pub mod Place
-pub mod Inode
 pub mod Tree
 pub mod Cell
 pub mod Query
 pub mod Edit
 pub mod Code
-pub mod View
+pub mod Handle

@@ -1,15 +1,19 @@
--- What is asked of a tree, by its cells alone: bodies, kinds, links, names; and the names of a directory in order.
-use Rattle.std.specs.Prelude.{ℕ, Bool, true, false, List, Option, Some, None, Result, Ok, Err, nat_eq, cond}
-use Rattle.std.specs.FinMap.{get, len, entries}
+-- What is asked of a tree, by its cells alone: bodies, kinds, links, sizes, names; the names of a directory in order; the
+-- bytes of a file.
+use Rattle.std.specs.Prelude.{ℕ, Bool, true, false, List, Option, Some, None, Result, Ok, Err, cond}
+use Rattle.std.specs.FinMap.{get}
+use Rattle.std.specs.Option.{ok_or, option_map}
 use Rattle.su_bytes.specs.declared.file_ids.FileId.{FileId}
 use Rattle.su_bytes.specs.declared.file_ids.FileId.TheVariants.{User, Group}
 use Rattle.su_bytes.specs.declared.file_ids.Kind.TheVariants.{File, Dir}
 use Rattle.su_bytes.specs.declared.refusals.Refusal.{Refusal}
 use Rattle.su_bytes.specs.declared.refusals.Refusal.TheVariants.{NoFile, WrongKind}
-use Rattle.su_table.specs.Place.{Place, Name, file_eq}
-use Rattle.su_table.specs.Inode.{Inode, Content.Bytes, Content.Names}
+use Rattle.su_node.specs.Name.{Name}
+use Rattle.su_table.specs.Place.{Place, file_eq}
+use Rattle.su_node.specs.Inode.{Inode, has_no_names, names_of, bytes_of, within}
 use Rattle.su_table.specs.Tree.{Tree}
-use Rattle.su_table.specs.Cell.{Cell.At, Cell.Entry, Field.KindOf, Field.LinksOf, Field.NameOf, Value, Value.Nothing, Value.AKind, Value.ANumber, Value.AFile, Value.APlace, val}
+use Rattle.su_node.specs.Field.{Field.KindOf, Field.LinksOf, Field.SizeOf, Field.NameOf, Value, Value.Nothing, Value.AKind, Value.ANumber, Value.AFile, Value.APlace}
+use Rattle.su_table.specs.Cell.{Cell.At, Cell.Entry, val}
 
 abbrev pub is_nothing : Value → Bool
 is_nothing Nothing = true
@@ -46,6 +50,10 @@ is_file_at T p = is_file (val T (At p KindOf))
 abbrev pub links_at : Tree → Place → ℕ
 links_at T p = number_of (val T (At p LinksOf))
 
+-- how many bytes the file there has; 0 where no file stands
+abbrev pub size_at : Tree → Place → ℕ
+size_at T p = number_of (val T (At p SizeOf))
+
 -- the directory there doesn't have the name
 abbrev pub is_name_free_at : Tree → Place → Name → Bool
 is_name_free_at T p x = is_nothing (val T (At p (NameOf x)))
@@ -77,23 +85,34 @@ body T (Group g k) = entry_body (val T (Entry (g, k)))
 
 -- ---- names
 
-abbrev pub has_no_names : Option Inode → Bool
-has_no_names None = true
-has_no_names (Some i) = elim i.content [ Bytes bs ↦ true | Names m ↦ nat_eq (len m) 0 ]
-
 -- what stands there has no names
 unfoldable pub is_bare_at : Tree → Place → Bool
 is_bare_at T p = has_no_names (get T.inodes p)
 
-abbrev pub names_of : Option Inode → Option (List (Name × FileId))
-names_of None = None
-names_of (Some i) = elim i.content [ Bytes bs ↦ None | Names m ↦ Some (entries m) ]
+-- ---- names and bytes
 
-abbrev pub listing_at : Tree → FileId → Option Place → Result (List (Name × FileId)) Refusal
-listing_at T f None = Err (NoFile f)
-listing_at T f (Some p) = elim (names_of (get T.inodes p)) [ None ↦ Err (WrongKind f) | Some names ↦ Ok names ]
+abbrev pub standing_at : Tree → FileId → Option Place → Result Inode Refusal
+standing_at T f None = Err (NoFile f)
+standing_at T f (Some p) = ok_or (get T.inodes p) (WrongKind f)
+
+-- The inode that stands for a file: `NoFile` where the file has no body, and `WrongKind` where a group's entry points at nothing.
+unfoldable pub standing : Tree → FileId → Result Inode Refusal
+standing T f = standing_at T f (body T f)
+
+-- a part that an inode of the right kind has
+abbrev pub part : {X : Type 0} → (Inode → Option X) → FileId → Result Inode Refusal → Result X Refusal
+part of f (Ok i) = ok_or (of i) (WrongKind f)
+part of f (Err e) = Err e
 
 -- The names of a directory by their bytes, and where they lead: `NoFile` where the file has no body, `WrongKind` where its
 -- body is no directory.
-unfoldable pub listing : Tree → FileId → Result (List (Name × FileId)) Refusal
-listing T f = listing_at T f (body T f)
+abbrev pub listing : Tree → FileId → Result (List (Name × FileId)) Refusal
+listing T f = part (λ i. names_of (Some i)) f (standing T f)
+
+-- The bytes of a file: `NoFile` where the file has no body, `WrongKind` where its body is no file.
+abbrev pub contents : Tree → FileId → Result (List ℕ) Refusal
+contents T f = part (λ i. bytes_of (Some i)) f (standing T f)
+
+-- those of its bytes that lie within a range
+abbrev pub contents_within : Tree → FileId → ℕ → ℕ → Result (List ℕ) Refusal
+contents_within T f off len = part (λ i. option_map (within off len) (bytes_of (Some i))) f (standing T f)

@@ -3,7 +3,7 @@ use Rattle.std.specs.FinMap.{FinMap, insert, empty}
 use Rattle.su_bytes.specs.declared.file_ids.FileId.TheVariants.{Group}
 use Rattle.su_bytes.specs.declared.file_ids.Kind.TheVariants.{Dir}
 use Rattle.su_table.specs.Place.{Place, place_cmp}
-use Rattle.su_table.specs.Inode.{Inode, new_inode}
+use Rattle.su_node.specs.Inode.{Inode, new_inode}
 
 pub record Tree : Type 0 where
   -- from a user and an i-number to the inode that stands there

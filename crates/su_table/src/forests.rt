@@ -2,16 +2,17 @@
 ghost use Rattle.std.specs.Prelude.{◌≡◌, ◌⊎◌, Ok, Err, IfOk, IfErr, option_copied};
 ghost use Rattle.std.specs.FinMap.{get};
 ghost use Rattle.su_table.specs.Tree.{genesis};
-ghost use Rattle.su_table.specs.Query.{body, is_free_at, is_dir_at, is_file_at, links_at, is_bare_at, is_name_free_at, leads_to_at, is_entry_free, listing};
+ghost use Rattle.su_table.specs.Query.{body, is_free_at, is_dir_at, is_file_at, links_at, is_bare_at, is_name_free_at, leads_to_at, is_entry_free, size_at, listing, contents, contents_within};
 ghost use Rattle.su_bytes.specs.declared.refusals.Refusal.TheVariants.{NoMemory};
 
 mod edits;
+mod handles;
 
-use crate::inodes::Inode;
 use std::alloc::Global;
 use std::collections::BTreeMap;
 use std::marker::Model;
 use su_bytes::{FileId, Group, Inum, Kind, Name, Refusal, Roster, User};
+use su_node::Inode;
 
 /// All i-tables of a store. It is seen as the plain tree that they make.
 #[derive(Drop)]
@@ -75,7 +76,8 @@ impl Forest {
         match file {
             FileId::User(user, number) => {
                 let inode = self.inodes.get(&(user, number))?;
-                if inode.is_of(file) {
+                let home = inode.home();
+                if home == file {
                     Some((user, number))
                 } else {
                     None
@@ -122,6 +124,16 @@ impl Forest {
         }
     }
 
+    /// How many bytes the file there has; 0 where no file stands.
+    pub fn size(&self, place: (User, Inum)) -> u32
+        ensures { result ≡ size_at self.now place }
+    {
+        match self.inodes.get(&place) {
+            Some(inode) => inode.size(),
+            None => 0,
+        }
+    }
+
     /// Whether what stands there has no names.
     pub fn is_bare(&self, place: (User, Inum)) -> bool
         ensures { result ≡ is_bare_at self.now place }
@@ -137,7 +149,7 @@ impl Forest {
         ensures { result ≡ is_name_free_at self.now place name.now }
     {
         match self.inodes.get(&place) {
-            Some(inode) => inode.name(name).is_none(),
+            Some(inode) => inode.name_get(name).is_none(),
             None => true,
         }
     }
@@ -147,7 +159,7 @@ impl Forest {
         ensures { result ≡ leads_to_at self.now place name.now file }
     {
         match self.inodes.get(&place) {
-            Some(inode) => inode.name(name) == Some(file),
+            Some(inode) => inode.name_get(name) == Some(file),
             None => false,
         }
     }
@@ -171,6 +183,28 @@ impl Forest {
         let (user, number) = self.body(file).ok_or(Refusal::NoFile(file))?;
         let inode = self.inode(user, number).ok_or(Refusal::WrongKind(file))?;
         inode.names()?.ok_or(Refusal::WrongKind(file))
+    }
+
+    /// The bytes of a file. `NoFile` where the file has no body, `WrongKind` where its body is a directory, `NoMemory` where
+    /// there is no room for the bytes.
+    pub fn read(&self, file: FileId) -> Result<Vec<u8>, Refusal>
+        ensures ok { IfOk result (λ bytes. contents self.now file ≡ Ok bytes.items) }
+        ensures refused { IfErr result (λ e. (e ≡ NoMemory) ⊎ (contents self.now file ≡ Err e)) }
+    {
+        let (user, number) = self.body(file).ok_or(Refusal::NoFile(file))?;
+        let inode = self.inode(user, number).ok_or(Refusal::WrongKind(file))?;
+        inode.content()?.ok_or(Refusal::WrongKind(file))
+    }
+
+    /// Those bytes of a file that lie within a range, which may reach past its end. `NoFile` where the file has no body,
+    /// `WrongKind` where its body is a directory, `NoMemory` where there is no room for the bytes.
+    pub fn read_at(&self, file: FileId, off: u64, len: u64) -> Result<Vec<u8>, Refusal>
+        ensures ok { IfOk result (λ bytes. contents_within self.now file off len ≡ Ok bytes.items) }
+        ensures refused { IfErr result (λ e. (e ≡ NoMemory) ⊎ (contents_within self.now file off len ≡ Err e)) }
+    {
+        let (user, number) = self.body(file).ok_or(Refusal::NoFile(file))?;
+        let inode = self.inode(user, number).ok_or(Refusal::WrongKind(file))?;
+        inode.read_at(off, len)?.ok_or(Refusal::WrongKind(file))
     }
 
     /// The same tree again. Only `NoMemory` can come.

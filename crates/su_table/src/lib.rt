@@ -3,11 +3,9 @@
 #![tactic(auto)]
 
 mod forests;
-mod inodes;
 mod laws;
 #[cfg(test)]
 mod tests;
 
 pub use forests::Forest;
-pub use inodes::Inode;
 pub use laws::edits_can_be_taken_back;

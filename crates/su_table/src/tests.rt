@@ -1,7 +1,8 @@
 // The first tree, each call on its happy path, and that a copy stands by itself.
-use crate::{Forest, Inode, edits_can_be_taken_back};
+use crate::{Forest, edits_can_be_taken_back};
 use std::test::Fail;
 use su_bytes::{FileId, Group, Inum, Kind, Name, Refusal, User};
+use su_node::Inode;
 
 fn own(user: u64, number: u64) -> Result<FileId, Refusal> {
     Ok(FileId::User(User::new(user)?, Inum::new(number)?))
@@ -121,31 +122,29 @@ fn a_file_comes_and_goes(rt: HostRuntime) -> Result<(), Fail> {
 }
 
 #[test]
-fn an_inode_is_told_by_its_parts(rt: HostRuntime) -> Result<(), Fail> {
+fn the_bytes_of_a_file_are_read(rt: HostRuntime) -> Result<(), Fail> {
     let alloc = rt.alloc();
-    let home = own(1, 2)?;
-    let file = Inode::new(alloc, home, Kind::File);
-    assert!(rt; file.home() == home);
-    assert!(rt; file.is_of(home));
-    assert!(rt; file.kind() == Kind::File);
-    assert_eq!(rt; file.size(), 0);
-    assert_eq!(rt; file.links(), 1);
-    assert!(rt; file.names()?.is_none());
-    let other = shared(1, 2)?;
-    assert!(rt; !file.is_of(other));
-    let mut directory = Inode::new(alloc, other, Kind::Dir);
-    assert!(rt; directory.kind() == Kind::Dir);
-    assert!(rt; directory.is_bare());
-    let name = Name::new(alloc, b"n".as_slice())?;
-    directory.add_name(name.clone()?, home)?;
-    assert!(rt; directory.name(&name) == Some(home));
-    assert!(rt; !directory.is_bare());
-    let copy = directory.copy()?;
-    directory.remove_name(&name);
-    directory.set_links(3);
-    assert!(rt; directory.name(&name).is_none());
-    assert!(rt; copy.name(&name) == Some(home));
-    assert_eq!(rt; copy.links(), 1);
+    let mut forest = Forest::rooted(alloc)?;
+    let file = own(7, 9)?;
+    let at = place(7, 9)?;
+    assert!(rt; forest.read(file).err() == Some(Refusal::NoFile(file)));
+    assert!(rt; forest.read_at(file, 0, 1).err() == Some(Refusal::NoFile(file)));
+    forest.put_inode(at, Inode::new(alloc, file, Kind::File))?;
+    forest.write_at(at, 2, b"bytes".as_slice())?;
+    assert_eq!(rt; forest.size(at), 7);
+    let bytes = forest.read(file)?;
+    assert_eq!(rt; bytes.as_slice(), b"\0\0bytes".as_slice());
+    let part = forest.read_at(file, 4, 2)?;
+    assert_eq!(rt; part.as_slice(), b"te".as_slice());
+    let last = forest.read_at(file, 6, u64::MAX)?;
+    assert_eq!(rt; last.as_slice(), b"s".as_slice());
+    forest.resize(at, 3)?;
+    let cut = forest.read(file)?;
+    assert_eq!(rt; cut.as_slice(), b"\0\0b".as_slice());
+    let root = shared(0, 1)?;
+    assert!(rt; forest.read(root).err() == Some(Refusal::WrongKind(root)));
+    assert!(rt; forest.read_at(root, 0, 1).err() == Some(Refusal::WrongKind(root)));
+    assert_eq!(rt; forest.size(place(0, 1)?), 0);
     Ok(())
 }
 

@@ -1,9 +1,1 @@
-pub mod Script
-pub mod Range
-pub mod Fault
-pub mod Spoken
-pub mod SpokenFile
 pub mod Line
-pub mod Lines
-pub mod Transcript
-pub mod Turn

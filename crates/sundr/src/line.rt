@@ -4,13 +4,22 @@ ghost use Rattle.sundr.specs.Line.{IsInRange};
 
 use clap::{Arg, ArgMatches, Command};
 use std::alloc::{AllocError, Global};
+use su_lms::Params;
 use thiserror::Error;
 
 /// What a command line asks for.
 #[derive(Debug, Drop)]
 pub enum Line {
     /// Reads a script for so many users, 1 to 64.
-    Desk { users: u8 },
+    Desk {
+        users: u8,
+    },
+    /// Makes a key of the entropy in a file, and keeps it in another.
+    Keygen {
+        entropy: String,
+        out: String,
+        params: Params,
+    },
     /// A text for the standard output: help, or the version.
     Text(String),
 }
@@ -41,42 +50,88 @@ pub fn line_of<'a>(alloc: Global, words: &'a [&'a str]) -> Result<Line, LineFaul
     };
     match matches.subcommand() {
         Some(("desk", values)) => desk(alloc, values),
+        Some(("keygen", values)) => keygen(alloc, values),
         _ => Err(LineFault::Usage(String::from_str(alloc, "no such subcommand")?)),
     }
 }
 
 /// The whole command line.
 fn program<'a>(alloc: Global) -> Result<Command<'a>, AllocError> {
+    Command::new(alloc, "sundr")
+        .about("A shared file store whose every operation can be undone")
+        .version("0.1.0")
+        .subcommand_required(true)
+        .subcommand(desk_command(alloc)?)?
+        .subcommand(keygen_command(alloc)?)
+}
+
+fn desk_command<'a>(alloc: Global) -> Result<Command<'a>, AllocError> {
     let users = Arg::new(alloc, "users")
         .long("users")
         .value_name("N")
         .value_parser(clap::value_parser!(u8).range(1..65))
         .default_value("2")
         .help("How many users there are, 1 to 64. Group 0 has all of them, group 1 has user 0");
-    let desk = Command::new(alloc, "desk")
+    Command::new(alloc, "desk")
         .about(
             "Reads a script from standard input, a command a line, and answers each on standard output",
         )
         .after_help(DESK_WORDS)
-        .arg(users)?;
-    Command::new(alloc, "sundr")
-        .about("A shared file store whose every operation can be undone")
-        .version("0.1.0")
-        .subcommand_required(true)
-        .subcommand(desk)
+        .arg(users)
 }
+
+fn keygen_command<'a>(alloc: Global) -> Result<Command<'a>, AllocError> {
+    let entropy = needed(alloc, "entropy", "FILE").help(
+        "48 random bytes: 16 by which the key is told apart, and 32 that stay secret",
+    );
+    let out = needed(alloc, "out", "FILE").help(
+        "The key file that is written, for its owner alone; FILE.pub gets the public key",
+    );
+    let height = needed(alloc, "height", "5|10")
+        .value_parser(HEIGHTS.as_slice())
+        .help("The height of the tree: a key signs 32 or 1,024 times");
+    let width = needed(alloc, "width", "4|8")
+        .value_parser(WIDTHS.as_slice())
+        .help("Bits of a coefficient: with 8 signatures are shorter, and take more hashes");
+    Command::new(alloc, "keygen")
+        .about("Makes a key, and prints the public key in hex")
+        .arg(entropy)?
+        .arg(out)?
+        .arg(height)?
+        .arg(width)
+}
+
+/// An option that has to be given.
+fn needed<'a>(alloc: Global, name: &'a str, value: &'a str) -> Arg<'a> {
+    Arg::new(alloc, name)
+        .long(name)
+        .value_name(value)
+        .required(true)
+}
+
+const HEIGHTS: [&str; 2] = ["5", "10"];
+
+const WIDTHS: [&str; 2] = ["4", "8"];
 
 /// The commands of a desk script.
 const DESK_WORDS: &str = "Commands:
   U mkdir DIR NAME FILE [BODY]   make a directory and give it a name
   U create DIR NAME FILE [BODY]  make an empty file and give it a name
+  U write FILE OFF HEX           write bytes, in hex digits, from an offset on
+  U truncate FILE SIZE           cut a file, or fill it with zeros, to a size
   U unlink DIR NAME FILE         take a name away
   U undo N                       undo operation N
   U undo_last                    undo the last operation that stands
   ls DIR                         list the names of a directory
+  cat FILE OFF LEN               show bytes of a file, in hex digits
+  stat FILE                      show what a file is
+  ihandle PRINCIPAL              show the digest of an i-table
+  mark                           keep the digests of all i-tables
+  same                           compare them with those that were kept
 
 U is the number of a user. DIR and FILE are file ids: U0:2 is number 2 of user 0, G0:1 number 1 of group 0, which is the
-root directory. BODY is the number at which the file is made; a file of a user has its own number.";
+root directory. BODY is the number at which the file is made; a file of a user has its own number.
+PRINCIPAL is a user as U0 or a group as G0.";
 
 /// Help and the version are texts to be shown, and anything else is a fault.
 fn shown(alloc: Global, error: &clap::Error) -> Result<Line, LineFault>
@@ -99,5 +154,42 @@ fn desk(alloc: Global, values: &ArgMatches<'_>) -> Result<Line, LineFault>
     match values.get_one::<u8>("users") {
         Some(users) if 1 <= users && users <= 64 => Ok(Line::Desk { users }),
         _ => Err(LineFault::Usage(String::from_str(alloc, "the number of users is 1 to 64")?)),
+    }
+}
+
+/// `keygen --entropy FILE --out FILE --height 5|10 --width 4|8`
+fn keygen(alloc: Global, values: &ArgMatches<'_>) -> Result<Line, LineFault>
+    ensures { IfOk result IsInRange }
+{
+    let (Some(entropy), Some(out), Some(height), Some(width)) = (
+        values.get_str("entropy"),
+        values.get_str("out"),
+        values.get_str("height"),
+        values.get_str("width"),
+    ) else {
+        return Err(LineFault::Usage(String::from_str(alloc, "an option is missing")?));
+    };
+    let Some(params) = params_of(height, width) else {
+        return Err(LineFault::Usage(String::from_str(
+            alloc,
+            "the height is 5 or 10, the width 4 or 8",
+        )?));
+    };
+    Ok(Line::Keygen {
+        entropy: String::from_str(alloc, entropy)?,
+        out: String::from_str(alloc, out)?,
+        params,
+    })
+}
+
+/// The parameter set of a tree of that height and coefficients of that width, by the type numbers of RFC 8554,
+/// Sections 4.1 and 5.1.
+fn params_of(height: &str, width: &str) -> Option<Params> {
+    match (height, width) {
+        ("5", "4") => Some(Params { lms: 5, ots: 3 }),
+        ("5", "8") => Some(Params { lms: 5, ots: 4 }),
+        ("10", "4") => Some(Params { lms: 6, ots: 3 }),
+        ("10", "8") => Some(Params { lms: 6, ots: 4 }),
+        _ => None,
     }
 }

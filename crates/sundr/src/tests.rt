@@ -1,201 +1,16 @@
-// Scripts with their answers, bad lines of each kind, failing readers and writers, and command lines.
-use crate::desk::{Status, run_desk};
+// Command lines, and keys made from files.
+use crate::keygen::{KeygenFault, make_key};
 use crate::line::{Line, LineFault, line_of};
 use std::alloc::Global;
-use std::io;
-use std::io::{Read, Write};
-use std::process::Abort;
+use std::os::unix::fs::MetadataExt;
 use std::test::Fail;
-
-/// The script runs on a desk of two users, prints this and ends so.
-fn expect(rt: &(impl Abort + AllocGlobal), script: &[u8], text: &str, wanted: Status) {
-    let mut out = Vec::new(rt.alloc());
-    let status = run_desk(rt.alloc(), script, &mut out, 2);
-    assert!(rt; out.as_slice() == text.as_bytes(), "{text}");
-    assert!(rt; status == wanted, "{text}");
-}
-
-#[test]
-fn an_empty_script_prints_nothing(rt: HostRuntime) {
-    expect(&rt, b"", "", Status::Finished);
-}
-
-#[test]
-fn a_name_returns_with_the_undo_of_its_unlink(rt: HostRuntime) {
-    expect(
-        &rt,
-        b"0 mkdir G0:1 d U0:2\n0 create U0:2 f U0:3\nls U0:2\n0 unlink U0:2 f U0:3\n0 undo_last\nls U0:2\nls G0:1\n",
-        "ok 1\nok 2\nf U0:3\nok 3\nok 4\nf U0:3\nd U0:2\n",
-        Status::Finished,
-    );
-}
-
-#[test]
-fn an_undo_is_refused_for_the_first_reason(rt: HostRuntime) {
-    expect(
-        &rt,
-        b"0 create G0:1 a U0:2\n0 undo 0\n0 undo 9\n0 undo 1\n0 undo 2\n0 undo 1\n0 create G0:1 a U0:2\n1 undo 3\n5 undo 3\n0 undo_last\n0 undo_last\n",
-        "ok 1\nno 24 NoOperation 0\nno 24 NoOperation 9\nok 2\nno 25 NotOperation 2\nno 26 AlreadyUndone 1 2\nok 3\nno 27 NotAuthor 0\nno 12 NoUser 5\nok 4\nno 24 NoOperation 0\n",
-        Status::Finished,
-    );
-}
-
-#[test]
-fn words_out_of_range_are_refused_in_their_order(rt: HostRuntime) {
-    expect(
-        &rt,
-        b"5 create G99:1 .. U0:0\n0 create G99:1 .. U0:0\n64 create G0:1 a/b U0:2\n64 create G0:1 a U0:2\n0 create G16:1 a U0:2\n0 create G0:1 a U0:0\n0 create G0:1 a U0:2 1000001\n64 undo 1\n64 undo_last\n0 unlink G0:1 . U0:2\nls G16:1\nls G0:1000001\n",
-        "no 12 NoUser 5\nno 2 BadName\nno 2 BadName\nno 3 BadNumber\nno 3 BadNumber\nno 3 BadNumber\nno 3 BadNumber\nno 3 BadNumber\nno 3 BadNumber\nno 2 BadName\nno 3 BadNumber\nno 3 BadNumber\n",
-        Status::Finished,
-    );
-}
-
-#[test]
-fn lines_that_are_no_command_end_the_script(rt: HostRuntime) -> Result<(), Fail> {
-    let lines: [&[u8]; 16] = [
-        b"hello",
-        b"ls  G0:1",
-        b" ls G0:1",
-        b"ls G0:1 ",
-        b"ls G0:1\r",
-        b"ls",
-        b"0 mkdir G0:1 d",
-        b"0 create G0:1 a G0:2",
-        b"0 create G0:1 a U0:2 3 4",
-        b"0 undo 000000000000000000001",
-        b"0 undo 18446744073709551616",
-        b"0 undo -1",
-        b"0 undo_last 1",
-        b"0 write U0:2 0 41",
-        b"ls U0",
-        b"\xff\xfe",
-    ];
-    for line in lines {
-        let mut script = Vec::from_slice(rt.alloc(), b"\nls U9:9\n\n".as_slice())?;
-        script.extend_from_slice(line)?;
-        script.extend_from_slice(b"\nls G0:1\n".as_slice())?;
-        expect(
-            &rt,
-            script.as_slice(),
-            "no 14 NoFile U9:9\nline 4: bad\n",
-            Status::BadLine,
-        );
-    }
-    Ok(())
-}
-
-#[test]
-fn a_last_line_without_an_end_counts(rt: HostRuntime) {
-    expect(&rt, b"\n\nls U9:9", "no 14 NoFile U9:9\n", Status::Finished);
-    expect(
-        &rt,
-        b"0 undo 00000000000000000007\nls",
-        "no 24 NoOperation 7\nline 2: bad\n",
-        Status::BadLine,
-    );
-}
-
-#[test]
-fn a_line_has_up_to_140000_bytes(rt: HostRuntime) -> Result<(), Fail> {
-    let mut script = Vec::from_slice(rt.alloc(), b"0 unlink G0:1 ".as_slice())?;
-    script.resize(140_000 - 5, b'n')?;
-    script.extend_from_slice(b" U0:2\n".as_slice())?;
-    expect(&rt, script.as_slice(), "no 2 BadName\n", Status::Finished);
-    script.insert(0, b'0')?;
-    expect(&rt, script.as_slice(), "line 1: bad\n", Status::BadLine);
-    Ok(())
-}
-
-/// Gives one byte a read, and fails after so many.
-#[derive(Drop)]
-struct Dripping<'a> {
-    bytes: &'a [u8],
-    reads: usize,
-}
-
-impl Read for Dripping<'_> {
-    fn read(&mut self, buf: &mut [u8]) -> io::Result<usize> {
-        if self.reads == 0 {
-            return Err(io::Error::from(io::ErrorKind::Other));
-        }
-        self.reads -= 1;
-        match (self.bytes.split_first(), buf.first_mut()) {
-            (Some((byte, rest)), Some(place)) => {
-                *place = *byte;
-                self.bytes = rest;
-                Ok(1)
-            }
-            _ => Ok(0),
-        }
-    }
-}
-
-/// Takes so many writes, and then fails.
-#[derive(Drop)]
-struct Filling {
-    taken: Vec<u8>,
-    writes: usize,
-}
-
-impl Write for Filling {
-    fn write(&mut self, buf: &[u8]) -> io::Result<usize> {
-        if self.writes == 0 {
-            return Err(io::Error::from(io::ErrorKind::Other));
-        }
-        self.writes -= 1;
-        self.taken.extend_from_slice(buf)?;
-        Ok(buf.len())
-    }
-
-    fn flush(&mut self) -> io::Result<()> {
-        Ok(())
-    }
-}
-
-const SCRIPT: &[u8] = b"ls U9:9\n5 undo 1\n0 undo 9\n";
-
-const ANSWERS: &[u8] = b"no 14 NoFile U9:9\nno 12 NoUser 5\nno 24 NoOperation 9\n";
-
-#[test]
-fn a_reader_may_give_a_byte_at_a_time(rt: HostRuntime) {
-    let mut out = Vec::new(rt.alloc());
-    let reader = Dripping {
-        bytes: SCRIPT,
-        reads: 1000,
-    };
-    assert!(rt; run_desk(rt.alloc(), reader, &mut out, 2) == Status::Finished);
-    assert!(rt; out.as_slice() == ANSWERS);
-}
-
-#[test]
-fn a_reader_that_fails_is_a_fault(rt: HostRuntime) {
-    for reads in 0..SCRIPT.len() {
-        let mut out = Vec::new(rt.alloc());
-        let reader = Dripping {
-            bytes: SCRIPT,
-            reads,
-        };
-        assert!(rt; run_desk(rt.alloc(), reader, &mut out, 2) == Status::Fault);
-        assert!(rt; ANSWERS.starts_with(out.as_slice()), "{reads}");
-    }
-}
-
-#[test]
-fn a_writer_that_fails_is_a_fault(rt: HostRuntime) {
-    for writes in 0..3usize {
-        let mut out = Filling {
-            taken: Vec::new(rt.alloc()),
-            writes,
-        };
-        assert!(rt; run_desk(rt.alloc(), SCRIPT, &mut out, 2) == Status::Fault);
-        assert!(rt; ANSWERS.starts_with(out.taken.as_slice()), "{writes}");
-    }
-}
+use std::{env, fs, process};
+use su_lms::Params;
 
 fn users_of(line: &Line) -> Option<u8> {
     match line {
         Line::Desk { users } => Some(*users),
-        Line::Text(_) => None,
+        Line::Keygen { .. } | Line::Text(_) => None,
     }
 }
 
@@ -222,6 +37,86 @@ fn wrong_command_lines(rt: HostRuntime) {
     assert!(rt; is_usage(alloc, &["sundr", "desk", "--users", "65"]));
     assert!(rt; is_usage(alloc, &["sundr", "desk", "--users", "x"]));
     assert!(rt; is_usage(alloc, &["sundr", "desk", "--users"]));
+    assert!(rt;
+        is_usage(
+            alloc,
+            &[
+                "sundr", "keygen", "--out", "k", "--height", "5", "--width", "8"
+            ]
+        )
+    );
+    assert!(rt;
+        is_usage(
+            alloc,
+            &[
+                "sundr",
+                "keygen",
+                "--entropy",
+                "e",
+                "--out",
+                "k",
+                "--height",
+                "6",
+                "--width",
+                "8"
+            ]
+        )
+    );
+    assert!(rt;
+        is_usage(
+            alloc,
+            &[
+                "sundr",
+                "keygen",
+                "--entropy",
+                "e",
+                "--out",
+                "k",
+                "--height",
+                "5",
+                "--width",
+                "2"
+            ]
+        )
+    );
+}
+
+/// The type numbers of the key that is asked for, where it is one from the file `e` to the file `k`.
+fn key_types(line: &Line) -> Option<(u32, u32)> {
+    match line {
+        Line::Keygen {
+            entropy,
+            out,
+            params,
+        } if entropy.as_str() == "e" && out.as_str() == "k" => Some((params.lms, params.ots)),
+        _ => None,
+    }
+}
+
+#[test]
+fn command_lines_of_a_key(rt: HostRuntime) -> Result<(), Fail> {
+    let kinds = [
+        ("5", "4", (5, 3)),
+        ("5", "8", (5, 4)),
+        ("10", "4", (6, 3)),
+        ("10", "8", (6, 4)),
+    ];
+    for (height, width, types) in kinds {
+        let words = [
+            "sundr",
+            "keygen",
+            "--entropy",
+            "e",
+            "--out",
+            "k",
+            "--height",
+            height,
+            "--width",
+            width,
+        ];
+        assert!(rt; key_types(&line_of(rt.alloc(), &words)?) == Some(types));
+    }
+    Ok(())
 }
 
 fn is_text(alloc: Global, words: &[&str], part: &str) -> bool {
@@ -236,5 +131,83 @@ fn help_and_version_are_texts(rt: HostRuntime) {
     let alloc = rt.alloc();
     assert!(rt; is_text(alloc, &["sundr", "--help"], "desk"));
     assert!(rt; is_text(alloc, &["sundr", "desk", "--help"], "undo_last"));
+    assert!(rt; is_text(alloc, &["sundr", "keygen", "--help"], "--entropy <FILE>"));
     assert!(rt; is_text(alloc, &["sundr", "--version"], "sundr 0.1.0"));
+}
+
+/// A path of this run's own, in the folder of temporary files.
+fn own_path(rt: &HostRuntime, name: &str) -> Result<String, Fail> {
+    let name = format!(in rt.alloc(); "sundr_{}_{name}", process::id(rt.process()))?;
+    let path = env::temp_dir(rt)?.join(rt.alloc(), name.as_str())?;
+    Ok(String::from_str(rt.alloc(), path.as_path().as_str())?)
+}
+
+/// The bytes 0 to 47: I is 0 to 15, SEED is 16 to 47, as in the known answers.
+fn counted() -> [u8; 48] {
+    let mut bytes = [0u8; 48];
+    for place in 0..48u8 {
+        bytes[usize::from(place)] = place;
+    }
+    bytes
+}
+
+/// The public key of height 5 and width 8 of these, by an independent implementation (Bouncy Castle 1.72).
+const KNOWN_KEY: &str =
+    "0000000500000004000102030405060708090a0b0c0d0e0fde9c568efec826384bf0e97a186a46fb7a40bdf45b7ec32ca0703d17c7d469f9";
+
+#[test]
+fn a_key_is_kept_in_two_files_over_old_ones(rt: HostRuntime) -> Result<(), Fail> {
+    let alloc = rt.alloc();
+    let entropy = own_path(&rt, "entropy")?;
+    let out = own_path(&rt, "key")?;
+    let public_out = own_path(&rt, "key.pub")?;
+    fs::write(&rt, entropy.as_str(), counted().as_slice())?;
+    fs::write(&rt, out.as_str(), b"old".as_slice())?;
+    let made = make_key(
+        alloc,
+        &rt,
+        entropy.as_str(),
+        out.as_str(),
+        Params { lms: 5, ots: 4 },
+    );
+    let kept = fs::read(&rt, out.as_str())?;
+    let mode = fs::metadata(&rt, out.as_str())?.mode();
+    let public = fs::read(&rt, public_out.as_str())?;
+    for path in [&entropy, &out, &public_out] {
+        fs::remove_file(&rt, path.as_str())?;
+    }
+    let digits = hex::encode(alloc, public.as_slice())?;
+    assert_eq!(rt; digits.as_str(), KNOWN_KEY);
+    assert!(rt; matches!(made, Ok(key) if key.as_bytes().as_slice() == public.as_slice()));
+    assert_eq!(rt; mode & 0o777, 0o600);
+    assert_eq!(rt; kept.len(), 64);
+    assert!(rt; kept[..12] == b"SK01\0\0\0\x05\0\0\0\x04"[..]);
+    assert!(rt; kept[12..60] == counted()[..]);
+    assert!(rt; kept[60..] == [0u8; 4][..]);
+    Ok(())
+}
+
+#[test]
+fn entropy_of_another_length_makes_no_key(rt: HostRuntime) -> Result<(), Fail> {
+    let alloc = rt.alloc();
+    let entropy = own_path(&rt, "short")?;
+    let out = own_path(&rt, "none")?;
+    let params = Params { lms: 5, ots: 4 };
+    let unread = make_key(alloc, &rt, entropy.as_str(), out.as_str(), params);
+    assert!(rt; matches!(unread, Err(KeygenFault::Unread)));
+    for length in [0usize, 15, 16, 47, 49, 200] {
+        let bytes = [7u8; 200];
+        fs::write(&rt, entropy.as_str(), &bytes[..length])?;
+        let refused = make_key(alloc, &rt, entropy.as_str(), out.as_str(), params);
+        assert!(rt;
+            matches!(refused, Err(KeygenFault::WrongLength)),
+            "{length}"
+        );
+        assert!(rt; !fs::exists(&rt, out.as_str())?);
+    }
+    fs::write(&rt, entropy.as_str(), counted().as_slice())?;
+    let unwritten = make_key(alloc, &rt, entropy.as_str(), "/nowhere/at/all", params);
+    fs::remove_file(&rt, entropy.as_str())?;
+    assert!(rt; matches!(unwritten, Err(KeygenFault::Unwritten)));
+    Ok(())
 }

@@ -1,22 +1,28 @@
 // Single changes of the i-tables, of which operations are made. A change that grows a table may be refused with
 // `NoMemory`, and then nothing changes.
-ghost use Rattle.std.specs.Prelude.{◌≡◌, Some, None, IfErr, OnOk, OnErr};
-ghost use Rattle.su_table.specs.Edit.{Change.Named, Change.Linked, Change.Copied, Change.Gone, Edit.Inodes, Edit.Entries, edit};
+ghost use Rattle.std.specs.Prelude.{◌≡◌, ◌+◌, ◌<◌, ◌≤◌, ◌^◌, length, true, IsOk, Some, None, IfOk, IfErr, OnOk, OnErr};
+ghost use Rattle.std.specs.FinMap.{get};
+ghost use Rattle.su_node.specs.Change.{Change.Named, Change.Linked, Change.Written, Change.Resized, Change.Copied, Change.Gone};
+ghost use Rattle.su_table.specs.Cell.{Cell.Entry, val};
+ghost use Rattle.su_table.specs.Edit.{Edit.Inodes, Edit.Entries, edit};
+ghost use Rattle.su_table.specs.Query.{is_nothing, is_free_at, is_name_free_at, size_at};
 ghost use Rattle.su_bytes.specs.declared.refusals.Refusal.TheVariants.{NoMemory};
 
 use super::Forest;
-use crate::inodes::Inode;
 use su_bytes::{FileId, Group, Inum, Name, Refusal, User};
+use su_node::Inode;
 
 impl Forest {
-    /// In the directory there the name leads to the file. Where no directory stands, nothing changes.
+    /// In the directory there the name leads to the file. Where no directory stands, nothing changes. Only a name that isn't
+    /// there takes memory.
     pub fn add_name(&mut self, place: (User, Inum), name: Name, file: FileId) -> Result<(), Refusal>
         ensures ok { OnOk result (self.new ≡ edit self.old (Inodes place (Named name (Some file)))) }
         ensures refused { IfErr result (λ e. e ≡ NoMemory) }
+        ensures absent { OnErr result (is_name_free_at self.old place name ≡ true) }
         ensures err { OnErr result (self.new ≡ self.old) }
     {
         if let Some(inode) = self.inodes.get_mut(&place) {
-            inode.add_name(name, file)?;
+            inode.name_set(name, file)?;
         }
         Ok(())
     }
@@ -26,7 +32,7 @@ impl Forest {
         ensures { self.new ≡ edit self.old (Inodes place (Named name.now None)) }
     {
         if let Some(inode) = self.inodes.get_mut(&place) {
-            inode.remove_name(name);
+            inode.name_remove(name);
         }
     }
 
@@ -39,6 +45,35 @@ impl Forest {
         }
     }
 
+    /// The bytes of the file there are these from an offset on, and a gap before them is zeros. Where no file stands, nothing
+    /// changes. A file that doesn't grow needs no memory.
+    pub fn write_at(&mut self, place: (User, Inum), off: u32, bytes: &[u8]) -> Result<(), Refusal>
+        requires { off + length bytes.now < 2 ^ 32 }
+        ensures ok { OnOk result (self.new ≡ edit self.old (Inodes place (Written (size_at self.old place) off bytes.now))) }
+        ensures refused { IfErr result (λ e. e ≡ NoMemory) }
+        ensures succeeds { off + length bytes.now ≤ size_at self.old place → IsOk result }
+        ensures err { OnErr result (self.new ≡ self.old) }
+    {
+        if let Some(inode) = self.inodes.get_mut(&place) {
+            inode.write_at(off, bytes)?;
+        }
+        Ok(())
+    }
+
+    /// The file there has that many bytes: it is cut, or has zeros behind it. Where no file stands, nothing changes. A file
+    /// that doesn't grow needs no memory.
+    pub fn resize(&mut self, place: (User, Inum), size: u32) -> Result<(), Refusal>
+        ensures ok { OnOk result (self.new ≡ edit self.old (Inodes place (Resized (size_at self.old place) size))) }
+        ensures succeeds { size ≤ size_at self.old place → IsOk result }
+        ensures refused { IfErr result (λ e. e ≡ NoMemory) }
+        ensures err { OnErr result (self.new ≡ self.old) }
+    {
+        if let Some(inode) = self.inodes.get_mut(&place) {
+            inode.resize(size)?;
+        }
+        Ok(())
+    }
+
     /// The inode stands there, in place of what did.
     pub fn put_inode(&mut self, place: (User, Inum), inode: Inode) -> Result<(), Refusal>
         ensures ok { OnOk result (self.new ≡ edit self.old (Inodes place (Copied inode))) }
@@ -49,6 +84,22 @@ impl Forest {
         Ok(())
     }
 
+    /// The inode stands there, in place of what is answered. Only a place where nothing stands takes memory.
+    pub fn exchange_inode(
+        &mut self,
+        place: (User, Inum),
+        inode: Inode,
+    ) -> Result<Option<Inode>, Refusal>
+        ensures ok { OnOk result (self.new ≡ edit self.old (Inodes place (Copied inode))) }
+        ensures was { IfOk result (λ was. was ≡ get self.old.inodes place) }
+        ensures refused { IfErr result (λ e. e ≡ NoMemory) }
+        ensures absent { OnErr result (is_free_at self.old place ≡ true) }
+        ensures err { OnErr result (self.new ≡ self.old) }
+    {
+        let was = self.inodes.insert(place, inode)?;
+        Ok(was)
+    }
+
     /// Nothing stands there.
     pub fn remove_inode(&mut self, place: (User, Inum))
         ensures { self.new ≡ edit self.old (Inodes place Gone) }
@@ -56,10 +107,11 @@ impl Forest {
         self.inodes.remove(&place);
     }
 
-    /// The group file's entry points there.
+    /// The group file's entry points there. Only an entry that isn't there takes memory.
     pub fn put_entry(&mut self, file: (Group, Inum), place: (User, Inum)) -> Result<(), Refusal>
         ensures ok { OnOk result (self.new ≡ edit self.old (Entries file (Some place))) }
         ensures refused { IfErr result (λ e. e ≡ NoMemory) }
+        ensures absent { OnErr result (is_nothing (val self.old (Entry file)) ≡ true) }
         ensures err { OnErr result (self.new ≡ self.old) }
     {
         self.entries.insert(file, place)?;

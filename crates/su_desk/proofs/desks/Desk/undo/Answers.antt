@@ -4,7 +4,7 @@ use Rattle.su_desk.specs.declared.entries.Entry.{Entry}
 use Rattle.su_desk.specs.Answer.{answer, undo_refusal}
 use Rattle.su_desk.specs.Desk.{DeskState, with_entry}
 use Rattle.su_desk.specs.Keeping.{Keeps}
-use Rattle.su_desk.proofs.Answering.{answer_done, answer_refused, no_number, none_undoable, undo_accepted, ready, undone_last}
+use Rattle.su_desk.proofs.Answering.{answer_done, answer_refused, no_number, none_undoable, undo_accepted, undone_last}
 use Rattle.su_desk.proofs.desks.Desk.undo.Goals as goal
 
 pub returns-in-Err : goal.returns-in-Err
@@ -17,9 +17,6 @@ returns-in_default-last c =
     absurd (none_undoable s.entries.items c.args.number (sym none) (undo_accepted s.roster s.entries.items c.args.author c.args.number
     (ap (λ d. undo_refusal d.roster d.history c.args.author c.args.number) c.self.view_is ∙ c.in_default.ensures.accepted)))
 
-pub put_back-requires : goal.put_back-requires
-put_back-requires c = ready _ _ _ _ _ c.self.invariant (sym (c.in-Some.ensures.value ∙ ap (λ ks. slice_get ks (length ks - 1)) c.deref.ensures.value))
-
 pub invariant_of-self-2 : goal.invariant_of-self-2
 invariant_of-self-2 c =
     let s = c.self.inside in
@@ -27,10 +24,9 @@ invariant_of-self-2 c =
     let last = sym (c.in-Some.ensures.value ∙ ap (λ ks. slice_get ks (length ks - 1)) c.deref.ensures.value) in
     let kept : c.pop.new.self.items ≡ take (length s.kept.items - 1) s.kept.items = c.pop.ensures.rest ∙ ap (λ n. take (n - 1) s.kept.items) (omega (arith, s.kept.ok.0)) in
     let accepted = ap (λ d. undo_refusal d.roster d.history c.args.author c.args.number) c.self.view_is ∙ c.in_default.ensures.accepted in
-    subst (λ h. Keeps s.roster h c.pop.new.self.items c.put_back.new.forest) (sym entries)
-    (subst (λ ks. Keeps s.roster (s.entries.items ++ record { author = c.args.author; change = Undo c.args.number } ∷ []) ks c.put_back.new.forest) (sym kept)
-    (subst (λ T. Keeps s.roster (s.entries.items ++ record { author = c.args.author; change = Undo c.args.number } ∷ []) (take (length s.kept.items - 1) s.kept.items) T) (sym c.in_ok-put_back.ensures.ok)
-    (undone_last s.roster s.entries.items s.kept.items c.in-Some.kept.now s.forest c.args.author c.args.number c.self.invariant last accepted)))
+    subst (λ h. Keeps s.roster h c.pop.new.self.items c.undo_on.new.forest) (sym entries)
+    (subst (λ ks. Keeps s.roster (s.entries.items ++ record { author = c.args.author; change = Undo c.args.number } ∷ []) ks c.undo_on.new.forest) (sym kept)
+    (undone_last s.roster s.entries.items s.kept.items c.in-Some.kept.now s.forest c.undo_on.new.forest c.args.author c.args.number c.self.invariant last accepted c.in_ok-undo_on.ensures.ok))
 
 pub returns : goal.returns
 returns c =

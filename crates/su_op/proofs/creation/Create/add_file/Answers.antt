@@ -1,5 +1,6 @@
 use Rattle.std.proofs.Common.{◌∙◌, Some, ap}
-use Rattle.su_table.specs.Edit.{Change.Gone, Change.Copied, Edit.Inodes, edit, edits}
+use Rattle.su_node.specs.Change.{Change.Gone, Change.Copied}
+use Rattle.su_table.specs.Edit.{Edit.Inodes, edit, edits}
 use Rattle.su_op.specs.Rule.{entry_edits}
 use Rattle.su_op.proofs.Backs.{copied_gone, edit-copied_new}
 use Rattle.su_op.proofs.creation.Create.add_file.Goals as goal

@@ -1,7 +1,8 @@
 use Rattle.std.proofs.Common.{◌≡◌, ◌∙◌, ◌-◌, ◌++◌, ◌∷◌, [], None, ap, arith, nat_le, true, false}
 use Rattle.std.proofs.lemmas.Bool.Decides.{nat_tests}
 use Rattle.su_table.specs.Query.{links_at}
-use Rattle.su_table.specs.Edit.{Change.Gone, Change.Linked, Edit.Inodes, edit, edits}
+use Rattle.su_node.specs.Change.{Change.Gone, Change.Linked}
+use Rattle.su_table.specs.Edit.{Edit.Inodes, edit, edits}
 use Rattle.su_op.specs.Rule.{entry_edits}
 use Rattle.su_op.proofs.Backs.{unlink_some, unlink_last}
 use Rattle.su_op.proofs.unlinking.Unlink.perform.Goals as goal

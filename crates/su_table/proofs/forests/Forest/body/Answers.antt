@@ -2,8 +2,8 @@ use Rattle.std.proofs.Common.{◌≡◌, ◌∙◌, ap, sym, Some, None, true, f
 use Rattle.su_bytes.specs.declared.file_ids.FileId.TheVariants.{User}
 use Rattle.su_table.specs.Place.{Place, file_eq}
 use Rattle.su_table.specs.Query.{body, home_body, entry_body}
-use Rattle.su_table.specs.Cell.{Field.KindOf}
-use Rattle.su_table.proofs.Stores.{val-At, val-Entry, entry_body-place_value}
+use Rattle.su_node.specs.Field.{Field.KindOf}
+use Rattle.su_table.proofs.Stores.{val-At, val-Entry, entry_body-place_value, file_eq-derived}
 use Rattle.su_table.proofs.forests.Forest.body.Goals as goal
 
 pub returns-in_err-inode-in-User : goal.returns-in_err-inode-in-User
@@ -14,24 +14,24 @@ returns-in_err-inode-in-User c =
     ∙ sym (ap (λ v. home_body v (User c.in-User.user c.in-User.number) p) (val-At c.self.inside.inodes.entries _ c.args.self.now c.self.view_is p KindOf _ c.in_err-inode-in-User.ensures.value))
     ∙ ap (body c.args.self.now) (sym c.in-User.is)
 
-pub returns-then-is_of : goal.returns-then-is_of
+pub returns-then-eq : goal.returns-then-eq
 unfolding body
-returns-then-is_of c =
+returns-then-eq c =
     let p : Place = (c.in-User.user, c.in-User.number) in
     let f = User c.in-User.user c.in-User.number in
     let home = c.in_ok-inode-in-User.inode.now.home in
-    let same : file_eq home f ≡ true = sym c.is_of.ensures ∙ c.if-is_of.true in
+    let same : file_eq home f ≡ true = ap (λ h. file_eq h f) (sym c.home-home.ensures) ∙ sym (file_eq-derived c.home-home.result f) ∙ sym c.eq.ensures ∙ c.if-eq.true in
     sym (ap (λ b. cond b (Some p) None) same)
     ∙ sym (ap (λ v. home_body v f p) (val-At c.self.inside.inodes.entries _ c.args.self.now c.self.view_is p KindOf _ c.in_ok-inode-in-User.ensures.value))
     ∙ ap (body c.args.self.now) (sym c.in-User.is)
 
-pub returns-else-is_of : goal.returns-else-is_of
+pub returns-else-eq : goal.returns-else-eq
 unfolding body
-returns-else-is_of c =
+returns-else-eq c =
     let p : Place = (c.in-User.user, c.in-User.number) in
     let f = User c.in-User.user c.in-User.number in
     let home = c.in_ok-inode-in-User.inode.now.home in
-    let differs : file_eq home f ≡ false = sym c.is_of.ensures ∙ c.if-is_of.false in
+    let differs : file_eq home f ≡ false = ap (λ h. file_eq h f) (sym c.home-home.ensures) ∙ sym (file_eq-derived c.home-home.result f) ∙ sym c.eq.ensures ∙ c.if-eq.false in
     sym (ap (λ b. cond b (Some p) None) differs)
     ∙ sym (ap (λ v. home_body v f p) (val-At c.self.inside.inodes.entries _ c.args.self.now c.self.view_is p KindOf _ c.in_ok-inode-in-User.ensures.value))
     ∙ ap (body c.args.self.now) (sym c.in-User.is)

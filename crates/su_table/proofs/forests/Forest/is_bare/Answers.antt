@@ -1,5 +1,6 @@
 use Rattle.std.proofs.Common.{◌∙◌, ap, sym}
-use Rattle.su_table.specs.Query.{has_no_names, is_bare_at}
+use Rattle.su_node.specs.Inode.{has_no_names}
+use Rattle.su_table.specs.Query.{is_bare_at}
 use Rattle.su_table.proofs.Stores.{get-inodes}
 use Rattle.su_table.proofs.forests.Forest.is_bare.Goals as goal
 

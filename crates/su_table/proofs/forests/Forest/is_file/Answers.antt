@@ -5,7 +5,7 @@ use Rattle.su_bytes.specs.declared.file_ids.Kind.TheVariants.{File, Dir}
 use Rattle.su_bytes.specs.declared.file_ids.FileId.{FileId}
 use Rattle.su_bytes.specs.contracts.file_ids.Kind.{the_type}
 use Rattle.su_table.specs.Query.{is_file}
-use Rattle.su_table.specs.Cell.{Field.KindOf, Value.AKind}
+use Rattle.su_node.specs.Field.{Field.KindOf, Value.AKind}
 use Rattle.su_table.proofs.Stores.{val-At}
 use Rattle.su_table.proofs.forests.Forest.is_file.Goals as goal
 

@@ -1,6 +1,6 @@
 use Rattle.std.proofs.Common.{◌∙◌, ap, sym, refl, not}
 use Rattle.su_table.specs.Query.{is_nothing}
-use Rattle.su_table.specs.Cell.{Field.KindOf}
+use Rattle.su_node.specs.Field.{Field.KindOf}
 use Rattle.su_table.proofs.Stores.{val-At, is_nothing-field_value}
 use Rattle.su_table.proofs.forests.Forest.is_free.Goals as goal
 

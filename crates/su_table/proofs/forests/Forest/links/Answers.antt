@@ -1,6 +1,6 @@
 use Rattle.std.proofs.Common.{◌∙◌, ap, sym}
 use Rattle.su_table.specs.Query.{number_of}
-use Rattle.su_table.specs.Cell.{Field.LinksOf}
+use Rattle.su_node.specs.Field.{Field.LinksOf}
 use Rattle.su_table.proofs.Stores.{val-At}
 use Rattle.su_table.proofs.forests.Forest.links.Goals as goal
 

@@ -1,6 +1,6 @@
 use Rattle.std.proofs.Common.{◌∙◌, ap, sym, refl}
 use Rattle.std.specs.Option.{is_some}
-use Rattle.su_table.specs.Edit.{Change.Linked, change}
+use Rattle.su_node.specs.Change.{Change.Linked, change}
 use Rattle.su_table.proofs.Stores.{edit-Inodes, edit-Inodes_absent}
 use Rattle.su_table.proofs.forests.Forest.set_links.Goals as goal
 use Rattle.su_table.proofs.forests.Forest.set_links.Goals.{in-Some, in_default}

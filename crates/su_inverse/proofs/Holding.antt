@@ -1,0 +1,76 @@
+-- What a tree holds in an area, seen by its inodes and entries.
+use Rattle.std.proofs.Common.{◌≡◌, ℕ, true, false, Option, Some, None, refl, sym, ap, ◌∙◌}
+use Rattle.std.specs.FinMap.{get}
+use Rattle.su_bytes.specs.declared.file_ids.FileId.{FileId}
+use Rattle.su_bytes.specs.declared.file_ids.FileId.TheVariants.{Group}
+use Rattle.su_node.specs.Name.{Name}
+use Rattle.su_node.specs.Inode.{Inode, Content, Content.Bytes, Content.Names, bytes_of}
+use Rattle.su_node.specs.Field.{Field, Field.KindOf, Field.LinksOf, Field.NameOf, Value, Value.Nothing, Value.ANumber, Value.AFile, Value.APlace, file_value, field_value}
+use Rattle.su_node.specs.Change.{Change.Named, change}
+use Rattle.su_table.specs.Place.{Place}
+use Rattle.su_table.specs.Tree.{Tree}
+use Rattle.su_table.specs.Cell.{Cell.At, Cell.Entry, place_value, val}
+use Rattle.su_table.specs.Query.{is_free_at, entry_body, body}
+use Rattle.su_table.specs.Edit.{name_in}
+use Rattle.su_op.specs.declared.areas.Part.{Part}
+use Rattle.su_op.specs.declared.areas.Part.TheVariants.{Kind as KindPart, Links as LinksPart, Size as SizePart, Name as NamePart, Blocks as BlocksPart, Whole as WholePart}
+use Rattle.su_op.specs.declared.areas.Area.TheVariants.{Inode as InodeArea}
+use Rattle.su_inverse.specs.Kept.{CanKeep, HoldsNothing}
+
+pub field_at : (T : Tree) (p : Place) (o : Option Inode) (f : Field) → o ≡ get T.inodes p → field_value o f ≡ val T (At p f)
+unfolding val
+field_at T p o f is = ap (λ o. field_value o f) is
+
+-- nothing stands there
+pub no_inode_held : (T : Tree) (p : Place) (a : Part) → None ≡ get T.inodes p → CanKeep T (InodeArea p a) → HoldsNothing T (InodeArea p a)
+no_inode_held T p KindPart is can = sym (field_at T p None KindOf is)
+no_inode_held T p LinksPart is can = sym (field_at T p None KindOf is)
+no_inode_held T p SizePart is can = sym (field_at T p None KindOf is)
+no_inode_held T p WholePart is can = sym (field_at T p None KindOf is)
+no_inode_held T p (NamePart x) is can = sym (field_at T p None (NameOf x) is)
+no_inode_held T p (BlocksPart r) is can = ap bytes_of (sym is)
+
+-- an inode stands there, so these parts can't be kept
+pub occupied : {P : Type 0} (T : Tree) (p : Place) (i : Inode) → Some i ≡ get T.inodes p → is_free_at T p ≡ true → P
+unfolding val
+occupied T p i is free = absurd (let e = ap (λ o. field_value o KindOf) is in cc)
+
+entry_is : (v : Value) (o : Option Place) → o ≡ entry_body v → v ≡ place_value (entry_body v) → v ≡ place_value o
+entry_is v o e d = d ∙ ap place_value (sym e)
+
+place_value_back : (o : Option Place) → place_value o ≡ place_value (entry_body (place_value o))
+place_value_back None = refl
+place_value_back (Some p) = refl
+
+-- the body of a group file is what its entry says
+pub entry_at : (T : Tree) (g k : ℕ) (o : Option Place) → o ≡ body T (Group g k) → val T (Entry (g, k)) ≡ place_value o
+unfolding val body
+entry_at T g k o is = entry_is (place_value (get T.entries (g, k))) o is (place_value_back (get T.entries (g, k)))
+
+place_value_is : (o q : Option Place) → place_value o ≡ place_value q → o ≡ q
+place_value_is None None e = refl
+place_value_is None (Some q) e = absurd cc
+place_value_is (Some p) None e = absurd cc
+place_value_is (Some p) (Some q) e = cc
+
+pub entry_in : (T : Tree) (g k : ℕ) (o : Option Place) → o ≡ body T (Group g k) → o ≡ get T.entries (g, k)
+unfolding val
+entry_in T g k o is = place_value_is o (get T.entries (g, k)) (sym (entry_at T g k o is))
+
+file_value_is : (o q : Option FileId) → file_value o ≡ file_value q → o ≡ q
+file_value_is None None e = refl
+file_value_is None (Some q) e = absurd cc
+file_value_is (Some p) None e = absurd cc
+file_value_is (Some p) (Some q) e = cc
+
+name_in-value : (o : Option Inode) (x : Name) → field_value o (NameOf x) ≡ file_value (name_in o x)
+name_in-value None x = refl
+name_in-value (Some i) x = go i.content
+  where
+    go : (c : Content) → field_value (Some (record i { content = c })) (NameOf x) ≡ file_value (name_in (Some (record i { content = c })) x)
+    go (Bytes bs) = refl
+    go (Names m) = refl
+
+pub name_there : (T : Tree) (p : Place) (x : Name) (o : Option FileId) → file_value o ≡ val T (At p (NameOf x)) → o ≡ name_in (get T.inodes p) x
+unfolding val
+name_there T p x o is = file_value_is o (name_in (get T.inodes p) x) (is ∙ name_in-value (get T.inodes p) x)

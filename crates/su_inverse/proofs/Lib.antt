@@ -1,0 +1,6 @@
+pub mod Restored
+pub mod Sets
+pub mod Holding
+pub mod Displacing
+pub mod Lengths
+pub mod Writing

@@ -1,0 +1,117 @@
+-- What an inverse keeps: the values that the cells of some areas hold in a tree.
+use Rattle.std.specs.Prelude.{◌≡◌, ◌+◌, ◌*◌, true, false, List, [], ◌∷◌, ◌++◌, map, Some, None, option_map}
+use Rattle.std.specs.List.{AllByRecursion}
+use Rattle.std.specs.FinMap.{get}
+use Rattle.su_node.specs.Inode.{bytes_of, within}
+use Rattle.su_node.specs.Field.{Field.KindOf, Field.LinksOf, Field.SizeOf, Field.NameOf, Value.Nothing, Value.ANumber, Value.AFile, Value.APlace}
+use Rattle.su_node.specs.Change.{Change.Named, Change.Linked, Change.Copied, Change.Gone}
+use Rattle.su_table.specs.Tree.{Tree}
+use Rattle.su_table.specs.Cell.{Cell, Cell.At, Cell.Entry, val}
+use Rattle.su_table.specs.Query.{is_free_at}
+use Rattle.su_table.specs.Edit.{Edit, Edit.Inodes, Edit.Entries}
+use Rattle.su_op.specs.declared.areas.Part.TheVariants.{Kind as KindPart, Links as LinksPart, Size as SizePart, Name as NamePart, Blocks as BlocksPart, Whole as WholePart}
+use Rattle.su_op.specs.declared.areas.Area.{Area}
+use Rattle.su_op.specs.declared.areas.Area.TheVariants.{Inode as InodeArea, Entry as EntryArea}
+use Rattle.su_op.specs.Area.{has}
+use Rattle.su_inverse.specs.declared.returns.Return.{Return}
+use Rattle.su_inverse.specs.declared.returns.Return.TheVariants.{Inode as InodeReturn, Name as NameReturn, Entry as EntryReturn}
+use Rattle.su_inverse.specs.declared.resets.Reset.{Reset}
+use Rattle.su_inverse.specs.declared.resets.Reset.TheVariants.{Nothing as NothingReset, Links as LinksReset}
+use Rattle.su_inverse.specs.declared.inverses.Kept.{Kept}
+use Rattle.su_inverse.specs.declared.inverses.Kept.TheVariants.{Return as ReturnKept, Size as SizeKept, Reset as ResetKept, Blocks as BlocksKept}
+use Rattle.su_inverse.specs.declared.contents.KeptSize.{KeptSize}
+use Rattle.su_inverse.specs.declared.contents.KeptBlocks.{KeptBlocks}
+use Rattle.su_inverse.specs.declared.inverses.Inverse.{Inverse}
+
+-- of a place where nothing stands the kind can be kept, which is that there is none
+abbrev pub CanKeep : Tree → Area → Type 0
+CanKeep T (InodeArea p KindPart) = is_free_at T p ≡ true
+CanKeep T a = Unit {0}
+
+-- ---- the areas
+
+abbrev pub return_area : Return → Area
+return_area (InodeReturn p i) = InodeArea p WholePart
+return_area (NameReturn p x f) = InodeArea p (NamePart x)
+return_area (EntryReturn g p) = EntryArea g
+
+abbrev pub reset_area : Reset → Area
+reset_area (NothingReset a) = a
+reset_area (LinksReset p n) = InodeArea p LinksPart
+
+abbrev pub size_area : KeptSize → Area
+size_area k = InodeArea k.place SizePart
+
+abbrev pub blocks_area : KeptBlocks → Area
+blocks_area k = InodeArea k.place (BlocksPart k.run)
+
+abbrev pub kept_area : Kept → Area
+kept_area (ReturnKept r) = return_area r
+kept_area (SizeKept k) = size_area k
+kept_area (ResetKept r) = reset_area r
+kept_area (BlocksKept k) = blocks_area k
+
+abbrev pub areas_of : Inverse → List Area
+areas_of i = map return_area i.returns.items ++ (map size_area i.sizes.items ++ (map reset_area i.resets.items ++ map blocks_area i.blocks.items))
+
+-- ---- their values: the tree holds what is kept
+
+abbrev pub HoldsReturn : Tree → Return → Type 0
+HoldsReturn T (InodeReturn p i) = get T.inodes p ≡ Some i
+HoldsReturn T (NameReturn p x f) = val T (At p (NameOf x)) ≡ AFile f
+HoldsReturn T (EntryReturn g p) = val T (Entry g) ≡ APlace p
+
+-- nothing is in the area: there is no such name or entry, no file with blocks, and else no inode
+abbrev pub HoldsNothing : Tree → Area → Type 0
+HoldsNothing T (InodeArea p (NamePart x)) = val T (At p (NameOf x)) ≡ Nothing
+HoldsNothing T (InodeArea p (BlocksPart r)) = bytes_of (get T.inodes p) ≡ None
+HoldsNothing T (InodeArea p a) = val T (At p KindOf) ≡ Nothing
+HoldsNothing T (EntryArea g) = val T (Entry g) ≡ Nothing
+
+abbrev pub HoldsReset : Tree → Reset → Type 0
+HoldsReset T (NothingReset a) = HoldsNothing T a
+HoldsReset T (LinksReset p n) = val T (At p LinksOf) ≡ ANumber n
+
+abbrev pub HoldsSize : Tree → KeptSize → Type 0
+HoldsSize T k = val T (At k.place SizeOf) ≡ ANumber k.size
+
+-- the bytes from the first block on, as many as the blocks have
+abbrev pub HoldsBlocks : Tree → KeptBlocks → Type 0
+HoldsBlocks T k = option_map (within (4096 * k.run.first) (4096 * (k.run.more + 1))) (bytes_of (get T.inodes k.place)) ≡ Some k.bytes.items
+
+abbrev pub HoldsKept : Tree → Kept → Type 0
+HoldsKept T (ReturnKept r) = HoldsReturn T r
+HoldsKept T (SizeKept k) = HoldsSize T k
+HoldsKept T (ResetKept r) = HoldsReset T r
+HoldsKept T (BlocksKept k) = HoldsBlocks T k
+
+-- the kept values are those of T
+pub record IsKeptOf (i : Inverse) (T : Tree) : Type 0 where
+  pub returns : AllByRecursion (HoldsReturn T) i.returns.items
+  pub sizes : AllByRecursion (HoldsSize T) i.sizes.items
+  pub resets : AllByRecursion (HoldsReset T) i.resets.items
+  pub blocks : AllByRecursion (HoldsBlocks T) i.blocks.items
+
+-- T has the kept values in the areas, and those of F in all other cells
+pub record IsPutBack (i : Inverse) (F : Tree) (T : Tree) : Type 0 where
+  pub kept : IsKeptOf i T
+  pub others : (c : Cell) → has (areas_of i) c ≡ false → val F c ≡ val T c
+
+-- ---- the edits that put them back
+
+abbrev pub return_edit : Return → Edit
+return_edit (InodeReturn p i) = Inodes p (Copied i)
+return_edit (NameReturn p x f) = Inodes p (Named x (Some f))
+return_edit (EntryReturn g p) = Entries g (Some p)
+
+-- links, a size and blocks go with their inode
+abbrev pub nothing_edits : Area → List Edit
+nothing_edits (InodeArea p KindPart) = Inodes p Gone ∷ []
+nothing_edits (InodeArea p WholePart) = Inodes p Gone ∷ []
+nothing_edits (InodeArea p (NamePart x)) = Inodes p (Named x None) ∷ []
+nothing_edits (InodeArea p a) = []
+nothing_edits (EntryArea g) = Entries g None ∷ []
+
+abbrev pub reset_edits : Reset → List Edit
+reset_edits (NothingReset a) = nothing_edits a
+reset_edits (LinksReset p n) = Inodes p (Linked n) ∷ []

@@ -1,0 +1,23 @@
+// What holds of the definitions themselves.
+ghost use Rattle.std.specs.Prelude.{◌≡◌, ℕ, None};
+ghost use Rattle.std.specs.List.{All};
+ghost use Rattle.su_bytes.specs.Membership.{Membership};
+ghost use Rattle.su_table.specs.Tree.{Tree};
+ghost use Rattle.su_table.specs.Cell.{Cell};
+ghost use Rattle.su_op.specs.declared.operations.Op.{Op};
+ghost use Rattle.su_op.specs.Area.{has};
+ghost use Rattle.su_op.specs.Operation.{why, effect, writes};
+ghost use Rattle.su_op.specs.Soundness.{Sound};
+ghost use Rattle.su_inverse.specs.declared.inverses.Inverse.{Inverse};
+ghost use Rattle.su_inverse.specs.Kept.{CanKeep, areas_of, IsKeptOf, IsPutBack};
+
+/// What an accepted operation writes can be kept.
+pub fn writes_can_be_kept()
+    ensures { (ro : Membership) (T : Tree) (a : ℕ) (op : Op) → why ro T a op ≡ None → All (CanKeep T) (writes ro T a op) }
+{}
+
+/// Right after an operation, what was kept of the areas that it writes puts back the tree before it.
+pub fn undo_after_apply()
+    ensures { (ro : Membership) (T : Tree) (a : ℕ) (op : Op) (i : Inverse) → Sound T → why ro T a op ≡ None
+        → ((c : Cell) → has (areas_of i) c ≡ has (writes ro T a op) c) → IsKeptOf i T → IsPutBack i (effect ro T a op) T }
+{}

@@ -1,0 +1,11 @@
+//! What cells held, kept so that it can be put back.
+#![tactic(auto)]
+
+mod contents;
+mod inverses;
+mod laws;
+mod resets;
+mod returns;
+
+pub use inverses::{Inverse, build};
+pub use laws::{undo_after_apply, writes_can_be_kept};

@@ -1,0 +1,40 @@
+// What is set or taken away again, which takes no memory.
+ghost use Rattle.std.specs.Prelude.{◌≡◌};
+ghost use Rattle.su_table.specs.Edit.{edits};
+ghost use Rattle.su_inverse.specs.Kept.{reset_edits, nothing_edits};
+
+use su_bytes::{Inum, User};
+use su_op::{Area, Part};
+use su_table::Forest;
+
+/// What an area held that wasn't anything to be brought back.
+#[derive(Drop)]
+pub(crate) enum Reset {
+    /// Nothing was in the area.
+    Nothing(Area),
+    Links((User, Inum), u8),
+}
+
+impl Reset {
+    /// Sets it again.
+    pub(crate) fn set(&self, forest: &mut Forest)
+        ensures { forest.new ≡ edits forest.old (reset_edits self.now) }
+    {
+        match self {
+            Reset::Nothing(area) => clear(area, forest),
+            Reset::Links(place, links) => forest.set_links(*place, *links),
+        }
+    }
+}
+
+/// Nothing is in the area. Links, a size and blocks go with their inode.
+fn clear(area: &Area, forest: &mut Forest)
+    ensures { forest.new ≡ edits forest.old (nothing_edits area.now) }
+{
+    match area {
+        Area::Entry(file) => forest.remove_entry(*file),
+        Area::Inode(place, Part::Kind | Part::Whole) => forest.remove_inode(*place),
+        Area::Inode(place, Part::Name(name)) => forest.remove_name(*place, name),
+        Area::Inode(_, Part::Links | Part::Size | Part::Blocks(_)) => {}
+    }
+}

@@ -1,0 +1,5 @@
+pub mod Maps
+pub mod NameOrder
+pub mod Names
+pub mod Contents
+pub mod Numbered

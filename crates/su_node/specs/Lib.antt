@@ -1,0 +1,8 @@
+pub mod Digest
+pub mod Name
+pub mod Inode
+pub mod Field
+pub mod Change
+pub mod Stored
+pub mod Code
+pub mod View

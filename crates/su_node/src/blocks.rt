@@ -1,0 +1,267 @@
+// The bytes of a file, in blocks.
+ghost use Rattle.std.specs.Prelude.{◌≡◌, ◌+◌, ◌-◌, ◌*◌, ◌/◌, ◌<◌, ◌≤◌, ◌^◌, [], IfOk, IsOk, OnOk, OnErr, length, min, take, slice_set, slice_index_or, vec_capacity};
+ghost use Rattle.su_node.specs.Change.{resized, written};
+ghost use Rattle.su_node.specs.Inode.{within};
+ghost use Rattle.su_node.specs.Stored.{AreZeroBlocks};
+
+mod digests;
+
+use std::alloc::{AllocError, Global};
+use std::marker::Model;
+
+/// The size in bytes of each block of a file but the last.
+const BLOCK_SIZE: usize = 4096;
+
+/// A block of a file.
+#[derive(Drop)]
+struct Block {
+    bytes: Vec<u8>,
+}
+
+impl Model for Block {
+    ghost use Rattle.std.specs.Prelude.{ℕ, List};
+
+    ghost Value = { List ℕ };
+
+    ghost view = { λ b. b.bytes.items };
+}
+
+impl Block {
+    /// A block of zeros.
+    fn zeros(alloc: Global, size: usize) -> Result<Block, AllocError>
+        ensures value { IfOk result (λ block. block ≡ resized size []) }
+    {
+        let mut bytes = Vec::with_capacity(alloc, size)?;
+        bytes.resize(size, 0)?;
+        Ok(Block { bytes })
+    }
+
+    fn as_slice(&self) -> &[u8]
+        ensures { result.now ≡ self.now }
+    {
+        self.bytes.as_slice()
+    }
+
+    /// The block again.
+    fn copy(&self, alloc: Global) -> Result<Block, AllocError>
+        ensures value { IfOk result (λ copy. copy ≡ self.now) }
+    {
+        let bytes = Vec::from_slice(alloc, self.bytes.as_slice())?;
+        Ok(Block { bytes })
+    }
+
+    /// The block with another size: cut, or with zeros behind it.
+    fn resize(&mut self, size: usize) -> Result<(), AllocError>
+        ensures ok { OnOk result (self.new ≡ resized size self.old) }
+        ensures err { OnErr result (self.new ≡ self.old) }
+    {
+        self.bytes.resize(size, 0)?;
+        Ok(())
+    }
+
+    /// The first bytes alone.
+    fn cut(&mut self, size: usize)
+        ensures { self.new ≡ take size self.old }
+    {
+        self.bytes.truncate(size);
+    }
+
+    /// These bytes in place of those that stand there.
+    fn overwrite(&mut self, start: usize, bytes: &[u8])
+        requires { start + length bytes.now ≤ length self.old }
+        ensures { self.new ≡ written start bytes.now self.old }
+    {
+        self.bytes[start..start + bytes.len()].copy_from_slice(bytes);
+    }
+}
+
+/// The bytes of a file, in blocks of 4,096 bytes: each is full but the last, and none is empty.
+#[derive(Drop)]
+pub(crate) struct Blocks {
+    blocks: Vec<Block>,
+    size: u32,
+    alloc: Global,
+}
+
+impl Model for Blocks {
+    ghost use Rattle.std.specs.Prelude.{ℕ, List};
+    ghost use Rattle.std.specs.List.{concat};
+    ghost use Rattle.su_node.specs.Stored.{AreStored};
+
+    ghost Value = { List ℕ };
+
+    ghost view = { λ b. concat b.blocks.items };
+
+    ghost invariant = { λ b. AreStored b.blocks.items b.size };
+}
+
+impl Blocks {
+    /// No bytes.
+    pub(crate) fn new(alloc: Global) -> Blocks
+        ensures { result ≡ [] }
+    {
+        Blocks {
+            blocks: Vec::new(alloc),
+            size: 0,
+            alloc,
+        }
+    }
+
+    /// How many bytes.
+    pub(crate) fn size(&self) -> u32
+        ensures { result ≡ length self.now }
+    {
+        self.size
+    }
+
+    /// All bytes.
+    pub(crate) fn content(&self) -> Result<Vec<u8>, AllocError>
+        ensures { IfOk result (λ bytes. bytes.items ≡ self.now) }
+    {
+        self.read(0, u64::from(self.size))
+    }
+
+    /// The bytes within a range.
+    pub(crate) fn read(&self, off: u64, len: u64) -> Result<Vec<u8>, AllocError>
+        ensures value { IfOk result (λ bytes. bytes.items ≡ within off len self.now) }
+    {
+        let size = self.size as usize;
+        let start = (off as usize).min(size);
+        let end = start + (len as usize).min(size - start);
+        let mut bytes = Vec::with_capacity(self.alloc, end - start)?;
+        for number in start / BLOCK_SIZE..count_for(end) {
+            let block = self.blocks[number].as_slice();
+            let first = start.max(number * BLOCK_SIZE) - number * BLOCK_SIZE;
+            let last = end.min(number * BLOCK_SIZE + block.len()) - number * BLOCK_SIZE;
+            let part = &block[first..last];
+            bytes.extend_from_slice(part)?;
+        }
+        Ok(bytes)
+    }
+
+    /// The bytes again.
+    pub(crate) fn copy(&self) -> Result<Blocks, AllocError>
+        ensures value { IfOk result (λ copy. copy ≡ self.now) }
+    {
+        let mut blocks = Vec::with_capacity(self.alloc, self.blocks.len())?;
+        for block in &self.blocks {
+            blocks.push(block.copy(self.alloc)?)?;
+        }
+        Ok(Blocks {
+            blocks,
+            size: self.size,
+            alloc: self.alloc,
+        })
+    }
+
+    /// The bytes from an offset on are these; a gap before them is zeros. Only the blocks that are written, and the last one
+    /// where the file grows, are touched. Where there is no memory, nothing changes; a file that doesn't grow needs
+    /// none.
+    pub(crate) fn write_at(&mut self, off: u32, bytes: &[u8]) -> Result<(), AllocError>
+        requires { off + length bytes.now < 2 ^ 32 }
+        ensures ok { OnOk result (self.new ≡ written off bytes.now self.old) }
+        ensures succeeds { off + length bytes.now ≤ length self.old → IsOk result }
+        ensures err { OnErr result (self.new ≡ self.old) }
+    {
+        let end_ = off + bytes.len() as u32;
+        if self.size < end_ {
+            self.grow(end_)?;
+        }
+        self.overwrite(off as usize, bytes);
+        Ok(())
+    }
+
+    /// The size is this: the file is cut, or has zeros behind it. Where there is no memory, nothing changes; a file
+    /// that doesn't grow needs none.
+    pub(crate) fn resize(&mut self, size: u32) -> Result<(), AllocError>
+        ensures ok { OnOk result (self.new ≡ resized size self.old) }
+        ensures succeeds { size ≤ length self.old → IsOk result }
+        ensures err { OnErr result (self.new ≡ self.old) }
+    {
+        if size <= self.size {
+            self.cut(size);
+            Ok(())
+        } else {
+            self.grow(size)
+        }
+    }
+
+    /// The first bytes alone.
+    fn cut(&mut self, size: u32)
+        requires { size ≤ length self.old }
+        ensures { self.new ≡ resized size self.old }
+    {
+        let count = count_for(size as usize);
+        self.blocks.truncate(count);
+        if 0 < count {
+            self.blocks[count - 1].cut(size as usize - (count - 1) * BLOCK_SIZE);
+        }
+        self.size = size;
+    }
+
+    /// Zeros behind the bytes, up to a size. All room is taken before the first change.
+    fn grow(&mut self, size: u32) -> Result<(), AllocError>
+        requires { length self.old ≤ size }
+        ensures ok { OnOk result (self.new ≡ resized size self.old) }
+        ensures err { OnErr result (self.new ≡ self.old) }
+    {
+        let mut added = zero_blocks(self.alloc, self.blocks.len(), size as usize)?;
+        self.blocks.reserve(added.len())?;
+        pad_last(&mut self.blocks, size as usize)?;
+        self.blocks.append(&mut added)?;
+        self.size = size;
+        Ok(())
+    }
+
+    /// These bytes in place of those that stand there.
+    fn overwrite(&mut self, off: usize, bytes: &[u8])
+        requires { off + length bytes.now ≤ length self.old }
+        ensures { self.new ≡ written off bytes.now self.old }
+    {
+        let _size = self.size;
+        let end_ = off + bytes.len();
+        for number in off / BLOCK_SIZE..count_for(end_) {
+            let first = off.max(number * BLOCK_SIZE);
+            let last = end_.min((number + 1) * BLOCK_SIZE);
+            let part = &bytes[first - off..last - off];
+            self.blocks[number].overwrite(first - number * BLOCK_SIZE, part);
+        }
+    }
+}
+
+/// How many blocks a file of that size has.
+fn count_for(size: usize) -> usize
+    requires { size < 2 ^ 33 }
+    ensures { result ≡ (size + 4095) / 4096 }
+{
+    (size + (BLOCK_SIZE - 1)) / BLOCK_SIZE
+}
+
+/// The blocks from one number on, of a file of that size that has nothing but zeros there.
+fn zero_blocks(alloc: Global, first: usize, size: usize) -> Result<Vec<Block>, AllocError>
+    requires { size < 2 ^ 33 }
+    ensures count { IfOk result (λ added. length added.items ≡ (size + 4095) / 4096 - first) }
+    ensures zeros { IfOk result (λ added. AreZeroBlocks added.items first size) }
+{
+    let mut added = Vec::new(alloc);
+    for number in first..count_for(size) {
+        let block = Block::zeros(alloc, BLOCK_SIZE.min(size - number * BLOCK_SIZE))?;
+        added.push(block)?;
+    }
+    Ok(added)
+}
+
+/// Zeros behind the last block, if there is one, up to where it is full or the file has that size.
+fn pad_last(blocks: &mut Vec<Block>, size: usize) -> Result<(), AllocError>
+    requires { 4096 * (length blocks.old.items - 1) ≤ size }
+    ensures ok { OnOk result (blocks.new.items ≡ slice_set blocks.old.items (length blocks.old.items - 1) (resized (min 4096 (size - 4096 * (length blocks.old.items - 1))) (slice_index_or blocks.old.items (length blocks.old.items - 1) []))) }
+    ensures room { vec_capacity blocks.new ≡ vec_capacity blocks.old }
+    ensures err { OnErr result (blocks.new.items ≡ blocks.old.items) }
+{
+    let count = blocks.len();
+    if 0 < count {
+        let last = BLOCK_SIZE.min(size - (count - 1) * BLOCK_SIZE);
+        blocks[count - 1].resize(last)?;
+    }
+    Ok(())
+}

@@ -1,0 +1,244 @@
+// What stands at a place of an i-table: a file or a directory.
+ghost use Rattle.std.specs.Prelude.{◌≡◌, ◌+◌, ◌<◌, ◌≤◌, ◌^◌, length, Some, None, IfOk, IsOk, IfErr, OnOk, OnErr, option_map};
+ghost use Rattle.std.specs.FinMap.{get};
+ghost use Rattle.su_node.specs.Inode.{new_inode, kind_of, size_of, has_no_names, names_of, bytes_of, within};
+ghost use Rattle.su_node.specs.Change.{Change.Named, Change.Linked, Change.Written, Change.Resized, change};
+ghost use Rattle.su_node.specs.Field.{Field.NameOf, Value.Nothing, file_value, field_value};
+ghost use Rattle.su_bytes.specs.declared.refusals.Refusal.TheVariants.{NoMemory};
+
+mod digests;
+
+use crate::blocks::Blocks;
+use std::alloc::Global;
+use std::collections::BTreeMap;
+use std::marker::Model;
+use su_bytes::{FileId, Kind, Name, Refusal};
+
+/// The content as it is stored.
+#[derive(Drop)]
+enum Stored {
+    Bytes(Blocks),
+    Names(BTreeMap<Name, FileId>),
+}
+
+/// A file or a directory: the file id that it was made for, how many names lead to it, and its bytes or names.
+#[derive(Drop)]
+pub struct Inode {
+    home: FileId,
+    links: u8,
+    content: Stored,
+    alloc: Global,
+}
+
+impl Model for Inode {
+    ghost use Rattle.su_node.specs.Inode.{Inode};
+    ghost use Rattle.su_node.specs.Code.{inode_code};
+
+    ghost Value = { Inode };
+
+    ghost coded = { inode_code };
+
+    ghost use Rattle.su_node.specs.View.{content_of};
+
+    ghost view = { λ i. record { home = i.home; links = i.links; content = content_of i.content } };
+}
+
+impl Inode {
+    /// An empty file or directory with one link.
+    pub fn new(alloc: Global, home: FileId, kind: Kind) -> Inode
+        ensures { result ≡ new_inode home kind }
+    {
+        let content = match kind {
+            Kind::File => Stored::Bytes(Blocks::new(alloc)),
+            Kind::Dir => Stored::Names(BTreeMap::new(alloc)),
+        };
+        Inode {
+            home,
+            links: 1,
+            content,
+            alloc,
+        }
+    }
+
+    /// The file id that it was made for.
+    pub fn home(&self) -> FileId
+        ensures { result ≡ self.now.home }
+    {
+        self.home
+    }
+
+    pub fn kind(&self) -> Kind
+        ensures { result ≡ kind_of self.now.content }
+    {
+        match &self.content {
+            Stored::Bytes(_) => Kind::File,
+            Stored::Names(_) => Kind::Dir,
+        }
+    }
+
+    /// How many names lead to it.
+    pub fn links(&self) -> u8
+        ensures { result ≡ self.now.links }
+    {
+        self.links
+    }
+
+    /// The size of a file in bytes; of a directory 0.
+    pub fn size(&self) -> u32
+        ensures { result ≡ size_of self.now.content }
+    {
+        match &self.content {
+            Stored::Bytes(bytes) => bytes.size(),
+            Stored::Names(_) => 0,
+        }
+    }
+
+    /// Whether no names stand in it.
+    pub fn is_bare(&self) -> bool
+        ensures { result ≡ has_no_names (Some self.now) }
+    {
+        match &self.content {
+            Stored::Bytes(_) => true,
+            Stored::Names(names) => names.len() == 0,
+        }
+    }
+
+    /// Where the name leads, in a directory that has it.
+    pub fn name_get(&self, name: &Name) -> Option<FileId>
+        ensures { file_value result ≡ field_value (Some self.now) (NameOf name.now) }
+    {
+        match &self.content {
+            Stored::Bytes(_) => None,
+            Stored::Names(names) => names.get(name).copied(),
+        }
+    }
+
+    /// The names by their bytes, and where each leads; none for a file. Only `NoMemory` can come.
+    pub fn names(&self) -> Result<Option<Vec<(Name, FileId)>>, Refusal>
+        ensures value { IfOk result (λ names. option_map (λ v. v.items) names ≡ names_of (Some self.now)) }
+        ensures refused { IfErr result (λ e. e ≡ NoMemory) }
+    {
+        let Stored::Names(names) = &self.content else {
+            return Ok(None);
+        };
+        let mut list = Vec::with_capacity(self.alloc, names.len())?;
+        for (name, file) in names {
+            list.push((name.clone()?, *file))?;
+        }
+        Ok(Some(list))
+    }
+
+    /// The bytes of a file; none for a directory. Only `NoMemory` can come.
+    pub fn content(&self) -> Result<Option<Vec<u8>>, Refusal>
+        ensures value { IfOk result (λ bytes. option_map (λ v. v.items) bytes ≡ bytes_of (Some self.now)) }
+        ensures refused { IfErr result (λ e. e ≡ NoMemory) }
+    {
+        match &self.content {
+            Stored::Bytes(bytes) => Ok(Some(bytes.content()?)),
+            Stored::Names(_) => Ok(None),
+        }
+    }
+
+    /// The bytes of a file within a range; none for a directory. Only the blocks in the range are read. Only `NoMemory` can
+    /// come.
+    pub fn read_at(&self, off: u64, len: u64) -> Result<Option<Vec<u8>>, Refusal>
+        ensures value { IfOk result (λ bytes. option_map (λ v. v.items) bytes ≡ option_map (within off len) (bytes_of (Some self.now))) }
+        ensures refused { IfErr result (λ e. e ≡ NoMemory) }
+    {
+        match &self.content {
+            Stored::Bytes(bytes) => Ok(Some(bytes.read(off, len)?)),
+            Stored::Names(_) => Ok(None),
+        }
+    }
+
+    /// The same inode again. Only `NoMemory` can come.
+    pub fn copy(&self) -> Result<Inode, Refusal>
+        ensures value { IfOk result (λ copy. copy ≡ self.now) }
+        ensures refused { IfErr result (λ e. e ≡ NoMemory) }
+    {
+        let content = match &self.content {
+            Stored::Bytes(bytes) => Stored::Bytes(bytes.copy()?),
+            Stored::Names(names) => Stored::Names(copy_names(self.alloc, names)?),
+        };
+        Ok(Inode {
+            home: self.home,
+            links: self.links,
+            content,
+            alloc: self.alloc,
+        })
+    }
+
+    /// The name leads there from now on; a file stays as it is. On `NoMemory`, which alone can come, nothing changes. Only a
+    /// name that isn't there takes memory.
+    pub fn name_set(&mut self, name: Name, file: FileId) -> Result<(), Refusal>
+        ensures ok { OnOk result (change (Named name (Some file)) (Some self.old) ≡ Some self.new) }
+        ensures refused { IfErr result (λ e. e ≡ NoMemory) }
+        ensures absent { OnErr result (field_value (Some self.old) (NameOf name) ≡ Nothing) }
+        ensures err { OnErr result (self.new ≡ self.old) }
+    {
+        if let Stored::Names(names) = &mut self.content {
+            names.insert(name, file)?;
+        }
+        Ok(())
+    }
+
+    /// The name is gone from now on.
+    pub fn name_remove(&mut self, name: &Name)
+        ensures { change (Named name.now None) (Some self.old) ≡ Some self.new }
+    {
+        if let Stored::Names(names) = &mut self.content {
+            names.remove(name);
+        }
+    }
+
+    /// The bytes of a file from an offset on are these; a gap before them is zeros, and a directory stays as it is. Only the
+    /// blocks are touched that hold these bytes or the gap. On `NoMemory`, which alone can come, nothing changes.
+    pub fn write_at(&mut self, off: u32, bytes: &[u8]) -> Result<(), Refusal>
+        requires { off + length bytes.now < 2 ^ 32 }
+        ensures ok { OnOk result (change (Written (size_of self.old.content) off bytes.now) (Some self.old) ≡ Some self.new) }
+        ensures refused { IfErr result (λ e. e ≡ NoMemory) }
+        ensures succeeds { off + length bytes.now ≤ size_of self.old.content → IsOk result }
+        ensures err { OnErr result (self.new ≡ self.old) }
+    {
+        if let Stored::Bytes(blocks) = &mut self.content {
+            blocks.write_at(off, bytes)?;
+        }
+        Ok(())
+    }
+
+    /// The file has that many bytes: it is cut, or has zeros behind it, and a directory stays as it is. Only the last block and
+    /// those that come or go are touched. On `NoMemory`, which alone can come, nothing changes; a file that doesn't grow needs
+    /// no memory.
+    pub fn resize(&mut self, size: u32) -> Result<(), Refusal>
+        ensures ok { OnOk result (change (Resized (size_of self.old.content) size) (Some self.old) ≡ Some self.new) }
+        ensures succeeds { size ≤ size_of self.old.content → IsOk result }
+        ensures refused { IfErr result (λ e. e ≡ NoMemory) }
+        ensures err { OnErr result (self.new ≡ self.old) }
+    {
+        if let Stored::Bytes(blocks) = &mut self.content {
+            blocks.resize(size)?;
+        }
+        Ok(())
+    }
+
+    /// So many names lead to it from now on.
+    pub fn set_links(&mut self, links: u8)
+        ensures { change (Linked links) (Some self.old) ≡ Some self.new }
+    {
+        self.links = links;
+    }
+}
+
+fn copy_names(
+    alloc: Global,
+    names: &BTreeMap<Name, FileId>,
+) -> Result<BTreeMap<Name, FileId>, Refusal>
+    ensures value { IfOk result (λ copy. copy.entries ≡ names.now.entries) }
+    ensures refused { IfErr result (λ e. e ≡ NoMemory) }
+{
+    let mut copy = BTreeMap::new(alloc);
+    for (name, file) in names {
+        copy.insert(name.clone()?, *file)?;
+    }
+    Ok(copy)
+}

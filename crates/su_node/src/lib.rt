@@ -1,0 +1,9 @@
+//! What stands at one place of an i-table: a file with its bytes, or a directory with its names.
+#![tactic(auto)]
+
+mod blocks;
+mod inodes;
+#[cfg(test)]
+mod tests;
+
+pub use inodes::Inode;

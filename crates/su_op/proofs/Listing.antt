@@ -1,0 +1,39 @@
+-- The table of cells, row by row.
+use Rattle.std.proofs.Common.{◌≡◌, ℕ, ◌+◌, Bool, true, false, ◌∷◌, [], ◌++◌, map, length, nat_le, nat_eq, Option, refl, ap, ◌∙◌}
+use Rattle.su_op.specs.declared.areas.Area.TheVariants.{Inode as InodeArea}
+use Rattle.su_bytes.specs.declared.file_ids.FileId.{FileId}
+use Rattle.su_bytes.specs.declared.file_ids.FileId.TheVariants.{User, Group}
+use Rattle.su_table.specs.Place.{Place}
+use Rattle.su_op.specs.Footprint.{areas_of, written_parts, resized_parts}
+use Rattle.su_op.specs.Rule.{entry_edits, entry_areas}
+use Rattle.su_op.specs.Unlinking.{unlink_edits}
+use Rattle.su_op.specs.Table.{name, kind, links, size, CreateRow, unlinked, UnlinkRow, written, WriteRow, truncated, TruncateRow}
+
+entry_written : (f : FileId) (v : Option Place) → areas_of (entry_edits f v) ≡ entry_areas f
+entry_written (User u i) v = refl
+entry_written (Group g k) v = refl
+
+pub create_row : CreateRow
+create_row a c d = (refl, ap (λ w. name c.name d ∷ kind (a, c.body) ∷ links (a, c.body) ∷ size (a, c.body) ∷ w) (entry_written c.file _))
+
+pub unlink_row : UnlinkRow
+unlink_row count u d f = (refl, go (nat_le 2 count) u.file)
+  where
+    go : (b : Bool) (file : FileId) → name u.name d ∷ areas_of (unlink_edits b count file f) ≡ unlinked b (record u { file = file }) d f
+    go true file = refl
+    go false (User v i) = refl
+    go false (Group g k) = refl
+
+pub write_row : WriteRow
+write_row count w f = (refl, go (nat_le (w.off + length w.bytes) count))
+  where
+    go : (b : Bool) → map (InodeArea f) (written_parts b count w.off (w.off + length w.bytes)) ++ [] ≡ written b count w.off (w.off + length w.bytes) f
+    go true = refl
+    go false = refl
+
+pub truncate_row : TruncateRow
+truncate_row count t f = (refl, go (nat_eq count t.size))
+  where
+    go : (b : Bool) → map (InodeArea f) (resized_parts b count t.size) ++ [] ≡ truncated b count t.size f
+    go true = refl
+    go false = refl

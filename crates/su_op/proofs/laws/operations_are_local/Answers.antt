@@ -1,0 +1,5 @@
+use Rattle.su_op.proofs.Storing.{store_lawful}
+use Rattle.su_op.proofs.laws.operations_are_local.Goals as goal
+
+pub returns : goal.returns
+returns c = store_lawful

@@ -1,0 +1,77 @@
+-- The table of cells: what each operation reads besides, and what it writes. Of each file that is named, `d` and `f` are
+-- the places of the bodies of the directory and of the file. What is written is also read.
+use Rattle.std.specs.Prelude.{◌≡◌, ℕ, ◌+◌, ◌-◌, ◌/◌, Bool, true, false, List, [], ◌∷◌, ◌++◌, length, min, max, nat_eq, nat_le}
+use Rattle.su_node.specs.Name.{Name}
+use Rattle.su_table.specs.Place.{Place}
+use Rattle.su_op.specs.declared.areas.Part.TheVariants.{Kind as KindPart, Links as LinksPart, Size as SizePart, Name as NamePart, Blocks as BlocksPart, Whole as WholePart}
+use Rattle.su_op.specs.declared.areas.Area.{Area}
+use Rattle.su_op.specs.declared.areas.Area.TheVariants.{Inode as InodeArea}
+use Rattle.su_op.specs.declared.creation.Create.{Create}
+use Rattle.su_op.specs.declared.truncation.Truncate.{Truncate}
+use Rattle.su_op.specs.declared.unlinking.Unlink.{Unlink}
+use Rattle.su_op.specs.Footprint.{run}
+use Rattle.su_op.specs.Rule.{entry_areas, writes_of}
+use Rattle.su_op.specs.Creation.{create_plan}
+use Rattle.su_op.specs.Unlinking.{unlink_plan}
+use Rattle.su_op.specs.Writing.{Writing, write_plan}
+use Rattle.su_op.specs.Truncation.{truncate_plan}
+
+abbrev pub kind : Place → Area
+kind p = InodeArea p KindPart
+
+abbrev pub links : Place → Area
+links p = InodeArea p LinksPart
+
+abbrev pub size : Place → Area
+size p = InodeArea p SizePart
+
+abbrev pub name : Name → Place → Area
+name x p = InodeArea p (NamePart x)
+
+abbrev pub whole : Place → Area
+whole p = InodeArea p WholePart
+
+-- reads the directory's kind and entry; writes the name at the directory, kind, links and size of the new inode, and the
+-- new file's entry
+abbrev pub CreateRow : Type 0
+CreateRow = (a : ℕ) (c : Create) (d : Place)
+    → ((create_plan a c d).reads ≡ kind d ∷ entry_areas c.dir)
+    × (writes_of (create_plan a c d) ≡ name c.name d ∷ kind (a, c.body) ∷ links (a, c.body) ∷ size (a, c.body) ∷ entry_areas c.file)
+
+-- what an unlink writes of a file that has further links, or has not
+abbrev pub unlinked : Bool → Unlink → Place → Place → List Area
+unlinked true u d f = name u.name d ∷ links f ∷ []
+unlinked false u d f = name u.name d ∷ entry_areas u.file ++ whole f ∷ []
+
+-- reads kind and entry of the directory and of the file; writes the name at the directory, and of the file the links where
+-- there are two or more, else the whole inode and its entry
+abbrev pub UnlinkRow : Type 0
+UnlinkRow = (count : ℕ) (u : Unlink) (d f : Place)
+    → ((unlink_plan count u d f).reads ≡ kind d ∷ entry_areas u.dir ++ kind f ∷ entry_areas u.file)
+    × (writes_of (unlink_plan count u d f) ≡ unlinked (nat_le 2 count) u d f)
+
+abbrev pub blocks : ℕ → ℕ → Place → Area
+blocks first last p = InodeArea p (BlocksPart (run first last))
+
+-- a write of the bytes from `off` up to `end`, within the file's size or beyond it
+abbrev pub written : Bool → ℕ → ℕ → ℕ → Place → List Area
+written true count off end f = blocks (off / 4096) ((end - 1) / 4096) f ∷ []
+written false count off end f = size f ∷ blocks (min off count / 4096) ((end - 1) / 4096) f ∷ []
+
+-- reads the file's size, kind and entry; writes the blocks that it touches, and where the file grows its size, and the blocks
+-- from the old end on
+abbrev pub WriteRow : Type 0
+WriteRow = (count : ℕ) (w : Writing) (f : Place)
+    → ((write_plan count w f).reads ≡ size f ∷ kind f ∷ entry_areas w.file)
+    × (writes_of (write_plan count w f) ≡ written (nat_le (w.off + length w.bytes) count) count w.off (w.off + length w.bytes) f)
+
+-- a truncate to the same size, or to another
+abbrev pub truncated : Bool → ℕ → ℕ → Place → List Area
+truncated true count to f = []
+truncated false count to f = size f ∷ blocks (min count to / 4096) ((max count to - 1) / 4096) f ∷ []
+
+-- reads the file's size, kind and entry; writes the size, and the blocks between the old end and the new one
+abbrev pub TruncateRow : Type 0
+TruncateRow = (count : ℕ) (t : Truncate) (f : Place)
+    → ((truncate_plan count t f).reads ≡ size f ∷ kind f ∷ entry_areas t.file)
+    × (writes_of (truncate_plan count t f) ≡ truncated (nat_eq count t.size) count t.size f)

@@ -1,0 +1,72 @@
+// What an operation reads and writes.
+ghost use Rattle.std.specs.Prelude.{◌≡◌, ◌-◌, ◌/◌, ◌++◌, ◌∷◌, [], IfOk, IfErr, OnOk};
+ghost use Rattle.su_op.specs.Footprint.{run};
+ghost use Rattle.su_op.specs.Rule.{entry_areas, file_areas};
+ghost use Rattle.su_bytes.specs.declared.refusals.Refusal.TheVariants.{NoMemory};
+
+use crate::areas::{Area, BlockRun, Part};
+use std::alloc::Global;
+use su_bytes::{FileId, Inum, Refusal, User};
+
+/// The size in bytes of each block of a file but the last.
+const BLOCK_SIZE: u32 = 4096;
+
+/// The cells that an accepted operation reads, and those that it writes. What is written is also read.
+#[derive(Debug, Drop)]
+pub struct Footprint {
+    pub reads: Vec<Area>,
+    pub writes: Vec<Area>,
+}
+
+impl Footprint {
+    /// Of what is read besides, and what is written. Only `NoMemory` can come.
+    pub(crate) fn new(besides: Vec<Area>, writes: Vec<Area>) -> Result<Footprint, Refusal>
+        ensures reads { IfOk result (λ footprint. footprint.reads.items ≡ besides.items ++ writes.items) }
+        ensures writes { IfOk result (λ footprint. footprint.writes.items ≡ writes.items) }
+        ensures refused { IfErr result (λ e. e ≡ NoMemory) }
+    {
+        let mut reads = besides;
+        let mut written = writes.clone()?;
+        reads.append(&mut written)?;
+        Ok(Footprint { reads, writes })
+    }
+}
+
+/// The entry of a group file; a user's file has none.
+pub(crate) fn push_entry(areas: &mut Vec<Area>, file: FileId) -> Result<(), Refusal>
+    ensures ok { OnOk result (areas.new.items ≡ areas.old.items ++ entry_areas file) }
+    ensures refused { IfErr result (λ e. e ≡ NoMemory) }
+{
+    match file {
+        FileId::User(..) => Ok(()),
+        FileId::Group(group, number) => {
+            areas.push(Area::Entry((group, number)))?;
+            Ok(())
+        }
+    }
+}
+
+/// The cells that show that the file's body stands there.
+pub(crate) fn push_file(
+    areas: &mut Vec<Area>,
+    file: FileId,
+    place: (User, Inum),
+) -> Result<(), Refusal>
+    ensures ok { OnOk result (areas.new.items ≡ areas.old.items ++ file_areas file place) }
+    ensures refused { IfErr result (λ e. e ≡ NoMemory) }
+{
+    areas.push(Area::Inode(place, Part::Kind))?;
+    push_entry(areas, file)
+}
+
+/// The blocks of the bytes from an offset up to an end.
+pub(crate) fn run(off: u32, end_: u32) -> BlockRun
+    ensures { result ≡ run (off / 4096) ((end_ - 1) / 4096) }
+{
+    let first = off / BLOCK_SIZE;
+    let last = end_.saturating_sub(1) / BLOCK_SIZE;
+    BlockRun {
+        first,
+        more: last.saturating_sub(first),
+    }
+}

@@ -1,0 +1,7 @@
+// Limits of what operations make.
+
+/// The most bytes of one write.
+pub const LARGEST_WRITE: usize = 65_536;
+
+/// The most bytes of a file.
+pub const LARGEST_FILE: u32 = 1_048_576;

@@ -1,0 +1,10 @@
+pub mod Script
+pub mod Range
+pub mod Fault
+pub mod Spoken
+pub mod SpokenFile
+pub mod Lines
+pub mod Answer
+pub mod Session
+pub mod Transcript
+pub mod Turn

@@ -1,0 +1,101 @@
+// The texts that answer a line.
+ghost use Rattle.std.specs.Prelude.{◌≡◌, ◌++◌, Ok, IfOk, OnOk};
+ghost use Rattle.su_script.specs.Answer.{answer_text, refused_text, name_text, listing_text, bytes_text, inode_text, digest_line, kind_text, bad_text};
+
+use std::alloc::{AllocError, Global};
+use su_bytes::{Digest, FileId, Inum, Kind, Name, Refusal, User};
+use su_node::Inode;
+
+/// `ok N`, or the refusal.
+pub fn answered(alloc: Global, answer: Result<u64, Refusal>) -> Result<Vec<u8>, AllocError>
+    ensures { IfOk result (λ text. text.items ≡ answer_text answer) }
+{
+    match answer {
+        Ok(number) => {
+            let text = format!(in alloc; "ok {number}\n")?;
+            Vec::from_slice(alloc, text.as_bytes())
+        }
+        Err(refusal) => refused(alloc, refusal),
+    }
+}
+/// `no NUMBER NAME ARGS`.
+pub fn refused(alloc: Global, refusal: Refusal) -> Result<Vec<u8>, AllocError>
+    ensures { IfOk result (λ text. text.items ≡ refused_text refusal) }
+{
+    let text = format!(in alloc; "no {refusal}\n")?;
+    Vec::from_slice(alloc, text.as_bytes())
+}
+
+/// A line for each name.
+pub fn listed(alloc: Global, names: &[(Name, FileId)]) -> Result<Vec<u8>, AllocError>
+    ensures { IfOk result (λ text. text.items ≡ listing_text (Ok names.now)) }
+{
+    let mut text = Vec::new(alloc);
+    for entry in names {
+        push_name(alloc, &mut text, entry)?;
+    }
+    Ok(text)
+}
+
+/// `NAME FILE`.
+fn push_name(alloc: Global, text: &mut Vec<u8>, entry: &(Name, FileId)) -> Result<(), AllocError>
+    ensures { OnOk result (text.new.items ≡ text.old.items ++ name_text entry.now) }
+{
+    let file = entry.1;
+    let file = format!(in alloc; " {file}\n")?;
+    text.extend_from_slice(entry.0.as_bytes())?;
+    text.extend_from_slice(file.as_bytes())?;
+    Ok(())
+}
+
+/// `line N: bad`.
+pub fn bad(alloc: Global, number: u64) -> Result<Vec<u8>, AllocError>
+    ensures { IfOk result (λ text. text.items ≡ bad_text number) }
+{
+    let text = format!(in alloc; "line {number}: bad\n")?;
+    Vec::from_slice(alloc, text.as_bytes())
+}
+
+/// The bytes in hex.
+pub fn in_hex(alloc: Global, bytes: &[u8]) -> Result<Vec<u8>, AllocError>
+    ensures { IfOk result (λ text. text.items ≡ bytes_text (Ok bytes.now)) }
+{
+    let digits = hex::encode(alloc, bytes)?;
+    let mut text = Vec::from_slice(alloc, digits.as_bytes())?;
+    text.push(b'\n')?;
+    Ok(text)
+}
+
+/// `file size 5 links 1 at U0:3`, of what stands at that number of the user's i-table.
+pub fn described(
+    alloc: Global,
+    user: User,
+    number: Inum,
+    inode: &Inode,
+) -> Result<Vec<u8>, AllocError>
+    ensures { IfOk result (λ text. text.items ≡ inode_text (user, number) inode.now) }
+{
+    let kind = kind_word(inode.kind());
+    let size = inode.size();
+    let links = inode.links();
+    let stands = FileId::User(user, number);
+    let text = format!(in alloc; "{kind} size {size} links {links} at {stands}\n")?;
+    Vec::from_slice(alloc, text.as_bytes())
+}
+
+fn kind_word(kind: Kind) -> &'static str
+    ensures { result.now ≡ kind_text kind }
+{
+    match kind {
+        Kind::File => "file",
+        Kind::Dir => "dir",
+    }
+}
+
+/// The digest, 64 hex digits.
+pub fn digest_shown(alloc: Global, digest: Digest) -> Result<Vec<u8>, AllocError>
+    ensures { IfOk result (λ text. text.items ≡ digest_line digest) }
+{
+    let text = format!(in alloc; "{digest}\n")?;
+    Vec::from_slice(alloc, text.as_bytes())
+}

@@ -1,0 +1,145 @@
+// Reading lines from any reader, as they come.
+ghost use Rattle.std.specs.Prelude.{◌≡◌, ℕ, ◌<◌, ◌≤◌, [], drop, length, vec_len, Some, true, false, IfOk, OnOk, MatchOption, slice_get, take};
+ghost use Rattle.std.specs.Bool.{OnFalse};
+ghost use Rattle.std.specs.Io.KnownBytes.{prepend_known};
+ghost use Rattle.su_script.specs.Lines.{lacks, Takes, Refills, Reads};
+
+use std::alloc::Global;
+use std::io::{ErrorKind, Read};
+
+/// Bytes of the longest line, its end not counted.
+pub const LONGEST_LINE: usize = 140_000;
+
+/// How often a reader is read at most.
+pub const MOST_READS: u32 = 10_000_000;
+
+/// Bytes asked for in one read.
+const CHUNK: usize = 4096;
+
+/// The lines could not be read: the reader failed, or never ended, or there was no memory for a line.
+#[derive(Clone, Copy, Debug, PartialEq, Eq)]
+pub struct ReadFault;
+
+/// What comes next in a script.
+#[derive(Debug, Drop)]
+pub enum NextLine {
+    /// A line, without its end.
+    Line(Vec<u8>),
+    /// A line of more than `LONGEST_LINE` bytes, which is not kept.
+    TooLong,
+    /// No line is left.
+    End,
+}
+
+/// A reader's lines. What was read beyond a line is kept for the next.
+#[derive(Drop)]
+pub struct LineReader<R: Read + Drop> {
+    reader: R,
+    filled: Vec<u8>,
+    start: usize,
+    reads_left: u32,
+    alloc: Global,
+    ghost within: { start ≤ vec_len filled },
+}
+
+impl<R: Read + Drop> LineReader<R> {
+    pub fn new(alloc: Global, reader: R) -> LineReader<R>
+        ensures { prepend_known (drop result.start result.filled.items) (R.remaining result.reader) ≡ R.remaining reader }
+    {
+        LineReader {
+            reader,
+            filled: Vec::new(alloc),
+            start: 0,
+            reads_left: MOST_READS,
+            alloc,
+        }
+    }
+
+    /// The next line. Waits for no more than is needed for it.
+    pub fn next_line(&mut self) -> Result<NextLine, ReadFault>
+        ensures { IfOk result (λ next. Reads next (prepend_known (drop self.old.start self.old.filled.items) (R.remaining self.old.reader)) (prepend_known (drop self.new.start self.new.filled.items) (R.remaining self.new.reader))) }
+    {
+        let mut line = Vec::new(self.alloc);
+        loop {
+            let ended = self.take(&mut line)?;
+            if LONGEST_LINE < line.len() {
+                return Ok(NextLine::TooLong);
+            }
+            if ended {
+                return Ok(NextLine::Line(line));
+            }
+            if !self.refill()? {
+                if line.is_empty() {
+                    return Ok(NextLine::End);
+                }
+                return Ok(NextLine::Line(line));
+            }
+        }
+    }
+
+    /// Moves what was read to the line, up to the end of the line, and takes that end. Whether the line has ended.
+    fn take(&mut self, line: &mut Vec<u8>) -> Result<bool, ReadFault>
+        ensures taken { IfOk result (λ ended. Takes ended line.old.items line.new.items (drop self.old.start self.old.filled.items) (drop self.new.start self.new.filled.items)) }
+        ensures reader { R.remaining self.new.reader ≡ R.remaining self.old.reader }
+        ensures reads { self.new.reads_left ≡ self.old.reads_left }
+        ensures empty { IfOk result (λ ended. OnFalse ended (drop self.new.start self.new.filled.items ≡ [])) }
+    {
+        let rest = &self.filled[self.start..];
+        match first_place(rest, b'\n') {
+            Some(end) => {
+                line.extend_from_slice(&rest[..end]).map_err(|_| ReadFault)?;
+                self.start += end + 1;
+                Ok(true)
+            }
+            None => {
+                line.extend_from_slice(rest).map_err(|_| ReadFault)?;
+                self.start = self.filled.len();
+                Ok(false)
+            }
+        }
+    }
+
+    /// Reads once, where all that was read is taken. Whether there may be more.
+    fn refill(&mut self) -> Result<bool, ReadFault>
+        requires { drop self.old.start self.old.filled.items ≡ [] }
+        ensures bytes { IfOk result (λ more. Refills more (R.remaining self.old.reader) (prepend_known (drop self.new.start self.new.filled.items) (R.remaining self.new.reader))) }
+        ensures reads { OnOk result (self.new.reads_left < self.old.reads_left) }
+    {
+        if self.reads_left == 0 {
+            return Err(ReadFault);
+        }
+        self.reads_left -= 1;
+        let mut chunk = [0u8; CHUNK];
+        match self.reader.read(&mut chunk) {
+            Ok(count) => {
+                self.start = 0;
+                self.filled.clear();
+                self.filled
+                    .extend_from_slice(&chunk[..count])
+                    .map_err(|_| ReadFault)?;
+                Ok(0 < count)
+            }
+            Err(error) => {
+                if error.kind() == ErrorKind::Interrupted {
+                    Ok(true)
+                } else {
+                    Err(ReadFault)
+                }
+            }
+        }
+    }
+}
+
+/// Where a byte stands first.
+fn first_place(bytes: &[u8], byte: u8) -> Option<usize>
+    ensures { MatchOption result
+        (lacks byte bytes.now ≡ true)
+        (λ place. (slice_get bytes.now place ≡ Some byte) × (lacks byte (take place bytes.now) ≡ true)) }
+{
+    for (index, other) in bytes.iter().enumerate() {
+        if *other == byte {
+            return Some(index);
+        }
+    }
+    None
+}

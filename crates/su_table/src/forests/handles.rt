@@ -1,0 +1,45 @@
+// What stands for all that a principal has: the digest of an i-table, computed from nothing.
+ghost use Rattle.std.specs.Prelude.{◌≡◌, IfOk, IfErr};
+ghost use Rattle.su_table.specs.Handle.{handle};
+ghost use Rattle.su_bytes.specs.declared.refusals.Refusal.TheVariants.{NoMemory};
+
+#[cfg(test)]
+mod tests;
+
+use super::Forest;
+use su_bytes::{Digest, Group, Principal, Refusal, User};
+use su_tree::digest_of;
+
+impl Forest {
+    /// The i-handle of a user; that of an empty table where the user has nothing. All inodes of the user are hashed again.
+    /// Only `NoMemory` can come.
+    pub fn i_handle(&self, user: User) -> Result<Digest, Refusal>
+        ensures value { IfOk result (λ d. d ≡ handle self.now (Principal.User user)) }
+        ensures refused { IfErr result (λ e. e ≡ NoMemory) }
+    {
+        let mut pairs = Vec::new(self.alloc);
+        for (place, inode) in &self.inodes {
+            let (owner, number) = *place;
+            if owner == user {
+                let digest = inode.digest()?;
+                pairs.push((number.number(), digest))?;
+            }
+        }
+        Ok(digest_of(&pairs))
+    }
+
+    /// The i-handle of a group; that of an empty table where the group has nothing. Only `NoMemory` can come.
+    pub fn group_handle(&self, group: Group) -> Result<Digest, Refusal>
+        ensures value { IfOk result (λ d. d ≡ handle self.now (Principal.Group group)) }
+        ensures refused { IfErr result (λ e. e ≡ NoMemory) }
+    {
+        let mut pairs = Vec::new(self.alloc);
+        for (place, body) in &self.entries {
+            let (owner, number) = *place;
+            if owner == group {
+                pairs.push((number.number(), *body))?;
+            }
+        }
+        Ok(digest_of(&pairs))
+    }
+}

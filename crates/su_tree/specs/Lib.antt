@@ -1,0 +1,9 @@
+pub mod Bits
+pub mod Kind
+pub mod Tree
+pub mod Digest
+pub mod Number
+pub mod Name
+pub mod Value
+pub mod Collision
+pub mod Laws

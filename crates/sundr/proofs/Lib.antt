@@ -1,4 +1,0 @@
-pub mod Numbers
-pub mod Spelling
-pub mod Broken
-pub mod Turning
