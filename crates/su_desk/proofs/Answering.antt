@@ -14,8 +14,10 @@ use Rattle.su_desk.specs.declared.entries.Entry.{Entry}
 use Rattle.su_bytes.specs.declared.refusals.Refusal.TheVariants.{NoUser, NoOperation, NotOperation, AlreadyUndone, NotAuthor, Blocked}
 use Rattle.su_desk.specs.History.{tree, entry_at, undoer, last_live}
 use Rattle.su_desk.specs.declared.kept.KeptOperation.{KeptOperation}
+use Rattle.su_desk.specs.Applied.{written}
 use Rattle.su_desk.specs.Keeping.{Keeps}
-use Rattle.su_desk.proofs.Leading.{keeps_undo, entry_within, last_kept, none_kept, last_not_undone}
+use Rattle.su_desk.proofs.Applying.{entry_within}
+use Rattle.su_desk.proofs.Leading.{keeps_undo, last_written, last_kept, none_kept, last_not_undone}
 use Rattle.su_desk.specs.Answer.{blocker, blocked_refusal, undone_refusal, change_refusal, entry_refusal, undo_refusal, refusal_of, reply, answer}
 
 pub answer_done : (ro : Membership) (h : List Entry) (a : ℕ) (c : Change) → refusal_of ro h a c ≡ None → answer ro h a c ≡ Ok (length h + 1)
@@ -96,3 +98,10 @@ pub undone_last : (ro : Membership) (h : List Entry) (ks : List KeptOperation) (
 undone_last ro h ks k T T' a n keeps e accepted put =
     let u = undo_accepted ro h a n accepted in
     keeps_undo ro h (take (length ks - 1) ks) T T' a n k (subst (λ xs. Keeps ro h xs T) (ends_with ks k e) keeps) (last_number ro h ks k T keeps e ∙ sym u.last) (entry_within h n u.entry u.there) put
+
+-- what the undo of what is kept last writes
+pub undone_written : (ro : Membership) (h : List Entry) (ks : List KeptOperation) (k : KeptOperation) (T : Tree) (a n : ℕ) → Keeps ro h ks T → slice_get ks (length ks - 1) ≡ Some k → undo_refusal ro h a n ≡ None
+    → k.footprint.writes.items ≡ written ro h n
+undone_written ro h ks k T a n keeps e accepted =
+    let u = undo_accepted ro h a n accepted in
+    last_written ro h (take (length ks - 1) ks) T n k (subst (λ xs. Keeps ro h xs T) (ends_with ks k e) keeps) (last_number ro h ks k T keeps e ∙ sym u.last)

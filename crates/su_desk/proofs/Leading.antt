@@ -1,7 +1,6 @@
 -- What a desk keeps leads from the first tree to its forest, step by step, and stays so with each entry.
-use Rattle.std.proofs.Common.{◌≡◌, ℕ, ◌+◌, ◌-◌, ◌<◌, ◌≤◌, ◌||◌, Bool, true, false, not, cond, List, [], ◌∷◌, ◌++◌, map, length, nat_eq, None, Some, refl, sym, ap, ◌∙◌, subst, arith, slice_get, length-append}
+use Rattle.std.proofs.Common.{◌≡◌, ℕ, ◌+◌, ◌<◌, ◌≤◌, ◌||◌, Bool, true, false, not, cond, List, [], ◌∷◌, ◌++◌, map, length, nat_eq, None, Some, refl, sym, ap, ◌∙◌, subst, arith, length-append}
 use Rattle.std.specs.Option.{is_none}
-use Rattle.std.proofs.lemmas.Option.{slice_get_within}
 use Rattle.std.specs.List.{filter}
 use Rattle.su_bytes.specs.Membership.{Membership}
 use Rattle.su_table.specs.Tree.{Tree, genesis}
@@ -9,7 +8,7 @@ use Rattle.su_op.specs.declared.operations.Op.{Op}
 use Rattle.su_op.specs.declared.operations.Change.TheVariants.{Do, Undo}
 use Rattle.su_op.specs.Operation.{why, effect}
 use Rattle.su_desk.specs.declared.entries.Entry.{Entry}
-use Rattle.su_desk.specs.History.{Turn, turns_from, undoes, is_undone, live, live_numbers, replay, tree, entry_at, undoer_from, undoer, last_of, last_live}
+use Rattle.su_desk.specs.History.{Turn, turns_from, undoes, is_undone, live, live_numbers, replay, tree, undoer_from, undoer, last_of, last_live}
 use Rattle.su_desk.specs.declared.kept.KeptOperation.{KeptOperation}
 use Rattle.su_op.specs.Area.{has}
 use Rattle.su_op.specs.Soundness.{Sound}
@@ -17,7 +16,9 @@ use Rattle.su_op.specs.Store.{Action}
 use Rattle.su_op.proofs.Storing.{store_lawful}
 use Rattle.su_inverse.specs.Kept.{IsPutBack}
 use Rattle.su_inverse.proofs.Writing.{put_back_after}
-use Rattle.su_desk.specs.Keeping.{Fits, Leads, Keeps}
+use Rattle.su_desk.specs.Keeping.{Fits, Leads, AreAsApplied, Keeps}
+use Rattle.su_desk.specs.Applied.{written}
+use Rattle.su_desk.proofs.Applying.{all_applied_further, applied_added, applied_now, applied_front, written_kept}
 use Rattle.su_desk.proofs.Turns.{Rising, rising_live, last_taken_out, is_undone-append, live-do, live-undo}
 
 -- ---- lists of operations and what is kept of them
@@ -96,7 +97,7 @@ numbers_kept ro h ks T keeps = numbers_led ro genesis T (live h) ks keeps.leads
 
 -- an empty history
 pub keeps_nothing : (ro : Membership) → Keeps ro [] [] genesis
-keeps_nothing ro = record { leads = refl; past = λ n l. refl }
+keeps_nothing ro = record { leads = refl; applied = tt; past = λ n l. refl }
 
 -- one operation more
 pub keeps_do : (ro : Membership) (h : List Entry) (ks : List KeptOperation) (T : Tree) (a : ℕ) (op : Op) (k : KeptOperation) → Keeps ro h ks T
@@ -106,6 +107,8 @@ keeps_do ro h ks T a op k keeps fits =
     let t : Turn = record { number = length h + 1; author = a; op = op } in
     record {
       leads = subst (λ ts. Leads ro genesis ts (ks ++ k ∷ []) (effect ro T a op)) (sym (live-do h a op (keeps.past (length h + 1) (omega arith)))) (led_further ro genesis T (live h) ks t k keeps.leads fits);
+      applied = subst (λ ts. AreAsApplied ro (h ++ record { author = a; change = Do op } ∷ []) ts (ks ++ k ∷ [])) (sym (live-do h a op (keeps.past (length h + 1) (omega arith))))
+          (applied_added ro (h ++ record { author = a; change = Do op } ∷ []) (live h) ks t k (all_applied_further ro h _ (live h) ks keeps.applied) (applied_now ro h T a op k (tree_kept ro h ks T keeps) fits.reads fits.writes));
       past = λ n l. is_undone-append h (record { author = a; change = Do op }) n ∙ ap (λ b. b || false) (keeps.past n (let more = length-append h (record { author = a; change = Do op } ∷ []) in omega arith));
     }
 
@@ -124,6 +127,7 @@ keeps_undo ro h ks T T' a n k keeps number within put =
     ∙ last_taken_out 0 r.front r.last (subst (Rising 0) r.whole (rising_live h)) in
     record {
       leads = subst (λ ts. Leads ro genesis ts ks T') (sym left) (subst (λ B. Leads ro genesis r.front ks B) (sym (put r.before r.back)) r.leads);
+      applied = subst (λ ts. AreAsApplied ro (h ++ record { author = a; change = Undo n } ∷ []) ts ks) (sym left) (all_applied_further ro h _ r.front ks (applied_front ro h r.front ks r.last k (subst (λ ts. AreAsApplied ro h ts (ks ++ k ∷ [])) r.whole keeps.applied)).0);
       past = λ m l.
           let more = length-append h (record { author = a; change = Undo n } ∷ []) in
           is_undone-append h (record { author = a; change = Undo n }) m ∙ ap (λ b. b || nat_eq m n) (keeps.past m (omega arith)) ∙ other m n (omega arith);
@@ -132,15 +136,14 @@ keeps_undo ro h ks T T' a n k keeps number within put =
     other : (m n : ℕ) → n < m → nat_eq m n ≡ false
     other m n l = grind arith
 
--- ---- looking numbers up
+-- what the last operation wrote, by its number
+pub last_written : (ro : Membership) (h : List Entry) (ks : List KeptOperation) (T : Tree) (n : ℕ) (k : KeptOperation) → Keeps ro h (ks ++ k ∷ []) T → k.number ≡ n → k.footprint.writes.items ≡ written ro h n
+last_written ro h ks T n k keeps number =
+    let r = last_led ro genesis T (live h) ks k (first_sound ro) keeps.leads in
+    let (front, last) = applied_front ro h r.front ks r.last k (subst (λ ts. AreAsApplied ro h ts (ks ++ k ∷ [])) r.whole keeps.applied) in
+    written_kept ro h r.last k n last (sym number ∙ r.number)
 
--- an entry's number is 1 to the number of entries
-pub entry_within : (h : List Entry) (n : ℕ) (e : Entry) → entry_at h n ≡ Some e → n ≤ length h
-entry_within h n e is = go n (nat_eq n 0) refl is
-  where
-    go : (n : ℕ) (b : Bool) → nat_eq n 0 ≡ b → cond b None (slice_get h (n - 1)) ≡ Some e → n ≤ length h
-    go n true z is = absurd (let bad : None ≡ Some e = is in cc)
-    go n false z is = let inside = slice_get_within h (n - 1) e is in omega arith
+-- ---- looking numbers up
 
 last_of-append : (m : ℕ) (ms : List ℕ) (n : ℕ) → last_of m (ms ++ n ∷ []) ≡ n
 last_of-append m [] n = refl

@@ -1,4 +1,6 @@
 pub mod History
+pub mod Applied
+pub mod Version
 pub mod Answer
 pub mod Desk
 pub mod Keeping

@@ -1,5 +1,6 @@
 // The desk: a history, what is kept of its live operations, and the forest that they make.
 ghost use Rattle.std.specs.Prelude.{◌≡◌, [], map, option_copied, Some, None, OnOk, IfOk, IfErr, OnErr};
+ghost use Rattle.su_desk.specs.Version.{versions};
 ghost use Rattle.su_bytes.specs.declared.refusals.Refusal.TheVariants.{NoMemory};
 ghost use Rattle.su_op.specs.declared.operations.Change.TheVariants.{Do, Undo};
 ghost use Rattle.su_desk.specs.History.{tree, live_numbers, last_live, entry_at, undoer};
@@ -8,9 +9,10 @@ ghost use Rattle.su_desk.specs.Desk.{Answers, Runs, result_of};
 
 use crate::entries::{DeskReply, Entry};
 use crate::kept::KeptOperation;
+use crate::versions::{first_versions, raise};
 use std::alloc::Global;
 use std::marker::Model;
-use su_bytes::{Refusal, Roster, User};
+use su_bytes::{Principal, Refusal, Roster, User};
 use su_inverse::build;
 use su_op::{Change, Op, apply, footprint};
 use su_table::Forest;
@@ -21,6 +23,7 @@ pub struct Desk {
     roster: Roster,
     entries: Vec<Entry>,
     kept: Vec<KeptOperation>,
+    counters: Vec<(Principal, u64)>,
     forest: Forest,
     alloc: Global,
 }
@@ -30,11 +33,13 @@ impl Model for Desk {
 
     ghost Value = { DeskState };
 
+    ghost use Rattle.std.specs.Prelude.{◌≡◌};
     ghost use Rattle.su_desk.specs.Keeping.{Keeps};
+    ghost use Rattle.su_desk.specs.Version.{versions};
 
     ghost view = { λ d. record { roster = d.roster; history = d.entries.items } };
 
-    ghost invariant = { λ d. Keeps d.roster d.entries.items d.kept.items d.forest };
+    ghost invariant = { λ d. Keeps d.roster d.entries.items d.kept.items d.forest × (d.counters.items ≡ versions d.roster d.entries.items) };
 }
 
 impl Desk {
@@ -44,10 +49,12 @@ impl Desk {
         ensures refused { IfErr result (λ e. e ≡ NoMemory) }
     {
         let forest = Forest::genesis(alloc, &roster)?;
+        let counters = first_versions(alloc, &roster)?;
         Ok(Desk {
             roster,
             entries: Vec::new(alloc),
             kept: Vec::new(alloc),
+            counters,
             forest,
             alloc,
         })
@@ -74,6 +81,14 @@ impl Desk {
     {
         let numbers = numbers(self.alloc, self.kept.as_slice())?;
         Ok(numbers)
+    }
+
+    /// The version numbers of the users of the roster, and then of its groups: of a user how many entries are his, of a
+    /// group how many carry it. They only rise.
+    pub fn versions(&self) -> &[(Principal, u64)]
+        ensures { result.now ≡ versions self.now.roster self.now.history }
+    {
+        self.counters.as_slice()
     }
 
     /// Makes a change, and answers the number of its entry. A refusal, the first in order or `NoMemory`, changes nothing.
@@ -128,6 +143,7 @@ impl Desk {
         self.entries.reserve(1)?;
         self.kept.reserve(1)?;
         apply(self.alloc, &mut self.forest, &self.roster, author, &op)?;
+        raise(&mut self.counters, author, footprint.writes.as_slice());
         let change = Change::Do(op);
         self.entries.push_reserved(Entry { author, change });
         let number = self.entries.len() as u64;
@@ -151,6 +167,7 @@ impl Desk {
             return Err(Refusal::NoOperation(number));
         };
         kept.inverse.undo_on(&mut self.forest)?;
+        raise(&mut self.counters, author, kept.footprint.writes.as_slice());
         self.kept.pop();
         let change = Change::Undo(number);
         self.entries.push_reserved(Entry { author, change });

@@ -4,8 +4,11 @@
 mod desks;
 mod entries;
 mod kept;
+mod laws;
 #[cfg(test)]
 mod tests;
+mod versions;
 
 pub use desks::Desk;
 pub use entries::{DeskReply, Entry};
+pub use laws::versions_rise;

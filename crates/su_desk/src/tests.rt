@@ -3,7 +3,8 @@ use crate::{Desk, DeskReply};
 use std::alloc::Global;
 use std::test::Fail;
 use su_bytes::{
-    FileId, Group, Inum, KEY_LENGTH, Kind, Name, Refusal, Roster, RosterGroup, RosterUser, User,
+    FileId, Group, Inum, KEY_LENGTH, Kind, Name, Principal, Refusal, Roster, RosterGroup,
+    RosterUser, User,
 };
 use su_op::{Change, Create, Op, Truncate, Unlink, Write};
 
@@ -74,6 +75,10 @@ fn an_undo_brings_the_name_back(rt: HostRuntime) -> Result<(), Fail> {
     assert_eq!(rt; names(&desk)?, 1);
     let live = desk.live()?;
     assert!(rt; live.as_slice() == [1u64].as_slice());
+    let versions = desk.versions();
+    assert!(rt; versions.len() == 3);
+    assert!(rt; versions[0] == (Principal::User(author), 3));
+    assert!(rt; versions[2] == (Principal::Group(Group::FIRST), 0));
     Ok(())
 }
 

@@ -11,6 +11,8 @@ use Rattle.su_bytes.specs.declared.refusals.Refusal.{Refusal}
 use Rattle.su_bytes.specs.Digest.{digest_text}
 use Rattle.su_bytes.specs.FileId.{file_id_text}
 use Rattle.su_bytes.specs.Refusal.{refusal_text}
+use Rattle.su_bytes.specs.Principal.{principal_text}
+use Rattle.su_bytes.specs.declared.principals.Principal.{Principal}
 use Rattle.su_node.specs.Name.{Name}
 use Rattle.su_node.specs.Inode.{Inode, kind_of, size_of}
 use Rattle.su_table.specs.Place.{Place}
@@ -58,3 +60,15 @@ description_text (Err r) = refused_text r
 -- 64 hex digits
 abbrev pub digest_line : List ℕ → List ℕ
 digest_line d = digest_text d ++ 10 ∷ []
+
+-- `U0=2`
+abbrev pub version_text : Principal × ℕ → List ℕ
+version_text v = principal_text v.0 ++ (codes "=" ++ decimal v.1)
+
+abbrev pub further_version_text : Principal × ℕ → List ℕ
+further_version_text v = 32 ∷ version_text v
+
+-- `U0=2 U1=0 G0=0 G1=0`
+abbrev pub versions_text : List (Principal × ℕ) → List ℕ
+versions_text [] = 10 ∷ []
+versions_text (v ∷ vs) = (version_text v ++ flat_map further_version_text vs) ++ 10 ∷ []

@@ -8,12 +8,11 @@ use Rattle.su_bytes.specs.declared.refusals.Refusal.{Refusal}
 use Rattle.su_bytes.specs.declared.refusals.Refusal.TheVariants.{NoUser, BadName, BadNumber}
 use Rattle.su_bytes.specs.Membership.{Membership, has_user}
 use Rattle.su_bytes.specs.Name.{is_name}
-use Rattle.su_op.specs.declared.operations.Op.{Op}
 use Rattle.su_op.specs.declared.operations.Op.TheVariants.{Create, Unlink, Write, Truncate}
 use Rattle.su_op.specs.declared.operations.Change.{Change}
 use Rattle.su_op.specs.declared.operations.Change.TheVariants.{Do, Undo}
 use Rattle.su_script.specs.declared.commands.Command.{Command}
-use Rattle.su_script.specs.declared.commands.Command.TheVariants.{Apply, UndoLast, Ask, Mark, Same}
+use Rattle.su_script.specs.declared.commands.Command.TheVariants.{Apply, UndoLast, Ask, Versions, Mark, Same}
 use Rattle.su_script.specs.declared.commands.Question.{Question}
 use Rattle.su_script.specs.declared.commands.Question.TheVariants.{List as Listing, Read, Describe, Handle}
 
@@ -75,5 +74,6 @@ abbrev pub word_refusal : Membership → Command → Option Refusal
 word_refusal ro (Apply a c) = speaker_refusal ro a (has_good_name c) (has_good_numbers c)
 word_refusal ro (UndoLast a) = speaker_refusal ro a true true
 word_refusal ro (Ask q) = cond (is_question q) None (Some BadNumber)
+word_refusal ro Versions = None
 word_refusal ro Mark = None
 word_refusal ro Same = None

@@ -17,7 +17,7 @@ use Rattle.su_op.specs.declared.operations.Op.TheVariants.{Create, Unlink, Write
 use Rattle.su_op.specs.declared.operations.Change.{Change}
 use Rattle.su_op.specs.declared.operations.Change.TheVariants.{Do, Undo}
 use Rattle.su_script.specs.declared.commands.Command.{Command}
-use Rattle.su_script.specs.declared.commands.Command.TheVariants.{Apply, UndoLast, Ask, Mark, Same}
+use Rattle.su_script.specs.declared.commands.Command.TheVariants.{Apply, UndoLast, Ask, Versions, Mark, Same}
 use Rattle.su_script.specs.declared.commands.Question.TheVariants.{List as Listing, Read, Describe, Handle}
 
 -- the lines of a script: each ends at a line feed, and a last line without an end counts
@@ -156,9 +156,10 @@ question_of word arguments =
     (cond (is_word word (codes "cat")) (reading_of arguments)
     (cond (is_word word (codes "stat")) (description_of arguments)
     (cond (is_word word (codes "ihandle")) (handle_of arguments)
+    (cond (is_word word (codes "versions")) (alone arguments Versions)
     (cond (is_word word (codes "mark")) (alone arguments Mark)
     (cond (is_word word (codes "same")) (alone arguments Same)
-    None)))))
+    None))))))
 
 -- a user's command, or a question
 abbrev pub user_or_question : Option ℕ → List ℕ → List (List ℕ) → Option Command

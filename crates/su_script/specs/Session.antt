@@ -1,5 +1,5 @@
 -- A desk with what a script keeps beside it, and what each command does to it.
-use Rattle.std.specs.Prelude.{◌≡◌, ℕ, ◌⊎◌, List, [], ◌++◌, map, cond, nat_eq, Option, None, Some, Result, Ok, Err, codes}
+use Rattle.std.specs.Prelude.{◌≡◌, ℕ, ◌⊎◌, List, [], map, cond, nat_eq, Option, None, Some, Result, Err, codes}
 use Rattle.std.specs.FinMap.{get}
 use Rattle.std.specs.Option.{unwrap_or, ok_or, option_map}
 use Rattle.std.specs.Cmp.Lexicographic.{pointwise}
@@ -15,12 +15,13 @@ use Rattle.su_table.specs.Query.{body, listing, contents_within}
 use Rattle.su_table.specs.Handle.{handle}
 use Rattle.su_op.specs.declared.operations.Change.TheVariants.{Undo}
 use Rattle.su_desk.specs.History.{tree, last_live}
+use Rattle.su_desk.specs.Version.{versions}
 use Rattle.su_desk.specs.Desk.{DeskState, Answers}
 use Rattle.su_script.specs.declared.commands.Command.{Command}
-use Rattle.su_script.specs.declared.commands.Command.TheVariants.{Apply, UndoLast, Ask, Mark, Same}
+use Rattle.su_script.specs.declared.commands.Command.TheVariants.{Apply, UndoLast, Ask, Versions, Mark, Same}
 use Rattle.su_script.specs.declared.commands.Question.{Question}
 use Rattle.su_script.specs.declared.commands.Question.TheVariants.{List as Listing, Read, Describe, Handle}
-use Rattle.su_script.specs.Answer.{answer_text, refused_text, listing_text, bytes_text, description_text, digest_line}
+use Rattle.su_script.specs.Answer.{answer_text, refused_text, listing_text, bytes_text, description_text, digest_line, versions_text}
 
 -- a desk, and the digests that were kept to compare with
 pub record SessionState : Type 0 where
@@ -67,5 +68,6 @@ abbrev pub Does : SessionState → Command → List ℕ → SessionState → Typ
 Does s (Apply a c) out s' = (r : Result ℕ Refusal) × Answers s.desk a c r s'.desk × (s'.mark ≡ s.mark) × (out ≡ answer_text r)
 Does s (UndoLast a) out s' = (r : Result ℕ Refusal) × Answers s.desk a (Undo (last_live s.desk.history)) r s'.desk × (s'.mark ≡ s.mark) × (out ≡ answer_text r)
 Does s (Ask q) out s' = ((out ≡ question_text (desk_tree s.desk) q) ⊎ (out ≡ refused_text NoMemory)) × (s' ≡ s)
+Does s Versions out s' = (out ≡ versions_text (versions s.desk.roster s.desk.history)) × (s' ≡ s)
 Does s Mark out s' = ((out ≡ []) × (s' ≡ record s { mark = Some (handles s.desk.roster (desk_tree s.desk)) })) ⊎ ((out ≡ refused_text NoMemory) × (s' ≡ s))
 Does s Same out s' = ((out ≡ same_text s.mark (handles s.desk.roster (desk_tree s.desk))) ⊎ (out ≡ refused_text NoMemory)) × (s' ≡ s)

@@ -6,7 +6,7 @@ use Rattle.su_script.specs.declared.commands.Command.{Command}
 use Rattle.su_script.specs.declared.commands.Command.TheVariants as command
 use Rattle.su_script.specs.declared.commands.Question.TheVariants as question
 use Rattle.su_script.specs.declared.script.Spoken.{Spoken}
-use Rattle.su_script.specs.declared.script.Spoken.TheVariants.{Apply, UndoLast, List, Read, Describe, Handle, Mark, Same}
+use Rattle.su_script.specs.declared.script.Spoken.TheVariants.{Apply, UndoLast, List, Read, Describe, Handle, Versions, Mark, Same}
 use Rattle.su_script.specs.declared.script.SpokenChange.{SpokenChange}
 use Rattle.su_script.specs.declared.script.SpokenChange.TheVariants.{Create, Unlink, Write, Truncate, Undo}
 use Rattle.su_script.specs.SpokenFile.{file_said, principal_said}
@@ -26,5 +26,6 @@ said (List dir) = command.Ask (question.List (file_said dir))
 said (Read f off len) = command.Ask (question.Read (file_said f) off len)
 said (Describe f) = command.Ask (question.Describe (file_said f))
 said (Handle p) = command.Ask (question.Handle (principal_said p))
+said Versions = command.Versions
 said Mark = command.Mark
 said Same = command.Same

@@ -1,9 +1,9 @@
 // The texts that answer a line.
 ghost use Rattle.std.specs.Prelude.{◌≡◌, ◌++◌, Ok, IfOk, OnOk};
-ghost use Rattle.su_script.specs.Answer.{answer_text, refused_text, name_text, listing_text, bytes_text, inode_text, digest_line, kind_text, bad_text};
+ghost use Rattle.su_script.specs.Answer.{answer_text, refused_text, name_text, listing_text, bytes_text, inode_text, digest_line, kind_text, bad_text, version_text, versions_text};
 
 use std::alloc::{AllocError, Global};
-use su_bytes::{Digest, FileId, Inum, Kind, Name, Refusal, User};
+use su_bytes::{Digest, FileId, Inum, Kind, Name, Principal, Refusal, User};
 use su_node::Inode;
 
 /// `ok N`, or the refusal.
@@ -98,4 +98,35 @@ pub fn digest_shown(alloc: Global, digest: Digest) -> Result<Vec<u8>, AllocError
 {
     let text = format!(in alloc; "{digest}\n")?;
     Vec::from_slice(alloc, text.as_bytes())
+}
+
+/// `U0=2 U1=0 G0=0 G1=0`.
+pub fn versions_shown(alloc: Global, versions: &[(Principal, u64)]) -> Result<Vec<u8>, AllocError>
+    ensures { IfOk result (λ text. text.items ≡ versions_text versions.now) }
+{
+    let Some((first, others)) = versions.split_first() else {
+        return Vec::from_slice(alloc, b"\n".as_slice());
+    };
+    let mut text = Vec::new(alloc);
+    push_version(alloc, &mut text, first)?;
+    for version in others {
+        text.push(b' ')?;
+        push_version(alloc, &mut text, version)?;
+    }
+    text.push(b'\n')?;
+    Ok(text)
+}
+
+/// `U0=2`.
+fn push_version(
+    alloc: Global,
+    text: &mut Vec<u8>,
+    version: &(Principal, u64),
+) -> Result<(), AllocError>
+    ensures { OnOk result (text.new.items ≡ text.old.items ++ version_text version.now) }
+{
+    let (principal, number) = *version;
+    let shown = format!(in alloc; "{principal}={number}")?;
+    text.extend_from_slice(shown.as_bytes())?;
+    Ok(())
 }

@@ -11,6 +11,8 @@ pub enum Command {
     UndoLast(User),
     /// A question about the tree.
     Ask(Question),
+    /// The version numbers of all users and groups.
+    Versions,
     /// Keeps the digests of all i-tables.
     Mark,
     /// Whether all i-tables have the digests that were kept.

@@ -51,6 +51,7 @@ pub fn command(alloc: Global, roster: &Roster, spoken: Spoken<'_>) -> Result<Com
             let principal = principal_id(principal)?;
             Ok(Command::Ask(Question::Handle(principal)))
         }
+        Spoken::Versions => Ok(Command::Versions),
         Spoken::Mark => Ok(Command::Mark),
         Spoken::Same => Ok(Command::Same),
     }

@@ -39,6 +39,8 @@ pub enum Spoken<'a> {
     Handle {
         principal: SpokenPrincipal,
     },
+    /// `versions`
+    Versions,
     /// `mark`
     Mark,
     /// `same`
@@ -117,6 +119,9 @@ fn question<'a>(word: &[u8], arguments: &[&'a [u8]]) -> Option<Spoken<'a>>
     }
     if word == b"ihandle".as_slice() {
         return handle(arguments);
+    }
+    if word == b"versions".as_slice() {
+        return alone(arguments, Spoken::Versions);
     }
     if word == b"mark".as_slice() {
         return alone(arguments, Spoken::Mark);

@@ -6,7 +6,7 @@ ghost use Rattle.su_script.specs.Answer.{refused_text, description_text};
 ghost use Rattle.su_script.specs.declared.commands.Command.TheVariants.{Mark, Same};
 ghost use Rattle.su_script.specs.Session.{desk_tree, handles, question_text, same_text, description, Does};
 
-use crate::answers::{answered, described, digest_shown, in_hex, listed, refused};
+use crate::answers::{answered, described, digest_shown, in_hex, listed, refused, versions_shown};
 use crate::commands::{Command, Question};
 use std::alloc::{AllocError, Global};
 use std::marker::Model;
@@ -53,6 +53,7 @@ impl Session {
             Command::Apply(user, change) => answered(alloc, self.desk.apply(user, change)),
             Command::UndoLast(user) => answered(alloc, self.desk.undo_last(user)),
             Command::Ask(question) => answer(alloc, self.desk.forest(), question),
+            Command::Versions => versions_shown(alloc, self.desk.versions()),
             Command::Mark => self.keep_mark(alloc),
             Command::Same => self.compare(alloc),
         }

@@ -44,8 +44,8 @@ fn an_undo_is_refused_for_the_first_reason(rt: HostRuntime) {
 fn a_mark_is_the_same_again_after_an_undo(rt: HostRuntime) {
     expect(
         &rt,
-        b"same\nmark\n0 create G0:1 a U0:2\nsame\n0 undo_last\nsame\n",
-        "no mark\nok 1\ndiffers\nok 2\nsame\n",
+        b"same\nmark\n0 create G0:1 a U0:2\nsame\n0 undo_last\nsame\nversions\n",
+        "no mark\nok 1\ndiffers\nok 2\nsame\nU0=2 U1=0 G0=0 G1=0\n",
         Status::Finished,
     );
 }
@@ -83,8 +83,8 @@ fn files_are_read_and_described(rt: HostRuntime) {
 fn a_write_that_grew_a_file_is_taken_back(rt: HostRuntime) {
     expect(
         &rt,
-        b"0 mkdir G0:1 d U0:2\n0 create U0:2 f U0:3\n0 write U0:3 0 68656c6c6f\nmark\n0 write U0:3 5 20796F75\ncat U0:3 0 9\n0 undo_last\nsame\ncat U0:3 0 9\n",
-        "ok 1\nok 2\nok 3\nok 4\n68656c6c6f20796f75\nok 5\nsame\n68656c6c6f\n",
+        b"0 mkdir G0:1 d U0:2\n0 create U0:2 f U0:3\n0 write U0:3 0 68656c6c6f\nmark\n0 write U0:3 5 20796F75\ncat U0:3 0 9\n0 undo_last\nsame\ncat U0:3 0 9\nversions\n",
+        "ok 1\nok 2\nok 3\nok 4\n68656c6c6f20796f75\nok 5\nsame\n68656c6c6f\nU0=5 U1=0 G0=0 G1=0\n",
         Status::Finished,
     );
 }
@@ -151,7 +151,7 @@ fn words_out_of_range_are_refused_in_their_order(rt: HostRuntime) {
 
 #[test]
 fn lines_that_are_no_command_end_the_script(rt: HostRuntime) -> Result<(), Fail> {
-    let lines: [&[u8]; 19] = [
+    let lines: [&[u8]; 20] = [
         b"hello",
         b"ls  G0:1",
         b" ls G0:1",
@@ -168,6 +168,7 @@ fn lines_that_are_no_command_end_the_script(rt: HostRuntime) -> Result<(), Fail>
         b"0 write U0:2 0 4",
         b"0 write U0:2 0 4g",
         b"0 write U0:2 0",
+        b"versions U0",
         b"0 write U0:2 0 41 42",
         b"ls U0",
         b"\xff\xfe",

@@ -126,6 +126,7 @@ const DESK_WORDS: &str = "Commands:
   cat FILE OFF LEN               show bytes of a file, in hex digits
   stat FILE                      show what a file is
   ihandle PRINCIPAL              show the digest of an i-table
+  versions                       show the version numbers of all users and groups
   mark                           keep the digests of all i-tables
   same                           compare them with those that were kept
 

@@ -5,10 +5,10 @@ use Rattle.su_desk.proofs.desks.Desk.last.Goals as goal
 
 pub returns-in-Some : goal.returns-in-Some
 returns-in-Some c =
-    last_number _ _ _ _ _ c.self.invariant (sym (c.in-Some.ensures.value ∙ ap (λ ks. slice_get ks (length ks - 1)) c.deref.ensures.value))
+    last_number _ _ _ _ _ c.self.invariant.0 (sym (c.in-Some.ensures.value ∙ ap (λ ks. slice_get ks (length ks - 1)) c.deref.ensures.value))
     ∙ ap (λ d. last_live d.history) c.self.view_is
 
 pub returns-in-None : goal.returns-in-None
 returns-in-None c =
-    no_number _ _ _ _ c.self.invariant (sym (c.in-None.ensures.value ∙ ap (λ ks. slice_get ks (length ks - 1)) c.deref.ensures.value))
+    no_number _ _ _ _ c.self.invariant.0 (sym (c.in-None.ensures.value ∙ ap (λ ks. slice_get ks (length ks - 1)) c.deref.ensures.value))
     ∙ ap (λ d. last_live d.history) c.self.view_is

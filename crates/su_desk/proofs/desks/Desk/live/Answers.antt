@@ -7,4 +7,4 @@ use Rattle.su_desk.proofs.desks.Desk.live.Goals as goal
 pub returns-clause-value : goal.returns-clause-value
 returns-clause-value c =
     c.in_ok-numbers.ensures.value ∙ ap (map (λ (k : KeptOperation). k.number)) c.as_slice.ensures.value
-    ∙ numbers_kept _ _ _ _ c.self.invariant ∙ ap (λ d. live_numbers d.history) c.self.view_is
+    ∙ numbers_kept _ _ _ _ c.self.invariant.0 ∙ ap (λ d. live_numbers d.history) c.self.view_is

@@ -1,13 +1,19 @@
 use Rattle.su_bytes.specs.declared.refusals.Refusal.{Refusal}
 use Rattle.su_bytes.specs.declared.refusals.Refusal.TheVariants.{NoMemory}
 use Rattle.su_op.specs.declared.operations.Change.{Change}
-use Rattle.std.proofs.Common.{ℕ, ◌⊎◌, ⊎_elim, inl, Result, IsErrAnd, ◌≡◌, ◌∙◌, ◌+◌, ◌++◌, ◌∷◌, [], sym, refl, ap, subst, inr, Ok, Err, length, length-append, List, arith}
+use Rattle.std.proofs.Common.{ℕ, ◌⊎◌, ⊎_elim, inl, Result, IsErrAnd, ◌≡◌, ◌∙◌, ◌+◌, ◌++◌, ◌∷◌, [], sym, refl, ap, subst, inr, Ok, Err, length, length-append, List, arith, take, drop, ◌<◌, ◌^◌}
 use Rattle.su_op.specs.declared.operations.Change.TheVariants.{Do}
 use Rattle.su_op.specs.Area.{has}
 use Rattle.su_desk.specs.declared.entries.Entry.{Entry}
 use Rattle.su_desk.specs.Answer.{answer}
 use Rattle.su_desk.specs.Desk.{DeskState, Answers, with_entry}
 use Rattle.su_desk.specs.Keeping.{Keeps}
+use Rattle.std.specs.Option.{unwrap_or}
+use Rattle.su_table.specs.Tree.{genesis}
+use Rattle.su_op.specs.Operation.{writes}
+use Rattle.su_bytes.specs.declared.principals.Principal.{Principal}
+use Rattle.su_desk.specs.Version.{cells_of, versions}
+use Rattle.su_desk.proofs.Counting.{counters_next, versions_within}
 use Rattle.su_desk.proofs.Leading.{tree_kept, keeps_do}
 use Rattle.su_desk.proofs.Answering.{answer_done, answer_refused, refusal_of-do}
 use Rattle.std.specs.List.{All}
@@ -22,18 +28,24 @@ invariant_of-self-2 c =
     let kept = c.push_reserved-2.ensures.items ∙ ap (λ ks. ks ++ record { number = c.len-number.result; footprint = c.in_ok-footprint.footprint; inverse = c.in_ok-inverse.inverse } ∷ []) c.in_ok-reserve-2.ensures.items in
     let accepted = c.in_ok-footprint.ensures.accepted in
     let number : c.len-number.result ≡ length s.entries.items + 1 = omega (arith, c.len-number.ensures, c.push_reserved.new.self.ok.0, ap length entries, length-append s.entries.items (record { author = c.args.author; change = Do c.args.op } ∷ [])) in
-    subst (λ h. Keeps s.roster h c.push_reserved-2.new.self.items c.apply.new.forest) (sym entries)
-    (subst (λ ks. Keeps s.roster (s.entries.items ++ record { author = c.args.author; change = Do c.args.op } ∷ []) ks c.apply.new.forest) (sym kept)
-    (subst (λ T. Keeps s.roster (s.entries.items ++ record { author = c.args.author; change = Do c.args.op } ∷ []) (s.kept.items ++ record { number = c.len-number.result; footprint = c.in_ok-footprint.footprint; inverse = c.in_ok-inverse.inverse } ∷ []) T) (sym c.in_ok-apply.ensures.done)
-    (keeps_do s.roster s.entries.items s.kept.items s.forest c.args.author c.args.op (record { number = c.len-number.result; footprint = c.in_ok-footprint.footprint; inverse = c.in_ok-inverse.inverse }) c.self.invariant
-    (record {
-      accepted = accepted;
-      number = number;
-      reads = c.in_ok-footprint.ensures.reads;
-      writes = c.in_ok-footprint.ensures.writes;
-      areas = λ x. c.in_ok-inverse.ensures.areas x ∙ ap (λ w. has w x) c.as_slice.ensures.value;
-      kept = c.in_ok-inverse.ensures.kept;
-    }))))
+    let e : Entry = record { author = c.args.author; change = Do c.args.op } in
+    let written : c.as_slice-2.result.now ≡ cells_of s.roster s.entries.items c.args.author (Do c.args.op)
+    = c.as_slice-2.ensures.value ∙ c.in_ok-footprint.ensures.writes ∙ ap (λ o. writes s.roster (unwrap_or o genesis) c.args.author c.args.op) (sym (tree_kept s.roster s.entries.items s.kept.items s.forest c.self.invariant.0)) in (
+      subst (λ h. Keeps s.roster h c.push_reserved-2.new.self.items c.apply.new.forest) (sym entries)
+          (subst (λ ks. Keeps s.roster (s.entries.items ++ record { author = c.args.author; change = Do c.args.op } ∷ []) ks c.apply.new.forest) (sym kept)
+          (subst (λ T. Keeps s.roster (s.entries.items ++ record { author = c.args.author; change = Do c.args.op } ∷ []) (s.kept.items ++ record { number = c.len-number.result; footprint = c.in_ok-footprint.footprint; inverse = c.in_ok-inverse.inverse } ∷ []) T) (sym c.in_ok-apply.ensures.done)
+          (keeps_do s.roster s.entries.items s.kept.items s.forest c.args.author c.args.op (record { number = c.len-number.result; footprint = c.in_ok-footprint.footprint; inverse = c.in_ok-inverse.inverse }) c.self.invariant.0
+          (record {
+            accepted = accepted;
+            number = number;
+            reads = c.in_ok-footprint.ensures.reads;
+            writes = c.in_ok-footprint.ensures.writes;
+            areas = λ x. c.in_ok-inverse.ensures.areas x ∙ ap (λ w. has w x) c.as_slice.ensures.value;
+            kept = c.in_ok-inverse.ensures.kept;
+          })))),
+      subst (λ h. take s.counters.len (c.raise.new.versions ++ drop (length c.raise.new.versions) s.counters.items) ≡ versions s.roster h) (sym entries)
+          (counters_next s.roster s.entries.items e c.as_slice-2.result.now s.counters.len s.counters.items c.deref_mut.result.now c.raise.new.versions _ written c.self.invariant.1 s.counters.ok.0 c.deref_mut.ensures.value c.raise.ensures),
+    )
 
 pub returns : goal.returns
 returns c =
@@ -42,7 +54,7 @@ returns c =
     let number : length s.entries.items + 1 ≡ c.len-number.result = omega (arith, c.len-number.ensures, c.push_reserved.new.self.ok.0, ap length entries, length-append s.entries.items (record { author = c.args.author; change = Do c.args.op } ∷ [])) in
     let seen : List Entry → DeskState = λ h. record { roster = s.roster; history = h } in (
       subst (λ d. answer d.roster d.history c.args.author (Do c.args.op) ≡ Ok c.len-number.result) c.self.view_is
-          (answer_done _ _ _ _ (refusal_of-do s.roster s.entries.items s.forest c.args.author c.args.op (tree_kept _ _ _ _ c.self.invariant) ∙ c.in_ok-footprint.ensures.accepted) ∙ ap Ok number),
+          (answer_done _ _ _ _ (refusal_of-do s.roster s.entries.items s.forest c.args.author c.args.op (tree_kept _ _ _ _ c.self.invariant.0) ∙ c.in_ok-footprint.ensures.accepted) ∙ ap Ok number),
       ap seen entries ∙ ap (λ d. with_entry d c.args.author (Do c.args.op)) c.self.view_is,
     )
 
@@ -62,5 +74,10 @@ returns-in_err-footprint c =
     passed_on c.args.self.now c.args.author (Do c.args.op) c.from_residual.result c.in_err-footprint.field-0.0 c.from_residual.ensures.1
     (⊎_elim (λ m. inl m)
     (λ f. inr (subst (λ d. answer d.roster d.history c.args.author (Do c.args.op) ≡ Err c.in_err-footprint.field-0.0) c.self.view_is
-    (answer_refused _ _ _ _ _ (refusal_of-do s.roster s.entries.items s.forest c.args.author c.args.op (tree_kept _ _ _ _ c.self.invariant) ∙ f))))
+    (answer_refused _ _ _ _ _ (refusal_of-do s.roster s.entries.items s.forest c.args.author c.args.op (tree_kept _ _ _ _ c.self.invariant.0) ∙ f))))
     c.in_err-footprint.ensures.refused)
+
+pub raise-requires : goal.raise-requires
+raise-requires c =
+    let s = c.self.inside in
+    subst (All (λ (v : Principal × ℕ). v.1 + 1 < 2 ^ 64)) (sym (c.deref_mut.ensures.value ∙ c.self.invariant.1)) (versions_within s.roster s.entries.items (let m = c.reserve.new.self.small in let n = s.entries.small in omega (arith, s.entries.ok.0, c.in_ok-reserve.ensures.ok, c.in_ok-reserve.ensures.len)))

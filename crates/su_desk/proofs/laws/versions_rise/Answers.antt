@@ -1,0 +1,8 @@
+use Rattle.su_desk.proofs.Counting.{never_falls, author_rises}
+use Rattle.su_desk.proofs.laws.versions_rise.Goals as goal
+
+pub returns-clause-none_falls : goal.returns-clause-none_falls
+returns-clause-none_falls c = never_falls
+
+pub returns-clause-author : goal.returns-clause-author
+returns-clause-author c = author_rises

@@ -1,0 +1,54 @@
+-- Version numbers: how often each user and group was concerned by an entry. They only rise, also with an undo.
+use Rattle.std.specs.Prelude.{ℕ, ◌+◌, Bool, false, cond, List, [], ◌∷◌, ◌++◌, map, nat_eq}
+use Rattle.std.specs.List.{list_any}
+use Rattle.su_bytes.specs.Membership.{Membership}
+use Rattle.su_bytes.specs.Principal.{principals}
+use Rattle.su_bytes.specs.declared.principals.Principal.{Principal}
+use Rattle.su_bytes.specs.declared.principals.Principal.TheVariants.{User, Group}
+use Rattle.su_op.specs.declared.areas.Area.{Area}
+use Rattle.su_op.specs.declared.areas.Area.TheVariants.{Inode as InodeArea, Entry as EntryArea}
+use Rattle.su_op.specs.declared.operations.Change.{Change}
+use Rattle.su_op.specs.declared.operations.Change.TheVariants.{Do, Undo}
+use Rattle.su_op.specs.Operation.{writes}
+use Rattle.su_desk.specs.declared.entries.Entry.{Entry}
+use Rattle.su_desk.specs.Applied.{tree_after, written}
+
+-- the area is an entry of group g
+abbrev pub is_entry_of : ℕ → Area → Bool
+is_entry_of g (InodeArea p a) = false
+is_entry_of g (EntryArea k) = nat_eq k.0 g
+
+-- what is written has an entry of group g
+abbrev pub carries : ℕ → List Area → Bool
+carries g w = list_any (is_entry_of g) w
+
+-- what the cells are of a change by user a after a history: those that the operation writes, or those that the operation
+-- wrote that it undoes
+abbrev pub cells_of : Membership → List Entry → ℕ → Change → List Area
+cells_of ro h a (Do op) = writes ro (tree_after ro h) a op
+cells_of ro h a (Undo n) = written ro h n
+
+-- an entry by user a that writes these areas raises the number of a, and of the groups that it carries
+abbrev pub raises : ℕ → List Area → Principal → Bool
+raises a w (User u) = nat_eq u a
+raises a w (Group g) = carries g w
+
+-- a principal with its number, after such an entry
+abbrev pub raised : ℕ → List Area → Principal × ℕ → Principal × ℕ
+raised a w v = (v.0, v.1 + cond (raises a w v.0) 1 0)
+
+-- how many of the further entries, after those of h, raise the number of a principal
+abbrev pub version_after : Membership → List Entry → List Entry → Principal → ℕ
+version_after ro h [] p = 0
+version_after ro h (e ∷ es) p = cond (raises e.author (cells_of ro h e.author e.change) p) 1 0 + version_after ro (h ++ e ∷ []) es p
+
+-- the version number of a principal: of a user how many entries are his, of a group how many carry it
+abbrev pub version : Membership → List Entry → Principal → ℕ
+version ro h p = version_after ro [] h p
+
+abbrev pub numbered : Membership → List Entry → Principal → Principal × ℕ
+numbered ro h p = (p, version ro h p)
+
+-- those of all users and groups of the roster
+abbrev pub versions : Membership → List Entry → List (Principal × ℕ)
+versions ro h = map (numbered ro h) (principals ro)

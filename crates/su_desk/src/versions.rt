@@ -1,0 +1,63 @@
+// Version numbers, counted entry by entry.
+ghost use Rattle.std.specs.Prelude.{◌≡◌, ◌+◌, ◌<◌, ◌^◌, [], map, IfOk, IfErr};
+ghost use Rattle.std.specs.List.{All};
+ghost use Rattle.su_bytes.specs.declared.refusals.Refusal.TheVariants.{NoMemory};
+ghost use Rattle.su_desk.specs.Version.{is_entry_of, carries, raises, raised, versions};
+
+use std::alloc::Global;
+use su_bytes::{Group, Principal, Refusal, Roster, User};
+use su_op::Area;
+
+/// The numbers of an empty history, which are all 0. Only `NoMemory` can come.
+pub(crate) fn first_versions(
+    alloc: Global,
+    roster: &Roster,
+) -> Result<Vec<(Principal, u64)>, Refusal>
+    ensures value { IfOk result (λ v. v.items ≡ versions roster.now []) }
+    ensures refused { IfErr result (λ e. e ≡ NoMemory) }
+{
+    let principals = roster.principals()?;
+    let mut versions = Vec::with_capacity(alloc, principals.len())?;
+    for principal in &principals {
+        versions.push((*principal, 0))?;
+    }
+    Ok(versions)
+}
+
+/// Raises the numbers of the author of an entry and of the groups that it carries, each by one.
+pub(crate) fn raise(versions: &mut [(Principal, u64)], author: User, written: &[Area])
+    requires { All (λ v. v.1 + 1 < 2 ^ 64) versions.old }
+    ensures { versions.new ≡ map (raised author written.now) versions.old }
+{
+    for version in versions.iter_mut() {
+        if raises(version.0, author, written) {
+            version.1 += 1;
+        }
+    }
+}
+
+/// Whether an entry of that author, which writes these areas, raises the number.
+fn raises(principal: Principal, author: User, written: &[Area]) -> bool
+    ensures { result ≡ raises author written.now principal }
+{
+    match principal {
+        Principal::User(user) => user == author,
+        Principal::Group(group) => carries(written, group),
+    }
+}
+
+/// Whether one of the areas is an entry of the group.
+fn carries(written: &[Area], group: Group) -> bool
+    ensures { result ≡ carries group written.now }
+{
+    written.iter().any(|area| is_entry_of(area, group))
+}
+
+fn is_entry_of(area: &Area, group: Group) -> bool
+    ensures { result ≡ is_entry_of group area.now }
+{
+    match area {
+        Area::Inode(..) => false,
+        Area::Entry(file) => file.0 == group,
+    }
+}
