@@ -16,7 +16,8 @@ use su_bytes::{FileId, Inum, Kind, Name, Refusal, Roster, User};
 use su_node::Inode;
 use su_table::Forest;
 
-/// Makes an empty file or directory, and gives it a name. A user's file stands at its own number, which is `body` then.
+/// Makes an empty file or directory, and gives it a name. A user's file stands at its own number, which is `body` then; a
+/// group file at any number of the author's that is free, and its group's entry points there.
 #[derive(Clone, Debug, Drop)]
 pub struct Create {
     /// The directory that gets the name.
@@ -28,9 +29,6 @@ pub struct Create {
     pub body: Inum,
     pub kind: Kind,
 }
-
-/// TEMPORARY: no group file can be made yet; a create of one is refused as a bad number.
-const GROUP_FILES_CAN_BE_MADE: bool = false;
 
 impl Create {
     /// Where the directory stands, if the author may create; else the first refusal.
@@ -81,7 +79,7 @@ impl Create {
     {
         match self.file {
             FileId::User(user, number) => user == author && number == self.body,
-            FileId::Group(..) => GROUP_FILES_CAN_BE_MADE,
+            FileId::Group(..) => true,
         }
     }
 
