@@ -10,6 +10,7 @@ ghost use Rattle.su_bytes.specs.declared.refusals.Refusal.TheVariants.{NoMemory}
 
 use crate::access::closed_group;
 use crate::areas::{Area, Part};
+use crate::entries::point_entry;
 use crate::footprints::{Footprint, push_entry, push_file};
 use std::alloc::Global;
 use su_bytes::{FileId, Inum, Kind, Name, Refusal, Roster, User};
@@ -142,22 +143,10 @@ impl Create {
         let (user, number) = place;
         let inode = Inode::new(alloc, self.file, self.kind);
         forest.put_inode((user, number), inode)?;
-        if let Err(refusal) = self.add_entry(forest, (user, number)) {
+        if let Err(refusal) = point_entry(forest, self.file, (user, number)) {
             forest.remove_inode((user, number));
             return Err(refusal);
         }
         Ok(())
-    }
-
-    /// A group file's entry points there.
-    fn add_entry(&self, forest: &mut Forest, place: (User, Inum)) -> Result<(), Refusal>
-        ensures ok { OnOk result (forest.new ≡ edits forest.old (entry_edits self.now.file (Some place))) }
-        ensures refused { IfErr result (λ e. e ≡ NoMemory) }
-        ensures err { OnErr result (forest.new ≡ forest.old) }
-    {
-        match self.file {
-            FileId::User(..) => Ok(()),
-            FileId::Group(group, number) => forest.put_entry((group, number), place),
-        }
     }
 }
