@@ -3,6 +3,7 @@ use Rattle.std.proofs.Common.{◌≡◌, ℕ, Bool, true, false, [], ◌∷◌, 
 use Rattle.std.proofs.lemmas.List.Elements.{All-from_recursion}
 use Rattle.std.specs.List.{All, AllByRecursion}
 use Rattle.std.specs.Option.{is_none}
+use Rattle.std.specs.FinMap.{get}
 use Rattle.su_bytes.specs.Membership.{Membership}
 use Rattle.su_bytes.specs.declared.file_ids.FileId.{FileId}
 use Rattle.su_bytes.specs.declared.file_ids.FileId.TheVariants.{User, Group}
@@ -11,16 +12,17 @@ use Rattle.su_table.specs.Tree.{Tree}
 use Rattle.su_table.specs.Cell.{Cell, val}
 use Rattle.su_table.specs.Query.{is_free_at, is_entry_free}
 use Rattle.su_op.specs.declared.operations.Op.{Op}
-use Rattle.su_op.specs.declared.operations.Op.TheVariants.{Create, Unlink, Write, Truncate}
+use Rattle.su_op.specs.declared.operations.Op.TheVariants.{Create, Unlink, Write, Truncate, Take}
 use Rattle.su_op.specs.declared.areas.Area.TheVariants.{Inode as InodeArea}
 use Rattle.su_op.specs.Area.{has}
 use Rattle.su_op.specs.Footprint.{written_parts, resized_parts, areas_of as areas_of_edits}
-use Rattle.su_op.specs.Rule.{Plan, refusal, plan_of, writes_of, entry_edits}
+use Rattle.su_op.specs.Rule.{Plan, refusal, plan_of, writes_of, entry_edits, entry_areas}
 use Rattle.su_op.specs.Unlinking.{unlink_edits}
 use Rattle.su_op.specs.Operation.{rule_of, why, effect, writes}
 use Rattle.su_op.specs.Soundness.{Sound}
 use Rattle.su_op.specs.Store.{Action}
 use Rattle.su_op.proofs.Rules.{Gives, gives_of, both_true}
+use Rattle.su_op.proofs.Copying.{take_writes}
 use Rattle.su_op.proofs.Storing.{store_lawful}
 use Rattle.su_inverse.specs.declared.inverses.Inverse.{Inverse}
 use Rattle.su_inverse.specs.Kept.{CanKeep, areas_of, IsKeptOf, IsPutBack}
@@ -33,6 +35,10 @@ unlinked_kept : (T : Tree) (b : Bool) (l : ℕ) (file : FileId) (f : Place) → 
 unlinked_kept T true l file f = (tt, tt)
 unlinked_kept T false l (User u i) f = (tt, tt)
 unlinked_kept T false l (Group g k) f = (tt, (tt, tt))
+
+taken_kept : (T : Tree) (f : FileId) → AllByRecursion (CanKeep T) (entry_areas f)
+taken_kept T (User u i) = tt
+taken_kept T (Group g k) = (tt, tt)
 
 written_kept : (T : Tree) (f : Place) (b : Bool) (s off end : ℕ) → AllByRecursion (CanKeep T) (map (InodeArea f) (written_parts b s off end) ++ [])
 written_kept T f true s off end = (tt, tt)
@@ -52,6 +58,9 @@ can_keep ro a (Write w) T p (user, (some, (touch, (f, at, (is, (holder, (fits, p
     subst (λ (p : Plan). AllByRecursion (CanKeep T) (writes_of p)) plan (written_kept T f _ _ _ _)
 can_keep ro a (Truncate t) T p (user, (touch, (f, at, (is, (holder, (fits, plan)))))) =
     subst (λ (p : Plan). AllByRecursion (CanKeep T) (writes_of p)) plan (resized_kept T f _ _ _)
+can_keep ro a (Take t) T p (user, (group, (touch, (f, at, (free, plan))))) =
+    subst (λ (p : Plan). AllByRecursion (CanKeep T) (writes_of p)) plan
+    (subst (AllByRecursion (CanKeep T)) (sym (take_writes (get T.inodes f) a t f)) (tt, taken_kept T t.file))
 
 pub writes_kept : (ro : Membership) (T : Tree) (a : ℕ) (op : Op) → why ro T a op ≡ None → All (CanKeep T) (writes ro T a op)
 unfolding why writes

@@ -1,5 +1,5 @@
 -- A create by user a: a new empty file or directory at (a, body), for which a directory gets a name.
-use Rattle.std.specs.Prelude.{ℕ, Bool, false, ◌&&◌, ◌∷◌, Some, nat_eq}
+use Rattle.std.specs.Prelude.{ℕ, Bool, true, ◌&&◌, ◌∷◌, Some, nat_eq}
 use Rattle.su_bytes.specs.declared.file_ids.FileId.{FileId}
 use Rattle.su_bytes.specs.declared.file_ids.FileId.TheVariants.{User, Group}
 use Rattle.su_bytes.specs.declared.refusals.Refusal.TheVariants.{NoUser, BadNumber, NotMember, NoFile, WrongKind, NotHolder, Held, Exists}
@@ -12,14 +12,10 @@ use Rattle.su_table.specs.Edit.{Edit.Inodes}
 use Rattle.su_op.specs.declared.creation.Create.{Create}
 use Rattle.su_op.specs.Rule.{Plan, Rule, Rule.Accept, Rule.Demand, Rule.Find, may_touch, group_of, entry_edits, file_areas}
 
--- TEMPORARY: no group file can be made yet; a create of one is refused as a bad number. With `true` here it can.
-abbrev pub group_files_can_be_made : Bool
-group_files_can_be_made = false
-
--- a user's file stands at its own place
+-- a user's file stands at its own place, and a group file at any number of its maker
 abbrev pub is_own_number : ℕ → ℕ → FileId → Bool
 is_own_number a n (User u i) = nat_eq u a && nat_eq i n
-is_own_number a n (Group g k) = group_files_can_be_made
+is_own_number a n (Group g k) = true
 
 abbrev pub create_plan : ℕ → Create → Place → Plan
 create_plan a c d = record {

@@ -1,12 +1,14 @@
 -- The table of cells: what each operation reads besides, and what it writes. Of each file that is named, `d` and `f` are
 -- the places of the bodies of the directory and of the file. What is written is also read.
-use Rattle.std.specs.Prelude.{◌≡◌, ℕ, ◌+◌, ◌-◌, ◌/◌, Bool, true, false, List, [], ◌∷◌, ◌++◌, length, min, max, nat_eq, nat_le}
+use Rattle.std.specs.Prelude.{◌≡◌, ℕ, ◌+◌, ◌-◌, ◌/◌, Bool, true, false, List, [], ◌∷◌, ◌++◌, length, min, max, nat_eq, nat_le, Option}
 use Rattle.su_node.specs.Name.{Name}
+use Rattle.su_node.specs.Inode.{Inode}
 use Rattle.su_table.specs.Place.{Place}
 use Rattle.su_op.specs.declared.areas.Part.TheVariants.{Kind as KindPart, Links as LinksPart, Size as SizePart, Name as NamePart, Blocks as BlocksPart, Whole as WholePart}
 use Rattle.su_op.specs.declared.areas.Area.{Area}
 use Rattle.su_op.specs.declared.areas.Area.TheVariants.{Inode as InodeArea}
 use Rattle.su_op.specs.declared.creation.Create.{Create}
+use Rattle.su_op.specs.declared.taking.Take.{Take}
 use Rattle.su_op.specs.declared.truncation.Truncate.{Truncate}
 use Rattle.su_op.specs.declared.unlinking.Unlink.{Unlink}
 use Rattle.su_op.specs.Footprint.{run}
@@ -15,6 +17,7 @@ use Rattle.su_op.specs.Creation.{create_plan}
 use Rattle.su_op.specs.Unlinking.{unlink_plan}
 use Rattle.su_op.specs.Writing.{Writing, write_plan}
 use Rattle.su_op.specs.Truncation.{truncate_plan}
+use Rattle.su_op.specs.Taking.{take_plan}
 
 abbrev pub kind : Place → Area
 kind p = InodeArea p KindPart
@@ -75,3 +78,9 @@ abbrev pub TruncateRow : Type 0
 TruncateRow = (count : ℕ) (t : Truncate) (f : Place)
     → ((truncate_plan count t f).reads ≡ size f ∷ kind f ∷ entry_areas t.file)
     × (writes_of (truncate_plan count t f) ≡ truncated (nat_eq count t.size) count t.size f)
+
+-- reads kind and entry of the file, and all of its old body; writes all of the new body, and the entry
+abbrev pub TakeRow : Type 0
+TakeRow = (o : Option Inode) (a : ℕ) (t : Take) (f : Place)
+    → ((take_plan o a t f).reads ≡ whole f ∷ kind f ∷ entry_areas t.file)
+    × (writes_of (take_plan o a t f) ≡ whole (a, t.body) ∷ entry_areas t.file)

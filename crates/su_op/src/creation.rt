@@ -10,13 +10,15 @@ ghost use Rattle.su_bytes.specs.declared.refusals.Refusal.TheVariants.{NoMemory}
 
 use crate::access::closed_group;
 use crate::areas::{Area, Part};
+use crate::entries::point_entry;
 use crate::footprints::{Footprint, push_entry, push_file};
 use std::alloc::Global;
 use su_bytes::{FileId, Inum, Kind, Name, Refusal, Roster, User};
 use su_node::Inode;
 use su_table::Forest;
 
-/// Makes an empty file or directory, and gives it a name. A user's file stands at its own number, which is `body` then.
+/// Makes an empty file or directory, and gives it a name. A user's file stands at its own number, which is `body` then; a
+/// group file at any number of the author's that is free, and its group's entry points there.
 #[derive(Clone, Debug, Drop)]
 pub struct Create {
     /// The directory that gets the name.
@@ -28,9 +30,6 @@ pub struct Create {
     pub body: Inum,
     pub kind: Kind,
 }
-
-/// TEMPORARY: no group file can be made yet; a create of one is refused as a bad number.
-const GROUP_FILES_CAN_BE_MADE: bool = false;
 
 impl Create {
     /// Where the directory stands, if the author may create; else the first refusal.
@@ -81,7 +80,7 @@ impl Create {
     {
         match self.file {
             FileId::User(user, number) => user == author && number == self.body,
-            FileId::Group(..) => GROUP_FILES_CAN_BE_MADE,
+            FileId::Group(..) => true,
         }
     }
 
@@ -144,22 +143,10 @@ impl Create {
         let (user, number) = place;
         let inode = Inode::new(alloc, self.file, self.kind);
         forest.put_inode((user, number), inode)?;
-        if let Err(refusal) = self.add_entry(forest, (user, number)) {
+        if let Err(refusal) = point_entry(forest, self.file, (user, number)) {
             forest.remove_inode((user, number));
             return Err(refusal);
         }
         Ok(())
-    }
-
-    /// A group file's entry points there.
-    fn add_entry(&self, forest: &mut Forest, place: (User, Inum)) -> Result<(), Refusal>
-        ensures ok { OnOk result (forest.new ≡ edits forest.old (entry_edits self.now.file (Some place))) }
-        ensures refused { IfErr result (λ e. e ≡ NoMemory) }
-        ensures err { OnErr result (forest.new ≡ forest.old) }
-    {
-        match self.file {
-            FileId::User(..) => Ok(()),
-            FileId::Group(group, number) => forest.put_entry((group, number), place),
-        }
     }
 }

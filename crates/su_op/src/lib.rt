@@ -4,10 +4,12 @@
 mod access;
 mod areas;
 mod creation;
+mod entries;
 mod footprints;
 mod laws;
 mod limits;
 mod operations;
+mod taking;
 #[cfg(test)]
 mod tests;
 mod truncation;
@@ -20,6 +22,7 @@ pub use footprints::Footprint;
 pub use laws::{operations_are_local, table_of_cells};
 pub use limits::{LARGEST_FILE, LARGEST_WRITE};
 pub use operations::{Change, Op, apply, footprint};
+pub use taking::Take;
 pub use truncation::Truncate;
 pub use unlinking::Unlink;
 pub use writing::Write;

@@ -10,7 +10,7 @@ use crate::script::{Spoken, SpokenChange};
 use crate::words::{SpokenFile, SpokenPrincipal};
 use std::alloc::Global;
 use su_bytes::{FileId, Group, Inum, Name, Principal, Refusal, Roster, User};
-use su_op::{Change, Create, Op, Truncate, Unlink, Write};
+use su_op::{Change, Create, Op, Take, Truncate, Unlink, Write};
 
 /// The command that was spoken. `NoUser` for a user of 0 to 63 who isn't in the roster, then `BadName`, then `BadNumber`
 /// for any other word outside its range; `NoMemory` where there is no room for it.
@@ -101,6 +101,11 @@ fn meant(alloc: Global, spoken: SpokenChange<'_>) -> Result<Change, Refusal>
             Ok(Change::Do(Op::Truncate(Truncate { file, size })))
         }
         SpokenChange::Undo { number } => Ok(Change::Undo(number)),
+        SpokenChange::Take { file, body: number } => {
+            let file = file_id(file)?;
+            let number = Inum::new(number)?;
+            Ok(Change::Do(Op::Take(Take { file, body: number })))
+        }
     }
 }
 

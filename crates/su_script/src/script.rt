@@ -1,7 +1,7 @@
 // What the words of a line say.
 ghost use Rattle.std.specs.Prelude.{◌≡◌, IfOk, length, map, nat_eq, option_map};
 ghost use Rattle.std.specs.List.{list_any};
-ghost use Rattle.su_script.specs.Script.{command_of, spoken_words, by_user, change_of, create_of, write_of, truncate_of, body_of, unlink_of, at_end, undo_of, undo_last_of, question_of, listing_of, reading_of, description_of, handle_of, alone};
+ghost use Rattle.su_script.specs.Script.{command_of, spoken_words, by_user, change_of, create_of, write_of, truncate_of, body_of, unlink_of, at_end, undo_of, take_of, undo_last_of, question_of, listing_of, reading_of, description_of, handle_of, alone};
 ghost use Rattle.su_script.specs.Spoken.{said, change_said};
 ghost use Rattle.su_script.specs.SpokenFile.{file_said};
 
@@ -78,6 +78,11 @@ pub enum SpokenChange<'a> {
     /// `undo N`
     Undo {
         number: u64,
+    },
+    /// `take FILE BODY`
+    Take {
+        file: SpokenFile,
+        body: u64,
     },
 }
 
@@ -181,6 +186,9 @@ fn change<'a>(
     if word == b"undo".as_slice() {
         return Ok(undo(arguments));
     }
+    if word == b"take".as_slice() {
+        return Ok(take(arguments));
+    }
     Ok(None)
 }
 
@@ -273,6 +281,18 @@ fn undo<'a>(arguments: &[&'a [u8]]) -> Option<SpokenChange<'a>>
     };
     let number = number(word)?;
     Some(SpokenChange::Undo { number })
+}
+
+/// `FILE BODY`
+fn take<'a>(arguments: &[&'a [u8]]) -> Option<SpokenChange<'a>>
+    ensures { option_map change_said result ≡ take_of (map (λ w. w.now) arguments.now) }
+{
+    let [taken, place] = arguments else {
+        return None;
+    };
+    let file = file(taken)?;
+    let body = number(place)?;
+    Some(SpokenChange::Take { file, body })
 }
 
 /// Nothing more.

@@ -1,4 +1,6 @@
 // Scripts with their answers, bad lines of each kind, failing readers and writers.
+mod group_files;
+
 use crate::desk::{Status, run_desk};
 use sha2::{Digest, Sha256};
 use std::alloc::Global;

@@ -120,6 +120,7 @@ const DESK_WORDS: &str = "Commands:
   U write FILE OFF HEX           write bytes, in hex digits, from an offset on
   U truncate FILE SIZE           cut a file, or fill it with zeros, to a size
   U unlink DIR NAME FILE         take a name away
+  U take FILE BODY               take a group file over from the user who holds it
   U undo N                       undo operation N
   U undo_last                    undo the last operation that stands
   ls DIR                         list the names of a directory
@@ -131,7 +132,7 @@ const DESK_WORDS: &str = "Commands:
   same                           compare them with those that were kept
 
 U is the number of a user. DIR and FILE are file ids: U0:2 is number 2 of user 0, G0:1 number 1 of group 0, which is the
-root directory. BODY is the number at which the file is made; a file of a user has its own number.
+root directory. BODY is the number of the user at which the file stands then; a file of a user has its own number.
 PRINCIPAL is a user as U0 or a group as G0.";
 
 /// Help and the version are texts to be shown, and anything else is a fault.
