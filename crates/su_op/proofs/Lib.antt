@@ -8,5 +8,6 @@ pub mod Rules
 pub mod Creating
 pub mod Removing
 pub mod Resizing
+pub mod Links
 pub mod Storing
 pub mod Listing

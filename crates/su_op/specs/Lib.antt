@@ -6,6 +6,7 @@ pub mod Creation
 pub mod Unlinking
 pub mod Writing
 pub mod Truncation
+pub mod Linking
 pub mod Operation
 pub mod Growth
 pub mod Soundness

@@ -7,6 +7,7 @@ use Rattle.su_op.specs.declared.areas.Part.TheVariants.{Kind as KindPart, Links 
 use Rattle.su_op.specs.declared.areas.Area.{Area}
 use Rattle.su_op.specs.declared.areas.Area.TheVariants.{Inode as InodeArea}
 use Rattle.su_op.specs.declared.creation.Create.{Create}
+use Rattle.su_op.specs.declared.linking.Link.{Link}
 use Rattle.su_op.specs.declared.truncation.Truncate.{Truncate}
 use Rattle.su_op.specs.declared.unlinking.Unlink.{Unlink}
 use Rattle.su_op.specs.Footprint.{run}
@@ -15,6 +16,7 @@ use Rattle.su_op.specs.Creation.{create_plan}
 use Rattle.su_op.specs.Unlinking.{unlink_plan}
 use Rattle.su_op.specs.Writing.{Writing, write_plan}
 use Rattle.su_op.specs.Truncation.{truncate_plan}
+use Rattle.su_op.specs.Linking.{link_plan}
 
 abbrev pub kind : Place → Area
 kind p = InodeArea p KindPart
@@ -75,3 +77,9 @@ abbrev pub TruncateRow : Type 0
 TruncateRow = (count : ℕ) (t : Truncate) (f : Place)
     → ((truncate_plan count t f).reads ≡ size f ∷ kind f ∷ entry_areas t.file)
     × (writes_of (truncate_plan count t f) ≡ truncated (nat_eq count t.size) count t.size f)
+
+-- reads kind and entry of the directory and of the file; writes the name at the directory, and the file's links
+abbrev pub LinkRow : Type 0
+LinkRow = (count : ℕ) (l : Link) (d f : Place)
+    → ((link_plan count l d f).reads ≡ kind d ∷ entry_areas l.dir ++ kind f ∷ entry_areas l.file)
+    × (writes_of (link_plan count l d f) ≡ name l.name d ∷ links f ∷ [])

@@ -7,6 +7,7 @@ mod creation;
 mod footprints;
 mod laws;
 mod limits;
+mod linking;
 mod operations;
 #[cfg(test)]
 mod tests;
@@ -18,7 +19,8 @@ pub use areas::{Area, BlockRun, Part};
 pub use creation::Create;
 pub use footprints::Footprint;
 pub use laws::{operations_are_local, table_of_cells};
-pub use limits::{LARGEST_FILE, LARGEST_WRITE};
+pub use limits::{LARGEST_FILE, LARGEST_WRITE, MOST_LINKS};
+pub use linking::Link;
 pub use operations::{Change, Op, apply, footprint};
 pub use truncation::Truncate;
 pub use unlinking::Unlink;

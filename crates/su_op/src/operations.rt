@@ -5,6 +5,7 @@ ghost use Rattle.su_bytes.specs.declared.refusals.Refusal.TheVariants.{NoMemory}
 
 use crate::creation::Create;
 use crate::footprints::Footprint;
+use crate::linking::Link;
 use crate::truncation::Truncate;
 use crate::unlinking::Unlink;
 use crate::writing::Write;
@@ -19,6 +20,7 @@ pub enum Op {
     Unlink(Unlink),
     Write(Write),
     Truncate(Truncate),
+    Link(Link),
 }
 
 /// What an entry of the history does: an operation, or the undo of the operation with that number.
@@ -48,6 +50,9 @@ impl Op {
             }
             Op::Truncate(truncate) => {
                 truncate.check(forest, roster, author)?;
+            }
+            Op::Link(link) => {
+                link.check(forest, roster, author)?;
             }
         }
         Ok(())
@@ -87,6 +92,10 @@ pub fn apply(
             let place = truncate.check(forest, roster, author)?;
             truncate.perform(forest, place)
         }
+        Op::Link(link) => {
+            let (directory, place) = link.check(forest, roster, author)?;
+            link.perform(forest, directory, place)
+        }
     }
 }
 
@@ -125,6 +134,12 @@ pub fn footprint(
             let (user, number) = truncate.check(forest, roster, author)?;
             let size = forest.size((user, number));
             truncate.footprint(alloc, size, (user, number))
+        }
+        Op::Link(link) => {
+            let (directory, place) = link.check(forest, roster, author)?;
+            let (user, number) = place;
+            let links = forest.links((user, number));
+            link.footprint(alloc, links, directory, (user, number))
         }
     }
 }

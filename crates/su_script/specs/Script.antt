@@ -13,7 +13,7 @@ use Rattle.su_bytes.specs.declared.principals.Principal.{Principal}
 use Rattle.su_bytes.specs.declared.principals.Principal.TheVariants as principal
 use Rattle.su_bytes.specs.declared.file_ids.Kind.{Kind}
 use Rattle.su_bytes.specs.declared.file_ids.Kind.TheVariants.{File, Dir}
-use Rattle.su_op.specs.declared.operations.Op.TheVariants.{Create, Unlink, Write, Truncate}
+use Rattle.su_op.specs.declared.operations.Op.TheVariants.{Create, Unlink, Write, Truncate, Link}
 use Rattle.su_op.specs.declared.operations.Change.{Change}
 use Rattle.su_op.specs.declared.operations.Change.TheVariants.{Do, Undo}
 use Rattle.su_script.specs.declared.commands.Command.{Command}
@@ -96,6 +96,11 @@ abbrev pub truncate_of : List (List ℕ) → Option Change
 truncate_of (f ∷ s ∷ []) = option_and_then (λ file. option_and_then (λ size. Some (Do (Truncate (record { file = file; size = size })))) (number_of s)) (file_of f)
 truncate_of _ = None
 
+-- `DIR NAME FILE`
+abbrev pub link_of : List (List ℕ) → Option Change
+link_of (d ∷ name ∷ f ∷ others) = option_and_then (λ dir. option_and_then (λ file. at_end others (Do (Link (record { dir = dir; name = name; file = file })))) (file_of f)) (file_of d)
+link_of _ = None
+
 -- `N`
 abbrev pub undo_of : List (List ℕ) → Option Change
 undo_of (n ∷ []) = option_and_then (λ number. Some (Undo number)) (number_of n)
@@ -110,7 +115,8 @@ change_of word arguments =
     (cond (is_word word (codes "truncate")) (truncate_of arguments)
     (cond (is_word word (codes "unlink")) (unlink_of arguments)
     (cond (is_word word (codes "undo")) (undo_of arguments)
-    None)))))
+    (cond (is_word word (codes "link")) (link_of arguments)
+    None))))))
 
 abbrev pub undo_last_of : ℕ → List (List ℕ) → Option Command
 undo_last_of user [] = Some (UndoLast user)

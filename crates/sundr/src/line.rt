@@ -120,6 +120,7 @@ const DESK_WORDS: &str = "Commands:
   U write FILE OFF HEX           write bytes, in hex digits, from an offset on
   U truncate FILE SIZE           cut a file, or fill it with zeros, to a size
   U unlink DIR NAME FILE         take a name away
+  U link DIR NAME FILE           give a file a further name
   U undo N                       undo operation N
   U undo_last                    undo the last operation that stands
   ls DIR                         list the names of a directory

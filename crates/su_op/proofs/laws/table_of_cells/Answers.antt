@@ -1,4 +1,4 @@
-use Rattle.su_op.proofs.Listing.{create_row, unlink_row, write_row, truncate_row}
+use Rattle.su_op.proofs.Listing.{create_row, unlink_row, write_row, truncate_row, link_row}
 use Rattle.su_op.proofs.laws.table_of_cells.Goals as goal
 
 pub returns-clause-create : goal.returns-clause-create
@@ -12,3 +12,6 @@ returns-clause-write c = write_row
 
 pub returns-clause-truncate : goal.returns-clause-truncate
 returns-clause-truncate c = truncate_row
+
+pub returns-clause-link : goal.returns-clause-link
+returns-clause-link c = link_row
