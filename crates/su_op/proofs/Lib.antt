@@ -9,5 +9,6 @@ pub mod Creating
 pub mod Removing
 pub mod Resizing
 pub mod Copying
+pub mod Links
 pub mod Storing
 pub mod Listing

@@ -8,6 +8,7 @@ mod entries;
 mod footprints;
 mod laws;
 mod limits;
+mod linking;
 mod operations;
 mod taking;
 #[cfg(test)]
@@ -20,7 +21,8 @@ pub use areas::{Area, BlockRun, Part};
 pub use creation::Create;
 pub use footprints::Footprint;
 pub use laws::{operations_are_local, table_of_cells};
-pub use limits::{LARGEST_FILE, LARGEST_WRITE};
+pub use limits::{LARGEST_FILE, LARGEST_WRITE, MOST_LINKS};
+pub use linking::Link;
 pub use operations::{Change, Op, apply, footprint};
 pub use taking::Take;
 pub use truncation::Truncate;

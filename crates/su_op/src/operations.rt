@@ -6,6 +6,7 @@ ghost use Rattle.su_bytes.specs.declared.refusals.Refusal.TheVariants.{NoMemory}
 use crate::creation::Create;
 use crate::footprints::Footprint;
 use crate::taking::Take;
+use crate::linking::Link;
 use crate::truncation::Truncate;
 use crate::unlinking::Unlink;
 use crate::writing::Write;
@@ -21,6 +22,7 @@ pub enum Op {
     Write(Write),
     Truncate(Truncate),
     Take(Take),
+    Link(Link),
 }
 
 /// What an entry of the history does: an operation, or the undo of the operation with that number.
@@ -53,6 +55,9 @@ impl Op {
             }
             Op::Take(take) => {
                 take.check(forest, roster, author)?;
+            }
+            Op::Link(link) => {
+                link.check(forest, roster, author)?;
             }
         }
         Ok(())
@@ -96,6 +101,10 @@ pub fn apply(
             let place = take.check(forest, roster, author)?;
             take.perform(forest, author, place)
         }
+        Op::Link(link) => {
+            let (directory, place) = link.check(forest, roster, author)?;
+            link.perform(forest, directory, place)
+        }
     }
 }
 
@@ -138,6 +147,12 @@ pub fn footprint(
         Op::Take(take) => {
             let place = take.check(forest, roster, author)?;
             take.footprint(alloc, author, place)
+        }
+        Op::Link(link) => {
+            let (directory, place) = link.check(forest, roster, author)?;
+            let (user, number) = place;
+            let links = forest.links((user, number));
+            link.footprint(alloc, links, directory, (user, number))
         }
     }
 }

@@ -1,4 +1,7 @@
 // Each operation on its happy path, and the first refusal of several.
+mod linking;
+mod scenes;
+
 use crate::{
     Area, BlockRun, Create, LARGEST_FILE, LARGEST_WRITE, Op, Part, Truncate, Unlink, Write, apply,
     footprint, operations_are_local, table_of_cells,
@@ -21,9 +24,14 @@ fn root() -> Result<FileId, Refusal> {
 
 /// Users 0 and 1, both in group 0.
 fn two_users(alloc: Global) -> Result<Roster, Refusal> {
+    users(alloc, 2)
+}
+
+/// So many users, all in group 0.
+fn users(alloc: Global, count: u64) -> Result<Roster, Refusal> {
     let mut users = Vec::new(alloc);
     let mut members = Vec::new(alloc);
-    for number in 0..2u64 {
+    for number in 0..count {
         let user = User::new(number)?;
         let key = [0; KEY_LENGTH];
         users.push(RosterUser { user, key })?;
@@ -199,44 +207,53 @@ fn bytes_are_written_and_cut(rt: HostRuntime) -> Result<(), Fail> {
 }
 
 #[test]
-fn a_write_is_refused_by_its_first_check(rt: HostRuntime) -> Result<(), Fail> {
+fn a_write_is_refused_for_users_counts_and_groups(rt: HostRuntime) -> Result<(), Fail> {
+    let alloc = rt.alloc();
+    let roster = two_users(alloc)?;
+    let forest = two_files(alloc, &roster)?;
+    let author = User::FIRST;
+    let stranger = User::new(2)?;
+    let file = own(0, 2)?;
+    let missing = own(0, 9)?;
+    let group = Group::new(1)?;
+    let outside = FileId::Group(group, Inum::new(1)?);
+    let far = LARGEST_FILE;
+    let most = LARGEST_WRITE;
+    let nobody = Refusal::NoUser(stranger);
+    let cases = [
+        (stranger, write(alloc, missing, far, 0)?, nobody),
+        (author, write(alloc, outside, far, 0)?, Refusal::BadNumber),
+        (author, write(alloc, file, 0, most + 1)?, Refusal::BadNumber),
+        (
+            author,
+            write(alloc, outside, far, 1)?,
+            Refusal::NotMember(group),
+        ),
+    ];
+    for (user, op, refusal) in &cases {
+        assert!(rt; op.check(&forest, &roster, *user).as_ref().err() == Some(refusal));
+    }
+    Ok(())
+}
+
+#[test]
+fn a_write_is_refused_for_bodies_and_sizes(rt: HostRuntime) -> Result<(), Fail> {
     let alloc = rt.alloc();
     let roster = two_users(alloc)?;
     let forest = two_files(alloc, &roster)?;
     let author = User::FIRST;
     let other = User::new(1)?;
-    let stranger = User::new(2)?;
     let file = own(0, 2)?;
     let missing = own(0, 9)?;
-    let outside = FileId::Group(Group::new(1)?, Inum::new(1)?);
+    let root = root()?;
     let far = LARGEST_FILE;
     let cases = [
-        (
-            stranger,
-            write(alloc, missing, far, 0)?,
-            Refusal::NoUser(stranger),
-        ),
-        (author, write(alloc, outside, far, 0)?, Refusal::BadNumber),
-        (
-            author,
-            write(alloc, file, 0, LARGEST_WRITE + 1)?,
-            Refusal::BadNumber,
-        ),
-        (
-            author,
-            write(alloc, outside, far, 1)?,
-            Refusal::NotMember(Group::new(1)?),
-        ),
         (
             author,
             write(alloc, missing, far, 1)?,
             Refusal::NoFile(missing),
         ),
-        (
-            other,
-            write(alloc, root()?, far, 1)?,
-            Refusal::WrongKind(root()?),
-        ),
+        (other, write(alloc, root, far, 1)?, Refusal::WrongKind(root)),
         (
             author,
             write(alloc, own(1, 3)?, far, 1)?,

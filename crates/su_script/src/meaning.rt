@@ -1,7 +1,9 @@
 // Whether the words of a command are within their ranges.
-ghost use Rattle.std.specs.Prelude.{◌≡◌, ◌⊎◌, true, false, None, Some, IfOk, IfErr, OnOk};
+ghost use Rattle.std.specs.Prelude.{◌≡◌, ◌⊎◌, ◌&&◌, true, false, None, Some, IfOk, IfErr, OnOk};
 ghost use Rattle.su_bytes.specs.declared.refusals.Refusal.TheVariants.{NoMemory, NoUser, BadNumber};
 ghost use Rattle.su_script.specs.SpokenFile.{file_said, principal_said};
+ghost use Rattle.su_bytes.specs.Name.{is_name};
+ghost use Rattle.su_script.specs.Script.{created};
 ghost use Rattle.su_script.specs.Spoken.{said, change_said};
 ghost use Rattle.su_script.specs.Range.{is_file, is_principal, is_place, is_stranger, has_good_name, has_good_numbers, range_refusal, word_refusal};
 
@@ -9,8 +11,8 @@ use crate::commands::{Command, Question};
 use crate::script::{Spoken, SpokenChange};
 use crate::words::{SpokenFile, SpokenPrincipal};
 use std::alloc::Global;
-use su_bytes::{FileId, Group, Inum, Name, Principal, Refusal, Roster, User};
-use su_op::{Change, Create, Op, Take, Truncate, Unlink, Write};
+use su_bytes::{FileId, Group, Inum, Name, Principal, Refusal, Roster, User, Kind};
+use su_op::{Change, Create, Op, Take, Truncate, Unlink, Write, Link};
 
 /// The command that was spoken. `NoUser` for a user of 0 to 63 who isn't in the roster, then `BadName`, then `BadNumber`
 /// for any other word outside its range; `NoMemory` where there is no room for it.
@@ -71,19 +73,7 @@ fn meant(alloc: Global, spoken: SpokenChange<'_>) -> Result<Change, Refusal>
             name,
             file,
             body,
-        } => {
-            let name = Name::new(alloc, name)?;
-            let dir = file_id(dir)?;
-            let file = file_id(file)?;
-            let body = Inum::new(body)?;
-            Ok(Change::Do(Op::Create(Create {
-                dir,
-                name,
-                file,
-                body,
-                kind,
-            })))
-        }
+        } => create(alloc, kind, dir, name, file, body),
         SpokenChange::Unlink { dir, name, file } => {
             let name = Name::new(alloc, name)?;
             let dir = file_id(dir)?;
@@ -106,7 +96,39 @@ fn meant(alloc: Global, spoken: SpokenChange<'_>) -> Result<Change, Refusal>
             let number = Inum::new(number)?;
             Ok(Change::Do(Op::Take(Take { file, body: number })))
         }
+        SpokenChange::Link { dir, name, file } => {
+            let name = Name::new(alloc, name)?;
+            let dir = file_id(dir)?;
+            let file = file_id(file)?;
+            Ok(Change::Do(Op::Link(Link { dir, name, file })))
+        }
     }
+}
+
+/// The create of those words.
+fn create(
+    alloc: Global,
+    kind: Kind,
+    dir: SpokenFile,
+    name: &[u8],
+    file: SpokenFile,
+    body: u64,
+) -> Result<Change, Refusal>
+    ensures value { IfOk result (λ c. c ≡ created kind (file_said dir) name.now (file_said file) body) }
+    ensures accepted { OnOk result ((is_name name.now ≡ true) × ((is_file (file_said dir) && is_file (file_said file) && is_place body) ≡ true)) }
+    ensures refused { IfErr result (λ e. (e ≡ NoMemory) ⊎ (range_refusal (is_name name.now) (is_file (file_said dir) && is_file (file_said file) && is_place body) ≡ Some e)) }
+{
+    let name = Name::new(alloc, name)?;
+    let dir = file_id(dir)?;
+    let file = file_id(file)?;
+    let body = Inum::new(body)?;
+    Ok(Change::Do(Op::Create(Create {
+        dir,
+        name,
+        file,
+        body,
+        kind,
+    })))
 }
 
 /// `NoUser` for a user of 0 to 63 who isn't in the roster.

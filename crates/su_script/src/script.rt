@@ -1,7 +1,7 @@
 // What the words of a line say.
 ghost use Rattle.std.specs.Prelude.{◌≡◌, IfOk, length, map, nat_eq, option_map};
 ghost use Rattle.std.specs.List.{list_any};
-ghost use Rattle.su_script.specs.Script.{command_of, spoken_words, by_user, change_of, create_of, write_of, truncate_of, body_of, unlink_of, at_end, undo_of, take_of, undo_last_of, question_of, listing_of, reading_of, description_of, handle_of, alone};
+ghost use Rattle.su_script.specs.Script.{command_of, spoken_words, by_user, change_of, create_of, write_of, truncate_of, body_of, unlink_of, at_end, undo_of, take_of, undo_last_of, question_of, listing_of, reading_of, description_of, handle_of, alone, link_of};
 ghost use Rattle.su_script.specs.Spoken.{said, change_said};
 ghost use Rattle.su_script.specs.SpokenFile.{file_said};
 
@@ -83,6 +83,12 @@ pub enum SpokenChange<'a> {
     Take {
         file: SpokenFile,
         body: u64,
+    },
+    /// `link DIR NAME FILE`
+    Link {
+        dir: SpokenFile,
+        name: &'a [u8],
+        file: SpokenFile,
     },
 }
 
@@ -189,6 +195,9 @@ fn change<'a>(
     if word == b"take".as_slice() {
         return Ok(take(arguments));
     }
+    if word == b"link".as_slice() {
+        return Ok(link(arguments));
+    }
     Ok(None)
 }
 
@@ -260,6 +269,18 @@ fn unlink<'a>(arguments: &[&'a [u8]]) -> Option<SpokenChange<'a>>
     let dir = file(dir)?;
     let file = file(linked)?;
     at_end(others, SpokenChange::Unlink { dir, name, file })
+}
+
+/// `DIR NAME FILE`
+fn link<'a>(arguments: &[&'a [u8]]) -> Option<SpokenChange<'a>>
+    ensures { option_map change_said result ≡ link_of (map (λ w. w.now) arguments.now) }
+{
+    let (dir, others) = arguments.split_first()?;
+    let (name, others) = others.split_first()?;
+    let (linked, others) = others.split_first()?;
+    let dir = file(dir)?;
+    let file = file(linked)?;
+    at_end(others, SpokenChange::Link { dir, name, file })
 }
 
 /// A change after which no word is left.

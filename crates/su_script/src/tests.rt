@@ -1,5 +1,6 @@
 // Scripts with their answers, bad lines of each kind, failing readers and writers.
 mod group_files;
+mod linking;
 
 use crate::desk::{Status, run_desk};
 use sha2::{Digest, Sha256};
@@ -15,6 +16,25 @@ fn expect(rt: &(impl Abort + AllocGlobal), script: &[u8], text: &str, wanted: St
     let status = run_desk(rt.alloc(), script, &mut out, 2);
     assert!(rt; out.as_slice() == text.as_bytes(), "{text}");
     assert!(rt; status == wanted, "{text}");
+}
+
+/// After a script that prints this, each line is answered so.
+fn expect_each(
+    rt: &(impl Abort + AllocGlobal),
+    before: &str,
+    printed: &str,
+    cases: &[(&str, &str)],
+) -> Result<(), Fail> {
+    let mut script = String::from_str(rt.alloc(), before)?;
+    let mut text = String::from_str(rt.alloc(), printed)?;
+    for (line, answer) in cases {
+        script.push_str(line)?;
+        script.push_str("\n")?;
+        text.push_str(answer)?;
+        text.push_str("\n")?;
+    }
+    expect(rt, script.as_bytes(), text.as_str(), Status::Finished);
+    Ok(())
 }
 
 #[test]

@@ -121,6 +121,7 @@ const DESK_WORDS: &str = "Commands:
   U truncate FILE SIZE           cut a file, or fill it with zeros, to a size
   U unlink DIR NAME FILE         take a name away
   U take FILE BODY               take a group file over from the user who holds it
+  U link DIR NAME FILE           give a file a further name
   U undo N                       undo operation N
   U undo_last                    undo the last operation that stands
   ls DIR                         list the names of a directory

@@ -1,4 +1,4 @@
-use Rattle.su_op.proofs.Listing.{create_row, unlink_row, write_row, truncate_row, take_row}
+use Rattle.su_op.proofs.Listing.{create_row, unlink_row, write_row, truncate_row, take_row, link_row}
 use Rattle.su_op.proofs.laws.table_of_cells.Goals as goal
 
 pub returns-clause-create : goal.returns-clause-create
@@ -15,3 +15,5 @@ returns-clause-truncate c = truncate_row
 
 pub returns-clause-take : goal.returns-clause-take
 returns-clause-take c = take_row
+pub returns-clause-link : goal.returns-clause-link
+returns-clause-link c = link_row
