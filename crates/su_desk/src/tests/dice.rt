@@ -36,8 +36,8 @@ impl Dice {
         } else {
             number
         };
-        match names.get(place as usize) {
-            Some(name) => Ok((Name::new(alloc, name.as_slice())?, number + 2)),
+        match names.get(usize::try_from(place).unwrap_or(0)) {
+            Some(name) => Ok((Name::new(alloc, name.as_slice())?, number.saturating_add(2))),
             None => Err(Refusal::BadName),
         }
     }
@@ -54,7 +54,7 @@ impl Dice {
     fn file(&mut self) -> Result<FileId, Refusal> {
         let user = self.roll(10);
         let number = self.roll(3);
-        own(user.saturating_sub(8), number + 2)
+        own(user.saturating_sub(8), number.saturating_add(2))
     }
 
     fn create(&mut self, alloc: Global) -> Result<Op, Refusal> {
@@ -85,14 +85,14 @@ impl Dice {
 
     fn write(&mut self, alloc: Global) -> Result<Op, Refusal> {
         let file = self.file()?;
-        let off = self.roll(9000) as u32;
+        let off = u32::try_from(self.roll(9000)).unwrap_or(0);
         let bytes = Vec::from_slice(alloc, b"some bytes".as_slice())?;
         Ok(Op::Write(Write { file, off, bytes }))
     }
 
     fn truncate(&mut self) -> Result<Op, Refusal> {
         let file = self.file()?;
-        let size = self.roll(9000) as u32;
+        let size = u32::try_from(self.roll(9000)).unwrap_or(0);
         Ok(Op::Truncate(Truncate { file, size }))
     }
 
