@@ -1,5 +1,10 @@
-// Each call on its happy path.
+// Each call on its happy path, and histories by chance against the definitions.
+mod dice;
+mod yardstick;
+
+use crate::entries::Entry;
 use crate::{Desk, DeskReply};
+use dice::Dice;
 use std::alloc::Global;
 use std::test::Fail;
 use su_bytes::{
@@ -7,6 +12,8 @@ use su_bytes::{
     RosterUser, User,
 };
 use su_op::{Change, Create, Op, Truncate, Unlink, Write};
+use su_table::Forest;
+use yardstick::Yardstick;
 
 fn own(user: u64, number: u64) -> Result<FileId, Refusal> {
     Ok(FileId::User(User::new(user)?, Inum::new(number)?))
@@ -155,5 +162,64 @@ fn an_undo_brings_bytes_and_sizes_back(rt: HostRuntime) -> Result<(), Fail> {
     }
     desk.undo_last(author)?;
     assert!(rt; bytes(&desk)?.is_empty());
+    Ok(())
+}
+
+/// Whether two forests have the i-handles of the same trees.
+fn have_one_tree(one: &Forest, other: &Forest) -> Result<bool, Refusal> {
+    for number in 0..2u64 {
+        let user = User::new(number)?;
+        if one.i_handle(user)? != other.i_handle(user)? {
+            return Ok(false);
+        }
+    }
+    Ok(one.group_handle(Group::FIRST)? == other.group_handle(Group::FIRST)?)
+}
+
+/// Makes a change, and says whether its answer, the live numbers and the tree then are those of the definitions.
+fn agrees(
+    alloc: Global,
+    desk: &mut Desk,
+    yardstick: &mut Yardstick,
+    author: User,
+    change: Change,
+) -> Result<bool, Refusal> {
+    let refusal = yardstick.refusal(alloc, author, &change);
+    let answer = desk.apply(author, change.clone()?);
+    let expected = match refusal {
+        Some(refusal) => Err(refusal),
+        None => {
+            yardstick.entries.push(Entry { author, change })?;
+            Ok(yardstick.entries.len() as u64)
+        }
+    };
+    let live = desk.live()?;
+    let forest = yardstick.forest(alloc)?;
+    Ok(
+        answer == expected
+            && live.as_slice() == yardstick.live(alloc)?.as_slice()
+            && have_one_tree(desk.forest(), &forest)?,
+    )
+}
+
+#[test]
+fn histories_agree_with_the_definitions(rt: HostRuntime) -> Result<(), Fail> {
+    let alloc = rt.alloc();
+    let mut desk = Desk::new(alloc, two_users(alloc)?)?;
+    let roster = two_users(alloc)?;
+    let entries = Vec::new(alloc);
+    let mut yardstick = Yardstick { roster, entries };
+    let mut dice = Dice { state: 2004 };
+    for turn in 0..200u8 {
+        let author = dice.user()?;
+        let last = yardstick.entries.len() as u64;
+        let last_live = yardstick.live(alloc)?.pop().unwrap_or(0);
+        let change = dice.change(alloc, last, last_live)?;
+        assert!(rt;
+            agrees(alloc, &mut desk, &mut yardstick, author, change)?,
+            "{turn}"
+        );
+    }
+    assert!(rt; 50 < yardstick.entries.len());
     Ok(())
 }

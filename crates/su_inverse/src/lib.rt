@@ -9,3 +9,6 @@ mod returns;
 
 pub use inverses::{Inverse, build};
 pub use laws::{undo_after_apply, writes_can_be_kept};
+
+#[cfg(test)]
+mod tests;

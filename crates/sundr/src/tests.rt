@@ -37,48 +37,34 @@ fn wrong_command_lines(rt: HostRuntime) {
     assert!(rt; is_usage(alloc, &["sundr", "desk", "--users", "65"]));
     assert!(rt; is_usage(alloc, &["sundr", "desk", "--users", "x"]));
     assert!(rt; is_usage(alloc, &["sundr", "desk", "--users"]));
-    assert!(rt;
-        is_usage(
-            alloc,
-            &[
-                "sundr", "keygen", "--out", "k", "--height", "5", "--width", "8"
-            ]
-        )
-    );
-    assert!(rt;
-        is_usage(
-            alloc,
-            &[
-                "sundr",
-                "keygen",
-                "--entropy",
-                "e",
-                "--out",
-                "k",
-                "--height",
-                "6",
-                "--width",
-                "8"
-            ]
-        )
-    );
-    assert!(rt;
-        is_usage(
-            alloc,
-            &[
-                "sundr",
-                "keygen",
-                "--entropy",
-                "e",
-                "--out",
-                "k",
-                "--height",
-                "5",
-                "--width",
-                "2"
-            ]
-        )
-    );
+}
+
+/// The words that ask for a key of that height and width.
+fn key_words<'a>(height: &'a str, width: &'a str) -> [&'a str; 10] {
+    [
+        "sundr",
+        "keygen",
+        "--entropy",
+        "e",
+        "--out",
+        "k",
+        "--height",
+        height,
+        "--width",
+        width,
+    ]
+}
+
+#[test]
+fn wrong_command_lines_of_a_key(rt: HostRuntime) {
+    let alloc = rt.alloc();
+    assert!(rt; is_usage(alloc, &key_words("6", "8")));
+    assert!(rt; is_usage(alloc, &key_words("5", "2")));
+    assert!(rt; is_usage(alloc, &key_words("5", "")));
+    assert!(rt; is_usage(alloc, &["sundr", "keygen"]));
+    let words = key_words("5", "8");
+    assert!(rt; is_usage(alloc, &words[..9]));
+    assert!(rt; is_usage(alloc, &words[..8]));
 }
 
 /// The type numbers of the key that is asked for, where it is one from the file `e` to the file `k`.
@@ -102,18 +88,7 @@ fn command_lines_of_a_key(rt: HostRuntime) -> Result<(), Fail> {
         ("10", "8", (6, 4)),
     ];
     for (height, width, types) in kinds {
-        let words = [
-            "sundr",
-            "keygen",
-            "--entropy",
-            "e",
-            "--out",
-            "k",
-            "--height",
-            height,
-            "--width",
-            width,
-        ];
+        let words = key_words(height, width);
         assert!(rt; key_types(&line_of(rt.alloc(), &words)?) == Some(types));
     }
     Ok(())
