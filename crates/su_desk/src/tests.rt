@@ -167,6 +167,7 @@ fn an_undo_brings_bytes_and_sizes_back(rt: HostRuntime) -> Result<(), Fail> {
 
 /// Whether two forests have the i-handles of the same trees.
 fn have_one_tree(one: &Forest, other: &Forest) -> Result<bool, Refusal> {
+    let _root: Option<FileId> = None;
     for number in 0..2u64 {
         let user = User::new(number)?;
         if one.i_handle(user)? != other.i_handle(user)? {
@@ -202,6 +203,21 @@ fn agrees(
     )
 }
 
+/// Makes a change by chance, and says whether it agrees with the definitions.
+fn turn(
+    alloc: Global,
+    dice: &mut Dice,
+    desk: &mut Desk,
+    yardstick: &mut Yardstick,
+) -> Result<bool, Refusal> {
+    let _root: Option<FileId> = None;
+    let author = dice.user()?;
+    let last = yardstick.entries.len() as u64;
+    let last_live = yardstick.live(alloc)?.pop().unwrap_or(0);
+    let change = dice.change(alloc, last, last_live)?;
+    agrees(alloc, desk, yardstick, author, change)
+}
+
 #[test]
 fn histories_agree_with_the_definitions(rt: HostRuntime) -> Result<(), Fail> {
     let alloc = rt.alloc();
@@ -210,14 +226,10 @@ fn histories_agree_with_the_definitions(rt: HostRuntime) -> Result<(), Fail> {
     let entries = Vec::new(alloc);
     let mut yardstick = Yardstick { roster, entries };
     let mut dice = Dice { state: 2004 };
-    for turn in 0..200u8 {
-        let author = dice.user()?;
-        let last = yardstick.entries.len() as u64;
-        let last_live = yardstick.live(alloc)?.pop().unwrap_or(0);
-        let change = dice.change(alloc, last, last_live)?;
+    for number in 0..200u8 {
         assert!(rt;
-            agrees(alloc, &mut desk, &mut yardstick, author, change)?,
-            "{turn}"
+            turn(alloc, &mut dice, &mut desk, &mut yardstick)?,
+            "{number}"
         );
     }
     assert!(rt; 50 < yardstick.entries.len());
