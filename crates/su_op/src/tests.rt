@@ -1,4 +1,6 @@
 // Each operation on its happy path, and the first refusal of several.
+mod group_files;
+
 use crate::{
     Area, BlockRun, Create, LARGEST_FILE, LARGEST_WRITE, Op, Part, Truncate, Unlink, Write, apply,
     footprint, operations_are_local, table_of_cells,
