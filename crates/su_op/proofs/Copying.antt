@@ -5,7 +5,7 @@ use Rattle.su_bytes.specs.Membership.{Membership}
 use Rattle.su_bytes.specs.declared.file_ids.FileId.{FileId}
 use Rattle.su_bytes.specs.declared.file_ids.FileId.TheVariants.{User, Group}
 use Rattle.su_node.specs.Inode.{Inode}
-use Rattle.su_node.specs.Field.{Field.KindOf, Value.Nothing, Value.AKind, field_value}
+use Rattle.su_node.specs.Field.{Field.KindOf, Value.Nothing, field_value}
 use Rattle.su_node.specs.Change.{Change.Gone, change}
 use Rattle.su_table.specs.Place.{Place}
 use Rattle.su_table.specs.Tree.{Tree}

@@ -1,4 +1,5 @@
 // Each operation on its happy path, and the first refusal of several.
+mod group_files;
 mod linking;
 mod scenes;
 

@@ -1,0 +1,119 @@
+// Files of groups: made, gone with their last name, and taken over.
+use super::{own, root, two_users, write};
+use crate::{Area, Create, Op, Part, Take, Unlink, apply, footprint};
+use std::alloc::Global;
+use std::test::Fail;
+use su_bytes::{FileId, Group, Inum, Kind, Name, Refusal, Roster, User};
+use su_table::Forest;
+
+fn shared() -> Result<FileId, Refusal> {
+    Ok(FileId::Group(Group::FIRST, Inum::new(2)?))
+}
+
+/// Group file 2 of group 0, named `a` in the root, at number 5 of its author.
+fn create(alloc: Global) -> Result<Op, Refusal> {
+    Ok(Op::Create(Create {
+        dir: root()?,
+        name: Name::new(alloc, b"a")?,
+        file: shared()?,
+        body: Inum::new(5)?,
+        kind: Kind::File,
+    }))
+}
+
+#[test]
+fn a_group_file_comes_and_goes(rt: HostRuntime) -> Result<(), Fail> {
+    let alloc = rt.alloc();
+    let roster = two_users(alloc)?;
+    let mut forest = Forest::genesis(alloc, &roster)?;
+    let author = User::FIRST;
+    let file = shared()?;
+    let made = create(alloc)?;
+    let touched = footprint(alloc, &forest, &roster, author, &made)?;
+    assert_eq!(rt; touched.writes.len(), 5);
+    assert!(rt; touched.writes[4] == Area::Entry((Group::FIRST, Inum::new(2)?)));
+    apply(alloc, &mut forest, &roster, author, &made)?;
+    assert!(rt; forest.body(file) == Some((author, Inum::new(5)?)));
+    let gone = Op::Unlink(Unlink {
+        dir: root()?,
+        name: Name::new(alloc, b"a")?,
+        file,
+    });
+    let touched = footprint(alloc, &forest, &roster, author, &gone)?;
+    assert_eq!(rt; touched.writes.len(), 3);
+    assert!(rt; touched.writes[1] == Area::Entry((Group::FIRST, Inum::new(2)?)));
+    assert!(rt; touched.writes[2] == Area::Inode((author, Inum::new(5)?), Part::Whole));
+    apply(alloc, &mut forest, &roster, author, &gone)?;
+    assert!(rt; forest.body(file).is_none());
+    assert!(rt; forest.is_free((author, Inum::new(5)?)));
+    Ok(())
+}
+
+fn take(file: FileId, body: u64) -> Result<Op, Refusal> {
+    let body = Inum::new(body)?;
+    Ok(Op::Take(Take { file, body }))
+}
+
+/// User 0 has made the file, and written three bytes.
+fn one_file(alloc: Global, roster: &Roster) -> Result<Forest, Refusal> {
+    let mut forest = Forest::genesis(alloc, roster)?;
+    let made = create(alloc)?;
+    apply(alloc, &mut forest, roster, User::FIRST, &made)?;
+    let written = write(alloc, shared()?, 0, 3)?;
+    apply(alloc, &mut forest, roster, User::FIRST, &written)?;
+    Ok(forest)
+}
+
+#[test]
+fn a_take_reads_the_old_inode_and_writes_the_new_one(rt: HostRuntime) -> Result<(), Fail> {
+    let alloc = rt.alloc();
+    let roster = two_users(alloc)?;
+    let forest = one_file(alloc, &roster)?;
+    let other = User::new(1)?;
+    let taken = take(shared()?, 7)?;
+    let touched = footprint(alloc, &forest, &roster, other, &taken)?;
+    let old = Area::Inode((User::FIRST, Inum::new(5)?), Part::Whole);
+    let new = Area::Inode((other, Inum::new(7)?), Part::Whole);
+    assert_eq!(rt; touched.writes.len(), 2);
+    assert!(rt; touched.writes[0] == new);
+    assert_eq!(rt; touched.reads.len(), 5);
+    assert!(rt; touched.reads[0] == old);
+    Ok(())
+}
+
+#[test]
+fn a_group_file_is_taken_over(rt: HostRuntime) -> Result<(), Fail> {
+    let alloc = rt.alloc();
+    let roster = two_users(alloc)?;
+    let mut forest = one_file(alloc, &roster)?;
+    let other = User::new(1)?;
+    let file = shared()?;
+    let taken = take(file, 7)?;
+    apply(alloc, &mut forest, &roster, other, &taken)?;
+    assert!(rt; forest.body(file) == Some((other, Inum::new(7)?)));
+    assert_eq!(rt; forest.read(file)?.as_slice(), [7u8, 7, 7].as_slice());
+    assert!(rt; !forest.is_free((User::FIRST, Inum::new(5)?)));
+    Ok(())
+}
+
+#[test]
+fn a_take_is_refused_by_its_first_check(rt: HostRuntime) -> Result<(), Fail> {
+    let alloc = rt.alloc();
+    let roster = two_users(alloc)?;
+    let forest = Forest::genesis(alloc, &roster)?;
+    let author = User::FIRST;
+    let stranger = User::new(2)?;
+    let outside = FileId::Group(Group::new(1)?, Inum::new(1)?);
+    let missing = shared()?;
+    let held = take(own(0, 1)?, 1)?;
+    assert!(rt; held.check(&forest, &roster, stranger) == Err(Refusal::NoUser(stranger)));
+    assert!(rt; held.check(&forest, &roster, author) == Err(Refusal::BadNumber));
+    let closed = take(outside, 1)?;
+    assert!(rt; closed.check(&forest, &roster, author) == Err(Refusal::NotMember(Group::new(1)?)));
+    let absent = take(missing, 1)?;
+    assert!(rt; absent.check(&forest, &roster, author) == Err(Refusal::NoFile(missing)));
+    let again = take(root()?, 9)?;
+    assert!(rt; again.check(&forest, &roster, author) == Err(Refusal::Held));
+    assert!(rt; again.check(&forest, &roster, User::new(1)?).is_ok());
+    Ok(())
+}
