@@ -11,7 +11,7 @@ use Rattle.su_table.specs.Tree.{Tree}
 use Rattle.su_table.specs.Cell.{Cell, val}
 use Rattle.su_table.specs.Query.{is_free_at, is_entry_free}
 use Rattle.su_op.specs.declared.operations.Op.{Op}
-use Rattle.su_op.specs.declared.operations.Op.TheVariants.{Create, Unlink, Write, Truncate, Link}
+use Rattle.su_op.specs.declared.operations.Op.TheVariants.{Create, Unlink, Write, Truncate, Link, Rename}
 use Rattle.su_op.specs.declared.areas.Area.TheVariants.{Inode as InodeArea}
 use Rattle.su_op.specs.Area.{has}
 use Rattle.su_op.specs.Footprint.{written_parts, resized_parts, areas_of as areas_of_edits}
@@ -53,6 +53,8 @@ can_keep ro a (Write w) T p (user, (some, (touch, (f, at, (is, (holder, (fits, p
 can_keep ro a (Truncate t) T p (user, (touch, (f, at, (is, (holder, (fits, plan)))))) =
     subst (λ (p : Plan). AllByRecursion (CanKeep T) (writes_of p)) plan (resized_kept T f _ _ _)
 can_keep ro a (Link l) T p (user, (touch, (touch', (d, at, (f, at_f, (is, (is_f, (holder, (holder', (new, (room, plan))))))))))) =
+    subst (λ (p : Plan). AllByRecursion (CanKeep T) (writes_of p)) plan (tt, (tt, tt))
+can_keep ro a (Rename r) T p (user, (touch, (touch', (d, at_d, (t, at_t, (found, (dir_d, (dir_t, (holder_d, (holder_t, (named, (new, (stay, plan))))))))))))) =
     subst (λ (p : Plan). AllByRecursion (CanKeep T) (writes_of p)) plan (tt, (tt, tt))
 
 pub writes_kept : (ro : Membership) (T : Tree) (a : ℕ) (op : Op) → why ro T a op ≡ None → All (CanKeep T) (writes ro T a op)

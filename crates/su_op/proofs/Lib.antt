@@ -9,5 +9,6 @@ pub mod Creating
 pub mod Removing
 pub mod Resizing
 pub mod Links
+pub mod Renames
 pub mod Storing
 pub mod Listing

@@ -7,7 +7,7 @@ use Rattle.su_table.specs.Place.{Place}
 use Rattle.su_op.specs.Footprint.{areas_of, written_parts, resized_parts}
 use Rattle.su_op.specs.Rule.{entry_edits, entry_areas}
 use Rattle.su_op.specs.Unlinking.{unlink_edits}
-use Rattle.su_op.specs.Table.{name, kind, links, size, CreateRow, unlinked, UnlinkRow, written, WriteRow, truncated, TruncateRow, LinkRow}
+use Rattle.su_op.specs.Table.{name, kind, links, size, CreateRow, unlinked, UnlinkRow, written, WriteRow, truncated, TruncateRow, LinkRow, RenameRow}
 
 entry_written : (f : FileId) (v : Option Place) → areas_of (entry_edits f v) ≡ entry_areas f
 entry_written (User u i) v = refl
@@ -40,3 +40,6 @@ truncate_row count t f = (refl, go (nat_eq count t.size))
 
 pub link_row : LinkRow
 link_row count l d f = (refl, refl)
+
+pub rename_row : RenameRow
+rename_row moved r d t = (refl, refl)

@@ -7,6 +7,7 @@ pub mod Unlinking
 pub mod Writing
 pub mod Truncation
 pub mod Linking
+pub mod Renaming
 pub mod Operation
 pub mod Growth
 pub mod Soundness

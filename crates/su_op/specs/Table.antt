@@ -1,6 +1,6 @@
 -- The table of cells: what each operation reads besides, and what it writes. Of each file that is named, `d` and `f` are
 -- the places of the bodies of the directory and of the file. What is written is also read.
-use Rattle.std.specs.Prelude.{◌≡◌, ℕ, ◌+◌, ◌-◌, ◌/◌, Bool, true, false, List, [], ◌∷◌, ◌++◌, length, min, max, nat_eq, nat_le}
+use Rattle.std.specs.Prelude.{◌≡◌, ℕ, ◌+◌, ◌-◌, ◌/◌, Bool, true, false, List, [], ◌∷◌, ◌++◌, Option, length, min, max, nat_eq, nat_le}
 use Rattle.su_node.specs.Name.{Name}
 use Rattle.su_table.specs.Place.{Place}
 use Rattle.su_op.specs.declared.areas.Part.TheVariants.{Kind as KindPart, Links as LinksPart, Size as SizePart, Name as NamePart, Blocks as BlocksPart, Whole as WholePart}
@@ -8,6 +8,7 @@ use Rattle.su_op.specs.declared.areas.Area.{Area}
 use Rattle.su_op.specs.declared.areas.Area.TheVariants.{Inode as InodeArea}
 use Rattle.su_op.specs.declared.creation.Create.{Create}
 use Rattle.su_op.specs.declared.linking.Link.{Link}
+use Rattle.su_op.specs.declared.renaming.Rename.{Rename}
 use Rattle.su_op.specs.declared.truncation.Truncate.{Truncate}
 use Rattle.su_op.specs.declared.unlinking.Unlink.{Unlink}
 use Rattle.su_op.specs.Footprint.{run}
@@ -17,6 +18,7 @@ use Rattle.su_op.specs.Unlinking.{unlink_plan}
 use Rattle.su_op.specs.Writing.{Writing, write_plan}
 use Rattle.su_op.specs.Truncation.{truncate_plan}
 use Rattle.su_op.specs.Linking.{link_plan}
+use Rattle.su_op.specs.Renaming.{moved_areas, rename_plan}
 
 abbrev pub kind : Place → Area
 kind p = InodeArea p KindPart
@@ -83,3 +85,10 @@ abbrev pub LinkRow : Type 0
 LinkRow = (count : ℕ) (l : Link) (d f : Place)
     → ((link_plan count l d f).reads ≡ kind d ∷ entry_areas l.dir ++ kind f ∷ entry_areas l.file)
     × (writes_of (link_plan count l d f) ≡ name l.name d ∷ links f ∷ [])
+
+-- reads kind and entry of both directories, and of the file where it goes from one to the other (then `moved` is its place);
+-- writes the new name at the directory that gets it, and the old name at the directory that loses it
+abbrev pub RenameRow : Type 0
+RenameRow = (moved : Option Place) (r : Rename) (d t : Place)
+    → ((rename_plan moved r d t).reads ≡ kind d ∷ entry_areas r.from_ ++ kind t ∷ entry_areas r.to_ ++ moved_areas r.file moved)
+    × (writes_of (rename_plan moved r d t) ≡ name r.new_ t ∷ name r.old_ d ∷ [])

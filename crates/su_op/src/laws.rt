@@ -2,7 +2,7 @@
 ghost use Rattle.su_bytes.specs.Membership.{Membership};
 ghost use Rattle.su_op.specs.System.{Lawful};
 ghost use Rattle.su_op.specs.Store.{store};
-ghost use Rattle.su_op.specs.Table.{CreateRow, UnlinkRow, WriteRow, TruncateRow, LinkRow};
+ghost use Rattle.su_op.specs.Table.{CreateRow, UnlinkRow, WriteRow, TruncateRow, LinkRow, RenameRow};
 
 /// An operation depends on the cells that it reads alone, leaves the cells that it doesn't write, and keeps a tree sound.
 pub fn operations_are_local()
@@ -16,4 +16,5 @@ pub fn table_of_cells()
     ensures write { WriteRow }
     ensures truncate { TruncateRow }
     ensures link { LinkRow }
+    ensures rename { RenameRow }
 {}

@@ -9,6 +9,7 @@ mod laws;
 mod limits;
 mod linking;
 mod operations;
+mod renaming;
 #[cfg(test)]
 mod tests;
 mod truncation;
@@ -22,6 +23,7 @@ pub use laws::{operations_are_local, table_of_cells};
 pub use limits::{LARGEST_FILE, LARGEST_WRITE, MOST_LINKS};
 pub use linking::Link;
 pub use operations::{Change, Op, apply, footprint};
+pub use renaming::Rename;
 pub use truncation::Truncate;
 pub use unlinking::Unlink;
 pub use writing::Write;

@@ -6,11 +6,12 @@ ghost use Rattle.su_bytes.specs.declared.refusals.Refusal.TheVariants.{NoMemory}
 use crate::creation::Create;
 use crate::footprints::Footprint;
 use crate::linking::Link;
+use crate::renaming::Rename;
 use crate::truncation::Truncate;
 use crate::unlinking::Unlink;
 use crate::writing::Write;
 use std::alloc::Global;
-use su_bytes::{FileId, Refusal, Roster, User};
+use su_bytes::{FileId, Inum, Refusal, Roster, User};
 use su_table::Forest;
 
 /// An operation on the tree.
@@ -21,6 +22,7 @@ pub enum Op {
     Write(Write),
     Truncate(Truncate),
     Link(Link),
+    Rename(Rename),
 }
 
 /// What an entry of the history does: an operation, or the undo of the operation with that number.
@@ -53,6 +55,10 @@ impl Op {
             }
             Op::Link(link) => {
                 link.check(forest, roster, author)?;
+            }
+            Op::Rename(rename) => {
+                let places = rename.check(forest, roster, author)?;
+                let _moved: Option<(User, Inum)> = places.moved;
             }
         }
         Ok(())
@@ -95,6 +101,11 @@ pub fn apply(
         Op::Link(link) => {
             let (directory, place) = link.check(forest, roster, author)?;
             link.perform(forest, directory, place)
+        }
+        Op::Rename(rename) => {
+            let places = rename.check(forest, roster, author)?;
+            let _moved: Option<(User, Inum)> = places.moved;
+            rename.perform(forest, &places)
         }
     }
 }
@@ -140,6 +151,11 @@ pub fn footprint(
             let (user, number) = place;
             let links = forest.links((user, number));
             link.footprint(alloc, links, directory, (user, number))
+        }
+        Op::Rename(rename) => {
+            let places = rename.check(forest, roster, author)?;
+            let _moved: Option<(User, Inum)> = places.moved;
+            rename.footprint(alloc, &places)
         }
     }
 }

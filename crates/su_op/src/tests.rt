@@ -1,5 +1,6 @@
 // Each operation on its happy path, and the first refusal of several.
 mod linking;
+mod renaming;
 mod scenes;
 
 use crate::{

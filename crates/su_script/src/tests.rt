@@ -1,5 +1,6 @@
 // Scripts with their answers, bad lines of each kind, failing readers and writers.
 mod linking;
+mod renaming;
 
 use crate::desk::{Status, run_desk};
 use sha2::{Digest, Sha256};
