@@ -12,7 +12,7 @@ use Rattle.su_table.specs.Tree.{Tree}
 use Rattle.su_table.specs.Cell.{Cell, val}
 use Rattle.su_table.specs.Query.{is_free_at, is_entry_free}
 use Rattle.su_op.specs.declared.operations.Op.{Op}
-use Rattle.su_op.specs.declared.operations.Op.TheVariants.{Create, Unlink, Write, Truncate, Take, Link}
+use Rattle.su_op.specs.declared.operations.Op.TheVariants.{Create, Unlink, Write, Truncate, Take, Link, Rename}
 use Rattle.su_op.specs.declared.areas.Area.TheVariants.{Inode as InodeArea}
 use Rattle.su_op.specs.Area.{has}
 use Rattle.su_op.specs.Footprint.{written_parts, resized_parts, areas_of as areas_of_edits}
@@ -62,6 +62,8 @@ can_keep ro a (Take t) T p (user, (group, (touch, (f, at, (free, plan))))) =
     subst (λ (p : Plan). AllByRecursion (CanKeep T) (writes_of p)) plan
     (subst (AllByRecursion (CanKeep T)) (sym (take_writes (get T.inodes f) a t f)) (tt, taken_kept T t.file))
 can_keep ro a (Link l) T p (user, (touch, (touch', (d, at, (f, at_f, (is, (is_f, (holder, (holder', (new, (room, plan))))))))))) =
+    subst (λ (p : Plan). AllByRecursion (CanKeep T) (writes_of p)) plan (tt, (tt, tt))
+can_keep ro a (Rename r) T p (user, (touch, (touch', (d, at_d, (t, at_t, (found, (dir_d, (dir_t, (holder_d, (holder_t, (named, (new, (stay, plan))))))))))))) =
     subst (λ (p : Plan). AllByRecursion (CanKeep T) (writes_of p)) plan (tt, (tt, tt))
 
 pub writes_kept : (ro : Membership) (T : Tree) (a : ℕ) (op : Op) → why ro T a op ≡ None → All (CanKeep T) (writes ro T a op)

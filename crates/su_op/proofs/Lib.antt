@@ -10,5 +10,6 @@ pub mod Removing
 pub mod Resizing
 pub mod Copying
 pub mod Links
+pub mod Renames
 pub mod Storing
 pub mod Listing

@@ -8,7 +8,7 @@ use Rattle.su_op.specs.Footprint.{areas_of, written_parts, resized_parts}
 use Rattle.su_op.specs.Rule.{entry_edits, entry_areas}
 use Rattle.su_op.specs.Unlinking.{unlink_edits}
 use Rattle.su_op.proofs.Copying.{take_writes}
-use Rattle.su_op.specs.Table.{name, kind, links, size, CreateRow, unlinked, UnlinkRow, written, WriteRow, truncated, TruncateRow, TakeRow, LinkRow}
+use Rattle.su_op.specs.Table.{name, kind, links, size, CreateRow, unlinked, UnlinkRow, written, WriteRow, truncated, TruncateRow, TakeRow, LinkRow, RenameRow}
 
 entry_written : (f : FileId) (v : Option Place) → areas_of (entry_edits f v) ≡ entry_areas f
 entry_written (User u i) v = refl
@@ -41,5 +41,9 @@ truncate_row count t f = (refl, go (nat_eq count t.size))
 
 pub take_row : TakeRow
 take_row o a t f = (refl, take_writes o a t f)
+
 pub link_row : LinkRow
 link_row count l d f = (refl, refl)
+
+pub rename_row : RenameRow
+rename_row moved r d t = (refl, refl)

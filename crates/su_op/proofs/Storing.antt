@@ -13,7 +13,7 @@ use Rattle.su_node.specs.Field.{Field.KindOf, Value.Nothing, Value.AKind, Value.
 use Rattle.su_table.specs.Cell.{Cell, Cell.At, Cell.Entry, place_value, val}
 use Rattle.su_table.specs.Edit.{edits}
 use Rattle.su_op.specs.declared.operations.Op.{Op}
-use Rattle.su_op.specs.declared.operations.Op.TheVariants.{Create, Unlink, Write, Truncate, Take, Link}
+use Rattle.su_op.specs.declared.operations.Op.TheVariants.{Create, Unlink, Write, Truncate, Take, Link, Rename}
 use Rattle.su_op.specs.Area.{in_area, has}
 use Rattle.su_op.specs.Rule.{Plan, refusal, plan_of, reads_of, writes_of}
 use Rattle.su_op.specs.Operation.{rule_of, why, effect, reads, writes}
@@ -30,6 +30,7 @@ use Rattle.su_op.proofs.Removing.{unlink_local, unlink_can}
 use Rattle.su_op.proofs.Resizing.{write_local, write_can, truncate_local, truncate_can}
 use Rattle.su_op.proofs.Copying.{take_local, take_can}
 use Rattle.su_op.proofs.Links.{link_local, link_can}
+use Rattle.su_op.proofs.Renames.{rename_local, rename_can}
 
 -- ---- by cases over the operations
 
@@ -40,6 +41,7 @@ local_of ro a (Write w) T T' p sound g agree = write_local ro a w T T' p g agree
 local_of ro a (Truncate t) T T' p sound g agree = truncate_local ro a t T T' p g agree
 local_of ro a (Take t) T T' p sound g agree = take_local ro a t T T' p g agree
 local_of ro a (Link l) T T' p sound g agree = link_local ro a l T T' p g agree
+local_of ro a (Rename r) T T' p sound g agree = rename_local ro a r T T' p g agree
 
 can_of : (ro : Membership) (a : ℕ) (x : Op) (T : Tree) (p : Plan) → Sound T → Gives (rule_of ro T a x) p → CanEdits T p.edits
 can_of ro a (Create c) T p sound g = create_can ro a c T p sound g
@@ -48,6 +50,7 @@ can_of ro a (Write w) T p sound g = write_can ro a w T p g
 can_of ro a (Truncate t) T p sound g = truncate_can ro a t T p g
 can_of ro a (Take t) T p sound g = take_can ro a t T p sound g
 can_of ro a (Link l) T p sound g = link_can ro a l T p sound g
+can_of ro a (Rename r) T p sound g = rename_can ro a r T p g
 
 -- ---- the laws
 

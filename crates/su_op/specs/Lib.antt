@@ -8,6 +8,7 @@ pub mod Writing
 pub mod Truncation
 pub mod Taking
 pub mod Linking
+pub mod Renaming
 pub mod Operation
 pub mod Growth
 pub mod Soundness

@@ -6,7 +6,7 @@ use Rattle.su_table.specs.Tree.{Tree}
 use Rattle.su_table.specs.Edit.{edits}
 use Rattle.su_op.specs.declared.areas.Area.{Area}
 use Rattle.su_op.specs.declared.operations.Op.{Op}
-use Rattle.su_op.specs.declared.operations.Op.TheVariants.{Create, Unlink, Write, Truncate, Take, Link}
+use Rattle.su_op.specs.declared.operations.Op.TheVariants.{Create, Unlink, Write, Truncate, Take, Link, Rename}
 use Rattle.su_op.specs.Rule.{Rule, refusal, plan_of, reads_of, writes_of}
 use Rattle.su_op.specs.Creation.{create_rule}
 use Rattle.su_op.specs.Unlinking.{unlink_rule}
@@ -14,6 +14,7 @@ use Rattle.su_op.specs.Writing.{write_rule}
 use Rattle.su_op.specs.Truncation.{truncate_rule}
 use Rattle.su_op.specs.Taking.{take_rule}
 use Rattle.su_op.specs.Linking.{link_rule}
+use Rattle.su_op.specs.Renaming.{rename_rule}
 
 -- the rule of each operation
 abbrev pub rule_of : Membership → Tree → ℕ → Op → Rule
@@ -23,6 +24,7 @@ rule_of ro T a (Write w) = write_rule ro T a w
 rule_of ro T a (Truncate t) = truncate_rule ro T a t
 rule_of ro T a (Take t) = take_rule ro T a t
 rule_of ro T a (Link l) = link_rule ro T a l
+rule_of ro T a (Rename r) = rename_rule ro T a r
 
 -- why an operation by user a is not accepted: the first refusal, or none
 unfoldable pub why : Membership → Tree → ℕ → Op → Option Refusal

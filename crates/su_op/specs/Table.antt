@@ -10,6 +10,7 @@ use Rattle.su_op.specs.declared.areas.Area.TheVariants.{Inode as InodeArea}
 use Rattle.su_op.specs.declared.creation.Create.{Create}
 use Rattle.su_op.specs.declared.taking.Take.{Take}
 use Rattle.su_op.specs.declared.linking.Link.{Link}
+use Rattle.su_op.specs.declared.renaming.Rename.{Rename}
 use Rattle.su_op.specs.declared.truncation.Truncate.{Truncate}
 use Rattle.su_op.specs.declared.unlinking.Unlink.{Unlink}
 use Rattle.su_op.specs.Footprint.{run}
@@ -20,6 +21,7 @@ use Rattle.su_op.specs.Writing.{Writing, write_plan}
 use Rattle.su_op.specs.Truncation.{truncate_plan}
 use Rattle.su_op.specs.Taking.{take_plan}
 use Rattle.su_op.specs.Linking.{link_plan}
+use Rattle.su_op.specs.Renaming.{moved_areas, rename_plan}
 
 abbrev pub kind : Place → Area
 kind p = InodeArea p KindPart
@@ -86,8 +88,16 @@ abbrev pub TakeRow : Type 0
 TakeRow = (o : Option Inode) (a : ℕ) (t : Take) (f : Place)
     → ((take_plan o a t f).reads ≡ whole f ∷ kind f ∷ entry_areas t.file)
     × (writes_of (take_plan o a t f) ≡ whole (a, t.body) ∷ entry_areas t.file)
+
 -- reads kind and entry of the directory and of the file; writes the name at the directory, and the file's links
 abbrev pub LinkRow : Type 0
 LinkRow = (count : ℕ) (l : Link) (d f : Place)
     → ((link_plan count l d f).reads ≡ kind d ∷ entry_areas l.dir ++ kind f ∷ entry_areas l.file)
     × (writes_of (link_plan count l d f) ≡ name l.name d ∷ links f ∷ [])
+
+-- reads kind and entry of both directories, and of the file where it goes from one to the other (then `moved` is its place);
+-- writes the new name at the directory that gets it, and the old name at the directory that loses it
+abbrev pub RenameRow : Type 0
+RenameRow = (moved : Option Place) (r : Rename) (d t : Place)
+    → ((rename_plan moved r d t).reads ≡ kind d ∷ entry_areas r.from_ ++ kind t ∷ entry_areas r.to_ ++ moved_areas r.file moved)
+    × (writes_of (rename_plan moved r d t) ≡ name r.new_ t ∷ name r.old_ d ∷ [])

@@ -2,7 +2,7 @@
 ghost use Rattle.su_bytes.specs.Membership.{Membership};
 ghost use Rattle.su_op.specs.System.{Lawful};
 ghost use Rattle.su_op.specs.Store.{store};
-ghost use Rattle.su_op.specs.Table.{CreateRow, UnlinkRow, WriteRow, TruncateRow, TakeRow, LinkRow};
+ghost use Rattle.su_op.specs.Table.{CreateRow, UnlinkRow, WriteRow, TruncateRow, TakeRow, LinkRow, RenameRow};
 
 /// An operation depends on the cells that it reads alone, leaves the cells that it doesn't write, and keeps a tree sound.
 pub fn operations_are_local()
@@ -17,4 +17,5 @@ pub fn table_of_cells()
     ensures truncate { TruncateRow }
     ensures take { TakeRow }
     ensures link { LinkRow }
+    ensures rename { RenameRow }
 {}

@@ -10,6 +10,7 @@ mod laws;
 mod limits;
 mod linking;
 mod operations;
+mod renaming;
 mod taking;
 #[cfg(test)]
 mod tests;
@@ -24,6 +25,7 @@ pub use laws::{operations_are_local, table_of_cells};
 pub use limits::{LARGEST_FILE, LARGEST_WRITE, MOST_LINKS};
 pub use linking::Link;
 pub use operations::{Change, Op, apply, footprint};
+pub use renaming::Rename;
 pub use taking::Take;
 pub use truncation::Truncate;
 pub use unlinking::Unlink;

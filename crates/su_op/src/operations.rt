@@ -5,13 +5,14 @@ ghost use Rattle.su_bytes.specs.declared.refusals.Refusal.TheVariants.{NoMemory}
 
 use crate::creation::Create;
 use crate::footprints::Footprint;
-use crate::taking::Take;
 use crate::linking::Link;
+use crate::renaming::Rename;
+use crate::taking::Take;
 use crate::truncation::Truncate;
 use crate::unlinking::Unlink;
 use crate::writing::Write;
 use std::alloc::Global;
-use su_bytes::{FileId, Refusal, Roster, User};
+use su_bytes::{FileId, Inum, Refusal, Roster, User};
 use su_table::Forest;
 
 /// An operation on the tree.
@@ -23,6 +24,7 @@ pub enum Op {
     Truncate(Truncate),
     Take(Take),
     Link(Link),
+    Rename(Rename),
 }
 
 /// What an entry of the history does: an operation, or the undo of the operation with that number.
@@ -58,6 +60,10 @@ impl Op {
             }
             Op::Link(link) => {
                 link.check(forest, roster, author)?;
+            }
+            Op::Rename(rename) => {
+                let places = rename.check(forest, roster, author)?;
+                let _moved: Option<(User, Inum)> = places.moved;
             }
         }
         Ok(())
@@ -104,6 +110,11 @@ pub fn apply(
         Op::Link(link) => {
             let (directory, place) = link.check(forest, roster, author)?;
             link.perform(forest, directory, place)
+        }
+        Op::Rename(rename) => {
+            let places = rename.check(forest, roster, author)?;
+            let _moved: Option<(User, Inum)> = places.moved;
+            rename.perform(forest, &places)
         }
     }
 }
@@ -153,6 +164,11 @@ pub fn footprint(
             let (user, number) = place;
             let links = forest.links((user, number));
             link.footprint(alloc, links, directory, (user, number))
+        }
+        Op::Rename(rename) => {
+            let places = rename.check(forest, roster, author)?;
+            let _moved: Option<(User, Inum)> = places.moved;
+            rename.footprint(alloc, &places)
         }
     }
 }

@@ -1,6 +1,7 @@
 // Each operation on its happy path, and the first refusal of several.
 mod group_files;
 mod linking;
+mod renaming;
 mod scenes;
 
 use crate::{

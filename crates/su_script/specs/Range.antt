@@ -8,7 +8,8 @@ use Rattle.su_bytes.specs.declared.refusals.Refusal.{Refusal}
 use Rattle.su_bytes.specs.declared.refusals.Refusal.TheVariants.{NoUser, BadName, BadNumber}
 use Rattle.su_bytes.specs.Membership.{Membership, has_user}
 use Rattle.su_bytes.specs.Name.{is_name}
-use Rattle.su_op.specs.declared.operations.Op.TheVariants.{Create, Unlink, Write, Truncate, Take, Link}
+use Rattle.su_op.specs.declared.operations.Op.TheVariants.{Create, Unlink, Write, Truncate, Take, Link, Rename}
+use Rattle.su_op.specs.declared.operations.Op.{Op}
 use Rattle.su_op.specs.declared.operations.Change.{Change}
 use Rattle.su_op.specs.declared.operations.Change.TheVariants.{Do, Undo}
 use Rattle.su_script.specs.declared.commands.Command.{Command}
@@ -44,7 +45,7 @@ is_question (Read f off len) = is_file f
 is_question (Describe f) = is_file f
 is_question (Handle p) = is_principal p
 
--- the name of a change is one, where it has a name
+-- the names of a change are names
 abbrev pub has_good_name : Change → Bool
 has_good_name (Do (Create c)) = is_name c.name
 has_good_name (Do (Unlink u)) = is_name u.name
@@ -52,6 +53,7 @@ has_good_name (Do (Write w)) = true
 has_good_name (Do (Truncate t)) = true
 has_good_name (Do (Take t)) = true
 has_good_name (Do (Link l)) = is_name l.name
+has_good_name (Do (Rename r)) = is_name r.old_ && is_name r.new_
 has_good_name (Undo n) = true
 
 -- the numbers of a change are in their ranges
@@ -62,6 +64,7 @@ has_good_numbers (Do (Write w)) = is_file w.file && nat_lt w.off (2 ^ 32)
 has_good_numbers (Do (Truncate t)) = is_file t.file && nat_lt t.size (2 ^ 32)
 has_good_numbers (Do (Take t)) = is_file t.file && is_place t.body
 has_good_numbers (Do (Link l)) = is_file l.dir && is_file l.file
+has_good_numbers (Do (Rename r)) = is_file r.from_ && is_file r.to_ && is_file r.file
 has_good_numbers (Undo n) = true
 
 -- a bad name, and then a number outside its range

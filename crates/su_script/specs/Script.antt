@@ -13,7 +13,7 @@ use Rattle.su_bytes.specs.declared.principals.Principal.{Principal}
 use Rattle.su_bytes.specs.declared.principals.Principal.TheVariants as principal
 use Rattle.su_bytes.specs.declared.file_ids.Kind.{Kind}
 use Rattle.su_bytes.specs.declared.file_ids.Kind.TheVariants.{File, Dir}
-use Rattle.su_op.specs.declared.operations.Op.TheVariants.{Create, Unlink, Write, Truncate, Take, Link}
+use Rattle.su_op.specs.declared.operations.Op.TheVariants.{Create, Unlink, Write, Truncate, Take, Link, Rename}
 use Rattle.su_op.specs.declared.operations.Change.{Change}
 use Rattle.su_op.specs.declared.operations.Change.TheVariants.{Do, Undo}
 use Rattle.su_script.specs.declared.commands.Command.{Command}
@@ -100,10 +100,19 @@ truncate_of _ = None
 abbrev pub take_of : List (List ℕ) → Option Change
 take_of (f ∷ b ∷ []) = option_and_then (λ file. option_and_then (λ body. Some (Do (Take (record { file = file; body = body })))) (number_of b)) (file_of f)
 take_of _ = None
+
 -- `DIR NAME FILE`
 abbrev pub link_of : List (List ℕ) → Option Change
 link_of (d ∷ name ∷ f ∷ others) = option_and_then (λ dir. option_and_then (λ file. at_end others (Do (Link (record { dir = dir; name = name; file = file })))) (file_of f)) (file_of d)
 link_of _ = None
+
+abbrev pub renamed : FileId → List ℕ → FileId → List ℕ → FileId → Change
+renamed from old to new file = Do (Rename (record { from_ = from; old_ = old; to_ = to; new_ = new; file = file }))
+
+-- `FROM OLD TO NEW FILE`
+abbrev pub rename_of : List (List ℕ) → Option Change
+rename_of (s ∷ old ∷ t ∷ new ∷ f ∷ others) = option_and_then (λ from. option_and_then (λ to. option_and_then (λ file. at_end others (renamed from old to new file)) (file_of f)) (file_of t)) (file_of s)
+rename_of _ = None
 
 -- `N`
 abbrev pub undo_of : List (List ℕ) → Option Change
@@ -121,7 +130,8 @@ change_of word arguments =
     (cond (is_word word (codes "undo")) (undo_of arguments)
     (cond (is_word word (codes "take")) (take_of arguments)
     (cond (is_word word (codes "link")) (link_of arguments)
-    None)))))))
+    (cond (is_word word (codes "rename")) (rename_of arguments)
+    None))))))))
 
 abbrev pub undo_last_of : ℕ → List (List ℕ) → Option Command
 undo_last_of user [] = Some (UndoLast user)

@@ -8,9 +8,9 @@ use Rattle.su_script.specs.declared.commands.Question.TheVariants as question
 use Rattle.su_script.specs.declared.script.Spoken.{Spoken}
 use Rattle.su_script.specs.declared.script.Spoken.TheVariants.{Apply, UndoLast, List, Read, Describe, Handle, Versions, Mark, Same}
 use Rattle.su_script.specs.declared.script.SpokenChange.{SpokenChange}
-use Rattle.su_script.specs.declared.script.SpokenChange.TheVariants.{Create, Unlink, Write, Truncate, Undo, Take, Link}
+use Rattle.su_script.specs.declared.script.SpokenChange.TheVariants.{Create, Unlink, Write, Truncate, Undo, Take, Link, Rename}
 use Rattle.su_script.specs.SpokenFile.{file_said, principal_said}
-use Rattle.su_script.specs.Script.{created}
+use Rattle.su_script.specs.Script.{created, renamed}
 
 abbrev pub change_said : SpokenChange → Change
 change_said (Create kind dir name f body) = created kind (file_said dir) name.now (file_said f) body
@@ -18,6 +18,7 @@ change_said (Unlink dir name f) = change.Do (op.Unlink (record { dir = file_said
 change_said (Write f off bytes) = change.Do (op.Write (record { file = file_said f; off = off; bytes = bytes.items }))
 change_said (Truncate f size) = change.Do (op.Truncate (record { file = file_said f; size = size }))
 change_said (Link dir name f) = change.Do (op.Link (record { dir = file_said dir; name = name.now; file = file_said f }))
+change_said (Rename r) = renamed (file_said r.from_) r.old_.now (file_said r.to_) r.new_.now (file_said r.file)
 change_said (Undo number) = change.Undo number
 change_said (Take f body) = change.Do (op.Take (record { file = file_said f; body = body }))
 

@@ -3,16 +3,16 @@ ghost use Rattle.std.specs.Prelude.{◌≡◌, ◌⊎◌, ◌&&◌, true, false,
 ghost use Rattle.su_bytes.specs.declared.refusals.Refusal.TheVariants.{NoMemory, NoUser, BadNumber};
 ghost use Rattle.su_script.specs.SpokenFile.{file_said, principal_said};
 ghost use Rattle.su_bytes.specs.Name.{is_name};
-ghost use Rattle.su_script.specs.Script.{created};
+ghost use Rattle.su_script.specs.Script.{created, renamed};
 ghost use Rattle.su_script.specs.Spoken.{said, change_said};
 ghost use Rattle.su_script.specs.Range.{is_file, is_principal, is_place, is_stranger, has_good_name, has_good_numbers, range_refusal, word_refusal};
 
 use crate::commands::{Command, Question};
-use crate::script::{Spoken, SpokenChange};
+use crate::script::{Spoken, SpokenChange, SpokenRename};
 use crate::words::{SpokenFile, SpokenPrincipal};
 use std::alloc::Global;
-use su_bytes::{FileId, Group, Inum, Name, Principal, Refusal, Roster, User, Kind};
-use su_op::{Change, Create, Op, Take, Truncate, Unlink, Write, Link};
+use su_bytes::{FileId, Group, Inum, Kind, Name, Principal, Refusal, Roster, User};
+use su_op::{Change, Create, Link, Op, Rename, Take, Truncate, Unlink, Write};
 
 /// The command that was spoken. `NoUser` for a user of 0 to 63 who isn't in the roster, then `BadName`, then `BadNumber`
 /// for any other word outside its range; `NoMemory` where there is no room for it.
@@ -102,6 +102,7 @@ fn meant(alloc: Global, spoken: SpokenChange<'_>) -> Result<Change, Refusal>
             let file = file_id(file)?;
             Ok(Change::Do(Op::Link(Link { dir, name, file })))
         }
+        SpokenChange::Rename(spoken) => rename(alloc, &spoken),
     }
 }
 
@@ -128,6 +129,26 @@ fn create(
         file,
         body,
         kind,
+    })))
+}
+
+/// The rename of those words.
+fn rename(alloc: Global, spoken: &SpokenRename<'_>) -> Result<Change, Refusal>
+    ensures value { IfOk result (λ c. c ≡ renamed (file_said spoken.now.from_) spoken.now.old_.now (file_said spoken.now.to_) spoken.now.new_.now (file_said spoken.now.file)) }
+    ensures accepted { OnOk result (((is_name spoken.now.old_.now && is_name spoken.now.new_.now) ≡ true) × ((is_file (file_said spoken.now.from_) && is_file (file_said spoken.now.to_) && is_file (file_said spoken.now.file)) ≡ true)) }
+    ensures refused { IfErr result (λ e. (e ≡ NoMemory) ⊎ (range_refusal (is_name spoken.now.old_.now && is_name spoken.now.new_.now) (is_file (file_said spoken.now.from_) && is_file (file_said spoken.now.to_) && is_file (file_said spoken.now.file)) ≡ Some e)) }
+{
+    let old_ = Name::new(alloc, spoken.old_)?;
+    let new_ = Name::new(alloc, spoken.new_)?;
+    let from_ = file_id(spoken.from_)?;
+    let to_ = file_id(spoken.to_)?;
+    let file = file_id(spoken.file)?;
+    Ok(Change::Do(Op::Rename(Rename {
+        from_,
+        old_,
+        to_,
+        new_,
+        file,
     })))
 }
 

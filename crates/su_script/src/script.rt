@@ -1,7 +1,7 @@
 // What the words of a line say.
 ghost use Rattle.std.specs.Prelude.{◌≡◌, IfOk, length, map, nat_eq, option_map};
 ghost use Rattle.std.specs.List.{list_any};
-ghost use Rattle.su_script.specs.Script.{command_of, spoken_words, by_user, change_of, create_of, write_of, truncate_of, body_of, unlink_of, at_end, undo_of, take_of, undo_last_of, question_of, listing_of, reading_of, description_of, handle_of, alone, link_of};
+ghost use Rattle.su_script.specs.Script.{command_of, spoken_words, by_user, change_of, create_of, write_of, truncate_of, body_of, unlink_of, at_end, undo_of, take_of, undo_last_of, question_of, listing_of, reading_of, description_of, handle_of, alone, link_of, rename_of};
 ghost use Rattle.su_script.specs.Spoken.{said, change_said};
 ghost use Rattle.su_script.specs.SpokenFile.{file_said};
 
@@ -90,6 +90,18 @@ pub enum SpokenChange<'a> {
         name: &'a [u8],
         file: SpokenFile,
     },
+    /// `rename FROM OLD TO NEW FILE`
+    Rename(SpokenRename<'a>),
+}
+
+/// A rename as a line says it.
+#[derive(Debug, Drop)]
+pub struct SpokenRename<'a> {
+    pub from_: SpokenFile,
+    pub old_: &'a [u8],
+    pub to_: SpokenFile,
+    pub new_: &'a [u8],
+    pub file: SpokenFile,
 }
 
 /// What these words say; nothing where they are no command.
@@ -198,6 +210,9 @@ fn change<'a>(
     if word == b"link".as_slice() {
         return Ok(link(arguments));
     }
+    if word == b"rename".as_slice() {
+        return Ok(rename(arguments));
+    }
     Ok(None)
 }
 
@@ -281,6 +296,28 @@ fn link<'a>(arguments: &[&'a [u8]]) -> Option<SpokenChange<'a>>
     let dir = file(dir)?;
     let file = file(linked)?;
     at_end(others, SpokenChange::Link { dir, name, file })
+}
+
+/// `FROM OLD TO NEW FILE`
+fn rename<'a>(arguments: &[&'a [u8]]) -> Option<SpokenChange<'a>>
+    ensures { option_map change_said result ≡ rename_of (map (λ w. w.now) arguments.now) }
+{
+    let (source, others) = arguments.split_first()?;
+    let (old_, others) = others.split_first()?;
+    let (target, others) = others.split_first()?;
+    let (new_, others) = others.split_first()?;
+    let (renamed, others) = others.split_first()?;
+    let from_ = file(source)?;
+    let to_ = file(target)?;
+    let file = file(renamed)?;
+    let rename = SpokenRename {
+        from_,
+        old_,
+        to_,
+        new_,
+        file,
+    };
+    at_end(others, SpokenChange::Rename(rename))
 }
 
 /// A change after which no word is left.

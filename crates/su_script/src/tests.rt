@@ -1,6 +1,7 @@
 // Scripts with their answers, bad lines of each kind, failing readers and writers.
 mod group_files;
 mod linking;
+mod renaming;
 
 use crate::desk::{Status, run_desk};
 use sha2::{Digest, Sha256};

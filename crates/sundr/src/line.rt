@@ -122,6 +122,7 @@ const DESK_WORDS: &str = "Commands:
   U unlink DIR NAME FILE         take a name away
   U take FILE BODY               take a group file over from the user who holds it
   U link DIR NAME FILE           give a file a further name
+  U rename FROM OLD TO NEW FILE  give a file another name, in its directory or in another one
   U undo N                       undo operation N
   U undo_last                    undo the last operation that stands
   ls DIR                         list the names of a directory
@@ -132,9 +133,9 @@ const DESK_WORDS: &str = "Commands:
   mark                           keep the digests of all i-tables
   same                           compare them with those that were kept
 
-U is the number of a user. DIR and FILE are file ids: U0:2 is number 2 of user 0, G0:1 number 1 of group 0, which is the
-root directory. BODY is the number of the user at which the file stands then; a file of a user has its own number.
-PRINCIPAL is a user as U0 or a group as G0.";
+U is the number of a user. DIR, FROM, TO and FILE are file ids: U0:2 is number 2 of user 0, G0:1 number 1 of group 0,
+which is the root directory. BODY is the number of the user at which the file stands then; a file of a user has its own
+number. PRINCIPAL is a user as U0 or a group as G0.";
 
 /// Help and the version are texts to be shown, and anything else is a fault.
 fn shown(alloc: Global, error: &clap::Error) -> Result<Line, LineFault>

@@ -1,5 +1,5 @@
 // What three users have: files and directories of which most links and renames are refused.
-use super::{own, users};
+use super::{own, root, users};
 use crate::MOST_LINKS;
 use std::alloc::Global;
 use su_bytes::{FileId, Group, Inum, Kind, Name, Refusal, Roster, User};
@@ -54,4 +54,41 @@ pub(crate) fn place(user: u64, number: u64) -> Result<(User, Inum), Refusal> {
 /// A file of group 1, of which nobody is a member.
 pub(crate) fn outside(number: u64) -> Result<FileId, Refusal> {
     Ok(FileId::Group(Group::new(1)?, Inum::new(number)?))
+}
+
+/// The file ids of a scene, and some at which nothing stands.
+#[derive(Clone, Copy, Debug)]
+pub(crate) struct Files {
+    /// The root, in which `f` leads to the file and `d` to the directory of user 0.
+    pub(crate) root: FileId,
+    /// Of user 0.
+    pub(crate) file: FileId,
+    pub(crate) directory: FileId,
+    /// Of user 1.
+    pub(crate) other_file: FileId,
+    pub(crate) other_directory: FileId,
+    /// Of user 2.
+    pub(crate) third_file: FileId,
+    pub(crate) third_directory: FileId,
+    /// Nothing stands there.
+    pub(crate) missing: FileId,
+    pub(crate) absent: FileId,
+    pub(crate) gone: FileId,
+}
+
+impl Files {
+    pub(crate) fn new() -> Result<Files, Refusal> {
+        Ok(Files {
+            root: root()?,
+            file: own(0, 2)?,
+            directory: own(0, 7)?,
+            other_file: own(1, 3)?,
+            other_directory: own(1, 4)?,
+            third_file: own(2, 6)?,
+            third_directory: own(2, 5)?,
+            missing: own(0, 8)?,
+            absent: own(0, 9)?,
+            gone: own(0, 10)?,
+        })
+    }
 }
