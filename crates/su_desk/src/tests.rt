@@ -100,9 +100,9 @@ fn several_changes_are_answered_in_turn(rt: HostRuntime) -> Result<(), Fail> {
             == [
                 DeskReply::Done(1),
                 DeskReply::Done(2),
-                DeskReply::Refused(Refusal::Blocked(2)),
-                DeskReply::Refused(Refusal::NotAuthor(author)),
                 DeskReply::Done(3),
+                DeskReply::Refused(Refusal::NotAuthor(author)),
+                DeskReply::Done(4),
             ]
             .as_slice()
     );
@@ -155,5 +155,30 @@ fn an_undo_brings_bytes_and_sizes_back(rt: HostRuntime) -> Result<(), Fail> {
     }
     desk.undo_last(author)?;
     assert!(rt; bytes(&desk)?.is_empty());
+    Ok(())
+}
+
+#[test]
+fn the_last_reader_stands_in_the_way(rt: HostRuntime) -> Result<(), Fail> {
+    let alloc = rt.alloc();
+    let mut desk = Desk::new(alloc, two_users(alloc)?)?;
+    let author = User::FIRST;
+    desk.apply(author, create(alloc, b"a", 2)?)?;
+    desk.apply(author, truncate(8192)?)?;
+    desk.apply(author, write(alloc, 0, b"A".as_slice())?)?;
+    desk.apply(author, write(alloc, 4096, b"B".as_slice())?)?;
+    desk.apply(author, write(alloc, 0, b"C".as_slice())?)?;
+    for number in 1..4u64 {
+        assert!(rt; desk.blocker(number)? == Some(5), "{number}");
+    }
+    assert!(rt; desk.blocker(4)?.is_none());
+    assert!(rt; desk.blocker(5)?.is_none());
+    assert!(rt; desk.blocker(6) == Err(Refusal::NoOperation(6)));
+    assert_eq!(rt; desk.apply(author, Change::Undo(4))?, 6);
+    let back = bytes(&desk)?;
+    assert!(rt; back[0] == b'C');
+    assert!(rt; back[4096] == 0);
+    assert!(rt; desk.blocker(4) == Err(Refusal::AlreadyUndone(4, 6)));
+    assert!(rt; desk.blocker(6) == Err(Refusal::NotOperation(6)));
     Ok(())
 }

@@ -9,4 +9,5 @@ pub mod Creating
 pub mod Removing
 pub mod Resizing
 pub mod Storing
+pub mod Standing
 pub mod Listing
