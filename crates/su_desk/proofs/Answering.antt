@@ -1,5 +1,5 @@
 -- The answers of a desk from what it keeps.
-use Rattle.std.proofs.Common.{◌≡◌, ◌∙◌, sym, refl, ap, ℕ, ◌+◌, ◌-◌, List, [], ◌∷◌, ◌++◌, length, Option, Some, None, Ok, Err, slice_get, get_or, take, subst, zero, suc, Bool, true, false, cond, nat_eq, arith}
+use Rattle.std.proofs.Common.{◌≡◌, ◌∙◌, sym, refl, ap, ℕ, ◌+◌, ◌-◌, List, [], ◌∷◌, ◌++◌, length, Option, Some, None, Ok, Err, slice_get, get_or, take, drop, subst, zero, suc, Bool, true, false, cond, nat_eq, arith}
 use Rattle.std.specs.Option.{unwrap_or}
 use Rattle.std.proofs.lemmas.Option.{slice_get-get_or}
 use Rattle.su_bytes.specs.Membership.{Membership, has_user}
@@ -15,10 +15,11 @@ use Rattle.su_bytes.specs.declared.refusals.Refusal.TheVariants.{NoUser, NoOpera
 use Rattle.su_desk.specs.History.{tree, entry_at, undoer, last_live}
 use Rattle.su_desk.specs.declared.kept.KeptOperation.{KeptOperation}
 use Rattle.su_desk.specs.Applied.{written}
-use Rattle.su_desk.specs.Keeping.{Keeps}
+use Rattle.su_desk.specs.Keeping.{Keeps, IsPlaceOf}
 use Rattle.su_desk.proofs.Applying.{entry_within}
-use Rattle.su_desk.proofs.Leading.{keeps_undo, last_written, last_kept, none_kept, last_not_undone}
-use Rattle.su_desk.specs.Answer.{blocker, blocked_refusal, undone_refusal, change_refusal, entry_refusal, undo_refusal, refusal_of, reply, answer}
+use Rattle.su_desk.proofs.Leading.{keeps_undo, written_there, last_kept, none_kept}
+use Rattle.su_desk.proofs.Blocking.{split_at, blocker_there, unread, is_live, undo_accepted}
+use Rattle.su_desk.specs.Answer.{undo_refusal, refusal_of, reply, answer}
 
 pub answer_done : (ro : Membership) (h : List Entry) (a : ℕ) (c : Change) → refusal_of ro h a c ≡ None → answer ro h a c ≡ Ok (length h + 1)
 unfolding answer
@@ -47,40 +48,6 @@ pub is_empty : {A : Type 0} (xs : List A) → slice_get xs (length xs - 1) ≡ N
 is_empty [] e = refl
 is_empty (y ∷ ys) e = let there = slice_get-get_or (y ∷ ys) (length (y ∷ ys) - 1) y (omega arith) in absurd (let bad : None ≡ Some (get_or (y ∷ ys) (length (y ∷ ys) - 1) y) = sym e ∙ there in cc)
 
--- what an undo that is accepted names
-pub record Undoable (h : List Entry) (n : ℕ) : Type 0 where
-  pub last : n ≡ last_live h
-  pub entry : Entry
-  pub there : entry_at h n ≡ Some entry
-
-pub undo_accepted : (ro : Membership) (h : List Entry) (a n : ℕ) → undo_refusal ro h a n ≡ None → Undoable h n
-undo_accepted ro h a n e = go (has_user ro a) (entry_at h n) refl e
-  where
-    same : (m : ℕ) (b : Bool) → nat_eq n m ≡ b → blocked_refusal (cond b None (Some m)) ≡ None → n ≡ m
-    same m true is e = grind arith
-    same m false is e = absurd (let bad : Some (Blocked m) ≡ None = e in cc)
-
-    mine : (b : Bool) (author : ℕ) → cond b (blocked_refusal (blocker h n)) (Some (NotAuthor author)) ≡ None → n ≡ last_live h
-    mine true author e = same (last_live h) (nat_eq n (last_live h)) refl e
-    mine false author e = absurd (let bad : Some (NotAuthor author) ≡ None = e in cc)
-
-    undone : (o : Option ℕ) (author : ℕ) → undone_refusal h a n author o ≡ None → n ≡ last_live h
-    undone (Some by) author e = absurd (let bad : Some (AlreadyUndone n by) ≡ None = e in cc)
-    undone None author e = mine (nat_eq a author) author e
-
-    change : (c : Change) (author : ℕ) → change_refusal h a n author c ≡ None → n ≡ last_live h
-    change (Undo m) author e = absurd (let bad : Some (NotOperation n) ≡ None = e in cc)
-    change (Do op) author e = undone (undoer h n) author e
-
-    go : (b : Bool) (o : Option Entry) → entry_at h n ≡ o → cond b (entry_refusal h a n o) (Some (NoUser a)) ≡ None → Undoable h n
-    go false o is e = absurd (let bad : Some (NoUser a) ≡ None = e in cc)
-    go true None is e = absurd (let bad : Some (NoOperation n) ≡ None = e in cc)
-    go true (Some x) is e = record { last = change x.change x.author e; entry = x; there = is }
-
--- nothing is live where nothing can be undone
-pub none_undoable : (h : List Entry) (n : ℕ) → last_live h ≡ 0 → Undoable h n → ⊥
-none_undoable h n none u = let zero_entry : entry_at h 0 ≡ Some u.entry = ap (entry_at h) (sym (u.last ∙ none)) ∙ u.there in let bad : None ≡ Some u.entry = zero_entry in cc
-
 -- ---- what is kept last
 
 pub last_number : (ro : Membership) (h : List Entry) (ks : List KeptOperation) (k : KeptOperation) (T : Tree) → Keeps ro h ks T → slice_get ks (length ks - 1) ≡ Some k → k.number ≡ last_live h
@@ -89,19 +56,25 @@ last_number ro h ks k T keeps e = sym (last_kept ro h (take (length ks - 1) ks) 
 pub no_number : (ro : Membership) (h : List Entry) (ks : List KeptOperation) (T : Tree) → Keeps ro h ks T → slice_get ks (length ks - 1) ≡ None → 0 ≡ last_live h
 no_number ro h ks T keeps e = sym (none_kept ro h T (subst (λ xs. Keeps ro h xs T) (is_empty ks e) keeps))
 
-pub not_undone : (ro : Membership) (h : List Entry) (ks : List KeptOperation) (k : KeptOperation) (T : Tree) (n : ℕ) → Keeps ro h ks T → slice_get ks (length ks - 1) ≡ Some k → k.number ≡ n → None ≡ undoer h n
-not_undone ro h ks k T n keeps e is = sym (ap (undoer h) (sym is) ∙ last_not_undone ro h (take (length ks - 1) ks) k T (subst (λ xs. Keeps ro h xs T) (ends_with ks k e) keeps))
+-- ---- an undo
 
--- after the undo of what is kept last
-pub undone_last : (ro : Membership) (h : List Entry) (ks : List KeptOperation) (k : KeptOperation) (T T' : Tree) (a n : ℕ) → Keeps ro h ks T → slice_get ks (length ks - 1) ≡ Some k → undo_refusal ro h a n ≡ None
-    → ((B : Tree) → IsPutBack k.inverse T B → T' ≡ B) → Keeps ro (h ++ record { author = a; change = Undo n } ∷ []) (take (length ks - 1) ks) T'
-undone_last ro h ks k T T' a n keeps e accepted put =
-    let u = undo_accepted ro h a n accepted in
-    keeps_undo ro h (take (length ks - 1) ks) T T' a n k (subst (λ xs. Keeps ro h xs T) (ends_with ks k e) keeps) (last_number ro h ks k T keeps e ∙ sym u.last) (entry_within h n u.entry u.there) put
+-- where an accepted undo finds its operation
+pub record Found (ro : Membership) (h : List Entry) (ks : List KeptOperation) (k : KeptOperation) (i : ℕ) (n : ℕ) (T : Tree) : Type 0 where
+  pub whole : Keeps ro h (take i ks ++ k ∷ drop (i + 1) ks) T
+  pub number : k.number ≡ n
 
--- what the undo of what is kept last writes
-pub undone_written : (ro : Membership) (h : List Entry) (ks : List KeptOperation) (k : KeptOperation) (T : Tree) (a n : ℕ) → Keeps ro h ks T → slice_get ks (length ks - 1) ≡ Some k → undo_refusal ro h a n ≡ None
-    → k.footprint.writes.items ≡ written ro h n
-undone_written ro h ks k T a n keeps e accepted =
+pub found : (ro : Membership) (h : List Entry) (ks : List KeptOperation) (k : KeptOperation) (i n : ℕ) (T : Tree) → Keeps ro h ks T → IsPlaceOf n ks i → get_or ks i k ≡ k → Found ro h ks k i n T
+found ro h ks k i n T keeps place here = record {
+  whole = subst (λ xs. Keeps ro h xs T) (split_at ks i k place.within here) keeps;
+  number = ap (λ (x : KeptOperation). x.number) (sym here) ∙ place.number k;
+}
+
+pub undone_there : (ro : Membership) (h : List Entry) (ks : List KeptOperation) (k : KeptOperation) (i : ℕ) (T T' : Tree) (a n : ℕ) → Found ro h ks k i n T → undo_refusal ro h a n ≡ None
+    → ((B : Tree) → IsPutBack k.inverse T B → T' ≡ B) → Keeps ro (h ++ record { author = a; change = Undo n } ∷ []) (take i ks ++ drop (i + 1) ks) T'
+undone_there ro h ks k i T T' a n there accepted put =
     let u = undo_accepted ro h a n accepted in
-    last_written ro h (take (length ks - 1) ks) T n k (subst (λ xs. Keeps ro h xs T) (ends_with ks k e) keeps) (last_number ro h ks k T keeps e ∙ sym u.last)
+    keeps_undo ro h (take i ks) (drop (i + 1) ks) T T' a n k there.whole there.number (entry_within h n _ (is_live h n u.stands).entry)
+    (unread k.footprint.writes.items (drop (i + 1) ks) (blocker_there ro h (take i ks) (drop (i + 1) ks) k T n there.whole there.number ∙ u.free)) put
+
+pub undone_written : (ro : Membership) (h : List Entry) (ks : List KeptOperation) (k : KeptOperation) (i n : ℕ) (T : Tree) → Found ro h ks k i n T → k.footprint.writes.items ≡ written ro h n
+undone_written ro h ks k i n T there = written_there ro h (take i ks) (drop (i + 1) ks) T n k there.whole there.number

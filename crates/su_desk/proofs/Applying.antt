@@ -65,6 +65,7 @@ applied_further ro h e t k is =
     let within = entry_within h t.number _ is.entry in
     let same : tree_before ro (h ++ e ∷ []) t.number ≡ tree_before ro h t.number = tree_before-append ro h e t.number (omega arith) in
     record {
+      number = is.number;
       entry = entry_further h e t.number _ is.entry;
       reads = is.reads ∙ ap (λ S. reads ro S t.author t.op) (sym same);
       writes = is.writes ∙ ap (λ S. writes ro S t.author t.op) (sym same);
@@ -84,24 +85,41 @@ applied_added ro h [] (l ∷ ks) t k a is = absurd a
 applied_added ro h (u ∷ ts) [] t k a is = absurd a
 
 -- the operation of the entry that is added, from what it reads and writes in the tree before
-pub applied_now : (ro : Membership) (h : List Entry) (T : Tree) (a : ℕ) (op : Op) (k : KeptOperation) → tree ro h ≡ Some T → k.footprint.reads.items ≡ reads ro T a op → k.footprint.writes.items ≡ writes ro T a op
+pub applied_now : (ro : Membership) (h : List Entry) (T : Tree) (a : ℕ) (op : Op) (k : KeptOperation) → tree ro h ≡ Some T → k.number ≡ length h + 1 → k.footprint.reads.items ≡ reads ro T a op → k.footprint.writes.items ≡ writes ro T a op
     → IsAsApplied ro (h ++ record { author = a; change = Do op } ∷ []) (record { number = length h + 1; author = a; op = op }) k
-applied_now ro h T a op k is read wrote =
+applied_now ro h T a op k is number read wrote =
     let same : tree_before ro (h ++ record { author = a; change = Do op } ∷ []) (length h + 1) ≡ T = tree_before-append ro h _ (length h + 1) (omega arith) ∙ tree_before_next ro h T is in
     record {
+      number = number;
       entry = entry_last h (record { author = a; change = Do op });
       reads = read ∙ ap (λ S. reads ro S a op) (sym same);
       writes = wrote ∙ ap (λ S. writes ro S a op) (sym same);
     }
 
--- all operations but the last, and the last
-pub applied_front : (ro : Membership) (h : List Entry) (ts : List Turn) (ks : List KeptOperation) (t : Turn) (k : KeptOperation) → AreAsApplied ro h (ts ++ t ∷ []) (ks ++ k ∷ []) → AreAsApplied ro h ts ks × IsAsApplied ro h t k
-applied_front ro h [] [] t k (is, rest) = (tt, is)
-applied_front ro h (u ∷ ts) (l ∷ ks) t k (is, rest) = let (front, last) = applied_front ro h ts ks t k rest in ((is, front), last)
-applied_front ro h [] (l ∷ []) t k (is, rest) = absurd rest
-applied_front ro h [] (l ∷ m ∷ ks) t k (is, rest) = absurd rest
-applied_front ro h (u ∷ []) [] t k (is, rest) = absurd rest
-applied_front ro h (u ∷ v ∷ ts) [] t k (is, rest) = absurd rest
+-- an operation with those before and after it, where what is kept of it stands at that place
+pub record Parted (ro : Membership) (h : List Entry) (ts : List Turn) (front : List KeptOperation) (k : KeptOperation) (rest : List KeptOperation) : Type 0 where
+  pub before : List Turn
+  pub turn : Turn
+  pub after : List Turn
+  pub whole : ts ≡ before ++ turn ∷ after
+  pub first : AreAsApplied ro h before front
+  pub here : IsAsApplied ro h turn k
+  pub later : AreAsApplied ro h after rest
+
+pub part : (ro : Membership) (h : List Entry) (ts : List Turn) (front : List KeptOperation) (k : KeptOperation) (rest : List KeptOperation) → AreAsApplied ro h ts (front ++ k ∷ rest) → Parted ro h ts front k rest
+part ro h [] [] k rest a = absurd a
+part ro h (t ∷ ts) [] k rest (is, others) = record { before = []; turn = t; after = ts; whole = refl; first = tt; here = is; later = others }
+part ro h [] (l ∷ front) k rest a = absurd a
+part ro h (t ∷ ts) (l ∷ front) k rest (is, others) =
+    let r = part ro h ts front k rest others in
+    record { before = t ∷ r.before; turn = r.turn; after = r.after; whole = ap (λ xs. t ∷ xs) r.whole; first = (is, r.first); here = r.here; later = r.later }
+
+-- without it
+pub rejoin : (ro : Membership) (h : List Entry) (before after : List Turn) (front rest : List KeptOperation) → AreAsApplied ro h before front → AreAsApplied ro h after rest → AreAsApplied ro h (before ++ after) (front ++ rest)
+rejoin ro h [] after [] rest a b = b
+rejoin ro h (t ∷ before) after (k ∷ front) rest (is, others) b = (is, rejoin ro h before after front rest others b)
+rejoin ro h [] after (k ∷ front) rest a b = absurd a
+rejoin ro h (t ∷ before) after [] rest a b = absurd a
 
 -- what is kept of an operation that is written says what its entry wrote
 pub written_kept : (ro : Membership) (h : List Entry) (t : Turn) (k : KeptOperation) (n : ℕ) → IsAsApplied ro h t k → n ≡ t.number → k.footprint.writes.items ≡ written ro h n

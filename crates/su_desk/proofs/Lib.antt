@@ -1,6 +1,9 @@
 pub mod Turns
 pub mod Counting
 pub mod Applying
+pub mod Skipping
 pub mod Leading
+pub mod Blocking
+pub mod Placing
 pub mod Answering
 pub mod Running

@@ -63,22 +63,36 @@ rising_filter p low (t ∷ ts) (l, r) = go (p t) (rising_filter p t.number ts r)
 pub rising_live : (h : List Entry) → Rising 0 (live h)
 rising_live h = rising_filter (λ t. not (is_undone h t.number)) 0 (turns_from 1 h) (rising_turns 0 1 h (omega arith))
 
-below_last : (low : ℕ) (ts : List Turn) (t : Turn) → Rising low (ts ++ t ∷ []) → low < t.number
-below_last low [] t (l, r) = l
-below_last low (x ∷ ts) t (l, r) = let m = below_last x.number ts t r in omega arith
-
 apart : (a b : ℕ) → a < b → nat_eq a b ≡ false
 apart a b l = grind arith
 
 itself : (a : ℕ) → nat_eq a a ≡ true
 itself a = grind arith
 
--- the last of rising operations is taken out by its number
-pub last_taken_out : (low : ℕ) (ts : List Turn) (t : Turn) → Rising low (ts ++ t ∷ []) → filter (λ x. not (nat_eq x.number t.number)) (ts ++ t ∷ []) ≡ ts
-last_taken_out low [] t r = ap (λ b. cond (not b) (t ∷ []) []) (itself t.number)
-last_taken_out low (x ∷ ts) t (l, r) =
-    ap (λ b. cond (not b) (x ∷ filter (λ y. not (nat_eq y.number t.number)) (ts ++ t ∷ [])) (filter (λ y. not (nat_eq y.number t.number)) (ts ++ t ∷ []))) (apart x.number t.number (below_last x.number ts t r))
-    ∙ ap (λ ys. x ∷ ys) (last_taken_out x.number ts t r)
+below_middle : (low : ℕ) (ts us : List Turn) (t : Turn) → Rising low (ts ++ t ∷ us) → low < t.number
+below_middle low [] us t (l, r) = l
+below_middle low (x ∷ ts) us t (l, r) = let m = below_middle x.number ts us t r in omega arith
+
+pub rising_after : (low : ℕ) (ts us : List Turn) (t : Turn) → Rising low (ts ++ t ∷ us) → Rising t.number us
+rising_after low [] us t (l, r) = r
+rising_after low (x ∷ ts) us t (l, r) = rising_after x.number ts us t r
+
+-- later operations have other numbers
+none_out : (n low : ℕ) (ts : List Turn) → n ≤ low → Rising low ts → filter (λ x. not (nat_eq x.number n)) ts ≡ ts
+none_out n low [] le r = refl
+none_out n low (t ∷ ts) le (l, r) =
+    let other : nat_eq t.number n ≡ false = grind arith in
+    ap (λ b. cond (not b) (t ∷ filter (λ x. not (nat_eq x.number n)) ts) (filter (λ x. not (nat_eq x.number n)) ts)) other
+    ∙ ap (λ ys. t ∷ ys) (none_out n t.number ts (omega arith) r)
+
+-- one of rising operations is taken out by its number
+pub one_taken_out : (low : ℕ) (ts us : List Turn) (t : Turn) → Rising low (ts ++ t ∷ us) → filter (λ x. not (nat_eq x.number t.number)) (ts ++ t ∷ us) ≡ ts ++ us
+one_taken_out low [] us t (l, r) =
+    ap (λ b. cond (not b) (t ∷ filter (λ x. not (nat_eq x.number t.number)) us) (filter (λ x. not (nat_eq x.number t.number)) us)) (itself t.number)
+    ∙ none_out t.number t.number us (omega arith) r
+one_taken_out low (x ∷ ts) us t (l, r) =
+    ap (λ b. cond (not b) (x ∷ filter (λ y. not (nat_eq y.number t.number)) (ts ++ t ∷ us)) (filter (λ y. not (nat_eq y.number t.number)) (ts ++ t ∷ us))) (apart x.number t.number (below_middle x.number ts us t r))
+    ∙ ap (λ ys. x ∷ ys) (one_taken_out x.number ts us t r)
 
 -- ---- one more entry
 

@@ -1,49 +1,68 @@
 -- The answer to a change after a history, and good histories.
-use Rattle.std.specs.Prelude.{◌≡◌, ℕ, ◌+◌, cond, List, [], ◌∷◌, ◌++◌, length, Option, None, Some, Result, Ok, Err, nat_eq}
-use Rattle.std.specs.Option.{unwrap_or}
+use Rattle.std.specs.Prelude.{◌≡◌, ℕ, ◌+◌, Bool, ◌&&◌, cond, List, [], ◌∷◌, ◌++◌, length, Option, None, Some, Result, Ok, Err, nat_eq, nat_lt}
+use Rattle.std.specs.List.{filter}
 use Rattle.su_bytes.specs.Membership.{Membership, has_user}
 use Rattle.su_bytes.specs.declared.refusals.Refusal.{Refusal}
 use Rattle.su_bytes.specs.declared.refusals.Refusal.TheVariants.{NoUser, NoOperation, NotOperation, AlreadyUndone, NotAuthor, Blocked}
-use Rattle.su_table.specs.Tree.{genesis}
 use Rattle.su_op.specs.declared.operations.Change.{Change}
 use Rattle.su_op.specs.declared.operations.Change.TheVariants.{Do, Undo}
+use Rattle.su_op.specs.Area.{meet}
 use Rattle.su_op.specs.Operation.{why}
 use Rattle.su_desk.specs.declared.entries.Entry.{Entry}
-use Rattle.su_desk.specs.History.{tree, entry_at, undoer, last_live}
+use Rattle.su_desk.specs.History.{Turn, live, entry_at, undoer}
+use Rattle.su_desk.specs.Applied.{reads_of, written, tree_after}
 
--- TEMPORARY: of the live operations only the last can be undone, and it stands in the way of every other. Later this is
--- the last live operation after n that read or wrote what n wrote.
-abbrev pub blocker : List Entry → ℕ → Option ℕ
-blocker h n = cond (nat_eq n (last_live h)) None (Some (last_live h))
+-- the first, or else the other
+abbrev pub or_else : {A : Type 0} → Option A → Option A → Option A
+or_else (Some x) o = Some x
+or_else None o = o
+
+-- the number of the last of these operations
+abbrev pub last_number : List Turn → Option ℕ
+last_number [] = None
+last_number (t ∷ ts) = or_else (last_number ts) (Some t.number)
+
+-- operation t came after n, and read a cell that n wrote, each where it was applied
+abbrev pub reads_after : Membership → List Entry → ℕ → Turn → Bool
+reads_after ro h n t = nat_lt n t.number && meet (reads_of ro h t) (written ro h n)
+
+-- what stands in the way of an undo of n: the last live operation that came after it and read a cell that it wrote
+abbrev pub blocker : Membership → List Entry → ℕ → Option ℕ
+blocker ro h n = last_number (filter (reads_after ro h n) (live h))
 
 abbrev pub blocked_refusal : Option ℕ → Option Refusal
 blocked_refusal None = None
 blocked_refusal (Some m) = Some (Blocked m)
 
--- of an undo by user a of n, an operation by `author` that is live
-abbrev pub live_refusal : List Entry → ℕ → ℕ → ℕ → Option Refusal
-live_refusal h a n author = cond (nat_eq a author) (blocked_refusal (blocker h n)) (Some (NotAuthor author))
+abbrev pub undone_refusal : ℕ → Option ℕ → Option Refusal
+undone_refusal n None = None
+undone_refusal n (Some by) = Some (AlreadyUndone n by)
 
--- of an undo by user a of n, an operation by `author` that was perhaps undone
-abbrev pub undone_refusal : List Entry → ℕ → ℕ → ℕ → Option ℕ → Option Refusal
-undone_refusal h a n author (Some by) = Some (AlreadyUndone n by)
-undone_refusal h a n author None = live_refusal h a n author
+abbrev pub change_refusal : List Entry → ℕ → Change → Option Refusal
+change_refusal h n (Undo m) = Some (NotOperation n)
+change_refusal h n (Do op) = undone_refusal n (undoer h n)
 
-abbrev pub change_refusal : List Entry → ℕ → ℕ → ℕ → Change → Option Refusal
-change_refusal h a n author (Undo m) = Some (NotOperation n)
-change_refusal h a n author (Do op) = undone_refusal h a n author (undoer h n)
+abbrev pub entry_refusal : List Entry → ℕ → Option Entry → Option Refusal
+entry_refusal h n None = Some (NoOperation n)
+entry_refusal h n (Some e) = change_refusal h n e.change
 
-abbrev pub entry_refusal : List Entry → ℕ → ℕ → Option Entry → Option Refusal
-entry_refusal h a n None = Some (NoOperation n)
-entry_refusal h a n (Some e) = change_refusal h a n e.author e.change
+-- why n is no live operation: no such entry; an undo; undone already
+abbrev pub live_refusal : List Entry → ℕ → Option Refusal
+live_refusal h n = entry_refusal h n (entry_at h n)
 
--- why user a may not undo n: no such user; no such entry; an undo; undone already; another's; blocked
+-- of an undo by user a of another's entry
+abbrev pub author_refusal : ℕ → Option Entry → Option Refusal
+author_refusal a None = None
+author_refusal a (Some e) = cond (nat_eq a e.author) None (Some (NotAuthor e.author))
+
+-- why user a may not undo n: no such user; n is no live operation; another's; blocked
 abbrev pub undo_refusal : Membership → List Entry → ℕ → ℕ → Option Refusal
-undo_refusal ro h a n = cond (has_user ro a) (entry_refusal h a n (entry_at h n)) (Some (NoUser a))
+undo_refusal ro h a n =
+    cond (has_user ro a) (or_else (live_refusal h n) (or_else (author_refusal a (entry_at h n)) (blocked_refusal (blocker ro h n)))) (Some (NoUser a))
 
 -- why a change by user a is refused after a history. (After a good history there always is a tree.)
 abbrev pub refusal_of : Membership → List Entry → ℕ → Change → Option Refusal
-refusal_of ro h a (Do op) = why ro (unwrap_or (tree ro h) genesis) a op
+refusal_of ro h a (Do op) = why ro (tree_after ro h) a op
 refusal_of ro h a (Undo n) = undo_refusal ro h a n
 
 abbrev pub reply : ℕ → Option Refusal → Result ℕ Refusal

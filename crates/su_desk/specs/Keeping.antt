@@ -1,9 +1,10 @@
 -- What a desk keeps so that operations can be undone.
-use Rattle.std.specs.Prelude.{◌≡◌, ℕ, ◌<◌, false, List, [], ◌∷◌, Some, None, length}
+use Rattle.std.specs.Prelude.{◌≡◌, ℕ, ◌<◌, false, cond, List, [], ◌∷◌, Option, Some, None, length, get_or}
 use Rattle.su_bytes.specs.Membership.{Membership}
 use Rattle.su_table.specs.Tree.{Tree, genesis}
 use Rattle.su_table.specs.Cell.{Cell}
-use Rattle.su_op.specs.Area.{has}
+use Rattle.su_op.specs.declared.areas.Area.{Area}
+use Rattle.su_op.specs.Area.{has, meet}
 use Rattle.su_op.specs.Operation.{why, effect, reads, writes}
 use Rattle.su_inverse.specs.Kept.{areas_of, IsKeptOf}
 use Rattle.su_desk.specs.declared.entries.Entry.{Entry}
@@ -11,6 +12,7 @@ use Rattle.su_desk.specs.declared.kept.KeptOperation.{KeptOperation}
 use Rattle.su_op.specs.declared.operations.Change.TheVariants.{Do}
 use Rattle.su_desk.specs.History.{Turn, live, is_undone, entry_at}
 use Rattle.su_desk.specs.Applied.{reads_of, writes_of}
+use Rattle.su_desk.specs.Answer.{or_else}
 
 -- The operation is accepted in T; and what is kept of it is its number, the cells that it reads and writes there, and what
 -- those that it writes hold in T.
@@ -29,8 +31,9 @@ Leads ro S (t ∷ ts) (k ∷ ks) T = Fits ro S t k × Leads ro (effect ro S t.au
 Leads ro S [] (k ∷ ks) T = ⊥
 Leads ro S (t ∷ ts) [] T = ⊥
 
--- The operation is that of an entry; and what is kept of it are the cells that it read and wrote where it was applied.
+-- The operation is that of an entry, by its number; and what is kept of it are the cells that it read and wrote where it was applied.
 pub record IsAsApplied (ro : Membership) (h : List Entry) (t : Turn) (k : KeptOperation) : Type 0 where
+  pub number : k.number ≡ t.number
   pub entry : entry_at h t.number ≡ Some (record { author = t.author; change = Do t.op })
   pub reads : k.footprint.reads.items ≡ reads_of ro h t
   pub writes : k.footprint.writes.items ≡ writes_of ro h t
@@ -48,3 +51,15 @@ pub record Keeps (ro : Membership) (h : List Entry) (ks : List KeptOperation) (T
   pub applied : AreAsApplied ro h (live h) ks
   -- no undo names an entry that is still to come
   pub past : (n : ℕ) → length h < n → is_undone h n ≡ false
+
+-- ---- what is looked up among what is kept
+
+-- the operation of that number is kept at that place
+pub record IsPlaceOf (n : ℕ) (ks : List KeptOperation) (place : ℕ) : Type 0 where
+  pub within : place < length ks
+  pub number : (k : KeptOperation) → (get_or ks place k).number ≡ n
+
+-- the number of the last operation that read a cell of the areas
+abbrev pub last_kept_reader : List Area → List KeptOperation → Option ℕ
+last_kept_reader w [] = None
+last_kept_reader w (k ∷ ks) = or_else (last_kept_reader w ks) (cond (meet k.footprint.reads.items w) (Some k.number) None)

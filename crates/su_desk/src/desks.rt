@@ -4,11 +4,11 @@ ghost use Rattle.su_desk.specs.Version.{versions};
 ghost use Rattle.su_bytes.specs.declared.refusals.Refusal.TheVariants.{NoMemory};
 ghost use Rattle.su_op.specs.declared.operations.Change.TheVariants.{Do, Undo};
 ghost use Rattle.su_desk.specs.History.{tree, live_numbers, last_live, entry_at, undoer};
-ghost use Rattle.su_desk.specs.Answer.{undo_refusal};
+ghost use Rattle.su_desk.specs.Answer.{blocker, live_refusal, undo_refusal};
 ghost use Rattle.su_desk.specs.Desk.{Answers, Runs, result_of};
 
 use crate::entries::{DeskReply, Entry};
-use crate::kept::KeptOperation;
+use crate::kept::{KeptOperation, last_reader, place_of};
 use crate::versions::{first_versions, raise};
 use std::alloc::Global;
 use std::marker::Model;
@@ -91,6 +91,20 @@ impl Desk {
         self.counters.as_slice()
     }
 
+    /// What stands in the way of an undo of a live operation: the last live operation that came after it and read a cell
+    /// that it wrote. `NoOperation` where there is no such entry, `NotOperation` where it is an undo, `AlreadyUndone`.
+    /// Takes no memory.
+    pub fn blocker(&self, number: u64) -> Result<Option<u64>, Refusal>
+        ensures value { IfOk result (λ m. m ≡ blocker self.now.roster self.now.history number) }
+        ensures live { OnOk result (live_refusal self.now.history number ≡ None) }
+        ensures refused { IfErr result (λ e. live_refusal self.now.history number ≡ Some e) }
+    {
+        match self.check_live(number) {
+            Ok(()) => Ok(self.blocker_of(number)),
+            Err(refusal) => Err(refusal),
+        }
+    }
+
     /// Makes a change, and answers the number of its entry. A refusal, the first in order or `NoMemory`, changes nothing.
     pub fn apply(&mut self, author: User, change: Change) -> Result<u64, Refusal>
         ensures { Answers self.old author change result self.new }
@@ -163,12 +177,13 @@ impl Desk {
             return Err(refusal);
         }
         self.entries.reserve(1)?;
-        let Some(kept) = self.kept.last() else {
+        let Some(place) = place_of(self.kept.as_slice(), number) else {
             return Err(Refusal::NoOperation(number));
         };
+        let kept = &self.kept[place];
         kept.inverse.undo_on(&mut self.forest)?;
         raise(&mut self.counters, author, kept.footprint.writes.as_slice());
-        self.kept.pop();
+        self.kept.remove(place);
         let change = Change::Undo(number);
         self.entries.push_reserved(Entry { author, change });
         Ok(self.entries.len() as u64)
@@ -182,35 +197,49 @@ impl Desk {
         if !self.roster.has_user(author) {
             return Err(Refusal::NoUser(author));
         }
+        if let Err(refusal) = self.check_live(number) {
+            return Err(refusal);
+        }
+        let Some(entry) = entry_at(self.entries.as_slice(), number) else {
+            return Err(Refusal::NoOperation(number));
+        };
+        if author != entry.author {
+            return Err(Refusal::NotAuthor(entry.author));
+        }
+        match self.blocker_of(number) {
+            Some(blocker) => Err(Refusal::Blocked(blocker)),
+            None => Ok(()),
+        }
+    }
+
+    /// Whether that is a live operation; else why not. The history is searched only where it isn't.
+    fn check_live(&self, number: u64) -> Result<(), Refusal>
+        ensures live { OnOk result (live_refusal self.now.history number ≡ None) }
+        ensures refused { IfErr result (λ e. live_refusal self.now.history number ≡ Some e) }
+    {
+        if place_of(self.kept.as_slice(), number).is_some() {
+            return Ok(());
+        }
         let Some(entry) = entry_at(self.entries.as_slice(), number) else {
             return Err(Refusal::NoOperation(number));
         };
         let Change::Do(_) = &entry.change else {
             return Err(Refusal::NotOperation(number));
         };
-        if let Some(by) = self.undoer(number) {
-            return Err(Refusal::AlreadyUndone(number, by));
+        match undoer_in(self.entries.as_slice(), number) {
+            Some(by) => Err(Refusal::AlreadyUndone(number, by)),
+            None => Ok(()),
         }
-        if author != entry.author {
-            return Err(Refusal::NotAuthor(entry.author));
-        }
-        let last = self.last();
-        if number != last {
-            return Err(Refusal::Blocked(last));
-        }
-        Ok(())
     }
 
-    /// The number of the entry that undid that one. The last live operation was not undone, so nothing is searched for it.
-    fn undoer(&self, number: u64) -> Option<u64>
-        ensures { result ≡ undoer self.now.history number }
+    /// What stands in the way of an undo of a live operation.
+    fn blocker_of(&self, number: u64) -> Option<u64>
+        requires { live_refusal self.now.history number ≡ None }
+        ensures { result ≡ blocker self.now.roster self.now.history number }
     {
-        if let Some(kept) = self.kept.last()
-            && kept.number == number
-        {
-            return None;
-        }
-        undoer_in(self.entries.as_slice(), number)
+        let place = place_of(self.kept.as_slice(), number)?;
+        let written = self.kept[place].footprint.writes.as_slice();
+        last_reader(&self.kept[place + 1..], written)
     }
 
     /// What is answered to one of several changes.

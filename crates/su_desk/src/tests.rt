@@ -107,9 +107,9 @@ fn several_changes_are_answered_in_turn(rt: HostRuntime) -> Result<(), Fail> {
             == [
                 DeskReply::Done(1),
                 DeskReply::Done(2),
-                DeskReply::Refused(Refusal::Blocked(2)),
-                DeskReply::Refused(Refusal::NotAuthor(author)),
                 DeskReply::Done(3),
+                DeskReply::Refused(Refusal::NotAuthor(author)),
+                DeskReply::Done(4),
             ]
             .as_slice()
     );
@@ -165,6 +165,31 @@ fn an_undo_brings_bytes_and_sizes_back(rt: HostRuntime) -> Result<(), Fail> {
     Ok(())
 }
 
+#[test]
+fn the_last_reader_stands_in_the_way(rt: HostRuntime) -> Result<(), Fail> {
+    let alloc = rt.alloc();
+    let mut desk = Desk::new(alloc, two_users(alloc)?)?;
+    let author = User::FIRST;
+    desk.apply(author, create(alloc, b"a", 2)?)?;
+    desk.apply(author, truncate(8192)?)?;
+    desk.apply(author, write(alloc, 0, b"A".as_slice())?)?;
+    desk.apply(author, write(alloc, 4096, b"B".as_slice())?)?;
+    desk.apply(author, write(alloc, 0, b"C".as_slice())?)?;
+    for number in 1..4u64 {
+        assert!(rt; desk.blocker(number)? == Some(5), "{number}");
+    }
+    assert!(rt; desk.blocker(4)?.is_none());
+    assert!(rt; desk.blocker(5)?.is_none());
+    assert!(rt; desk.blocker(6) == Err(Refusal::NoOperation(6)));
+    assert_eq!(rt; desk.apply(author, Change::Undo(4))?, 6);
+    let back = bytes(&desk)?;
+    assert!(rt; back[0] == b'C');
+    assert!(rt; back[4096] == 0);
+    assert!(rt; desk.blocker(4) == Err(Refusal::AlreadyUndone(4, 6)));
+    assert!(rt; desk.blocker(6) == Err(Refusal::NotOperation(6)));
+    Ok(())
+}
+
 /// Whether two forests have the i-handles of the same trees.
 fn have_one_tree(one: &Forest, other: &Forest) -> Result<bool, Refusal> {
     let _root: Option<FileId> = None;
@@ -177,7 +202,34 @@ fn have_one_tree(one: &Forest, other: &Forest) -> Result<bool, Refusal> {
     Ok(one.group_handle(Group::FIRST)? == other.group_handle(Group::FIRST)?)
 }
 
-/// Makes a change, and says whether its answer, the live numbers and the tree then are those of the definitions.
+/// Whether the version numbers are those of the definition.
+fn have_one_version(alloc: Global, desk: &Desk, yardstick: &Yardstick) -> Result<bool, Refusal> {
+    let _root: Option<FileId> = None;
+    for (principal, version) in desk.versions() {
+        let expected = match principal {
+            Principal::User(user) => yardstick.entries_of(*user),
+            Principal::Group(group) => yardstick.entries_with(alloc, *group)?,
+        };
+        if *version != expected {
+            return Ok(false);
+        }
+    }
+    Ok(true)
+}
+
+/// Whether the live numbers, the tree and the version numbers are those of the definitions.
+fn have_one_state(alloc: Global, desk: &Desk, yardstick: &Yardstick) -> Result<bool, Refusal> {
+    let _root: Option<FileId> = None;
+    let live = yardstick.live(alloc, yardstick.count())?;
+    let forest = yardstick.forest(alloc, yardstick.count())?;
+    Ok(
+        desk.live()?.as_slice() == live.as_slice()
+            && have_one_tree(desk.forest(), &forest)?
+            && have_one_version(alloc, desk, yardstick)?,
+    )
+}
+
+/// Makes a change, and says whether its answer, and the desk then, are as the definitions say.
 fn agrees(
     alloc: Global,
     desk: &mut Desk,
@@ -185,22 +237,16 @@ fn agrees(
     author: User,
     change: Change,
 ) -> Result<bool, Refusal> {
-    let refusal = yardstick.refusal(alloc, author, &change);
-    let answer = desk.apply(author, change.clone()?);
-    let expected = match refusal {
-        Some(refusal) => Err(refusal),
-        None => {
-            yardstick.entries.push(Entry { author, change })?;
-            Ok(yardstick.entries.len() as u64)
-        }
+    let _root: Option<FileId> = None;
+    let expected = match yardstick.refusal(alloc, author, &change) {
+        Err(refusal) => Err(refusal),
+        Ok(()) => Ok(yardstick.count().saturating_add(1)),
     };
-    let live = desk.live()?;
-    let forest = yardstick.forest(alloc)?;
-    Ok(
-        answer == expected
-            && live.as_slice() == yardstick.live(alloc)?.as_slice()
-            && have_one_tree(desk.forest(), &forest)?,
-    )
+    let answer = desk.apply(author, change.clone()?);
+    if answer.is_ok() {
+        yardstick.entries.push(Entry { author, change })?;
+    }
+    Ok(answer == expected && have_one_state(alloc, desk, yardstick)?)
 }
 
 /// Makes a change by chance, and says whether it agrees with the definitions.
@@ -212,8 +258,8 @@ fn turn(
 ) -> Result<bool, Refusal> {
     let _root: Option<FileId> = None;
     let author = dice.user()?;
-    let last = yardstick.entries.len() as u64;
-    let last_live = yardstick.live(alloc)?.pop().unwrap_or(0);
+    let last = yardstick.count();
+    let last_live = yardstick.live(alloc, last)?.pop().unwrap_or(0);
     let change = dice.change(alloc, last, last_live)?;
     agrees(alloc, desk, yardstick, author, change)
 }
@@ -226,12 +272,12 @@ fn histories_agree_with_the_definitions(rt: HostRuntime) -> Result<(), Fail> {
     let entries = Vec::new(alloc);
     let mut yardstick = Yardstick { roster, entries };
     let mut dice = Dice { state: 2004 };
-    for number in 0..200u8 {
+    for number in 0..300u16 {
         assert!(rt;
             turn(alloc, &mut dice, &mut desk, &mut yardstick)?,
             "{number}"
         );
     }
-    assert!(rt; 50 < yardstick.entries.len());
+    assert!(rt; 30 < yardstick.entries.len());
     Ok(())
 }

@@ -4,3 +4,4 @@ pub mod Holding
 pub mod Displacing
 pub mod Lengths
 pub mod Writing
+pub mod Again

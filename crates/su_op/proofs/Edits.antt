@@ -44,7 +44,7 @@ pub neither : (a b : Bool) → (a || b) ≡ false → (a ≡ false) × (b ≡ fa
 neither true b e = absurd cc
 neither false b e = (refl, e)
 
-has_parts : (p q : Place) (f : Field) (ps : List Part) → list_any (λ a. in_area a (At q f)) (map (InodeArea p) ps) ≡ (place_eq q p && list_any (λ a. in_part a f) ps)
+pub has_parts : (p q : Place) (f : Field) (ps : List Part) → list_any (λ a. in_area a (At q f)) (map (InodeArea p) ps) ≡ (place_eq q p && list_any (λ a. in_part a f) ps)
 has_parts p q f [] = go (place_eq q p)
   where
     go : (b : Bool) → false ≡ (b && false)
@@ -139,11 +139,11 @@ moved_home T p ch can free g q at (k, e) = go (place_eq q p) refl
     go true is = absurd (free g (at ∙ ap APlace (place_eq-same q p is)))
     go false is = (k, edit_leaves T (Inodes p ch) (At q KindOf) can (has_parts p q KindOf (parts ch) ∙ ap (λ b. b && list_any (λ a. in_part a KindOf) (parts ch)) is) ∙ e)
 
-written_kind : (b : Bool) (s off end : ℕ) → list_any (λ a. in_part a KindOf) (written_parts b s off end) ≡ false
+pub written_kind : (b : Bool) (s off end : ℕ) → list_any (λ a. in_part a KindOf) (written_parts b s off end) ≡ false
 written_kind true s off end = refl
 written_kind false s off end = refl
 
-resized_kind : (b : Bool) (s t : ℕ) → list_any (λ a. in_part a KindOf) (resized_parts b s t) ≡ false
+pub resized_kind : (b : Bool) (s t : ℕ) → list_any (λ a. in_part a KindOf) (resized_parts b s t) ≡ false
 resized_kind true s t = refl
 resized_kind false s t = refl
 

@@ -12,4 +12,5 @@ pub mod Copying
 pub mod Links
 pub mod Renames
 pub mod Storing
+pub mod Standing
 pub mod Listing

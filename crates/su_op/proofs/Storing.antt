@@ -70,12 +70,12 @@ module _ (ro : Membership) where
   unfolding why
   given T x ok = gives_of (rule_of ro T x.author x.op) (none_is (refusal (rule_of ro T x.author x.op)) ok)
 
-  can : (T : Tree) (x : Action) → Sound T → is_none (why ro T x.author x.op) ≡ true → CanEdits T (plan_of (rule_of ro T x.author x.op)).edits
-  can T x sound ok = can_of ro x.author x.op T (plan_of (rule_of ro T x.author x.op)) sound (given T x ok)
+  pub can_of_action : (T : Tree) (x : Action) → Sound T → is_none (why ro T x.author x.op) ≡ true → CanEdits T (plan_of (rule_of ro T x.author x.op)).edits
+  can_of_action T x sound ok = can_of ro x.author x.op T (plan_of (rule_of ro T x.author x.op)) sound (given T x ok)
 
   store_leaves : LeavesOthers (store ro)
   unfolding effect writes
-  store_leaves T x sound ok c out = edits_leave T (plan_of (rule_of ro T x.author x.op)).edits c (can T x sound ok) out
+  store_leaves T x sound ok c out = edits_leave T (plan_of (rule_of ro T x.author x.op)).edits c (can_of_action T x sound ok) out
 
   store_local : IsLocal (store ro)
   unfolding why effect reads writes
@@ -89,7 +89,7 @@ module _ (ro : Membership) where
         reads = ap reads_of same;
         writes = ap writes_of same;
         values = λ c wrote. ap (λ (q : Plan). val (edits T' q.edits) c) same
-            ∙ edits_alike T' T p.edits c (can_of ro x.author x.op T' p sound' g) (can T x sound ok) (agree c (in_reads p c wrote));
+            ∙ edits_alike T' T p.edits c (can_of ro x.author x.op T' p sound' g) (can_of_action T x sound ok) (agree c (in_reads p c wrote));
       }
 
   store_within : (T : Tree) (x : Action) (c : Cell) → Sound T → is_none (why ro T x.author x.op) ≡ true → has (writes ro T x.author x.op) c ≡ true → has (reads ro T x.author x.op) c ≡ true
@@ -98,7 +98,7 @@ module _ (ro : Membership) where
 
   store_stays_sound : (T : Tree) (x : Action) → Sound T → is_none (why ro T x.author x.op) ≡ true → Sound (effect ro T x.author x.op)
   unfolding effect
-  store_stays_sound T x sound ok = edits_sound T (plan_of (rule_of ro T x.author x.op)).edits (can T x sound ok) sound
+  store_stays_sound T x sound ok = edits_sound T (plan_of (rule_of ro T x.author x.op)).edits (can_of_action T x sound ok) sound
 
   root : Inode
   root = new_inode (Group 0 1) Dir

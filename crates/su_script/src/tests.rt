@@ -133,6 +133,56 @@ fn of_two_writes_the_later_is_undone_first(rt: HostRuntime) {
 }
 
 #[test]
+fn a_create_is_undone_before_a_later_one(rt: HostRuntime) {
+    expect(
+        &rt,
+        b"0 create G0:1 a U0:2\n0 create G0:1 b U0:3\n0 undo 1\nmark\n0 undo 2\n0 create G0:1 b U0:3\nsame\n",
+        "ok 1\nok 2\nok 3\nok 4\nok 5\nsame\n",
+        Status::Finished,
+    );
+}
+
+#[test]
+fn a_write_of_other_blocks_stays(rt: HostRuntime) {
+    expect(
+        &rt,
+        b"0 create G0:1 a U0:2\n0 truncate U0:2 8192\n0 write U0:2 0 41\n0 write U0:2 4096 42\n0 undo 3\ncat U0:2 0 1\ncat U0:2 4096 1\n",
+        "ok 1\nok 2\nok 3\nok 4\nok 5\n00\n42\n",
+        Status::Finished,
+    );
+}
+
+#[test]
+fn a_change_of_size_leaves_the_other_blocks(rt: HostRuntime) {
+    expect(
+        &rt,
+        b"0 create G0:1 a U0:2\n0 truncate U0:2 4096\n0 write U0:2 0 41\n0 write U0:2 4096 42\n0 undo 3\n0 truncate U0:2 4097\n0 write U0:2 0 43\n0 undo 6\ncat U0:2 0 1\n",
+        "ok 1\nok 2\nok 3\nok 4\nok 5\nok 6\nok 7\nok 8\n43\n",
+        Status::Finished,
+    );
+}
+
+#[test]
+fn writes_of_one_block_are_undone_from_the_last(rt: HostRuntime) {
+    expect(
+        &rt,
+        b"0 create G0:1 a U0:2\n0 write U0:2 0 61\n0 write U0:2 0 62\n0 write U0:2 0 63\n0 undo 4\n0 undo 3\n0 create G0:1 g U0:3\n0 undo 2\nstat U0:2\n",
+        "ok 1\nok 2\nok 3\nok 4\nok 5\nok 6\nok 7\nok 8\nfile size 0 links 1 at U0:2\n",
+        Status::Finished,
+    );
+}
+
+#[test]
+fn the_last_reader_is_named(rt: HostRuntime) {
+    expect(
+        &rt,
+        b"0 create G0:1 a U0:2\n0 truncate U0:2 8192\n0 write U0:2 0 41\n0 write U0:2 4096 42\n0 write U0:2 0 43\n0 undo 4\n0 undo 3\n0 undo 5\n0 undo 3\ncat U0:2 0 1\n0 undo 1\n",
+        "ok 1\nok 2\nok 3\nok 4\nok 5\nok 6\nno 28 Blocked 5\nok 7\nok 8\n00\nno 28 Blocked 2\n",
+        Status::Finished,
+    );
+}
+
+#[test]
 fn a_gap_is_zeros_and_goes_with_its_write(rt: HostRuntime) {
     expect(
         &rt,

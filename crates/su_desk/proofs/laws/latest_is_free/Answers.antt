@@ -1,0 +1,5 @@
+use Rattle.su_desk.proofs.Blocking.{latest_free}
+use Rattle.su_desk.proofs.laws.latest_is_free.Goals as goal
+
+pub returns : goal.returns
+returns c = latest_free
