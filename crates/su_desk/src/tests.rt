@@ -272,7 +272,7 @@ fn histories_agree_with_the_definitions(rt: HostRuntime) -> Result<(), Fail> {
     let entries = Vec::new(alloc);
     let mut yardstick = Yardstick { roster, entries };
     let mut dice = Dice { state: 2004 };
-    for number in 0..300u16 {
+    for number in 0..400u16 {
         assert!(rt;
             turn(alloc, &mut dice, &mut desk, &mut yardstick)?,
             "{number}"
