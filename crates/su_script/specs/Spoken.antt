@@ -10,7 +10,7 @@ use Rattle.su_script.specs.declared.script.Spoken.TheVariants.{Apply, UndoLast, 
 use Rattle.su_script.specs.declared.script.SpokenChange.{SpokenChange}
 use Rattle.su_script.specs.declared.script.SpokenChange.TheVariants.{Create, Unlink, Write, Truncate, Undo, Take}
 use Rattle.su_script.specs.SpokenFile.{file_said, principal_said}
-use Rattle.su_script.specs.Script.{created}
+use Rattle.su_script.specs.Script.{created, taken}
 
 abbrev pub change_said : SpokenChange → Change
 change_said (Create kind dir name f body) = created kind (file_said dir) name.now (file_said f) body
@@ -18,7 +18,7 @@ change_said (Unlink dir name f) = change.Do (op.Unlink (record { dir = file_said
 change_said (Write f off bytes) = change.Do (op.Write (record { file = file_said f; off = off; bytes = bytes.items }))
 change_said (Truncate f size) = change.Do (op.Truncate (record { file = file_said f; size = size }))
 change_said (Undo number) = change.Undo number
-change_said (Take f body) = change.Do (op.Take (record { file = file_said f; body = body }))
+change_said (Take f body) = taken (file_said f) body
 
 abbrev pub said : Spoken → Command
 said (Apply user c) = command.Apply user (change_said c)
