@@ -96,9 +96,12 @@ abbrev pub truncate_of : List (List ℕ) → Option Change
 truncate_of (f ∷ s ∷ []) = option_and_then (λ file. option_and_then (λ size. Some (Do (Truncate (record { file = file; size = size })))) (number_of s)) (file_of f)
 truncate_of _ = None
 
+abbrev pub taken : FileId → ℕ → Change
+taken file body = Do (Take (record { file = file; body = body }))
+
 -- `FILE BODY`
 abbrev pub take_of : List (List ℕ) → Option Change
-take_of (f ∷ b ∷ []) = option_and_then (λ file. option_and_then (λ body. Some (Do (Take (record { file = file; body = body })))) (number_of b)) (file_of f)
+take_of (f ∷ b ∷ []) = option_and_then (λ file. option_and_then (λ body. Some (taken file body)) (number_of b)) (file_of f)
 take_of _ = None
 
 -- `DIR NAME FILE`

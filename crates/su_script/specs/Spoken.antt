@@ -10,7 +10,7 @@ use Rattle.su_script.specs.declared.script.Spoken.TheVariants.{Apply, UndoLast, 
 use Rattle.su_script.specs.declared.script.SpokenChange.{SpokenChange}
 use Rattle.su_script.specs.declared.script.SpokenChange.TheVariants.{Create, Unlink, Write, Truncate, Undo, Take, Link, Rename}
 use Rattle.su_script.specs.SpokenFile.{file_said, principal_said}
-use Rattle.su_script.specs.Script.{created, renamed}
+use Rattle.su_script.specs.Script.{created, renamed, taken}
 
 abbrev pub change_said : SpokenChange → Change
 change_said (Create kind dir name f body) = created kind (file_said dir) name.now (file_said f) body
@@ -20,7 +20,7 @@ change_said (Truncate f size) = change.Do (op.Truncate (record { file = file_sai
 change_said (Link dir name f) = change.Do (op.Link (record { dir = file_said dir; name = name.now; file = file_said f }))
 change_said (Rename r) = renamed (file_said r.from_) r.old_.now (file_said r.to_) r.new_.now (file_said r.file)
 change_said (Undo number) = change.Undo number
-change_said (Take f body) = change.Do (op.Take (record { file = file_said f; body = body }))
+change_said (Take f body) = taken (file_said f) body
 
 abbrev pub said : Spoken → Command
 said (Apply user c) = command.Apply user (change_said c)

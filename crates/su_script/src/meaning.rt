@@ -3,7 +3,7 @@ ghost use Rattle.std.specs.Prelude.{◌≡◌, ◌⊎◌, ◌&&◌, true, false,
 ghost use Rattle.su_bytes.specs.declared.refusals.Refusal.TheVariants.{NoMemory, NoUser, BadNumber};
 ghost use Rattle.su_script.specs.SpokenFile.{file_said, principal_said};
 ghost use Rattle.su_bytes.specs.Name.{is_name};
-ghost use Rattle.su_script.specs.Script.{created, renamed};
+ghost use Rattle.su_script.specs.Script.{created, renamed, taken};
 ghost use Rattle.su_script.specs.Spoken.{said, change_said};
 ghost use Rattle.su_script.specs.Range.{is_file, is_principal, is_place, is_stranger, has_good_name, has_good_numbers, range_refusal, word_refusal};
 
@@ -91,11 +91,7 @@ fn meant(alloc: Global, spoken: SpokenChange<'_>) -> Result<Change, Refusal>
             Ok(Change::Do(Op::Truncate(Truncate { file, size })))
         }
         SpokenChange::Undo { number } => Ok(Change::Undo(number)),
-        SpokenChange::Take { file, body: number } => {
-            let file = file_id(file)?;
-            let number = Inum::new(number)?;
-            Ok(Change::Do(Op::Take(Take { file, body: number })))
-        }
+        SpokenChange::Take { file, body } => take(file, body),
         SpokenChange::Link { dir, name, file } => {
             let name = Name::new(alloc, name)?;
             let dir = file_id(dir)?;
@@ -150,6 +146,17 @@ fn rename(alloc: Global, spoken: &SpokenRename<'_>) -> Result<Change, Refusal>
         new_,
         file,
     })))
+}
+
+/// The take of those words.
+fn take(file: SpokenFile, body: u64) -> Result<Change, Refusal>
+    ensures value { IfOk result (λ c. c ≡ taken (file_said file) body) }
+    ensures accepted { OnOk result ((is_file (file_said file) && is_place body) ≡ true) }
+    ensures refused { IfErr result (λ e. range_refusal true (is_file (file_said file) && is_place body) ≡ Some e) }
+{
+    let file = file_id(file)?;
+    let number = Inum::new(body)?;
+    Ok(Change::Do(Op::Take(Take { file, body: number })))
 }
 
 /// `NoUser` for a user of 0 to 63 who isn't in the roster.
