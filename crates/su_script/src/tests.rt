@@ -183,6 +183,27 @@ fn the_last_reader_is_named(rt: HostRuntime) {
 }
 
 #[test]
+fn a_take_of_the_directory_stands_in_the_way(rt: HostRuntime) {
+    expect(
+        &rt,
+        b"0 create G0:1 a U0:2\n1 take G0:1 1\n1 create G0:1 b U1:2\n0 undo 1\n0 create G0:1 c U0:3\nversions\n",
+        "ok 1\nok 2\nok 3\nno 28 Blocked 2\nno 16 NotHolder 1\nU0=1 U1=2 G0=1 G1=0\n",
+        Status::Finished,
+    );
+}
+
+// The example of the story of undo, examples/undo.desk.
+#[test]
+fn what_nobody_read_is_undone(rt: HostRuntime) {
+    expect(
+        &rt,
+        b"0 create G0:1 plan U0:2\n0 create G0:1 list U0:3\n0 write U0:2 0 68656c6c6f\n1 take G0:1 1\n1 create G0:1 notes U1:2\n0 undo 3\n0 undo 1\n1 undo 5\n1 undo 4\n0 undo 1\nls G0:1\nversions\n",
+        "ok 1\nok 2\nok 3\nok 4\nok 5\nok 6\nno 28 Blocked 4\nok 7\nok 8\nok 9\nlist U0:3\nU0=5 U1=4 G0=2 G1=0\n",
+        Status::Finished,
+    );
+}
+
+#[test]
 fn a_gap_is_zeros_and_goes_with_its_write(rt: HostRuntime) {
     expect(
         &rt,

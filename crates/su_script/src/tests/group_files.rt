@@ -110,8 +110,8 @@ fn a_take_is_taken_back(rt: HostRuntime) {
 fn only_a_member_takes_and_only_the_holder_writes(rt: HostRuntime) {
     expect(
         &rt,
-        b"0 create G0:1 a G0:2 2\n1 write G0:2 0 41\n1 take G0:2 1\n1 write G0:2 0 41\n1 create G0:1 z G1:1 9\nstat G0:2\n",
-        "ok 1\nno 16 NotHolder 0\nok 2\nok 3\nno 13 NotMember 1\nfile size 1 links 1 at U1:1\n",
+        b"0 create G0:1 a G0:2 2\n1 write G0:2 0 41\n1 take G0:2 1\n1 write G0:2 0 41\n1 create G0:1 z G1:1 9\nstat G0:2\nversions\n",
+        "ok 1\nno 16 NotHolder 0\nok 2\nok 3\nno 13 NotMember 1\nfile size 1 links 1 at U1:1\nU0=1 U1=2 G0=2 G1=0\n",
         Status::Finished,
     );
 }
@@ -158,8 +158,8 @@ fn the_holder_of_the_directory_is_named_before_that_of_the_file(rt: HostRuntime)
 fn operations_are_refused_each_for_its_own_reason(rt: HostRuntime) {
     expect(
         &rt,
-        b"0 create G0:1 a U1:2\n0 take U0:2 4\n0 create G0:1 a U0:0\n0 create G0:1 .. U0:2\n0 mkdir G0:9 a U0:2\n0 write G0:1 0 41\n0 create G0:1 a U0:1\n0 create G0:1 a U0:2\n0 unlink G0:1 b U0:2\n0 create G0:1 a U0:3\nls G0:1\nhello\n",
-        "no 3 BadNumber\nno 3 BadNumber\nno 3 BadNumber\nno 2 BadName\nno 14 NoFile G0:9\nno 15 WrongKind G0:1\nno 17 Held\nok 1\nno 18 NoName\nno 19 Exists\na U0:2\nline 12: bad\n",
+        b"0 create G0:1 a U1:2\n0 take U0:2 4\n0 create G0:1 a U0:0\n0 create G0:1 .. U0:2\n0 mkdir G0:9 a U0:2\n0 write G0:1 0 41\n0 create G0:1 a U0:1\n0 create G0:1 a U0:2\n0 unlink G0:1 b U0:2\n0 create G0:1 a U0:3\n0 link G0:1 b U0:2\nls G0:1\nhello\n",
+        "no 3 BadNumber\nno 3 BadNumber\nno 3 BadNumber\nno 2 BadName\nno 14 NoFile G0:9\nno 15 WrongKind G0:1\nno 17 Held\nok 1\nno 18 NoName\nno 19 Exists\nok 2\na U0:2\nb U0:2\nline 13: bad\n",
         Status::BadLine,
     );
 }
@@ -168,8 +168,8 @@ fn operations_are_refused_each_for_its_own_reason(rt: HostRuntime) {
 fn a_full_directory_stays_and_a_full_file_takes_no_more(rt: HostRuntime) {
     expect(
         &rt,
-        b"0 mkdir G0:1 d U0:2\n0 create U0:2 f U0:3\n0 unlink G0:1 d U0:2\n0 mkdir G0:1 e U0:4\n0 truncate U0:3 1048576\n0 write U0:3 1048576 41\n",
-        "ok 1\nok 2\nno 20 NotEmpty\nok 3\nok 4\nno 22 TooBig\n",
+        b"0 mkdir G0:1 d U0:2\n0 create U0:2 f U0:3\n0 unlink G0:1 d U0:2\n0 mkdir G0:1 e U0:4\n0 rename G0:1 d U0:4 d U0:2\n0 rename G0:1 d G0:1 e U0:2\n0 truncate U0:3 1048576\n0 write U0:3 1048576 41\n",
+        "ok 1\nok 2\nno 20 NotEmpty\nok 3\nno 21 DirMove\nno 19 Exists\nok 4\nno 22 TooBig\n",
         Status::Finished,
     );
 }

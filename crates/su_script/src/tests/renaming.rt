@@ -33,6 +33,26 @@ fn links_and_renames_are_undone(rt: HostRuntime) {
 }
 
 #[test]
+fn a_name_goes_back_and_the_links_stay(rt: HostRuntime) {
+    expect(
+        &rt,
+        b"0 mkdir G0:1 d U0:2\n0 create G0:1 a U0:3\n0 link U0:2 b U0:3\nstat U0:3\n0 unlink G0:1 a U0:3\n0 rename U0:2 b G0:1 c U0:3\nls G0:1\n0 undo_last\n0 undo_last\nstat U0:3\nls G0:1\n",
+        "ok 1\nok 2\nok 3\nfile size 0 links 2 at U0:3\nok 4\nok 5\nc U0:3\nd U0:2\nok 6\nok 7\nfile size 0 links 2 at U0:3\na U0:3\nd U0:2\n",
+        Status::Finished,
+    );
+}
+
+#[test]
+fn a_rename_is_undone_under_a_later_create(rt: HostRuntime) {
+    expect(
+        &rt,
+        b"0 mkdir G0:1 d U0:2\n0 rename G0:1 d G0:1 k U0:2\n0 create U0:2 f U0:3\n0 undo 2\nls G0:1\nls U0:2\n",
+        "ok 1\nok 2\nok 3\nok 4\nd U0:2\nf U0:3\n",
+        Status::Finished,
+    );
+}
+
+#[test]
 fn a_directory_stays_in_its_directory(rt: HostRuntime) {
     expect(
         &rt,
