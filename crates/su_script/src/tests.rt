@@ -2,6 +2,7 @@
 mod group_files;
 mod linking;
 mod renaming;
+mod writing;
 
 use crate::desk::{Status, run_desk};
 use sha2::{Digest, Sha256};
