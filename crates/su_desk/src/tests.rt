@@ -165,26 +165,40 @@ fn an_undo_brings_bytes_and_sizes_back(rt: HostRuntime) -> Result<(), Fail> {
     Ok(())
 }
 
-#[test]
-fn the_last_reader_stands_in_the_way(rt: HostRuntime) -> Result<(), Fail> {
-    let alloc = rt.alloc();
+/// A file of two blocks: made, lengthened, and written in its first, its second and its first block.
+fn written_twice(alloc: Global) -> Result<Desk, Refusal> {
     let mut desk = Desk::new(alloc, two_users(alloc)?)?;
     let author = User::FIRST;
-    desk.apply(author, create(alloc, b"a", 2)?)?;
-    desk.apply(author, truncate(8192)?)?;
-    desk.apply(author, write(alloc, 0, b"A".as_slice())?)?;
-    desk.apply(author, write(alloc, 4096, b"B".as_slice())?)?;
-    desk.apply(author, write(alloc, 0, b"C".as_slice())?)?;
+    let mut changes = Vec::new(alloc);
+    changes.push((author, create(alloc, b"a", 2)?))?;
+    changes.push((author, truncate(8192)?))?;
+    changes.push((author, write(alloc, 0, b"A".as_slice())?))?;
+    changes.push((author, write(alloc, 4096, b"B".as_slice())?))?;
+    changes.push((author, write(alloc, 0, b"C".as_slice())?))?;
+    desk.run(changes.as_slice())?;
+    Ok(desk)
+}
+
+#[test]
+fn the_last_reader_stands_in_the_way(rt: HostRuntime) -> Result<(), Fail> {
+    let desk = written_twice(rt.alloc())?;
     for number in 1..4u64 {
         assert!(rt; desk.blocker(number)? == Some(5), "{number}");
     }
     assert!(rt; desk.blocker(4)?.is_none());
     assert!(rt; desk.blocker(5)?.is_none());
     assert!(rt; desk.blocker(6) == Err(Refusal::NoOperation(6)));
-    assert_eq!(rt; desk.apply(author, Change::Undo(4))?, 6);
+    Ok(())
+}
+
+#[test]
+fn an_earlier_block_is_undone_alone(rt: HostRuntime) -> Result<(), Fail> {
+    let mut desk = written_twice(rt.alloc())?;
+    assert_eq!(rt; desk.apply(User::FIRST, Change::Undo(4))?, 6);
     let back = bytes(&desk)?;
-    assert!(rt; back[0] == b'C');
-    assert!(rt; back[4096] == 0);
+    assert!(rt; back.len() == 8192);
+    assert!(rt; back.first() == Some(&b'C'));
+    assert!(rt; back.get(4096) == Some(&0));
     assert!(rt; desk.blocker(4) == Err(Refusal::AlreadyUndone(4, 6)));
     assert!(rt; desk.blocker(6) == Err(Refusal::NotOperation(6)));
     Ok(())
