@@ -42,19 +42,24 @@ fn a_link_is_refused_for_users_and_groups(rt: HostRuntime) -> Result<(), Fail> {
 }
 
 #[test]
-fn a_link_is_refused_for_bodies_and_kinds(rt: HostRuntime) -> Result<(), Fail> {
+fn a_link_is_refused_for_bodies(rt: HostRuntime) -> Result<(), Fail> {
     let scene = Scene::new(rt.alloc())?;
     let files = Files::new()?;
-    let (missing, absent) = (files.missing, files.absent);
-    let directory = files.third_directory;
-    let refusal = scene.link_refusal(absent, b"f", missing)?;
-    assert!(rt; refusal == Some(Refusal::NoFile(absent)));
-    let refusal = scene.link_refusal(files.other_file, b"f", missing)?;
-    assert!(rt; refusal == Some(Refusal::NoFile(missing)));
-    let refusal = scene.link_refusal(files.other_file, b"f", directory)?;
+    let refusal = scene.link_refusal(files.absent, b"f", files.missing)?;
+    assert!(rt; refusal == Some(Refusal::NoFile(files.absent)));
+    let refusal = scene.link_refusal(files.other_file, b"f", files.missing)?;
+    assert!(rt; refusal == Some(Refusal::NoFile(files.missing)));
+    Ok(())
+}
+
+#[test]
+fn a_link_is_refused_for_kinds(rt: HostRuntime) -> Result<(), Fail> {
+    let scene = Scene::new(rt.alloc())?;
+    let files = Files::new()?;
+    let refusal = scene.link_refusal(files.other_file, b"f", files.third_directory)?;
     assert!(rt; refusal == Some(Refusal::WrongKind(files.other_file)));
-    let refusal = scene.link_refusal(files.other_directory, b"f", directory)?;
-    assert!(rt; refusal == Some(Refusal::WrongKind(directory)));
+    let refusal = scene.link_refusal(files.other_directory, b"f", files.third_directory)?;
+    assert!(rt; refusal == Some(Refusal::WrongKind(files.third_directory)));
     Ok(())
 }
 

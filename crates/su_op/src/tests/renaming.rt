@@ -61,13 +61,18 @@ fn a_rename_is_refused_for_users_and_groups(rt: HostRuntime) -> Result<(), Fail>
 fn a_rename_is_refused_for_bodies(rt: HostRuntime) -> Result<(), Fail> {
     let scene = Scene::new(rt.alloc())?;
     let files = Files::new()?;
-    let (missing, absent, gone) = (files.missing, files.absent, files.gone);
-    let refusal = scene.rename_refusal(absent, b"g", gone, b"f", missing)?;
-    assert!(rt; refusal == Some(Refusal::NoFile(absent)));
-    let refusal = scene.rename_refusal(files.other_file, b"g", gone, b"f", missing)?;
-    assert!(rt; refusal == Some(Refusal::NoFile(gone)));
-    let refusal = scene.rename_refusal(files.other_file, b"g", files.third_file, b"f", missing)?;
-    assert!(rt; refusal == Some(Refusal::NoFile(missing)));
+    let refusal = scene.rename_refusal(files.absent, b"g", files.gone, b"f", files.missing)?;
+    assert!(rt; refusal == Some(Refusal::NoFile(files.absent)));
+    let refusal = scene.rename_refusal(files.other_file, b"g", files.gone, b"f", files.missing)?;
+    assert!(rt; refusal == Some(Refusal::NoFile(files.gone)));
+    let refusal = scene.rename_refusal(
+        files.other_file,
+        b"g",
+        files.third_file,
+        b"f",
+        files.missing,
+    )?;
+    assert!(rt; refusal == Some(Refusal::NoFile(files.missing)));
     Ok(())
 }
 
@@ -93,18 +98,17 @@ fn a_rename_is_refused_for_kinds_and_holders(rt: HostRuntime) -> Result<(), Fail
 fn a_rename_is_refused_for_names_and_directories(rt: HostRuntime) -> Result<(), Fail> {
     let scene = Scene::new(rt.alloc())?;
     let files = Files::new()?;
-    let (root, moved) = (files.root, files.directory);
-    let refusal = scene.rename_refusal(root, b"g", moved, b"f", moved)?;
+    let refusal = scene.rename_refusal(files.root, b"g", files.directory, b"f", files.directory)?;
     assert!(rt; refusal == Some(Refusal::NoName));
-    let refusal = scene.rename_refusal(root, b"f", moved, b"f", moved)?;
+    let refusal = scene.rename_refusal(files.root, b"f", files.directory, b"f", files.directory)?;
     assert!(rt; refusal == Some(Refusal::NoName));
-    let refusal = scene.rename_refusal(root, b"d", moved, b"f", moved)?;
+    let refusal = scene.rename_refusal(files.root, b"d", files.directory, b"f", files.directory)?;
     assert!(rt; refusal == Some(Refusal::Exists));
-    let refusal = scene.rename_refusal(root, b"d", root, b"d", moved)?;
+    let refusal = scene.rename_refusal(files.root, b"d", files.root, b"d", files.directory)?;
     assert!(rt; refusal == Some(Refusal::Exists));
-    let refusal = scene.rename_refusal(root, b"d", moved, b"g", moved)?;
+    let refusal = scene.rename_refusal(files.root, b"d", files.directory, b"g", files.directory)?;
     assert!(rt; refusal == Some(Refusal::DirMove));
-    let refusal = scene.rename_refusal(root, b"d", root, b"e", moved)?;
+    let refusal = scene.rename_refusal(files.root, b"d", files.root, b"e", files.directory)?;
     assert!(rt; refusal.is_none());
     Ok(())
 }
