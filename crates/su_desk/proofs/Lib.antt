@@ -7,3 +7,4 @@ pub mod Blocking
 pub mod Placing
 pub mod Answering
 pub mod Running
+pub mod Heading

@@ -4,3 +4,4 @@ pub mod Version
 pub mod Answer
 pub mod Desk
 pub mod Keeping
+pub mod Headline

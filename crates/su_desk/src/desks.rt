@@ -1,6 +1,7 @@
 // The desk: a history, what is kept of its live operations, and the forest that they make.
 ghost use Rattle.std.specs.Prelude.{◌≡◌, [], map, option_copied, Some, None, OnOk, IfOk, IfErr, OnErr};
 ghost use Rattle.su_desk.specs.Version.{versions};
+ghost use Rattle.su_desk.specs.Headline.{Headline};
 ghost use Rattle.su_bytes.specs.declared.refusals.Refusal.TheVariants.{NoMemory};
 ghost use Rattle.su_op.specs.declared.operations.Change.TheVariants.{Do, Undo};
 ghost use Rattle.su_desk.specs.History.{tree, live_numbers, last_live, entry_at, undoer};
@@ -67,9 +68,10 @@ impl Desk {
         &self.roster
     }
 
-    /// The tree of the live operations.
+    /// The tree of the live operations; of it, the history and the version numbers all holds that the desk is for.
     pub fn forest(&self) -> &Forest
-        ensures { tree self.now.roster self.now.history ≡ Some result.now }
+        ensures tree { tree self.now.roster self.now.history ≡ Some result.now }
+        ensures headline { Headline self.now.roster self.now.history result.now }
     {
         &self.forest
     }

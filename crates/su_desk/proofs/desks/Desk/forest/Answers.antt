@@ -1,7 +1,13 @@
-use Rattle.std.proofs.Common.{sym, ◌∙◌, ap}
+use Rattle.std.proofs.Common.{◌≡◌, Some, sym, ◌∙◌, ap, subst}
 use Rattle.su_desk.specs.History.{tree}
+use Rattle.su_desk.specs.Desk.{DeskState}
+use Rattle.su_desk.specs.Headline.{Headline}
 use Rattle.su_desk.proofs.Leading.{tree_kept}
+use Rattle.su_desk.proofs.Heading.{headline_of}
 use Rattle.su_desk.proofs.desks.Desk.forest.Goals as goal
 
-pub returns : goal.returns
-returns c = ap (λ d. tree d.roster d.history) (sym c.self.view_is) ∙ tree_kept _ _ _ _ c.self.invariant.0
+pub returns-clause-tree : goal.returns-clause-tree
+returns-clause-tree c = ap (λ d. tree d.roster d.history) (sym c.self.view_is) ∙ tree_kept _ _ _ _ c.self.invariant.0
+
+pub returns-clause-headline : goal.returns-clause-headline
+returns-clause-headline c = headline_of _ _ _ (ap (λ d. tree d.roster d.history) (sym c.self.view_is) ∙ tree_kept _ _ _ _ c.self.invariant.0)
