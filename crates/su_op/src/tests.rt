@@ -26,14 +26,9 @@ fn root() -> Result<FileId, Refusal> {
 
 /// Users 0 and 1, both in group 0.
 fn two_users(alloc: Global) -> Result<Roster, Refusal> {
-    users(alloc, 2)
-}
-
-/// So many users, all in group 0.
-fn users(alloc: Global, count: u64) -> Result<Roster, Refusal> {
     let mut users = Vec::new(alloc);
     let mut members = Vec::new(alloc);
-    for number in 0..count {
+    for number in 0..2u64 {
         let user = User::new(number)?;
         let key = [0; KEY_LENGTH];
         users.push(RosterUser { user, key })?;
@@ -205,108 +200,5 @@ fn bytes_are_written_and_cut(rt: HostRuntime) -> Result<(), Fail> {
     apply(alloc, &mut forest, &roster, author, &few)?;
     let bytes = forest.read(file)?;
     assert_eq!(rt; bytes.as_slice(), [0u8, 0, 7, 7, 7].as_slice());
-    Ok(())
-}
-
-#[test]
-fn a_write_is_refused_for_users_counts_and_groups(rt: HostRuntime) -> Result<(), Fail> {
-    let alloc = rt.alloc();
-    let roster = two_users(alloc)?;
-    let forest = two_files(alloc, &roster)?;
-    let author = User::FIRST;
-    let stranger = User::new(2)?;
-    let file = own(0, 2)?;
-    let missing = own(0, 9)?;
-    let group = Group::new(1)?;
-    let outside = FileId::Group(group, Inum::new(1)?);
-    let far = LARGEST_FILE;
-    let most = LARGEST_WRITE;
-    let nobody = Refusal::NoUser(stranger);
-    let cases = [
-        (stranger, write(alloc, missing, far, 0)?, nobody),
-        (author, write(alloc, outside, far, 0)?, Refusal::BadNumber),
-        (author, write(alloc, file, 0, most + 1)?, Refusal::BadNumber),
-        (
-            author,
-            write(alloc, outside, far, 1)?,
-            Refusal::NotMember(group),
-        ),
-    ];
-    for (user, op, refusal) in &cases {
-        assert!(rt; op.check(&forest, &roster, *user).as_ref().err() == Some(refusal));
-    }
-    Ok(())
-}
-
-#[test]
-fn a_write_is_refused_for_bodies_and_sizes(rt: HostRuntime) -> Result<(), Fail> {
-    let alloc = rt.alloc();
-    let roster = two_users(alloc)?;
-    let forest = two_files(alloc, &roster)?;
-    let author = User::FIRST;
-    let other = User::new(1)?;
-    let file = own(0, 2)?;
-    let missing = own(0, 9)?;
-    let root = root()?;
-    let far = LARGEST_FILE;
-    let cases = [
-        (
-            author,
-            write(alloc, missing, far, 1)?,
-            Refusal::NoFile(missing),
-        ),
-        (other, write(alloc, root, far, 1)?, Refusal::WrongKind(root)),
-        (
-            author,
-            write(alloc, own(1, 3)?, far, 1)?,
-            Refusal::NotHolder(other),
-        ),
-        (author, write(alloc, file, far, 1)?, Refusal::TooBig),
-        (author, write(alloc, file, u32::MAX, 1)?, Refusal::TooBig),
-    ];
-    for (user, op, refusal) in &cases {
-        assert!(rt; op.check(&forest, &roster, *user).as_ref().err() == Some(refusal));
-    }
-    let last = write(alloc, file, LARGEST_FILE - 1, 1)?;
-    assert!(rt; last.check(&forest, &roster, author).is_ok());
-    Ok(())
-}
-
-#[test]
-fn a_truncate_is_refused_by_its_first_check(rt: HostRuntime) -> Result<(), Fail> {
-    let alloc = rt.alloc();
-    let roster = two_users(alloc)?;
-    let forest = two_files(alloc, &roster)?;
-    let author = User::FIRST;
-    let other = User::new(1)?;
-    let stranger = User::new(2)?;
-    let file = own(0, 2)?;
-    let missing = own(0, 9)?;
-    let outside = FileId::Group(Group::new(1)?, Inum::new(1)?);
-    let over = LARGEST_FILE + 1;
-    let cases = [
-        (stranger, truncate(outside, over), Refusal::NoUser(stranger)),
-        (
-            author,
-            truncate(outside, over),
-            Refusal::NotMember(Group::new(1)?),
-        ),
-        (author, truncate(missing, over), Refusal::NoFile(missing)),
-        (other, truncate(root()?, over), Refusal::WrongKind(root()?)),
-        (
-            author,
-            truncate(own(1, 3)?, over),
-            Refusal::NotHolder(other),
-        ),
-        (author, truncate(file, over), Refusal::TooBig),
-    ];
-    for (user, op, refusal) in &cases {
-        assert!(rt; op.check(&forest, &roster, *user).as_ref().err() == Some(refusal));
-    }
-    assert!(rt;
-        truncate(file, LARGEST_FILE)
-            .check(&forest, &roster, author)
-            .is_ok()
-    );
     Ok(())
 }

@@ -95,25 +95,3 @@ fn a_group_file_is_taken_over(rt: HostRuntime) -> Result<(), Fail> {
     assert!(rt; !forest.is_free((User::FIRST, Inum::new(5)?)));
     Ok(())
 }
-
-#[test]
-fn a_take_is_refused_by_its_first_check(rt: HostRuntime) -> Result<(), Fail> {
-    let alloc = rt.alloc();
-    let roster = two_users(alloc)?;
-    let forest = Forest::genesis(alloc, &roster)?;
-    let author = User::FIRST;
-    let stranger = User::new(2)?;
-    let outside = FileId::Group(Group::new(1)?, Inum::new(1)?);
-    let missing = shared()?;
-    let held = take(own(0, 1)?, 1)?;
-    assert!(rt; held.check(&forest, &roster, stranger) == Err(Refusal::NoUser(stranger)));
-    assert!(rt; held.check(&forest, &roster, author) == Err(Refusal::BadNumber));
-    let closed = take(outside, 1)?;
-    assert!(rt; closed.check(&forest, &roster, author) == Err(Refusal::NotMember(Group::new(1)?)));
-    let absent = take(missing, 1)?;
-    assert!(rt; absent.check(&forest, &roster, author) == Err(Refusal::NoFile(missing)));
-    let again = take(root()?, 9)?;
-    assert!(rt; again.check(&forest, &roster, author) == Err(Refusal::Held));
-    assert!(rt; again.check(&forest, &roster, User::new(1)?).is_ok());
-    Ok(())
-}

@@ -163,13 +163,3 @@ fn operations_are_refused_each_for_its_own_reason(rt: HostRuntime) {
         Status::BadLine,
     );
 }
-
-#[test]
-fn a_full_directory_stays_and_a_full_file_takes_no_more(rt: HostRuntime) {
-    expect(
-        &rt,
-        b"0 mkdir G0:1 d U0:2\n0 create U0:2 f U0:3\n0 unlink G0:1 d U0:2\n0 mkdir G0:1 e U0:4\n0 rename G0:1 d U0:4 d U0:2\n0 rename G0:1 d G0:1 e U0:2\n0 truncate U0:3 1048576\n0 write U0:3 1048576 41\n",
-        "ok 1\nok 2\nno 20 NotEmpty\nok 3\nno 21 DirMove\nno 19 Exists\nok 4\nno 22 TooBig\n",
-        Status::Finished,
-    );
-}

@@ -52,6 +52,9 @@ fn a_link_is_refused_for_kinds_holders_and_names(rt: HostRuntime) -> Result<(), 
         ("1 link G0:1 g U0:2", "no 16 NotHolder 0"),
         ("1 link G0:1 f U0:2", "no 16 NotHolder 0"),
         ("0 link G0:1 f U0:2", "no 19 Exists"),
+        ("1 take G0:1 1", "ok 3"),
+        ("1 link G0:1 f U0:2", "no 16 NotHolder 0"),
+        ("0 link G0:1 f U0:2", "no 16 NotHolder 1"),
     ];
     expect_each(&rt, BEFORE, "ok 1\nok 2\n", &cases)
 }

@@ -33,16 +33,6 @@ fn links_and_renames_are_undone(rt: HostRuntime) {
 }
 
 #[test]
-fn a_name_goes_back_and_the_links_stay(rt: HostRuntime) {
-    expect(
-        &rt,
-        b"0 mkdir G0:1 d U0:2\n0 create G0:1 a U0:3\n0 link U0:2 b U0:3\nstat U0:3\n0 unlink G0:1 a U0:3\n0 rename U0:2 b G0:1 c U0:3\nls G0:1\n0 undo_last\n0 undo_last\nstat U0:3\nls G0:1\n",
-        "ok 1\nok 2\nok 3\nfile size 0 links 2 at U0:3\nok 4\nok 5\nc U0:3\nd U0:2\nok 6\nok 7\nfile size 0 links 2 at U0:3\na U0:3\nd U0:2\n",
-        Status::Finished,
-    );
-}
-
-#[test]
 fn a_rename_is_undone_under_a_later_create(rt: HostRuntime) {
     expect(
         &rt,
@@ -58,12 +48,6 @@ fn a_directory_stays_in_its_directory(rt: HostRuntime) {
         &rt,
         b"0 mkdir G0:1 d U0:2\n0 create U0:2 f U0:3\n0 unlink G0:1 d U0:2\n0 mkdir G0:1 e U0:4\n0 rename G0:1 d U0:4 d U0:2\n0 rename G0:1 d G0:1 e U0:2\n0 truncate U0:3 1048576\n0 write U0:3 1048576 41\n",
         "ok 1\nok 2\nno 20 NotEmpty\nok 3\nno 21 DirMove\nno 19 Exists\nok 4\nno 22 TooBig\n",
-        Status::Finished,
-    );
-    expect(
-        &rt,
-        b"0 mkdir G0:1 d U0:2\n0 rename G0:1 d G0:1 k U0:2\n0 create U0:2 f U0:3\nls G0:1\nls U0:2\n",
-        "ok 1\nok 2\nok 3\nk U0:2\nf U0:3\n",
         Status::Finished,
     );
 }
@@ -121,6 +105,10 @@ fn a_rename_is_refused_for_holders_and_names(rt: HostRuntime) -> Result<(), Fail
         ("0 rename G0:1 e U0:3 g U0:5", "no 21 DirMove"),
         ("0 rename G0:1 e U0:5 g U0:5", "no 21 DirMove"),
         ("0 rename G0:1 e G0:1 g U0:5", "ok 5"),
+        ("1 take G0:1 1", "ok 6"),
+        ("1 rename G0:1 f U0:3 g U0:2", "no 16 NotHolder 0"),
+        ("1 rename U0:3 f G0:1 g U0:4", "no 16 NotHolder 0"),
+        ("0 rename G0:1 f U0:3 g U0:2", "no 16 NotHolder 1"),
     ];
     expect_each(&rt, BEFORE, MADE, &cases)
 }
