@@ -165,17 +165,23 @@ fn an_undo_brings_bytes_and_sizes_back(rt: HostRuntime) -> Result<(), Fail> {
     Ok(())
 }
 
+/// Makes a change of user 0.
+fn make(desk: &mut Desk, change: Result<Change, Refusal>) -> Result<(), Refusal> {
+    let _root: Option<FileId> = None;
+    match desk.apply(User::FIRST, change?) {
+        Ok(_) => Ok(()),
+        Err(refusal) => Err(refusal),
+    }
+}
+
 /// A file of two blocks: made, lengthened, and written in its first, its second and its first block.
 fn written_twice(alloc: Global) -> Result<Desk, Refusal> {
     let mut desk = Desk::new(alloc, two_users(alloc)?)?;
-    let author = User::FIRST;
-    let mut changes = Vec::new(alloc);
-    changes.push((author, create(alloc, b"a", 2)?))?;
-    changes.push((author, truncate(8192)?))?;
-    changes.push((author, write(alloc, 0, b"A".as_slice())?))?;
-    changes.push((author, write(alloc, 4096, b"B".as_slice())?))?;
-    changes.push((author, write(alloc, 0, b"C".as_slice())?))?;
-    desk.run(changes.as_slice())?;
+    make(&mut desk, create(alloc, b"a", 2))?;
+    make(&mut desk, truncate(8192))?;
+    make(&mut desk, write(alloc, 0, b"A".as_slice()))?;
+    make(&mut desk, write(alloc, 4096, b"B".as_slice()))?;
+    make(&mut desk, write(alloc, 0, b"C".as_slice()))?;
     Ok(desk)
 }
 
