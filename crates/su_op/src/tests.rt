@@ -202,3 +202,22 @@ fn bytes_are_written_and_cut(rt: HostRuntime) -> Result<(), Fail> {
     assert_eq!(rt; bytes.as_slice(), [0u8, 0, 7, 7, 7].as_slice());
     Ok(())
 }
+
+#[test]
+fn a_write_has_1_to_65536_bytes(rt: HostRuntime) -> Result<(), Fail> {
+    let alloc = rt.alloc();
+    let roster = two_users(alloc)?;
+    let forest = two_files(alloc, &roster)?;
+    let file = own(0, 2)?;
+    let counts = [
+        (0, false),
+        (1, true),
+        (LARGEST_WRITE, true),
+        (LARGEST_WRITE + 1, false),
+    ];
+    for (count, accepted) in counts {
+        let op = write(alloc, file, 0, count)?;
+        assert_eq!(rt; op.check(&forest, &roster, User::FIRST).is_ok(), accepted, "{count}");
+    }
+    Ok(())
+}
