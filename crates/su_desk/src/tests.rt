@@ -67,40 +67,63 @@ fn names(desk: &Desk) -> Result<usize, Refusal> {
     Ok(names.len())
 }
 
+/// Makes a change of user 0.
+fn make(desk: &mut Desk, change: Result<Change, Refusal>) -> Result<(), Refusal> {
+    let _root: Option<FileId> = None;
+    match desk.apply(User::FIRST, change?) {
+        Ok(_) => Ok(()),
+        Err(refusal) => Err(refusal),
+    }
+}
+
 #[test]
 fn an_undo_brings_the_name_back(rt: HostRuntime) -> Result<(), Fail> {
     let alloc = rt.alloc();
     let mut desk = Desk::new(alloc, two_users(alloc)?)?;
-    let author = User::FIRST;
-    let made = create(alloc, b"f", 2)?;
-    assert_eq!(rt; desk.apply(author, made)?, 1);
+    make(&mut desk, create(alloc, b"f", 2))?;
     assert_eq!(rt; names(&desk)?, 1);
-    let gone = unlink(alloc, b"f", 2)?;
-    assert_eq!(rt; desk.apply(author, gone)?, 2);
+    make(&mut desk, unlink(alloc, b"f", 2))?;
     assert_eq!(rt; names(&desk)?, 0);
-    assert_eq!(rt; desk.undo_last(author)?, 3);
+    assert_eq!(rt; desk.undo_last(User::FIRST)?, 3);
     assert_eq!(rt; names(&desk)?, 1);
-    let live = desk.live()?;
-    assert!(rt; live.as_slice() == [1u64].as_slice());
+    assert!(rt; desk.live()?.as_slice() == [1u64].as_slice());
     let versions = desk.versions();
     assert!(rt; versions.len() == 3);
-    assert!(rt; versions[0] == (Principal::User(author), 3));
+    assert!(rt; versions[0] == (Principal::User(User::FIRST), 3));
     assert!(rt; versions[2] == (Principal::Group(Group::FIRST), 0));
     Ok(())
+}
+
+/// One more change.
+fn add(
+    changes: &mut Vec<(User, Change)>,
+    author: User,
+    change: Result<Change, Refusal>,
+) -> Result<(), Refusal> {
+    let _root: Option<FileId> = None;
+    match change {
+        Ok(change) => Ok(changes.push((author, change))?),
+        Err(refusal) => Err(refusal),
+    }
+}
+
+/// Two creates of user 0, and three undos, of which one is by user 1.
+fn five_changes(alloc: Global) -> Result<Vec<(User, Change)>, Refusal> {
+    let author = User::FIRST;
+    let mut changes = Vec::new(alloc);
+    add(&mut changes, author, create(alloc, b"a", 2))?;
+    add(&mut changes, author, create(alloc, b"b", 3))?;
+    add(&mut changes, author, Ok(Change::Undo(1)))?;
+    add(&mut changes, User::new(1)?, Ok(Change::Undo(2)))?;
+    add(&mut changes, author, Ok(Change::Undo(2)))?;
+    Ok(changes)
 }
 
 #[test]
 fn several_changes_are_answered_in_turn(rt: HostRuntime) -> Result<(), Fail> {
     let alloc = rt.alloc();
     let mut desk = Desk::new(alloc, two_users(alloc)?)?;
-    let author = User::FIRST;
-    let other = User::new(1)?;
-    let mut changes = Vec::new(alloc);
-    changes.push((author, create(alloc, b"a", 2)?))?;
-    changes.push((author, create(alloc, b"b", 3)?))?;
-    changes.push((author, Change::Undo(1)))?;
-    changes.push((other, Change::Undo(2)))?;
-    changes.push((author, Change::Undo(2)))?;
+    let changes = five_changes(alloc)?;
     let replies = desk.run(changes.as_slice())?;
     assert!(rt;
         replies.as_slice()
@@ -108,12 +131,12 @@ fn several_changes_are_answered_in_turn(rt: HostRuntime) -> Result<(), Fail> {
                 DeskReply::Done(1),
                 DeskReply::Done(2),
                 DeskReply::Done(3),
-                DeskReply::Refused(Refusal::NotAuthor(author)),
+                DeskReply::Refused(Refusal::NotAuthor(User::FIRST)),
                 DeskReply::Done(4),
             ]
             .as_slice()
     );
-    assert!(rt; desk.roster().has_user(other));
+    assert!(rt; desk.roster().has_user(User::FIRST));
     Ok(())
 }
 
@@ -134,44 +157,39 @@ fn bytes(desk: &Desk) -> Result<Vec<u8>, Refusal> {
     desk.forest().read(file)
 }
 
+/// Makes a change of user 0 and takes it back; whether the file had so many bytes between, and has these again.
+fn comes_back(
+    desk: &mut Desk,
+    change: Result<Change, Refusal>,
+    size: usize,
+) -> Result<bool, Refusal> {
+    let _root: Option<FileId> = None;
+    make(desk, change)?;
+    let between = bytes(desk)?.len();
+    desk.undo_last(User::FIRST)?;
+    Ok(between == size && bytes(desk)?.as_slice() == b"0123456789".as_slice())
+}
+
 #[test]
 fn an_undo_brings_bytes_and_sizes_back(rt: HostRuntime) -> Result<(), Fail> {
     let alloc = rt.alloc();
     let mut desk = Desk::new(alloc, two_users(alloc)?)?;
-    let author = User::FIRST;
-    let made = create(alloc, b"f", 2)?;
-    desk.apply(author, made)?;
-    let first = write(alloc, 0, b"0123456789".as_slice())?;
-    desk.apply(author, first)?;
+    make(&mut desk, create(alloc, b"f", 2))?;
+    make(&mut desk, write(alloc, 0, b"0123456789".as_slice()))?;
     // within the file, past its end, and across it
-    for (off, text) in [(3u32, b"abc"), (5000, b"abc"), (8, b"abc")] {
-        let next = write(alloc, off, text.as_slice())?;
-        desk.apply(author, next)?;
-        assert_eq!(rt; bytes(&desk)?.len(), (off as usize + 3).max(10));
-        desk.undo_last(author)?;
-        let back = bytes(&desk)?;
-        assert_eq!(rt; back.as_slice(), b"0123456789".as_slice());
+    for (off, size) in [(3u32, 10usize), (5000, 5003), (8, 11)] {
+        let next = write(alloc, off, b"abc".as_slice());
+        assert!(rt; comes_back(&mut desk, next, size)?, "{off}");
     }
     for size in [4u32, 10, 9000, 0] {
-        let next = truncate(size)?;
-        desk.apply(author, next)?;
-        assert_eq!(rt; bytes(&desk)?.len(), size as usize);
-        desk.undo_last(author)?;
-        let back = bytes(&desk)?;
-        assert_eq!(rt; back.as_slice(), b"0123456789".as_slice());
+        assert!(rt;
+            comes_back(&mut desk, truncate(size), size as usize)?,
+            "{size}"
+        );
     }
-    desk.undo_last(author)?;
+    desk.undo_last(User::FIRST)?;
     assert!(rt; bytes(&desk)?.is_empty());
     Ok(())
-}
-
-/// Makes a change of user 0.
-fn make(desk: &mut Desk, change: Result<Change, Refusal>) -> Result<(), Refusal> {
-    let _root: Option<FileId> = None;
-    match desk.apply(User::FIRST, change?) {
-        Ok(_) => Ok(()),
-        Err(refusal) => Err(refusal),
-    }
 }
 
 /// A file of two blocks: made, lengthened, and written in its first, its second and its first block.

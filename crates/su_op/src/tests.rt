@@ -61,24 +61,41 @@ fn unlink(alloc: Global, name: &[u8], number: u64) -> Result<Op, Refusal> {
     }))
 }
 
+/// Makes an operation of user 0.
+fn make(
+    alloc: Global,
+    forest: &mut Forest,
+    roster: &Roster,
+    op: Result<Op, Refusal>,
+) -> Result<(), Refusal> {
+    let _root: Option<FileId> = None;
+    match op {
+        Ok(op) => apply(alloc, forest, roster, User::FIRST, &op),
+        Err(refusal) => Err(refusal),
+    }
+}
+
+/// How many names the root has.
+fn names(forest: &Forest) -> Result<usize, Refusal> {
+    let listed = root()?;
+    let names = forest.list(listed)?;
+    Ok(names.len())
+}
+
 #[test]
 fn a_file_comes_and_goes(rt: HostRuntime) -> Result<(), Fail> {
     let alloc = rt.alloc();
     let roster = two_users(alloc)?;
     let mut forest = Forest::genesis(alloc, &roster)?;
-    let made = create(alloc, b"f", 2)?;
-    let gone = unlink(alloc, b"f", 2)?;
-    let author = User::FIRST;
-    assert!(rt; made.check(&forest, &roster, author).is_ok());
-    apply(alloc, &mut forest, &roster, author, &made)?;
-    let listed = root()?;
-    assert_eq!(rt; forest.list(listed)?.len(), 1);
-    assert!(rt; made.check(&forest, &roster, author) == Err(Refusal::Held));
-    apply(alloc, &mut forest, &roster, author, &gone)?;
-    let listed = root()?;
-    assert!(rt; forest.list(listed)?.is_empty());
+    make(alloc, &mut forest, &roster, create(alloc, b"f", 2))?;
+    assert_eq!(rt; names(&forest)?, 1);
+    let again = make(alloc, &mut forest, &roster, create(alloc, b"f", 2));
+    assert!(rt; again == Err(Refusal::Held));
+    make(alloc, &mut forest, &roster, unlink(alloc, b"f", 2))?;
+    assert_eq!(rt; names(&forest)?, 0);
     let missing = own(0, 2)?;
-    assert!(rt; gone.check(&forest, &roster, author) == Err(Refusal::NoFile(missing)));
+    let gone = make(alloc, &mut forest, &roster, unlink(alloc, b"f", 2));
+    assert!(rt; gone == Err(Refusal::NoFile(missing)));
     Ok(())
 }
 
