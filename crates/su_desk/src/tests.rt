@@ -87,10 +87,6 @@ fn an_undo_brings_the_name_back(rt: HostRuntime) -> Result<(), Fail> {
     assert_eq!(rt; desk.undo_last(User::FIRST)?, 3);
     assert_eq!(rt; names(&desk)?, 1);
     assert!(rt; desk.live()?.as_slice() == [1u64].as_slice());
-    let versions = desk.versions();
-    assert!(rt; versions.len() == 3);
-    assert!(rt; versions[0] == (Principal::User(User::FIRST), 3));
-    assert!(rt; versions[2] == (Principal::Group(Group::FIRST), 0));
     Ok(())
 }
 
@@ -119,12 +115,16 @@ fn five_changes(alloc: Global) -> Result<Vec<(User, Change)>, Refusal> {
     Ok(changes)
 }
 
-#[test]
-fn several_changes_are_answered_in_turn(rt: HostRuntime) -> Result<(), Fail> {
-    let alloc = rt.alloc();
+/// What a new desk answers to these.
+fn replies(alloc: Global) -> Result<Vec<DeskReply>, Refusal> {
     let mut desk = Desk::new(alloc, two_users(alloc)?)?;
     let changes = five_changes(alloc)?;
-    let replies = desk.run(changes.as_slice())?;
+    desk.run(changes.as_slice())
+}
+
+#[test]
+fn several_changes_are_answered_in_turn(rt: HostRuntime) -> Result<(), Fail> {
+    let replies = replies(rt.alloc())?;
     assert!(rt;
         replies.as_slice()
             == [
@@ -136,7 +136,6 @@ fn several_changes_are_answered_in_turn(rt: HostRuntime) -> Result<(), Fail> {
             ]
             .as_slice()
     );
-    assert!(rt; desk.roster().has_user(User::FIRST));
     Ok(())
 }
 
@@ -212,6 +211,17 @@ fn the_last_reader_stands_in_the_way(rt: HostRuntime) -> Result<(), Fail> {
     assert!(rt; desk.blocker(4)?.is_none());
     assert!(rt; desk.blocker(5)?.is_none());
     assert!(rt; desk.blocker(6) == Err(Refusal::NoOperation(6)));
+    Ok(())
+}
+
+#[test]
+fn each_change_raises_the_number_of_its_author(rt: HostRuntime) -> Result<(), Fail> {
+    let desk = written_twice(rt.alloc())?;
+    let versions = desk.versions();
+    assert!(rt; versions.len() == 3);
+    assert!(rt; versions.first() == Some(&(Principal::User(User::FIRST), 5)));
+    assert!(rt; versions.get(2) == Some(&(Principal::Group(Group::FIRST), 0)));
+    assert!(rt; desk.roster().has_user(User::FIRST));
     Ok(())
 }
 
