@@ -114,6 +114,23 @@ part ro h (t ∷ ts) (l ∷ front) k rest (is, others) =
     let r = part ro h ts front k rest others in
     record { before = t ∷ r.before; turn = r.turn; after = r.after; whole = ap (λ xs. t ∷ xs) r.whole; first = (is, r.first); here = r.here; later = r.later }
 
+-- the same from the side of the operations
+pub record KeptParted (ro : Membership) (h : List Entry) (before : List Turn) (t : Turn) (after : List Turn) (ks : List KeptOperation) : Type 0 where
+  pub front : List KeptOperation
+  pub kept : KeptOperation
+  pub rest : List KeptOperation
+  pub whole : ks ≡ front ++ kept ∷ rest
+  pub first : AreAsApplied ro h before front
+  pub here : IsAsApplied ro h t kept
+
+pub part_kept : (ro : Membership) (h : List Entry) (before : List Turn) (t : Turn) (after : List Turn) (ks : List KeptOperation) → AreAsApplied ro h (before ++ t ∷ after) ks → KeptParted ro h before t after ks
+part_kept ro h [] t after [] a = absurd a
+part_kept ro h [] t after (k ∷ ks) (is, others) = record { front = []; kept = k; rest = ks; whole = refl; first = tt; here = is }
+part_kept ro h (u ∷ before) t after [] a = absurd a
+part_kept ro h (u ∷ before) t after (k ∷ ks) (is, others) =
+    let r = part_kept ro h before t after ks others in
+    record { front = k ∷ r.front; kept = r.kept; rest = r.rest; whole = ap (λ xs. k ∷ xs) r.whole; first = (is, r.first); here = r.here }
+
 -- without it
 pub rejoin : (ro : Membership) (h : List Entry) (before after : List Turn) (front rest : List KeptOperation) → AreAsApplied ro h before front → AreAsApplied ro h after rest → AreAsApplied ro h (before ++ after) (front ++ rest)
 rejoin ro h [] after [] rest a b = b

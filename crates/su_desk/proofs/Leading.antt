@@ -69,7 +69,7 @@ keeps_do ro h ks T a op k keeps fits =
       past = λ n l. is_undone-append h (record { author = a; change = Do op }) n ∙ ap (λ b. b || false) (keeps.past n (let more = length-append h (record { author = a; change = Do op } ∷ []) in omega arith));
     }
 
-first_sound : (ro : Membership) → Sound genesis
+pub first_sound : (ro : Membership) → Sound genesis
 first_sound ro = (store_lawful ro).start_sound
 
 -- an operation is undone whose cells no later one read: T' is the tree where what is kept of it is put back

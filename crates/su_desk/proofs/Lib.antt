@@ -4,6 +4,7 @@ pub mod Applying
 pub mod Skipping
 pub mod Leading
 pub mod Blocking
+pub mod Commuting
 pub mod Placing
 pub mod Answering
 pub mod Running

@@ -1,6 +1,6 @@
 -- An operation whose cells nothing later reads can be taken out: the later operations go alike without it, and what is kept
 -- of them stays right.
-use Rattle.std.proofs.Common.{◌≡◌, ℕ, Bool, true, false, ◌⊎◌, inl, inr, ⊎_elim, List, [], ◌∷◌, ◌++◌, Option, Some, None, refl, sym, ap, ◌∙◌, subst}
+use Rattle.std.proofs.Common.{◌≡◌, ℕ, Bool, true, false, cond, ◌⊎◌, inl, inr, ⊎_elim, List, [], ◌∷◌, ◌++◌, Option, Some, None, refl, sym, ap, ◌∙◌, subst}
 use Rattle.std.specs.Option.{is_none}
 use Rattle.su_bytes.specs.Membership.{Membership}
 use Rattle.su_node.specs.Field.{Field, Field.KindOf, Field.BlockOf, Value.Nothing}
@@ -19,7 +19,8 @@ use Rattle.su_op.proofs.Standing.{KindOrFile, WholeOrNew, kind_written, block_wr
 use Rattle.su_inverse.specs.Kept.{areas_of, IsPutBack}
 use Rattle.su_inverse.proofs.Again.{HoldsSame, kept_again}
 use Rattle.su_desk.specs.declared.kept.KeptOperation.{KeptOperation}
-use Rattle.su_desk.specs.History.{Turn}
+use Rattle.su_desk.specs.History.{Turn, replay}
+use Rattle.su_desk.specs.Commuting.{GoAlike}
 use Rattle.su_desk.specs.declared.entries.Entry.{Entry}
 use Rattle.su_desk.specs.Keeping.{Fits, Leads, AreAsApplied}
 
@@ -144,16 +145,17 @@ module _ (ro : Membership) where
   -- ---- the later operations
 
   -- from S' in place of S they lead to a tree that is S' in the cells, and T in all others
-  pub record Skipped (w : List Area) (S' : Tree) (ts : List Turn) (ks : List KeptOperation) (T : Tree) : Type 0 where
+  pub record Skipped (w : List Area) (S S' : Tree) (ts : List Turn) (ks : List KeptOperation) (T : Tree) : Type 0 where
     pub state : Tree
     pub leads : Leads ro S' ts ks state
+    pub alike : GoAlike ro S S' ts
     pub inside : AgreeIn (has w) state S'
     pub outside : AgreeOut (has w) state T
     pub files : FilesStay (has w) S' state
 
-  pub skip : (w : List Area) (S S' T : Tree) (ts : List Turn) (ks : List KeptOperation) → Sound S → Sound S' → AgreeOut (has w) S' S → Leads ro S ts ks T → Unread w ks → Skipped w S' ts ks T
+  pub skip : (w : List Area) (S S' T : Tree) (ts : List Turn) (ks : List KeptOperation) → Sound S → Sound S' → AgreeOut (has w) S' S → Leads ro S ts ks T → Unread w ks → Skipped w S S' ts ks T
   skip w S S' T [] [] sound sound' agree e unread =
-      record { state = S'; leads = refl; inside = λ c is. refl; outside = λ c is. agree c is ∙ ap (λ R. val R c) e; files = λ p n is file. file }
+      record { state = S'; leads = refl; alike = tt; inside = λ c is. refl; outside = λ c is. agree c is ∙ ap (λ R. val R c) e; files = λ p n is file. file }
   skip w S S' T (t ∷ ts) (k ∷ ks) sound sound' agree (fits, rest) (unread, others) =
       let clear : meet (reads ro S t.author t.op) w ≡ false = ap (λ a. meet a w) (sym fits.reads) ∙ unread in
       let fits' = fits_alike S S' t k w sound sound' agree fits unread in
@@ -162,6 +164,7 @@ module _ (ro : Membership) where
       record {
         state = r.state;
         leads = (fits', r.leads);
+        alike = (alike S S' t w sound sound' fits.accepted clear agree, r.alike);
         inside = λ c is. r.inside c is ∙ (store_lawful ro).leaves S' (record { author = t.author; op = t.op }) sound' (ap is_none fits'.accepted) c (unwritten S' t w c sound' fits'.accepted clear' is);
         outside = r.outside;
         files = λ p n is file. r.files p n is (files_stay S' t w sound' fits'.accepted clear' p n is file);
@@ -171,13 +174,18 @@ module _ (ro : Membership) where
 
   -- ---- the operation itself
 
-  -- the operations without one in the middle lead to a tree where what is kept of it is put back
-  pub record TakenOut (S : Tree) (ts : List Turn) (ks : List KeptOperation) (k : KeptOperation) (T : Tree) : Type 0 where
+  -- the operations without one in the middle lead to a tree where what is kept of it is put back; those after it go alike
+  pub record TakenOut (S : Tree) (before : List Turn) (t : Turn) (after : List Turn) (ks : List KeptOperation) (k : KeptOperation) (T : Tree) : Type 0 where
+    pub earlier : Tree
     pub state : Tree
-    pub leads : Leads ro S ts ks state
+    pub reached : replay ro S before ≡ Some earlier
+    pub leads : Leads ro S (before ++ after) ks state
+    pub alike : GoAlike ro (effect ro earlier t.author t.op) earlier after
+    pub inside : AgreeIn (has (writes ro earlier t.author t.op)) state earlier
+    pub outside : AgreeOut (has (writes ro earlier t.author t.op)) state T
     pub back : IsPutBack k.inverse T state
 
-  first_out : (S T : Tree) (t : Turn) (k : KeptOperation) (ts : List Turn) (ks : List KeptOperation) → Sound S → Fits ro S t k → Leads ro (effect ro S t.author t.op) ts ks T → Unread k.footprint.writes.items ks → TakenOut S ts ks k T
+  first_out : (S T : Tree) (t : Turn) (k : KeptOperation) (ts : List Turn) (ks : List KeptOperation) → Sound S → Fits ro S t k → Leads ro (effect ro S t.author t.op) ts ks T → Unread k.footprint.writes.items ks → TakenOut S [] t ts ks k T
   first_out S T t k ts ks sound fits rest unread =
       let w = k.footprint.writes.items in
       let same : (c : Cell) → has w c ≡ has (writes ro S t.author t.op) c = λ c. ap (λ a. has a c) fits.writes in
@@ -186,8 +194,13 @@ module _ (ro : Membership) where
       let kind : (p : Place) (n : ℕ) → has w (At p (BlockOf n)) ≡ true → is_file_at r.state p ≡ is_file_at S p
       = λ p n is. file_back S r.state t k p fits r.inside (λ file. r.files p n is file) (block_written ro S (record { author = t.author; op = t.op }) p n sound (ap is_none fits.accepted) (sym (same (At p (BlockOf n))) ∙ is)) in
       record {
+        earlier = S;
         state = r.state;
+        reached = refl;
         leads = r.leads;
+        alike = r.alike;
+        inside = λ c is. r.inside c (same c ∙ is);
+        outside = λ c out. r.outside c (same c ∙ out);
         back = record {
           kept = kept_again k.inverse S r.state (record {
             cells = λ c is. r.inside c (sym (fits.areas c) ∙ is);
@@ -202,10 +215,19 @@ module _ (ro : Membership) where
       file_back S R t k p fits inside stays (inr file) = stays file ∙ sym file
 
   pub take_out : (h : List Entry) (S T : Tree) (before after : List Turn) (t : Turn) (front rest : List KeptOperation) (k : KeptOperation) → Sound S → AreAsApplied ro h before front → Leads ro S (before ++ t ∷ after) (front ++ k ∷ rest) T
-      → Unread k.footprint.writes.items rest → TakenOut S (before ++ after) (front ++ rest) k T
+      → Unread k.footprint.writes.items rest → TakenOut S before t after (front ++ rest) k T
   take_out h S T [] after t [] rest k sound a (fits, later) unread = first_out S T t k after rest sound fits later unread
   take_out h S T (u ∷ before) after t (l ∷ front) rest k sound (is, others) (fits, later) unread =
       let r = take_out h (effect ro S u.author u.op) T before after t front rest k (stays_sound S u fits.accepted sound) others later unread in
-      record { state = r.state; leads = (fits, r.leads); back = r.back }
+      record {
+        earlier = r.earlier;
+        state = r.state;
+        reached = ap (λ w. cond (is_none w) (replay ro (effect ro S u.author u.op) before) None) fits.accepted ∙ r.reached;
+        leads = (fits, r.leads);
+        alike = r.alike;
+        inside = r.inside;
+        outside = r.outside;
+        back = r.back;
+      }
   take_out h S T [] after t (l ∷ front) rest k sound a leads unread = absurd a
   take_out h S T (u ∷ before) after t [] rest k sound a leads unread = absurd a

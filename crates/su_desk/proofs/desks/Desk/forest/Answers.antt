@@ -10,4 +10,4 @@ pub returns-clause-tree : goal.returns-clause-tree
 returns-clause-tree c = ap (λ d. tree d.roster d.history) (sym c.self.view_is) ∙ tree_kept _ _ _ _ c.self.invariant.0
 
 pub returns-clause-headline : goal.returns-clause-headline
-returns-clause-headline c = headline_of _ _ _ (ap (λ d. tree d.roster d.history) (sym c.self.view_is) ∙ tree_kept _ _ _ _ c.self.invariant.0)
+returns-clause-headline c = subst (λ d. Headline d.roster d.history c.self.inside.forest) c.self.view_is (headline_of _ _ _ _ c.self.invariant.0)
