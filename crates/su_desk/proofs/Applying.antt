@@ -1,18 +1,17 @@
 -- What operations read and wrote where they were applied stays so when the history grows.
-use Rattle.std.proofs.Common.{◌≡◌, ℕ, ◌+◌, ◌-◌, ◌≤◌, Bool, true, false, cond, List, [], ◌∷◌, ◌++◌, length, nat_eq, take, Some, None, zero, suc, refl, sym, ap, ◌∙◌, arith, slice_get}
-use Rattle.std.specs.Option.{unwrap_or}
+use Rattle.std.proofs.Common.{◌≡◌, ℕ, ◌+◌, ◌-◌, ◌≤◌, Bool, true, false, cond, List, [], ◌∷◌, ◌++◌, length, nat_eq, take, Some, None, zero, suc, refl, sym, ap, ◌∙◌, subst, arith, slice_get}
+use Rattle.std.specs.Option.{is_none, unwrap_or}
 use Rattle.std.proofs.lemmas.List.{take-append-le}
 use Rattle.std.proofs.lemmas.Option.{slice_get_within}
 use Rattle.su_bytes.specs.Membership.{Membership}
 use Rattle.su_table.specs.Tree.{Tree, genesis}
 use Rattle.su_op.specs.declared.operations.Op.{Op}
 use Rattle.su_op.specs.declared.operations.Change.TheVariants.{Do}
-use Rattle.su_op.specs.Operation.{reads, writes}
+use Rattle.su_op.specs.Operation.{why, effect, reads, writes}
 use Rattle.su_desk.specs.declared.entries.Entry.{Entry}
-use Rattle.su_desk.specs.declared.kept.KeptOperation.{KeptOperation}
-use Rattle.su_desk.specs.History.{Turn, tree, entry_at}
-use Rattle.su_desk.specs.Applied.{tree_after, tree_before, entry_written, written}
-use Rattle.su_desk.specs.Keeping.{IsAsApplied, AreAsApplied}
+use Rattle.su_desk.specs.History.{Turn, replay, tree, entry_at}
+use Rattle.su_desk.specs.Applied.{tree_after, tree_before, entry_written, writes_of, written}
+use Rattle.su_desk.specs.Commuting.{Stands}
 
 -- ---- entries by their numbers
 
@@ -60,84 +59,60 @@ tree_before_next ro h T is =
     take_all [] = refl
     take_all (x ∷ xs) = ap (λ ys. x ∷ ys) (take_all xs)
 
-applied_further : (ro : Membership) (h : List Entry) (e : Entry) (t : Turn) (k : KeptOperation) → IsAsApplied ro h t k → IsAsApplied ro (h ++ e ∷ []) t k
-applied_further ro h e t k is =
-    let within = entry_within h t.number _ is.entry in
+-- ---- operations in the replay
+
+-- a live operation in its turn of the replay is that of an entry, and is as it was when that was applied
+pub record StandsAs (ro : Membership) (h : List Entry) (S : Tree) (t : Turn) : Type 0 where
+  pub stands : Stands ro h S t
+  pub entry : entry_at h t.number ≡ Some (record { author = t.author; change = Do t.op })
+
+-- operations one after another from S to T
+abbrev pub AllStand : Membership → List Entry → Tree → List Turn → Tree → Type 0
+AllStand ro h S [] T = S ≡ T
+AllStand ro h S (t ∷ ts) T = StandsAs ro h S t × AllStand ro h (effect ro S t.author t.op) ts T
+
+pub replay_stood : (ro : Membership) (h : List Entry) (S T : Tree) (ts : List Turn) → AllStand ro h S ts T → replay ro S ts ≡ Some T
+replay_stood ro h S T [] e = ap Some e
+replay_stood ro h S T (t ∷ ts) (s, rest) =
+    ap (λ w. cond (is_none w) (replay ro (effect ro S t.author t.op) ts) None) s.stands.accepted ∙ replay_stood ro h (effect ro S t.author t.op) T ts rest
+
+stands_further : (ro : Membership) (h : List Entry) (e : Entry) (S : Tree) (t : Turn) → StandsAs ro h S t → StandsAs ro (h ++ e ∷ []) S t
+stands_further ro h e S t s =
+    let within = entry_within h t.number _ s.entry in
     let same : tree_before ro (h ++ e ∷ []) t.number ≡ tree_before ro h t.number = tree_before-append ro h e t.number (omega arith) in
     record {
-      number = is.number;
-      entry = entry_further h e t.number _ is.entry;
-      reads = is.reads ∙ ap (λ S. reads ro S t.author t.op) (sym same);
-      writes = is.writes ∙ ap (λ S. writes ro S t.author t.op) (sym same);
+      stands = record {
+        accepted = s.stands.accepted;
+        reads = s.stands.reads ∙ ap (λ R. reads ro R t.author t.op) (sym same);
+        writes = s.stands.writes ∙ ap (λ R. writes ro R t.author t.op) (sym same);
+      };
+      entry = entry_further h e t.number _ s.entry;
     }
 
-pub all_applied_further : (ro : Membership) (h : List Entry) (e : Entry) (ts : List Turn) (ks : List KeptOperation) → AreAsApplied ro h ts ks → AreAsApplied ro (h ++ e ∷ []) ts ks
-all_applied_further ro h e [] [] a = tt
-all_applied_further ro h e (t ∷ ts) (k ∷ ks) (is, rest) = (applied_further ro h e t k is, all_applied_further ro h e ts ks rest)
-all_applied_further ro h e [] (k ∷ ks) a = absurd a
-all_applied_further ro h e (t ∷ ts) [] a = absurd a
+-- with one entry more in the history
+pub all_further : (ro : Membership) (h : List Entry) (e : Entry) (S T : Tree) (ts : List Turn) → AllStand ro h S ts T → AllStand ro (h ++ e ∷ []) S ts T
+all_further ro h e S T [] same = same
+all_further ro h e S T (t ∷ ts) (s, rest) = (stands_further ro h e S t s, all_further ro h e (effect ro S t.author t.op) T ts rest)
 
--- one more operation
-pub applied_added : (ro : Membership) (h : List Entry) (ts : List Turn) (ks : List KeptOperation) (t : Turn) (k : KeptOperation) → AreAsApplied ro h ts ks → IsAsApplied ro h t k → AreAsApplied ro h (ts ++ t ∷ []) (ks ++ k ∷ [])
-applied_added ro h [] [] t k a is = (is, tt)
-applied_added ro h (u ∷ ts) (l ∷ ks) t k (first, rest) is = (first, applied_added ro h ts ks t k rest is)
-applied_added ro h [] (l ∷ ks) t k a is = absurd a
-applied_added ro h (u ∷ ts) [] t k a is = absurd a
+-- with one operation more
+pub all_added : (ro : Membership) (h : List Entry) (S T : Tree) (ts : List Turn) (t : Turn) → AllStand ro h S ts T → StandsAs ro h T t → AllStand ro h S (ts ++ t ∷ []) (effect ro T t.author t.op)
+all_added ro h S T [] t e s = (subst (λ R. StandsAs ro h R t) (sym e) s, ap (λ R. effect ro R t.author t.op) e)
+all_added ro h S T (u ∷ ts) t (v, rest) s = (v, all_added ro h (effect ro S u.author u.op) T ts t rest s)
 
--- the operation of the entry that is added, from what it reads and writes in the tree before
-pub applied_now : (ro : Membership) (h : List Entry) (T : Tree) (a : ℕ) (op : Op) (k : KeptOperation) → tree ro h ≡ Some T → k.number ≡ length h + 1 → k.footprint.reads.items ≡ reads ro T a op → k.footprint.writes.items ≡ writes ro T a op
-    → IsAsApplied ro (h ++ record { author = a; change = Do op } ∷ []) (record { number = length h + 1; author = a; op = op }) k
-applied_now ro h T a op k is number read wrote =
+-- the operation of the entry that is added
+pub stands_now : (ro : Membership) (h : List Entry) (T : Tree) (a : ℕ) (op : Op) → tree ro h ≡ Some T → why ro T a op ≡ None
+    → StandsAs ro (h ++ record { author = a; change = Do op } ∷ []) T (record { number = length h + 1; author = a; op = op })
+stands_now ro h T a op is accepted =
     let same : tree_before ro (h ++ record { author = a; change = Do op } ∷ []) (length h + 1) ≡ T = tree_before-append ro h _ (length h + 1) (omega arith) ∙ tree_before_next ro h T is in
     record {
-      number = number;
+      stands = record {
+        accepted = accepted;
+        reads = ap (λ S. reads ro S a op) (sym same);
+        writes = ap (λ S. writes ro S a op) (sym same);
+      };
       entry = entry_last h (record { author = a; change = Do op });
-      reads = read ∙ ap (λ S. reads ro S a op) (sym same);
-      writes = wrote ∙ ap (λ S. writes ro S a op) (sym same);
     }
 
--- an operation with those before and after it, where what is kept of it stands at that place
-pub record Parted (ro : Membership) (h : List Entry) (ts : List Turn) (front : List KeptOperation) (k : KeptOperation) (rest : List KeptOperation) : Type 0 where
-  pub before : List Turn
-  pub turn : Turn
-  pub after : List Turn
-  pub whole : ts ≡ before ++ turn ∷ after
-  pub first : AreAsApplied ro h before front
-  pub here : IsAsApplied ro h turn k
-  pub later : AreAsApplied ro h after rest
-
-pub part : (ro : Membership) (h : List Entry) (ts : List Turn) (front : List KeptOperation) (k : KeptOperation) (rest : List KeptOperation) → AreAsApplied ro h ts (front ++ k ∷ rest) → Parted ro h ts front k rest
-part ro h [] [] k rest a = absurd a
-part ro h (t ∷ ts) [] k rest (is, others) = record { before = []; turn = t; after = ts; whole = refl; first = tt; here = is; later = others }
-part ro h [] (l ∷ front) k rest a = absurd a
-part ro h (t ∷ ts) (l ∷ front) k rest (is, others) =
-    let r = part ro h ts front k rest others in
-    record { before = t ∷ r.before; turn = r.turn; after = r.after; whole = ap (λ xs. t ∷ xs) r.whole; first = (is, r.first); here = r.here; later = r.later }
-
--- the same from the side of the operations
-pub record KeptParted (ro : Membership) (h : List Entry) (before : List Turn) (t : Turn) (after : List Turn) (ks : List KeptOperation) : Type 0 where
-  pub front : List KeptOperation
-  pub kept : KeptOperation
-  pub rest : List KeptOperation
-  pub whole : ks ≡ front ++ kept ∷ rest
-  pub first : AreAsApplied ro h before front
-  pub here : IsAsApplied ro h t kept
-
-pub part_kept : (ro : Membership) (h : List Entry) (before : List Turn) (t : Turn) (after : List Turn) (ks : List KeptOperation) → AreAsApplied ro h (before ++ t ∷ after) ks → KeptParted ro h before t after ks
-part_kept ro h [] t after [] a = absurd a
-part_kept ro h [] t after (k ∷ ks) (is, others) = record { front = []; kept = k; rest = ks; whole = refl; first = tt; here = is }
-part_kept ro h (u ∷ before) t after [] a = absurd a
-part_kept ro h (u ∷ before) t after (k ∷ ks) (is, others) =
-    let r = part_kept ro h before t after ks others in
-    record { front = k ∷ r.front; kept = r.kept; rest = r.rest; whole = ap (λ xs. k ∷ xs) r.whole; first = (is, r.first); here = r.here }
-
--- without it
-pub rejoin : (ro : Membership) (h : List Entry) (before after : List Turn) (front rest : List KeptOperation) → AreAsApplied ro h before front → AreAsApplied ro h after rest → AreAsApplied ro h (before ++ after) (front ++ rest)
-rejoin ro h [] after [] rest a b = b
-rejoin ro h (t ∷ before) after (k ∷ front) rest (is, others) b = (is, rejoin ro h before after front rest others b)
-rejoin ro h [] after (k ∷ front) rest a b = absurd a
-rejoin ro h (t ∷ before) after [] rest a b = absurd a
-
--- what is kept of an operation that is written says what its entry wrote
-pub written_kept : (ro : Membership) (h : List Entry) (t : Turn) (k : KeptOperation) (n : ℕ) → IsAsApplied ro h t k → n ≡ t.number → k.footprint.writes.items ≡ written ro h n
-written_kept ro h t k n is named = is.writes ∙ ap (entry_written ro (tree_before ro h t.number)) (sym is.entry) ∙ ap (written ro h) (sym named)
+-- what an entry wrote is what its operation wrote
+pub written_of : (ro : Membership) (h : List Entry) (t : Turn) → entry_at h t.number ≡ Some (record { author = t.author; change = Do t.op }) → writes_of ro h t ≡ written ro h t.number
+written_of ro h t is = ap (entry_written ro (tree_before ro h t.number)) (sym is)

@@ -5,6 +5,7 @@ use Rattle.std.proofs.lemmas.List.Elements.{All-from_recursion}
 use Rattle.std.proofs.lemmas.List.{take_more, length-take}
 use Rattle.std.proofs.Math.ListN.{set}
 use Rattle.std.proofs.Math.Seq.{set-append_seam, get_or-append_seam, take-append_seam, drop-cons}
+use Rattle.std.proofs.lemmas.Bool.{eq-eqb}
 use Rattle.su_bytes.specs.Membership.{Membership}
 use Rattle.su_bytes.specs.Principal.{principals}
 use Rattle.su_bytes.specs.declared.principals.Principal.{Principal}
@@ -40,11 +41,8 @@ rises_by a b c e = omega arith
 pub never_falls : (ro : Membership) (h : List Entry) (e : Entry) (p : Principal) → version ro h p ≤ version ro (h ++ e ∷ []) p
 never_falls ro h e p = rises_by (version ro h p) (version ro (h ++ e ∷ []) p) (rise ro h e p) (version-append ro h e p)
 
-itself : (n : ℕ) → nat_eq n n ≡ true
-itself n = grind arith
-
 pub author_rises : (ro : Membership) (h : List Entry) (e : Entry) → version ro (h ++ e ∷ []) (User e.author) ≡ version ro h (User e.author) + 1
-author_rises ro h e = version-append ro h e (User e.author) ∙ ap (λ b. version ro h (User e.author) + cond b 1 0) (itself e.author)
+author_rises ro h e = version-append ro h e (User e.author) ∙ ap (λ b. version ro h (User e.author) + cond b 1 0) (eq-eqb e.author e.author refl)
 
 -- ---- no number is above the number of entries
 

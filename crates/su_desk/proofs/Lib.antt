@@ -1,11 +1,13 @@
 pub mod Turns
 pub mod Counting
+pub mod Live
 pub mod Applying
-pub mod Skipping
-pub mod Leading
 pub mod Blocking
-pub mod Commuting
+pub mod Skipping
+pub mod Standing
+pub mod Heading
+pub mod Leading
+pub mod Finding
 pub mod Placing
 pub mod Answering
 pub mod Running
-pub mod Heading

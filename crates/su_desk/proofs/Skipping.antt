@@ -1,7 +1,7 @@
--- An operation whose cells nothing later reads can be taken out: the later operations go alike without it, and what is kept
--- of them stays right.
-use Rattle.std.proofs.Common.{◌≡◌, ℕ, Bool, true, false, cond, ◌⊎◌, inl, inr, ⊎_elim, List, [], ◌∷◌, ◌++◌, Option, Some, None, refl, sym, ap, ◌∙◌, subst}
+-- Operations that don't read some cells go alike in two trees that differ in these cells alone.
+use Rattle.std.proofs.Common.{◌≡◌, ℕ, Bool, true, false, cond, ◌⊎◌, inl, inr, List, [], ◌∷◌, ◌++◌, Option, Some, None, refl, sym, ap, ◌∙◌, subst}
 use Rattle.std.specs.Option.{is_none}
+use Rattle.std.proofs.lemmas.Bool.{both_ways}
 use Rattle.su_bytes.specs.Membership.{Membership}
 use Rattle.su_node.specs.Field.{Field, Field.KindOf, Field.BlockOf, Value.Nothing}
 use Rattle.su_table.specs.Place.{Place}
@@ -11,44 +11,29 @@ use Rattle.su_table.specs.Query.{is_file, is_file_at}
 use Rattle.su_op.specs.declared.areas.Area.{Area}
 use Rattle.su_op.specs.Area.{has, meet}
 use Rattle.su_op.specs.Operation.{why, effect, reads, writes}
-use Rattle.su_op.specs.Soundness.{Sound}
+use Rattle.su_op.specs.Soundness.{Sound, WholeOrNew, KindOrFile}
 use Rattle.su_op.specs.System.{GoesAlike}
 use Rattle.su_op.specs.Store.{Action, store}
-use Rattle.su_op.proofs.Storing.{store_lawful}
-use Rattle.su_op.proofs.Standing.{KindOrFile, WholeOrNew, kind_written, block_written}
-use Rattle.su_inverse.specs.Kept.{areas_of, IsPutBack}
-use Rattle.su_inverse.proofs.Again.{HoldsSame, kept_again}
-use Rattle.su_desk.specs.declared.kept.KeptOperation.{KeptOperation}
-use Rattle.su_desk.specs.History.{Turn, replay}
-use Rattle.su_desk.specs.Commuting.{GoAlike}
+use Rattle.su_op.proofs.Storing.{none_is, store_lawful}
+use Rattle.su_op.proofs.Standing.{kind_written, block_written}
 use Rattle.su_desk.specs.declared.entries.Entry.{Entry}
-use Rattle.su_desk.specs.Keeping.{Fits, Leads, AreAsApplied}
+use Rattle.su_desk.specs.History.{Turn, replay}
+use Rattle.su_desk.specs.Applied.{writes_of}
+use Rattle.su_desk.specs.Commuting.{Stands, GoAlike}
+use Rattle.su_desk.proofs.Applying.{StandsAs, AllStand, replay_stood}
+use Rattle.su_desk.proofs.Blocking.{UnreadBy}
 
 -- two trees hold the same in these cells
-abbrev AgreeIn : (Cell → Bool) → Tree → Tree → Type 0
+abbrev pub AgreeIn : (Cell → Bool) → Tree → Tree → Type 0
 AgreeIn w S T = (c : Cell) → w c ≡ true → val S c ≡ val T c
 
 -- and in all others
-abbrev AgreeOut : (Cell → Bool) → Tree → Tree → Type 0
+abbrev pub AgreeOut : (Cell → Bool) → Tree → Tree → Type 0
 AgreeOut w S T = (c : Cell) → w c ≡ false → val S c ≡ val T c
 
 -- where a file with one of these blocks stood, it stands
-abbrev FilesStay : (Cell → Bool) → Tree → Tree → Type 0
+abbrev pub FilesStay : (Cell → Bool) → Tree → Tree → Type 0
 FilesStay w S T = (p : Place) (n : ℕ) → w (At p (BlockOf n)) ≡ true → is_file_at S p ≡ true → is_file_at T p ≡ true
-
--- no one of the later operations read one of the cells
-abbrev pub Unread : List Area → List KeptOperation → Type 0
-Unread w [] = Unit {0}
-Unread w (k ∷ ks) = (meet k.footprint.reads.items w ≡ false) × Unread w ks
-
--- ---- tests
-
-not_both : {P : Type 0} (b : Bool) → b ≡ true → b ≡ false → P
-not_both b e d = absurd (let bad : true ≡ false = sym e ∙ d in cc)
-
-none_is : {A : Type 0} (o : Option A) → is_none o ≡ true → o ≡ None
-none_is None e = refl
-none_is (Some x) e = absurd cc
 
 -- ---- one operation
 
@@ -64,7 +49,7 @@ module _ (ro : Membership) where
       go false is = is
       go true is =
           let read : has (reads ro S t.author t.op) c ≡ true = (store_lawful ro).within S (record { author = t.author; op = t.op }) c sound (ap is_none accepted) is in
-          not_both (has w c) inside ((store_lawful ro).apart (reads ro S t.author t.op) w c clear read)
+          absurd (both_ways (has w c) ((store_lawful ro).apart (reads ro S t.author t.op) w c clear read) inside)
 
   -- it goes alike in a tree that differs in such cells alone
   alike : (S S' : Tree) (t : Turn) (w : List Area) → Sound S → Sound S' → why ro S t.author t.op ≡ None → meet (reads ro S t.author t.op) w ≡ false → AgreeOut (has w) S' S
@@ -73,7 +58,7 @@ module _ (ro : Membership) where
       (store_lawful ro).alike S S' (record { author = t.author; op = t.op }) sound sound' (ap is_none accepted) (λ c read. agree c ((store_lawful ro).apart (reads ro S t.author t.op) w c clear read))
 
   -- in both or in neither tree a file stands where it writes blocks
-  files_alike : (S S' : Tree) (t : Turn) (w : List Area) → Sound S → Sound S' → why ro S t.author t.op ≡ None → meet (reads ro S t.author t.op) w ≡ false → AgreeOut (has w) S' S
+  pub files_alike : (S S' : Tree) (t : Turn) (w : List Area) → Sound S → Sound S' → why ro S t.author t.op ≡ None → meet (reads ro S t.author t.op) w ≡ false → AgreeOut (has w) S' S
       → GoesAlike (store ro) S S' (record { author = t.author; op = t.op })
       → (p : Place) (n : ℕ) → has (writes ro S t.author t.op) (At p (BlockOf n)) ≡ true → is_file_at S' p ≡ is_file_at S p
   files_alike S S' t w sound sound' accepted clear agree goes p n wrote =
@@ -96,33 +81,15 @@ module _ (ro : Membership) where
       out = unwritten S t w (At p (BlockOf n)) sound accepted clear inside
 
       new : val S (At p KindOf) ≡ Nothing → is_file_at (effect ro S t.author t.op) p ≡ true
-      new nothing = not_both (is_file_at S p) file (ap is_file nothing)
+      new nothing = absurd (both_ways (is_file_at S p) (ap is_file nothing) file)
 
       written : WholeOrNew S p (has (writes ro S t.author t.op)) → is_file_at (effect ro S t.author t.op) p ≡ true
       written (inl nothing) = new nothing
-      written (inr whole) = not_both (has (writes ro S t.author t.op) (At p (BlockOf n))) (whole (BlockOf n)) out
+      written (inr whole) = absurd (both_ways (has (writes ro S t.author t.op) (At p (BlockOf n))) out (whole (BlockOf n)))
 
       go : (b : Bool) → has (writes ro S t.author t.op) (At p KindOf) ≡ b → is_file_at (effect ro S t.author t.op) p ≡ true
       go false is = ap is_file ((store_lawful ro).leaves S (record { author = t.author; op = t.op }) sound (ap is_none accepted) (At p KindOf) is) ∙ file
       go true is = written (kind_written ro S (record { author = t.author; op = t.op }) p sound (ap is_none accepted) is)
-
-  -- what is kept of it fits that tree too
-  fits_alike : (S S' : Tree) (t : Turn) (k : KeptOperation) (w : List Area) → Sound S → Sound S' → AgreeOut (has w) S' S → Fits ro S t k → meet k.footprint.reads.items w ≡ false → Fits ro S' t k
-  fits_alike S S' t k w sound sound' agree fits unread =
-      let clear : meet (reads ro S t.author t.op) w ≡ false = ap (λ a. meet a w) (sym fits.reads) ∙ unread in
-      let goes = alike S S' t w sound sound' fits.accepted clear agree in
-      let wrote : (c : Cell) → has (areas_of k.inverse) c ≡ true → has (writes ro S t.author t.op) c ≡ true = λ c is. ap (λ a. has a c) (sym fits.writes) ∙ sym (fits.areas c) ∙ is in
-      record {
-        accepted = none_is (why ro S' t.author t.op) goes.ok;
-        number = fits.number;
-        reads = fits.reads ∙ sym goes.reads;
-        writes = fits.writes ∙ sym goes.writes;
-        areas = fits.areas;
-        kept = kept_again k.inverse S S' (record {
-          cells = λ c is. agree c ((store_lawful ro).apart (reads ro S t.author t.op) w c clear ((store_lawful ro).within S (record { author = t.author; op = t.op }) c sound (ap is_none fits.accepted) (wrote c is)));
-          files = λ p n is. files_alike S S' t w sound sound' fits.accepted clear agree goes p n (wrote (At p (BlockOf n)) is);
-        }) fits.kept;
-      }
 
   -- afterwards the trees differ in the same cells alone
   differ_alike : (S S' : Tree) (t : Turn) (w : List Area) → Sound S → Sound S' → why ro S t.author t.op ≡ None → meet (reads ro S t.author t.op) w ≡ false → AgreeOut (has w) S' S
@@ -142,92 +109,117 @@ module _ (ro : Membership) where
           ∙ agree c outside
           ∙ sym ((store_lawful ro).leaves S (record { author = t.author; op = t.op }) sound (ap is_none accepted) c is)
 
-  -- ---- the later operations
+  -- ---- operations one after another
 
-  -- from S' in place of S they lead to a tree that is S' in the cells, and T in all others
-  pub record Skipped (w : List Area) (S S' : Tree) (ts : List Turn) (ks : List KeptOperation) (T : Tree) : Type 0 where
-    pub state : Tree
-    pub leads : Leads ro S' ts ks state
-    pub alike : GoAlike ro S S' ts
-    pub inside : AgreeIn (has w) state S'
-    pub outside : AgreeOut (has w) state T
-    pub files : FilesStay (has w) S' state
+  -- In S' as in S the operation is accepted, and the two trees differ in the cells alone, which it doesn't read.
+  pub record Beside (w : List Area) (S S' : Tree) (t : Turn) : Type 0 where
+    pub sound : Sound S
+    pub sound' : Sound S'
+    pub accepted : why ro S t.author t.op ≡ None
+    pub accepted' : why ro S' t.author t.op ≡ None
+    pub clear : meet (reads ro S t.author t.op) w ≡ false
+    pub agree : AgreeOut (has w) S' S
+    pub goes : GoesAlike (store ro) S S' (record { author = t.author; op = t.op })
 
-  pub skip : (w : List Area) (S S' T : Tree) (ts : List Turn) (ks : List KeptOperation) → Sound S → Sound S' → AgreeOut (has w) S' S → Leads ro S ts ks T → Unread w ks → Skipped w S S' ts ks T
-  skip w S S' T [] [] sound sound' agree e unread =
-      record { state = S'; leads = refl; alike = tt; inside = λ c is. refl; outside = λ c is. agree c is ∙ ap (λ R. val R c) e; files = λ p n is file. file }
-  skip w S S' T (t ∷ ts) (k ∷ ks) sound sound' agree (fits, rest) (unread, others) =
-      let clear : meet (reads ro S t.author t.op) w ≡ false = ap (λ a. meet a w) (sym fits.reads) ∙ unread in
-      let fits' = fits_alike S S' t k w sound sound' agree fits unread in
-      let clear' : meet (reads ro S' t.author t.op) w ≡ false = ap (λ a. meet a w) (sym fits'.reads) ∙ unread in
-      let r = skip w (effect ro S t.author t.op) (effect ro S' t.author t.op) T ts ks (stays_sound S t fits.accepted sound) (stays_sound S' t fits'.accepted sound') (differ_alike S S' t w sound sound' fits.accepted clear agree) rest others in
-      record {
-        state = r.state;
-        leads = (fits', r.leads);
-        alike = (alike S S' t w sound sound' fits.accepted clear agree, r.alike);
-        inside = λ c is. r.inside c is ∙ (store_lawful ro).leaves S' (record { author = t.author; op = t.op }) sound' (ap is_none fits'.accepted) c (unwritten S' t w c sound' fits'.accepted clear' is);
-        outside = r.outside;
-        files = λ p n is file. r.files p n is (files_stay S' t w sound' fits'.accepted clear' p n is file);
-      }
-  skip w S S' T [] (k ∷ ks) sound sound' agree h unread = absurd h
-  skip w S S' T (t ∷ ts) [] sound sound' agree h unread = absurd h
+  abbrev pub AllBeside : List Area → Tree → Tree → List Turn → Type 0
+  AllBeside w S S' [] = Unit {0}
+  AllBeside w S S' (t ∷ ts) = Beside w S S' t × AllBeside w (effect ro S t.author t.op) (effect ro S' t.author t.op) ts
 
-  -- ---- the operation itself
+  -- where operations lead that are accepted
+  abbrev pub led_to : Tree → List Turn → Tree
+  led_to S [] = S
+  led_to S (t ∷ ts) = led_to (effect ro S t.author t.op) ts
 
-  -- the operations without one in the middle lead to a tree where what is kept of it is put back; those after it go alike
-  pub record TakenOut (S : Tree) (before : List Turn) (t : Turn) (after : List Turn) (ks : List KeptOperation) (k : KeptOperation) (T : Tree) : Type 0 where
+  beside : (h : List Entry) (w : List Area) (S S' : Tree) (t : Turn) → Sound S → Sound S' → AgreeOut (has w) S' S → Stands ro h S t → meet (reads ro S t.author t.op) w ≡ false → Beside w S S' t
+  beside h w S S' t sound sound' agree s clear =
+      let goes = alike S S' t w sound sound' s.accepted clear agree in
+      record { sound = sound; sound' = sound'; accepted = s.accepted; accepted' = none_is (why ro S' t.author t.op) goes.ok; clear = clear; agree = agree; goes = goes }
+
+  pub all_beside : (h : List Entry) (w : List Area) (S S' T : Tree) (ts : List Turn) → Sound S → Sound S' → AgreeOut (has w) S' S → AllStand ro h S ts T → UnreadBy ro h w ts → AllBeside w S S' ts
+  all_beside h w S S' T [] sound sound' agree e unread = tt
+  all_beside h w S S' T (t ∷ ts) sound sound' agree (s, rest) (unread, others) =
+      let b = beside h w S S' t sound sound' agree s.stands (ap (λ a. meet a w) s.stands.reads ∙ unread) in
+      (b, all_beside h w (effect ro S t.author t.op) (effect ro S' t.author t.op) T ts (stays_sound S t b.accepted sound) (stays_sound S' t b.accepted' sound') (differ_alike S S' t w sound sound' b.accepted b.clear agree) rest others)
+
+  pub go_alike : (w : List Area) (S S' : Tree) (ts : List Turn) → AllBeside w S S' ts → GoAlike ro S S' ts
+  go_alike w S S' [] b = tt
+  go_alike w S S' (t ∷ ts) (b, rest) = (b.goes, go_alike w (effect ro S t.author t.op) (effect ro S' t.author t.op) ts rest)
+
+  -- from S' they stand in the replay too
+  pub stand_beside : (h : List Entry) (w : List Area) (S S' T : Tree) (ts : List Turn) → AllBeside w S S' ts → AllStand ro h S ts T → AllStand ro h S' ts (led_to S' ts)
+  stand_beside h w S S' T [] b e = refl
+  stand_beside h w S S' T (t ∷ ts) (b, more) (s, rest) = (record {
+      stands = record { accepted = b.accepted'; reads = b.goes.reads ∙ s.stands.reads; writes = b.goes.writes ∙ s.stands.writes };
+      entry = s.entry;
+    }, stand_beside h w (effect ro S t.author t.op) (effect ro S' t.author t.op) T ts more rest)
+
+  pub led_by : (h : List Entry) (S T : Tree) (ts : List Turn) → AllStand ro h S ts T → led_to S ts ≡ T
+  led_by h S T [] e = e
+  led_by h S T (t ∷ ts) (s, rest) = led_by h (effect ro S t.author t.op) T ts rest
+
+  clear_beside : (w : List Area) (S S' : Tree) (t : Turn) → Beside w S S' t → meet (reads ro S' t.author t.op) w ≡ false
+  clear_beside w S S' t b = ap (λ a. meet a w) b.goes.reads ∙ b.clear
+
+  -- the cells stay as they are in S'
+  pub stay_inside : (w : List Area) (S S' : Tree) (ts : List Turn) → AllBeside w S S' ts → AgreeIn (has w) (led_to S' ts) S'
+  stay_inside w S S' [] b c is = refl
+  stay_inside w S S' (t ∷ ts) (b, rest) c is =
+      stay_inside w (effect ro S t.author t.op) (effect ro S' t.author t.op) ts rest c is
+      ∙ (store_lawful ro).leaves S' (record { author = t.author; op = t.op }) b.sound' (ap is_none b.accepted') c (unwritten S' t w c b.sound' b.accepted' (clear_beside w S S' t b) is)
+
+  -- and all others become the same
+  pub same_outside : (w : List Area) (S S' : Tree) (ts : List Turn) → AgreeOut (has w) S' S → AllBeside w S S' ts → AgreeOut (has w) (led_to S' ts) (led_to S ts)
+  same_outside w S S' [] agree b = agree
+  same_outside w S S' (t ∷ ts) agree (b, rest) = same_outside w (effect ro S t.author t.op) (effect ro S' t.author t.op) ts (differ_alike S S' t w b.sound b.sound' b.accepted b.clear b.agree) rest
+
+  pub all_files_stay : (w : List Area) (S S' : Tree) (ts : List Turn) → AllBeside w S S' ts → FilesStay (has w) S' (led_to S' ts)
+  all_files_stay w S S' [] b p n is file = file
+  all_files_stay w S S' (t ∷ ts) (b, rest) p n is file =
+      all_files_stay w (effect ro S t.author t.op) (effect ro S' t.author t.op) ts rest p n is (files_stay S' t w b.sound' b.accepted' (clear_beside w S S' t b) p n is file)
+
+  -- ---- an operation with those before and after it
+
+  pub leaves_others : (S : Tree) (t : Turn) → why ro S t.author t.op ≡ None → Sound S → AgreeOut (has (writes ro S t.author t.op)) S (effect ro S t.author t.op)
+  leaves_others S t accepted sound c out = sym ((store_lawful ro).leaves S (record { author = t.author; op = t.op }) sound (ap is_none accepted) c out)
+
+  -- the later ones go from before it as they went from behind it
+  pub past_it : (h : List Entry) (w : List Area) (S T : Tree) (t : Turn) (after : List Turn) → Sound S → Stands ro h S t → w ≡ writes ro S t.author t.op → AllStand ro h (effect ro S t.author t.op) after T → UnreadBy ro h w after
+      → AllBeside w (effect ro S t.author t.op) S after
+  past_it h w S T t after sound s is rest unread =
+      all_beside h w (effect ro S t.author t.op) S T after (stays_sound S t s.accepted sound) sound
+      (λ c out. leaves_others S t s.accepted sound c (ap (λ a. has a c) (sym is) ∙ out)) rest unread
+
+  -- it can be taken out
+  pub record Out (h : List Entry) (S : Tree) (before : List Turn) (t : Turn) (after : List Turn) (T : Tree) : Type 0 where
     pub earlier : Tree
-    pub state : Tree
+    pub without : Tree
     pub reached : replay ro S before ≡ Some earlier
-    pub leads : Leads ro S (before ++ after) ks state
-    pub alike : GoAlike ro (effect ro earlier t.author t.op) earlier after
-    pub inside : AgreeIn (has (writes ro earlier t.author t.op)) state earlier
-    pub outside : AgreeOut (has (writes ro earlier t.author t.op)) state T
-    pub back : IsPutBack k.inverse T state
+    pub stand : AllStand ro h S (before ++ after) without
+    pub commute : GoAlike ro (effect ro earlier t.author t.op) earlier after
+    pub restored : AgreeIn (has (writes ro earlier t.author t.op)) without earlier
+    pub others : AgreeOut (has (writes ro earlier t.author t.op)) without T
 
-  first_out : (S T : Tree) (t : Turn) (k : KeptOperation) (ts : List Turn) (ks : List KeptOperation) → Sound S → Fits ro S t k → Leads ro (effect ro S t.author t.op) ts ks T → Unread k.footprint.writes.items ks → TakenOut S [] t ts ks k T
-  first_out S T t k ts ks sound fits rest unread =
-      let w = k.footprint.writes.items in
-      let same : (c : Cell) → has w c ≡ has (writes ro S t.author t.op) c = λ c. ap (λ a. has a c) fits.writes in
-      let r = skip w (effect ro S t.author t.op) S T ts ks (stays_sound S t fits.accepted sound) sound
-      (λ c out. sym ((store_lawful ro).leaves S (record { author = t.author; op = t.op }) sound (ap is_none fits.accepted) c (sym (same c) ∙ out))) rest unread in
-      let kind : (p : Place) (n : ℕ) → has w (At p (BlockOf n)) ≡ true → is_file_at r.state p ≡ is_file_at S p
-      = λ p n is. file_back S r.state t k p fits r.inside (λ file. r.files p n is file) (block_written ro S (record { author = t.author; op = t.op }) p n sound (ap is_none fits.accepted) (sym (same (At p (BlockOf n))) ∙ is)) in
+  pub take_out : (h : List Entry) (S T : Tree) (before after : List Turn) (t : Turn) → Sound S → AllStand ro h S (before ++ t ∷ after) T → UnreadBy ro h (writes_of ro h t) after → Out h S before t after T
+  take_out h S T [] after t sound (s, rest) unread =
+      let w = writes ro S t.author t.op in
+      let b = past_it h w S T t after sound s.stands refl rest (subst (λ a. UnreadBy ro h a after) (sym s.stands.writes) unread) in
       record {
         earlier = S;
-        state = r.state;
+        without = led_to S after;
         reached = refl;
-        leads = r.leads;
-        alike = r.alike;
-        inside = λ c is. r.inside c (same c ∙ is);
-        outside = λ c out. r.outside c (same c ∙ out);
-        back = record {
-          kept = kept_again k.inverse S r.state (record {
-            cells = λ c is. r.inside c (sym (fits.areas c) ∙ is);
-            files = λ p n is. kind p n (sym (fits.areas (At p (BlockOf n))) ∙ is);
-          }) fits.kept;
-          others = λ c out. sym (r.outside c (sym (fits.areas c) ∙ out));
-        };
+        stand = stand_beside h w (effect ro S t.author t.op) S T after b rest;
+        commute = go_alike w (effect ro S t.author t.op) S after b;
+        restored = stay_inside w (effect ro S t.author t.op) S after b;
+        others = λ c out. same_outside w (effect ro S t.author t.op) S after (leaves_others S t s.stands.accepted sound) b c out ∙ ap (λ R. val R c) (led_by h (effect ro S t.author t.op) T after rest);
       }
-    where
-      file_back : (S R : Tree) (t : Turn) (k : KeptOperation) (p : Place) → Fits ro S t k → AgreeIn (has k.footprint.writes.items) R S → (is_file_at S p ≡ true → is_file_at R p ≡ true) → KindOrFile S p (has (writes ro S t.author t.op)) → is_file_at R p ≡ is_file_at S p
-      file_back S R t k p fits inside stays (inl kind) = ap is_file (inside (At p KindOf) (ap (λ a. has a (At p KindOf)) fits.writes ∙ kind))
-      file_back S R t k p fits inside stays (inr file) = stays file ∙ sym file
-
-  pub take_out : (h : List Entry) (S T : Tree) (before after : List Turn) (t : Turn) (front rest : List KeptOperation) (k : KeptOperation) → Sound S → AreAsApplied ro h before front → Leads ro S (before ++ t ∷ after) (front ++ k ∷ rest) T
-      → Unread k.footprint.writes.items rest → TakenOut S before t after (front ++ rest) k T
-  take_out h S T [] after t [] rest k sound a (fits, later) unread = first_out S T t k after rest sound fits later unread
-  take_out h S T (u ∷ before) after t (l ∷ front) rest k sound (is, others) (fits, later) unread =
-      let r = take_out h (effect ro S u.author u.op) T before after t front rest k (stays_sound S u fits.accepted sound) others later unread in
+  take_out h S T (u ∷ before) after t sound (s, rest) unread =
+      let r = take_out h (effect ro S u.author u.op) T before after t (stays_sound S u s.stands.accepted sound) rest unread in
       record {
         earlier = r.earlier;
-        state = r.state;
-        reached = ap (λ w. cond (is_none w) (replay ro (effect ro S u.author u.op) before) None) fits.accepted ∙ r.reached;
-        leads = (fits, r.leads);
-        alike = r.alike;
-        inside = r.inside;
-        outside = r.outside;
-        back = r.back;
+        without = r.without;
+        reached = ap (λ o. cond (is_none o) (replay ro (effect ro S u.author u.op) before) None) s.stands.accepted ∙ r.reached;
+        stand = (s, r.stand);
+        commute = r.commute;
+        restored = r.restored;
+        others = r.others;
       }
-  take_out h S T [] after t (l ∷ front) rest k sound a leads unread = absurd a
-  take_out h S T (u ∷ before) after t [] rest k sound a leads unread = absurd a

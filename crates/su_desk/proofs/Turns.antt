@@ -3,6 +3,8 @@ use Rattle.std.proofs.Common.{◌≡◌, ℕ, ◌+◌, ◌<◌, ◌≤◌, ◌||
 use Rattle.std.specs.List.{filter}
 use Rattle.std.proofs.lemmas.List.Elements.{filter-append}
 use Rattle.std.proofs.lemmas.List.Folds.{list_any-append}
+use Rattle.std.proofs.lemmas.Bool.{eq-eqb}
+use Rattle.std.proofs.Math.Bool.{or-false}
 use Rattle.su_op.specs.declared.operations.Op.{Op}
 use Rattle.su_op.specs.declared.operations.Change.{Change}
 use Rattle.su_op.specs.declared.operations.Change.TheVariants.{Do, Undo}
@@ -14,10 +16,6 @@ use Rattle.su_desk.specs.History.{Turn, turn_of, turns_from, undoes, is_undone, 
 and_not : (a b : Bool) → not (a || b) ≡ (not a && not b)
 and_not true b = refl
 and_not false b = refl
-
-or_false : (a : Bool) → (a || false) ≡ a
-or_false true = refl
-or_false false = refl
 
 pub filter_same : {A : Type 0} (p q : A → Bool) (xs : List A) → ((x : A) → p x ≡ q x) → filter p xs ≡ filter q xs
 filter_same p q [] e = refl
@@ -66,9 +64,6 @@ rising_live h = rising_filter (λ t. not (is_undone h t.number)) 0 (turns_from 1
 apart : (a b : ℕ) → a < b → nat_eq a b ≡ false
 apart a b l = grind arith
 
-itself : (a : ℕ) → nat_eq a a ≡ true
-itself a = grind arith
-
 below_middle : (low : ℕ) (ts us : List Turn) (t : Turn) → Rising low (ts ++ t ∷ us) → low < t.number
 below_middle low [] us t (l, r) = l
 below_middle low (x ∷ ts) us t (l, r) = let m = below_middle x.number ts us t r in omega arith
@@ -88,7 +83,7 @@ none_out n low (t ∷ ts) le (l, r) =
 -- one of rising operations is taken out by its number
 pub one_taken_out : (low : ℕ) (ts us : List Turn) (t : Turn) → Rising low (ts ++ t ∷ us) → filter (λ x. not (nat_eq x.number t.number)) (ts ++ t ∷ us) ≡ ts ++ us
 one_taken_out low [] us t (l, r) =
-    ap (λ b. cond (not b) (t ∷ filter (λ x. not (nat_eq x.number t.number)) us) (filter (λ x. not (nat_eq x.number t.number)) us)) (itself t.number)
+    ap (λ b. cond (not b) (t ∷ filter (λ x. not (nat_eq x.number t.number)) us) (filter (λ x. not (nat_eq x.number t.number)) us)) (eq-eqb t.number t.number refl)
     ∙ none_out t.number t.number us (omega arith) r
 one_taken_out low (x ∷ ts) us t (l, r) =
     ap (λ b. cond (not b) (x ∷ filter (λ y. not (nat_eq y.number t.number)) (ts ++ t ∷ us)) (filter (λ y. not (nat_eq y.number t.number)) (ts ++ t ∷ us))) (apart x.number t.number (below_middle x.number ts us t r))
@@ -107,13 +102,13 @@ turns_from-append n (x ∷ h) e =
     ∙ ap (λ k. (turn_of n x.author x.change ++ turns_from (n + 1) h) ++ turn_of k e.author e.change) (omega arith)
 
 pub is_undone-append : (h : List Entry) (e : Entry) (n : ℕ) → is_undone (h ++ e ∷ []) n ≡ (is_undone h n || undoes n e.change)
-is_undone-append h e n = list_any-append (λ x. undoes n x.change) h (e ∷ []) ∙ ap (λ b. is_undone h n || b) (or_false (undoes n e.change))
+is_undone-append h e n = list_any-append (λ x. undoes n x.change) h (e ∷ []) ∙ ap (λ b. is_undone h n || b) (or-false (undoes n e.change))
 
 -- an operation that is added is live, if no undo named it before it came
 pub live-do : (h : List Entry) (a : ℕ) (op : Op) → is_undone h (length h + 1) ≡ false
     → live (h ++ record { author = a; change = Do op } ∷ []) ≡ live h ++ record { number = length h + 1; author = a; op = op } ∷ []
 live-do h a op new =
-    filter_same (λ t. not (is_undone (h ++ record { author = a; change = Do op } ∷ []) t.number)) (λ t. not (is_undone h t.number)) _ (λ t. ap not (is_undone-append h _ t.number ∙ or_false (is_undone h t.number)))
+    filter_same (λ t. not (is_undone (h ++ record { author = a; change = Do op } ∷ []) t.number)) (λ t. not (is_undone h t.number)) _ (λ t. ap not (is_undone-append h _ t.number ∙ or-false (is_undone h t.number)))
     ∙ ap (filter (λ (t : Turn). not (is_undone h t.number))) (turns_from-append 1 h _)
     ∙ filter-append (λ t. not (is_undone h t.number)) (turns_from 1 h) _
     ∙ ap (λ ts. live h ++ ts) (go (1 + length h) (omega arith))

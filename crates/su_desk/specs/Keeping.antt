@@ -1,5 +1,5 @@
 -- What a desk keeps so that operations can be undone.
-use Rattle.std.specs.Prelude.{◌≡◌, ℕ, ◌<◌, false, cond, List, [], ◌∷◌, Option, Some, None, length, get_or}
+use Rattle.std.specs.Prelude.{◌≡◌, ℕ, ◌<◌, cond, List, [], ◌∷◌, Option, Some, None, length, get_or}
 use Rattle.su_bytes.specs.Membership.{Membership}
 use Rattle.su_table.specs.Tree.{Tree, genesis}
 use Rattle.su_table.specs.Cell.{Cell}
@@ -9,10 +9,8 @@ use Rattle.su_op.specs.Operation.{why, effect, reads, writes}
 use Rattle.su_inverse.specs.Kept.{areas_of, IsKeptOf}
 use Rattle.su_desk.specs.declared.entries.Entry.{Entry}
 use Rattle.su_desk.specs.declared.kept.KeptOperation.{KeptOperation}
-use Rattle.su_op.specs.declared.operations.Change.TheVariants.{Do}
-use Rattle.su_desk.specs.History.{Turn, live, is_undone, entry_at}
-use Rattle.su_desk.specs.Applied.{reads_of, writes_of}
-use Rattle.su_desk.specs.Answer.{or_else}
+use Rattle.su_desk.specs.History.{Turn, live}
+use Rattle.su_desk.specs.Answer.{or_else, Good}
 
 -- The operation is accepted in T; and what is kept of it is its number, the cells that it reads and writes there, and what
 -- those that it writes hold in T.
@@ -31,26 +29,10 @@ Leads ro S (t ∷ ts) (k ∷ ks) T = Fits ro S t k × Leads ro (effect ro S t.au
 Leads ro S [] (k ∷ ks) T = ⊥
 Leads ro S (t ∷ ts) [] T = ⊥
 
--- The operation is that of an entry, by its number; and what is kept of it are the cells that it read and wrote where it was applied.
-pub record IsAsApplied (ro : Membership) (h : List Entry) (t : Turn) (k : KeptOperation) : Type 0 where
-  pub number : k.number ≡ t.number
-  pub entry : entry_at h t.number ≡ Some (record { author = t.author; change = Do t.op })
-  pub reads : k.footprint.reads.items ≡ reads_of ro h t
-  pub writes : k.footprint.writes.items ≡ writes_of ro h t
-
--- the same of operations in order
-abbrev pub AreAsApplied : Membership → List Entry → List Turn → List KeptOperation → Type 0
-AreAsApplied ro h [] [] = Unit {0}
-AreAsApplied ro h (t ∷ ts) (k ∷ ks) = IsAsApplied ro h t k × AreAsApplied ro h ts ks
-AreAsApplied ro h [] (k ∷ ks) = ⊥
-AreAsApplied ro h (t ∷ ts) [] = ⊥
-
--- the live operations lead from the first tree to the forest of a desk
+-- The history is a good one; and its live operations, of which this is kept, lead from the first tree to the forest of a desk.
 pub record Keeps (ro : Membership) (h : List Entry) (ks : List KeptOperation) (T : Tree) : Type 0 where
+  pub good : Good ro h
   pub leads : Leads ro genesis (live h) ks T
-  pub applied : AreAsApplied ro h (live h) ks
-  -- no undo names an entry that is still to come
-  pub past : (n : ℕ) → length h < n → is_undone h n ≡ false
 
 -- ---- what is looked up among what is kept
 

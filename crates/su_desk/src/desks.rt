@@ -5,7 +5,7 @@ ghost use Rattle.su_desk.specs.Headline.{Headline};
 ghost use Rattle.su_bytes.specs.declared.refusals.Refusal.TheVariants.{NoMemory};
 ghost use Rattle.su_op.specs.declared.operations.Change.TheVariants.{Do, Undo};
 ghost use Rattle.su_desk.specs.History.{tree, live_numbers, last_live, entry_at, undoer};
-ghost use Rattle.su_desk.specs.Answer.{blocker, live_refusal, undo_refusal};
+ghost use Rattle.su_desk.specs.Answer.{blocker, live_refusal, undo_refusal, Good};
 ghost use Rattle.su_desk.specs.Desk.{Answers, Runs, result_of};
 
 use crate::entries::{DeskReply, Entry};
@@ -71,6 +71,7 @@ impl Desk {
     /// The tree of the live operations; of it, the history and the version numbers all holds that the desk is for.
     pub fn forest(&self) -> &Forest
         ensures tree { tree self.now.roster self.now.history ≡ Some result.now }
+        ensures good { Good self.now.roster self.now.history }
         ensures headline { Headline self.now.roster self.now.history result.now }
     {
         &self.forest

@@ -5,7 +5,9 @@ ghost use Rattle.su_bytes.specs.declared.principals.Principal.{Principal};
 ghost use Rattle.su_bytes.specs.declared.principals.Principal.TheVariants.{User};
 ghost use Rattle.su_desk.specs.declared.entries.Entry.{Entry};
 ghost use Rattle.su_desk.specs.History.{last_live};
-ghost use Rattle.su_desk.specs.Answer.{blocker};
+ghost use Rattle.su_desk.specs.Answer.{blocker, Good};
+ghost use Rattle.su_desk.specs.Applied.{tree_after};
+ghost use Rattle.su_desk.specs.Headline.{Headline};
 ghost use Rattle.su_desk.specs.Version.{version};
 
 /// With each entry, also with an undo, no version number falls, and that of its author rises by one.
@@ -17,4 +19,9 @@ pub fn versions_rise()
 /// The last live operation is never blocked.
 pub fn latest_is_free()
     ensures { (ro : Membership) (h : List Entry) → blocker ro h (last_live h) ≡ None }
+{}
+
+/// What the desk is for holds of every good history, with every kind of undo, and the tree that it leaves.
+pub fn good_histories_can_be_undone()
+    ensures { (ro : Membership) (h : List Entry) → Good ro h → Headline ro h (tree_after ro h) }
 {}

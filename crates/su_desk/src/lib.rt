@@ -11,4 +11,4 @@ mod versions;
 
 pub use desks::Desk;
 pub use entries::{DeskReply, Entry};
-pub use laws::{latest_is_free, versions_rise};
+pub use laws::{good_histories_can_be_undone, latest_is_free, versions_rise};

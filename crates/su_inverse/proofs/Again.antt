@@ -4,6 +4,7 @@ use Rattle.std.proofs.lemmas.List.{drop-drop}
 use Rattle.std.proofs.Math.Seq.{take-add}
 use Rattle.std.specs.List.{AllByRecursion}
 use Rattle.std.specs.FinMap.{get}
+use Rattle.std.proofs.lemmas.Bool.{or_left, or_right, and_from}
 use Rattle.su_bytes.specs.declared.file_ids.FileId.{FileId}
 use Rattle.su_node.specs.Inode.{Inode, Content, Content.Bytes, Content.Names, bytes_of, within}
 use Rattle.su_node.specs.Field.{Field, Field.KindOf, Field.LinksOf, Field.SizeOf, Field.BlockOf, Field.NameOf, Value, Value.Nothing, Value.ANumber, block, block_value, field_value}
@@ -27,37 +28,25 @@ use Rattle.su_inverse.specs.declared.resets.Reset.TheVariants.{Nothing as Nothin
 use Rattle.su_inverse.specs.declared.contents.KeptSize.{KeptSize}
 use Rattle.su_inverse.specs.declared.contents.KeptBlocks.{KeptBlocks}
 use Rattle.su_inverse.specs.declared.inverses.Inverse.{Inverse}
-use Rattle.su_inverse.specs.Kept.{return_area, size_area, reset_area, blocks_area, areas_of, HoldsReturn, HoldsNothing, HoldsReset, HoldsSize, HoldsBlocks, IsKeptOf}
+use Rattle.su_inverse.specs.Kept.{return_area, size_area, reset_area, blocks_area, areas_of, HoldsReturn, HoldsNothing, HoldsReset, HoldsSize, HoldsBlocks, IsKeptOf, HoldsSame}
 use Rattle.su_inverse.proofs.Sets.{has-append}
-
--- T holds what S holds in these cells; and where a block is one of them, in both or in neither a file stands
-pub record HoldsSame (w : Cell → Bool) (S : Tree) (T : Tree) : Type 0 where
-  pub cells : (c : Cell) → w c ≡ true → val T c ≡ val S c
-  pub files : (p : Place) (n : ℕ) → w (At p (BlockOf n)) ≡ true → is_file_at T p ≡ is_file_at S p
 
 of_fewer : (w u : Cell → Bool) (S T : Tree) → ((c : Cell) → u c ≡ true → w c ≡ true) → HoldsSame w S T → HoldsSame u S T
 of_fewer w u S T fewer same = record { cells = λ c is. same.cells c (fewer c is); files = λ p n is. same.files p n (fewer (At p (BlockOf n)) is) }
 
-first_true : (a b : Bool) → a ≡ true → (a || b) ≡ true
-first_true a b e = ap (λ x. x || b) e
-
-second_true : (a b : Bool) → b ≡ true → (a || b) ≡ true
-second_true true b e = refl
-second_true false b e = e
-
 in_first : (u w : List Area) (S T : Tree) → HoldsSame (has (u ++ w)) S T → HoldsSame (has u) S T
-in_first u w S T same = of_fewer (has (u ++ w)) (has u) S T (λ c is. has-append u w c ∙ first_true (has u c) (has w c) is) same
+in_first u w S T same = of_fewer (has (u ++ w)) (has u) S T (λ c is. has-append u w c ∙ or_left (has u c) (has w c) is) same
 
 in_second : (u w : List Area) (S T : Tree) → HoldsSame (has (u ++ w)) S T → HoldsSame (has w) S T
-in_second u w S T same = of_fewer (has (u ++ w)) (has w) S T (λ c is. has-append u w c ∙ second_true (has u c) (has w c) is) same
+in_second u w S T same = of_fewer (has (u ++ w)) (has w) S T (λ c is. has-append u w c ∙ or_right (has u c) (has w c) is) same
 
 -- of each of a list
 each_again : {X : Type 0} (area : X → Area) (P : Tree → X → Type 0) (S T : Tree) → ((x : X) → HoldsSame (in_area (area x)) S T → P S x → P T x)
     → (xs : List X) → HoldsSame (has (map area xs)) S T → AllByRecursion (P S) xs → AllByRecursion (P T) xs
 each_again area P S T one [] same all = tt
 each_again area P S T one (x ∷ xs) same (first, rest) = (
-  one x (of_fewer (has (map area (x ∷ xs))) (in_area (area x)) S T (λ c is. first_true (in_area (area x) c) (has (map area xs) c) is) same) first,
-  each_again area P S T one xs (of_fewer (has (map area (x ∷ xs))) (has (map area xs)) S T (λ c is. second_true (in_area (area x) c) (has (map area xs) c) is) same) rest,
+  one x (of_fewer (has (map area (x ∷ xs))) (in_area (area x)) S T (λ c is. or_left (in_area (area x) c) (has (map area xs) c) is) same) first,
+  each_again area P S T one xs (of_fewer (has (map area (x ∷ xs))) (has (map area xs)) S T (λ c is. or_right (in_area (area x) c) (has (map area xs) c) is) same) rest,
 )
 
 -- ---- one cell
@@ -66,10 +55,7 @@ in_inode : (p : Place) (a : Part) (f : Field) → in_part a f ≡ true → in_ar
 in_inode p a f is = ap (λ b. b && in_part a f) (place_eq-itself p) ∙ is
 
 in_blocks : (r : BlockRun) → in_part (BlocksPart r) (BlockOf r.first) ≡ true
-in_blocks r = both (nat_le r.first r.first) (nat_le r.first (r.first + r.more)) (grind arith) (grind arith)
-  where
-    both : (a b : Bool) → a ≡ true → b ≡ true → (a && b) ≡ true
-    both a b e d = ap (λ x. x && b) e ∙ d
+in_blocks r = and_from (nat_le r.first r.first) (nat_le r.first (r.first + r.more)) (grind arith) (grind arith)
 
 field_again : (S T : Tree) (p : Place) (a : Part) (f : Field) → in_part a f ≡ true → HoldsSame (in_area (InodeArea p a)) S T → field_value (get T.inodes p) f ≡ field_value (get S.inodes p) f
 unfolding val
@@ -181,10 +167,7 @@ bytes_again r xs (Some i) (Some j) file each held = go i.content j.content file 
     go (Names m) (Names k) file each held = held
 
 in_run_between : (r : BlockRun) (m : ℕ) → r.first ≤ m → m ≤ r.first + r.more → in_part (BlocksPart r) (BlockOf m) ≡ true
-in_run_between r m low high = both (nat_le r.first m) (nat_le m (r.first + r.more)) (grind arith) (grind arith)
-  where
-    both : (a b : Bool) → a ≡ true → b ≡ true → (a && b) ≡ true
-    both a b e d = ap (λ x. x && b) e ∙ d
+in_run_between r m low high = and_from (nat_le r.first m) (nat_le m (r.first + r.more)) (grind arith) (grind arith)
 
 blocks_again : (S T : Tree) (k : KeptBlocks) → HoldsSame (in_area (blocks_area k)) S T → HoldsBlocks S k → HoldsBlocks T k
 blocks_again S T k same held =

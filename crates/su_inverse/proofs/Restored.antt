@@ -1,6 +1,6 @@
 -- A value that is put back into a tree: fewer cells are left to be put back.
 use Rattle.std.proofs.Common.{◌≡◌, ℕ, ◌+◌, ◌-◌, ◌*◌, ◌<◌, ◌≤◌, Bool, true, false, cond, ◌&&◌, ◌||◌, ◌⊎◌, inl, inr, nat_le, min, max, List, [], ◌∷◌, length, take, drop, get_or, Option, Some, None, option_map, refl, sym, ap, ◌∙◌, subst, arith}
-use Rattle.std.proofs.lemmas.Bool.{leb-true, leb-false}
+use Rattle.std.proofs.lemmas.Bool.{leb-true, leb-false, or_from, both_ways}
 use Rattle.std.proofs.lemmas.List.{length-take, length-drop, get_or-take, get_or-drop}
 use Rattle.std.specs.FinMap.{get}
 use Rattle.su_bytes.specs.declared.file_ids.FileId.{FileId}
@@ -35,9 +35,6 @@ Only P c h l d g m = (f : Field) → P f ≡ false → content_value c l h f ≡
 kinds : (c d : Content) (h g : FileId) → AKind (kind_of c) h ≡ AKind (kind_of d) g → kind_of c ≡ kind_of d
 kinds c d h g e = cc
 
-or_false : (b p : Bool) → b ≡ false → p ≡ false → (b || p) ≡ false
-or_false b p e d = ap (λ b. b || p) e ∙ d
-
 name_into : (x : Name) (v : Option FileId) (P : Field → Bool) (c d : Content) (h g : FileId) (l m : ℕ) → kind_of c ≡ kind_of d → Only (λ f. in_part (NamePart x) f || P f) c h l d g m
     → file_value v ≡ content_value d m g (NameOf x) → Only P (named x v c) h l d g m
 name_into x v P (Bytes bs) (Bytes cs) h g l m k only e KindOf out = only KindOf out
@@ -55,7 +52,7 @@ name_into x v P (Names p) (Names q) h g l m k only e (NameOf y) out = ap file_va
   where
     go : (b : Bool) → name_eq y x ≡ b → file_value (cond b v (get p y)) ≡ file_value (get q y)
     go true is = e ∙ ap (λ z. file_value (get q z)) (sym (name_eq-same y x is))
-    go false is = only (NameOf y) (or_false (name_eq y x) (P (NameOf y)) is out)
+    go false is = only (NameOf y) (or_from (name_eq y x) (P (NameOf y)) is out)
 
 links_into : (n : ℕ) (P : Field → Bool) (c d : Content) (h g : FileId) (l m : ℕ) → Only (λ f. in_part LinksPart f || P f) c h l d g m → m ≡ n → Only P c h n d g m
 links_into n P c d h g l m only e KindOf out = only KindOf out
@@ -155,7 +152,7 @@ blocks_into r P bs cs h g l m same some only SizeOf out =
     let all : length (written (4096 * r.first) (run_of r cs) bs) ≡ length cs = omega (arith, run, long) in
     ap ANumber all
 blocks_into r P bs cs h g l m same some only (BlockOf n) out =
-    ap block_value (block_rewritten n r bs cs same some (λ o. block_value_same (block n bs) (block n cs) (only (BlockOf n) (or_false (in_run r n) (P (BlockOf n)) o out))))
+    ap block_value (block_rewritten n r bs cs same some (λ o. block_value_same (block n bs) (block n cs) (only (BlockOf n) (or_from (in_run r n) (P (BlockOf n)) o out))))
 blocks_into r P bs cs h g l m same some only (NameOf x) out = refl
 
 -- a run of blocks past the end has nothing to put back
@@ -168,7 +165,7 @@ blocks_past r P bs cs h g l m same past only (NameOf x) out = refl
 blocks_past r P bs cs h g l m same past only (BlockOf n) out = go (nat_le r.first n) refl (nat_le n (r.first + r.more)) refl
   where
     rest : (a b : Bool) → nat_le r.first n ≡ a → nat_le n (r.first + r.more) ≡ b → (a && b) ≡ false → block_value (block n bs) ≡ block_value (block n cs)
-    rest a b i j e = only (BlockOf n) (or_false (in_run r n) (P (BlockOf n)) (ap (λ x. x && nat_le n (r.first + r.more)) i ∙ ap (λ y. a && y) j ∙ e) out)
+    rest a b i j e = only (BlockOf n) (or_from (in_run r n) (P (BlockOf n)) (ap (λ x. x && nat_le n (r.first + r.more)) i ∙ ap (λ y. a && y) j ∙ e) out)
 
     go : (a : Bool) → nat_le r.first n ≡ a → (b : Bool) → nat_le n (r.first + r.more) ≡ b → block_value (block n bs) ≡ block_value (block n cs)
     go false i b j = rest false b i j refl
@@ -273,9 +270,6 @@ pub record IsClosed (P : Cell → Bool) : Type 0 where
 pub record MixedTree (P : Cell → Bool) (F : Tree) (T : Tree) : Type 0 where
   pub each : (c : Cell) → P c ≡ false → val F c ≡ val T c
 
-not_both : (b : Bool) → b ≡ true → b ≡ false → ⊥
-not_both b e d = absurd cc
-
 module _ (P : Cell → Bool) (F T : Tree) where
   inode_mixed : (p : Place) (a : Part) → MixedTree (λ c. in_area (InodeArea p a) c || P c) F T → Mixed (λ f. in_part a f || P (At p f)) (get F.inodes p) (get T.inodes p)
   unfolding val
@@ -292,7 +286,7 @@ module _ (P : Cell → Bool) (F T : Tree) where
       at q f true is out =
           let same : q ≡ p = place_eq-same q p is in
           done.each f (ap (λ r. P (At r f)) (sym same) ∙ out) ∙ ap (λ r. field_value (get T.inodes r) f) (sym same)
-      at q f false is out = m.each (At q f) (or_false (place_eq q p && in_part a f) (P (At q f)) (ap (λ b. b && in_part a f) is) out)
+      at q f false is out = m.each (At q f) (or_from (place_eq q p && in_part a f) (P (At q f)) (ap (λ b. b && in_part a f) is) out)
 
       each : (c : Cell) → P c ≡ false → val (edit F (Inodes p ch)) c ≡ val T c
       each (Entry g) out = m.each (Entry g) out
@@ -300,7 +294,7 @@ module _ (P : Cell → Bool) (F T : Tree) where
 
   -- all of what is at p is left
   all_left : (p : Place) (o t : Option Inode) → IsClosed P → P (At p KindOf) ≡ true → Mixed (λ f. P (At p f)) o t
-  all_left p o t closed kind = record { each = λ f out. absurd (not_both (P (At p f)) (closed.each p f kind) out) }
+  all_left p o t closed kind = record { each = λ f out. absurd (both_ways (P (At p f)) out (closed.each p f kind)) }
 
   pub back_name : (p : Place) (x : Name) (v : Option FileId) → IsClosed P → file_value v ≡ val T (At p (NameOf x)) → MixedTree (λ c. in_area (InodeArea p (NamePart x)) c || P c) F T → MixedTree P (edit F (Inodes p (Named x v))) T
   unfolding val
@@ -332,17 +326,17 @@ module _ (P : Cell → Bool) (F T : Tree) where
   back_none p a closed no_kind none m = record { each = each }
     where
       free : P (At p KindOf) ≡ false → get F.inodes p ≡ None
-      free out = none_from_kind (get F.inodes p) ((inode_mixed p a m).each KindOf (or_false (in_part a KindOf) (P (At p KindOf)) no_kind out) ∙ none)
+      free out = none_from_kind (get F.inodes p) ((inode_mixed p a m).each KindOf (or_from (in_part a KindOf) (P (At p KindOf)) no_kind out) ∙ none)
 
       here : (f : Field) (b : Bool) → P (At p KindOf) ≡ b → P (At p f) ≡ false → field_value (get F.inodes p) f ≡ field_value (get T.inodes p) f
-      here f true is out = absurd (not_both (P (At p f)) (closed.each p f is) out)
+      here f true is out = absurd (both_ways (P (At p f)) out (closed.each p f is))
       here f false is out = ap (λ o. field_value o f) (free is ∙ sym (none_from_kind (get T.inodes p) none))
 
       at : (q : Place) (f : Field) (b : Bool) → place_eq q p ≡ b → P (At q f) ≡ false → field_value (get F.inodes q) f ≡ field_value (get T.inodes q) f
       at q f true is out =
           let same : q ≡ p = place_eq-same q p is in
           ap (λ r. field_value (get F.inodes r) f) same ∙ here f (P (At p KindOf)) refl (ap (λ r. P (At r f)) (sym same) ∙ out) ∙ ap (λ r. field_value (get T.inodes r) f) (sym same)
-      at q f false is out = m.each (At q f) (or_false (place_eq q p && in_part a f) (P (At q f)) (ap (λ b. b && in_part a f) is) out)
+      at q f false is out = m.each (At q f) (or_from (place_eq q p && in_part a f) (P (At q f)) (ap (λ b. b && in_part a f) is) out)
 
       each : (c : Cell) → P c ≡ false → val F c ≡ val T c
       each (Entry g) out = m.each (Entry g) out
@@ -364,7 +358,7 @@ module _ (P : Cell → Bool) (F T : Tree) where
       at q f true is out =
           let same : q ≡ p = place_eq-same q p is in
           ap (λ r. field_value (get F.inodes r) f) same ∙ done.each f (ap (λ r. P (At r f)) (sym same) ∙ out) ∙ ap (λ r. field_value (get T.inodes r) f) (sym same)
-      at q f false is out = m.each (At q f) (or_false (place_eq q p && in_part a f) (P (At q f)) (ap (λ b. b && in_part a f) is) out)
+      at q f false is out = m.each (At q f) (or_from (place_eq q p && in_part a f) (P (At q f)) (ap (λ b. b && in_part a f) is) out)
 
       each : (c : Cell) → P c ≡ false → val F c ≡ val T c
       each (Entry g) out = m.each (Entry g) out
@@ -386,7 +380,7 @@ module _ (P : Cell → Bool) (F T : Tree) where
     where
       at : (k : Place) (b : Bool) → place_eq k g ≡ b → P (Entry k) ≡ false → place_value (cond b v (get F.entries k)) ≡ place_value (get T.entries k)
       at k true is out = kept ∙ ap (λ r. place_value (get T.entries r)) (sym (place_eq-same k g is))
-      at k false is out = m.each (Entry k) (or_false (place_eq k g) (P (Entry k)) is out)
+      at k false is out = m.each (Entry k) (or_from (place_eq k g) (P (Entry k)) is out)
 
       each : (c : Cell) → P c ≡ false → val (edit F (Entries g v)) c ≡ val T c
       each (At q f) out = m.each (At q f) out

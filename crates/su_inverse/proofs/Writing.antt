@@ -4,6 +4,7 @@ use Rattle.std.proofs.lemmas.List.Elements.{All-from_recursion}
 use Rattle.std.specs.List.{All, AllByRecursion}
 use Rattle.std.specs.Option.{is_none}
 use Rattle.std.specs.FinMap.{get}
+use Rattle.std.proofs.lemmas.Bool.{and_parts}
 use Rattle.su_bytes.specs.Membership.{Membership}
 use Rattle.su_bytes.specs.declared.file_ids.FileId.{FileId}
 use Rattle.su_bytes.specs.declared.file_ids.FileId.TheVariants.{User, Group}
@@ -21,7 +22,7 @@ use Rattle.su_op.specs.Unlinking.{unlink_edits}
 use Rattle.su_op.specs.Operation.{rule_of, why, effect, writes}
 use Rattle.su_op.specs.Soundness.{Sound}
 use Rattle.su_op.specs.Store.{Action}
-use Rattle.su_op.proofs.Rules.{Gives, gives_of, both_true}
+use Rattle.su_op.proofs.Rules.{Gives, gives_of}
 use Rattle.su_op.proofs.Copying.{take_writes}
 use Rattle.su_op.proofs.Storing.{store_lawful}
 use Rattle.su_inverse.specs.declared.inverses.Inverse.{Inverse}
@@ -50,7 +51,7 @@ resized_kept T f false s t = (tt, (tt, tt))
 
 can_keep : (ro : Membership) (a : ℕ) (op : Op) (T : Tree) (p : Plan) → Gives (rule_of ro T a op) p → AllByRecursion (CanKeep T) (writes_of p)
 can_keep ro a (Create c) T p (user, (own, (touch, (touch', (d, at, (is, (holder, (free, (new, plan))))))))) =
-    let (_, nothing) = both_true (is_entry_free T c.file) _ free in
+    let (_, nothing) = and_parts (is_entry_free T c.file) _ free in
     subst (λ (p : Plan). AllByRecursion (CanKeep T) (writes_of p)) plan (tt, (nothing, (tt, (tt, entry_kept T c.file _))))
 can_keep ro a (Unlink u) T p (user, (touch, (touch', (d, at, (f, at_f, (is, (holder, (holder', (named, (empty, plan)))))))))) =
     subst (λ (p : Plan). AllByRecursion (CanKeep T) (writes_of p)) plan (tt, unlinked_kept T _ _ u.file f)

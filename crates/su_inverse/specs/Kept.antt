@@ -1,13 +1,14 @@
 -- What an inverse keeps: the values that the cells of some areas hold in a tree.
-use Rattle.std.specs.Prelude.{◌≡◌, ◌+◌, ◌*◌, true, false, List, [], ◌∷◌, ◌++◌, map, Some, None, option_map}
+use Rattle.std.specs.Prelude.{◌≡◌, ℕ, ◌+◌, ◌*◌, Bool, true, false, List, [], ◌∷◌, ◌++◌, map, Some, None, option_map}
 use Rattle.std.specs.List.{AllByRecursion}
 use Rattle.std.specs.FinMap.{get}
 use Rattle.su_node.specs.Inode.{bytes_of, within}
-use Rattle.su_node.specs.Field.{Field.KindOf, Field.LinksOf, Field.SizeOf, Field.NameOf, Value.Nothing, Value.ANumber, Value.AFile, Value.APlace}
+use Rattle.su_node.specs.Field.{Field.KindOf, Field.LinksOf, Field.SizeOf, Field.BlockOf, Field.NameOf, Value.Nothing, Value.ANumber, Value.AFile, Value.APlace}
 use Rattle.su_node.specs.Change.{Change.Named, Change.Linked, Change.Copied, Change.Gone}
+use Rattle.su_table.specs.Place.{Place}
 use Rattle.su_table.specs.Tree.{Tree}
 use Rattle.su_table.specs.Cell.{Cell, Cell.At, Cell.Entry, val}
-use Rattle.su_table.specs.Query.{is_free_at}
+use Rattle.su_table.specs.Query.{is_free_at, is_file_at}
 use Rattle.su_table.specs.Edit.{Edit, Edit.Inodes, Edit.Entries}
 use Rattle.su_op.specs.declared.areas.Part.TheVariants.{Kind as KindPart, Links as LinksPart, Size as SizePart, Name as NamePart, Blocks as BlocksPart, Whole as WholePart}
 use Rattle.su_op.specs.declared.areas.Area.{Area}
@@ -96,6 +97,11 @@ pub record IsKeptOf (i : Inverse) (T : Tree) : Type 0 where
 pub record IsPutBack (i : Inverse) (F : Tree) (T : Tree) : Type 0 where
   pub kept : IsKeptOf i T
   pub others : (c : Cell) → has (areas_of i) c ≡ false → val F c ≡ val T c
+
+-- T holds what S holds in these cells; and where a block is one of them, in both or in neither a file stands
+pub record HoldsSame (w : Cell → Bool) (S : Tree) (T : Tree) : Type 0 where
+  pub cells : (c : Cell) → w c ≡ true → val T c ≡ val S c
+  pub files : (p : Place) (n : ℕ) → w (At p (BlockOf n)) ≡ true → is_file_at T p ≡ is_file_at S p
 
 -- ---- the edits that put them back
 

@@ -8,7 +8,7 @@ mod resets;
 mod returns;
 
 pub use inverses::{Inverse, build};
-pub use laws::{undo_after_apply, writes_can_be_kept};
+pub use laws::{kept_of_trees_alike, undo_after_apply, writes_can_be_kept};
 
 #[cfg(test)]
 mod tests;

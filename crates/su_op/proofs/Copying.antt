@@ -1,6 +1,7 @@
 -- A take depends on the cells that it reads, and its edits can be made.
 use Rattle.std.proofs.Common.{◌≡◌, ◌∙◌, ℕ, true, not, ◌&&◌, [], ◌∷◌, ◌++◌, map, nat_eq, Option, Some, None, refl, sym, ap, subst}
 use Rattle.std.specs.FinMap.{get}
+use Rattle.std.proofs.lemmas.Bool.{and_parts}
 use Rattle.su_bytes.specs.Membership.{Membership}
 use Rattle.su_bytes.specs.declared.file_ids.FileId.{FileId}
 use Rattle.su_bytes.specs.declared.file_ids.FileId.TheVariants.{User, Group}
@@ -22,7 +23,7 @@ use Rattle.su_op.specs.Taking.{copy_of, take_rule, take_plan}
 use Rattle.su_op.specs.Soundness.{WellLinked, IsBodyOf, Sound}
 use Rattle.su_op.proofs.Backs.{no_inode, back_gone, copied_gone}
 use Rattle.su_op.proofs.Edits.{IsFree, CanEdit, CanEdits, inode_after}
-use Rattle.su_op.proofs.Rules.{Gives, Agrees, left, right, later, field_same, whole_same, body_same, both_true, nothing_is, nothing_free, can_entry_some, entry_of_body}
+use Rattle.su_op.proofs.Rules.{Gives, Agrees, left, right, later, field_same, whole_same, body_same, nothing_is, nothing_free, can_entry_some, entry_of_body}
 
 copy_parts : (o : Option Inode) → parts (copy_of o) ≡ WholePart ∷ []
 copy_parts None = refl
@@ -65,7 +66,7 @@ module _ (ro : Membership) (a : ℕ) (t : Take) where
   pub take_can : (T : Tree) (p : Plan) → Sound T → Gives (take_rule ro T a t) p → CanEdits T p.edits
   take_can T p sound (user, (group, (touch, (f, at, (free, plan))))) =
       let o : Option Inode = get T.inodes f in
-      let (_, nothing) = both_true (not (nat_eq f.0 a)) _ free in
+      let (_, nothing) = and_parts (not (nat_eq f.0 a)) _ free in
       let empty : val T (At (a, t.body) KindOf) ≡ Nothing = nothing_is _ nothing in
       subst (λ (p : Plan). CanEdits T p.edits) plan (
         can_copy T (a, t.body) o (sound.linked f) (nothing_free T (a, t.body) sound empty),

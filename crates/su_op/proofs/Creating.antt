@@ -1,6 +1,7 @@
 -- A create depends on the cells that it reads, and its edits can be made.
 use Rattle.std.proofs.Common.{◌≡◌, ℕ, ◌&&◌, ◌∷◌, Some, sym, ap, ◌∙◌, subst}
 use Rattle.std.specs.FinMap.{get}
+use Rattle.std.proofs.lemmas.Bool.{and_parts}
 use Rattle.su_bytes.specs.Membership.{Membership}
 use Rattle.su_bytes.specs.declared.file_ids.Kind.TheVariants.{Dir}
 use Rattle.su_node.specs.Inode.{kind_of, empty_content}
@@ -18,7 +19,7 @@ use Rattle.su_op.specs.Rule.{Plan, reads_of, entry_edits, file_areas}
 use Rattle.su_op.specs.Creation.{create_rule, create_plan}
 use Rattle.su_op.specs.Soundness.{IsA, Sound}
 use Rattle.su_op.proofs.Edits.{CanEdits, inode_after}
-use Rattle.su_op.proofs.Rules.{Gives, Agrees, left, right, later, kind_same, name_same, body_same, is_entry_free_same, both_true, IsA_dir, nothing_is, no_inode, kind_after_name, can_entry_some, nothing_free, free_after_name}
+use Rattle.su_op.proofs.Rules.{Gives, Agrees, left, right, later, kind_same, name_same, body_same, is_entry_free_same, IsA_dir, nothing_is, no_inode, kind_after_name, can_entry_some, nothing_free, free_after_name}
 
 module _ (ro : Membership) (a : ℕ) (c : Create) where
   pub create_local : (T T' : Tree) (p : Plan) → Gives (create_rule ro T a c) p → Agrees (reads_of p) T T' → Gives (create_rule ro T' a c) p
@@ -33,7 +34,7 @@ module _ (ro : Membership) (a : ℕ) (c : Create) where
   pub create_can : (T : Tree) (p : Plan) → Sound T → Gives (create_rule ro T a c) p → CanEdits T p.edits
   create_can T p sound (user, (own, (touch, (touch', (d, at, (is, (holder, (free, (new, plan))))))))) =
       let dir! : IsA Dir (get T.inodes d) = IsA_dir T d is in
-      let (_, nothing) = both_true (is_entry_free T c.file) _ free in
+      let (_, nothing) = and_parts (is_entry_free T c.file) _ free in
       let empty : val T (At (a, c.body) KindOf) ≡ Nothing = nothing_is _ nothing in
       let T1 : Tree = edit T (Inodes d (Named c.name (Some c.file))) in
       subst (λ (p : Plan). CanEdits T p.edits) plan (

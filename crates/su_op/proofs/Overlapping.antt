@@ -1,6 +1,6 @@
 -- Areas overlap exactly where they share a cell.
 use Rattle.std.proofs.Common.{◌≡◌, ℕ, ◌+◌, ◌<◌, ◌≤◌, Bool, true, false, ◌&&◌, ◌||◌, nat_le, max, List, [], ◌∷◌, ◌↔◌, refl, sym, ap, ◌∙◌, subst, arith}
-use Rattle.std.proofs.lemmas.Bool.{leb-true, leb-false}
+use Rattle.std.proofs.lemmas.Bool.{leb-true, leb-false, and_from, and_parts}
 use Rattle.std.specs.List.{list_any}
 use Rattle.su_node.specs.Name.{Name, name_eq}
 use Rattle.su_table.specs.Place.{Place, place_eq}
@@ -112,15 +112,8 @@ le_true a b le = go (nat_le a b) refl
     go true is = is
     go false is = let lt : b < a = leb-false a b is in absurd (omega arith)
 
-both : (a b : Bool) → a ≡ true → b ≡ true → (a && b) ≡ true
-both a b e d = ap (λ a. a && b) e ∙ d
-
-two : (a b : Bool) → (a && b) ≡ true → (a ≡ true) × (b ≡ true)
-two true b e = (refl, e)
-two false b e = absurd cc
-
 at_place : (p q : Place) (a b : Part) (f : Field) → place_eq p q ≡ true → in_part a f ≡ true → in_part b f ≡ true → ShareACell (InodeArea p a) (InodeArea q b)
-at_place p q a b f e x y = record { cell = At p f; first = both _ _ (place_eq-itself p) x; second = both _ _ e y }
+at_place p q a b f e x y = record { cell = At p f; first = and_from _ _ (place_eq-itself p) x; second = and_from _ _ e y }
 
 -- a cell of a part
 some_field : (a : Part) → (f : Field) × (in_part a f ≡ true)
@@ -129,7 +122,7 @@ some_field LinksPart = (LinksOf, refl)
 some_field SizePart = (SizeOf, refl)
 some_field WholePart = (KindOf, refl)
 some_field (NamePart x) = (NameOf x, name_eq-itself x)
-some_field (BlocksPart a) = (BlockOf a.first, both _ _ (le_true a.first a.first (omega arith)) (le_true a.first (a.first + a.more) (omega arith)))
+some_field (BlocksPart a) = (BlockOf a.first, and_from _ _ (le_true a.first a.first (omega arith)) (le_true a.first (a.first + a.more) (omega arith)))
 
 shared_parts : (p q : Place) (a b : Part) → place_eq p q ≡ true → parts_overlap a b ≡ true → ShareACell (InodeArea p a) (InodeArea q b)
 shared_parts p q WholePart b e o = let (f, i) = some_field b in at_place p q WholePart b f e refl i
@@ -143,18 +136,18 @@ shared_parts p q LinksPart LinksPart e o = at_place p q LinksPart LinksPart Link
 shared_parts p q SizePart SizePart e o = at_place p q SizePart SizePart SizeOf e refl refl
 shared_parts p q (NamePart m) (NamePart n) e o = at_place p q (NamePart m) (NamePart n) (NameOf m) e (name_eq-itself m) o
 shared_parts p q (BlocksPart a) (BlocksPart c) e o =
-    let (l, r) = two (nat_le a.first (c.first + c.more)) (nat_le c.first (a.first + a.more)) o in
+    let (l, r) = and_parts (nat_le a.first (c.first + c.more)) (nat_le c.first (a.first + a.more)) o in
     let before = leb-true a.first (c.first + c.more) l in
     let after = leb-true c.first (a.first + a.more) r in
     let n = max a.first c.first in
     at_place p q (BlocksPart a) (BlocksPart c) (BlockOf n) e
-    (both _ _ (le_true a.first n (omega arith)) (le_true n (a.first + a.more) (omega arith)))
-    (both _ _ (le_true c.first n (omega arith)) (le_true n (c.first + c.more) (omega arith)))
+    (and_from _ _ (le_true a.first n (omega arith)) (le_true n (a.first + a.more) (omega arith)))
+    (and_from _ _ (le_true c.first n (omega arith)) (le_true n (c.first + c.more) (omega arith)))
 shared_parts p q a b e o = absurd cc
 
 pub overlap_shares : (a b : Area) → overlaps a b ≡ true → ShareACell a b
 overlap_shares (EntryArea g) (EntryArea k) o = record { cell = Entry g; first = place_eq-itself g; second = o }
-overlap_shares (InodeArea p a) (InodeArea q b) o = let (e, i) = two (place_eq p q) (parts_overlap a b) o in shared_parts p q a b e i
+overlap_shares (InodeArea p a) (InodeArea q b) o = let (e, i) = and_parts (place_eq p q) (parts_overlap a b) o in shared_parts p q a b e i
 overlap_shares (EntryArea g) (InodeArea q b) o = absurd cc
 overlap_shares (InodeArea p a) (EntryArea k) o = absurd cc
 

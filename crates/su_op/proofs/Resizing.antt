@@ -1,6 +1,6 @@
 -- A write and a truncate depend on the cells that they read, and their edits can be made.
 use Rattle.std.proofs.Common.{ℕ, ◌≤◌, ◌∷◌, nat_le, length, sym, ap, ◌∙◌, subst, arith}
-use Rattle.std.proofs.lemmas.Bool.{leb-true}
+use Rattle.std.proofs.lemmas.Bool.{leb-true, and_parts}
 use Rattle.su_bytes.specs.Membership.{Membership}
 use Rattle.su_node.specs.Field.{Field.SizeOf}
 use Rattle.su_table.specs.Tree.{Tree}
@@ -13,7 +13,7 @@ use Rattle.su_op.specs.Rule.{Plan, reads_of, file_areas}
 use Rattle.su_op.specs.Writing.{Writing, write_rule, write_plan}
 use Rattle.su_op.specs.Truncation.{truncate_rule, truncate_plan}
 use Rattle.su_op.proofs.Edits.{CanEdits}
-use Rattle.su_op.proofs.Rules.{Gives, Agrees, left, later, kind_same, size_same, body_same, both_true, IsA_file, size_is}
+use Rattle.su_op.proofs.Rules.{Gives, Agrees, left, later, kind_same, size_same, body_same, IsA_file, size_is}
 
 module _ (ro : Membership) (a : ℕ) (w : Writing) where
   pub write_local : (T T' : Tree) (p : Plan) → Gives (write_rule ro T a w) p → Agrees (reads_of p) T T' → Gives (write_rule ro T' a w) p
@@ -25,7 +25,7 @@ module _ (ro : Membership) (a : ℕ) (w : Writing) where
 
   pub write_can : (T : Tree) (p : Plan) → Gives (write_rule ro T a w) p → CanEdits T p.edits
   write_can T p (user, (some, (touch, (f, at, (is, (holder, (fits, plan))))))) =
-      let (l, _) = both_true (nat_le 1 (length w.bytes)) _ some in
+      let (l, _) = and_parts (nat_le 1 (length w.bytes)) _ some in
       let one : 1 ≤ length w.bytes = leb-true 1 (length w.bytes) l in
       subst (λ (p : Plan). CanEdits T p.edits) plan (((IsA_file T f is, size_is T f is, omega arith), tt), tt)
 

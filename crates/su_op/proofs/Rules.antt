@@ -2,6 +2,7 @@
 use Rattle.std.proofs.Common.{◌≡◌, ℕ, ◌≤◌, Bool, true, false, cond, ◌&&◌, ◌||◌, nat_le, List, ◌∷◌, ◌++◌, Option, Some, None, refl, sym, ap, ◌∙◌, subst}
 use Rattle.std.proofs.lemmas.List.Folds.{list_any-append}
 use Rattle.std.specs.FinMap.{get}
+use Rattle.std.proofs.lemmas.Bool.{or_left, or_right, and_from}
 use Rattle.su_bytes.specs.declared.file_ids.FileId.{FileId}
 use Rattle.su_bytes.specs.declared.file_ids.FileId.TheVariants.{User, Group}
 use Rattle.su_bytes.specs.declared.file_ids.Kind.{Kind}
@@ -54,16 +55,6 @@ of_gives (Find (Some y) r k) p (x, o, g) = let e : x ≡ y = cc in of_gives (k y
 pub record Agrees (w : List Area) (T T' : Tree) : Type 0 where
   pub each : (c : Cell) → has w c ≡ true → val T' c ≡ val T c
 
-both : (a b : Bool) → a ≡ true → b ≡ true → (a && b) ≡ true
-both a b e d = ap (λ a. a && b) e ∙ d
-
-first_true : (a b : Bool) → a ≡ true → (a || b) ≡ true
-first_true a b e = ap (λ a. a || b) e
-
-last_true : (a b : Bool) → b ≡ true → (a || b) ≡ true
-last_true true b e = refl
-last_true false b e = e
-
 home_body_is : (v : Value) (f : FileId) (q p : Place) → home_body v f q ≡ Some p → q ≡ p
 home_body_is (AKind k h) f q p e = go (file_eq h f) e
   where
@@ -78,34 +69,34 @@ home_body_is (APlace r) g q p e = absurd cc
 
 module _ {T T' : Tree} where
   pub at_first : (a : Area) (w : List Area) (c : Cell) → Agrees (a ∷ w) T T' → in_area a c ≡ true → val T' c ≡ val T c
-  at_first a w c agree here = agree.each c (first_true (in_area a c) (has w c) here)
+  at_first a w c agree here = agree.each c (or_left (in_area a c) (has w c) here)
 
   pub later : {a : Area} {w : List Area} → Agrees (a ∷ w) T T' → Agrees w T T'
-  later {a} {w} agree = record { each = λ c here. agree.each c (last_true (in_area a c) (has w c) here) }
+  later {a} {w} agree = record { each = λ c here. agree.each c (or_right (in_area a c) (has w c) here) }
 
   pub left : (u w : List Area) → Agrees (u ++ w) T T' → Agrees u T T'
-  left u w agree = record { each = λ c here. agree.each c (list_any-append (λ a. in_area a c) u w ∙ first_true (has u c) (has w c) here) }
+  left u w agree = record { each = λ c here. agree.each c (list_any-append (λ a. in_area a c) u w ∙ or_left (has u c) (has w c) here) }
 
   pub right : (u w : List Area) → Agrees (u ++ w) T T' → Agrees w T T'
-  right u w agree = record { each = λ c here. agree.each c (list_any-append (λ a. in_area a c) u w ∙ last_true (has u c) (has w c) here) }
+  right u w agree = record { each = λ c here. agree.each c (list_any-append (λ a. in_area a c) u w ∙ or_right (has u c) (has w c) here) }
 
   pub kind_same : {p : Place} {w : List Area} → Agrees (InodeArea p KindPart ∷ w) T T' → val T' (At p KindOf) ≡ val T (At p KindOf)
-  kind_same {p} {w} agree = at_first (InodeArea p KindPart) w (At p KindOf) agree (both _ true (place_eq-itself p) refl)
+  kind_same {p} {w} agree = at_first (InodeArea p KindPart) w (At p KindOf) agree (and_from _ true (place_eq-itself p) refl)
 
   pub links_same : {p : Place} {w : List Area} → Agrees (InodeArea p LinksPart ∷ w) T T' → val T' (At p LinksOf) ≡ val T (At p LinksOf)
-  links_same {p} {w} agree = at_first (InodeArea p LinksPart) w (At p LinksOf) agree (both _ true (place_eq-itself p) refl)
+  links_same {p} {w} agree = at_first (InodeArea p LinksPart) w (At p LinksOf) agree (and_from _ true (place_eq-itself p) refl)
 
   pub size_same : {p : Place} {w : List Area} → Agrees (InodeArea p SizePart ∷ w) T T' → val T' (At p SizeOf) ≡ val T (At p SizeOf)
-  size_same {p} {w} agree = at_first (InodeArea p SizePart) w (At p SizeOf) agree (both _ true (place_eq-itself p) refl)
+  size_same {p} {w} agree = at_first (InodeArea p SizePart) w (At p SizeOf) agree (and_from _ true (place_eq-itself p) refl)
 
   pub name_same : {p : Place} {x : Name} {w : List Area} → Agrees (InodeArea p (NamePart x) ∷ w) T T' → val T' (At p (NameOf x)) ≡ val T (At p (NameOf x))
-  name_same {p} {x} {w} agree = at_first (InodeArea p (NamePart x)) w (At p (NameOf x)) agree (both _ _ (place_eq-itself p) (name_eq-itself x))
+  name_same {p} {x} {w} agree = at_first (InodeArea p (NamePart x)) w (At p (NameOf x)) agree (and_from _ _ (place_eq-itself p) (name_eq-itself x))
 
   pub entry_same : {g : Place} {w : List Area} → Agrees (EntryArea g ∷ w) T T' → val T' (Entry g) ≡ val T (Entry g)
   entry_same {g} {w} agree = at_first (EntryArea g) w (Entry g) agree (place_eq-itself g)
 
   pub field_same : {p : Place} (f : Field) {w : List Area} → Agrees (InodeArea p WholePart ∷ w) T T' → val T' (At p f) ≡ val T (At p f)
-  field_same {p} f {w} agree = at_first (InodeArea p WholePart) w (At p f) agree (both _ true (place_eq-itself p) refl)
+  field_same {p} f {w} agree = at_first (InodeArea p WholePart) w (At p f) agree (and_from _ true (place_eq-itself p) refl)
 
   pub whole_same : {p : Place} {w : List Area} → Agrees (InodeArea p WholePart ∷ w) T T' → get T'.inodes p ≡ get T.inodes p
   unfolding val
@@ -234,10 +225,6 @@ links_is (APlace r) e = absurd cc
 pub few_links : (T : Tree) (p : Place) → Sound T → nat_le 2 (number_of (val T (At p LinksOf))) ≡ true → number_of (val T (At p LinksOf)) ≤ 255
 unfolding val
 few_links T p sound many = ((sound.linked p).few (number_of (val T (At p LinksOf))) (links_is (val T (At p LinksOf)) many)).1
-
-pub both_true : (a b : Bool) → (a && b) ≡ true → (a ≡ true) × (b ≡ true)
-both_true true b e = (refl, e)
-both_true false b e = absurd cc
 
 -- ---- an inode's links, size and names
 

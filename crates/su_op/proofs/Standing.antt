@@ -5,6 +5,7 @@ use Rattle.std.proofs.lemmas.List.Folds.{list_any-append}
 use Rattle.std.specs.List.{list_any}
 use Rattle.std.specs.Option.{is_none}
 use Rattle.std.specs.FinMap.{get}
+use Rattle.std.proofs.lemmas.Bool.{or_left, or_right, and_parts, or_cases, both_ways}
 use Rattle.su_bytes.specs.Membership.{Membership}
 use Rattle.su_bytes.specs.declared.file_ids.Kind.TheVariants.{File}
 use Rattle.su_table.specs.Place.{Place, place_eq}
@@ -19,51 +20,23 @@ use Rattle.su_op.specs.Area.{in_part, in_area, has}
 use Rattle.su_op.specs.Footprint.{written_parts, resized_parts, parts, edit_areas, areas_of}
 use Rattle.su_op.specs.Operation.{rule_of, why, writes}
 use Rattle.su_op.specs.Rule.{plan_of}
-use Rattle.su_op.specs.Soundness.{IsA, Sound}
+use Rattle.su_op.specs.Soundness.{IsA, Sound, WholeOrNew, KindOrFile}
 use Rattle.su_op.specs.Store.{Action}
 use Rattle.su_op.proofs.Orders.{place_eq-same}
 use Rattle.su_op.proofs.Edits.{CanEdit, CanEdits, has_parts, written_kind, resized_kind, edit_leaves}
 use Rattle.su_op.proofs.Storing.{can_of_action}
 
--- ---- tests
-
-either : (a b : Bool) → (a || b) ≡ true → (a ≡ true) ⊎ (b ≡ true)
-either true b e = inl refl
-either false b e = inr e
-
-both : (a b : Bool) → (a && b) ≡ true → (a ≡ true) × (b ≡ true)
-both true b e = (refl, e)
-both false b e = absurd cc
-
-first_true : (a b : Bool) → a ≡ true → (a || b) ≡ true
-first_true a b e = ap (λ x. x || b) e
-
-second_true : (a b : Bool) → b ≡ true → (a || b) ≡ true
-second_true true b e = refl
-second_true false b e = e
-
-not_both : {P : Type 0} (b : Bool) → b ≡ false → b ≡ true → P
-not_both b e d = absurd (let bad : false ≡ true = sym e ∙ d in cc)
-
 -- ---- one edit
-
--- the whole inode is written, or nothing stood there
-abbrev pub WholeOrNew : Tree → Place → (Cell → Bool) → Type 0
-WholeOrNew T p w = (val T (At p KindOf) ≡ Nothing) ⊎ ((f : Field) → w (At p f) ≡ true)
-
--- the kind is written too, or a file stands there
-abbrev pub KindOrFile : Tree → Place → (Cell → Bool) → Type 0
-KindOrFile T p w = (w (At p KindOf) ≡ true) ⊎ (is_file_at T p ≡ true)
 
 whole_written : (q p : Place) (f g : Field) → has (edit_areas (Inodes q Gone)) (At p f) ≡ true → has (edit_areas (Inodes q Gone)) (At p g) ≡ true
 whole_written q p f g e = has_parts q p g (WholePart ∷ []) ∙ sym (has_parts q p f (WholePart ∷ [])) ∙ e
 
 -- the change writes that cell at its own place
 at_place : (q p : Place) (ch : Change) (f : Field) → has (edit_areas (Inodes q ch)) (At p f) ≡ true → (place_eq p q ≡ true) × (list_any (λ a. in_part a f) (parts ch) ≡ true)
-at_place q p ch f e = both (place_eq p q) (list_any (λ a. in_part a f) (parts ch)) (sym (has_parts q p f (parts ch)) ∙ e)
+at_place q p ch f e = and_parts (place_eq p q) (list_any (λ a. in_part a f) (parts ch)) (sym (has_parts q p f (parts ch)) ∙ e)
 
 unkind : {P : Type 0} (q p : Place) (ch : Change) → list_any (λ a. in_part a KindOf) (parts ch) ≡ false → has (edit_areas (Inodes q ch)) (At p KindOf) ≡ true → P
-unkind q p ch none e = not_both (list_any (λ a. in_part a KindOf) (parts ch)) none (at_place q p ch KindOf e).1
+unkind q p ch none e = absurd (both_ways (list_any (λ a. in_part a KindOf) (parts ch)) none (at_place q p ch KindOf e).1)
 
 edit_kind : (T : Tree) (e : Edit) (p : Place) → CanEdit T e → has (edit_areas e) (At p KindOf) ≡ true → WholeOrNew T p (has (edit_areas e))
 unfolding val
@@ -81,7 +54,7 @@ unfolding val
 file_there T q p is (h, e) = ap (λ r. is_file (field_value (get T.inodes r) KindOf)) (place_eq-same p q is) ∙ ap is_file e
 
 unblock : {P : Type 0} (q p : Place) (ch : Change) (n : ℕ) → list_any (λ a. in_part a (BlockOf n)) (parts ch) ≡ false → has (edit_areas (Inodes q ch)) (At p (BlockOf n)) ≡ true → P
-unblock q p ch n none e = not_both (list_any (λ a. in_part a (BlockOf n)) (parts ch)) none (at_place q p ch (BlockOf n) e).1
+unblock q p ch n none e = absurd (both_ways (list_any (λ a. in_part a (BlockOf n)) (parts ch)) none (at_place q p ch (BlockOf n) e).1)
 
 edit_block : (T : Tree) (e : Edit) (p : Place) (n : ℕ) → CanEdit T e → has (edit_areas e) (At p (BlockOf n)) ≡ true → KindOrFile T p (has (edit_areas e))
 edit_block T (Inodes q (Made h k)) p n can wrote = unblock q p (Made h k) n refl wrote
@@ -96,13 +69,13 @@ edit_block T (Entries g v) p n can wrote = absurd cc
 -- ---- a list of edits
 
 has_first : (e : Edit) (es : List Edit) (c : Cell) → has (edit_areas e) c ≡ true → has (areas_of (e ∷ es)) c ≡ true
-has_first e es c is = list_any-append (λ a. in_area a c) (edit_areas e) (areas_of es) ∙ first_true (has (edit_areas e) c) (has (areas_of es) c) is
+has_first e es c is = list_any-append (λ a. in_area a c) (edit_areas e) (areas_of es) ∙ or_left (has (edit_areas e) c) (has (areas_of es) c) is
 
 has_later : (e : Edit) (es : List Edit) (c : Cell) → has (areas_of es) c ≡ true → has (areas_of (e ∷ es)) c ≡ true
-has_later e es c is = list_any-append (λ a. in_area a c) (edit_areas e) (areas_of es) ∙ second_true (has (edit_areas e) c) (has (areas_of es) c) is
+has_later e es c is = list_any-append (λ a. in_area a c) (edit_areas e) (areas_of es) ∙ or_right (has (edit_areas e) c) (has (areas_of es) c) is
 
 has_either : (e : Edit) (es : List Edit) (c : Cell) → has (areas_of (e ∷ es)) c ≡ true → (has (edit_areas e) c ≡ true) ⊎ (has (areas_of es) c ≡ true)
-has_either e es c is = either (has (edit_areas e) c) (has (areas_of es) c) (sym (list_any-append (λ a. in_area a c) (edit_areas e) (areas_of es)) ∙ is)
+has_either e es c is = or_cases (has (edit_areas e) c) (has (areas_of es) c) (sym (list_any-append (λ a. in_area a c) (edit_areas e) (areas_of es)) ∙ is)
 
 pub edits_kind : (T : Tree) (es : List Edit) (p : Place) → CanEdits T es → has (areas_of es) (At p KindOf) ≡ true → WholeOrNew T p (has (areas_of es))
 edits_kind T [] p can wrote = absurd cc
@@ -118,7 +91,7 @@ edits_kind T (e ∷ es) p (can, more) wrote = go (has (edit_areas e) (At p KindO
 
     go : (b : Bool) → has (edit_areas e) (At p KindOf) ≡ b → (has (areas_of es) (At p KindOf) ≡ true → WholeOrNew (edit T e) p (has (areas_of es))) → WholeOrNew T p (has (areas_of (e ∷ es)))
     go true is rest = here (edit_kind T e p can is)
-    go false is rest = later is (rest (⊎_elim (λ i. not_both (has (edit_areas e) (At p KindOf)) is i) (λ i. i) (has_either e es (At p KindOf) wrote)))
+    go false is rest = later is (rest (⊎_elim (λ i. absurd (both_ways (has (edit_areas e) (At p KindOf)) is i)) (λ i. i) (has_either e es (At p KindOf) wrote)))
 
 pub edits_block : (T : Tree) (es : List Edit) (p : Place) (n : ℕ) → CanEdits T es → has (areas_of es) (At p (BlockOf n)) ≡ true → KindOrFile T p (has (areas_of es))
 edits_block T [] p n can wrote = absurd cc

@@ -54,7 +54,7 @@ can_of ro a (Rename r) T p sound g = rename_can ro a r T p g
 
 -- ---- the laws
 
-none_is : {A : Type 0} (o : Option A) → is_none o ≡ true → o ≡ None
+pub none_is : {A : Type 0} (o : Option A) → is_none o ≡ true → o ≡ None
 none_is None e = refl
 none_is (Some x) e = absurd cc
 

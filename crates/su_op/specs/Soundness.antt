@@ -1,5 +1,5 @@
 -- What holds of every tree that operations make of the first one.
-use Rattle.std.specs.Prelude.{◌≡◌, ℕ, ◌≤◌, Option}
+use Rattle.std.specs.Prelude.{◌≡◌, ℕ, ◌≤◌, Bool, true, ◌⊎◌, Option}
 use Rattle.std.specs.FinMap.{get}
 use Rattle.su_bytes.specs.declared.file_ids.FileId.{FileId}
 use Rattle.su_bytes.specs.declared.file_ids.FileId.TheVariants.{Group}
@@ -8,8 +8,9 @@ use Rattle.su_bytes.specs.declared.file_ids.Kind.TheVariants.{Dir}
 use Rattle.su_table.specs.Place.{Place}
 use Rattle.su_node.specs.Inode.{Inode}
 use Rattle.su_table.specs.Tree.{Tree}
-use Rattle.su_node.specs.Field.{Field.KindOf, Field.LinksOf, Value.AKind, Value.ANumber, Value.APlace, field_value}
-use Rattle.su_table.specs.Cell.{Cell.At, Cell.Entry, val}
+use Rattle.su_node.specs.Field.{Field, Field.KindOf, Field.LinksOf, Value.Nothing, Value.AKind, Value.ANumber, Value.APlace, field_value}
+use Rattle.su_table.specs.Cell.{Cell, Cell.At, Cell.Entry, val}
+use Rattle.su_table.specs.Query.{is_file_at}
 
 -- an inode of that kind
 abbrev pub IsA : Kind → Option Inode → Type 0
@@ -28,3 +29,13 @@ IsBodyOf T g p = (k : Kind) × (val T (At p KindOf) ≡ AKind k (Group g.0 g.1))
 pub record Sound (T : Tree) : Type 0 where
   pub linked : (p : Place) → WellLinked (get T.inodes p)
   pub homes : (g p : Place) → val T (Entry g) ≡ APlace p → IsBodyOf T g p
+
+-- ---- what is written of an inode in a tree, by the cells that are written
+
+-- all of it, or nothing stood there
+abbrev pub WholeOrNew : Tree → Place → (Cell → Bool) → Type 0
+WholeOrNew T p w = (val T (At p KindOf) ≡ Nothing) ⊎ ((f : Field) → w (At p f) ≡ true)
+
+-- its kind too, or a file stands there
+abbrev pub KindOrFile : Tree → Place → (Cell → Bool) → Type 0
+KindOrFile T p w = (w (At p KindOf) ≡ true) ⊎ (is_file_at T p ≡ true)

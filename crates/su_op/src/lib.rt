@@ -21,7 +21,7 @@ mod writing;
 pub use areas::{Area, BlockRun, Part};
 pub use creation::Create;
 pub use footprints::Footprint;
-pub use laws::{operations_are_local, table_of_cells};
+pub use laws::{kinds_change_whole, operations_are_local, table_of_cells};
 pub use limits::{LARGEST_FILE, LARGEST_WRITE, MOST_LINKS};
 pub use linking::Link;
 pub use operations::{Change, Op, apply, footprint};

@@ -1,6 +1,6 @@
 use Rattle.std.proofs.Common.{◌≡◌, Some, sym, ◌∙◌, ap, subst}
 use Rattle.su_desk.specs.History.{tree}
-use Rattle.su_desk.specs.Desk.{DeskState}
+use Rattle.su_desk.specs.Answer.{Good}
 use Rattle.su_desk.specs.Headline.{Headline}
 use Rattle.su_desk.proofs.Leading.{tree_kept}
 use Rattle.su_desk.proofs.Heading.{headline_of}
@@ -9,5 +9,9 @@ use Rattle.su_desk.proofs.desks.Desk.forest.Goals as goal
 pub returns-clause-tree : goal.returns-clause-tree
 returns-clause-tree c = ap (λ d. tree d.roster d.history) (sym c.self.view_is) ∙ tree_kept _ _ _ _ c.self.invariant.0
 
+pub returns-clause-good : goal.returns-clause-good
+returns-clause-good c = subst (λ d. Good d.roster d.history) c.self.view_is c.self.invariant.0.good
+
 pub returns-clause-headline : goal.returns-clause-headline
-returns-clause-headline c = subst (λ d. Headline d.roster d.history c.self.inside.forest) c.self.view_is (headline_of _ _ _ _ c.self.invariant.0)
+returns-clause-headline c =
+    subst (λ d. Headline d.roster d.history c.self.inside.forest) c.self.view_is (headline_of _ _ _ c.self.invariant.0.good (tree_kept _ _ _ _ c.self.invariant.0))

@@ -10,7 +10,8 @@ use Rattle.su_desk.specs.Desk.{DeskState, with_entry}
 use Rattle.su_desk.specs.Keeping.{Keeps, IsPlaceOf}
 use Rattle.su_desk.specs.Version.{cells_of, versions}
 use Rattle.su_desk.proofs.Counting.{counters_next, versions_within}
-use Rattle.su_desk.proofs.Blocking.{undo_accepted, none_kept_live, kept_ascend}
+use Rattle.su_desk.proofs.Live.{undo_accepted}
+use Rattle.su_desk.proofs.Finding.{none_kept_live, kept_ascend}
 use Rattle.su_desk.proofs.Answering.{Found, found, undone_there, undone_written, answer_done, answer_refused}
 use Rattle.su_desk.proofs.desks.Desk.undo.Goals as goal
 

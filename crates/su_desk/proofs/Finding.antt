@@ -1,0 +1,182 @@
+-- Where an operation is among what a desk keeps, and what stands in its way there.
+use Rattle.std.proofs.Common.{◌≡◌, ℕ, ◌+◌, ◌-◌, ◌<◌, ◌≤◌, ◌||◌, ◌&&◌, Bool, true, false, not, cond, zero, suc, List, [], ◌∷◌, ◌++◌, length, nat_eq, nat_lt, Option, Some, None, refl, sym, ap, ◌∙◌, subst, arith, get_or, take, drop, add-one}
+use Rattle.std.specs.List.{filter, list_any}
+use Rattle.std.specs.List.Sorted.{IsNonDecreasingBy}
+use Rattle.std.specs.Prelude.{IfSome}
+use Rattle.std.specs.Option.{is_some}
+use Rattle.std.proofs.lemmas.List.{take-append-drop, length-drop, get_or_default}
+use Rattle.std.proofs.Math.Seq.{drop-cons, take-length}
+use Rattle.std.proofs.lemmas.Bool.{not-true}
+use Rattle.su_bytes.specs.Membership.{Membership}
+use Rattle.su_table.specs.Tree.{Tree}
+use Rattle.su_op.specs.declared.areas.Area.{Area}
+use Rattle.su_op.specs.Area.{meet}
+use Rattle.su_desk.specs.declared.entries.Entry.{Entry}
+use Rattle.su_desk.specs.declared.kept.KeptOperation.{KeptOperation}
+use Rattle.su_desk.specs.History.{Turn, turns_from, is_undone, live}
+use Rattle.su_desk.specs.Applied.{reads_of, written}
+use Rattle.su_desk.specs.Answer.{or_else, last_number, reads_after, blocker, undone_refusal, entry_refusal, live_refusal}
+use Rattle.su_desk.specs.Keeping.{Keeps, IsPlaceOf, last_kept_reader}
+use Rattle.su_desk.proofs.Turns.{Rising, rising_live, rising_after}
+use Rattle.su_desk.proofs.Live.{none_undoes, live_number}
+use Rattle.su_desk.proofs.Blocking.{front_dropped}
+use Rattle.su_desk.proofs.Leading.{IsAsApplied, AreAsApplied, applied, part, written_kept}
+
+-- ---- the numbers of what is kept ascend
+
+above : (ro : Membership) (h : List Entry) (low : ℕ) (ts : List Turn) (ks : List KeptOperation) → Rising low ts → AreAsApplied ro h ts ks → (j : ℕ) (d : KeptOperation) → j < length ks → low < (get_or ks j d).number
+above ro h low [] [] r a j d l = absurd (omega arith)
+above ro h low (t ∷ ts) (k ∷ ks) (first, r) (is, a) zero d l = let e = is.number in omega arith
+above ro h low (t ∷ ts) (k ∷ ks) (first, r) (is, a) (suc j) d l = let m : t.number < (get_or ks j d).number = above ro h t.number ts ks r a j d (omega arith) in omega arith
+above ro h low [] (k ∷ ks) r a j d l = absurd a
+above ro h low (t ∷ ts) [] r a j d l = absurd a
+
+ascending : (ro : Membership) (h : List Entry) (low : ℕ) (ts : List Turn) (ks : List KeptOperation) → Rising low ts → AreAsApplied ro h ts ks → (i j : ℕ) (d : KeptOperation) → i ≤ j → j < length ks → (get_or ks i d).number ≤ (get_or ks j d).number
+ascending ro h low [] [] r a i j d le l = absurd (omega arith)
+ascending ro h low (t ∷ ts) (k ∷ ks) (first, r) (is, a) zero zero d le l = omega arith
+ascending ro h low (t ∷ ts) (k ∷ ks) (first, r) (is, a) zero (suc j) d le l = let m : t.number < (get_or ks j d).number = above ro h t.number ts ks r a j d (omega arith) in let e = is.number in omega arith
+ascending ro h low (t ∷ ts) (k ∷ ks) (first, r) (is, a) (suc i) zero d le l = absurd (omega arith)
+ascending ro h low (t ∷ ts) (k ∷ ks) (first, r) (is, a) (suc i) (suc j) d le l = ascending ro h t.number ts ks r a i j d (omega arith) (omega arith)
+ascending ro h low [] (k ∷ ks) r a i j d le l = absurd a
+ascending ro h low (t ∷ ts) [] r a i j d le l = absurd a
+
+pub kept_ascend : (ro : Membership) (h : List Entry) (ks : List KeptOperation) (T : Tree) → Keeps ro h ks T → IsNonDecreasingBy (λ (k : KeptOperation). k.number) ks
+kept_ascend ro h ks T keeps = ascending ro h 0 (live h) ks (rising_live h) (applied ro h ks T keeps)
+
+-- what is kept falls apart at a place
+pub split_at : (ks : List KeptOperation) (i : ℕ) (k : KeptOperation) → i < length ks → get_or ks i k ≡ k → ks ≡ take i ks ++ k ∷ drop (i + 1) ks
+split_at ks i k within here =
+    sym (take-append-drop i ks)
+    ∙ ap (λ l. take i ks ++ l) (drop-cons ks i k within ∙ ap (λ z. z ∷ drop (suc i) ks) here ∙ ap (λ j. k ∷ drop j ks) (sym (add-one i)))
+
+-- ---- what stands in the way
+
+none_later : {A : Type 0} (o : Option A) → or_else o None ≡ o
+none_later None = refl
+none_later (Some x) = refl
+
+later_readers : (ro : Membership) (h : List Entry) (n low : ℕ) (w : List Area) (ts : List Turn) (ks : List KeptOperation) → n ≤ low → w ≡ written ro h n → Rising low ts → AreAsApplied ro h ts ks
+    → last_kept_reader w ks ≡ last_number (filter (reads_after ro h n) ts)
+later_readers ro h n low w [] [] le is r a = refl
+later_readers ro h n low w (t ∷ ts) (k ∷ ks) le is (l, r) (fits, a) =
+    ap (λ b. or_else (last_kept_reader w ks) (cond b (Some k.number) None)) same
+    ∙ ap (λ m. or_else (last_kept_reader w ks) (cond (reads_after ro h n t) (Some m) None)) fits.number
+    ∙ ap (λ o. or_else o (cond (reads_after ro h n t) (Some t.number) None)) (later_readers ro h n t.number w ts ks (omega arith) is r a)
+    ∙ go (reads_after ro h n t)
+  where
+    same : meet k.footprint.reads.items w ≡ reads_after ro h n t
+    same = let after : nat_lt n t.number ≡ true = grind arith in
+        ap (λ u. meet u w) fits.reads ∙ ap (meet (reads_of ro h t)) is ∙ ap (λ b. b && meet (reads_of ro h t) (written ro h n)) (sym after)
+
+    go : (b : Bool) → or_else (last_number (filter (reads_after ro h n) ts)) (cond b (Some t.number) None) ≡ last_number (cond b (t ∷ filter (reads_after ro h n) ts) (filter (reads_after ro h n) ts))
+    go true = refl
+    go false = none_later (last_number (filter (reads_after ro h n) ts))
+later_readers ro h n low w [] (k ∷ ks) le is r a = absurd a
+later_readers ro h n low w (t ∷ ts) [] le is r a = absurd a
+
+-- of what is kept after an operation, the last that read what it wrote is its blocker
+pub blocker_there : (ro : Membership) (h : List Entry) (front rest : List KeptOperation) (k : KeptOperation) (T : Tree) (n : ℕ) → Keeps ro h (front ++ k ∷ rest) T → k.number ≡ n → last_kept_reader k.footprint.writes.items rest ≡ blocker ro h n
+blocker_there ro h front rest k T n keeps number =
+    let p = part ro h (live h) front k rest (applied ro h (front ++ k ∷ rest) T keeps) in
+    let named : n ≡ p.turn.number = sym number ∙ p.here.number in
+    let rising = subst (Rising 0) p.whole (rising_live h) in
+    later_readers ro h p.turn.number p.turn.number k.footprint.writes.items p.after rest (omega arith) (written_kept ro h p.turn k p.turn.number p.here refl) (rising_after 0 p.before p.after p.turn rising) p.later
+    ∙ ap last_number (sym (front_dropped ro h 0 p.before p.after p.turn rising) ∙ ap (filter (reads_after ro h p.turn.number)) (sym p.whole))
+    ∙ ap (blocker ro h) (sym named)
+
+-- ---- which are live
+
+passed : (p : Turn → Bool) (xs ys zs : List Turn) (x : Turn) → filter p xs ≡ ys ++ x ∷ zs → p x ≡ true
+passed p [] [] zs x e = absurd (let bad : [] ≡ x ∷ zs = e in cc)
+passed p [] (y ∷ ys) zs x e = absurd (let bad : [] ≡ y ∷ (ys ++ x ∷ zs) = e in cc)
+passed p (z ∷ xs) ys zs x e = go (p z) refl (λ ys. passed p xs ys zs x) ys e
+  where
+    here : p z ≡ true → (ys : List Turn) → z ∷ filter p xs ≡ ys ++ x ∷ zs → ((ys : List Turn) → filter p xs ≡ ys ++ x ∷ zs → p x ≡ true) → p x ≡ true
+    here is [] e ih = let same : z ≡ x = cc in ap p (sym same) ∙ is
+    here is (y ∷ ys) e ih = ih ys (let rest : filter p xs ≡ ys ++ x ∷ zs = cc in rest)
+
+    go : (b : Bool) → p z ≡ b → ((ys : List Turn) → filter p xs ≡ ys ++ x ∷ zs → p x ≡ true) → (ys : List Turn) → cond b (z ∷ filter p xs) (filter p xs) ≡ ys ++ x ∷ zs → p x ≡ true
+    go true is ih ys e = here is ys e ih
+    go false is ih ys e = ih ys e
+
+-- what is kept is live
+pub live_there : (ro : Membership) (h : List Entry) (front rest : List KeptOperation) (k : KeptOperation) (T : Tree) (n : ℕ) → Keeps ro h (front ++ k ∷ rest) T → k.number ≡ n → live_refusal h n ≡ None
+live_there ro h front rest k T n keeps number =
+    let p = part ro h (live h) front k rest (applied ro h (front ++ k ∷ rest) T keeps) in
+    let named : p.turn.number ≡ n = sym p.here.number ∙ number in
+    let stands : not (is_undone h p.turn.number) ≡ true = passed (λ t. not (is_undone h t.number)) (turns_from 1 h) p.before p.after p.turn p.whole in
+    subst (λ m. live_refusal h m ≡ None) named
+    (ap (entry_refusal h p.turn.number) p.here.entry ∙ ap (undone_refusal p.turn.number) (none_undoes 1 h p.turn.number (not-true (is_undone h p.turn.number) stands)))
+
+numbers_alike : (ro : Membership) (h : List Entry) (n : ℕ) (ts : List Turn) (ks : List KeptOperation) → AreAsApplied ro h ts ks → list_any (λ (k : KeptOperation). nat_eq k.number n) ks ≡ list_any (λ (t : Turn). nat_eq t.number n) ts
+numbers_alike ro h n [] [] a = refl
+numbers_alike ro h n (t ∷ ts) (k ∷ ks) (is, a) = λ i. nat_eq (is.number i) n || numbers_alike ro h n ts ks a i
+numbers_alike ro h n [] (k ∷ ks) a = absurd a
+numbers_alike ro h n (t ∷ ts) [] a = absurd a
+
+-- of a live number something is kept
+pub kept_there : (ro : Membership) (h : List Entry) (ks : List KeptOperation) (T : Tree) (n : ℕ) → Keeps ro h ks T → live_refusal h n ≡ None → list_any (λ (k : KeptOperation). nat_eq k.number n) ks ≡ true
+kept_there ro h ks T n keeps e = numbers_alike ro h n (live h) ks (applied ro h ks T keeps) ∙ live_number h n e
+
+-- ---- from the last on
+
+else_else : {A : Type 0} (a b c : Option A) → or_else (or_else a b) c ≡ or_else a (or_else b c)
+else_else None b c = refl
+else_else (Some x) b c = refl
+
+reader_append : (w : List Area) (xs ys : List KeptOperation) → last_kept_reader w (xs ++ ys) ≡ or_else (last_kept_reader w ys) (last_kept_reader w xs)
+reader_append w [] ys = sym (none_later (last_kept_reader w ys))
+reader_append w (x ∷ xs) ys =
+    ap (λ o. or_else o (cond (meet x.footprint.reads.items w) (Some x.number) None)) (reader_append w xs ys)
+    ∙ else_else (last_kept_reader w ys) (last_kept_reader w xs) (cond (meet x.footprint.reads.items w) (Some x.number) None)
+
+one_earlier : (w : List Area) (ks : List KeptOperation) (later : ℕ) (k : KeptOperation) → 0 < later → later ≤ length ks → get_or ks (later - 1) k ≡ k → last_kept_reader w (drop later ks) ≡ None
+    → last_kept_reader w (drop (later - 1) ks) ≡ cond (meet k.footprint.reads.items w) (Some k.number) None
+one_earlier w ks later k some within here none =
+    let place : suc (later - 1) ≡ later = omega arith in
+    ap (last_kept_reader w) (drop-cons ks (later - 1) k (omega arith) ∙ ap (λ z. z ∷ drop (suc (later - 1)) ks) here ∙ ap (λ j. k ∷ drop j ks) place)
+    ∙ ap (λ o. or_else o (cond (meet k.footprint.reads.items w) (Some k.number) None)) none
+
+-- the one before those that don't read it does
+pub reader_found : (w : List Area) (ks : List KeptOperation) (later : ℕ) (k : KeptOperation) → 0 < later → later ≤ length ks → get_or ks (later - 1) k ≡ k → last_kept_reader w (drop later ks) ≡ None
+    → meet k.footprint.reads.items w ≡ true → Some k.number ≡ last_kept_reader w ks
+reader_found w ks later k some within here none reads =
+    sym (ap (last_kept_reader w) (sym (take-append-drop (later - 1) ks))
+    ∙ reader_append w (take (later - 1) ks) (drop (later - 1) ks)
+    ∙ ap (λ o. or_else o (last_kept_reader w (take (later - 1) ks))) (one_earlier w ks later k some within here none ∙ ap (λ b. cond b (Some k.number) None) reads))
+
+-- or it doesn't
+pub reader_not_yet : (w : List Area) (ks : List KeptOperation) (later : ℕ) (k : KeptOperation) → 0 < later → later ≤ length ks → get_or ks (later - 1) k ≡ k → last_kept_reader w (drop later ks) ≡ None
+    → meet k.footprint.reads.items w ≡ false → last_kept_reader w (drop (later - 1) ks) ≡ None
+reader_not_yet w ks later k some within here none reads = one_earlier w ks later k some within here none ∙ ap (λ b. cond b (Some k.number) None) reads
+
+-- ---- places
+
+pub none_kept_live : {P : Type 0} (ro : Membership) (h : List Entry) (ks seen : List KeptOperation) (T : Tree) (n : ℕ) → Keeps ro h ks T → live_refusal h n ≡ None → seen ≡ ks → list_any (λ (k : KeptOperation). nat_eq k.number n) seen ≡ false → P
+none_kept_live ro h ks seen T n keeps stands same none =
+    let kept = kept_there ro h ks T n keeps stands in
+    absurd (let bad : true ≡ false = sym kept ∙ ap (list_any (λ (k : KeptOperation). nat_eq k.number n)) (sym same) ∙ none in cc)
+
+placed_live : (ro : Membership) (h : List Entry) (ks : List KeptOperation) (T : Tree) (n i : ℕ) → Keeps ro h ks T → IsPlaceOf n ks i → live_refusal h n ≡ None
+placed_live ro h [] T n i keeps place = let within = place.within in absurd (omega arith)
+placed_live ro h (l ∷ ks) T n i keeps place =
+    let k : KeptOperation = get_or (l ∷ ks) i l in
+    let here : get_or (l ∷ ks) i k ≡ k = get_or_default (l ∷ ks) i k l place.within in
+    live_there ro h (take i (l ∷ ks)) (drop (i + 1) (l ∷ ks)) k T n (subst (λ xs. Keeps ro h xs T) (split_at (l ∷ ks) i k place.within here) keeps) (place.number l)
+
+-- what is found is live
+pub found_live : (ro : Membership) (h : List Entry) (ks seen : List KeptOperation) (T : Tree) (n : ℕ) (o : Option ℕ) → Keeps ro h ks T → seen ≡ ks → IfSome o (λ place. IsPlaceOf n seen place) → is_some o ≡ true → live_refusal h n ≡ None
+found_live ro h ks seen T n None keeps same found some = absurd (let bad : false ≡ true = some in cc)
+found_live ro h ks seen T n (Some i) keeps same found some = placed_live ro h ks T n i keeps (subst (λ xs. IsPlaceOf n xs i) same found)
+
+rest_is : (ks : List KeptOperation) (i : ℕ) → take (length ks - i) (drop i ks) ≡ drop i ks
+rest_is ks i = ap (λ n. take n (drop i ks)) (sym (length-drop i ks)) ∙ take-length (drop i ks)
+
+-- and the last of those behind it that read what it wrote is its blocker
+pub blocker_found : (ro : Membership) (h : List Entry) (ks seen sliced : List KeptOperation) (T : Tree) (n i : ℕ) (k : KeptOperation) (w : List Area) → Keeps ro h ks T → seen ≡ ks → IsPlaceOf n seen i → k ≡ get_or ks i k → w ≡ k.footprint.writes.items → sliced ≡ ks
+    → last_kept_reader w (take (length sliced - (i + 1)) (drop (i + 1) sliced)) ≡ blocker ro h n
+blocker_found ro h ks seen sliced T n i k w keeps same placed here writes is =
+    let place : IsPlaceOf n ks i = subst (λ xs. IsPlaceOf n xs i) same placed in
+    ap (last_kept_reader w) (ap (λ xs. take (length xs - (i + 1)) (drop (i + 1) xs)) is ∙ rest_is ks (i + 1))
+    ∙ ap (λ a. last_kept_reader a (drop (i + 1) ks)) writes
+    ∙ blocker_there ro h (take i ks) (drop (i + 1) ks) k T n (subst (λ xs. Keeps ro h xs T) (split_at ks i k place.within (sym here)) keeps) (ap (λ (x : KeptOperation). x.number) here ∙ place.number k)

@@ -1,0 +1,8 @@
+use Rattle.su_op.proofs.Standing.{kind_written, block_written}
+use Rattle.su_op.proofs.laws.kinds_change_whole.Goals as goal
+
+pub returns-clause-kind : goal.returns-clause-kind
+returns-clause-kind c = kind_written
+
+pub returns-clause-block : goal.returns-clause-block
+returns-clause-block c = block_written
