@@ -2,13 +2,14 @@
 -- later live operation read what it wrote.
 use Rattle.std.proofs.Common.{◌≡◌, ℕ, ◌<◌, ◌≤◌, ◌&&◌, Bool, true, false, cond, List, [], ◌∷◌, ◌++◌, map, nat_lt, Option, Some, None, refl, sym, ap, ◌∙◌, subst, arith}
 use Rattle.std.specs.List.{filter}
+use Rattle.std.specs.Option.{option_or}
 use Rattle.su_bytes.specs.Membership.{Membership}
 use Rattle.su_op.specs.declared.areas.Area.{Area}
 use Rattle.su_op.specs.Area.{meet}
 use Rattle.su_desk.specs.declared.entries.Entry.{Entry}
 use Rattle.su_desk.specs.History.{Turn, live, last_of, last_live}
 use Rattle.su_desk.specs.Applied.{reads_of, written}
-use Rattle.su_desk.specs.Answer.{or_else, last_number, reads_after, blocker}
+use Rattle.su_desk.specs.Answer.{last_number, reads_after, blocker}
 use Rattle.su_desk.proofs.Turns.{Rising, rising_live, rising_after}
 
 -- operations up to number n didn't come after it
@@ -40,7 +41,7 @@ unread_after ro h n low (t ∷ ts) le (l, r) e = go (reads_after ro h n t) refl 
     later : nat_lt n t.number ≡ true
     later = grind arith
 
-    found : (o : Option ℕ) → or_else o (Some t.number) ≡ None → ⊥
+    found : (o : Option ℕ) → option_or o (Some t.number) ≡ None → ⊥
     found None e = let bad : Some t.number ≡ None = e in cc
     found (Some m) e = let bad : Some m ≡ None = e in cc
 

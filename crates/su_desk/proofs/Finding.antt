@@ -3,7 +3,7 @@ use Rattle.std.proofs.Common.{◌≡◌, ℕ, ◌+◌, ◌-◌, ◌<◌, ◌≤�
 use Rattle.std.specs.List.{filter, list_any}
 use Rattle.std.specs.List.Sorted.{IsNonDecreasingBy}
 use Rattle.std.specs.Prelude.{IfSome}
-use Rattle.std.specs.Option.{is_some}
+use Rattle.std.specs.Option.{is_some, option_or}
 use Rattle.std.proofs.lemmas.List.{take-append-drop, length-drop, get_or_default}
 use Rattle.std.proofs.Math.Seq.{drop-cons, take-length}
 use Rattle.std.proofs.lemmas.Bool.{not-true}
@@ -15,7 +15,7 @@ use Rattle.su_desk.specs.declared.entries.Entry.{Entry}
 use Rattle.su_desk.specs.declared.kept.KeptOperation.{KeptOperation}
 use Rattle.su_desk.specs.History.{Turn, turns_from, is_undone, live}
 use Rattle.su_desk.specs.Applied.{reads_of, written}
-use Rattle.su_desk.specs.Answer.{or_else, last_number, reads_after, blocker, undone_refusal, entry_refusal, live_refusal}
+use Rattle.su_desk.specs.Answer.{last_number, reads_after, blocker, undone_refusal, entry_refusal, live_refusal}
 use Rattle.su_desk.specs.Keeping.{Keeps, IsPlaceOf, last_kept_reader}
 use Rattle.su_desk.proofs.Turns.{Rising, rising_live, rising_after}
 use Rattle.su_desk.proofs.Live.{none_undoes, live_number}
@@ -51,7 +51,7 @@ split_at ks i k within here =
 
 -- ---- what stands in the way
 
-none_later : {A : Type 0} (o : Option A) → or_else o None ≡ o
+none_later : {A : Type 0} (o : Option A) → option_or o None ≡ o
 none_later None = refl
 none_later (Some x) = refl
 
@@ -59,16 +59,16 @@ later_readers : (ro : Membership) (h : List Entry) (n low : ℕ) (w : List Area)
     → last_kept_reader w ks ≡ last_number (filter (reads_after ro h n) ts)
 later_readers ro h n low w [] [] le is r a = refl
 later_readers ro h n low w (t ∷ ts) (k ∷ ks) le is (l, r) (fits, a) =
-    ap (λ b. or_else (last_kept_reader w ks) (cond b (Some k.number) None)) same
-    ∙ ap (λ m. or_else (last_kept_reader w ks) (cond (reads_after ro h n t) (Some m) None)) fits.number
-    ∙ ap (λ o. or_else o (cond (reads_after ro h n t) (Some t.number) None)) (later_readers ro h n t.number w ts ks (omega arith) is r a)
+    ap (λ b. option_or (last_kept_reader w ks) (cond b (Some k.number) None)) same
+    ∙ ap (λ m. option_or (last_kept_reader w ks) (cond (reads_after ro h n t) (Some m) None)) fits.number
+    ∙ ap (λ o. option_or o (cond (reads_after ro h n t) (Some t.number) None)) (later_readers ro h n t.number w ts ks (omega arith) is r a)
     ∙ go (reads_after ro h n t)
   where
     same : meet k.footprint.reads.items w ≡ reads_after ro h n t
     same = let after : nat_lt n t.number ≡ true = grind arith in
         ap (λ u. meet u w) fits.reads ∙ ap (meet (reads_of ro h t)) is ∙ ap (λ b. b && meet (reads_of ro h t) (written ro h n)) (sym after)
 
-    go : (b : Bool) → or_else (last_number (filter (reads_after ro h n) ts)) (cond b (Some t.number) None) ≡ last_number (cond b (t ∷ filter (reads_after ro h n) ts) (filter (reads_after ro h n) ts))
+    go : (b : Bool) → option_or (last_number (filter (reads_after ro h n) ts)) (cond b (Some t.number) None) ≡ last_number (cond b (t ∷ filter (reads_after ro h n) ts) (filter (reads_after ro h n) ts))
     go true = refl
     go false = none_later (last_number (filter (reads_after ro h n) ts))
 later_readers ro h n low w [] (k ∷ ks) le is r a = absurd a
@@ -120,14 +120,14 @@ kept_there ro h ks T n keeps e = numbers_alike ro h n (live h) ks (applied ro h 
 
 -- ---- from the last on
 
-else_else : {A : Type 0} (a b c : Option A) → or_else (or_else a b) c ≡ or_else a (or_else b c)
+else_else : {A : Type 0} (a b c : Option A) → option_or (option_or a b) c ≡ option_or a (option_or b c)
 else_else None b c = refl
 else_else (Some x) b c = refl
 
-reader_append : (w : List Area) (xs ys : List KeptOperation) → last_kept_reader w (xs ++ ys) ≡ or_else (last_kept_reader w ys) (last_kept_reader w xs)
+reader_append : (w : List Area) (xs ys : List KeptOperation) → last_kept_reader w (xs ++ ys) ≡ option_or (last_kept_reader w ys) (last_kept_reader w xs)
 reader_append w [] ys = sym (none_later (last_kept_reader w ys))
 reader_append w (x ∷ xs) ys =
-    ap (λ o. or_else o (cond (meet x.footprint.reads.items w) (Some x.number) None)) (reader_append w xs ys)
+    ap (λ o. option_or o (cond (meet x.footprint.reads.items w) (Some x.number) None)) (reader_append w xs ys)
     ∙ else_else (last_kept_reader w ys) (last_kept_reader w xs) (cond (meet x.footprint.reads.items w) (Some x.number) None)
 
 one_earlier : (w : List Area) (ks : List KeptOperation) (later : ℕ) (k : KeptOperation) → 0 < later → later ≤ length ks → get_or ks (later - 1) k ≡ k → last_kept_reader w (drop later ks) ≡ None
@@ -135,7 +135,7 @@ one_earlier : (w : List Area) (ks : List KeptOperation) (later : ℕ) (k : KeptO
 one_earlier w ks later k some within here none =
     let place : suc (later - 1) ≡ later = omega arith in
     ap (last_kept_reader w) (drop-cons ks (later - 1) k (omega arith) ∙ ap (λ z. z ∷ drop (suc (later - 1)) ks) here ∙ ap (λ j. k ∷ drop j ks) place)
-    ∙ ap (λ o. or_else o (cond (meet k.footprint.reads.items w) (Some k.number) None)) none
+    ∙ ap (λ o. option_or o (cond (meet k.footprint.reads.items w) (Some k.number) None)) none
 
 -- the one before those that don't read it does
 pub reader_found : (w : List Area) (ks : List KeptOperation) (later : ℕ) (k : KeptOperation) → 0 < later → later ≤ length ks → get_or ks (later - 1) k ≡ k → last_kept_reader w (drop later ks) ≡ None
@@ -143,7 +143,7 @@ pub reader_found : (w : List Area) (ks : List KeptOperation) (later : ℕ) (k : 
 reader_found w ks later k some within here none reads =
     sym (ap (last_kept_reader w) (sym (take-append-drop (later - 1) ks))
     ∙ reader_append w (take (later - 1) ks) (drop (later - 1) ks)
-    ∙ ap (λ o. or_else o (last_kept_reader w (take (later - 1) ks))) (one_earlier w ks later k some within here none ∙ ap (λ b. cond b (Some k.number) None) reads))
+    ∙ ap (λ o. option_or o (last_kept_reader w (take (later - 1) ks))) (one_earlier w ks later k some within here none ∙ ap (λ b. cond b (Some k.number) None) reads))
 
 -- or it doesn't
 pub reader_not_yet : (w : List Area) (ks : List KeptOperation) (later : ℕ) (k : KeptOperation) → 0 < later → later ≤ length ks → get_or ks (later - 1) k ≡ k → last_kept_reader w (drop later ks) ≡ None

@@ -1,6 +1,6 @@
 -- What the desk is for holds of every good history.
 use Rattle.std.proofs.Common.{◌≡◌, ℕ, true, cond, List, [], ◌∷◌, ◌++◌, Option, None, Some, append-nil, sym, ap, ◌∙◌}
-use Rattle.std.specs.Option.{unwrap_or}
+use Rattle.std.specs.Option.{unwrap_or, option_or}
 use Rattle.su_bytes.specs.Membership.{Membership, has_user}
 use Rattle.su_bytes.specs.declared.refusals.Refusal.TheVariants.{NoUser}
 use Rattle.su_table.specs.Tree.{Tree, genesis}
@@ -8,7 +8,7 @@ use Rattle.su_op.specs.declared.operations.Change.TheVariants.{Undo}
 use Rattle.su_desk.specs.declared.entries.Entry.{Entry}
 use Rattle.su_desk.specs.History.{Turn, live, replay, tree, entry_at}
 use Rattle.su_desk.specs.Applied.{tree_after}
-use Rattle.su_desk.specs.Answer.{or_else, blocker, live_refusal, author_refusal, blocked_refusal, undo_refusal, Good}
+use Rattle.su_desk.specs.Answer.{blocker, live_refusal, author_refusal, blocked_refusal, undo_refusal, Good}
 use Rattle.su_desk.specs.Headline.{Headline}
 use Rattle.su_desk.proofs.Counting.{never_falls}
 use Rattle.su_desk.proofs.Blocking.{latest_free}
@@ -20,9 +20,9 @@ goes_back ro h ts t a is = ap (replay ro genesis) (undone_out h ts [] t a is ∙
 
 named : (ro : Membership) (h : List Entry) (a n : ℕ) → has_user ro a ≡ true → live_refusal h n ≡ None → author_refusal a (entry_at h n) ≡ None → undo_refusal ro h a n ≡ blocked_refusal (blocker ro h n)
 named ro h a n user is_live own =
-    ap (λ b. cond b (or_else (live_refusal h n) (or_else (author_refusal a (entry_at h n)) (blocked_refusal (blocker ro h n)))) (Some (NoUser a))) user
-    ∙ ap (λ o. or_else o (or_else (author_refusal a (entry_at h n)) (blocked_refusal (blocker ro h n)))) is_live
-    ∙ ap (λ o. or_else o (blocked_refusal (blocker ro h n))) own
+    ap (λ b. cond b (option_or (live_refusal h n) (option_or (author_refusal a (entry_at h n)) (blocked_refusal (blocker ro h n)))) (Some (NoUser a))) user
+    ∙ ap (λ o. option_or o (option_or (author_refusal a (entry_at h n)) (blocked_refusal (blocker ro h n)))) is_live
+    ∙ ap (λ o. option_or o (blocked_refusal (blocker ro h n))) own
 
 pub headline_of : (ro : Membership) (h : List Entry) (T : Tree) → Good ro h → tree ro h ≡ Some T → Headline ro h T
 headline_of ro h T good is =

@@ -3,6 +3,7 @@ use Rattle.std.proofs.Common.{◌≡◌, ℕ, ◌+◌, ◌-◌, ◌≤◌, ◌||
 use Rattle.std.specs.List.{filter, list_any}
 use Rattle.std.proofs.lemmas.List.Folds.{list_any-append}
 use Rattle.std.proofs.lemmas.Bool.{or_left, or_right}
+use Rattle.std.specs.Option.{option_or}
 use Rattle.su_bytes.specs.Membership.{Membership, has_user}
 use Rattle.su_bytes.specs.declared.refusals.Refusal.{Refusal}
 use Rattle.su_bytes.specs.declared.refusals.Refusal.TheVariants.{NoUser, NoOperation, NotOperation, AlreadyUndone, Blocked}
@@ -11,7 +12,7 @@ use Rattle.su_op.specs.declared.operations.Change.{Change}
 use Rattle.su_op.specs.declared.operations.Change.TheVariants.{Do, Undo}
 use Rattle.su_desk.specs.declared.entries.Entry.{Entry}
 use Rattle.su_desk.specs.History.{Turn, turn_of, turns_from, undoes, is_undone, live, entry_at, undoer_from, undoer}
-use Rattle.su_desk.specs.Answer.{or_else, blocker, blocked_refusal, undone_refusal, change_refusal, entry_refusal, live_refusal, author_refusal, undo_refusal}
+use Rattle.su_desk.specs.Answer.{blocker, blocked_refusal, undone_refusal, change_refusal, entry_refusal, live_refusal, author_refusal, undo_refusal}
 
 -- ---- what a live number has
 
@@ -122,14 +123,14 @@ undo_accepted ro h a n e = user (has_user ro a) e
     free None e = refl
     free (Some m) e = absurd (let bad : Some (Blocked m) ≡ None = e in cc)
 
-    mine : live_refusal h n ≡ None → (o : Option Refusal) → or_else o (blocked_refusal (blocker ro h n)) ≡ None → Undoable ro h n
+    mine : live_refusal h n ≡ None → (o : Option Refusal) → option_or o (blocked_refusal (blocker ro h n)) ≡ None → Undoable ro h n
     mine stands (Some r) e = absurd (let bad : Some r ≡ None = e in cc)
     mine stands None e = record { stands = stands; free = free (blocker ro h n) e }
 
-    here : (o : Option Refusal) → live_refusal h n ≡ o → or_else o (or_else (author_refusal a (entry_at h n)) (blocked_refusal (blocker ro h n))) ≡ None → Undoable ro h n
+    here : (o : Option Refusal) → live_refusal h n ≡ o → option_or o (option_or (author_refusal a (entry_at h n)) (blocked_refusal (blocker ro h n))) ≡ None → Undoable ro h n
     here (Some r) is e = absurd (let bad : Some r ≡ None = e in cc)
     here None is e = mine is (author_refusal a (entry_at h n)) e
 
-    user : (b : Bool) → cond b (or_else (live_refusal h n) (or_else (author_refusal a (entry_at h n)) (blocked_refusal (blocker ro h n)))) (Some (NoUser a)) ≡ None → Undoable ro h n
+    user : (b : Bool) → cond b (option_or (live_refusal h n) (option_or (author_refusal a (entry_at h n)) (blocked_refusal (blocker ro h n)))) (Some (NoUser a)) ≡ None → Undoable ro h n
     user false e = absurd (let bad : Some (NoUser a) ≡ None = e in cc)
     user true e = here (live_refusal h n) refl e

@@ -1,6 +1,7 @@
 -- The answer to a change after a history, and good histories.
 use Rattle.std.specs.Prelude.{◌≡◌, ℕ, ◌+◌, Bool, ◌&&◌, cond, List, [], ◌∷◌, ◌++◌, length, Option, None, Some, Result, Ok, Err, nat_eq, nat_lt}
 use Rattle.std.specs.List.{filter}
+use Rattle.std.specs.Option.{option_or}
 use Rattle.su_bytes.specs.Membership.{Membership, has_user}
 use Rattle.su_bytes.specs.declared.refusals.Refusal.{Refusal}
 use Rattle.su_bytes.specs.declared.refusals.Refusal.TheVariants.{NoUser, NoOperation, NotOperation, AlreadyUndone, NotAuthor, Blocked}
@@ -12,15 +13,10 @@ use Rattle.su_desk.specs.declared.entries.Entry.{Entry}
 use Rattle.su_desk.specs.History.{Turn, live, entry_at, undoer}
 use Rattle.su_desk.specs.Applied.{reads_of, written, tree_after}
 
--- the first, or else the other
-abbrev pub or_else : {A : Type 0} → Option A → Option A → Option A
-or_else (Some x) o = Some x
-or_else None o = o
-
 -- the number of the last of these operations
 abbrev pub last_number : List Turn → Option ℕ
 last_number [] = None
-last_number (t ∷ ts) = or_else (last_number ts) (Some t.number)
+last_number (t ∷ ts) = option_or (last_number ts) (Some t.number)
 
 -- operation t came after n, and read a cell that n wrote, each where it was applied
 abbrev pub reads_after : Membership → List Entry → ℕ → Turn → Bool
@@ -58,7 +54,7 @@ author_refusal a (Some e) = cond (nat_eq a e.author) None (Some (NotAuthor e.aut
 -- why user a may not undo n: no such user; n is no live operation; another's; blocked
 abbrev pub undo_refusal : Membership → List Entry → ℕ → ℕ → Option Refusal
 undo_refusal ro h a n =
-    cond (has_user ro a) (or_else (live_refusal h n) (or_else (author_refusal a (entry_at h n)) (blocked_refusal (blocker ro h n)))) (Some (NoUser a))
+    cond (has_user ro a) (option_or (live_refusal h n) (option_or (author_refusal a (entry_at h n)) (blocked_refusal (blocker ro h n)))) (Some (NoUser a))
 
 -- why a change by user a is refused after a history. (After a good history there always is a tree.)
 abbrev pub refusal_of : Membership → List Entry → ℕ → Change → Option Refusal

@@ -1,5 +1,6 @@
 -- What a desk keeps so that operations can be undone.
 use Rattle.std.specs.Prelude.{◌≡◌, ℕ, ◌<◌, cond, List, [], ◌∷◌, Option, Some, None, length, get_or}
+use Rattle.std.specs.Option.{option_or}
 use Rattle.su_bytes.specs.Membership.{Membership}
 use Rattle.su_table.specs.Tree.{Tree, genesis}
 use Rattle.su_table.specs.Cell.{Cell}
@@ -10,7 +11,7 @@ use Rattle.su_inverse.specs.Kept.{areas_of, IsKeptOf}
 use Rattle.su_desk.specs.declared.entries.Entry.{Entry}
 use Rattle.su_desk.specs.declared.kept.KeptOperation.{KeptOperation}
 use Rattle.su_desk.specs.History.{Turn, live}
-use Rattle.su_desk.specs.Answer.{or_else, Good}
+use Rattle.su_desk.specs.Answer.{Good}
 
 -- The operation is accepted in T; and what is kept of it is its number, the cells that it reads and writes there, and what
 -- those that it writes hold in T.
@@ -44,4 +45,4 @@ pub record IsPlaceOf (n : ℕ) (ks : List KeptOperation) (place : ℕ) : Type 0 
 -- the number of the last operation that read a cell of the areas
 abbrev pub last_kept_reader : List Area → List KeptOperation → Option ℕ
 last_kept_reader w [] = None
-last_kept_reader w (k ∷ ks) = or_else (last_kept_reader w ks) (cond (meet k.footprint.reads.items w) (Some k.number) None)
+last_kept_reader w (k ∷ ks) = option_or (last_kept_reader w ks) (cond (meet k.footprint.reads.items w) (Some k.number) None)

@@ -36,11 +36,11 @@ module _ (ro : Membership) (a : ℕ) (c : Create) where
       let dir! : IsA Dir (get T.inodes d) = IsA_dir T d is in
       let (_, nothing) = and_parts (is_entry_free T c.file) _ free in
       let empty : val T (At (a, c.body) KindOf) ≡ Nothing = nothing_is _ nothing in
-      let T1 : Tree = edit T (Inodes d (Named c.name (Some c.file))) in
+      let named : Tree = edit T (Inodes d (Named c.name (Some c.file))) in
       subst (λ (p : Plan). CanEdits T p.edits) plan (
         (dir!, tt),
         (
-          (no_inode T1 (a, c.body) (kind_after_name T d c.name (Some c.file) (a, c.body) dir! ∙ empty), free_after_name T d c.name (Some c.file) (a, c.body) (nothing_free T (a, c.body) sound empty)),
-          can_entry_some (edit T1 (Inodes (a, c.body) (Made c.file c.kind))) c.file (a, c.body) (λ g e. (kind_of (empty_content c.kind), inode_after T1 (a, c.body) (Made c.file c.kind) KindOf ∙ ap (AKind (kind_of (empty_content c.kind))) e)),
+          (no_inode named (a, c.body) (kind_after_name T d c.name (Some c.file) (a, c.body) dir! ∙ empty), free_after_name T d c.name (Some c.file) (a, c.body) (nothing_free T (a, c.body) sound empty)),
+          can_entry_some (edit named (Inodes (a, c.body) (Made c.file c.kind))) c.file (a, c.body) (λ g e. (kind_of (empty_content c.kind), inode_after named (a, c.body) (Made c.file c.kind) KindOf ∙ ap (AKind (kind_of (empty_content c.kind))) e)),
         ),
       )

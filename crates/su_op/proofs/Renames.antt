@@ -86,8 +86,8 @@ module _ (ro : Membership) (a : ℕ) (r : Rename) where
   pub rename_can : (T : Tree) (p : Plan) → Gives (rename_rule ro T a r) p → CanEdits T p.edits
   rename_can T p (user, (touch, (touch', (d, at_d, (t, at_t, (found, (dir_d, (dir_t, (holder_d, (holder_t, (named, (new, (stay, plan))))))))))))) =
       let target! : IsA Dir (get T.inodes t) = IsA_dir T t dir_t in
-      let T1 : Tree = edit T (Inodes t (Named r.new_ (Some r.file))) in
-      let source! : IsA Dir (get T1.inodes d) = IsA_dir T1 d (ap is_dir (kind_after_name T t r.new_ (Some r.file) d target!) ∙ dir_d) in
+      let named : Tree = edit T (Inodes t (Named r.new_ (Some r.file))) in
+      let source! : IsA Dir (get named.inodes d) = IsA_dir named d (ap is_dir (kind_after_name T t r.new_ (Some r.file) d target!) ∙ dir_d) in
       subst (λ (p : Plan). CanEdits T p.edits) plan ((target!, tt), ((source!, tt), tt))
 
 -- ---- what is asked of the directories, up to the new name
