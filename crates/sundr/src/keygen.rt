@@ -2,7 +2,8 @@
 ghost use Rattle.std.specs.Prelude.{◌≡◌, IfOk, IfErr};
 ghost use Rattle.su_lms.specs.PrivateKey.{key_of};
 ghost use Rattle.su_lms.specs.KeyFile.{made_key, private_key_of};
-ghost use Rattle.su_bytes.specs.declared.refusals.Refusal.TheVariants.{NoMemory};
+ghost use Rattle.sundr.specs.Key.{IsKeyOf};
+ghost use Rattle.sundr.specs.declared.keygen.KeygenFault.TheVariants.{NoMemory};
 
 use std::alloc::{AllocError, Global};
 use std::fs::{File, OpenFile, OpenOptions};
@@ -34,6 +35,8 @@ pub enum KeygenFault {
 }
 
 impl From<AllocError> for KeygenFault {
+    ghost from_gives = { λ _ e. e ≡ NoMemory };
+
     fn from(_refused: AllocError) -> KeygenFault {
         KeygenFault::NoMemory
     }
@@ -48,14 +51,17 @@ pub struct Entropy {
 }
 
 /// Makes the key of a file of 48 bytes of entropy. Writes it to the file `out`, and its public key to `out.pub`, over what
-/// stood there. The entropy is read before anything is written.
+/// stood there. The entropy is read before anything is written. `Unread` and `WrongLength` come for the entropy, `Unwritten`
+/// for the two files.
 pub fn make_key<R: Files>(
     alloc: Global,
     files: &R,
     entropy: &str,
     out: &str,
     params: Params,
-) -> Result<PublicKey, KeygenFault> {
+) -> Result<PublicKey, KeygenFault>
+    ensures { IfOk result (IsKeyOf params) }
+{
     let (file, public) = key_from(alloc, params, read_entropy(files, entropy)?)?;
     let public_out = format!(in alloc; "{out}.pub")?;
     write_whole(alloc, files, out, &file.encode(), PRIVATE)?;

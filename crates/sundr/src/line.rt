@@ -1,5 +1,6 @@
 // The command line.
-ghost use Rattle.std.specs.Prelude.{IfOk};
+ghost use Rattle.std.specs.Prelude.{◌≡◌, IfOk};
+ghost use Rattle.sundr.specs.declared.line.LineFault.TheVariants.{NoMemory};
 ghost use Rattle.sundr.specs.Line.{IsInRange};
 
 use clap::{Arg, ArgMatches, Command};
@@ -35,6 +36,8 @@ pub enum LineFault {
 }
 
 impl From<AllocError> for LineFault {
+    ghost from_gives = { λ _ e. e ≡ NoMemory };
+
     fn from(_refused: AllocError) -> LineFault {
         LineFault::NoMemory
     }

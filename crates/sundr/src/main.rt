@@ -2,8 +2,9 @@
 //! key for signatures.
 #![tactic(auto)]
 
-ghost use Rattle.std.specs.Prelude.{IfOk, ◌≤◌};
-ghost use Rattle.sundr.specs.Line.{IsInRange};
+ghost use Rattle.std.specs.Prelude.{◌≡◌, IfOk, ◌≤◌, string_bytes};
+ghost use Rattle.sundr.specs.Key.{IsPublicLine};
+ghost use Rattle.sundr.specs.Line.{IsInRange, refused_status};
 
 mod keygen;
 mod line;
@@ -83,7 +84,9 @@ fn public_line(
     entropy: &str,
     out: &str,
     params: Params,
-) -> Result<String, KeygenFault> {
+) -> Result<String, KeygenFault>
+    ensures { IfOk result (λ text. IsPublicLine params (string_bytes text)) }
+{
     let alloc = rt.alloc();
     let public = make_key(alloc, rt, entropy, out, params)?;
     let digits = hex::encode(alloc, public.as_bytes())?;
@@ -101,7 +104,9 @@ fn print(rt: &HostRuntime, text: String) -> Status {
 }
 
 /// Says on standard error why there is nothing to do.
-fn refuse(rt: &HostRuntime, fault: &LineFault) -> Status {
+fn refuse(rt: &HostRuntime, fault: &LineFault) -> Status
+    ensures { result ≡ refused_status fault.now }
+{
     let _ = eprintln!(rt; "{fault}");
     match fault {
         LineFault::Usage(_) => Status::BadLine,
