@@ -1,8 +1,8 @@
 -- The answers of a desk from what it keeps.
-use Rattle.std.proofs.Common.{◌≡◌, ◌∙◌, sym, refl, ap, ℕ, ◌+◌, ◌-◌, List, [], ◌∷◌, ◌++◌, length, Option, Some, None, Ok, Err, slice_get, get_or, take, drop, subst, zero, suc, Bool, true, false, cond, nat_eq, arith}
+use Rattle.std.proofs.Common.{◌≡◌, ◌∙◌, sym, refl, ap, ℕ, ◌+◌, ◌-◌, List, [], ◌∷◌, ◌++◌, length, Some, None, Ok, Err, slice_get, get_or, take, drop, subst, zero, suc, arith}
 use Rattle.std.specs.Option.{unwrap_or}
 use Rattle.std.proofs.lemmas.Option.{slice_get-get_or}
-use Rattle.su_bytes.specs.Membership.{Membership, has_user}
+use Rattle.su_bytes.specs.Membership.{Membership}
 use Rattle.su_bytes.specs.declared.refusals.Refusal.{Refusal}
 use Rattle.su_table.specs.Tree.{Tree, genesis}
 use Rattle.su_inverse.specs.Kept.{IsPutBack}
@@ -11,8 +11,7 @@ use Rattle.su_op.specs.declared.operations.Change.{Change}
 use Rattle.su_op.specs.declared.operations.Change.TheVariants.{Do, Undo}
 use Rattle.su_op.specs.Operation.{why}
 use Rattle.su_desk.specs.declared.entries.Entry.{Entry}
-use Rattle.su_bytes.specs.declared.refusals.Refusal.TheVariants.{NoUser, NoOperation, NotOperation, AlreadyUndone, NotAuthor, Blocked}
-use Rattle.su_desk.specs.History.{tree, entry_at, undoer, last_live}
+use Rattle.su_desk.specs.History.{tree, last_live}
 use Rattle.su_desk.specs.declared.kept.KeptOperation.{KeptOperation}
 use Rattle.su_desk.specs.Applied.{written}
 use Rattle.su_desk.specs.Keeping.{Keeps, IsPlaceOf}

@@ -20,7 +20,7 @@ use Rattle.su_desk.specs.Keeping.{Keeps, IsPlaceOf, last_kept_reader}
 use Rattle.su_desk.proofs.Turns.{Rising, rising_live, rising_after}
 use Rattle.su_desk.proofs.Live.{none_undoes, live_number}
 use Rattle.su_desk.proofs.Blocking.{front_dropped}
-use Rattle.su_desk.proofs.Leading.{IsAsApplied, AreAsApplied, applied, part, written_kept}
+use Rattle.su_desk.proofs.Leading.{AreAsApplied, applied, part, written_kept}
 
 -- ---- the numbers of what is kept ascend
 

@@ -1,5 +1,5 @@
 -- What the desk is for holds of every good history.
-use Rattle.std.proofs.Common.{◌≡◌, ℕ, true, cond, List, [], ◌∷◌, ◌++◌, Option, None, Some, append-nil, sym, ap, ◌∙◌}
+use Rattle.std.proofs.Common.{◌≡◌, ℕ, true, cond, List, [], ◌∷◌, ◌++◌, None, Some, append-nil, sym, ap, ◌∙◌}
 use Rattle.std.specs.Option.{unwrap_or, option_or}
 use Rattle.su_bytes.specs.Membership.{Membership, has_user}
 use Rattle.su_bytes.specs.declared.refusals.Refusal.TheVariants.{NoUser}

@@ -1,5 +1,5 @@
 -- What a desk keeps leads from the first tree to its forest, step by step, and stays so with each entry.
-use Rattle.std.proofs.Common.{◌≡◌, ℕ, ◌+◌, ◌<◌, Bool, true, false, cond, ◌⊎◌, inl, inr, List, [], ◌∷◌, ◌++◌, map, length, Some, None, refl, sym, ap, ◌∙◌, subst, arith}
+use Rattle.std.proofs.Common.{◌≡◌, ℕ, ◌+◌, true, cond, inl, inr, List, [], ◌∷◌, ◌++◌, map, length, Some, None, refl, sym, ap, ◌∙◌, subst, arith}
 use Rattle.std.specs.Option.{is_none, unwrap_or}
 use Rattle.su_bytes.specs.Membership.{Membership}
 use Rattle.su_node.specs.Field.{Field.KindOf, Field.BlockOf}
@@ -21,7 +21,7 @@ use Rattle.su_desk.specs.declared.entries.Entry.{Entry}
 use Rattle.su_desk.specs.declared.kept.KeptOperation.{KeptOperation}
 use Rattle.su_desk.specs.History.{Turn, live, live_numbers, replay, tree, entry_at, last_of, last_live}
 use Rattle.su_desk.specs.Applied.{reads_of, writes_of, written}
-use Rattle.su_desk.specs.Answer.{blocker, undo_refusal, Good}
+use Rattle.su_desk.specs.Answer.{blocker, undo_refusal}
 use Rattle.su_desk.specs.Keeping.{Fits, Leads, Keeps}
 use Rattle.su_desk.proofs.Turns.{live-do}
 use Rattle.su_desk.proofs.Applying.{StandsAs, AllStand, written_of}
@@ -100,12 +100,15 @@ AreAsApplied ro h (t ∷ ts) [] = ⊥
 
 all_as_applied : (ro : Membership) (h : List Entry) (S T T' : Tree) (ts : List Turn) (ks : List KeptOperation) → AllStand ro h S ts T' → Leads ro S ts ks T → AreAsApplied ro h ts ks
 all_as_applied ro h S T T' [] [] e leads = tt
-all_as_applied ro h S T T' (t ∷ ts) (k ∷ ks) (s, rest) (fits, more) = (record {
+all_as_applied ro h S T T' (t ∷ ts) (k ∷ ks) (s, rest) (fits, more) = (
+  record {
     number = fits.number;
     entry = s.entry;
     reads = fits.reads ∙ s.stands.reads;
     writes = fits.writes ∙ s.stands.writes;
-  }, all_as_applied ro h (effect ro S t.author t.op) T T' ts ks rest more)
+  },
+  all_as_applied ro h (effect ro S t.author t.op) T T' ts ks rest more,
+)
 all_as_applied ro h S T T' [] (k ∷ ks) e leads = absurd leads
 all_as_applied ro h S T T' (t ∷ ts) [] s leads = absurd leads
 

@@ -1,9 +1,9 @@
 -- Operations that don't read some cells go alike in two trees that differ in these cells alone.
-use Rattle.std.proofs.Common.{◌≡◌, ℕ, Bool, true, false, cond, ◌⊎◌, inl, inr, List, [], ◌∷◌, ◌++◌, Option, Some, None, refl, sym, ap, ◌∙◌, subst}
+use Rattle.std.proofs.Common.{◌≡◌, ℕ, Bool, true, false, cond, inl, inr, List, [], ◌∷◌, ◌++◌, Some, None, refl, sym, ap, ◌∙◌, subst}
 use Rattle.std.specs.Option.{is_none}
 use Rattle.std.proofs.lemmas.Bool.{both_ways}
 use Rattle.su_bytes.specs.Membership.{Membership}
-use Rattle.su_node.specs.Field.{Field, Field.KindOf, Field.BlockOf, Value.Nothing}
+use Rattle.su_node.specs.Field.{Field.KindOf, Field.BlockOf, Value.Nothing}
 use Rattle.su_table.specs.Place.{Place}
 use Rattle.su_table.specs.Tree.{Tree}
 use Rattle.su_table.specs.Cell.{Cell, Cell.At, val}
@@ -20,7 +20,7 @@ use Rattle.su_desk.specs.declared.entries.Entry.{Entry}
 use Rattle.su_desk.specs.History.{Turn, replay}
 use Rattle.su_desk.specs.Applied.{writes_of}
 use Rattle.su_desk.specs.Commuting.{Stands, GoAlike}
-use Rattle.su_desk.proofs.Applying.{StandsAs, AllStand, replay_stood}
+use Rattle.su_desk.proofs.Applying.{AllStand}
 use Rattle.su_desk.proofs.Blocking.{UnreadBy}
 
 -- two trees hold the same in these cells
@@ -148,10 +148,13 @@ module _ (ro : Membership) where
   -- from S' they stand in the replay too
   pub stand_beside : (h : List Entry) (w : List Area) (S S' T : Tree) (ts : List Turn) → AllBeside w S S' ts → AllStand ro h S ts T → AllStand ro h S' ts (led_to S' ts)
   stand_beside h w S S' T [] b e = refl
-  stand_beside h w S S' T (t ∷ ts) (b, more) (s, rest) = (record {
+  stand_beside h w S S' T (t ∷ ts) (b, more) (s, rest) = (
+    record {
       stands = record { accepted = b.accepted'; reads = b.goes.reads ∙ s.stands.reads; writes = b.goes.writes ∙ s.stands.writes };
       entry = s.entry;
-    }, stand_beside h w (effect ro S t.author t.op) (effect ro S' t.author t.op) T ts more rest)
+    },
+    stand_beside h w (effect ro S t.author t.op) (effect ro S' t.author t.op) T ts more rest,
+  )
 
   pub led_by : (h : List Entry) (S T : Tree) (ts : List Turn) → AllStand ro h S ts T → led_to S ts ≡ T
   led_by h S T [] e = e

@@ -1,6 +1,6 @@
 -- The live operations of a good history stand in the replay as they were applied, whatever was undone; so the replay never
 -- refuses one.
-use Rattle.std.proofs.Common.{◌≡◌, ℕ, ◌+◌, ◌<◌, ◌≤◌, ◌||◌, Bool, true, false, not, cond, List, [], ◌∷◌, ◌++◌, length, length-append, nat_eq, Option, None, Some, refl, sym, ap, ◌∙◌, subst, arith, append_assoc, append-nil}
+use Rattle.std.proofs.Common.{◌≡◌, ℕ, ◌+◌, ◌<◌, ◌||◌, false, not, cond, List, [], ◌∷◌, ◌++◌, length, length-append, nat_eq, None, Some, refl, sym, ap, ◌∙◌, subst, arith, append_assoc, append-nil}
 use Rattle.std.specs.Option.{is_none, unwrap_or}
 use Rattle.std.specs.List.{filter}
 use Rattle.std.proofs.Math.Bool.{or-false}
@@ -15,11 +15,11 @@ use Rattle.su_op.proofs.Storing.{store_lawful}
 use Rattle.su_desk.specs.declared.entries.Entry.{Entry}
 use Rattle.su_desk.specs.History.{Turn, is_undone, live, replay, tree}
 use Rattle.su_desk.specs.Applied.{writes_of}
-use Rattle.su_desk.specs.Answer.{refusal_of, undo_refusal, live_refusal, blocker, Good, GoodAfter}
+use Rattle.su_desk.specs.Answer.{refusal_of, live_refusal, blocker, Good, GoodAfter}
 use Rattle.su_desk.specs.Commuting.{Stands, CanBeTakenOut}
 use Rattle.su_desk.proofs.Turns.{Rising, rising_live, one_taken_out, is_undone-append, live-do, live-undo}
 use Rattle.su_desk.proofs.Applying.{StandsAs, AllStand, entry_within, replay_stood, all_further, all_added, stands_now, written_of}
-use Rattle.su_desk.proofs.Live.{is_live, live_number, LiveTurn, live_turn, undo_accepted}
+use Rattle.su_desk.proofs.Live.{is_live, live_number, live_turn, undo_accepted}
 use Rattle.su_desk.proofs.Blocking.{UnreadBy, free_unread}
 use Rattle.su_desk.proofs.Skipping.{Out, take_out}
 

@@ -1,5 +1,5 @@
 -- What the desk is for, in one place: of a roster, a history and the tree of a desk.
-use Rattle.std.specs.Prelude.{◌≡◌, ℕ, ◌≤◌, true, List, [], ◌∷◌, ◌++◌, Option, None, Some}
+use Rattle.std.specs.Prelude.{◌≡◌, ℕ, ◌≤◌, true, List, [], ◌∷◌, ◌++◌, None, Some}
 use Rattle.su_bytes.specs.Membership.{Membership, has_user}
 use Rattle.su_bytes.specs.declared.principals.Principal.{Principal}
 use Rattle.su_table.specs.Tree.{Tree, genesis}

@@ -1,10 +1,10 @@
 -- What is displaced by something that is brought back, and that there is room for it again.
-use Rattle.std.proofs.Common.{◌≡◌, ℕ, Bool, true, false, cond, Option, Some, None, refl, sym, ap, ◌∙◌, subst}
+use Rattle.std.proofs.Common.{◌≡◌, true, false, cond, Option, Some, None, sym, ap, ◌∙◌}
 use Rattle.std.specs.Option.{is_some}
-use Rattle.std.specs.FinMap.{FinMap, get}
+use Rattle.std.specs.FinMap.{get}
 use Rattle.su_bytes.specs.declared.file_ids.FileId.{FileId}
 use Rattle.su_bytes.specs.declared.file_ids.FileId.TheVariants.{Group}
-use Rattle.su_node.specs.Name.{Name, name_eq}
+use Rattle.su_node.specs.Name.{Name}
 use Rattle.su_node.specs.Inode.{Inode, Content, Content.Bytes, Content.Names}
 use Rattle.su_node.specs.Field.{Field.KindOf, Field.NameOf, Value.Nothing, file_value, field_value}
 use Rattle.su_node.specs.Change.{Change.Named, Change.Copied, change}

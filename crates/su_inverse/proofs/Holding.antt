@@ -1,12 +1,11 @@
 -- What a tree holds in an area, seen by its inodes and entries.
-use Rattle.std.proofs.Common.{◌≡◌, ℕ, true, false, Option, Some, None, refl, sym, ap, ◌∙◌}
+use Rattle.std.proofs.Common.{◌≡◌, ℕ, true, Option, Some, None, refl, sym, ap, ◌∙◌}
 use Rattle.std.specs.FinMap.{get}
 use Rattle.su_bytes.specs.declared.file_ids.FileId.{FileId}
 use Rattle.su_bytes.specs.declared.file_ids.FileId.TheVariants.{Group}
 use Rattle.su_node.specs.Name.{Name}
 use Rattle.su_node.specs.Inode.{Inode, Content, Content.Bytes, Content.Names, bytes_of}
-use Rattle.su_node.specs.Field.{Field, Field.KindOf, Field.LinksOf, Field.NameOf, Value, Value.Nothing, Value.ANumber, Value.AFile, Value.APlace, file_value, field_value}
-use Rattle.su_node.specs.Change.{Change.Named, change}
+use Rattle.su_node.specs.Field.{Field, Field.KindOf, Field.NameOf, Value, file_value, field_value}
 use Rattle.su_table.specs.Place.{Place}
 use Rattle.su_table.specs.Tree.{Tree}
 use Rattle.su_table.specs.Cell.{Cell.At, Cell.Entry, place_value, val}

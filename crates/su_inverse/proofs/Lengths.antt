@@ -1,12 +1,12 @@
 -- Sizes and blocks that are put back into a tree.
-use Rattle.std.proofs.Common.{◌≡◌, ℕ, ◌+◌, ◌-◌, ◌*◌, ◌<◌, ◌≤◌, Bool, true, false, cond, ◌&&◌, ◌||◌, nat_le, min, List, [], ◌∷◌, ◌++◌, map, length, take, drop, Option, Some, None, option_map, refl, sym, ap, ◌∙◌, subst, arith}
+use Rattle.std.proofs.Common.{◌≡◌, ℕ, ◌+◌, ◌*◌, ◌<◌, ◌≤◌, Bool, true, false, cond, ◌&&◌, ◌||◌, nat_le, List, [], ◌∷◌, ◌++◌, map, length, drop, Option, Some, None, option_map, refl, sym, ap, ◌∙◌, subst, arith}
 use Rattle.std.proofs.lemmas.Bool.{leb-true, leb-false}
 use Rattle.std.proofs.lemmas.List.{length-take, length-drop, ext_get_or}
 use Rattle.std.proofs.lemmas.List.{map-append}
 use Rattle.std.specs.List.{AllByRecursion}
 use Rattle.std.specs.FinMap.{FinMap, get}
 use Rattle.su_node.specs.Inode.{Inode, Content, Content.Bytes, Content.Names, bytes_of, within}
-use Rattle.su_node.specs.Field.{Field, Field.KindOf, Field.SizeOf, Value, Value.Nothing, Value.ANumber, field_value}
+use Rattle.su_node.specs.Field.{Field, Field.KindOf, Field.SizeOf, Value.Nothing, Value.ANumber, field_value}
 use Rattle.su_node.specs.Change.{Change.Resized, Change.Written, change, resized, set_key}
 use Rattle.su_node.proofs.Maps.{set_key-get, set_key-set_key}
 use Rattle.su_table.specs.Place.{Place, place_cmp, place_eq}
@@ -29,7 +29,7 @@ use Rattle.su_inverse.specs.declared.contents.KeptBlocks.{KeptBlocks}
 use Rattle.su_inverse.specs.declared.inverses.Inverse.{Inverse}
 use Rattle.su_inverse.specs.Kept.{size_area, reset_area, blocks_area, HoldsReset, HoldsSize, HoldsBlocks}
 use Rattle.su_inverse.specs.Putting.{widened, left, left_sizes, left_blocks, AgreeBut, HoldsAll, IsRoomy}
-use Rattle.su_inverse.proofs.Restored.{MixedTree, none_from_kind, back_size, back_blocks, back_past}
+use Rattle.su_inverse.proofs.Restored.{MixedTree, back_size, back_blocks, back_past}
 use Rattle.su_inverse.proofs.Sets.{has-append}
 
 no_and : (b : Bool) → (b && false) ≡ true → ⊥

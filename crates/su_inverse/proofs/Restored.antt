@@ -1,5 +1,5 @@
 -- A value that is put back into a tree: fewer cells are left to be put back.
-use Rattle.std.proofs.Common.{◌≡◌, ℕ, ◌+◌, ◌-◌, ◌*◌, ◌<◌, ◌≤◌, Bool, true, false, cond, ◌&&◌, ◌||◌, ◌⊎◌, inl, inr, nat_le, min, max, List, [], ◌∷◌, length, take, drop, get_or, Option, Some, None, option_map, refl, sym, ap, ◌∙◌, subst, arith}
+use Rattle.std.proofs.Common.{◌≡◌, ℕ, ◌+◌, ◌-◌, ◌*◌, ◌<◌, ◌≤◌, Bool, true, false, cond, ◌&&◌, ◌||◌, ◌⊎◌, inl, inr, nat_le, min, max, List, [], length, take, drop, get_or, Option, Some, None, option_map, refl, sym, ap, ◌∙◌, subst, arith}
 use Rattle.std.proofs.lemmas.Bool.{leb-true, leb-false, or_from, both_ways}
 use Rattle.std.proofs.lemmas.List.{length-take, length-drop, get_or-take, get_or-drop}
 use Rattle.std.specs.FinMap.{get}
@@ -16,10 +16,10 @@ use Rattle.su_op.specs.declared.areas.Part.{Part}
 use Rattle.su_op.specs.declared.areas.Part.TheVariants.{Links as LinksPart, Size as SizePart, Name as NamePart, Blocks as BlocksPart, Whole as WholePart}
 use Rattle.su_op.specs.declared.areas.BlockRun.{BlockRun}
 use Rattle.su_op.specs.declared.areas.Area.TheVariants.{Inode as InodeArea, Entry as EntryArea}
-use Rattle.su_op.specs.Area.{in_run, in_part, in_area, has}
+use Rattle.su_op.specs.Area.{in_run, in_part, in_area}
 use Rattle.su_op.proofs.Orders.{place_eq-same, place_eq-itself, name_eq-same, get-set_place, get-set_name}
 use Rattle.su_op.proofs.Blocks.{byte_same, block_same, block_value_same, length-resized, get_or-resized, length-written, get_or-written_in, get_or-written_before, get_or-written_after}
-use Rattle.su_op.proofs.Changes.{number_same, inode_same}
+use Rattle.su_op.proofs.Changes.{number_same}
 use Rattle.su_op.proofs.Edits.{tree_same}
 use Rattle.su_inverse.specs.Putting.{AgreeBut}
 

@@ -1,14 +1,13 @@
 -- The areas that an inverse keeps, and those that are left.
-use Rattle.std.proofs.Common.{◌≡◌, Bool, true, false, ◌||◌, ◌&&◌, List, [], ◌∷◌, ◌++◌, map, Some, None, refl, sym, ap, ◌∙◌, append_assoc}
+use Rattle.std.proofs.Common.{◌≡◌, Bool, true, false, ◌||◌, ◌&&◌, List, [], ◌∷◌, ◌++◌, map, Some, None, refl, sym, ap, ◌∙◌}
 use Rattle.std.proofs.lemmas.List.{map-append}
 use Rattle.std.proofs.lemmas.List.Folds.{list_any-append}
-use Rattle.std.specs.List.{list_any, AllByRecursion}
+use Rattle.std.specs.List.{AllByRecursion}
 use Rattle.su_node.specs.Field.{Field, Field.KindOf}
 use Rattle.su_table.specs.Place.{Place, place_eq}
 use Rattle.su_table.specs.Tree.{Tree}
-use Rattle.su_table.specs.Cell.{Cell, Cell.At, Cell.Entry, val}
+use Rattle.su_table.specs.Cell.{Cell, Cell.At, Cell.Entry}
 use Rattle.su_table.specs.Edit.{edit, edits}
-use Rattle.su_op.specs.declared.areas.Part.{Part}
 use Rattle.su_op.specs.declared.areas.Part.TheVariants.{Kind as KindPart, Links as LinksPart, Size as SizePart, Name as NamePart, Blocks as BlocksPart, Whole as WholePart}
 use Rattle.su_op.specs.declared.areas.Area.{Area}
 use Rattle.su_op.specs.declared.areas.Area.TheVariants.{Inode as InodeArea, Entry as EntryArea}
@@ -22,7 +21,7 @@ use Rattle.su_inverse.specs.declared.contents.KeptBlocks.{KeptBlocks}
 use Rattle.su_inverse.specs.declared.inverses.Inverse.{Inverse}
 use Rattle.su_inverse.specs.Kept.{return_area, size_area, reset_area, blocks_area, areas_of, IsKeptOf, IsPutBack, HoldsReturn, HoldsReset, HoldsNothing, return_edit, reset_edits, nothing_edits}
 use Rattle.su_inverse.specs.Putting.{widened, left, AgreeBut, HoldsAll}
-use Rattle.su_inverse.proofs.Restored.{IsClosed, MixedTree, all_back, back_name, back_links, back_gone, back_whole, back_none, back_entry, back_no_blocks}
+use Rattle.su_inverse.proofs.Restored.{IsClosed, MixedTree, back_name, back_links, back_gone, back_whole, back_none, back_entry, back_no_blocks}
 
 or_same : (a b : Bool) → (a || b) ≡ false → (a ≡ false) × (b ≡ false)
 or_same true b e = absurd cc

@@ -1,5 +1,5 @@
 -- What operations write can be kept, and is put back right after them.
-use Rattle.std.proofs.Common.{◌≡◌, ℕ, Bool, true, false, [], ◌∷◌, ◌++◌, map, nat_le, Option, Some, None, refl, sym, ap, ◌∙◌, subst}
+use Rattle.std.proofs.Common.{◌≡◌, ℕ, Bool, true, false, [], ◌++◌, map, Option, None, sym, ap, ◌∙◌, subst}
 use Rattle.std.proofs.lemmas.List.Elements.{All-from_recursion}
 use Rattle.std.specs.List.{All, AllByRecursion}
 use Rattle.std.specs.Option.{is_none}
@@ -10,14 +10,14 @@ use Rattle.su_bytes.specs.declared.file_ids.FileId.{FileId}
 use Rattle.su_bytes.specs.declared.file_ids.FileId.TheVariants.{User, Group}
 use Rattle.su_table.specs.Place.{Place}
 use Rattle.su_table.specs.Tree.{Tree}
-use Rattle.su_table.specs.Cell.{Cell, val}
-use Rattle.su_table.specs.Query.{is_free_at, is_entry_free}
+use Rattle.su_table.specs.Cell.{Cell}
+use Rattle.su_table.specs.Query.{is_entry_free}
 use Rattle.su_op.specs.declared.operations.Op.{Op}
 use Rattle.su_op.specs.declared.operations.Op.TheVariants.{Create, Unlink, Write, Truncate, Take, Link, Rename}
 use Rattle.su_op.specs.declared.areas.Area.TheVariants.{Inode as InodeArea}
 use Rattle.su_op.specs.Area.{has}
 use Rattle.su_op.specs.Footprint.{written_parts, resized_parts, areas_of as areas_of_edits}
-use Rattle.su_op.specs.Rule.{Plan, refusal, plan_of, writes_of, entry_edits, entry_areas}
+use Rattle.su_op.specs.Rule.{Plan, plan_of, writes_of, entry_edits, entry_areas}
 use Rattle.su_op.specs.Unlinking.{unlink_edits}
 use Rattle.su_op.specs.Operation.{rule_of, why, effect, writes}
 use Rattle.su_op.specs.Soundness.{Sound}

@@ -1,10 +1,9 @@
 -- A link depends on the cells that it reads, and its edits can be made.
-use Rattle.std.proofs.Common.{◌≡◌, ℕ, ◌<◌, ◌≤◌, Bool, true, false, cond, nat_lt, [], ◌∷◌, ◌++◌, Some, refl, sym, ap, ◌∙◌, subst, arith}
+use Rattle.std.proofs.Common.{◌≡◌, ℕ, ◌<◌, true, nat_lt, [], ◌∷◌, ◌++◌, Some, sym, ap, ◌∙◌, subst, arith}
 use Rattle.std.proofs.lemmas.Bool.Decides.{nat_tests}
 use Rattle.std.specs.FinMap.{get}
 use Rattle.su_bytes.specs.Membership.{Membership}
 use Rattle.su_bytes.specs.declared.file_ids.Kind.TheVariants.{File, Dir}
-use Rattle.su_table.specs.Place.{Place}
 use Rattle.su_table.specs.Tree.{Tree}
 use Rattle.su_node.specs.Field.{Field.LinksOf}
 use Rattle.su_table.specs.Cell.{Cell.At, val}

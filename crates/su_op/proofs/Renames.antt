@@ -6,8 +6,6 @@ use Rattle.su_bytes.specs.declared.file_ids.FileId.{FileId}
 use Rattle.su_bytes.specs.declared.file_ids.Kind.TheVariants.{Dir}
 use Rattle.su_table.specs.Place.{Place}
 use Rattle.su_table.specs.Tree.{Tree}
-use Rattle.su_node.specs.Field.{Field.KindOf}
-use Rattle.su_table.specs.Cell.{Cell.At, val}
 use Rattle.su_table.specs.Query.{is_dir, is_file_id, is_nothing, is_dir_at, leads_to_at, is_name_free_at, body}
 use Rattle.su_node.specs.Change.{Change.Named}
 use Rattle.su_table.specs.Edit.{Edit.Inodes, edit}
@@ -20,7 +18,7 @@ use Rattle.su_bytes.specs.declared.refusals.Refusal.{Refusal}
 use Rattle.su_bytes.specs.declared.refusals.Refusal.TheVariants.{Exists}
 use Rattle.su_op.specs.Soundness.{IsA}
 use Rattle.su_op.proofs.Edits.{CanEdits}
-use Rattle.su_op.proofs.Rules.{Gives, Agrees, left, right, later, kind_same, name_same, body_same, dir_is, IsA_dir, kind_after_name}
+use Rattle.su_op.proofs.Rules.{Gives, Agrees, left, right, later, kind_same, name_same, body_same, IsA_dir, kind_after_name}
 
 there_is : {A : Type 0} (o : Option A) → is_some o ≡ true → (x : A) × (o ≡ Some x)
 there_is None e = absurd cc

@@ -1,6 +1,6 @@
 -- Edits write the kind of an inode together with all its cells, or where nothing stands; and they write blocks of a file,
 -- or of an inode that they write whole.
-use Rattle.std.proofs.Common.{◌≡◌, ℕ, ◌+◌, Bool, true, false, ◌&&◌, ◌||◌, ◌⊎◌, inl, inr, ⊎_elim, List, [], ◌∷◌, ◌++◌, length, nat_eq, nat_le, refl, sym, ap, ◌∙◌, subst}
+use Rattle.std.proofs.Common.{◌≡◌, ℕ, ◌+◌, Bool, true, false, ◌⊎◌, inl, inr, ⊎_elim, List, [], ◌∷◌, length, refl, sym, ap, ◌∙◌}
 use Rattle.std.proofs.lemmas.List.Folds.{list_any-append}
 use Rattle.std.specs.List.{list_any}
 use Rattle.std.specs.Option.{is_none}
@@ -11,13 +11,13 @@ use Rattle.su_bytes.specs.declared.file_ids.Kind.TheVariants.{File}
 use Rattle.su_table.specs.Place.{Place, place_eq}
 use Rattle.su_table.specs.Tree.{Tree}
 use Rattle.su_table.specs.Query.{is_file, is_file_at}
-use Rattle.su_node.specs.Field.{Field, Field.KindOf, Field.BlockOf, Value.Nothing, field_value}
+use Rattle.su_node.specs.Field.{Field, Field.KindOf, Field.BlockOf, field_value}
 use Rattle.su_table.specs.Cell.{Cell, Cell.At, val}
 use Rattle.su_node.specs.Change.{Change, Change.Made, Change.Named, Change.Linked, Change.Written, Change.Resized, Change.Copied, Change.Gone}
 use Rattle.su_table.specs.Edit.{Edit, Edit.Inodes, Edit.Entries, edit}
 use Rattle.su_op.specs.declared.areas.Part.TheVariants.{Whole as WholePart}
 use Rattle.su_op.specs.Area.{in_part, in_area, has}
-use Rattle.su_op.specs.Footprint.{written_parts, resized_parts, parts, edit_areas, areas_of}
+use Rattle.su_op.specs.Footprint.{parts, edit_areas, areas_of}
 use Rattle.su_op.specs.Operation.{rule_of, why, writes}
 use Rattle.su_op.specs.Rule.{plan_of}
 use Rattle.su_op.specs.Soundness.{IsA, Sound, WholeOrNew, KindOrFile}

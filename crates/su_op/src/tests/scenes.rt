@@ -36,7 +36,7 @@ pub(crate) fn place(number: u64) -> Result<(User, Inum), Refusal> {
 }
 
 /// The file ids of a scene.
-#[derive(Clone, Copy, Debug)]
+#[derive(Clone, Copy)]
 pub(crate) struct Files {
     pub(crate) root: FileId,
     pub(crate) file: FileId,

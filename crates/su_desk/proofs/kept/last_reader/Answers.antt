@@ -1,4 +1,4 @@
-use Rattle.std.proofs.Common.{◌≡◌, ◌∙◌, ◌≤◌, sym, ap, length, drop, arith}
+use Rattle.std.proofs.Common.{◌≡◌, ◌∙◌, sym, ap, drop, arith}
 use Rattle.std.proofs.Math.Seq.{drop-length}
 use Rattle.su_op.specs.Area.{meet}
 use Rattle.su_desk.specs.Keeping.{last_kept_reader}

@@ -1,4 +1,4 @@
-use Rattle.std.proofs.Common.{◌≡◌, ◌<◌, ◌≤◌, ◌∙◌, sym, ap, subst, ◌∷◌}
+use Rattle.std.proofs.Common.{◌≡◌, ◌<◌, ◌≤◌, subst, ◌∷◌}
 use Rattle.std.specs.List.{AllByRecursion}
 use Rattle.su_node.specs.Change.{Change.Resized}
 use Rattle.su_table.specs.Query.{size_at}

@@ -1,6 +1,6 @@
 use Rattle.std.proofs.Common.{◌≡◌, ◌∙◌, sym, ap, refl, subst, length, List, [], ◌∷◌, Result, Ok, Err, OnOk, arith}
 use Rattle.std.specs.List.{AllByRecursion}
-use Rattle.su_table.specs.Edit.{edit, back}
+use Rattle.su_table.specs.Edit.{edit}
 use Rattle.su_table.proofs.TakenBack.{edit-back}
 use Rattle.su_inverse.specs.Kept.{HoldsReturn, HoldsSize, return_edit}
 use Rattle.su_inverse.specs.Displaced.{displaced_edit}

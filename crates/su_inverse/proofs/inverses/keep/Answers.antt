@@ -1,6 +1,6 @@
 use Rattle.std.proofs.Common.{◌≡◌, ◌∙◌, sym, ap, subst, Some, None, Result, Ok, Err, IfOk}
 use Rattle.su_bytes.specs.declared.refusals.Refusal.{Refusal}
-use Rattle.su_node.specs.Field.{Field.LinksOf, Field.SizeOf, Field.NameOf, Value.AFile, Value.Nothing, Value.ANumber, file_value}
+use Rattle.su_node.specs.Field.{Field.LinksOf, Field.SizeOf, Field.NameOf, Value.ANumber}
 use Rattle.su_table.specs.Tree.{Tree}
 use Rattle.su_table.specs.Cell.{Cell.At, val}
 use Rattle.su_op.specs.declared.areas.Area.{Area}

@@ -1,4 +1,4 @@
-use Rattle.std.proofs.Common.{◌≡◌, ◌∙◌, sym, subst}
+use Rattle.std.proofs.Common.{◌∙◌, sym, subst}
 use Rattle.std.specs.List.{All}
 use Rattle.su_inverse.specs.Kept.{CanKeep}
 use Rattle.su_inverse.proofs.Writing.{writes_kept}

@@ -1,4 +1,4 @@
-use Rattle.std.proofs.Common.{◌≡◌, Some, sym, ◌∙◌, ap, subst}
+use Rattle.std.proofs.Common.{sym, ◌∙◌, ap, subst}
 use Rattle.su_desk.specs.History.{tree}
 use Rattle.su_desk.specs.Answer.{Good}
 use Rattle.su_desk.specs.Headline.{Headline}

@@ -1,4 +1,4 @@
-use Rattle.std.proofs.Common.{◌≡◌, ◌∙◌, ◌+◌, ◌-◌, ◌++◌, ◌∷◌, [], List, sym, refl, ap, subst, inr, Ok, length, length-append, take, drop, get_or, arith, ℕ, ◌<◌, ◌^◌}
+use Rattle.std.proofs.Common.{◌≡◌, ◌∙◌, ◌+◌, ◌++◌, ◌∷◌, [], List, sym, refl, ap, subst, inr, Ok, length, length-append, take, drop, arith, ℕ, ◌<◌, ◌^◌}
 use Rattle.std.specs.List.{All}
 use Rattle.std.specs.List.Sorted.{IsNonDecreasingBy}
 use Rattle.su_desk.specs.declared.kept.KeptOperation.{KeptOperation}

@@ -1,4 +1,4 @@
-use Rattle.std.proofs.Common.{◌≡◌, ◌+◌, ◌<◌, ◌∙◌, sym, ap, subst, drop, get_or, length, ◌∷◌, [], arith}
+use Rattle.std.proofs.Common.{◌≡◌, ◌+◌, ◌<◌, ◌∙◌, sym, ap, subst, drop, get_or, length, ◌∷◌, arith}
 use Rattle.std.proofs.lemmas.List.{at_drop_more, drop_all}
 use Rattle.std.specs.List.{AllByRecursion}
 use Rattle.su_inverse.specs.Kept.{HoldsBlocks}
