@@ -5,8 +5,8 @@ mod renaming;
 mod scenes;
 
 use crate::{
-    Area, BlockRun, Create, LARGEST_FILE, LARGEST_WRITE, Op, Part, Truncate, Unlink, Write, apply,
-    footprint, operations_are_local, table_of_cells,
+    Area, BlockRun, Create, Footprint, LARGEST_FILE, LARGEST_WRITE, Op, Part, Truncate, Unlink,
+    Write, apply, footprint, operations_are_local, table_of_cells,
 };
 use std::alloc::Global;
 use std::test::Fail;
@@ -75,6 +75,41 @@ fn make(
     }
 }
 
+/// What an operation of user 0 reads and writes.
+fn touched(
+    alloc: Global,
+    forest: &Forest,
+    roster: &Roster,
+    op: Result<Op, Refusal>,
+) -> Result<Footprint, Refusal> {
+    let _root: Option<FileId> = None;
+    match op {
+        Ok(op) => footprint(alloc, forest, roster, User::FIRST, &op),
+        Err(refusal) => Err(refusal),
+    }
+}
+
+/// Why an operation is refused, if it is.
+fn refusal(
+    forest: &Forest,
+    roster: &Roster,
+    author: User,
+    op: Result<Op, Refusal>,
+) -> Option<Refusal> {
+    let _root: Option<FileId> = None;
+    match op {
+        Ok(op) => op.check(forest, roster, author).err(),
+        Err(refusal) => Some(refusal),
+    }
+}
+
+/// That name at number `number` of user 0.
+fn name_at(alloc: Global, number: u64, name: &[u8]) -> Result<Area, Refusal> {
+    let _root: Option<FileId> = None;
+    let place = (User::FIRST, Inum::new(number)?);
+    Ok(Area::Inode(place, Part::Name(Name::new(alloc, name)?)))
+}
+
 /// How many names the root has.
 fn names(forest: &Forest) -> Result<usize, Refusal> {
     let listed = root()?;
@@ -102,20 +137,20 @@ fn a_file_comes_and_goes(rt: HostRuntime) -> Result<(), Fail> {
 #[test]
 fn the_first_refusal_is_told(rt: HostRuntime) -> Result<(), Fail> {
     let alloc = rt.alloc();
+    let (other, stranger) = (User::new(1)?, User::new(2)?);
     let roster = two_users(alloc)?;
     let mut forest = Forest::genesis(alloc, &roster)?;
-    let first = create(alloc, b"f", 2)?;
-    apply(alloc, &mut forest, &roster, User::FIRST, &first)?;
-    let second = create(alloc, b"f", 3)?;
-    assert!(rt; second.check(&forest, &roster, User::FIRST) == Err(Refusal::Exists));
-    let other = User::new(1)?;
-    assert!(rt; second.check(&forest, &roster, other) == Err(Refusal::BadNumber));
-    let stranger = User::new(2)?;
-    assert!(rt; second.check(&forest, &roster, stranger) == Err(Refusal::NoUser(stranger)));
-    let taken = unlink(alloc, b"f", 2)?;
-    assert!(rt; taken.check(&forest, &roster, other) == Err(Refusal::NotHolder(User::FIRST)));
-    let unnamed = unlink(alloc, b"g", 2)?;
-    assert!(rt; unnamed.check(&forest, &roster, User::FIRST) == Err(Refusal::NoName));
+    make(alloc, &mut forest, &roster, create(alloc, b"f", 2))?;
+    let exists = refusal(&forest, &roster, User::FIRST, create(alloc, b"f", 3));
+    assert!(rt; exists == Some(Refusal::Exists));
+    let others = refusal(&forest, &roster, other, create(alloc, b"f", 3));
+    assert!(rt; others == Some(Refusal::BadNumber));
+    let unknown = refusal(&forest, &roster, stranger, create(alloc, b"f", 3));
+    assert!(rt; unknown == Some(Refusal::NoUser(stranger)));
+    let held = refusal(&forest, &roster, other, unlink(alloc, b"f", 2));
+    assert!(rt; held == Some(Refusal::NotHolder(User::FIRST)));
+    let unnamed = refusal(&forest, &roster, User::FIRST, unlink(alloc, b"g", 2));
+    assert!(rt; unnamed == Some(Refusal::NoName));
     Ok(())
 }
 
@@ -150,26 +185,32 @@ fn areas_overlap_where_they_share_a_cell(rt: HostRuntime) -> Result<(), Fail> {
 #[test]
 fn a_create_writes_a_name_and_an_inode(rt: HostRuntime) -> Result<(), Fail> {
     let alloc = rt.alloc();
+    let (root, place) = (Inum::new(1)?, (User::FIRST, Inum::new(2)?));
+    let name = name_at(alloc, 1, b"f")?;
     let roster = two_users(alloc)?;
-    let mut forest = Forest::genesis(alloc, &roster)?;
-    let made = create(alloc, b"f", 2)?;
-    let touched = footprint(alloc, &forest, &roster, User::FIRST, &made)?;
-    let directory = (User::FIRST, Inum::new(1)?);
-    let place = (User::FIRST, Inum::new(2)?);
+    let forest = Forest::genesis(alloc, &roster)?;
+    let touched = touched(alloc, &forest, &roster, create(alloc, b"f", 2))?;
     assert_eq!(rt; touched.writes.len(), 4);
-    assert!(rt; touched.writes[0] == Area::Inode(directory, Part::Name(Name::new(alloc, b"f")?)));
+    assert!(rt; touched.writes[0] == name);
     assert!(rt; touched.writes[3] == Area::Inode(place, Part::Size));
     assert_eq!(rt; touched.reads.len(), 6);
-    assert!(rt; touched.reads[1] == Area::Entry((Group::FIRST, Inum::new(1)?)));
-    apply(alloc, &mut forest, &roster, User::FIRST, &made)?;
-    let refused = footprint(alloc, &forest, &roster, User::FIRST, &made);
-    assert!(rt; refused.is_err());
-    let gone = unlink(alloc, b"f", 2)?;
-    let touched = footprint(alloc, &forest, &roster, User::FIRST, &gone)?;
-    assert_eq!(rt; touched.writes.len(), 2);
-    assert!(rt; touched.writes[1] == Area::Inode(place, Part::Whole));
+    assert!(rt; touched.reads[1] == Area::Entry((Group::FIRST, root)));
     operations_are_local();
     table_of_cells();
+    Ok(())
+}
+
+#[test]
+fn the_last_unlink_writes_the_whole_inode(rt: HostRuntime) -> Result<(), Fail> {
+    let alloc = rt.alloc();
+    let place = (User::FIRST, Inum::new(2)?);
+    let roster = two_users(alloc)?;
+    let mut forest = Forest::genesis(alloc, &roster)?;
+    make(alloc, &mut forest, &roster, create(alloc, b"f", 2))?;
+    assert!(rt; touched(alloc, &forest, &roster, create(alloc, b"f", 2)).is_err());
+    let touched = touched(alloc, &forest, &roster, unlink(alloc, b"f", 2))?;
+    assert_eq!(rt; touched.writes.len(), 2);
+    assert!(rt; touched.writes[1] == Area::Inode(place, Part::Whole));
     Ok(())
 }
 
@@ -194,29 +235,37 @@ fn two_files(alloc: Global, roster: &Roster) -> Result<Forest, Refusal> {
     Ok(forest)
 }
 
+/// The size of file 2 of user 0 after a further operation.
+fn size_after(
+    alloc: Global,
+    forest: &mut Forest,
+    roster: &Roster,
+    op: Result<Op, Refusal>,
+) -> Result<usize, Refusal> {
+    make(alloc, forest, roster, op)?;
+    let file: FileId = own(0, 2)?;
+    Ok(forest.read(file)?.len())
+}
+
 #[test]
 fn bytes_are_written_and_cut(rt: HostRuntime) -> Result<(), Fail> {
     let alloc = rt.alloc();
+    let file = own(0, 2)?;
     let roster = two_users(alloc)?;
     let mut forest = two_files(alloc, &roster)?;
-    let author = User::FIRST;
-    let file = own(0, 2)?;
-    let steps = [
-        (write(alloc, file, 2, 3)?, 5),
-        (truncate(file, 4), 4),
-        (write(alloc, file, 0, LARGEST_WRITE)?, 65_536),
-        (truncate(file, LARGEST_FILE), 1_048_576),
-        (write(alloc, file, LARGEST_FILE - 1, 1)?, 1_048_576),
-        (truncate(file, 0), 0),
-    ];
-    for (op, size) in &steps {
-        apply(alloc, &mut forest, &roster, author, op)?;
-        assert_eq!(rt; forest.read(file)?.len(), *size);
+    for (off, count, size) in [(2, 3, 5), (0, LARGEST_WRITE, 65_536)] {
+        let written = write(alloc, file, off, count);
+        assert_eq!(rt; size_after(alloc, &mut forest, &roster, written)?, size);
     }
-    let few = write(alloc, file, 2, 3)?;
-    apply(alloc, &mut forest, &roster, author, &few)?;
-    let bytes = forest.read(file)?;
-    assert_eq!(rt; bytes.as_slice(), [0u8, 0, 7, 7, 7].as_slice());
+    for size in [4, LARGEST_FILE, 0] {
+        let cut = size_after(alloc, &mut forest, &roster, Ok(truncate(file, size)))?;
+        assert_eq!(rt; cut, size as usize);
+    }
+    let gap = write(alloc, file, 2, 3);
+    assert_eq!(rt; size_after(alloc, &mut forest, &roster, gap)?, 5);
+    assert_eq!(rt; forest.read(file)?.as_slice(), [0u8, 0, 7, 7, 7].as_slice());
+    let end = write(alloc, file, LARGEST_FILE - 1, 1);
+    assert_eq!(rt; size_after(alloc, &mut forest, &roster, end)?, 1_048_576);
     Ok(())
 }
 

@@ -1,5 +1,5 @@
 // Files of groups: made, gone with their last name, and taken over.
-use super::{own, root, two_users, write};
+use super::{make, root, touched, two_users, write};
 use crate::{Area, Create, Op, Part, Take, Unlink, apply, footprint};
 use std::alloc::Global;
 use std::test::Fail;
@@ -21,31 +21,44 @@ fn create(alloc: Global) -> Result<Op, Refusal> {
     }))
 }
 
+/// The only name of the group file is taken away.
+fn unlink(alloc: Global) -> Result<Op, Refusal> {
+    Ok(Op::Unlink(Unlink {
+        dir: root()?,
+        name: Name::new(alloc, b"a")?,
+        file: shared()?,
+    }))
+}
+
 #[test]
 fn a_group_file_comes_and_goes(rt: HostRuntime) -> Result<(), Fail> {
     let alloc = rt.alloc();
+    let file = shared()?;
+    let place = (User::FIRST, Inum::new(5)?);
     let roster = two_users(alloc)?;
     let mut forest = Forest::genesis(alloc, &roster)?;
-    let author = User::FIRST;
-    let file = shared()?;
-    let made = create(alloc)?;
-    let touched = footprint(alloc, &forest, &roster, author, &made)?;
-    assert_eq!(rt; touched.writes.len(), 5);
-    assert!(rt; touched.writes[4] == Area::Entry((Group::FIRST, Inum::new(2)?)));
-    apply(alloc, &mut forest, &roster, author, &made)?;
-    assert!(rt; forest.body(file) == Some((author, Inum::new(5)?)));
-    let gone = Op::Unlink(Unlink {
-        dir: root()?,
-        name: Name::new(alloc, b"a")?,
-        file,
-    });
-    let touched = footprint(alloc, &forest, &roster, author, &gone)?;
-    assert_eq!(rt; touched.writes.len(), 3);
-    assert!(rt; touched.writes[1] == Area::Entry((Group::FIRST, Inum::new(2)?)));
-    assert!(rt; touched.writes[2] == Area::Inode((author, Inum::new(5)?), Part::Whole));
-    apply(alloc, &mut forest, &roster, author, &gone)?;
+    make(alloc, &mut forest, &roster, create(alloc))?;
+    assert!(rt; forest.body(file) == Some(place));
+    make(alloc, &mut forest, &roster, unlink(alloc))?;
     assert!(rt; forest.body(file).is_none());
-    assert!(rt; forest.is_free((author, Inum::new(5)?)));
+    assert!(rt; forest.is_free(place));
+    Ok(())
+}
+
+#[test]
+fn a_group_file_has_its_entry_written(rt: HostRuntime) -> Result<(), Fail> {
+    let alloc = rt.alloc();
+    let (number, place) = (Inum::new(2)?, (User::FIRST, Inum::new(5)?));
+    let roster = two_users(alloc)?;
+    let mut forest = Forest::genesis(alloc, &roster)?;
+    let made = touched(alloc, &forest, &roster, create(alloc))?;
+    assert_eq!(rt; made.writes.len(), 5);
+    assert!(rt; made.writes[4] == Area::Entry((Group::FIRST, number)));
+    make(alloc, &mut forest, &roster, create(alloc))?;
+    let gone = touched(alloc, &forest, &roster, unlink(alloc))?;
+    assert_eq!(rt; gone.writes.len(), 3);
+    assert!(rt; gone.writes[1] == Area::Entry((Group::FIRST, number)));
+    assert!(rt; gone.writes[2] == Area::Inode(place, Part::Whole));
     Ok(())
 }
 
@@ -56,11 +69,10 @@ fn take(file: FileId, body: u64) -> Result<Op, Refusal> {
 
 /// User 0 has made the file, and written three bytes.
 fn one_file(alloc: Global, roster: &Roster) -> Result<Forest, Refusal> {
+    let file = shared()?;
     let mut forest = Forest::genesis(alloc, roster)?;
-    let made = create(alloc)?;
-    apply(alloc, &mut forest, roster, User::FIRST, &made)?;
-    let written = write(alloc, shared()?, 0, 3)?;
-    apply(alloc, &mut forest, roster, User::FIRST, &written)?;
+    make(alloc, &mut forest, roster, create(alloc))?;
+    make(alloc, &mut forest, roster, write(alloc, file, 0, 3))?;
     Ok(forest)
 }
 

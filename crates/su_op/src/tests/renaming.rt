@@ -1,9 +1,10 @@
 // Other names of files: what a rename does.
 use super::scenes::{Files, Scene, place};
-use crate::{Area, Op, Part, Rename, apply, footprint};
+use super::{make, name_at, touched};
+use crate::{Area, Op, Part, Rename};
 use std::alloc::Global;
 use std::test::Fail;
-use su_bytes::{FileId, Name, Refusal, User};
+use su_bytes::{FileId, Name, Refusal};
 
 fn rename(
     alloc: Global,
@@ -24,23 +25,37 @@ fn rename(
     }))
 }
 
+/// The file of the scene goes from the root to the directory.
+fn moved(alloc: Global, files: Files) -> Result<Op, Refusal> {
+    rename(alloc, files.root, b"f", files.directory, b"g", files.file)
+}
+
 #[test]
 fn a_file_goes_to_another_directory(rt: HostRuntime) -> Result<(), Fail> {
     let alloc = rt.alloc();
-    let mut scene = Scene::new(alloc)?;
     let files = Files::new()?;
-    let op = rename(alloc, files.root, b"f", files.directory, b"g", files.file)?;
-    let touched = footprint(alloc, &scene.forest, &scene.roster, User::FIRST, &op)?;
-    let (old_, new_) = (Name::new(alloc, b"f")?, Name::new(alloc, b"g")?);
     let (source, target) = (place(1)?, place(7)?);
-    apply(alloc, &mut scene.forest, &scene.roster, User::FIRST, &op)?;
-    assert!(rt; scene.forest.leads_to(target, &new_, files.file));
-    assert!(rt; scene.forest.leads_to(target, &old_, files.file));
-    assert!(rt; scene.forest.is_name_free(source, &old_));
+    let (old_, new_) = (Name::new(alloc, b"f")?, Name::new(alloc, b"g")?);
+    let Scene { roster, mut forest } = Scene::new(alloc)?;
+    make(alloc, &mut forest, &roster, moved(alloc, files))?;
+    assert!(rt; forest.leads_to(target, &new_, files.file));
+    assert!(rt; forest.leads_to(target, &old_, files.file));
+    assert!(rt; forest.is_name_free(source, &old_));
+    Ok(())
+}
+
+#[test]
+fn a_rename_writes_both_names(rt: HostRuntime) -> Result<(), Fail> {
+    let alloc = rt.alloc();
+    let files = Files::new()?;
+    let file = place(2)?;
+    let (old_, new_) = (name_at(alloc, 1, b"f")?, name_at(alloc, 7, b"g")?);
+    let Scene { roster, forest } = Scene::new(alloc)?;
+    let touched = touched(alloc, &forest, &roster, moved(alloc, files))?;
     assert_eq!(rt; touched.writes.len(), 2);
-    assert!(rt; touched.writes[0] == Area::Inode(target, Part::Name(new_)));
-    assert!(rt; touched.writes[1] == Area::Inode(source, Part::Name(old_)));
+    assert!(rt; touched.writes[0] == new_);
+    assert!(rt; touched.writes[1] == old_);
     assert_eq!(rt; touched.reads.len(), 6);
-    assert!(rt; touched.reads[3] == Area::Inode(place(2)?, Part::Kind));
+    assert!(rt; touched.reads[3] == Area::Inode(file, Part::Kind));
     Ok(())
 }
