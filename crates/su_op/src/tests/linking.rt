@@ -30,15 +30,18 @@ fn a_link_goes_and_the_file_stays(rt: HostRuntime) -> Result<(), Fail> {
 fn a_link_writes_a_name_and_the_links(rt: HostRuntime) -> Result<(), Fail> {
     let alloc = rt.alloc();
     let files = Files::new()?;
-    let file = place(2)?;
     let name = name_at(alloc, 1, b"g")?;
+    let (links, kind) = (
+        Area::Inode(place(2)?, Part::Links),
+        Area::Inode(place(2)?, Part::Kind),
+    );
     let Scene { roster, forest } = Scene::new(alloc)?;
     let linked = link(alloc, files.root, b"g", files.file);
     let touched = touched(alloc, &forest, &roster, linked)?;
     assert_eq!(rt; touched.writes.len(), 2);
     assert!(rt; touched.writes[0] == name);
-    assert!(rt; touched.writes[1] == Area::Inode(file, Part::Links));
+    assert!(rt; touched.writes[1] == links);
     assert_eq!(rt; touched.reads.len(), 5);
-    assert!(rt; touched.reads[2] == Area::Inode(file, Part::Kind));
+    assert!(rt; touched.reads[2] == kind);
     Ok(())
 }
