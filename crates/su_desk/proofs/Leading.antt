@@ -22,6 +22,7 @@ use Rattle.su_desk.specs.declared.kept.KeptOperation.{KeptOperation}
 use Rattle.su_desk.specs.History.{Turn, live, live_numbers, replay, tree, entry_at, last_of, last_live}
 use Rattle.su_desk.specs.Applied.{reads_of, writes_of, written}
 use Rattle.su_desk.specs.Answer.{blocker, undo_refusal}
+use Rattle.su_desk.specs.Commuting.{action}
 use Rattle.su_desk.specs.Keeping.{Fits, Leads, Keeps}
 use Rattle.su_desk.proofs.Turns.{live-do}
 use Rattle.su_desk.proofs.Applying.{StandsAs, AllStand, written_of}
@@ -151,7 +152,7 @@ module _ (ro : Membership) where
         writes = fits.writes ∙ sym b.goes.writes;
         areas = fits.areas;
         kept = kept_again k.inverse S S' (record {
-          cells = λ c is. b.agree c ((store_lawful ro).apart (reads ro S t.author t.op) w c b.clear ((store_lawful ro).within S (record { author = t.author; op = t.op }) c b.sound (ap is_none fits.accepted) (wrote c is)));
+          cells = λ c is. b.agree c ((store_lawful ro).apart (reads ro S t.author t.op) w c b.clear ((store_lawful ro).within S (action t) c b.sound (ap is_none fits.accepted) (wrote c is)));
           files = λ p n is. files_alike ro S S' t w b.sound b.sound' fits.accepted b.clear b.agree b.goes p n (wrote (At p (BlockOf n)) is);
         }) fits.kept;
       }
@@ -189,7 +190,7 @@ module _ (ro : Membership) where
           kept = kept_again k.inverse S (led_to ro S ts) (record {
             cells = λ c is. inside c (sym (same c) ∙ is);
             files = λ p n is. file_back S (led_to ro S ts) t p inside (λ file. files p n (sym (same (At p (BlockOf n))) ∙ is) file)
-                (block_written ro S (record { author = t.author; op = t.op }) p n sound (ap is_none fits.accepted) (sym (same (At p (BlockOf n))) ∙ is));
+                (block_written ro S (action t) p n sound (ap is_none fits.accepted) (sym (same (At p (BlockOf n))) ∙ is));
           }) fits.kept;
           others = λ c out. sym (others c (sym (same c) ∙ out) ∙ ap (λ R. val R c) ends);
         };

@@ -19,7 +19,7 @@ use Rattle.su_op.proofs.Standing.{kind_written, block_written}
 use Rattle.su_desk.specs.declared.entries.Entry.{Entry}
 use Rattle.su_desk.specs.History.{Turn, replay}
 use Rattle.su_desk.specs.Applied.{writes_of}
-use Rattle.su_desk.specs.Commuting.{Stands, GoAlike}
+use Rattle.su_desk.specs.Commuting.{action, Stands, GoAlike}
 use Rattle.su_desk.proofs.Applying.{AllStand}
 use Rattle.su_desk.proofs.Blocking.{UnreadBy}
 
@@ -39,7 +39,7 @@ FilesStay w S T = (p : Place) (n : ℕ) → w (At p (BlockOf n)) ≡ true → is
 
 module _ (ro : Membership) where
   pub stays_sound : (S : Tree) (t : Turn) → why ro S t.author t.op ≡ None → Sound S → Sound (effect ro S t.author t.op)
-  stays_sound S t accepted sound = (store_lawful ro).stays_sound S (record { author = t.author; op = t.op }) sound (ap is_none accepted)
+  stays_sound S t accepted sound = (store_lawful ro).stays_sound S (action t) sound (ap is_none accepted)
 
   -- cells that an operation doesn't read it doesn't write
   unwritten : (S : Tree) (t : Turn) (w : List Area) (c : Cell) → Sound S → why ro S t.author t.op ≡ None → meet (reads ro S t.author t.op) w ≡ false → has w c ≡ true → has (writes ro S t.author t.op) c ≡ false
@@ -48,25 +48,25 @@ module _ (ro : Membership) where
       go : (b : Bool) → has (writes ro S t.author t.op) c ≡ b → has (writes ro S t.author t.op) c ≡ false
       go false is = is
       go true is =
-          let read : has (reads ro S t.author t.op) c ≡ true = (store_lawful ro).within S (record { author = t.author; op = t.op }) c sound (ap is_none accepted) is in
+          let read : has (reads ro S t.author t.op) c ≡ true = (store_lawful ro).within S (action t) c sound (ap is_none accepted) is in
           absurd (both_ways (has w c) ((store_lawful ro).apart (reads ro S t.author t.op) w c clear read) inside)
 
   -- it goes alike in a tree that differs in such cells alone
   alike : (S S' : Tree) (t : Turn) (w : List Area) → Sound S → Sound S' → why ro S t.author t.op ≡ None → meet (reads ro S t.author t.op) w ≡ false → AgreeOut (has w) S' S
-      → GoesAlike (store ro) S S' (record { author = t.author; op = t.op })
+      → GoesAlike (store ro) S S' (action t)
   alike S S' t w sound sound' accepted clear agree =
-      (store_lawful ro).alike S S' (record { author = t.author; op = t.op }) sound sound' (ap is_none accepted) (λ c read. agree c ((store_lawful ro).apart (reads ro S t.author t.op) w c clear read))
+      (store_lawful ro).alike S S' (action t) sound sound' (ap is_none accepted) (λ c read. agree c ((store_lawful ro).apart (reads ro S t.author t.op) w c clear read))
 
   -- in both or in neither tree a file stands where it writes blocks
   pub files_alike : (S S' : Tree) (t : Turn) (w : List Area) → Sound S → Sound S' → why ro S t.author t.op ≡ None → meet (reads ro S t.author t.op) w ≡ false → AgreeOut (has w) S' S
-      → GoesAlike (store ro) S S' (record { author = t.author; op = t.op })
+      → GoesAlike (store ro) S S' (action t)
       → (p : Place) (n : ℕ) → has (writes ro S t.author t.op) (At p (BlockOf n)) ≡ true → is_file_at S' p ≡ is_file_at S p
   files_alike S S' t w sound sound' accepted clear agree goes p n wrote =
-      go (block_written ro S (record { author = t.author; op = t.op }) p n sound (ap is_none accepted) wrote)
-      (block_written ro S' (record { author = t.author; op = t.op }) p n sound' goes.ok (ap (λ a. has a (At p (BlockOf n))) goes.writes ∙ wrote))
+      go (block_written ro S (action t) p n sound (ap is_none accepted) wrote)
+      (block_written ro S' (action t) p n sound' goes.ok (ap (λ a. has a (At p (BlockOf n))) goes.writes ∙ wrote))
     where
       kind : has (writes ro S t.author t.op) (At p KindOf) ≡ true → is_file_at S' p ≡ is_file_at S p
-      kind is = ap is_file (agree (At p KindOf) ((store_lawful ro).apart (reads ro S t.author t.op) w (At p KindOf) clear ((store_lawful ro).within S (record { author = t.author; op = t.op }) (At p KindOf) sound (ap is_none accepted) is)))
+      kind is = ap is_file (agree (At p KindOf) ((store_lawful ro).apart (reads ro S t.author t.op) w (At p KindOf) clear ((store_lawful ro).within S (action t) (At p KindOf) sound (ap is_none accepted) is)))
 
       go : KindOrFile S p (has (writes ro S t.author t.op)) → KindOrFile S' p (has (writes ro S' t.author t.op)) → is_file_at S' p ≡ is_file_at S p
       go (inl is) other = kind is
@@ -88,8 +88,8 @@ module _ (ro : Membership) where
       written (inr whole) = absurd (both_ways (has (writes ro S t.author t.op) (At p (BlockOf n))) out (whole (BlockOf n)))
 
       go : (b : Bool) → has (writes ro S t.author t.op) (At p KindOf) ≡ b → is_file_at (effect ro S t.author t.op) p ≡ true
-      go false is = ap is_file ((store_lawful ro).leaves S (record { author = t.author; op = t.op }) sound (ap is_none accepted) (At p KindOf) is) ∙ file
-      go true is = written (kind_written ro S (record { author = t.author; op = t.op }) p sound (ap is_none accepted) is)
+      go false is = ap is_file ((store_lawful ro).leaves S (action t) sound (ap is_none accepted) (At p KindOf) is) ∙ file
+      go true is = written (kind_written ro S (action t) p sound (ap is_none accepted) is)
 
   -- afterwards the trees differ in the same cells alone
   differ_alike : (S S' : Tree) (t : Turn) (w : List Area) → Sound S → Sound S' → why ro S t.author t.op ≡ None → meet (reads ro S t.author t.op) w ≡ false → AgreeOut (has w) S' S
@@ -97,17 +97,17 @@ module _ (ro : Membership) where
   differ_alike S S' t w sound sound' accepted clear agree c outside = go (has (writes ro S t.author t.op) c) refl
     where
       x : Action
-      x = record { author = t.author; op = t.op }
+      x = action t
 
-      goes : GoesAlike (store ro) S S' (record { author = t.author; op = t.op })
+      goes : GoesAlike (store ro) S S' (action t)
       goes = alike S S' t w sound sound' accepted clear agree
 
       go : (b : Bool) → has (writes ro S t.author t.op) c ≡ b → val (effect ro S' t.author t.op) c ≡ val (effect ro S t.author t.op) c
       go true is = goes.values c is
       go false is =
-          (store_lawful ro).leaves S' (record { author = t.author; op = t.op }) sound' goes.ok c (ap (λ a. has a c) goes.writes ∙ is)
+          (store_lawful ro).leaves S' (action t) sound' goes.ok c (ap (λ a. has a c) goes.writes ∙ is)
           ∙ agree c outside
-          ∙ sym ((store_lawful ro).leaves S (record { author = t.author; op = t.op }) sound (ap is_none accepted) c is)
+          ∙ sym ((store_lawful ro).leaves S (action t) sound (ap is_none accepted) c is)
 
   -- ---- operations one after another
 
@@ -119,7 +119,7 @@ module _ (ro : Membership) where
     pub accepted' : why ro S' t.author t.op ≡ None
     pub clear : meet (reads ro S t.author t.op) w ≡ false
     pub agree : AgreeOut (has w) S' S
-    pub goes : GoesAlike (store ro) S S' (record { author = t.author; op = t.op })
+    pub goes : GoesAlike (store ro) S S' (action t)
 
   abbrev pub AllBeside : List Area → Tree → Tree → List Turn → Type 0
   AllBeside w S S' [] = Unit {0}
@@ -168,7 +168,7 @@ module _ (ro : Membership) where
   stay_inside w S S' [] b c is = refl
   stay_inside w S S' (t ∷ ts) (b, rest) c is =
       stay_inside w (effect ro S t.author t.op) (effect ro S' t.author t.op) ts rest c is
-      ∙ (store_lawful ro).leaves S' (record { author = t.author; op = t.op }) b.sound' (ap is_none b.accepted') c (unwritten S' t w c b.sound' b.accepted' (clear_beside w S S' t b) is)
+      ∙ (store_lawful ro).leaves S' (action t) b.sound' (ap is_none b.accepted') c (unwritten S' t w c b.sound' b.accepted' (clear_beside w S S' t b) is)
 
   -- and all others become the same
   pub same_outside : (w : List Area) (S S' : Tree) (ts : List Turn) → AgreeOut (has w) S' S → AllBeside w S S' ts → AgreeOut (has w) (led_to S' ts) (led_to S ts)
@@ -183,7 +183,7 @@ module _ (ro : Membership) where
   -- ---- an operation with those before and after it
 
   pub leaves_others : (S : Tree) (t : Turn) → why ro S t.author t.op ≡ None → Sound S → AgreeOut (has (writes ro S t.author t.op)) S (effect ro S t.author t.op)
-  leaves_others S t accepted sound c out = sym ((store_lawful ro).leaves S (record { author = t.author; op = t.op }) sound (ap is_none accepted) c out)
+  leaves_others S t accepted sound c out = sym ((store_lawful ro).leaves S (action t) sound (ap is_none accepted) c out)
 
   -- the later ones go from before it as they went from behind it
   pub past_it : (h : List Entry) (w : List Area) (S T : Tree) (t : Turn) (after : List Turn) → Sound S → Stands ro h S t → w ≡ writes ro S t.author t.op → AllStand ro h (effect ro S t.author t.op) after T → UnreadBy ro h w after
