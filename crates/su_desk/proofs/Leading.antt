@@ -3,10 +3,10 @@ use Rattle.std.proofs.Common.{◌≡◌, ℕ, ◌+◌, true, cond, inl, inr, Lis
 use Rattle.std.specs.Option.{is_none, unwrap_or}
 use Rattle.su_bytes.specs.Membership.{Membership}
 use Rattle.su_node.specs.Field.{Field.KindOf, Field.BlockOf}
-use Rattle.su_table.specs.Place.{Place}
+use Rattle.su_bytes.specs.Place.{Place}
 use Rattle.su_table.specs.Tree.{Tree, genesis}
 use Rattle.su_table.specs.Cell.{Cell, Cell.At, val}
-use Rattle.su_table.specs.Query.{is_file, is_file_at}
+use Rattle.su_table.specs.Query.{is_file_kind, is_file_at}
 use Rattle.su_op.specs.declared.areas.Area.{Area}
 use Rattle.su_op.specs.declared.operations.Op.{Op}
 use Rattle.su_op.specs.declared.operations.Change.TheVariants.{Do, Undo}
@@ -170,7 +170,7 @@ module _ (ro : Membership) where
     pub back : IsPutBack k.inverse T state
 
   file_back : (S R : Tree) (t : Turn) (p : Place) → AgreeIn (has (writes ro S t.author t.op)) R S → (is_file_at S p ≡ true → is_file_at R p ≡ true) → KindOrFile S p (has (writes ro S t.author t.op)) → is_file_at R p ≡ is_file_at S p
-  file_back S R t p inside stays (inl kind) = ap is_file (inside (At p KindOf) kind)
+  file_back S R t p inside stays (inl kind) = ap is_file_kind (inside (At p KindOf) kind)
   file_back S R t p inside stays (inr file) = stays file ∙ sym file
 
   first_out : (h : List Entry) (S T : Tree) (t : Turn) (k : KeptOperation) (ts : List Turn) (ks : List KeptOperation) → Sound S → StandsAs ro h S t → AllStand ro h (effect ro S t.author t.op) ts T → Fits ro S t k → Leads ro (effect ro S t.author t.op) ts ks T

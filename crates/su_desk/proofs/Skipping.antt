@@ -4,10 +4,10 @@ use Rattle.std.specs.Option.{is_none}
 use Rattle.std.proofs.lemmas.Bool.{both_ways}
 use Rattle.su_bytes.specs.Membership.{Membership}
 use Rattle.su_node.specs.Field.{Field.KindOf, Field.BlockOf, Value.Nothing}
-use Rattle.su_table.specs.Place.{Place}
+use Rattle.su_bytes.specs.Place.{Place}
 use Rattle.su_table.specs.Tree.{Tree}
 use Rattle.su_table.specs.Cell.{Cell, Cell.At, val}
-use Rattle.su_table.specs.Query.{is_file, is_file_at}
+use Rattle.su_table.specs.Query.{is_file_kind, is_file_at}
 use Rattle.su_op.specs.declared.areas.Area.{Area}
 use Rattle.su_op.specs.Area.{has, meet}
 use Rattle.su_op.specs.Operation.{why, effect, reads, writes}
@@ -66,7 +66,7 @@ module _ (ro : Membership) where
       (block_written ro S' (action t) p n sound' goes.ok (ap (λ a. has a (At p (BlockOf n))) goes.writes ∙ wrote))
     where
       kind : has (writes ro S t.author t.op) (At p KindOf) ≡ true → is_file_at S' p ≡ is_file_at S p
-      kind is = ap is_file (agree (At p KindOf) ((store_lawful ro).apart (reads ro S t.author t.op) w (At p KindOf) clear ((store_lawful ro).within S (action t) (At p KindOf) sound (ap is_none accepted) is)))
+      kind is = ap is_file_kind (agree (At p KindOf) ((store_lawful ro).apart (reads ro S t.author t.op) w (At p KindOf) clear ((store_lawful ro).within S (action t) (At p KindOf) sound (ap is_none accepted) is)))
 
       go : KindOrFile S p (has (writes ro S t.author t.op)) → KindOrFile S' p (has (writes ro S' t.author t.op)) → is_file_at S' p ≡ is_file_at S p
       go (inl is) other = kind is
@@ -81,14 +81,14 @@ module _ (ro : Membership) where
       out = unwritten S t w (At p (BlockOf n)) sound accepted clear inside
 
       new : val S (At p KindOf) ≡ Nothing → is_file_at (effect ro S t.author t.op) p ≡ true
-      new nothing = absurd (both_ways (is_file_at S p) (ap is_file nothing) file)
+      new nothing = absurd (both_ways (is_file_at S p) (ap is_file_kind nothing) file)
 
       written : WholeOrNew S p (has (writes ro S t.author t.op)) → is_file_at (effect ro S t.author t.op) p ≡ true
       written (inl nothing) = new nothing
       written (inr whole) = absurd (both_ways (has (writes ro S t.author t.op) (At p (BlockOf n))) out (whole (BlockOf n)))
 
       go : (b : Bool) → has (writes ro S t.author t.op) (At p KindOf) ≡ b → is_file_at (effect ro S t.author t.op) p ≡ true
-      go false is = ap is_file ((store_lawful ro).leaves S (action t) sound (ap is_none accepted) (At p KindOf) is) ∙ file
+      go false is = ap is_file_kind ((store_lawful ro).leaves S (action t) sound (ap is_none accepted) (At p KindOf) is) ∙ file
       go true is = written (kind_written ro S (action t) p sound (ap is_none accepted) is)
 
   -- afterwards the trees differ in the same cells alone

@@ -6,7 +6,7 @@ use Rattle.su_bytes.specs.Principal.{principals}
 use Rattle.su_bytes.specs.declared.principals.Principal.{Principal}
 use Rattle.su_bytes.specs.declared.principals.Principal.TheVariants.{User, Group}
 use Rattle.su_op.specs.declared.areas.Area.{Area}
-use Rattle.su_op.specs.declared.areas.Area.TheVariants.{Inode as InodeArea, Entry as EntryArea}
+use Rattle.su_op.specs.declared.areas.Area.TheVariants.{Inode as InodeArea, Pointer as PointerArea}
 use Rattle.su_op.specs.declared.operations.Change.{Change}
 use Rattle.su_op.specs.declared.operations.Change.TheVariants.{Do, Undo}
 use Rattle.su_op.specs.Operation.{writes}
@@ -14,13 +14,13 @@ use Rattle.su_desk.specs.declared.entries.Entry.{Entry}
 use Rattle.su_desk.specs.Applied.{tree_after, written}
 
 -- the area is an entry of group g
-abbrev pub is_entry_of : ℕ → Area → Bool
-is_entry_of g (InodeArea p a) = false
-is_entry_of g (EntryArea k) = nat_eq k.0 g
+abbrev pub is_pointer_of : ℕ → Area → Bool
+is_pointer_of g (InodeArea p a) = false
+is_pointer_of g (PointerArea k) = nat_eq k.0 g
 
 -- what is written has an entry of group g
 abbrev pub carries : ℕ → List Area → Bool
-carries g w = list_any (is_entry_of g) w
+carries g w = list_any (is_pointer_of g) w
 
 -- what the cells are of a change by user a after a history: those that the operation writes, or those that the operation
 -- wrote that it undoes

@@ -2,7 +2,7 @@
 ghost use Rattle.std.specs.Prelude.{◌≡◌, ◌+◌, ◌<◌, ◌^◌, [], map, IfOk, IfErr};
 ghost use Rattle.std.specs.List.{All};
 ghost use Rattle.su_bytes.specs.declared.refusals.Refusal.TheVariants.{NoMemory};
-ghost use Rattle.su_desk.specs.Version.{is_entry_of, carries, raises, raised, versions};
+ghost use Rattle.su_desk.specs.Version.{is_pointer_of, carries, raises, raised, versions};
 
 use std::alloc::Global;
 use su_bytes::{Group, Principal, Refusal, Roster, User};
@@ -50,14 +50,14 @@ fn raises(principal: Principal, author: User, written: &[Area]) -> bool
 fn carries(written: &[Area], group: Group) -> bool
     ensures { result ≡ carries group written.now }
 {
-    written.iter().any(|area| is_entry_of(area, group))
+    written.iter().any(|area| is_pointer_of(area, group))
 }
 
-fn is_entry_of(area: &Area, group: Group) -> bool
-    ensures { result ≡ is_entry_of group area.now }
+fn is_pointer_of(area: &Area, group: Group) -> bool
+    ensures { result ≡ is_pointer_of group area.now }
 {
     match area {
         Area::Inode(..) => false,
-        Area::Entry(file) => file.0 == group,
+        Area::Pointer(file) => file.0 == group,
     }
 }

@@ -7,21 +7,21 @@ use Rattle.std.specs.FinMap.{get}
 use Rattle.std.proofs.lemmas.Bool.{or_left, or_right, and_from}
 use Rattle.su_node.specs.Inode.{Inode, Content, Content.Bytes, Content.Names, bytes_of, within}
 use Rattle.su_node.specs.Field.{Field, Field.KindOf, Field.LinksOf, Field.SizeOf, Field.BlockOf, Field.NameOf, Value.Nothing, block, field_value}
-use Rattle.su_table.specs.Place.{Place}
+use Rattle.su_bytes.specs.Place.{Place}
 use Rattle.su_table.specs.Tree.{Tree}
-use Rattle.su_table.specs.Cell.{Cell, Cell.At, Cell.Entry, val}
-use Rattle.su_table.specs.Query.{is_file}
+use Rattle.su_table.specs.Cell.{Cell, Cell.At, Cell.Pointer, val}
+use Rattle.su_table.specs.Query.{is_file_kind}
 use Rattle.su_op.specs.declared.areas.Part.{Part}
 use Rattle.su_op.specs.declared.areas.Part.TheVariants.{Kind as KindPart, Links as LinksPart, Size as SizePart, Name as NamePart, Blocks as BlocksPart, Whole as WholePart}
 use Rattle.su_op.specs.declared.areas.BlockRun.{BlockRun}
 use Rattle.su_op.specs.declared.areas.Area.{Area}
-use Rattle.su_op.specs.declared.areas.Area.TheVariants.{Inode as InodeArea, Entry as EntryArea}
+use Rattle.su_op.specs.declared.areas.Area.TheVariants.{Inode as InodeArea, Pointer as PointerArea}
 use Rattle.su_op.specs.Area.{in_part, in_area, has}
 use Rattle.su_op.proofs.Orders.{place_eq-itself, name_eq-itself}
 use Rattle.su_op.proofs.Blocks.{block_value_same}
 use Rattle.su_op.proofs.Changes.{inode_same}
 use Rattle.su_inverse.specs.declared.returns.Return.{Return}
-use Rattle.su_inverse.specs.declared.returns.Return.TheVariants.{Inode as InodeReturn, Name as NameReturn, Entry as EntryReturn}
+use Rattle.su_inverse.specs.declared.returns.Return.TheVariants.{Inode as InodeReturn, Name as NameReturn, Pointer as PointerReturn}
 use Rattle.su_inverse.specs.declared.resets.Reset.{Reset}
 use Rattle.su_inverse.specs.declared.resets.Reset.TheVariants.{Nothing as NothingReset, Links as LinksReset}
 use Rattle.su_inverse.specs.declared.contents.KeptSize.{KeptSize}
@@ -65,7 +65,7 @@ field_again S T p a f is same = same.cells (At p f) (in_inode p a f is)
 return_again : (S T : Tree) (r : Return) → HoldsSame (in_area (return_area r)) S T → HoldsReturn S r → HoldsReturn T r
 return_again S T (InodeReturn p i) same held = inode_same (get T.inodes p) (get S.inodes p) (λ f. field_again S T p WholePart f refl same) ∙ held
 return_again S T (NameReturn p x f) same held = same.cells (At p (NameOf x)) (in_inode p (NamePart x) (NameOf x) (name_eq-itself x)) ∙ held
-return_again S T (EntryReturn g p) same held = same.cells (Entry g) (place_eq-itself g) ∙ held
+return_again S T (PointerReturn g p) same held = same.cells (Pointer g) (place_eq-itself g) ∙ held
 
 size_again : (S T : Tree) (k : KeptSize) → HoldsSame (in_area (size_area k)) S T → HoldsSize S k → HoldsSize T k
 size_again S T k same held = same.cells (At k.place SizeOf) (in_inode k.place SizePart SizeOf refl) ∙ held
@@ -84,24 +84,24 @@ some_links i e = cc
 some_size : (i : Inode) → field_value (Some i) SizeOf ≡ Nothing → ⊥
 some_size i e = cc
 
-no_bytes : (o q : Option Inode) → is_file (field_value o KindOf) ≡ is_file (field_value q KindOf) → bytes_of q ≡ None → bytes_of o ≡ None
+no_bytes : (o q : Option Inode) → is_file_kind (field_value o KindOf) ≡ is_file_kind (field_value q KindOf) → bytes_of q ≡ None → bytes_of o ≡ None
 no_bytes None q e none = refl
 no_bytes (Some i) q e none = go i.content (is_none q none) e
   where
-    is_none : (q : Option Inode) → bytes_of q ≡ None → is_file (field_value q KindOf) ≡ false
+    is_none : (q : Option Inode) → bytes_of q ≡ None → is_file_kind (field_value q KindOf) ≡ false
     is_none None none = refl
     is_none (Some j) none = kind j.content none
       where
-        kind : (c : Content) → bytes_of (Some (record { home = j.home; links = j.links; content = c })) ≡ None → is_file (field_value (Some (record { home = j.home; links = j.links; content = c })) KindOf) ≡ false
+        kind : (c : Content) → bytes_of (Some (record { home = j.home; links = j.links; content = c })) ≡ None → is_file_kind (field_value (Some (record { home = j.home; links = j.links; content = c })) KindOf) ≡ false
         kind (Bytes bs) e = absurd (let bad : Some bs ≡ None = e in cc)
         kind (Names m) e = refl
 
-    go : (c : Content) → is_file (field_value q KindOf) ≡ false → is_file (field_value (Some (record { home = i.home; links = i.links; content = c })) KindOf) ≡ is_file (field_value q KindOf)
+    go : (c : Content) → is_file_kind (field_value q KindOf) ≡ false → is_file_kind (field_value (Some (record { home = i.home; links = i.links; content = c })) KindOf) ≡ is_file_kind (field_value q KindOf)
         → bytes_of (Some (record { home = i.home; links = i.links; content = c })) ≡ None
     go (Bytes bs) is e = absurd (let bad : true ≡ false = e ∙ is in cc)
     go (Names m) is e = refl
 
-files_there : (S T : Tree) (p : Place) (r : BlockRun) → HoldsSame (in_area (InodeArea p (BlocksPart r))) S T → is_file (field_value (get T.inodes p) KindOf) ≡ is_file (field_value (get S.inodes p) KindOf)
+files_there : (S T : Tree) (p : Place) (r : BlockRun) → HoldsSame (in_area (InodeArea p (BlocksPart r))) S T → is_file_kind (field_value (get T.inodes p) KindOf) ≡ is_file_kind (field_value (get S.inodes p) KindOf)
 unfolding val
 files_there S T p r same = same.files p r.first (in_inode p (BlocksPart r) (BlockOf r.first) (in_blocks r))
 
@@ -116,7 +116,7 @@ nothing_again S T (InodeArea p KindPart) same held = same.cells (At p KindOf) (i
 nothing_again S T (InodeArea p WholePart) same held = same.cells (At p KindOf) (in_inode p WholePart KindOf refl) ∙ held
 nothing_again S T (InodeArea p LinksPart) same held = kind_gone S T p LinksPart LinksOf refl some_links same held
 nothing_again S T (InodeArea p SizePart) same held = kind_gone S T p SizePart SizeOf refl some_size same held
-nothing_again S T (EntryArea g) same held = same.cells (Entry g) (place_eq-itself g) ∙ held
+nothing_again S T (PointerArea g) same held = same.cells (Pointer g) (place_eq-itself g) ∙ held
 
 reset_again : (S T : Tree) (r : Reset) → HoldsSame (in_area (reset_area r)) S T → HoldsReset S r → HoldsReset T r
 reset_again S T (NothingReset a) same held = nothing_again S T a same held
@@ -146,18 +146,18 @@ blocks_same (suc more) n bs cs same =
     ∙ sym (first_block n more cs)
 
 -- of two inodes, of which the second is a file with these bytes
-bytes_again : (r : BlockRun) (xs : List ℕ) (o q : Option Inode) → is_file (field_value o KindOf) ≡ is_file (field_value q KindOf) → ((m : ℕ) → r.first ≤ m → m ≤ r.first + r.more → field_value o (BlockOf m) ≡ field_value q (BlockOf m))
+bytes_again : (r : BlockRun) (xs : List ℕ) (o q : Option Inode) → is_file_kind (field_value o KindOf) ≡ is_file_kind (field_value q KindOf) → ((m : ℕ) → r.first ≤ m → m ≤ r.first + r.more → field_value o (BlockOf m) ≡ field_value q (BlockOf m))
     → option_map (within (4096 * r.first) (4096 * (r.more + 1))) (bytes_of q) ≡ Some xs → option_map (within (4096 * r.first) (4096 * (r.more + 1))) (bytes_of o) ≡ Some xs
 bytes_again r xs o None file each held = absurd (let bad : None ≡ Some xs = held in cc)
 bytes_again r xs None (Some j) file each held = go j.content file held
   where
-    go : (c : Content) → false ≡ is_file (field_value (Some (record { home = j.home; links = j.links; content = c })) KindOf)
+    go : (c : Content) → false ≡ is_file_kind (field_value (Some (record { home = j.home; links = j.links; content = c })) KindOf)
         → option_map (within (4096 * r.first) (4096 * (r.more + 1))) (bytes_of (Some (record { home = j.home; links = j.links; content = c }))) ≡ Some xs → option_map (within (4096 * r.first) (4096 * (r.more + 1))) None ≡ Some xs
     go (Bytes bs) file held = absurd (let bad : false ≡ true = file in cc)
     go (Names m) file held = held
 bytes_again r xs (Some i) (Some j) file each held = go i.content j.content file each held
   where
-    go : (c d : Content) → is_file (field_value (Some (record { home = i.home; links = i.links; content = c })) KindOf) ≡ is_file (field_value (Some (record { home = j.home; links = j.links; content = d })) KindOf)
+    go : (c d : Content) → is_file_kind (field_value (Some (record { home = i.home; links = i.links; content = c })) KindOf) ≡ is_file_kind (field_value (Some (record { home = j.home; links = j.links; content = d })) KindOf)
         → ((m : ℕ) → r.first ≤ m → m ≤ r.first + r.more → field_value (Some (record { home = i.home; links = i.links; content = c })) (BlockOf m) ≡ field_value (Some (record { home = j.home; links = j.links; content = d })) (BlockOf m))
         → option_map (within (4096 * r.first) (4096 * (r.more + 1))) (bytes_of (Some (record { home = j.home; links = j.links; content = d }))) ≡ Some xs → option_map (within (4096 * r.first) (4096 * (r.more + 1))) (bytes_of (Some (record { home = i.home; links = i.links; content = c }))) ≡ Some xs
     go (Bytes bs) (Bytes cs) file each held = ap Some (blocks_same r.more r.first bs cs (λ m low high. block_value_same (block m bs) (block m cs) (each m low high))) ∙ held

@@ -1,4 +1,4 @@
--- What a tree holds in an area, seen by its inodes and entries.
+-- What a tree holds in an area, seen by its inodes and pointers.
 use Rattle.std.proofs.Common.{◌≡◌, ℕ, true, Option, Some, None, refl, sym, ap, ◌∙◌}
 use Rattle.std.specs.FinMap.{get}
 use Rattle.su_bytes.specs.declared.file_ids.FileId.{FileId}
@@ -6,10 +6,10 @@ use Rattle.su_bytes.specs.declared.file_ids.FileId.TheVariants.{Group}
 use Rattle.su_node.specs.Name.{Name}
 use Rattle.su_node.specs.Inode.{Inode, Content, Content.Bytes, Content.Names, bytes_of}
 use Rattle.su_node.specs.Field.{Field, Field.KindOf, Field.NameOf, Value, file_value, field_value}
-use Rattle.su_table.specs.Place.{Place}
+use Rattle.su_bytes.specs.Place.{Place}
 use Rattle.su_table.specs.Tree.{Tree}
-use Rattle.su_table.specs.Cell.{Cell.At, Cell.Entry, place_value, val}
-use Rattle.su_table.specs.Query.{is_free_at, entry_body, body}
+use Rattle.su_table.specs.Cell.{Cell.At, Cell.Pointer, place_value, val}
+use Rattle.su_table.specs.Query.{is_free_at, pointer_body, body}
 use Rattle.su_table.specs.Edit.{name_in}
 use Rattle.su_op.specs.declared.areas.Part.{Part}
 use Rattle.su_op.specs.declared.areas.Part.TheVariants.{Kind as KindPart, Links as LinksPart, Size as SizePart, Name as NamePart, Blocks as BlocksPart, Whole as WholePart}
@@ -34,17 +34,17 @@ pub occupied : {P : Type 0} (T : Tree) (p : Place) (i : Inode) → Some i ≡ ge
 unfolding val
 occupied T p i is free = absurd (let e = ap (λ o. field_value o KindOf) is in cc)
 
-entry_is : (v : Value) (o : Option Place) → o ≡ entry_body v → v ≡ place_value (entry_body v) → v ≡ place_value o
-entry_is v o e d = d ∙ ap place_value (sym e)
+pointer_is : (v : Value) (o : Option Place) → o ≡ pointer_body v → v ≡ place_value (pointer_body v) → v ≡ place_value o
+pointer_is v o e d = d ∙ ap place_value (sym e)
 
-place_value_back : (o : Option Place) → place_value o ≡ place_value (entry_body (place_value o))
+place_value_back : (o : Option Place) → place_value o ≡ place_value (pointer_body (place_value o))
 place_value_back None = refl
 place_value_back (Some p) = refl
 
--- the body of a group file is what its entry says
-pub entry_at : (T : Tree) (g k : ℕ) (o : Option Place) → o ≡ body T (Group g k) → val T (Entry (g, k)) ≡ place_value o
+-- the body of a group file is what its pointer says
+pub pointer_at : (T : Tree) (g k : ℕ) (o : Option Place) → o ≡ body T (Group g k) → val T (Pointer (g, k)) ≡ place_value o
 unfolding val body
-entry_at T g k o is = entry_is (place_value (get T.entries (g, k))) o is (place_value_back (get T.entries (g, k)))
+pointer_at T g k o is = pointer_is (place_value (get T.pointers (g, k))) o is (place_value_back (get T.pointers (g, k)))
 
 place_value_is : (o q : Option Place) → place_value o ≡ place_value q → o ≡ q
 place_value_is None None e = refl
@@ -52,9 +52,9 @@ place_value_is None (Some q) e = absurd cc
 place_value_is (Some p) None e = absurd cc
 place_value_is (Some p) (Some q) e = cc
 
-pub entry_in : (T : Tree) (g k : ℕ) (o : Option Place) → o ≡ body T (Group g k) → o ≡ get T.entries (g, k)
+pub pointer_in : (T : Tree) (g k : ℕ) (o : Option Place) → o ≡ body T (Group g k) → o ≡ get T.pointers (g, k)
 unfolding val
-entry_in T g k o is = place_value_is o (get T.entries (g, k)) (sym (entry_at T g k o is))
+pointer_in T g k o is = place_value_is o (get T.pointers (g, k)) (sym (pointer_at T g k o is))
 
 file_value_is : (o q : Option FileId) → file_value o ≡ file_value q → o ≡ q
 file_value_is None None e = refl

@@ -7,20 +7,20 @@ use Rattle.std.specs.List.{AllByRecursion}
 use Rattle.std.specs.FinMap.{FinMap, get}
 use Rattle.su_node.specs.Inode.{Inode, Content, Content.Bytes, Content.Names, bytes_of, within}
 use Rattle.su_node.specs.Field.{Field, Field.KindOf, Field.SizeOf, Value.Nothing, Value.ANumber, field_value}
-use Rattle.su_node.specs.Change.{Change.Resized, Change.Written, change, resized, set_key}
+use Rattle.su_node.specs.InodeChange.{InodeChange.Resized, InodeChange.Written, inode_after, with_size, set_key}
 use Rattle.su_node.proofs.Maps.{set_key-get, set_key-set_key}
-use Rattle.su_table.specs.Place.{Place, place_cmp, place_eq}
+use Rattle.su_bytes.specs.Place.{Place, place_cmp, place_eq}
 use Rattle.su_table.specs.Tree.{Tree}
 use Rattle.su_table.specs.Cell.{Cell, Cell.At, val}
-use Rattle.su_table.specs.Query.{number_of, size_at}
+use Rattle.su_table.specs.Query.{value_number, size_at}
 use Rattle.su_table.specs.Edit.{Edit.Inodes, edit}
 use Rattle.su_table.proofs.Places.{place_cmp_total, place_cmp_exact}
 use Rattle.su_op.specs.declared.areas.Part.TheVariants.{Kind as KindPart, Links as LinksPart, Size as SizePart, Name as NamePart, Blocks as BlocksPart, Whole as WholePart}
 use Rattle.su_op.specs.declared.areas.Area.{Area}
-use Rattle.su_op.specs.declared.areas.Area.TheVariants.{Inode as InodeArea, Entry as EntryArea}
+use Rattle.su_op.specs.declared.areas.Area.TheVariants.{Inode as InodeArea, Pointer as PointerArea}
 use Rattle.su_op.specs.Area.{in_area, has}
 use Rattle.su_op.proofs.Orders.{place_eq-same, place_eq-itself, get-set_place}
-use Rattle.su_op.proofs.Blocks.{length-resized, get_or-resized, resized_same}
+use Rattle.su_op.proofs.Blocks.{length-with_size, get_or-with_size, resized_same}
 use Rattle.su_op.proofs.Changes.{number_same}
 use Rattle.su_inverse.specs.declared.resets.Reset.{Reset}
 use Rattle.su_inverse.specs.declared.resets.Reset.TheVariants.{Nothing as NothingReset, Links as LinksReset}
@@ -68,7 +68,7 @@ module _ (T : Tree) (p : Place) where
 
   kind_at : (r : Reset) → HoldsReset T r → in_area (widened (reset_area r)) (At p KindOf) ≡ true → val T (At p KindOf) ≡ Nothing
   kind_at (LinksReset q n) held e = absurd (no_and (place_eq p q) e)
-  kind_at (NothingReset (EntryArea g)) held e = absurd cc
+  kind_at (NothingReset (PointerArea g)) held e = absurd cc
   kind_at (NothingReset (InodeArea q KindPart)) held e = nothing_there q (fst (place_eq p q) e) held
   kind_at (NothingReset (InodeArea q WholePart)) held e = nothing_there q (fst (place_eq p q) e) held
   kind_at (NothingReset (InodeArea q LinksPart)) held e = absurd (no_and (place_eq p q) e)
@@ -78,7 +78,7 @@ module _ (T : Tree) (p : Place) where
 
   size_at_left : (r : Reset) → HoldsReset T r → in_area (widened (reset_area r)) (At p SizeOf) ≡ true → val T (At p KindOf) ≡ Nothing
   size_at_left (LinksReset q n) held e = absurd (no_and (place_eq p q) e)
-  size_at_left (NothingReset (EntryArea g)) held e = absurd cc
+  size_at_left (NothingReset (PointerArea g)) held e = absurd cc
   size_at_left (NothingReset (InodeArea q KindPart)) held e = nothing_there q (fst (place_eq p q) e) held
   size_at_left (NothingReset (InodeArea q WholePart)) held e = nothing_there q (fst (place_eq p q) e) held
   size_at_left (NothingReset (InodeArea q LinksPart)) held e = absurd (no_and (place_eq p q) e)
@@ -129,39 +129,39 @@ kind_right T k zs i held size = go (has (left_sizes zs i) (At k.place KindOf)) r
 -- ---- lengths of files
 
 length_of : Option Inode → ℕ
-length_of o = number_of (field_value o SizeOf)
+length_of o = value_number (field_value o SizeOf)
 
-resize_itself_at : (o : Option Inode) (s n : ℕ) → length_of o ≡ n → change (Resized s n) o ≡ o
+resize_itself_at : (o : Option Inode) (s n : ℕ) → length_of o ≡ n → inode_after (Resized s n) o ≡ o
 unfolding length_of
 resize_itself_at None s n e = refl
 resize_itself_at (Some i) s n e = go i.content e
   where
-    go : (c : Content) → length_of (Some (record i { content = c })) ≡ n → change (Resized s n) (Some (record i { content = c })) ≡ Some (record i { content = c })
+    go : (c : Content) → length_of (Some (record i { content = c })) ≡ n → inode_after (Resized s n) (Some (record i { content = c })) ≡ Some (record i { content = c })
     go (Names m) e = refl
-    go (Bytes bs) e = ap (λ z. Some (record i { content = Bytes z })) (subst (λ z. resized z bs ≡ bs) e (resized_same bs))
+    go (Bytes bs) e = ap (λ z. Some (record i { content = Bytes z })) (subst (λ z. with_size z bs ≡ bs) e (resized_same bs))
 
-longer_at : (o : Option Inode) (s n : ℕ) → n ≤ length_of o → n ≤ length_of (change (Resized s n) o)
+longer_at : (o : Option Inode) (s n : ℕ) → n ≤ length_of o → n ≤ length_of (inode_after (Resized s n) o)
 unfolding length_of
 longer_at None s n e = e
 longer_at (Some i) s n e = go i.content e
   where
-    go : (c : Content) → n ≤ length_of (Some (record i { content = c })) → n ≤ length_of (change (Resized s n) (Some (record i { content = c })))
+    go : (c : Content) → n ≤ length_of (Some (record i { content = c })) → n ≤ length_of (inode_after (Resized s n) (Some (record i { content = c })))
     go (Names m) e = e
-    go (Bytes bs) e = let l : length (resized n bs) ≡ n = length-resized n bs in omega arith
+    go (Bytes bs) e = let l : length (with_size n bs) ≡ n = length-with_size n bs in omega arith
 
 -- a file that is lengthened and cut again
-cut_back : (s n : ℕ) (bs : List ℕ) → length bs ≡ s → s ≤ n → resized s (resized n bs) ≡ bs
+cut_back : (s n : ℕ) (bs : List ℕ) → length bs ≡ s → s ≤ n → with_size s (with_size n bs) ≡ bs
 cut_back s n bs e le =
-    let a : length (resized s (resized n bs)) ≡ s = length-resized s (resized n bs) in
-    ext_get_or 0 (resized s (resized n bs)) bs (omega arith)
-    (λ i lt. let here : i < s = omega arith in let there : i < n = omega arith in get_or-resized s (resized n bs) i here ∙ get_or-resized n bs i there)
+    let a : length (with_size s (with_size n bs)) ≡ s = length-with_size s (with_size n bs) in
+    ext_get_or 0 (with_size s (with_size n bs)) bs (omega arith)
+    (λ i lt. let here : i < s = omega arith in let there : i < n = omega arith in get_or-with_size s (with_size n bs) i here ∙ get_or-with_size n bs i there)
 
-cut_again_at : (o : Option Inode) (s n m : ℕ) → length_of o ≡ s → s ≤ n → change (Resized m s) (change (Resized s n) o) ≡ o
+cut_again_at : (o : Option Inode) (s n m : ℕ) → length_of o ≡ s → s ≤ n → inode_after (Resized m s) (inode_after (Resized s n) o) ≡ o
 unfolding length_of
 cut_again_at None s n m e le = refl
 cut_again_at (Some i) s n m e le = go i.content e
   where
-    go : (c : Content) → length_of (Some (record i { content = c })) ≡ s → change (Resized m s) (change (Resized s n) (Some (record i { content = c }))) ≡ Some (record i { content = c })
+    go : (c : Content) → length_of (Some (record i { content = c })) ≡ s → inode_after (Resized m s) (inode_after (Resized s n) (Some (record i { content = c }))) ≡ Some (record i { content = c })
     go (Names q) e = refl
     go (Bytes bs) e = ap (λ z. Some (record i { content = Bytes z })) (cut_back s n bs e le)
 
@@ -173,45 +173,45 @@ resize_itself : (F : Tree) (p : Place) (s n : ℕ) → size_at F p ≡ n → edi
 unfolding edit
 resize_itself F p s n e =
     let same = resize_itself_at (get F.inodes p) s n (sym (length-size_at F p) ∙ e) in
-    ap (λ (m : FinMap place_cmp Inode). record F { inodes = m }) (set_key-get place_cmp_total place_cmp_exact F.inodes p (change (Resized s n) (get F.inodes p)) (sym same))
+    ap (λ (m : FinMap place_cmp Inode). record F { inodes = m }) (set_key-get place_cmp_total place_cmp_exact F.inodes p (inode_after (Resized s n) (get F.inodes p)) (sym same))
 
-get-edited : (F : Tree) (p : Place) (s n : ℕ) (q : Place) → get (edit F (Inodes p (Resized s n))).inodes q ≡ cond (place_eq q p) (change (Resized s n) (get F.inodes p)) (get F.inodes q)
+get-edited : (F : Tree) (p : Place) (s n : ℕ) (q : Place) → get (edit F (Inodes p (Resized s n))).inodes q ≡ cond (place_eq q p) (inode_after (Resized s n) (get F.inodes p)) (get F.inodes q)
 unfolding edit
-get-edited F p s n q = get-set_place F.inodes p (change (Resized s n) (get F.inodes p)) q
+get-edited F p s n q = get-set_place F.inodes p (inode_after (Resized s n) (get F.inodes p)) q
 
-length-edited : (F : Tree) (p : Place) (s n : ℕ) → size_at (edit F (Inodes p (Resized s n))) p ≡ length_of (change (Resized s n) (get F.inodes p))
-length-edited F p s n = length-size_at (edit F (Inodes p (Resized s n))) p ∙ ap length_of (get-edited F p s n p ∙ ap (λ b. cond b (change (Resized s n) (get F.inodes p)) (get F.inodes p)) (place_eq-itself p))
+length-edited : (F : Tree) (p : Place) (s n : ℕ) → size_at (edit F (Inodes p (Resized s n))) p ≡ length_of (inode_after (Resized s n) (get F.inodes p))
+length-edited F p s n = length-size_at (edit F (Inodes p (Resized s n))) p ∙ ap length_of (get-edited F p s n p ∙ ap (λ b. cond b (inode_after (Resized s n) (get F.inodes p)) (get F.inodes p)) (place_eq-itself p))
 
 -- a file is no shorter than before where it is lengthened
-grown_at : (o : Option Inode) (s n : ℕ) → length_of o ≤ n → length_of o ≤ length_of (change (Resized s n) o)
+grown_at : (o : Option Inode) (s n : ℕ) → length_of o ≤ n → length_of o ≤ length_of (inode_after (Resized s n) o)
 unfolding length_of
 grown_at None s n le = omega arith
 grown_at (Some i) s n le = go i.content le
   where
-    go : (c : Content) → length_of (Some (record i { content = c })) ≤ n → length_of (Some (record i { content = c })) ≤ length_of (change (Resized s n) (Some (record i { content = c })))
+    go : (c : Content) → length_of (Some (record i { content = c })) ≤ n → length_of (Some (record i { content = c })) ≤ length_of (inode_after (Resized s n) (Some (record i { content = c })))
     go (Names q) le = omega arith
-    go (Bytes bs) le = let l : length (resized n bs) ≡ n = length-resized n bs in omega arith
+    go (Bytes bs) le = let l : length (with_size n bs) ≡ n = length-with_size n bs in omega arith
 
 longer : (F : Tree) (p : Place) (s n : ℕ) → size_at F p ≤ n → size_at F p ≤ size_at (edit F (Inodes p (Resized s n))) p
 longer F p s n le =
     let a = length-edited F p s n in
     let b = length-size_at F p in
-    let c : length_of (get F.inodes p) ≤ length_of (change (Resized s n) (get F.inodes p)) = grown_at (get F.inodes p) s n (omega (arith, b)) in
+    let c : length_of (get F.inodes p) ≤ length_of (inode_after (Resized s n) (get F.inodes p)) = grown_at (get F.inodes p) s n (omega (arith, b)) in
     omega (arith, a, b, c)
 
-edit_twice : (F : Tree) (p : Place) (s n m t : ℕ) → change (Resized m t) (change (Resized s n) (get F.inodes p)) ≡ get F.inodes p → edit (edit F (Inodes p (Resized s n))) (Inodes p (Resized m t)) ≡ F
+edit_twice : (F : Tree) (p : Place) (s n m t : ℕ) → inode_after (Resized m t) (inode_after (Resized s n) (get F.inodes p)) ≡ get F.inodes p → edit (edit F (Inodes p (Resized s n))) (Inodes p (Resized m t)) ≡ F
 unfolding edit
 edit_twice F p s n m t back =
     let o = get F.inodes p in
-    let o' = change (Resized s n) o in
+    let o' = inode_after (Resized s n) o in
     let found : get (edit F (Inodes p (Resized s n))).inodes p ≡ o' = get-edited F p s n p ∙ ap (λ b. cond b o' o) (place_eq-itself p) in
     twice o o' found back
   where
-    twice : (o o' : Option Inode) → get (edit F (Inodes p (Resized s n))).inodes p ≡ change (Resized s n) (get F.inodes p) → change (Resized m t) (change (Resized s n) (get F.inodes p)) ≡ get F.inodes p → edit (edit F (Inodes p (Resized s n))) (Inodes p (Resized m t)) ≡ F
+    twice : (o o' : Option Inode) → get (edit F (Inodes p (Resized s n))).inodes p ≡ inode_after (Resized s n) (get F.inodes p) → inode_after (Resized m t) (inode_after (Resized s n) (get F.inodes p)) ≡ get F.inodes p → edit (edit F (Inodes p (Resized s n))) (Inodes p (Resized m t)) ≡ F
     twice o o' found back =
         ap (λ (m : FinMap place_cmp Inode). record F { inodes = m })
-        (ap (set_key (set_key F.inodes p (change (Resized s n) (get F.inodes p))) p) (ap (change (Resized m t)) found ∙ back)
-        ∙ set_key-set_key place_cmp_total place_cmp_exact F.inodes p (change (Resized s n) (get F.inodes p)) (get F.inodes p)
+        (ap (set_key (set_key F.inodes p (inode_after (Resized s n) (get F.inodes p))) p) (ap (inode_after (Resized m t)) found ∙ back)
+        ∙ set_key-set_key place_cmp_total place_cmp_exact F.inodes p (inode_after (Resized s n) (get F.inodes p)) (get F.inodes p)
         ∙ set_key-get place_cmp_total place_cmp_exact F.inodes p (get F.inodes p) refl)
 
 -- what was lengthened is cut again
@@ -264,7 +264,7 @@ more_left a w F T m = record { each = λ c out. m.each c (last_false (in_area a 
     last_false false b e = e
 
 size_of_T : (T : Tree) (k : KeptSize) → HoldsSize T k → size_at T k.place ≡ k.size
-size_of_T T k held = ap number_of held
+size_of_T T k held = ap value_number held
 
 -- one file is as long as it was, and the others are as before
 roomy_step : (zs : List KeptSize) (F T : Tree) (k : KeptSize) (s : ℕ) → size_at T k.place ≤ size_at (edit F (Inodes k.place (Resized s k.size))) k.place → IsRoomy (k ∷ zs) F T → IsRoomy zs (edit F (Inodes k.place (Resized s k.size))) T
@@ -276,7 +276,7 @@ roomy_step zs F T k s here room = record { each = λ q out. go q (place_eq q k.p
     elsewhere : (q : Place) → place_eq q k.place ≡ false → size_at G q ≡ size_at F q
     elsewhere q e =
         length-size_at (edit F (Inodes k.place (Resized s k.size))) q
-        ∙ ap length_of (get-edited F k.place s k.size q ∙ ap (λ b. cond b (change (Resized s k.size) (get F.inodes k.place)) (get F.inodes q)) e)
+        ∙ ap length_of (get-edited F k.place s k.size q ∙ ap (λ b. cond b (inode_after (Resized s k.size) (get F.inodes k.place)) (get F.inodes q)) e)
         ∙ sym (length-size_at F q)
 
     go : (q : Place) (b : Bool) → place_eq q k.place ≡ b → has (map size_area zs) (At q SizeOf) ≡ false → size_at T q ≤ size_at (edit F (Inodes k.place (Resized s k.size))) q
@@ -294,7 +294,7 @@ size_cut i zs k F G T held size cut kept (agree, room) =
       subst (λ S. AgreeBut (left_sizes zs i) S T) (sym is) (resized_agrees (left_sizes zs i) F T k.place s k.size (kind_right T k zs i held size) size agree),
       subst (λ S. IsRoomy [] S T) (sym is) (roomy_step [] F T k s
           (subst (λ x. x ≤ size_at (edit F (Inodes k.place (Resized s k.size))) k.place) (sym (size_of_T T k size))
-          (let a = length-edited F k.place s k.size in let b = length-size_at F k.place in let c : k.size ≤ length_of (change (Resized s k.size) (get F.inodes k.place)) = longer_at (get F.inodes k.place) s k.size (omega (arith, b)) in omega (arith, a, c)))
+          (let a = length-edited F k.place s k.size in let b = length-size_at F k.place in let c : k.size ≤ length_of (inode_after (Resized s k.size) (get F.inodes k.place)) = longer_at (get F.inodes k.place) s k.size (omega (arith, b)) in omega (arith, a, c)))
           (record { each = λ q out. room.each q refl })),
     )
   where
@@ -309,14 +309,14 @@ size_cut i zs k F G T held size cut kept (agree, room) =
             kept le' ∙ sym (resize_itself F k.place (size_at F k.place) k.size same)
 
 -- a file is lengthened to its size
-file_grown : (o t : Option Inode) (s n : ℕ) → s < n → field_value o KindOf ≡ field_value t KindOf → field_value t SizeOf ≡ ANumber n → n ≤ length_of (change (Resized s n) o)
+file_grown : (o t : Option Inode) (s n : ℕ) → s < n → field_value o KindOf ≡ field_value t KindOf → field_value t SizeOf ≡ ANumber n → n ≤ length_of (inode_after (Resized s n) o)
 unfolding length_of
 file_grown o None s n lt kind size = absurd cc
 file_grown None (Some j) s n lt kind size = absurd cc
 file_grown (Some i) (Some j) s n lt kind size = go i.content j.content kind size
   where
-    go : (c d : Content) → field_value (Some (record i { content = c })) KindOf ≡ field_value (Some (record j { content = d })) KindOf → field_value (Some (record j { content = d })) SizeOf ≡ ANumber n → n ≤ length_of (change (Resized s n) (Some (record i { content = c })))
-    go (Bytes bs) d kind size = let l : length (resized n bs) ≡ n = length-resized n bs in omega (arith, l)
+    go : (c d : Content) → field_value (Some (record i { content = c })) KindOf ≡ field_value (Some (record j { content = d })) KindOf → field_value (Some (record j { content = d })) SizeOf ≡ ANumber n → n ≤ length_of (inode_after (Resized s n) (Some (record i { content = c })))
+    go (Bytes bs) d kind size = let l : length (with_size n bs) ≡ n = length-with_size n bs in omega (arith, l)
     go (Names p) (Bytes cs) kind size = absurd cc
     go (Names p) (Names q) kind size = let z : 0 ≡ n = number_same 0 n size in omega (arith, z)
 
@@ -342,7 +342,7 @@ size_grown i zs k F G T held size grown kept agree room = go (nat_le k.size (siz
               room),
         )
       where
-        at_place : size_at F k.place < k.size → k.size ≤ length_of (change (Resized (size_at F k.place) k.size) (get F.inodes k.place))
+        at_place : size_at F k.place < k.size → k.size ≤ length_of (inode_after (Resized (size_at F k.place) k.size) (get F.inodes k.place))
         at_place lt = file_grown (get F.inodes k.place) (get T.inodes k.place) (size_at F k.place) k.size lt (agree.each (At k.place KindOf) right) size
 
     long : k.size ≤ size_at F k.place → AgreeBut (left [] i) G T × IsRoomy zs G T
@@ -380,7 +380,7 @@ first_roomy i F T held agree = record { each = λ p out. go p out (has (left [] 
     gone p e = length-size_at T p ∙ no_length (get T.inodes p) e
 
     go : (p : Place) → has (map size_area i.sizes.items) (At p SizeOf) ≡ false → (b : Bool) → has (left [] i) (At p SizeOf) ≡ b → size_at T p ≤ size_at F p
-    go p out false e = let same : size_at F p ≡ size_at T p = ap number_of (agree.each (At p SizeOf) e) in omega (arith, same)
+    go p out false e = let same : size_at F p ≡ size_at T p = ap value_number (agree.each (At p SizeOf) e) in omega (arith, same)
     go p out true e =
         let none : val T (At p KindOf) ≡ Nothing = in_resets T p SizeOf (size_at_left T p) i.resets.items held.resets
         (sym (three i.sizes.items i (At p SizeOf) ∙ middle _ _ _ (wide_size p i.sizes.items out) (none_has blocks_area (At p SizeOf) (blocks_no_size p) i.blocks.items)) ∙ e) in
@@ -422,7 +422,7 @@ blocks_back ks k F G T held written none agree = go k.bytes.items refl
     size = none_has blocks_area (At k.place SizeOf) (blocks_no_size k.place) ks
 
     long : size_at F k.place ≡ size_at T k.place
-    long = ap number_of (agree.each (At k.place SizeOf) (none_has blocks_area (At k.place SizeOf) (blocks_no_size k.place) (k ∷ ks)))
+    long = ap value_number (agree.each (At k.place SizeOf) (none_has blocks_area (At k.place SizeOf) (blocks_no_size k.place) (k ∷ ks)))
 
     mixed : MixedTree (λ c. in_area (InodeArea k.place (BlocksPart k.run)) c || has (left_blocks ks) c) F T
     mixed = record { each = agree.each }

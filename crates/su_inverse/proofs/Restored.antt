@@ -7,18 +7,18 @@ use Rattle.su_bytes.specs.declared.file_ids.FileId.{FileId}
 use Rattle.su_node.specs.Name.{Name, name_eq}
 use Rattle.su_node.specs.Inode.{Inode, Content, Content.Bytes, Content.Names, kind_of, bytes_of, within}
 use Rattle.su_node.specs.Field.{Field, Field.KindOf, Field.LinksOf, Field.SizeOf, Field.BlockOf, Field.NameOf, Value.Nothing, Value.AKind, Value.ANumber, block, block_value, content_value, field_value, file_value}
-use Rattle.su_node.specs.Change.{Change, Change.Named, Change.Linked, Change.Written, Change.Resized, Change.Copied, Change.Gone, change, named, with_bytes, resized, written}
-use Rattle.su_table.specs.Place.{Place, place_eq}
+use Rattle.su_node.specs.InodeChange.{InodeChange, InodeChange.Named, InodeChange.Linked, InodeChange.Written, InodeChange.Resized, InodeChange.Copied, InodeChange.Gone, inode_after, with_name, map_bytes, with_size, with_bytes_at}
+use Rattle.su_bytes.specs.Place.{Place, place_eq}
 use Rattle.su_table.specs.Tree.{Tree}
-use Rattle.su_table.specs.Cell.{Cell, Cell.At, Cell.Entry, place_value, val}
-use Rattle.su_table.specs.Edit.{Edit.Inodes, Edit.Entries, edit}
+use Rattle.su_table.specs.Cell.{Cell, Cell.At, Cell.Pointer, place_value, val}
+use Rattle.su_table.specs.Edit.{Edit.Inodes, Edit.Pointers, edit}
 use Rattle.su_op.specs.declared.areas.Part.{Part}
 use Rattle.su_op.specs.declared.areas.Part.TheVariants.{Links as LinksPart, Size as SizePart, Name as NamePart, Blocks as BlocksPart, Whole as WholePart}
 use Rattle.su_op.specs.declared.areas.BlockRun.{BlockRun}
-use Rattle.su_op.specs.declared.areas.Area.TheVariants.{Inode as InodeArea, Entry as EntryArea}
+use Rattle.su_op.specs.declared.areas.Area.TheVariants.{Inode as InodeArea, Pointer as PointerArea}
 use Rattle.su_op.specs.Area.{in_run, in_part, in_area}
 use Rattle.su_op.proofs.Orders.{place_eq-same, place_eq-itself, name_eq-same, get-set_place, get-set_name}
-use Rattle.su_op.proofs.Blocks.{byte_same, block_same, block_value_same, length-resized, get_or-resized, length-written, get_or-written_in, get_or-written_before, get_or-written_after}
+use Rattle.su_op.proofs.Blocks.{byte_same, block_same, block_value_same, length-with_size, get_or-with_size, length-with_bytes_at, get_or-written_in, get_or-written_before, get_or-written_after}
 use Rattle.su_op.proofs.Changes.{number_same}
 use Rattle.su_op.proofs.Edits.{tree_same}
 use Rattle.su_inverse.specs.Putting.{AgreeBut}
@@ -36,7 +36,7 @@ kinds : (c d : Content) (h g : FileId) → AKind (kind_of c) h ≡ AKind (kind_o
 kinds c d h g e = cc
 
 name_into : (x : Name) (v : Option FileId) (P : Field → Bool) (c d : Content) (h g : FileId) (l m : ℕ) → kind_of c ≡ kind_of d → Only (λ f. in_part (NamePart x) f || P f) c h l d g m
-    → file_value v ≡ content_value d m g (NameOf x) → Only P (named x v c) h l d g m
+    → file_value v ≡ content_value d m g (NameOf x) → Only P (with_name x v c) h l d g m
 name_into x v P (Bytes bs) (Bytes cs) h g l m k only e KindOf out = only KindOf out
 name_into x v P (Bytes bs) (Bytes cs) h g l m k only e LinksOf out = only LinksOf out
 name_into x v P (Bytes bs) (Bytes cs) h g l m k only e SizeOf out = only SizeOf out
@@ -72,12 +72,12 @@ both_none P Q o t k m e =
     let n : t ≡ None = none_from_kind t (sym (m.each KindOf k) ∙ ap (λ o. field_value o KindOf) e) in
     record { each = λ f _. ap (λ o. field_value o f) (e ∙ sym n) }
 
-put_name : (x : Name) (v : Option FileId) (P : Field → Bool) (o t : Option Inode) → P KindOf ≡ false → Mixed (λ f. in_part (NamePart x) f || P f) o t → file_value v ≡ field_value t (NameOf x) → Mixed P (change (Named x v) o) t
+put_name : (x : Name) (v : Option FileId) (P : Field → Bool) (o t : Option Inode) → P KindOf ≡ false → Mixed (λ f. in_part (NamePart x) f || P f) o t → file_value v ≡ field_value t (NameOf x) → Mixed P (inode_after (Named x v) o) t
 put_name x v P None t k m e = both_none P (λ f. in_part (NamePart x) f || P f) None t k m refl
 put_name x v P (Some i) None k m e = absurd (let d = m.each KindOf k in cc)
 put_name x v P (Some i) (Some j) k m e = record { each = name_into x v P i.content j.content i.home j.home i.links j.links (kinds _ _ _ _ (m.each KindOf k)) m.each e }
 
-put_links : (n : ℕ) (P : Field → Bool) (o t : Option Inode) → P KindOf ≡ false → Mixed (λ f. in_part LinksPart f || P f) o t → field_value t LinksOf ≡ ANumber n → Mixed P (change (Linked n) o) t
+put_links : (n : ℕ) (P : Field → Bool) (o t : Option Inode) → P KindOf ≡ false → Mixed (λ f. in_part LinksPart f || P f) o t → field_value t LinksOf ≡ ANumber n → Mixed P (inode_after (Linked n) o) t
 put_links n P None t k m e = both_none P (λ f. in_part LinksPart f || P f) None t k m refl
 put_links n P (Some i) None k m e = absurd (let d = m.each KindOf k in cc)
 put_links n P (Some i) (Some j) k m e = record { each = links_into n P i.content j.content i.home j.home i.links j.links m.each (number_same j.links n e) }
@@ -85,11 +85,11 @@ put_links n P (Some i) (Some j) k m e = record { each = links_into n P i.content
 -- ---- sizes and blocks of an inode
 
 -- a new size: the blocks that need not be put back are right
-block_sized : (n : ℕ) (bs cs : List ℕ) → block n bs ≡ block n cs → block n (resized (length cs) bs) ≡ block n cs
+block_sized : (n : ℕ) (bs cs : List ℕ) → block n bs ≡ block n cs → block n (with_size (length cs) bs) ≡ block n cs
 block_sized n bs cs e =
-    let a : length (resized (length cs) bs) ≡ length cs = length-resized (length cs) bs in
-    block_same n (resized (length cs) bs) cs (omega arith)
-    (λ i low high within. let lt : i < length cs = omega arith in get_or-resized (length cs) bs i lt ∙ byte_same n bs cs i e low high)
+    let a : length (with_size (length cs) bs) ≡ length cs = length-with_size (length cs) bs in
+    block_same n (with_size (length cs) bs) cs (omega arith)
+    (λ i low high within. let lt : i < length cs = omega arith in get_or-with_size (length cs) bs i lt ∙ byte_same n bs cs i e low high)
 
 -- the bytes of a run of blocks
 abbrev run_of : BlockRun → List ℕ → List ℕ
@@ -103,17 +103,17 @@ get_run r cs i lt = get_or-take (4096 * (r.more + 1)) (drop (4096 * r.first) cs)
 
 -- the kept bytes of a run of blocks, in a file of the right size
 block_rewritten : (n : ℕ) (r : BlockRun) (bs cs : List ℕ) → length bs ≡ length cs → 4096 * r.first < length cs → (in_run r n ≡ false → block n bs ≡ block n cs)
-    → block n (written (4096 * r.first) (run_of r cs) bs) ≡ block n cs
+    → block n (with_bytes_at (4096 * r.first) (run_of r cs) bs) ≡ block n cs
 block_rewritten n r bs cs same some out = go (nat_le r.first n) refl (nat_le n (r.first + r.more)) refl
   where
     p : List ℕ
-    p = written (4096 * r.first) (run_of r cs) bs
+    p = with_bytes_at (4096 * r.first) (run_of r cs) bs
 
     run : length (run_of r cs) ≡ min (4096 * (r.more + 1)) (length cs - 4096 * r.first)
     run = length_run r cs
 
     long : length p ≡ max (4096 * r.first + length (run_of r cs)) (length bs)
-    long = length-written (4096 * r.first) (run_of r cs) bs
+    long = length-with_bytes_at (4096 * r.first) (run_of r cs) bs
 
     kept : (a b : Bool) → nat_le r.first n ≡ a → nat_le n (r.first + r.more) ≡ b → (a && b) ≡ false → block n bs ≡ block n cs
     kept a b i j e = out (ap (λ x. x && nat_le n (r.first + r.more)) i ∙ ap (λ y. a && y) j ∙ e)
@@ -134,22 +134,22 @@ block_rewritten n r bs cs same some out = go (nat_le r.first n) refl (nat_le n (
     go true i true j = inside (leb-true r.first n i) (leb-true n (r.first + r.more) j)
 
 -- a file's size
-size_into : (P : Field → Bool) (bs cs : List ℕ) (h g : FileId) (l m : ℕ) → Only (λ f. in_part SizePart f || P f) (Bytes bs) h l (Bytes cs) g m → Only P (Bytes (resized (length cs) bs)) h l (Bytes cs) g m
+size_into : (P : Field → Bool) (bs cs : List ℕ) (h g : FileId) (l m : ℕ) → Only (λ f. in_part SizePart f || P f) (Bytes bs) h l (Bytes cs) g m → Only P (Bytes (with_size (length cs) bs)) h l (Bytes cs) g m
 size_into P bs cs h g l m only KindOf out = only KindOf out
 size_into P bs cs h g l m only LinksOf out = only LinksOf out
-size_into P bs cs h g l m only SizeOf out = ap ANumber (length-resized (length cs) bs)
+size_into P bs cs h g l m only SizeOf out = ap ANumber (length-with_size (length cs) bs)
 size_into P bs cs h g l m only (BlockOf n) out = ap block_value (block_sized n bs cs (block_value_same (block n bs) (block n cs) (only (BlockOf n) out)))
 size_into P bs cs h g l m only (NameOf x) out = refl
 
 -- and then its blocks
 blocks_into : (r : BlockRun) (P : Field → Bool) (bs cs : List ℕ) (h g : FileId) (l m : ℕ) → length bs ≡ length cs → 4096 * r.first < length cs
-    → Only (λ f. in_part (BlocksPart r) f || P f) (Bytes bs) h l (Bytes cs) g m → Only P (Bytes (written (4096 * r.first) (run_of r cs) bs)) h l (Bytes cs) g m
+    → Only (λ f. in_part (BlocksPart r) f || P f) (Bytes bs) h l (Bytes cs) g m → Only P (Bytes (with_bytes_at (4096 * r.first) (run_of r cs) bs)) h l (Bytes cs) g m
 blocks_into r P bs cs h g l m same some only KindOf out = only KindOf out
 blocks_into r P bs cs h g l m same some only LinksOf out = only LinksOf out
 blocks_into r P bs cs h g l m same some only SizeOf out =
     let run = length_run r cs in
-    let long = length-written (4096 * r.first) (run_of r cs) bs in
-    let all : length (written (4096 * r.first) (run_of r cs) bs) ≡ length cs = omega (arith, run, long) in
+    let long = length-with_bytes_at (4096 * r.first) (run_of r cs) bs in
+    let all : length (with_bytes_at (4096 * r.first) (run_of r cs) bs) ≡ length cs = omega (arith, run, long) in
     ap ANumber all
 blocks_into r P bs cs h g l m same some only (BlockOf n) out =
     ap block_value (block_rewritten n r bs cs same some (λ o. block_value_same (block n bs) (block n cs) (only (BlockOf n) (or_from (in_run r n) (P (BlockOf n)) o out))))
@@ -175,13 +175,13 @@ blocks_past r P bs cs h g l m same past only (BlockOf n) out = go (nat_le r.firs
         ap block_value (block_same n bs cs (omega (arith, same)) (λ k low high within. absurd (omega arith)))
 
 -- an inode with its size back: t has as many bytes
-put_size : (s n : ℕ) (P : Field → Bool) (o t : Option Inode) → P KindOf ≡ false → field_value t SizeOf ≡ ANumber n → Mixed (λ f. in_part SizePart f || P f) o t → Mixed P (change (Resized s n) o) t
+put_size : (s n : ℕ) (P : Field → Bool) (o t : Option Inode) → P KindOf ≡ false → field_value t SizeOf ≡ ANumber n → Mixed (λ f. in_part SizePart f || P f) o t → Mixed P (inode_after (Resized s n) o) t
 put_size s n P None t k e m = both_none P (λ f. in_part SizePart f || P f) None t k m refl
 put_size s n P (Some i) None k e m = absurd (let d = m.each KindOf k in cc)
 put_size s n P (Some i) (Some j) k e m = record { each = go i.content j.content (kinds _ _ _ _ (m.each KindOf k)) e m.each }
   where
-    go : (c d : Content) → kind_of c ≡ kind_of d → content_value d j.links j.home SizeOf ≡ ANumber n → Only (λ f. in_part SizePart f || P f) c i.home i.links d j.home j.links → Only P (with_bytes (resized n) c) i.home i.links d j.home j.links
-    go (Bytes bs) (Bytes cs) q e only f out = subst (λ z. content_value (Bytes (resized z bs)) i.links i.home f ≡ content_value (Bytes cs) j.links j.home f) (number_same (length cs) n e) (size_into P bs cs i.home j.home i.links j.links only f out)
+    go : (c d : Content) → kind_of c ≡ kind_of d → content_value d j.links j.home SizeOf ≡ ANumber n → Only (λ f. in_part SizePart f || P f) c i.home i.links d j.home j.links → Only P (map_bytes (with_size n) c) i.home i.links d j.home j.links
+    go (Bytes bs) (Bytes cs) q e only f out = subst (λ z. content_value (Bytes (with_size z bs)) i.links i.home f ≡ content_value (Bytes cs) j.links j.home f) (number_same (length cs) n e) (size_into P bs cs i.home j.home i.links j.links only f out)
     go (Names p) (Names q) same e only KindOf out = only KindOf out
     go (Names p) (Names q) same e only LinksOf out = only LinksOf out
     go (Names p) (Names q) same e only SizeOf out = refl
@@ -193,17 +193,17 @@ put_size s n P (Some i) (Some j) k e m = record { each = go i.content j.content 
 -- an inode with blocks back: t has these bytes there
 put_blocks : (s : ℕ) (r : BlockRun) (xs : List ℕ) (P : Field → Bool) (o t : Option Inode) → P KindOf ≡ false → P SizeOf ≡ false
     → option_map (within (4096 * r.first) (4096 * (r.more + 1))) (bytes_of t) ≡ Some xs → 0 < length xs
-    → Mixed (λ f. in_part (BlocksPart r) f || P f) o t → Mixed P (change (Written s (4096 * r.first) xs) o) t
+    → Mixed (λ f. in_part (BlocksPart r) f || P f) o t → Mixed P (inode_after (Written s (4096 * r.first) xs) o) t
 put_blocks s r xs P None t k z e some m = both_none P (λ f. in_part (BlocksPart r) f || P f) None t k m refl
 put_blocks s r xs P (Some i) None k z e some m = absurd cc
 put_blocks s r xs P (Some i) (Some j) k z e some m = record { each = go i.content j.content (kinds _ _ _ _ (m.each KindOf k)) e m.each }
   where
-    go : (c d : Content) → kind_of c ≡ kind_of d → option_map (within (4096 * r.first) (4096 * (r.more + 1))) (bytes_of (Some (record j { content = d }))) ≡ Some xs → Only (λ f. in_part (BlocksPart r) f || P f) c i.home i.links d j.home j.links → Only P (with_bytes (written (4096 * r.first) xs) c) i.home i.links d j.home j.links
+    go : (c d : Content) → kind_of c ≡ kind_of d → option_map (within (4096 * r.first) (4096 * (r.more + 1))) (bytes_of (Some (record j { content = d }))) ≡ Some xs → Only (λ f. in_part (BlocksPart r) f || P f) c i.home i.links d j.home j.links → Only P (map_bytes (with_bytes_at (4096 * r.first) xs) c) i.home i.links d j.home j.links
     go (Bytes bs) (Bytes cs) q e only f out =
         let same : run_of r cs ≡ xs = cc in
         let run = length_run r cs in
         let long : length (run_of r cs) ≡ length xs = ap length same in
-        subst (λ z. content_value (Bytes (written (4096 * r.first) z bs)) i.links i.home f ≡ content_value (Bytes cs) j.links j.home f) same
+        subst (λ z. content_value (Bytes (with_bytes_at (4096 * r.first) z bs)) i.links i.home f ≡ content_value (Bytes cs) j.links j.home f) same
         (blocks_into r P bs cs i.home j.home i.links j.links (number_same (length bs) (length cs) (only SizeOf z)) (omega (arith, run, long)) only f out)
     go c (Names q) same e only f out = absurd cc
     go (Names p) (Bytes cs) same e only f out = absurd cc
@@ -276,21 +276,21 @@ module _ (P : Cell → Bool) (F T : Tree) where
   inode_mixed p a m = record { each = λ f out. m.each (At p f) (ap (λ b. (b && in_part a f) || P (At p f)) (place_eq-itself p) ∙ out) }
 
   -- a change at p that puts a part back, in the tree
-  put_part : (p : Place) (a : Part) (ch : Change) → MixedTree (λ c. in_area (InodeArea p a) c || P c) F T
-      → Mixed (λ f. P (At p f)) (change ch (get F.inodes p)) (get T.inodes p)
+  put_part : (p : Place) (a : Part) (ch : InodeChange) → MixedTree (λ c. in_area (InodeArea p a) c || P c) F T
+      → Mixed (λ f. P (At p f)) (inode_after ch (get F.inodes p)) (get T.inodes p)
       → MixedTree P (edit F (Inodes p ch)) T
   unfolding val edit
   put_part p a ch m done = record { each = each }
     where
-      at : (q : Place) (f : Field) (b : Bool) → place_eq q p ≡ b → P (At q f) ≡ false → field_value (cond b (change ch (get F.inodes p)) (get F.inodes q)) f ≡ field_value (get T.inodes q) f
+      at : (q : Place) (f : Field) (b : Bool) → place_eq q p ≡ b → P (At q f) ≡ false → field_value (cond b (inode_after ch (get F.inodes p)) (get F.inodes q)) f ≡ field_value (get T.inodes q) f
       at q f true is out =
           let same : q ≡ p = place_eq-same q p is in
           done.each f (ap (λ r. P (At r f)) (sym same) ∙ out) ∙ ap (λ r. field_value (get T.inodes r) f) (sym same)
       at q f false is out = m.each (At q f) (or_from (place_eq q p && in_part a f) (P (At q f)) (ap (λ b. b && in_part a f) is) out)
 
       each : (c : Cell) → P c ≡ false → val (edit F (Inodes p ch)) c ≡ val T c
-      each (Entry g) out = m.each (Entry g) out
-      each (At q f) out = ap (λ o. field_value o f) (get-set_place F.inodes p (change ch (get F.inodes p)) q) ∙ at q f (place_eq q p) refl out
+      each (Pointer g) out = m.each (Pointer g) out
+      each (At q f) out = ap (λ o. field_value o f) (get-set_place F.inodes p (inode_after ch (get F.inodes p)) q) ∙ at q f (place_eq q p) refl out
 
   -- all of what is at p is left
   all_left : (p : Place) (o t : Option Inode) → IsClosed P → P (At p KindOf) ≡ true → Mixed (λ f. P (At p f)) o t
@@ -300,7 +300,7 @@ module _ (P : Cell → Bool) (F T : Tree) where
   unfolding val
   back_name p x v closed kept m = put_part p (NamePart x) (Named x v) m (go (P (At p KindOf)) refl)
     where
-      go : (b : Bool) → P (At p KindOf) ≡ b → Mixed (λ f. P (At p f)) (change (Named x v) (get F.inodes p)) (get T.inodes p)
+      go : (b : Bool) → P (At p KindOf) ≡ b → Mixed (λ f. P (At p f)) (inode_after (Named x v) (get F.inodes p)) (get T.inodes p)
       go true is = all_left p _ _ closed is
       go false is = put_name x v (λ f. P (At p f)) (get F.inodes p) (get T.inodes p) is (inode_mixed p (NamePart x) m) kept
 
@@ -308,7 +308,7 @@ module _ (P : Cell → Bool) (F T : Tree) where
   unfolding val
   back_links p n closed kept m = put_part p LinksPart (Linked n) m (go (P (At p KindOf)) refl)
     where
-      go : (b : Bool) → P (At p KindOf) ≡ b → Mixed (λ f. P (At p f)) (change (Linked n) (get F.inodes p)) (get T.inodes p)
+      go : (b : Bool) → P (At p KindOf) ≡ b → Mixed (λ f. P (At p f)) (inode_after (Linked n) (get F.inodes p)) (get T.inodes p)
       go true is = all_left p _ _ closed is
       go false is = put_links n (λ f. P (At p f)) (get F.inodes p) (get T.inodes p) is (inode_mixed p LinksPart m) kept
 
@@ -339,7 +339,7 @@ module _ (P : Cell → Bool) (F T : Tree) where
       at q f false is out = m.each (At q f) (or_from (place_eq q p && in_part a f) (P (At q f)) (ap (λ b. b && in_part a f) is) out)
 
       each : (c : Cell) → P c ≡ false → val F c ≡ val T c
-      each (Entry g) out = m.each (Entry g) out
+      each (Pointer g) out = m.each (Pointer g) out
       each (At q f) out = at q f (place_eq q p) refl out
 
   pub back_size : (p : Place) (s n : ℕ) → P (At p KindOf) ≡ false → val T (At p SizeOf) ≡ ANumber n → MixedTree (λ c. in_area (InodeArea p SizePart) c || P c) F T → MixedTree P (edit F (Inodes p (Resized s n))) T
@@ -361,7 +361,7 @@ module _ (P : Cell → Bool) (F T : Tree) where
       at q f false is out = m.each (At q f) (or_from (place_eq q p && in_part a f) (P (At q f)) (ap (λ b. b && in_part a f) is) out)
 
       each : (c : Cell) → P c ≡ false → val F c ≡ val T c
-      each (Entry g) out = m.each (Entry g) out
+      each (Pointer g) out = m.each (Pointer g) out
       each (At q f) out = at q f (place_eq q p) refl out
 
   pub back_past : (p : Place) (r : BlockRun) → P (At p KindOf) ≡ false → P (At p SizeOf) ≡ false → option_map (within (4096 * r.first) (4096 * (r.more + 1))) (bytes_of (get T.inodes p)) ≡ Some [] → MixedTree (λ c. in_area (InodeArea p (BlocksPart r)) c || P c) F T → MixedTree P F T
@@ -374,14 +374,14 @@ module _ (P : Cell → Bool) (F T : Tree) where
       go true is = all_left p _ _ closed is
       go false is = put_no_blocks r (λ f. P (At p f)) (get F.inodes p) (get T.inodes p) is none (inode_mixed p (BlocksPart r) m)
 
-  pub back_entry : (g : Place) (v : Option Place) → place_value v ≡ val T (Entry g) → MixedTree (λ c. in_area (EntryArea g) c || P c) F T → MixedTree P (edit F (Entries g v)) T
+  pub back_pointer : (g : Place) (v : Option Place) → place_value v ≡ val T (Pointer g) → MixedTree (λ c. in_area (PointerArea g) c || P c) F T → MixedTree P (edit F (Pointers g v)) T
   unfolding val edit
-  back_entry g v kept m = record { each = each }
+  back_pointer g v kept m = record { each = each }
     where
-      at : (k : Place) (b : Bool) → place_eq k g ≡ b → P (Entry k) ≡ false → place_value (cond b v (get F.entries k)) ≡ place_value (get T.entries k)
-      at k true is out = kept ∙ ap (λ r. place_value (get T.entries r)) (sym (place_eq-same k g is))
-      at k false is out = m.each (Entry k) (or_from (place_eq k g) (P (Entry k)) is out)
+      at : (k : Place) (b : Bool) → place_eq k g ≡ b → P (Pointer k) ≡ false → place_value (cond b v (get F.pointers k)) ≡ place_value (get T.pointers k)
+      at k true is out = kept ∙ ap (λ r. place_value (get T.pointers r)) (sym (place_eq-same k g is))
+      at k false is out = m.each (Pointer k) (or_from (place_eq k g) (P (Pointer k)) is out)
 
-      each : (c : Cell) → P c ≡ false → val (edit F (Entries g v)) c ≡ val T c
+      each : (c : Cell) → P c ≡ false → val (edit F (Pointers g v)) c ≡ val T c
       each (At q f) out = m.each (At q f) out
-      each (Entry k) out = ap place_value (get-set_place F.entries g v k) ∙ at k (place_eq k g) refl out
+      each (Pointer k) out = ap place_value (get-set_place F.pointers g v k) ∙ at k (place_eq k g) refl out

@@ -4,16 +4,16 @@ use Rattle.std.proofs.lemmas.List.{map-append}
 use Rattle.std.proofs.lemmas.List.Folds.{list_any-append}
 use Rattle.std.specs.List.{AllByRecursion}
 use Rattle.su_node.specs.Field.{Field, Field.KindOf}
-use Rattle.su_table.specs.Place.{Place, place_eq}
+use Rattle.su_bytes.specs.Place.{Place, place_eq}
 use Rattle.su_table.specs.Tree.{Tree}
-use Rattle.su_table.specs.Cell.{Cell, Cell.At, Cell.Entry}
+use Rattle.su_table.specs.Cell.{Cell, Cell.At, Cell.Pointer}
 use Rattle.su_table.specs.Edit.{edit, edits}
 use Rattle.su_op.specs.declared.areas.Part.TheVariants.{Kind as KindPart, Links as LinksPart, Size as SizePart, Name as NamePart, Blocks as BlocksPart, Whole as WholePart}
 use Rattle.su_op.specs.declared.areas.Area.{Area}
-use Rattle.su_op.specs.declared.areas.Area.TheVariants.{Inode as InodeArea, Entry as EntryArea}
+use Rattle.su_op.specs.declared.areas.Area.TheVariants.{Inode as InodeArea, Pointer as PointerArea}
 use Rattle.su_op.specs.Area.{in_part, in_area, has}
 use Rattle.su_inverse.specs.declared.returns.Return.{Return}
-use Rattle.su_inverse.specs.declared.returns.Return.TheVariants.{Inode as InodeReturn, Name as NameReturn, Entry as EntryReturn}
+use Rattle.su_inverse.specs.declared.returns.Return.TheVariants.{Inode as InodeReturn, Name as NameReturn, Pointer as PointerReturn}
 use Rattle.su_inverse.specs.declared.resets.Reset.{Reset}
 use Rattle.su_inverse.specs.declared.resets.Reset.TheVariants.{Nothing as NothingReset, Links as LinksReset}
 use Rattle.su_inverse.specs.declared.contents.KeptSize.{KeptSize}
@@ -21,7 +21,7 @@ use Rattle.su_inverse.specs.declared.contents.KeptBlocks.{KeptBlocks}
 use Rattle.su_inverse.specs.declared.inverses.Inverse.{Inverse}
 use Rattle.su_inverse.specs.Kept.{return_area, size_area, reset_area, blocks_area, areas_of, IsKeptOf, IsPutBack, HoldsReturn, HoldsReset, HoldsNothing, return_edit, reset_edits, nothing_edits}
 use Rattle.su_inverse.specs.Putting.{widened, left, AgreeBut, HoldsAll}
-use Rattle.su_inverse.proofs.Restored.{IsClosed, MixedTree, back_name, back_links, back_gone, back_whole, back_none, back_entry, back_no_blocks}
+use Rattle.su_inverse.proofs.Restored.{IsClosed, MixedTree, back_name, back_links, back_gone, back_whole, back_none, back_pointer, back_no_blocks}
 
 or_same : (a b : Bool) → (a || b) ≡ false → (a ≡ false) × (b ≡ false)
 or_same true b e = absurd cc
@@ -94,7 +94,7 @@ all-push P (y ∷ ys) x (q, all) p = (q, all-push P ys x all p)
 -- ---- what is left
 
 kind_or_not : (a : Area) (p : Place) (f : Field) → in_area (widened a) (At p KindOf) ≡ true → in_area (widened a) (At p f) ≡ true
-kind_or_not (EntryArea g) p f e = absurd cc
+kind_or_not (PointerArea g) p f e = absurd cc
 kind_or_not (InodeArea q KindPart) p f e = e
 kind_or_not (InodeArea q WholePart) p f e = e
 kind_or_not (InodeArea q LinksPart) p f e = absurd (none (place_eq p q) e)
@@ -137,8 +137,8 @@ pub left_closed : (w : List Area) → IsClosed (has (map widened w))
 left_closed w = record { each = closed w }
 
 in_wide : (a : Area) (c : Cell) → in_area (widened a) c ≡ false → in_area a c ≡ false
-in_wide (EntryArea g) c e = e
-in_wide (InodeArea q KindPart) (Entry g) e = refl
+in_wide (PointerArea g) c e = e
+in_wide (InodeArea q KindPart) (Pointer g) e = refl
 in_wide (InodeArea q KindPart) (At p f) e = go (place_eq p q) (in_part KindPart f) e
   where
     go : (b d : Bool) → (b && true) ≡ false → (b && d) ≡ false
@@ -166,10 +166,10 @@ to_agree w F T m = record { each = m.each }
 pub returned : (r : Return) (w : List Area) (F T : Tree) → HoldsReturn T r → AgreeBut (map widened (return_area r ∷ w)) F T → AgreeBut (map widened w) (edit F (return_edit r)) T
 returned (InodeReturn p i) w F T held m = to_agree _ _ T (back_whole (has (map widened w)) F T p i held (to_mixed _ F T m))
 returned (NameReturn p x f) w F T held m = to_agree _ _ T (back_name (has (map widened w)) F T p x (Some f) (left_closed w) (sym held) (to_mixed _ F T m))
-returned (EntryReturn g p) w F T held m = to_agree _ _ T (back_entry (has (map widened w)) F T g (Some p) (sym held) (to_mixed _ F T m))
+returned (PointerReturn g p) w F T held m = to_agree _ _ T (back_pointer (has (map widened w)) F T g (Some p) (sym held) (to_mixed _ F T m))
 
 cleared : (a : Area) (w : List Area) (F T : Tree) → HoldsNothing T a → AgreeBut (map widened (a ∷ w)) F T → AgreeBut (map widened w) (edits F (nothing_edits a)) T
-cleared (EntryArea g) w F T held m = to_agree _ _ T (back_entry (has (map widened w)) F T g None (sym held) (to_mixed _ F T m))
+cleared (PointerArea g) w F T held m = to_agree _ _ T (back_pointer (has (map widened w)) F T g None (sym held) (to_mixed _ F T m))
 cleared (InodeArea p KindPart) w F T held m = to_agree _ _ T (back_gone (has (map widened w)) F T p held (to_mixed _ F T m))
 cleared (InodeArea p WholePart) w F T held m = to_agree _ _ T (back_gone (has (map widened w)) F T p held (to_mixed _ F T m))
 cleared (InodeArea p (NamePart x)) w F T held m = to_agree _ _ T (back_name (has (map widened w)) F T p x None (left_closed w) (sym held) (to_mixed _ F T m))

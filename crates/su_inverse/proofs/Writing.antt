@@ -8,16 +8,16 @@ use Rattle.std.proofs.lemmas.Bool.{and_parts}
 use Rattle.su_bytes.specs.Membership.{Membership}
 use Rattle.su_bytes.specs.declared.file_ids.FileId.{FileId}
 use Rattle.su_bytes.specs.declared.file_ids.FileId.TheVariants.{User, Group}
-use Rattle.su_table.specs.Place.{Place}
+use Rattle.su_bytes.specs.Place.{Place}
 use Rattle.su_table.specs.Tree.{Tree}
 use Rattle.su_table.specs.Cell.{Cell}
-use Rattle.su_table.specs.Query.{is_entry_free}
+use Rattle.su_table.specs.Query.{is_pointer_free}
 use Rattle.su_op.specs.declared.operations.Op.{Op}
 use Rattle.su_op.specs.declared.operations.Op.TheVariants.{Create, Unlink, Write, Truncate, Take, Link, Rename}
 use Rattle.su_op.specs.declared.areas.Area.TheVariants.{Inode as InodeArea}
 use Rattle.su_op.specs.Area.{has}
 use Rattle.su_op.specs.Footprint.{written_parts, resized_parts, areas_of as areas_of_edits}
-use Rattle.su_op.specs.Rule.{Plan, plan_of, writes_of, entry_edits, entry_areas}
+use Rattle.su_op.specs.Rule.{Plan, plan_of, writes_of, pointer_edits, pointer_areas}
 use Rattle.su_op.specs.Unlinking.{unlink_edits}
 use Rattle.su_op.specs.Operation.{rule_of, why, effect, writes}
 use Rattle.su_op.specs.Soundness.{Sound}
@@ -28,16 +28,16 @@ use Rattle.su_op.proofs.Storing.{store_lawful}
 use Rattle.su_inverse.specs.declared.inverses.Inverse.{Inverse}
 use Rattle.su_inverse.specs.Kept.{CanKeep, areas_of, IsKeptOf, IsPutBack}
 
-entry_kept : (T : Tree) (f : FileId) (v : Option Place) → AllByRecursion (CanKeep T) (areas_of_edits (entry_edits f v))
-entry_kept T (User u i) v = tt
-entry_kept T (Group g k) v = (tt, tt)
+pointer_kept : (T : Tree) (f : FileId) (v : Option Place) → AllByRecursion (CanKeep T) (areas_of_edits (pointer_edits f v))
+pointer_kept T (User u i) v = tt
+pointer_kept T (Group g k) v = (tt, tt)
 
 unlinked_kept : (T : Tree) (b : Bool) (l : ℕ) (file : FileId) (f : Place) → AllByRecursion (CanKeep T) (areas_of_edits (unlink_edits b l file f))
 unlinked_kept T true l file f = (tt, tt)
 unlinked_kept T false l (User u i) f = (tt, tt)
 unlinked_kept T false l (Group g k) f = (tt, (tt, tt))
 
-taken_kept : (T : Tree) (f : FileId) → AllByRecursion (CanKeep T) (entry_areas f)
+taken_kept : (T : Tree) (f : FileId) → AllByRecursion (CanKeep T) (pointer_areas f)
 taken_kept T (User u i) = tt
 taken_kept T (Group g k) = (tt, tt)
 
@@ -51,8 +51,8 @@ resized_kept T f false s t = (tt, (tt, tt))
 
 can_keep : (ro : Membership) (a : ℕ) (op : Op) (T : Tree) (p : Plan) → Gives (rule_of ro T a op) p → AllByRecursion (CanKeep T) (writes_of p)
 can_keep ro a (Create c) T p (user, (own, (touch, (touch', (d, at, (is, (holder, (free, (new, plan))))))))) =
-    let (_, nothing) = and_parts (is_entry_free T c.file) _ free in
-    subst (λ (p : Plan). AllByRecursion (CanKeep T) (writes_of p)) plan (tt, (nothing, (tt, (tt, entry_kept T c.file _))))
+    let (_, nothing) = and_parts (is_pointer_free T c.file) _ free in
+    subst (λ (p : Plan). AllByRecursion (CanKeep T) (writes_of p)) plan (tt, (nothing, (tt, (tt, pointer_kept T c.file _))))
 can_keep ro a (Unlink u) T p (user, (touch, (touch', (d, at, (f, at_f, (is, (holder, (holder', (named, (empty, plan)))))))))) =
     subst (λ (p : Plan). AllByRecursion (CanKeep T) (writes_of p)) plan (tt, unlinked_kept T _ _ u.file f)
 can_keep ro a (Write w) T p (user, (some, (touch, (f, at, (is, (holder, (fits, plan))))))) =

@@ -4,18 +4,18 @@ use Rattle.std.specs.List.{AllByRecursion}
 use Rattle.std.specs.FinMap.{get}
 use Rattle.su_node.specs.Inode.{bytes_of, within}
 use Rattle.su_node.specs.Field.{Field.KindOf, Field.LinksOf, Field.SizeOf, Field.BlockOf, Field.NameOf, Value.Nothing, Value.ANumber, Value.AFile, Value.APlace}
-use Rattle.su_node.specs.Change.{Change.Named, Change.Linked, Change.Copied, Change.Gone}
-use Rattle.su_table.specs.Place.{Place}
+use Rattle.su_node.specs.InodeChange.{InodeChange.Named, InodeChange.Linked, InodeChange.Copied, InodeChange.Gone}
+use Rattle.su_bytes.specs.Place.{Place}
 use Rattle.su_table.specs.Tree.{Tree}
-use Rattle.su_table.specs.Cell.{Cell, Cell.At, Cell.Entry, val}
+use Rattle.su_table.specs.Cell.{Cell, Cell.At, Cell.Pointer, val}
 use Rattle.su_table.specs.Query.{is_free_at, is_file_at}
-use Rattle.su_table.specs.Edit.{Edit, Edit.Inodes, Edit.Entries}
+use Rattle.su_table.specs.Edit.{Edit, Edit.Inodes, Edit.Pointers}
 use Rattle.su_op.specs.declared.areas.Part.TheVariants.{Kind as KindPart, Links as LinksPart, Size as SizePart, Name as NamePart, Blocks as BlocksPart, Whole as WholePart}
 use Rattle.su_op.specs.declared.areas.Area.{Area}
-use Rattle.su_op.specs.declared.areas.Area.TheVariants.{Inode as InodeArea, Entry as EntryArea}
+use Rattle.su_op.specs.declared.areas.Area.TheVariants.{Inode as InodeArea, Pointer as PointerArea}
 use Rattle.su_op.specs.Area.{has}
 use Rattle.su_inverse.specs.declared.returns.Return.{Return}
-use Rattle.su_inverse.specs.declared.returns.Return.TheVariants.{Inode as InodeReturn, Name as NameReturn, Entry as EntryReturn}
+use Rattle.su_inverse.specs.declared.returns.Return.TheVariants.{Inode as InodeReturn, Name as NameReturn, Pointer as PointerReturn}
 use Rattle.su_inverse.specs.declared.resets.Reset.{Reset}
 use Rattle.su_inverse.specs.declared.resets.Reset.TheVariants.{Nothing as NothingReset, Links as LinksReset}
 use Rattle.su_inverse.specs.declared.inverses.Kept.{Kept}
@@ -34,7 +34,7 @@ CanKeep T a = Unit {0}
 abbrev pub return_area : Return → Area
 return_area (InodeReturn p i) = InodeArea p WholePart
 return_area (NameReturn p x f) = InodeArea p (NamePart x)
-return_area (EntryReturn g p) = EntryArea g
+return_area (PointerReturn g p) = PointerArea g
 
 abbrev pub reset_area : Reset → Area
 reset_area (NothingReset a) = a
@@ -60,14 +60,14 @@ areas_of i = map return_area i.returns.items ++ (map size_area i.sizes.items ++ 
 abbrev pub HoldsReturn : Tree → Return → Type 0
 HoldsReturn T (InodeReturn p i) = get T.inodes p ≡ Some i
 HoldsReturn T (NameReturn p x f) = val T (At p (NameOf x)) ≡ AFile f
-HoldsReturn T (EntryReturn g p) = val T (Entry g) ≡ APlace p
+HoldsReturn T (PointerReturn g p) = val T (Pointer g) ≡ APlace p
 
--- nothing is in the area: there is no such name or entry, no file with blocks, and else no inode
+-- nothing is in the area: there is no such name or pointer, no file with blocks, and else no inode
 abbrev pub HoldsNothing : Tree → Area → Type 0
 HoldsNothing T (InodeArea p (NamePart x)) = val T (At p (NameOf x)) ≡ Nothing
 HoldsNothing T (InodeArea p (BlocksPart r)) = bytes_of (get T.inodes p) ≡ None
 HoldsNothing T (InodeArea p a) = val T (At p KindOf) ≡ Nothing
-HoldsNothing T (EntryArea g) = val T (Entry g) ≡ Nothing
+HoldsNothing T (PointerArea g) = val T (Pointer g) ≡ Nothing
 
 abbrev pub HoldsReset : Tree → Reset → Type 0
 HoldsReset T (NothingReset a) = HoldsNothing T a
@@ -108,7 +108,7 @@ pub record HoldsSame (w : Cell → Bool) (S : Tree) (T : Tree) : Type 0 where
 abbrev pub return_edit : Return → Edit
 return_edit (InodeReturn p i) = Inodes p (Copied i)
 return_edit (NameReturn p x f) = Inodes p (Named x (Some f))
-return_edit (EntryReturn g p) = Entries g (Some p)
+return_edit (PointerReturn g p) = Pointers g (Some p)
 
 -- links, a size and blocks go with their inode
 abbrev pub nothing_edits : Area → List Edit
@@ -116,7 +116,7 @@ nothing_edits (InodeArea p KindPart) = Inodes p Gone ∷ []
 nothing_edits (InodeArea p WholePart) = Inodes p Gone ∷ []
 nothing_edits (InodeArea p (NamePart x)) = Inodes p (Named x None) ∷ []
 nothing_edits (InodeArea p a) = []
-nothing_edits (EntryArea g) = Entries g None ∷ []
+nothing_edits (PointerArea g) = Pointers g None ∷ []
 
 abbrev pub reset_edits : Reset → List Edit
 reset_edits (NothingReset a) = nothing_edits a

@@ -2,7 +2,7 @@
 use Rattle.std.specs.Prelude.{◌≡◌, ◌≤◌, false, List, ◌++◌, map}
 use Rattle.std.specs.List.{AllByRecursion}
 use Rattle.su_node.specs.Field.{Field.SizeOf}
-use Rattle.su_table.specs.Place.{Place}
+use Rattle.su_bytes.specs.Place.{Place}
 use Rattle.su_table.specs.Tree.{Tree}
 use Rattle.su_table.specs.Cell.{Cell, Cell.At, val}
 use Rattle.su_table.specs.Query.{size_at}

@@ -1,25 +1,25 @@
 // The sizes and the bytes of files.
 ghost use Rattle.std.specs.Prelude.{◌≡◌, ◌+◌, ◌*◌, ◌<◌, ◌≤◌, [], length, IfErr, OnOk, OnErr};
-ghost use Rattle.su_node.specs.Change.{Change.Resized, Change.Written};
+ghost use Rattle.su_node.specs.InodeChange.{InodeChange.Resized, InodeChange.Written};
 ghost use Rattle.su_table.specs.Query.{size_at};
 ghost use Rattle.su_table.specs.Edit.{Edit.Inodes, edit};
 ghost use Rattle.su_bytes.specs.declared.refusals.Refusal.TheVariants.{NoMemory};
 
-use su_bytes::{FileId, Inum, Refusal, User};
+use su_bytes::{FileId, Place, Refusal, User};
 use su_op::BlockRun;
 use su_table::Forest;
 
 /// How many bytes a file had.
 #[derive(Drop)]
 pub(crate) struct KeptSize {
-    pub(crate) place: (User, Inum),
+    pub(crate) place: Place,
     pub(crate) size: u32,
 }
 
 /// The bytes that a file had in a run of blocks.
 #[derive(Drop)]
 pub(crate) struct KeptBlocks {
-    pub(crate) place: (User, Inum),
+    pub(crate) place: Place,
     pub(crate) run: BlockRun,
     pub(crate) bytes: Vec<u8>,
 }
@@ -40,7 +40,7 @@ impl KeptBlocks {
 }
 
 /// Makes a file that has fewer bytes as long as that.
-pub(crate) fn grow(forest: &mut Forest, place: (User, Inum), size: u32) -> Result<(), Refusal>
+pub(crate) fn grow(forest: &mut Forest, place: Place, size: u32) -> Result<(), Refusal>
     ensures grown { OnOk result (size_at forest.old place < size → forest.new ≡ edit forest.old (Inodes place (Resized (size_at forest.old place) size))) }
     ensures same { OnOk result (size ≤ size_at forest.old place → forest.new ≡ forest.old) }
     ensures refused { IfErr result (λ e. e ≡ NoMemory) }
@@ -55,7 +55,7 @@ pub(crate) fn grow(forest: &mut Forest, place: (User, Inum), size: u32) -> Resul
 }
 
 /// Cuts a file that has more bytes. That takes no memory.
-pub(crate) fn cut(forest: &mut Forest, place: (User, Inum), size: u32)
+pub(crate) fn cut(forest: &mut Forest, place: Place, size: u32)
     ensures cut { size < size_at forest.old place → forest.new ≡ edit forest.old (Inodes place (Resized (size_at forest.old place) size)) }
     ensures same { size_at forest.old place ≤ size → forest.new ≡ forest.old }
 {

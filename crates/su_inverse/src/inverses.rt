@@ -17,7 +17,7 @@ use crate::contents::{KeptBlocks, KeptSize, cut, grow};
 use crate::resets::Reset;
 use crate::returns::Return;
 use std::alloc::Global;
-use su_bytes::{FileId, Inum, Refusal, User};
+use su_bytes::{FileId, Place, Refusal};
 use su_node::Inode;
 use su_op::{Area, BlockRun, Part};
 use su_table::Forest;
@@ -143,10 +143,10 @@ fn keep(forest: &Forest, area: &Area) -> Result<Kept, Refusal>
                 None => nothing(area),
             }
         }
-        Area::Entry(file) => {
+        Area::Pointer(file) => {
             let (group, number) = *file;
             match forest.body(FileId::Group(group, number)) {
-                Some(place) => Ok(Kept::Return(Return::Entry(*file, place))),
+                Some(place) => Ok(Kept::Return(Return::Pointer(*file, place))),
                 None => nothing(area),
             }
         }
@@ -162,7 +162,7 @@ fn nothing(area: &Area) -> Result<Kept, Refusal>
 }
 
 /// The bytes of a run of blocks, of a file.
-fn keep_blocks(place: (User, Inum), inode: &Inode, run: BlockRun) -> Result<Kept, Refusal>
+fn keep_blocks(place: Place, inode: &Inode, run: BlockRun) -> Result<Kept, Refusal>
     ensures area { IfOk result (λ kept. kept_area kept ≡ InodeArea place (BlocksPart run)) }
     ensures holds { IfOk result (λ kept. (T : Tree) → get T.inodes place ≡ Some inode.now → HoldsKept T kept) }
     ensures refused { IfErr result (λ e. e ≡ NoMemory) }

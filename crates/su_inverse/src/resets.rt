@@ -3,7 +3,7 @@ ghost use Rattle.std.specs.Prelude.{◌≡◌};
 ghost use Rattle.su_table.specs.Edit.{edits};
 ghost use Rattle.su_inverse.specs.Kept.{reset_edits, nothing_edits};
 
-use su_bytes::{Inum, User};
+use su_bytes::{Place};
 use su_op::{Area, Part};
 use su_table::Forest;
 
@@ -12,7 +12,7 @@ use su_table::Forest;
 pub(crate) enum Reset {
     /// Nothing was in the area.
     Nothing(Area),
-    Links((User, Inum), u8),
+    Links(Place, u8),
 }
 
 impl Reset {
@@ -32,7 +32,7 @@ fn clear(area: &Area, forest: &mut Forest)
     ensures { forest.new ≡ edits forest.old (nothing_edits area.now) }
 {
     match area {
-        Area::Entry(file) => forest.remove_entry(*file),
+        Area::Pointer(file) => forest.remove_pointer(*file),
         Area::Inode(place, Part::Kind | Part::Whole) => forest.remove_inode(*place),
         Area::Inode(place, Part::Name(name)) => forest.remove_name(*place, name),
         Area::Inode(_, Part::Links | Part::Size | Part::Blocks(_)) => {}

@@ -2,34 +2,34 @@
 ghost use Rattle.std.specs.Prelude.{◌≡◌, true, false, IfOk, IfErr, OnOk, OnErr};
 ghost use Rattle.std.specs.Option.{is_some};
 ghost use Rattle.su_node.specs.Field.{Field.NameOf, file_value};
-ghost use Rattle.su_node.specs.Change.{Change.Named};
-ghost use Rattle.su_table.specs.Cell.{Cell.At, Cell.Entry, val};
+ghost use Rattle.su_node.specs.InodeChange.{InodeChange.Named};
+ghost use Rattle.su_table.specs.Cell.{Cell.At, Cell.Pointer, val};
 ghost use Rattle.su_table.specs.Query.{is_nothing, is_free_at, is_name_free_at};
-ghost use Rattle.su_table.specs.Edit.{Edit.Inodes, Edit.Entries, edit, back, restoring};
+ghost use Rattle.su_table.specs.Edit.{Edit.Inodes, Edit.Pointers, edit, back, restoring};
 ghost use Rattle.su_inverse.specs.Kept.{return_edit};
 ghost use Rattle.su_inverse.specs.Displaced.{displaced_edit, HasRoom};
 ghost use Rattle.su_bytes.specs.declared.refusals.Refusal.TheVariants.{NoMemory};
 
-use su_bytes::{FileId, Group, Inum, Name, Refusal, User};
+use su_bytes::{FileId, Group, GroupFile, Name, Place, Refusal};
 use su_node::Inode;
 use su_table::Forest;
 
 /// Something that stood in an area.
 #[derive(Drop)]
 pub(crate) enum Return {
-    Inode((User, Inum), Inode),
+    Inode(Place, Inode),
     /// In the directory there the name led to the file.
-    Name((User, Inum), Name, FileId),
-    /// The group file's entry pointed there.
-    Entry((Group, Inum), (User, Inum)),
+    Name(Place, Name, FileId),
+    /// The group file's pointer pointed there.
+    Pointer(GroupFile, Place),
 }
 
 /// What stood where something was brought back.
 #[derive(Drop)]
 pub(crate) enum Displaced {
-    Inode((User, Inum), Option<Inode>),
-    Name((User, Inum), Name, Option<FileId>),
-    Entry((Group, Inum), Option<(User, Inum)>),
+    Inode(Place, Option<Inode>),
+    Name(Place, Name, Option<FileId>),
+    Pointer(GroupFile, Option<Place>),
 }
 
 impl Return {
@@ -54,11 +54,11 @@ impl Return {
                 forest.add_name((user, number), name.clone()?, *file)?;
                 Ok(Displaced::Name((user, number), displaced, was))
             }
-            Return::Entry(file, place) => {
+            Return::Pointer(file, place) => {
                 let (group, number) = *file;
                 let was = forest.body(FileId::Group(group, number));
-                forest.put_entry((group, number), *place)?;
-                Ok(Displaced::Entry((group, number), was))
+                forest.put_pointer((group, number), *place)?;
+                Ok(Displaced::Pointer((group, number), was))
             }
         }
     }
@@ -73,13 +73,13 @@ impl Displaced {
         match self {
             Displaced::Inode(place, was) => give_back_inode(forest, place, was),
             Displaced::Name(place, name, was) => give_back_name(forest, place, name, was),
-            Displaced::Entry(file, was) => give_back_entry(forest, file, was),
+            Displaced::Pointer(file, was) => give_back_pointer(forest, file, was),
         }
     }
 }
 
 /// What stood at the place stands there again.
-fn give_back_inode(forest: &mut Forest, place: (User, Inum), was: Option<Inode>)
+fn give_back_inode(forest: &mut Forest, place: Place, was: Option<Inode>)
     requires { is_some was ≡ true → is_free_at forest.old place ≡ false }
     ensures { forest.new ≡ edit forest.old (Inodes place (restoring was)) }
 {
@@ -92,7 +92,7 @@ fn give_back_inode(forest: &mut Forest, place: (User, Inum), was: Option<Inode>)
 }
 
 /// The name leads there again, or is gone.
-fn give_back_name(forest: &mut Forest, place: (User, Inum), name: Name, was: Option<FileId>)
+fn give_back_name(forest: &mut Forest, place: Place, name: Name, was: Option<FileId>)
     requires { is_some was ≡ true → is_name_free_at forest.old place name ≡ false }
     ensures { forest.new ≡ edit forest.old (Inodes place (Named name was)) }
 {
@@ -104,21 +104,21 @@ fn give_back_name(forest: &mut Forest, place: (User, Inum), name: Name, was: Opt
     }
 }
 
-/// The entry points there again, or is gone.
-fn give_back_entry(forest: &mut Forest, file: (Group, Inum), was: Option<(User, Inum)>)
-    requires { is_some was ≡ true → is_nothing (val forest.old (Entry file)) ≡ false }
-    ensures { forest.new ≡ edit forest.old (Entries file was) }
+/// The pointer points there again, or is gone.
+fn give_back_pointer(forest: &mut Forest, file: GroupFile, was: Option<Place>)
+    requires { is_some was ≡ true → is_nothing (val forest.old (Pointer file)) ≡ false }
+    ensures { forest.new ≡ edit forest.old (Pointers file was) }
 {
     match was {
         Some(place) => {
-            let _done = forest.put_entry(file, place);
+            let _done = forest.put_pointer(file, place);
         }
-        None => forest.remove_entry(file),
+        None => forest.remove_pointer(file),
     }
 }
 
 /// Where the name leads, in a directory that has it.
-pub(crate) fn name_at(forest: &Forest, place: (User, Inum), name: &Name) -> Option<FileId>
+pub(crate) fn name_at(forest: &Forest, place: Place, name: &Name) -> Option<FileId>
     ensures { file_value result ≡ val forest.now (At place (NameOf name.now)) }
 {
     match forest.inode(place.0, place.1) {

@@ -5,7 +5,7 @@ use Rattle.std.proofs.lemmas.List.{length-take, length-drop, length-append, leng
 use Rattle.std.proofs.lemmas.Bool.{leb-true, leb-false}
 use Rattle.std.proofs.Math.Seq.{drop-nil}
 use Rattle.su_node.specs.Field.{block}
-use Rattle.su_node.specs.Change.{resized, written}
+use Rattle.su_node.specs.InodeChange.{with_size, with_bytes_at}
 use Rattle.su_node.specs.Stored.{AreBlocksOf, AreStored, AreZeroBlocks}
 
 -- ---- blocks
@@ -103,17 +103,17 @@ stored blocks bs size are e =
 
 -- ---- another size
 
-pub length-resized : (t : ℕ) (bs : List ℕ) → length (resized t bs) ≡ t
-unfolding resized
-length-resized t bs =
+pub length-with_size : (t : ℕ) (bs : List ℕ) → length (with_size t bs) ≡ t
+unfolding with_size
+length-with_size t bs =
     let a = length-append (take t bs) (replicate (t - length bs) 0) in
     let b = length-take t bs in
     let c = length-replicate {A = ℕ} (t - length bs) 0 in
     omega (arith, a, b, c)
 
-pub get_or-resized : (t : ℕ) (bs : List ℕ) (i : ℕ) → i < t → get_or (resized t bs) i 0 ≡ get_or bs i 0
-unfolding resized
-get_or-resized t bs i lt = go (leb (length (take t bs)) i) refl
+pub get_or-with_size : (t : ℕ) (bs : List ℕ) (i : ℕ) → i < t → get_or (with_size t bs) i 0 ≡ get_or bs i 0
+unfolding with_size
+get_or-with_size t bs i lt = go (leb (length (take t bs)) i) refl
   where
     l : length (take t bs) ≡ min t (length bs)
     l = length-take t bs
@@ -129,56 +129,56 @@ get_or-resized t bs i lt = go (leb (length (take t bs)) i) refl
         ∙ sym (get_or_past bs i 0 (omega (arith, l)))
 
 -- a list is the bytes at a size where it has that length and those bytes
-pub resized_is : (t : ℕ) (bs xs : List ℕ) → length xs ≡ t → ((i : ℕ) → i < t → get_or xs i 0 ≡ get_or bs i 0) → xs ≡ resized t bs
+pub resized_is : (t : ℕ) (bs xs : List ℕ) → length xs ≡ t → ((i : ℕ) → i < t → get_or xs i 0 ≡ get_or bs i 0) → xs ≡ with_size t bs
 resized_is t bs xs long each =
-    ext_get_or 0 xs (resized t bs) (long ∙ sym (length-resized t bs))
-    (λ i lt. let at : i < t = omega (arith, long) in each i at ∙ sym (get_or-resized t bs i at))
+    ext_get_or 0 xs (with_size t bs) (long ∙ sym (length-with_size t bs))
+    (λ i lt. let at : i < t = omega (arith, long) in each i at ∙ sym (get_or-with_size t bs i at))
 
-pub resized_same : (t : ℕ) (bs : List ℕ) → length bs ≡ t → bs ≡ resized t bs
+pub resized_same : (t : ℕ) (bs : List ℕ) → length bs ≡ t → bs ≡ with_size t bs
 resized_same t bs long = resized_is t bs bs long (λ i lt. refl)
 
-pub resized_cut : (t : ℕ) (bs : List ℕ) → t ≤ length bs → take t bs ≡ resized t bs
+pub resized_cut : (t : ℕ) (bs : List ℕ) → t ≤ length bs → take t bs ≡ with_size t bs
 resized_cut t bs le =
     let l = length-take t bs in
     resized_is t bs (take t bs) (omega (arith, l)) (λ i lt. get_or-take t bs i 0 lt)
 
-block-resized : (n t : ℕ) (bs : List ℕ) → resized (min 4096 (t - 4096 * n)) (block n bs) ≡ block n (resized t bs)
-block-resized n t bs =
+block-with_size : (n t : ℕ) (bs : List ℕ) → with_size (min 4096 (t - 4096 * n)) (block n bs) ≡ block n (with_size t bs)
+block-with_size n t bs =
     let m = min 4096 (t - 4096 * n) in
-    let l : length (resized m (block n bs)) ≡ m = length-resized m (block n bs) in
-    let k : length (resized t bs) ≡ t = length-resized t bs in
-    block_is n (resized t bs) (resized m (block n bs)) (l ∙ omega (arith, k))
+    let l : length (with_size m (block n bs)) ≡ m = length-with_size m (block n bs) in
+    let k : length (with_size t bs) ≡ t = length-with_size t bs in
+    block_is n (with_size t bs) (with_size m (block n bs)) (l ∙ omega (arith, k))
     (λ i lt.
-    get_or-resized m (block n bs) i (omega (arith, l)) ∙ get_or-block n bs i (omega (arith, l))
-    ∙ sym (get_or-resized t bs (4096 * n + i) (omega (arith, l))))
+    get_or-with_size m (block n bs) i (omega (arith, l)) ∙ get_or-block n bs i (omega (arith, l))
+    ∙ sym (get_or-with_size t bs (4096 * n + i) (omega (arith, l))))
 
 -- each block with its new length
 pub resized_blocks : (blocks new : List (List ℕ)) (bs : List ℕ) (t : ℕ) → AreBlocksOf blocks bs → length new ≡ (t + 4095) / 4096
-    → ((n : ℕ) → n < length new → get_or new n [] ≡ resized (min 4096 (t - 4096 * n)) (get_or blocks n [])) → AreBlocksOf new (resized t bs)
+    → ((n : ℕ) → n < length new → get_or new n [] ≡ with_size (min 4096 (t - 4096 * n)) (get_or blocks n [])) → AreBlocksOf new (with_size t bs)
 resized_blocks blocks new bs t are long each = record {
   each = λ n. go n (leb (length new) n) refl;
-  within = λ n lt. let l = length-resized t bs in omega (arith, long);
+  within = λ n lt. let l = length-with_size t bs in omega (arith, long);
 }
   where
-    go : (n : ℕ) (b : Bool) → leb (length new) n ≡ b → get_or new n [] ≡ block n (resized t bs)
-    go n false is = each n (leb-false (length new) n is) ∙ ap (resized (min 4096 (t - 4096 * n))) (are.each n) ∙ block-resized n t bs
+    go : (n : ℕ) (b : Bool) → leb (length new) n ≡ b → get_or new n [] ≡ block n (with_size t bs)
+    go n false is = each n (leb-false (length new) n is) ∙ ap (with_size (min 4096 (t - 4096 * n))) (are.each n) ∙ block-with_size n t bs
     go n true is =
         let past : length new ≤ n = leb-true (length new) n is in
-        let l = length-block n (resized t bs) in
-        let k = length-resized t bs in
-        get_or_past new n [] past ∙ sym (nil_from_length (block n (resized t bs)) (omega (arith, l, k, long)))
+        let l = length-block n (with_size t bs) in
+        let k = length-with_size t bs in
+        get_or_past new n [] past ∙ sym (nil_from_length (block n (with_size t bs)) (omega (arith, l, k, long)))
 
 -- the first blocks, with the last of them cut
 pub cut_blocks : (blocks new : List (List ℕ)) (bs : List ℕ) (t : ℕ) → AreBlocksOf blocks bs → t ≤ length bs → length new ≡ (t + 4095) / 4096
     → ((n : ℕ) → n + 1 < length new → get_or new n [] ≡ get_or blocks n [])
     → ((n : ℕ) → n + 1 ≡ length new → get_or new n [] ≡ take (t - 4096 * n) (get_or blocks n []))
-    → AreBlocksOf new (resized t bs)
+    → AreBlocksOf new (with_size t bs)
 cut_blocks blocks new bs t are le long same last = resized_blocks blocks new bs t are long (λ n lt. go n lt (nat_eq (n + 1) (length new)) refl)
   where
     size : (n : ℕ) → length (get_or blocks n []) ≡ min 4096 (length bs - 4096 * n)
     size n = ap length (are.each n) ∙ length-block n bs
 
-    go : (n : ℕ) → n < length new → (b : Bool) → nat_eq (n + 1) (length new) ≡ b → get_or new n [] ≡ resized (min 4096 (t - 4096 * n)) (get_or blocks n [])
+    go : (n : ℕ) → n < length new → (b : Bool) → nat_eq (n + 1) (length new) ≡ b → get_or new n [] ≡ with_size (min 4096 (t - 4096 * n)) (get_or blocks n [])
     go n lt true is =
         let at : n + 1 ≡ length new = grind (arith, is) in
         let s = size n in
@@ -192,15 +192,15 @@ cut_blocks blocks new bs t are le long same last = resized_blocks blocks new bs 
 -- the last block filled with zeros, and blocks of zeros behind it
 pub grown_blocks : (blocks new added : List (List ℕ)) (bs : List ℕ) (t : ℕ) → AreBlocksOf blocks bs → length bs ≤ t
     → length added ≡ (t + 4095) / 4096 - length blocks → AreZeroBlocks added (length blocks) t
-    → new ≡ set blocks (length blocks - 1) (resized (min 4096 (t - 4096 * (length blocks - 1))) (get_or blocks (length blocks - 1) [])) ++ added
-    → AreBlocksOf new (resized t bs)
+    → new ≡ set blocks (length blocks - 1) (with_size (min 4096 (t - 4096 * (length blocks - 1))) (get_or blocks (length blocks - 1) [])) ++ added
+    → AreBlocksOf new (with_size t bs)
 grown_blocks blocks new added bs t are le count zeros is = resized_blocks blocks new bs t are long (λ n lt. ap (λ xs. get_or xs n []) is ∙ go n lt (leb (length blocks) n) refl (nat_eq (n + 1) (length blocks)) refl)
   where
     filled : List (List ℕ)
-    filled = set blocks (length blocks - 1) (resized (min 4096 (t - 4096 * (length blocks - 1))) (get_or blocks (length blocks - 1) []))
+    filled = set blocks (length blocks - 1) (with_size (min 4096 (t - 4096 * (length blocks - 1))) (get_or blocks (length blocks - 1) []))
 
     filled_long : length filled ≡ length blocks
-    filled_long = length-set blocks (length blocks - 1) (resized (min 4096 (t - 4096 * (length blocks - 1))) (get_or blocks (length blocks - 1) []))
+    filled_long = length-set blocks (length blocks - 1) (with_size (min 4096 (t - 4096 * (length blocks - 1))) (get_or blocks (length blocks - 1) []))
 
     long : length new ≡ (t + 4095) / 4096
     long =
@@ -211,57 +211,57 @@ grown_blocks blocks new added bs t are le count zeros is = resized_blocks blocks
     size n = ap length (are.each n) ∙ length-block n bs
 
     go : (n : ℕ) → n < length new → (p : Bool) → leb (length blocks) n ≡ p → (q : Bool) → nat_eq (n + 1) (length blocks) ≡ q
-        → get_or (filled ++ added) n [] ≡ resized (min 4096 (t - 4096 * n)) (get_or blocks n [])
+        → get_or (filled ++ added) n [] ≡ with_size (min 4096 (t - 4096 * n)) (get_or blocks n [])
     go n lt true is' q is'' =
         let past : length blocks ≤ n = leb-true (length blocks) n is' in
         let at : length blocks + (n - length blocks) ≡ n = omega arith in
         get_or-append_right filled added (length blocks) n [] filled_long past
         ∙ zeros (n - length blocks) (omega (arith, long, count))
-        ∙ ap (λ m. resized (min 4096 (t - 4096 * m)) []) at
-        ∙ ap (resized (min 4096 (t - 4096 * n))) (sym (get_or_past blocks n [] past))
+        ∙ ap (λ m. with_size (min 4096 (t - 4096 * m)) []) at
+        ∙ ap (with_size (min 4096 (t - 4096 * n))) (sym (get_or_past blocks n [] past))
     go n lt false is' true is'' =
         let below : n < length blocks = leb-false (length blocks) n is' in
         let at : length blocks - 1 ≡ n = grind (arith, is'') in
         get_or_append_left filled added [] n (omega (arith, filled_long))
-        ∙ ap (λ m. get_or (set blocks m (resized (min 4096 (t - 4096 * m)) (get_or blocks m []))) n []) at
-        ∙ get_or-set_same blocks n (resized (min 4096 (t - 4096 * n)) (get_or blocks n [])) [] below
+        ∙ ap (λ m. get_or (set blocks m (with_size (min 4096 (t - 4096 * m)) (get_or blocks m []))) n []) at
+        ∙ get_or-set_same blocks n (with_size (min 4096 (t - 4096 * n)) (get_or blocks n [])) [] below
     go n lt false is' false is'' =
         let below : n < length blocks = leb-false (length blocks) n is' in
         let before : n + 1 < length blocks = grind (arith, is'', below) in
         let more = are.within (n + 1) before in
         let s = size n in
         get_or_append_left filled added [] n (omega (arith, filled_long))
-        ∙ get_or-set_other blocks (length blocks - 1) n (resized (min 4096 (t - 4096 * (length blocks - 1))) (get_or blocks (length blocks - 1) [])) [] (λ e. omega (arith, e))
+        ∙ get_or-set_other blocks (length blocks - 1) n (with_size (min 4096 (t - 4096 * (length blocks - 1))) (get_or blocks (length blocks - 1) [])) [] (λ e. omega (arith, e))
         ∙ resized_same (min 4096 (t - 4096 * n)) (get_or blocks n []) (omega (arith, s))
 
 -- ---- bytes written
 
-pub length-written : (off : ℕ) (xs bs : List ℕ) → length (written off xs bs) ≡ max (off + length xs) (length bs)
-unfolding written
-length-written off xs bs =
-    let a = length-append (resized off bs) (xs ++ drop (off + length xs) bs) in
+pub length-with_bytes_at : (off : ℕ) (xs bs : List ℕ) → length (with_bytes_at off xs bs) ≡ max (off + length xs) (length bs)
+unfolding with_bytes_at
+length-with_bytes_at off xs bs =
+    let a = length-append (with_size off bs) (xs ++ drop (off + length xs) bs) in
     let b = length-append xs (drop (off + length xs) bs) in
     let c = length-drop (off + length xs) bs in
-    let d = length-resized off bs in
+    let d = length-with_size off bs in
     omega (arith, a, b, c, d)
 
-pub get_or-written_in : (off : ℕ) (xs bs : List ℕ) (i : ℕ) → off ≤ i → i < off + length xs → get_or (written off xs bs) i 0 ≡ get_or xs (i - off) 0
-unfolding written
+pub get_or-written_in : (off : ℕ) (xs bs : List ℕ) (i : ℕ) → off ≤ i → i < off + length xs → get_or (with_bytes_at off xs bs) i 0 ≡ get_or xs (i - off) 0
+unfolding with_bytes_at
 get_or-written_in off xs bs i low high =
-    get_or-append_right (resized off bs) (xs ++ drop (off + length xs) bs) off i 0 (length-resized off bs) low
+    get_or-append_right (with_size off bs) (xs ++ drop (off + length xs) bs) off i 0 (length-with_size off bs) low
     ∙ get_or_append_left xs (drop (off + length xs) bs) 0 (i - off) (omega arith)
 
-pub get_or-written_before : (off : ℕ) (xs bs : List ℕ) (i : ℕ) → i < off → get_or (written off xs bs) i 0 ≡ get_or bs i 0
-unfolding written
+pub get_or-written_before : (off : ℕ) (xs bs : List ℕ) (i : ℕ) → i < off → get_or (with_bytes_at off xs bs) i 0 ≡ get_or bs i 0
+unfolding with_bytes_at
 get_or-written_before off xs bs i lt =
-    let l : length (resized off bs) ≡ off = length-resized off bs in
-    get_or_append_left (resized off bs) (xs ++ drop (off + length xs) bs) 0 i (omega arith) ∙ get_or-resized off bs i lt
+    let l : length (with_size off bs) ≡ off = length-with_size off bs in
+    get_or_append_left (with_size off bs) (xs ++ drop (off + length xs) bs) 0 i (omega arith) ∙ get_or-with_size off bs i lt
 
-pub get_or-written_after : (off : ℕ) (xs bs : List ℕ) (i : ℕ) → off + length xs ≤ i → get_or (written off xs bs) i 0 ≡ get_or bs i 0
-unfolding written
+pub get_or-written_after : (off : ℕ) (xs bs : List ℕ) (i : ℕ) → off + length xs ≤ i → get_or (with_bytes_at off xs bs) i 0 ≡ get_or bs i 0
+unfolding with_bytes_at
 get_or-written_after off xs bs i le =
     let at : off + length xs + (i - off - length xs) ≡ i = omega arith in
-    get_or-append_right (resized off bs) (xs ++ drop (off + length xs) bs) off i 0 (length-resized off bs) (omega arith)
+    get_or-append_right (with_size off bs) (xs ++ drop (off + length xs) bs) off i 0 (length-with_size off bs) (omega arith)
     ∙ get_or-append_right xs (drop (off + length xs) bs) (length xs) (i - off) 0 refl (omega arith)
     ∙ get_or-drop (off + length xs) bs (i - off - length xs) 0 ∙ ap (λ j. get_or bs j 0) at
 
@@ -270,10 +270,10 @@ pub written_is : (off : ℕ) (xs bs ys : List ℕ) → length ys ≡ max (off + 
     → ((i : ℕ) → i < off → get_or ys i 0 ≡ get_or bs i 0)
     → ((i : ℕ) → off ≤ i → i < off + length xs → get_or ys i 0 ≡ get_or xs (i - off) 0)
     → ((i : ℕ) → off + length xs ≤ i → get_or ys i 0 ≡ get_or bs i 0)
-    → ys ≡ written off xs bs
-written_is off xs bs ys long before in_ after = ext_get_or 0 ys (written off xs bs) (long ∙ sym (length-written off xs bs)) (λ i lt. go i (leb off i) refl (leb (off + length xs) i) refl)
+    → ys ≡ with_bytes_at off xs bs
+written_is off xs bs ys long before in_ after = ext_get_or 0 ys (with_bytes_at off xs bs) (long ∙ sym (length-with_bytes_at off xs bs)) (λ i lt. go i (leb off i) refl (leb (off + length xs) i) refl)
   where
-    go : (i : ℕ) (p : Bool) → leb off i ≡ p → (q : Bool) → leb (off + length xs) i ≡ q → get_or ys i 0 ≡ get_or (written off xs bs) i 0
+    go : (i : ℕ) (p : Bool) → leb off i ≡ p → (q : Bool) → leb (off + length xs) i ≡ q → get_or ys i 0 ≡ get_or (with_bytes_at off xs bs) i 0
     go i false is q is' = let h : i < off = leb-false off i is in before i h ∙ sym (get_or-written_before off xs bs i h)
     go i true is false is' =
         let h : off ≤ i = leb-true off i is in
@@ -282,23 +282,23 @@ written_is off xs bs ys long before in_ after = ext_get_or 0 ys (written off xs 
     go i true is true is' = let k : off + length xs ≤ i = leb-true (off + length xs) i is' in after i k ∙ sym (get_or-written_after off xs bs i k)
 
 -- nothing written
-pub written_nothing : (off : ℕ) (bs : List ℕ) → off ≤ length bs → bs ≡ written off [] bs
+pub written_nothing : (off : ℕ) (bs : List ℕ) → off ≤ length bs → bs ≡ with_bytes_at off [] bs
 written_nothing off bs le = written_is off [] bs bs (omega arith) (λ i lt. refl) (λ i low high. absurd (omega arith)) (λ i high. refl)
 
 -- what is written into the file that has grown for it
-pub written_grown : (off : ℕ) (xs bs : List ℕ) → length bs < off + length xs → written off xs (resized (off + length xs) bs) ≡ written off xs bs
+pub written_grown : (off : ℕ) (xs bs : List ℕ) → length bs < off + length xs → with_bytes_at off xs (with_size (off + length xs) bs) ≡ with_bytes_at off xs bs
 written_grown off xs bs lt =
     let t = off + length xs in
-    let r : length (resized t bs) ≡ t = length-resized t bs in
-    let l = length-written off xs (resized t bs) in
-    written_is off xs bs (written off xs (resized t bs)) (omega (arith, l, r))
-    (λ i h. get_or-written_before off xs (resized t bs) i h ∙ get_or-resized t bs i (omega arith))
-    (λ i low high. get_or-written_in off xs (resized t bs) i low high)
-    (λ i high. get_or-written_after off xs (resized t bs) i high ∙ get_or_past (resized t bs) i 0 (omega (arith, r)) ∙ sym (get_or_past bs i 0 (omega arith)))
+    let r : length (with_size t bs) ≡ t = length-with_size t bs in
+    let l = length-with_bytes_at off xs (with_size t bs) in
+    written_is off xs bs (with_bytes_at off xs (with_size t bs)) (omega (arith, l, r))
+    (λ i h. get_or-written_before off xs (with_size t bs) i h ∙ get_or-with_size t bs i (omega arith))
+    (λ i low high. get_or-written_in off xs (with_size t bs) i low high)
+    (λ i high. get_or-written_after off xs (with_size t bs) i high ∙ get_or_past (with_size t bs) i 0 (omega (arith, r)) ∙ sym (get_or_past bs i 0 (omega arith)))
 
 -- what a slice holds after a part of it was copied over
 pub copied_over : (xs bs rest : List ℕ) (off k n : ℕ) → off + length xs ≤ length bs → k ≡ length xs → n ≡ length bs
-    → take n ((take off bs ++ (xs ++ drop k (drop off bs))) ++ rest) ≡ written off xs bs
+    → take n ((take off bs ++ (xs ++ drop k (drop off bs))) ++ rest) ≡ with_bytes_at off xs bs
 copied_over xs bs rest off k n fits k_is n_is = take_at (take off bs ++ (xs ++ drop k (drop off bs))) rest n (long ∙ sym n_is)
     ∙ written_is off xs bs (take off bs ++ (xs ++ drop k (drop off bs))) (long ∙ omega arith) before in_ after
   where
@@ -327,10 +327,10 @@ copied_over xs bs rest off k n fits k_is n_is = take_at (take off bs ++ (xs ++ d
 -- the blocks after one more of them has its bytes
 module _ (bs xs : List ℕ) (off : ℕ) (fits : off + length xs ≤ length bs) where
   abbrev so_far : ℕ → List ℕ
-  so_far k = written off (take k xs) bs
+  so_far k = with_bytes_at off (take k xs) bs
 
   length-so_far : (k : ℕ) → length (so_far k) ≡ length bs
-  length-so_far k = let l = length-take k xs in length-written off (take k xs) bs ∙ omega (arith, l)
+  length-so_far k = let l = length-take k xs in length-with_bytes_at off (take k xs) bs ∙ omega (arith, l)
 
   before : (k i : ℕ) → i < off → get_or (so_far k) i 0 ≡ get_or bs i 0
   before k i lt = get_or-written_before off (take k xs) bs i lt
@@ -368,14 +368,14 @@ module _ (bs xs : List ℕ) (off : ℕ) (fits : off + length xs ≤ length bs) w
     block_long = length-block n (so_far k) ∙ ap (λ l. min 4096 (l - 4096 * n)) (length-so_far k)
 
     -- the block of that number
-    here : written (first - 4096 * n) piece (block n (so_far k)) ≡ block n (so_far m)
-    here = block_is n (so_far m) (written (first - 4096 * n) piece (block n (so_far k))) long (λ i lt. go i (omega (arith, lt, long, length-so_far m)) (leb first (4096 * n + i)) refl (leb (off + length xs) (4096 * n + i)) refl)
+    here : with_bytes_at (first - 4096 * n) piece (block n (so_far k)) ≡ block n (so_far m)
+    here = block_is n (so_far m) (with_bytes_at (first - 4096 * n) piece (block n (so_far k))) long (λ i lt. go i (omega (arith, lt, long, length-so_far m)) (leb first (4096 * n + i)) refl (leb (off + length xs) (4096 * n + i)) refl)
       where
-        long : length (written (first - 4096 * n) piece (block n (so_far k))) ≡ min 4096 (length (so_far m) - 4096 * n)
-        long = let l = length-so_far m in length-written (first - 4096 * n) piece (block n (so_far k)) ∙ omega (arith, l, piece_long, block_long, fits, first_is, last_is, reached, within)
+        long : length (with_bytes_at (first - 4096 * n) piece (block n (so_far k))) ≡ min 4096 (length (so_far m) - 4096 * n)
+        long = let l = length-so_far m in length-with_bytes_at (first - 4096 * n) piece (block n (so_far k)) ∙ omega (arith, l, piece_long, block_long, fits, first_is, last_is, reached, within)
 
         go : (i : ℕ) → i < 4096 → (p : Bool) → leb first (4096 * n + i) ≡ p → (q : Bool) → leb (off + length xs) (4096 * n + i) ≡ q
-            → get_or (written (first - 4096 * n) piece (block n (so_far k))) i 0 ≡ get_or (so_far m) (4096 * n + i) 0
+            → get_or (with_bytes_at (first - 4096 * n) piece (block n (so_far k))) i 0 ≡ get_or (so_far m) (4096 * n + i) 0
         go i lt false is q is' =
             let h : 4096 * n + i < first = leb-false first (4096 * n + i) is in
             get_or-written_before (first - 4096 * n) piece (block n (so_far k)) i (omega (arith, first_is))
@@ -409,14 +409,14 @@ module _ (bs xs : List ℕ) (off : ℕ) (fits : off + length xs ≤ length bs) w
             go true is = let h = leb-true (off + length xs) (4096 * j + i) is in inr (omega (arith, m_is))
             go false is = let h = leb-false (off + length xs) (4096 * j + i) is in inl (omega (arith, k_is))
 
-    pub written_blocks : (blocks : List (List ℕ)) → AreBlocksOf blocks (so_far k) → AreBlocksOf (set blocks n (written (first - 4096 * n) piece (get_or blocks n []))) (so_far m)
+    pub written_blocks : (blocks : List (List ℕ)) → AreBlocksOf blocks (so_far k) → AreBlocksOf (set blocks n (with_bytes_at (first - 4096 * n) piece (get_or blocks n []))) (so_far m)
     written_blocks blocks are = record {
       each = λ j. go j (leb n j) refl (leb j n) refl;
       within = λ j lt. let w = are.within j (omega (arith, length-set blocks n new)) in omega (arith, w, length-so_far k, length-so_far m);
     }
       where
         new : List ℕ
-        new = written (first - 4096 * n) piece (get_or blocks n [])
+        new = with_bytes_at (first - 4096 * n) piece (get_or blocks n [])
 
         there : n < length blocks
         there = reaches blocks (so_far k) are n (omega (arith, length-so_far k, fits, within))
@@ -427,7 +427,7 @@ module _ (bs xs : List ℕ) (off : ℕ) (fits : off + length xs ≤ length bs) w
             let b = leb-true j n is' in
             let at : j ≡ n = omega arith in
             ap (λ i. get_or (set blocks n new) i []) at ∙ get_or-set_same blocks n new [] there
-            ∙ ap (written (first - 4096 * n) piece) (are.each n) ∙ here ∙ ap (λ i. block i (so_far m)) (sym at)
+            ∙ ap (with_bytes_at (first - 4096 * n) piece) (are.each n) ∙ here ∙ ap (λ i. block i (so_far m)) (sym at)
         go j false is q is' =
             let a = leb-false n j is in
             get_or-set_other blocks n j new [] (λ e. omega (arith, e)) ∙ are.each j ∙ elsewhere j (inl a)
@@ -446,10 +446,10 @@ no_blocks blocks none = stored blocks [] 0 (record {
 -- ---- blocks of zeros
 
 pub zeros_more : (blocks more : List (List ℕ)) (zeros : List ℕ) (first t n : ℕ) → AreZeroBlocks blocks first t → first + length blocks ≡ n
-    → zeros ≡ resized (min 4096 (t - 4096 * n)) [] → more ≡ blocks ++ zeros ∷ [] → AreZeroBlocks more first t
+    → zeros ≡ with_size (min 4096 (t - 4096 * n)) [] → more ≡ blocks ++ zeros ∷ [] → AreZeroBlocks more first t
 zeros_more blocks more zeros first t n are at is more_is k lt = ap (λ xs. get_or xs k []) more_is ∙ go (leb (length blocks) k) refl
   where
-    go : (b : Bool) → leb (length blocks) k ≡ b → get_or (blocks ++ zeros ∷ []) k [] ≡ resized (min 4096 (t - 4096 * (first + k))) []
+    go : (b : Bool) → leb (length blocks) k ≡ b → get_or (blocks ++ zeros ∷ []) k [] ≡ with_size (min 4096 (t - 4096 * (first + k))) []
     go false e = let h : k < length blocks = leb-false (length blocks) k e in get_or_append_left blocks (zeros ∷ []) [] k h ∙ are k h
     go true e =
         let h : length blocks ≤ k = leb-true (length blocks) k e in
@@ -457,7 +457,7 @@ zeros_more blocks more zeros first t n are at is more_is k lt = ap (λ xs. get_o
         let same : k ≡ length blocks = omega (arith, lt, l) in
         let there : n ≡ first + k = omega (arith, at) in
         ap (λ j. get_or (blocks ++ zeros ∷ []) j []) same ∙ get_or_push blocks zeros [] (length blocks) refl
-        ∙ is ∙ ap (λ j. resized (min 4096 (t - 4096 * j)) []) there
+        ∙ is ∙ ap (λ j. with_size (min 4096 (t - 4096 * j)) []) there
 
 -- ---- bytes read
 
@@ -541,7 +541,7 @@ read_all bs off len start count start_is count_is =
 -- ---- blocks cut
 
 pub cut_is : (blocks kept : List (List ℕ)) (bs : List ℕ) (t c : ℕ) (x y : List ℕ) → AreBlocksOf blocks bs → t ≤ length bs → c ≡ (t + 4095) / 4096 → kept ≡ take c blocks → 0 < c
-    → x ≡ get_or kept (c - 1) x → y ≡ take (t - (c - 1) * 4096) x → AreBlocksOf (set kept (c - 1) y) (resized t bs)
+    → x ≡ get_or kept (c - 1) x → y ≡ take (t - (c - 1) * 4096) x → AreBlocksOf (set kept (c - 1) y) (with_size t bs)
 cut_is blocks kept bs t c x y are le c_is kept_is some x_is y_is = cut_blocks blocks (set kept (c - 1) y) bs t are le (length-set kept (c - 1) y ∙ long ∙ c_is) same last
   where
     long : length kept ≡ c
@@ -561,7 +561,7 @@ cut_is blocks kept bs t c x y are le c_is kept_is some x_is y_is = cut_blocks bl
         ∙ y_is ∙ (λ i. take (k i) (x_is i)) ∙ ap (take (t - 4096 * n)) (get_or_default kept (c - 1) x [] (omega (arith, long, some)) ∙ ap (λ j. get_or kept j []) (sym at) ∙ ap (λ xs. get_or xs n []) kept_is
         ∙ get_or-take c blocks n [] (omega (arith, at, some)))
 
-pub cut_to_none : (blocks kept : List (List ℕ)) (bs : List ℕ) (t c : ℕ) → AreBlocksOf blocks bs → t ≤ length bs → c ≡ (t + 4095) / 4096 → kept ≡ take c blocks → c ≤ 0 → AreBlocksOf kept (resized t bs)
+pub cut_to_none : (blocks kept : List (List ℕ)) (bs : List ℕ) (t c : ℕ) → AreBlocksOf blocks bs → t ≤ length bs → c ≡ (t + 4095) / 4096 → kept ≡ take c blocks → c ≤ 0 → AreBlocksOf kept (with_size t bs)
 cut_to_none blocks kept bs t c are le c_is kept_is none = cut_blocks blocks kept bs t are le (long ∙ c_is) (λ n lt. absurd (omega (arith, lt, long, none))) (λ n e. absurd (omega (arith, e, long, none)))
   where
     long : length kept ≡ c
@@ -570,37 +570,37 @@ cut_to_none blocks kept bs t c are le c_is kept_is none = cut_blocks blocks kept
 -- ---- taken back
 
 -- what stood there written again, at the size before
-pub written_back : (off : ℕ) (xs bs : List ℕ) → resized (length bs) (written off (take (length xs) (drop off bs)) (written off xs bs)) ≡ bs
+pub written_back : (off : ℕ) (xs bs : List ℕ) → with_size (length bs) (with_bytes_at off (take (length xs) (drop off bs)) (with_bytes_at off xs bs)) ≡ bs
 written_back off xs bs = sym (resized_is (length bs) again bs refl (λ i lt. go i lt (leb off i) refl (leb (off + length kept) i) refl))
   where
     kept : List ℕ
     kept = take (length xs) (drop off bs)
 
     again : List ℕ
-    again = written off kept (written off xs bs)
+    again = with_bytes_at off kept (with_bytes_at off xs bs)
 
     kept_long : length kept ≡ min (length xs) (length bs - off)
     kept_long = length-take (length xs) (drop off bs) ∙ ap (min (length xs)) (length-drop off bs)
 
     go : (i : ℕ) → i < length bs → (p : Bool) → leb off i ≡ p → (q : Bool) → leb (off + length kept) i ≡ q → get_or bs i 0 ≡ get_or again i 0
-    go i lt false is q is' = let h : i < off = leb-false off i is in sym (get_or-written_before off kept (written off xs bs) i h ∙ get_or-written_before off xs bs i h)
+    go i lt false is q is' = let h : i < off = leb-false off i is in sym (get_or-written_before off kept (with_bytes_at off xs bs) i h ∙ get_or-written_before off xs bs i h)
     go i lt true is false is' =
         let h : off ≤ i = leb-true off i is in
         let g : i < off + length kept = leb-false (off + length kept) i is' in
         let at : off + (i - off) ≡ i = omega arith in
-        sym (get_or-written_in off kept (written off xs bs) i h g ∙ get_or-take (length xs) (drop off bs) (i - off) 0 (omega (arith, kept_long)) ∙ get_or-drop off bs (i - off) 0 ∙ ap (λ j. get_or bs j 0) at)
+        sym (get_or-written_in off kept (with_bytes_at off xs bs) i h g ∙ get_or-take (length xs) (drop off bs) (i - off) 0 (omega (arith, kept_long)) ∙ get_or-drop off bs (i - off) 0 ∙ ap (λ j. get_or bs j 0) at)
     go i lt true is true is' =
         let g : off + length kept ≤ i = leb-true (off + length kept) i is' in
-        sym (get_or-written_after off kept (written off xs bs) i g ∙ get_or-written_after off xs bs i (omega (arith, kept_long)))
+        sym (get_or-written_after off kept (with_bytes_at off xs bs) i g ∙ get_or-written_after off xs bs i (omega (arith, kept_long)))
 
 -- what was cut off written again, at the size before
-pub resized_back : (t : ℕ) (bs : List ℕ) → resized (length bs) (written t (drop t bs) (resized t bs)) ≡ bs
-resized_back t bs = sym (resized_is (length bs) (written t (drop t bs) (resized t bs)) bs refl (λ i lt. go i lt (leb t i) refl))
+pub resized_back : (t : ℕ) (bs : List ℕ) → with_size (length bs) (with_bytes_at t (drop t bs) (with_size t bs)) ≡ bs
+resized_back t bs = sym (resized_is (length bs) (with_bytes_at t (drop t bs) (with_size t bs)) bs refl (λ i lt. go i lt (leb t i) refl))
   where
-    go : (i : ℕ) → i < length bs → (p : Bool) → leb t i ≡ p → get_or bs i 0 ≡ get_or (written t (drop t bs) (resized t bs)) i 0
-    go i lt false is = let h : i < t = leb-false t i is in sym (get_or-written_before t (drop t bs) (resized t bs) i h ∙ get_or-resized t bs i h)
+    go : (i : ℕ) → i < length bs → (p : Bool) → leb t i ≡ p → get_or bs i 0 ≡ get_or (with_bytes_at t (drop t bs) (with_size t bs)) i 0
+    go i lt false is = let h : i < t = leb-false t i is in sym (get_or-written_before t (drop t bs) (with_size t bs) i h ∙ get_or-with_size t bs i h)
     go i lt true is =
         let h : t ≤ i = leb-true t i is in
         let l = length-drop t bs in
         let at : t + (i - t) ≡ i = omega arith in
-        sym (get_or-written_in t (drop t bs) (resized t bs) i h (omega (arith, l, lt)) ∙ get_or-drop t bs (i - t) 0 ∙ ap (λ j. get_or bs j 0) at)
+        sym (get_or-written_in t (drop t bs) (with_size t bs) i h (omega (arith, l, lt)) ∙ get_or-drop t bs (i - t) 0 ∙ ap (λ j. get_or bs j 0) at)

@@ -9,7 +9,7 @@ use Rattle.std.specs.List.Sorted.{IsStrictlySortedBy}
 use Rattle.std.specs.Map.{lookup, keys_of}
 use Rattle.std.specs.BTreeMap.{is_at, insert_entry}
 use Rattle.std.specs.FinMap.{FinMap, get, find, from_entries, entries, empty, len, len-entries, len-empty, entries-insert, put, get-from_entries, get-insert, get-remove, same_map, IsAntisymmetric}
-use Rattle.su_node.specs.Change.{set_key}
+use Rattle.su_node.specs.InodeChange.{set_key}
 
 -- a scan from the front is std's look-up
 pub find-lookup : {K X : Type 0} (R : K → K → Ordering) (q : K) (es : List (K × X)) → find R q es ≡ lookup (is_at (R q)) es

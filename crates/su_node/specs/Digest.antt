@@ -1,6 +1,6 @@
 -- The digest of an inode. (SUNDR, section 3: the digest of an i-table covers its inodes, and that of an inode its blocks or
 -- names. The bytes that are hashed are this project's own format.)
-use Rattle.std.specs.Prelude.{ℕ, ◌+◌, ◌/◌, List, ◌∷◌, ◌++◌, length, map}
+use Rattle.std.specs.Prelude.{ℕ, ◌+◌, ◌-◌, ◌/◌, List, ◌∷◌, ◌++◌, length, map}
 use Rattle.std.specs.Int.{w32, to_be_bytes}
 use Rattle.std.specs.List.{range_with_len}
 use Rattle.std.specs.FinMap.{entries}
@@ -12,15 +12,16 @@ use Rattle.su_tree.specs.Number.{numbers}
 use Rattle.su_tree.specs.Name.{names}
 use Rattle.su_tree.specs.Value.{file_id_bytes}
 use Rattle.su_node.specs.Inode.{Inode, Content, Content.Bytes, Content.Names, kind_of, size_of}
+use Rattle.su_node.specs.declared.blocks.TheConstants.{BLOCK_SIZE}
 use Rattle.su_node.specs.Field.{block}
 
 -- what is hashed of a block of a file
 abbrev pub block_item : List ℕ → List ℕ
 block_item bytes = 4 ∷ bytes
 
--- how many blocks of 4,096 bytes, of which the last may be shorter, a file of that size has
+-- how many blocks, of which the last may be shorter, a file of that size has
 abbrev pub block_count : ℕ → ℕ
-block_count size = (size + 4095) / 4096
+block_count size = (size + (BLOCK_SIZE - 1)) / BLOCK_SIZE
 
 -- the blocks of a file by their numbers from 0 on, each as its SHA-256
 unfoldable pub block_digests : List ℕ → List (ℕ × List ℕ)

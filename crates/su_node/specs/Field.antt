@@ -4,9 +4,10 @@ use Rattle.std.specs.FinMap.{get}
 use Rattle.su_bytes.specs.declared.file_ids.FileId.{FileId}
 use Rattle.su_bytes.specs.declared.file_ids.Kind.{Kind}
 use Rattle.su_node.specs.Name.{Name}
+use Rattle.su_node.specs.declared.blocks.TheConstants.{BLOCK_SIZE}
 use Rattle.su_node.specs.Inode.{Inode, Content, Content.Bytes, Content.Names, kind_of, size_of}
 
--- its kind and home, its links, its size, each block of 4,096 bytes, each name
+-- its kind and home, its links, its size, each block of its bytes, each name
 pub data Field : Type 0 where
   KindOf LinksOf SizeOf : Field
   BlockOf : ℕ → Field
@@ -21,9 +22,9 @@ pub data Value : Type 0 where
   AFile : FileId → Value
   APlace : ℕ × ℕ → Value
 
--- block n of a file's bytes: those from 4096 n on, at most 4096 of them
+-- block n of a file's bytes: each block has 4,096 bytes, but for the last one, which may have fewer
 unfoldable pub block : ℕ → List ℕ → List ℕ
-block n bs = take 4096 (drop (4096 * n) bs)
+block n bs = take BLOCK_SIZE (drop (BLOCK_SIZE * n) bs)
 
 -- a block that has no byte is no block
 abbrev pub block_value : List ℕ → Value

@@ -2,7 +2,7 @@ pub mod Digest
 pub mod Name
 pub mod Inode
 pub mod Field
-pub mod Change
+pub mod InodeChange
 pub mod Stored
 pub mod Code
 pub mod View

@@ -1,7 +1,8 @@
 // The bytes of a file, in blocks.
 ghost use Rattle.std.specs.Prelude.{◌≡◌, ◌+◌, ◌-◌, ◌*◌, ◌/◌, ◌<◌, ◌≤◌, ◌^◌, [], IfOk, IsOk, OnOk, OnErr, length, min, take, slice_set, slice_index_or, vec_capacity};
-ghost use Rattle.su_node.specs.Change.{resized, written};
+ghost use Rattle.su_node.specs.InodeChange.{with_size, with_bytes_at};
 ghost use Rattle.su_node.specs.Inode.{within};
+ghost use Rattle.su_node.specs.Digest.{block_count};
 ghost use Rattle.su_node.specs.Stored.{AreZeroBlocks};
 
 mod digests;
@@ -9,8 +10,8 @@ mod digests;
 use std::alloc::{AllocError, Global};
 use std::marker::Model;
 
-/// The size in bytes of each block of a file but the last.
-const BLOCK_SIZE: usize = 4096;
+/// Bytes of each block of a file but the last.
+pub const BLOCK_SIZE: usize = 4096;
 
 /// A block of a file.
 #[derive(Drop)]
@@ -29,7 +30,7 @@ impl Model for Block {
 impl Block {
     /// A block of zeros.
     fn zeros(alloc: Global, size: usize) -> Result<Block, AllocError>
-        ensures value { IfOk result (λ block. block ≡ resized size []) }
+        ensures value { IfOk result (λ block. block ≡ with_size size []) }
     {
         let mut bytes = Vec::with_capacity(alloc, size)?;
         bytes.resize(size, 0)?;
@@ -52,7 +53,7 @@ impl Block {
 
     /// The block with another size: cut, or with zeros behind it.
     fn resize(&mut self, size: usize) -> Result<(), AllocError>
-        ensures ok { OnOk result (self.new ≡ resized size self.old) }
+        ensures ok { OnOk result (self.new ≡ with_size size self.old) }
         ensures err { OnErr result (self.new ≡ self.old) }
     {
         self.bytes.resize(size, 0)?;
@@ -69,7 +70,7 @@ impl Block {
     /// These bytes in place of those that stand there.
     fn overwrite(&mut self, start: usize, bytes: &[u8])
         requires { start + length bytes.now ≤ length self.old }
-        ensures { self.new ≡ written start bytes.now self.old }
+        ensures { self.new ≡ with_bytes_at start bytes.now self.old }
     {
         self.bytes[start..start + bytes.len()].copy_from_slice(bytes);
     }
@@ -159,7 +160,7 @@ impl Blocks {
     /// none.
     pub(crate) fn write_at(&mut self, off: u32, bytes: &[u8]) -> Result<(), AllocError>
         requires { off + length bytes.now < 2 ^ 32 }
-        ensures ok { OnOk result (self.new ≡ written off bytes.now self.old) }
+        ensures ok { OnOk result (self.new ≡ with_bytes_at off bytes.now self.old) }
         ensures succeeds { off + length bytes.now ≤ length self.old → IsOk result }
         ensures err { OnErr result (self.new ≡ self.old) }
     {
@@ -174,7 +175,7 @@ impl Blocks {
     /// The size is this: the file is cut, or has zeros behind it. Where there is no memory, nothing changes; a file
     /// that doesn't grow needs none.
     pub(crate) fn resize(&mut self, size: u32) -> Result<(), AllocError>
-        ensures ok { OnOk result (self.new ≡ resized size self.old) }
+        ensures ok { OnOk result (self.new ≡ with_size size self.old) }
         ensures succeeds { size ≤ length self.old → IsOk result }
         ensures err { OnErr result (self.new ≡ self.old) }
     {
@@ -189,7 +190,7 @@ impl Blocks {
     /// The first bytes alone.
     fn cut(&mut self, size: u32)
         requires { size ≤ length self.old }
-        ensures { self.new ≡ resized size self.old }
+        ensures { self.new ≡ with_size size self.old }
     {
         let count = count_for(size as usize);
         self.blocks.truncate(count);
@@ -202,7 +203,7 @@ impl Blocks {
     /// Zeros behind the bytes, up to a size. All room is taken before the first change.
     fn grow(&mut self, size: u32) -> Result<(), AllocError>
         requires { length self.old ≤ size }
-        ensures ok { OnOk result (self.new ≡ resized size self.old) }
+        ensures ok { OnOk result (self.new ≡ with_size size self.old) }
         ensures err { OnErr result (self.new ≡ self.old) }
     {
         let mut added = zero_blocks(self.alloc, self.blocks.len(), size as usize)?;
@@ -216,7 +217,7 @@ impl Blocks {
     /// These bytes in place of those that stand there.
     fn overwrite(&mut self, off: usize, bytes: &[u8])
         requires { off + length bytes.now ≤ length self.old }
-        ensures { self.new ≡ written off bytes.now self.old }
+        ensures { self.new ≡ with_bytes_at off bytes.now self.old }
     {
         let _size = self.size;
         let end_ = off + bytes.len();
@@ -232,7 +233,7 @@ impl Blocks {
 /// How many blocks a file of that size has.
 fn count_for(size: usize) -> usize
     requires { size < 2 ^ 33 }
-    ensures { result ≡ (size + 4095) / 4096 }
+    ensures { result ≡ block_count size }
 {
     (size + (BLOCK_SIZE - 1)) / BLOCK_SIZE
 }
@@ -240,7 +241,7 @@ fn count_for(size: usize) -> usize
 /// The blocks from one number on, of a file of that size that has nothing but zeros there.
 fn zero_blocks(alloc: Global, first: usize, size: usize) -> Result<Vec<Block>, AllocError>
     requires { size < 2 ^ 33 }
-    ensures count { IfOk result (λ added. length added.items ≡ (size + 4095) / 4096 - first) }
+    ensures count { IfOk result (λ added. length added.items ≡ block_count size - first) }
     ensures zeros { IfOk result (λ added. AreZeroBlocks added.items first size) }
 {
     let mut added = Vec::new(alloc);
@@ -253,8 +254,8 @@ fn zero_blocks(alloc: Global, first: usize, size: usize) -> Result<Vec<Block>, A
 
 /// Zeros behind the last block, if there is one, up to where it is full or the file has that size.
 fn pad_last(blocks: &mut Vec<Block>, size: usize) -> Result<(), AllocError>
-    requires { 4096 * (length blocks.old.items - 1) ≤ size }
-    ensures ok { OnOk result (blocks.new.items ≡ slice_set blocks.old.items (length blocks.old.items - 1) (resized (min 4096 (size - 4096 * (length blocks.old.items - 1))) (slice_index_or blocks.old.items (length blocks.old.items - 1) []))) }
+    requires { BLOCK_SIZE * (length blocks.old.items - 1) ≤ size }
+    ensures ok { OnOk result (blocks.new.items ≡ slice_set blocks.old.items (length blocks.old.items - 1) (with_size (min BLOCK_SIZE (size - BLOCK_SIZE * (length blocks.old.items - 1))) (slice_index_or blocks.old.items (length blocks.old.items - 1) []))) }
     ensures room { vec_capacity blocks.new ≡ vec_capacity blocks.old }
     ensures err { OnErr result (blocks.new.items ≡ blocks.old.items) }
 {

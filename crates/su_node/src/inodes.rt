@@ -2,7 +2,7 @@
 ghost use Rattle.std.specs.Prelude.{◌≡◌, ◌+◌, ◌<◌, ◌≤◌, ◌^◌, length, Some, None, IfOk, IsOk, IfErr, OnOk, OnErr, option_map};
 ghost use Rattle.std.specs.FinMap.{get};
 ghost use Rattle.su_node.specs.Inode.{new_inode, kind_of, size_of, has_no_names, names_of, bytes_of, within};
-ghost use Rattle.su_node.specs.Change.{Change.Named, Change.Linked, Change.Written, Change.Resized, change};
+ghost use Rattle.su_node.specs.InodeChange.{InodeChange.Named, InodeChange.Linked, InodeChange.Written, InodeChange.Resized, inode_after};
 ghost use Rattle.su_node.specs.Field.{Field.NameOf, Value.Nothing, file_value, field_value};
 ghost use Rattle.su_bytes.specs.declared.refusals.Refusal.TheVariants.{NoMemory};
 
@@ -171,7 +171,7 @@ impl Inode {
     /// The name leads there from now on; a file stays as it is. On `NoMemory`, which alone can come, nothing changes. Only a
     /// name that isn't there takes memory.
     pub fn name_set(&mut self, name: Name, file: FileId) -> Result<(), Refusal>
-        ensures ok { OnOk result (change (Named name (Some file)) (Some self.old) ≡ Some self.new) }
+        ensures ok { OnOk result (inode_after (Named name (Some file)) (Some self.old) ≡ Some self.new) }
         ensures refused { IfErr result (λ e. e ≡ NoMemory) }
         ensures absent { OnErr result (field_value (Some self.old) (NameOf name) ≡ Nothing) }
         ensures err { OnErr result (self.new ≡ self.old) }
@@ -184,7 +184,7 @@ impl Inode {
 
     /// The name is gone from now on.
     pub fn name_remove(&mut self, name: &Name)
-        ensures { change (Named name.now None) (Some self.old) ≡ Some self.new }
+        ensures { inode_after (Named name.now None) (Some self.old) ≡ Some self.new }
     {
         if let Stored::Names(names) = &mut self.content {
             names.remove(name);
@@ -195,7 +195,7 @@ impl Inode {
     /// blocks are touched that hold these bytes or the gap. On `NoMemory`, which alone can come, nothing changes.
     pub fn write_at(&mut self, off: u32, bytes: &[u8]) -> Result<(), Refusal>
         requires { off + length bytes.now < 2 ^ 32 }
-        ensures ok { OnOk result (change (Written (size_of self.old.content) off bytes.now) (Some self.old) ≡ Some self.new) }
+        ensures ok { OnOk result (inode_after (Written (size_of self.old.content) off bytes.now) (Some self.old) ≡ Some self.new) }
         ensures refused { IfErr result (λ e. e ≡ NoMemory) }
         ensures succeeds { off + length bytes.now ≤ size_of self.old.content → IsOk result }
         ensures err { OnErr result (self.new ≡ self.old) }
@@ -210,7 +210,7 @@ impl Inode {
     /// those that come or go are touched. On `NoMemory`, which alone can come, nothing changes; a file that doesn't grow needs
     /// no memory.
     pub fn resize(&mut self, size: u32) -> Result<(), Refusal>
-        ensures ok { OnOk result (change (Resized (size_of self.old.content) size) (Some self.old) ≡ Some self.new) }
+        ensures ok { OnOk result (inode_after (Resized (size_of self.old.content) size) (Some self.old) ≡ Some self.new) }
         ensures succeeds { size ≤ size_of self.old.content → IsOk result }
         ensures refused { IfErr result (λ e. e ≡ NoMemory) }
         ensures err { OnErr result (self.new ≡ self.old) }
@@ -223,7 +223,7 @@ impl Inode {
 
     /// So many names lead to it from now on.
     pub fn set_links(&mut self, links: u8)
-        ensures { change (Linked links) (Some self.old) ≡ Some self.new }
+        ensures { inode_after (Linked links) (Some self.old) ≡ Some self.new }
     {
         self.links = links;
     }

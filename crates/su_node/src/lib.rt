@@ -3,7 +3,6 @@
 
 mod blocks;
 mod inodes;
-#[cfg(test)]
-mod tests;
 
+pub use blocks::BLOCK_SIZE;
 pub use inodes::Inode;

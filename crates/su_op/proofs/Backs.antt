@@ -6,17 +6,17 @@ use Rattle.su_bytes.specs.declared.file_ids.FileId.{FileId}
 use Rattle.su_bytes.specs.declared.file_ids.FileId.TheVariants.{User, Group}
 use Rattle.su_bytes.specs.declared.file_ids.Kind.{Kind}
 use Rattle.su_node.specs.Name.{Name, name_cmp}
-use Rattle.su_table.specs.Place.{Place, place_cmp, place_eq, file_eq}
+use Rattle.su_bytes.specs.Place.{Place, place_cmp, place_eq, file_eq}
 use Rattle.su_node.specs.Inode.{Inode, Content, Content.Bytes, Content.Names, new_inode}
 use Rattle.su_table.specs.Tree.{Tree}
 use Rattle.su_node.specs.Field.{Field.KindOf, Field.LinksOf, Field.NameOf, file_value, field_value}
-use Rattle.su_table.specs.Cell.{Cell.Entry, place_value, val}
+use Rattle.su_table.specs.Cell.{Cell.Pointer, place_value, val}
 use Rattle.su_node.specs.Inode.{has_no_names}
-use Rattle.su_table.specs.Query.{is_nothing, number_of, is_file_id, is_free_at, is_name_free_at, is_entry_free, leads_to_at, links_at, is_bare_at, body, entry_body}
-use Rattle.su_node.specs.Change.{Change, Change.Named, Change.Made, Change.Linked, Change.Copied, Change.Gone, change, named}
-use Rattle.su_table.specs.Edit.{Edit.Inodes, Edit.Entries, edit, edits, back, name_in, links_in, restoring}
+use Rattle.su_table.specs.Query.{is_nothing, value_number, is_link_to, is_free_at, is_name_free_at, is_pointer_free, leads_to_at, links_at, is_bare_at, body, pointer_body}
+use Rattle.su_node.specs.InodeChange.{InodeChange, InodeChange.Named, InodeChange.Made, InodeChange.Linked, InodeChange.Copied, InodeChange.Gone, inode_after, with_name}
+use Rattle.su_table.specs.Edit.{Edit.Inodes, Edit.Pointers, edit, edits, back, name_in, links_in, restoring}
 use Rattle.su_op.specs.declared.creation.Create.{Create}
-use Rattle.su_op.specs.Rule.{entry_edits}
+use Rattle.su_op.specs.Rule.{pointer_edits}
 use Rattle.su_op.specs.Creation.{create_plan}
 use Rattle.su_op.specs.declared.unlinking.Unlink.{Unlink}
 use Rattle.su_op.specs.Unlinking.{unlink_plan, unlink_edits}
@@ -62,54 +62,54 @@ pub back_copied : (T : Tree) (p : Place) (i : Inode) → is_free_at T p ≡ true
 unfolding back val
 back_copied T p i free = ap (λ o. Inodes p (restoring o)) (no_inode (get T.inodes p) free)
 
-pub back_entry : (T : Tree) (g p : Place) → is_nothing (val T (Entry g)) ≡ true → back T (Entries g (Some p)) ≡ Entries g None
+pub back_pointer : (T : Tree) (g p : Place) → is_nothing (val T (Pointer g)) ≡ true → back T (Pointers g (Some p)) ≡ Pointers g None
 unfolding back val
-back_entry T g p free = ap (Entries g) (no_place (get T.entries g) free)
+back_pointer T g p free = ap (Pointers g) (no_place (get T.pointers g) free)
 
 -- ---- what edits leave
 
 -- what stands at a place after a change of a place
-pub get-edit : (T : Tree) (p : Place) (ch : Change) (q : Place) → get (edit T (Inodes p ch)).inodes q ≡ cond (eq_by_cmp place_cmp q p) (change ch (get T.inodes p)) (get T.inodes q)
+pub get-edit : (T : Tree) (p : Place) (ch : InodeChange) (q : Place) → get (edit T (Inodes p ch)).inodes q ≡ cond (eq_by_cmp place_cmp q p) (inode_after ch (get T.inodes p)) (get T.inodes q)
 unfolding edit
-get-edit T p ch q = get-set_key place_cmp_total T.inodes p (change ch (get T.inodes p)) q
+get-edit T p ch q = get-set_key place_cmp_total T.inodes p (inode_after ch (get T.inodes p)) q
 
-pub get-edit_here : (T : Tree) (p : Place) (ch : Change) → get (edit T (Inodes p ch)).inodes p ≡ change ch (get T.inodes p)
+pub get-edit_here : (T : Tree) (p : Place) (ch : InodeChange) → get (edit T (Inodes p ch)).inodes p ≡ inode_after ch (get T.inodes p)
 unfolding edit
-get-edit_here T p ch = get-set_key_here place_cmp_total T.inodes p (change ch (get T.inodes p))
+get-edit_here T p ch = get-set_key_here place_cmp_total T.inodes p (inode_after ch (get T.inodes p))
 
-named_keeps_kind : (x : Name) (v : Option FileId) (o : Option Inode) → is_nothing (field_value (change (Named x v) o) KindOf) ≡ is_nothing (field_value o KindOf)
+named_keeps_kind : (x : Name) (v : Option FileId) (o : Option Inode) → is_nothing (field_value (inode_after (Named x v) o) KindOf) ≡ is_nothing (field_value o KindOf)
 named_keeps_kind x v None = refl
 named_keeps_kind x v (Some i) = refl
 
-named_keeps_links : (x : Name) (v : Option FileId) (o : Option Inode) → number_of (field_value (change (Named x v) o) LinksOf) ≡ number_of (field_value o LinksOf)
+named_keeps_links : (x : Name) (v : Option FileId) (o : Option Inode) → value_number (field_value (inode_after (Named x v) o) LinksOf) ≡ value_number (field_value o LinksOf)
 named_keeps_links x v None = refl
 named_keeps_links x v (Some i) = refl
 
 -- of a property of the inode at q that the change of p keeps
-kept_at : {A : Type 0} (prop : Option Inode → A) (T : Tree) (p : Place) (ch : Change) (q : Place) → prop (change ch (get T.inodes p)) ≡ prop (get T.inodes p) → prop (get (edit T (Inodes p ch)).inodes q) ≡ prop (get T.inodes q)
+kept_at : {A : Type 0} (prop : Option Inode → A) (T : Tree) (p : Place) (ch : InodeChange) (q : Place) → prop (inode_after ch (get T.inodes p)) ≡ prop (get T.inodes p) → prop (get (edit T (Inodes p ch)).inodes q) ≡ prop (get T.inodes q)
 kept_at prop T p ch q same = ap prop (get-edit T p ch q) ∙ go (eq_by_cmp place_cmp q p) refl
   where
-    go : (b : Bool) → eq_by_cmp place_cmp q p ≡ b → prop (cond b (change ch (get T.inodes p)) (get T.inodes q)) ≡ prop (get T.inodes q)
+    go : (b : Bool) → eq_by_cmp place_cmp q p ≡ b → prop (cond b (inode_after ch (get T.inodes p)) (get T.inodes q)) ≡ prop (get T.inodes q)
     go true is = same ∙ ap (λ r. prop (get T.inodes r)) (sym (eq_by_cmp-same place_cmp_exact q p is))
     go false is = refl
 
 -- a name changes no kind and no links
-pub is_free_at-named : (T : Tree) (d : Place) (x : Name) (v : Option FileId) (p : Place) → is_free_at (edit T (Inodes d (Named x v))) p ≡ is_free_at T p
+pub is_free_at-with_name : (T : Tree) (d : Place) (x : Name) (v : Option FileId) (p : Place) → is_free_at (edit T (Inodes d (Named x v))) p ≡ is_free_at T p
 unfolding val
-is_free_at-named T d x v p = kept_at (λ o. is_nothing (field_value o KindOf)) T d (Named x v) p (named_keeps_kind x v (get T.inodes d))
+is_free_at-with_name T d x v p = kept_at (λ o. is_nothing (field_value o KindOf)) T d (Named x v) p (named_keeps_kind x v (get T.inodes d))
 
-pub links_at-named : (T : Tree) (d : Place) (x : Name) (v : Option FileId) (p : Place) → links_at (edit T (Inodes d (Named x v))) p ≡ links_at T p
+pub links_at-with_name : (T : Tree) (d : Place) (x : Name) (v : Option FileId) (p : Place) → links_at (edit T (Inodes d (Named x v))) p ≡ links_at T p
 unfolding val
-links_at-named T d x v p = kept_at (λ o. number_of (field_value o LinksOf)) T d (Named x v) p (named_keeps_links x v (get T.inodes d))
+links_at-with_name T d x v p = kept_at (λ o. value_number (field_value o LinksOf)) T d (Named x v) p (named_keeps_links x v (get T.inodes d))
 
 -- inodes and entries don't touch each other
-pub val-entry_inodes : (T : Tree) (p : Place) (ch : Change) (g : Place) → val (edit T (Inodes p ch)) (Entry g) ≡ val T (Entry g)
+pub val-pointer_inodes : (T : Tree) (p : Place) (ch : InodeChange) (g : Place) → val (edit T (Inodes p ch)) (Pointer g) ≡ val T (Pointer g)
 unfolding val edit
-val-entry_inodes T p ch g = refl
+val-pointer_inodes T p ch g = refl
 
-pub get-inodes_entries : (T : Tree) (g : Place) (v : Option Place) (q : Place) → get (edit T (Entries g v)).inodes q ≡ get T.inodes q
+pub get-inodes_pointers : (T : Tree) (g : Place) (v : Option Place) (q : Place) → get (edit T (Pointers g v)).inodes q ≡ get T.inodes q
 unfolding edit
-get-inodes_entries T g v q = refl
+get-inodes_pointers T g v q = refl
 
 -- ---- taking back what was taken away
 
@@ -120,15 +120,15 @@ file_eq-same (Group g k) (Group h l) e = let same : (g, k) ≡ (h, l) = eq_by_cm
 file_eq-same (User u i) (Group h l) e = absurd cc
 file_eq-same (Group g k) (User v j) e = absurd cc
 
-led_to : (o : Option FileId) (f : FileId) → is_file_id (file_value o) f ≡ true → o ≡ Some f
+led_to : (o : Option FileId) (f : FileId) → is_link_to (file_value o) f ≡ true → o ≡ Some f
 led_to None f e = absurd cc
 led_to (Some g) f e = ap Some (file_eq-same g f e)
 
-name_led : (o : Option Inode) (x : Name) (f : FileId) → is_file_id (field_value o (NameOf x)) f ≡ true → name_in o x ≡ Some f
+name_led : (o : Option Inode) (x : Name) (f : FileId) → is_link_to (field_value o (NameOf x)) f ≡ true → name_in o x ≡ Some f
 name_led None x f e = absurd cc
 name_led (Some i) x f e = go i.content e
   where
-    go : (c : Content) → is_file_id (field_value (Some (record i { content = c })) (NameOf x)) f ≡ true → name_in (Some (record i { content = c })) x ≡ Some f
+    go : (c : Content) → is_link_to (field_value (Some (record i { content = c })) (NameOf x)) f ≡ true → name_in (Some (record i { content = c })) x ≡ Some f
     go (Bytes bs) e = absurd cc
     go (Names m) e = led_to (get m x) f e
 
@@ -136,7 +136,7 @@ pub back_unnamed : (T : Tree) (d : Place) (x : Name) (f : FileId) → leads_to_a
 unfolding back val
 back_unnamed T d x f leads = ap (λ o. Inodes d (Named x o)) (name_led (get T.inodes d) x f leads)
 
-links_in-value : (o : Option Inode) → links_in o ≡ number_of (field_value o LinksOf)
+links_in-value : (o : Option Inode) → links_in o ≡ value_number (field_value o LinksOf)
 links_in-value None = refl
 links_in-value (Some i) = refl
 
@@ -148,18 +148,18 @@ pub back_gone : (T : Tree) (p : Place) → back T (Inodes p Gone) ≡ Inodes p (
 unfolding back
 back_gone T p = refl
 
-pub back_unentered : (T : Tree) (g : Place) (v : Option Place) → get T.entries g ≡ v → back T (Entries g None) ≡ Entries g v
+pub back_unentered : (T : Tree) (g : Place) (v : Option Place) → get T.pointers g ≡ v → back T (Pointers g None) ≡ Pointers g v
 unfolding back
-back_unentered T g v e = ap (Entries g) e
+back_unentered T g v e = ap (Pointers g) e
 
-entry_led : (o : Option Place) (p : Place) → entry_body (place_value o) ≡ Some p → o ≡ Some p
-entry_led None p e = absurd cc
-entry_led (Some q) p e = e
+pointer_led : (o : Option Place) (p : Place) → pointer_body (place_value o) ≡ Some p → o ≡ Some p
+pointer_led None p e = absurd cc
+pointer_led (Some q) p e = e
 
--- a group file's entry points at its body
-pub entry_from_body : (T : Tree) (g k : ℕ) (p : Place) → body T (Group g k) ≡ Some p → get T.entries (g, k) ≡ Some p
+-- a group file's pointer points at its body
+pub pointer_from_body : (T : Tree) (g k : ℕ) (p : Place) → body T (Group g k) ≡ Some p → get T.pointers (g, k) ≡ Some p
 unfolding body val
-entry_from_body T g k p e = entry_led (get T.entries (g, k)) p e
+pointer_from_body T g k p e = pointer_led (get T.pointers (g, k)) p e
 
 bare_has_no_name : (o : Option Inode) (x : Name) → has_no_names o ≡ true → name_in o x ≡ None
 bare_has_no_name None x e = refl
@@ -182,16 +182,16 @@ apart_from_directory T d f x file leads bare = go (eq_by_cmp place_cmp f d) refl
         absurd cc
     go false is = refl
 
-pub get-edit_apart : (T : Tree) (p : Place) (ch : Change) (q : Place) → eq_by_cmp place_cmp q p ≡ false → get (edit T (Inodes p ch)).inodes q ≡ get T.inodes q
-get-edit_apart T p ch q apart = get-edit T p ch q ∙ ap (λ b. cond b (change ch (get T.inodes p)) (get T.inodes q)) apart
+pub get-edit_apart : (T : Tree) (p : Place) (ch : InodeChange) (q : Place) → eq_by_cmp place_cmp q p ≡ false → get (edit T (Inodes p ch)).inodes q ≡ get T.inodes q
+get-edit_apart T p ch q apart = get-edit T p ch q ∙ ap (λ b. cond b (inode_after ch (get T.inodes p)) (get T.inodes q)) apart
 
 -- ---- what was taken away can be added again
 
-named_none : (o : Option Inode) (x : Name) → is_nothing (field_value (change (Named x None) o) (NameOf x)) ≡ true
+named_none : (o : Option Inode) (x : Name) → is_nothing (field_value (inode_after (Named x None) o) (NameOf x)) ≡ true
 named_none None x = refl
 named_none (Some i) x = go i.content
   where
-    go : (c : Content) → is_nothing (field_value (Some (record i { content = named x None c })) (NameOf x)) ≡ true
+    go : (c : Content) → is_nothing (field_value (Some (record i { content = with_name x None c })) (NameOf x)) ≡ true
     go (Bytes bs) = refl
     go (Names m) = ap (λ o. is_nothing (file_value o)) (get-set_key_here name_cmp_total m x None)
 
@@ -203,19 +203,19 @@ pub is_free_at-gone : (T : Tree) (p : Place) → is_free_at (edit T (Inodes p Go
 unfolding val
 is_free_at-gone T p = ap (λ o. is_nothing (field_value o KindOf)) (get-edit_here T p Gone)
 
-pub entry_free-unentered : (T : Tree) (g : Place) → is_nothing (val (edit T (Entries g None)) (Entry g)) ≡ true
+pub pointer_free-unentered : (T : Tree) (g : Place) → is_nothing (val (edit T (Pointers g None)) (Pointer g)) ≡ true
 unfolding val edit
-entry_free-unentered T g = ap (λ o. is_nothing (place_value o)) (get-set_key_here place_cmp_total T.entries g None)
+pointer_free-unentered T g = ap (λ o. is_nothing (place_value o)) (get-set_key_here place_cmp_total T.pointers g None)
 
 -- ---- a create
 
 -- what a create adds stands nowhere yet
-pub create_free : (T : Tree) (a : ℕ) (c : Create) (d : Place) → is_name_free_at T d c.name ≡ true → is_free_at T (a, c.body) ≡ true → is_entry_free T c.file ≡ true → AreFreeFor T (create_plan a c d).edits
-create_free T a c d name place entry = (name, (is_free_at-named T d c.name (Some c.file) (a, c.body) ∙ place, go c.file entry))
+pub create_free : (T : Tree) (a : ℕ) (c : Create) (d : Place) → is_name_free_at T d c.name ≡ true → is_free_at T (a, c.body) ≡ true → is_pointer_free T c.file ≡ true → AreFreeFor T (create_plan a c d).edits
+create_free T a c d name place pointer = (name, (is_free_at-with_name T d c.name (Some c.file) (a, c.body) ∙ place, go c.file pointer))
   where
-    go : (f : FileId) → is_entry_free T f ≡ true → AreFreeFor (edit (edit T (Inodes d (Named c.name (Some c.file)))) (Inodes (a, c.body) (Made c.file c.kind))) (entry_edits f (Some (a, c.body)))
+    go : (f : FileId) → is_pointer_free T f ≡ true → AreFreeFor (edit (edit T (Inodes d (Named c.name (Some c.file)))) (Inodes (a, c.body) (Made c.file c.kind))) (pointer_edits f (Some (a, c.body)))
     go (User u i) e = tt
-    go (Group g k) e = (ap is_nothing (val-entry_inodes (edit T (Inodes d (Named c.name (Some c.file)))) (a, c.body) (Made c.file c.kind) (g, k) ∙ val-entry_inodes T d (Named c.name (Some c.file)) (g, k)) ∙ e, tt)
+    go (Group g k) e = (ap is_nothing (val-pointer_inodes (edit T (Inodes d (Named c.name (Some c.file)))) (a, c.body) (Made c.file c.kind) (g, k) ∙ val-pointer_inodes T d (Named c.name (Some c.file)) (g, k)) ∙ e, tt)
 
 -- ---- an unlink
 
@@ -223,15 +223,15 @@ create_free T a c d name place entry = (name, (is_free_at-named T d c.name (Some
 pub unlink_some : (T : Tree) (d f : Place) (u : Unlink) (l : ℕ) → l ≡ links_at (edit T (Inodes d (Named u.name None))) f → nat_le 2 l ≡ true
     → edit (edit T (Inodes d (Named u.name None))) (Inodes f (Linked (l - 1))) ≡ edits T (unlink_plan (links_at T f) u d f).edits
 unlink_some T d f u l is more =
-    let same : l ≡ links_at T f = is ∙ links_at-named T d u.name None f in
+    let same : l ≡ links_at T f = is ∙ links_at-with_name T d u.name None f in
     ap (λ b. edits (edit T (Inodes d (Named u.name None))) (unlink_edits b l u.file f)) (sym more)
     ∙ ap (λ n. edits (edit T (Inodes d (Named u.name None))) (unlink_edits (nat_le 2 n) n u.file f)) same
 
 -- of the last link: the name goes, and the file
 pub unlink_last : (T : Tree) (d f : Place) (u : Unlink) (l : ℕ) → l ≡ links_at (edit T (Inodes d (Named u.name None))) f → nat_le 2 l ≡ false
-    → edits (edit T (Inodes d (Named u.name None))) (entry_edits u.file None ++ Inodes f Gone ∷ []) ≡ edits T (unlink_plan (links_at T f) u d f).edits
+    → edits (edit T (Inodes d (Named u.name None))) (pointer_edits u.file None ++ Inodes f Gone ∷ []) ≡ edits T (unlink_plan (links_at T f) u d f).edits
 unlink_last T d f u l is more =
-    let same : l ≡ links_at T f = is ∙ links_at-named T d u.name None f in
+    let same : l ≡ links_at T f = is ∙ links_at-with_name T d u.name None f in
     ap (λ b. edits (edit T (Inodes d (Named u.name None))) (unlink_edits b l u.file f)) (sym more)
     ∙ ap (λ n. edits (edit T (Inodes d (Named u.name None))) (unlink_edits (nat_le 2 n) n u.file f)) same
 

@@ -4,7 +4,7 @@ use Rattle.std.proofs.lemmas.List.{length-take, length-drop, length-append, leng
 use Rattle.std.proofs.lemmas.Bool.{leb-true, leb-false}
 use Rattle.std.proofs.Math.Seq.{drop-nil}
 use Rattle.su_node.specs.Field.{block, block_value}
-use Rattle.su_node.specs.Change.{resized, written}
+use Rattle.su_node.specs.InodeChange.{with_size, with_bytes_at}
 
 pub block-nil : (n : ℕ) → block n [] ≡ []
 unfolding block
@@ -41,17 +41,17 @@ block_same n bs cs long each =
 
 -- ---- the bytes of what is written
 
-pub length-resized : (t : ℕ) (bs : List ℕ) → length (resized t bs) ≡ t
-unfolding resized
-length-resized t bs =
+pub length-with_size : (t : ℕ) (bs : List ℕ) → length (with_size t bs) ≡ t
+unfolding with_size
+length-with_size t bs =
     let a = length-append (take t bs) (replicate (t - length bs) 0) in
     let b = length-take t bs in
     let c = length-replicate {A = ℕ} (t - length bs) 0 in
     omega (arith, a, b, c)
 
-pub get_or-resized : (t : ℕ) (bs : List ℕ) (i : ℕ) → i < t → get_or (resized t bs) i 0 ≡ get_or bs i 0
-unfolding resized
-get_or-resized t bs i lt = go (nat_le (length (take t bs)) i) refl
+pub get_or-with_size : (t : ℕ) (bs : List ℕ) (i : ℕ) → i < t → get_or (with_size t bs) i 0 ≡ get_or bs i 0
+unfolding with_size
+get_or-with_size t bs i lt = go (nat_le (length (take t bs)) i) refl
   where
     l : length (take t bs) ≡ min t (length bs)
     l = length-take t bs
@@ -66,51 +66,51 @@ get_or-resized t bs i lt = go (nat_le (length (take t bs)) i) refl
         ∙ get_or-replicate (t - length bs) (i - length bs) 0 0 (omega (arith, l))
         ∙ sym (get_or_past bs i 0 (omega (arith, l)))
 
-pub length-written : (off : ℕ) (xs bs : List ℕ) → length (written off xs bs) ≡ max (off + length xs) (length bs)
-unfolding written
-length-written off xs bs =
-    let a = length-append (resized off bs) (xs ++ drop (off + length xs) bs) in
+pub length-with_bytes_at : (off : ℕ) (xs bs : List ℕ) → length (with_bytes_at off xs bs) ≡ max (off + length xs) (length bs)
+unfolding with_bytes_at
+length-with_bytes_at off xs bs =
+    let a = length-append (with_size off bs) (xs ++ drop (off + length xs) bs) in
     let b = length-append xs (drop (off + length xs) bs) in
     let c = length-drop (off + length xs) bs in
-    let d = length-resized off bs in
+    let d = length-with_size off bs in
     omega (arith, a, b, c, d)
 
-pub get_or-written_in : (off : ℕ) (xs bs : List ℕ) (i : ℕ) → off ≤ i → i < off + length xs → get_or (written off xs bs) i 0 ≡ get_or xs (i - off) 0
-unfolding written
+pub get_or-written_in : (off : ℕ) (xs bs : List ℕ) (i : ℕ) → off ≤ i → i < off + length xs → get_or (with_bytes_at off xs bs) i 0 ≡ get_or xs (i - off) 0
+unfolding with_bytes_at
 get_or-written_in off xs bs i low high =
-    get_or-append_right (resized off bs) (xs ++ drop (off + length xs) bs) off i 0 (length-resized off bs) low
+    get_or-append_right (with_size off bs) (xs ++ drop (off + length xs) bs) off i 0 (length-with_size off bs) low
     ∙ get_or_append_left xs (drop (off + length xs) bs) 0 (i - off) (omega arith)
 
-pub get_or-written_before : (off : ℕ) (xs bs : List ℕ) (i : ℕ) → i < off → get_or (written off xs bs) i 0 ≡ get_or bs i 0
-unfolding written
+pub get_or-written_before : (off : ℕ) (xs bs : List ℕ) (i : ℕ) → i < off → get_or (with_bytes_at off xs bs) i 0 ≡ get_or bs i 0
+unfolding with_bytes_at
 get_or-written_before off xs bs i lt =
-    let l : length (resized off bs) ≡ off = length-resized off bs in
-    get_or_append_left (resized off bs) (xs ++ drop (off + length xs) bs) 0 i (omega arith) ∙ get_or-resized off bs i lt
+    let l : length (with_size off bs) ≡ off = length-with_size off bs in
+    get_or_append_left (with_size off bs) (xs ++ drop (off + length xs) bs) 0 i (omega arith) ∙ get_or-with_size off bs i lt
 
-pub get_or-written_after : (off : ℕ) (xs bs : List ℕ) (i : ℕ) → off + length xs ≤ i → get_or (written off xs bs) i 0 ≡ get_or bs i 0
-unfolding written
+pub get_or-written_after : (off : ℕ) (xs bs : List ℕ) (i : ℕ) → off + length xs ≤ i → get_or (with_bytes_at off xs bs) i 0 ≡ get_or bs i 0
+unfolding with_bytes_at
 get_or-written_after off xs bs i le =
     let at : off + length xs + (i - off - length xs) ≡ i = omega arith in
-    get_or-append_right (resized off bs) (xs ++ drop (off + length xs) bs) off i 0 (length-resized off bs) (omega arith)
+    get_or-append_right (with_size off bs) (xs ++ drop (off + length xs) bs) off i 0 (length-with_size off bs) (omega arith)
     ∙ get_or-append_right xs (drop (off + length xs) bs) (length xs) (i - off) 0 refl (omega arith)
     ∙ get_or-drop (off + length xs) bs (i - off - length xs) 0 ∙ ap (λ j. get_or bs j 0) at
 
 -- ---- a block of it
 
 -- it follows from the size and the block before
-pub block_written_alike : (n off : ℕ) (xs bs cs : List ℕ) → length bs ≡ length cs → block n bs ≡ block n cs → block n (written off xs bs) ≡ block n (written off xs cs)
-block_written_alike n off xs bs cs long e = block_same n (written off xs bs) (written off xs cs) (omega (arith, a, b)) each
+pub block_written_alike : (n off : ℕ) (xs bs cs : List ℕ) → length bs ≡ length cs → block n bs ≡ block n cs → block n (with_bytes_at off xs bs) ≡ block n (with_bytes_at off xs cs)
+block_written_alike n off xs bs cs long e = block_same n (with_bytes_at off xs bs) (with_bytes_at off xs cs) (omega (arith, a, b)) each
   where
-    a : length (written off xs bs) ≡ max (off + length xs) (length bs)
-    a = length-written off xs bs
+    a : length (with_bytes_at off xs bs) ≡ max (off + length xs) (length bs)
+    a = length-with_bytes_at off xs bs
 
-    b : length (written off xs cs) ≡ max (off + length xs) (length cs)
-    b = length-written off xs cs
+    b : length (with_bytes_at off xs cs) ≡ max (off + length xs) (length cs)
+    b = length-with_bytes_at off xs cs
 
-    each : (i : ℕ) → 4096 * n ≤ i → i < 4096 * n + 4096 → i < length (written off xs bs) → get_or (written off xs bs) i 0 ≡ get_or (written off xs cs) i 0
+    each : (i : ℕ) → 4096 * n ≤ i → i < 4096 * n + 4096 → i < length (with_bytes_at off xs bs) → get_or (with_bytes_at off xs bs) i 0 ≡ get_or (with_bytes_at off xs cs) i 0
     each i low high within = go (nat_le off i) refl (nat_le (off + length xs) i) refl
       where
-        go : (p : Bool) → nat_le off i ≡ p → (q : Bool) → nat_le (off + length xs) i ≡ q → get_or (written off xs bs) i 0 ≡ get_or (written off xs cs) i 0
+        go : (p : Bool) → nat_le off i ≡ p → (q : Bool) → nat_le (off + length xs) i ≡ q → get_or (with_bytes_at off xs bs) i 0 ≡ get_or (with_bytes_at off xs cs) i 0
         go false is q is' = let h : i < off = leb-false off i is in
             get_or-written_before off xs bs i h ∙ byte_same n bs cs i e low high ∙ sym (get_or-written_before off xs cs i h)
         go true is false is' = let h : off ≤ i = leb-true off i is in let k : i < off + length xs = leb-false (off + length xs) i is' in
@@ -118,14 +118,14 @@ block_written_alike n off xs bs cs long e = block_same n (written off xs bs) (wr
         go true is true is' = let k : off + length xs ≤ i = leb-true (off + length xs) i is' in
             get_or-written_after off xs bs i k ∙ byte_same n bs cs i e low high ∙ sym (get_or-written_after off xs cs i k)
 
-pub block_resized_alike : (n t : ℕ) (bs cs : List ℕ) → block n bs ≡ block n cs → block n (resized t bs) ≡ block n (resized t cs)
+pub block_resized_alike : (n t : ℕ) (bs cs : List ℕ) → block n bs ≡ block n cs → block n (with_size t bs) ≡ block n (with_size t cs)
 block_resized_alike n t bs cs e =
-    let a : length (resized t bs) ≡ t = length-resized t bs in
-    let b : length (resized t cs) ≡ t = length-resized t cs in
-    block_same n (resized t bs) (resized t cs) (omega arith)
+    let a : length (with_size t bs) ≡ t = length-with_size t bs in
+    let b : length (with_size t cs) ≡ t = length-with_size t cs in
+    block_same n (with_size t bs) (with_size t cs) (omega arith)
     (λ i low high within.
     let lt : i < t = omega arith in
-    get_or-resized t bs i lt ∙ byte_same n bs cs i e low high ∙ sym (get_or-resized t cs i lt))
+    get_or-with_size t bs i lt ∙ byte_same n bs cs i e low high ∙ sym (get_or-with_size t cs i lt))
 
 -- a block outside those that are written stays
 pub outside : (a b n : ℕ) → (nat_le a n && nat_le n b) ≡ false → (n < a) ⊎ (b < n)
@@ -136,27 +136,27 @@ outside a b n e = go (nat_le a n) refl (nat_le n b) refl e
     go true is false is' e = inr (leb-false n b is')
     go true is true is' e = absurd cc
 
-pub block_written_within : (n off : ℕ) (xs bs : List ℕ) → 0 < length xs → off + length xs ≤ length bs → (n < off / 4096) ⊎ ((off + length xs - 1) / 4096 < n) → block n (written off xs bs) ≡ block n bs
+pub block_written_within : (n off : ℕ) (xs bs : List ℕ) → 0 < length xs → off + length xs ≤ length bs → (n < off / 4096) ⊎ ((off + length xs - 1) / 4096 < n) → block n (with_bytes_at off xs bs) ≡ block n bs
 block_written_within n off xs bs some fits out =
-    let a : length (written off xs bs) ≡ max (off + length xs) (length bs) = length-written off xs bs in
-    block_same n (written off xs bs) bs (omega arith)
+    let a : length (with_bytes_at off xs bs) ≡ max (off + length xs) (length bs) = length-with_bytes_at off xs bs in
+    block_same n (with_bytes_at off xs bs) bs (omega arith)
     (λ i low high within. ⊎_elim (λ b. get_or-written_before off xs bs i (omega arith)) (λ b. get_or-written_after off xs bs i (omega arith)) out)
 
-pub block_written_beyond : (n off : ℕ) (xs bs : List ℕ) → 0 < length xs → length bs < off + length xs → (n < min off (length bs) / 4096) ⊎ ((off + length xs - 1) / 4096 < n) → block n (written off xs bs) ≡ block n bs
+pub block_written_beyond : (n off : ℕ) (xs bs : List ℕ) → 0 < length xs → length bs < off + length xs → (n < min off (length bs) / 4096) ⊎ ((off + length xs - 1) / 4096 < n) → block n (with_bytes_at off xs bs) ≡ block n bs
 block_written_beyond n off xs bs some past out =
-    let a : length (written off xs bs) ≡ max (off + length xs) (length bs) = length-written off xs bs in
-    block_same n (written off xs bs) bs (⊎_elim (λ b. omega arith) (λ b. omega arith) out)
+    let a : length (with_bytes_at off xs bs) ≡ max (off + length xs) (length bs) = length-with_bytes_at off xs bs in
+    block_same n (with_bytes_at off xs bs) bs (⊎_elim (λ b. omega arith) (λ b. omega arith) out)
     (λ i low high within. ⊎_elim (λ b. get_or-written_before off xs bs i (omega arith)) (λ b. absurd (omega arith)) out)
 
-pub block_resized_outside : (n t : ℕ) (bs : List ℕ) → (n < min (length bs) t / 4096) ⊎ ((max (length bs) t - 1) / 4096 < n) → block n (resized t bs) ≡ block n bs
+pub block_resized_outside : (n t : ℕ) (bs : List ℕ) → (n < min (length bs) t / 4096) ⊎ ((max (length bs) t - 1) / 4096 < n) → block n (with_size t bs) ≡ block n bs
 block_resized_outside n t bs out =
-    let a : length (resized t bs) ≡ t = length-resized t bs in
-    block_same n (resized t bs) bs (⊎_elim (λ b. omega arith) (λ b. omega arith) out)
-    (λ i low high within. get_or-resized t bs i (omega arith))
+    let a : length (with_size t bs) ≡ t = length-with_size t bs in
+    block_same n (with_size t bs) bs (⊎_elim (λ b. omega arith) (λ b. omega arith) out)
+    (λ i low high within. get_or-with_size t bs i (omega arith))
 
-pub resized_same : (bs : List ℕ) → resized (length bs) bs ≡ bs
-resized_same bs = ext_get_or 0 (resized (length bs) bs) bs (length-resized (length bs) bs)
-    (λ i lt. let a : length (resized (length bs) bs) ≡ length bs = length-resized (length bs) bs in get_or-resized (length bs) bs i (omega arith))
+pub resized_same : (bs : List ℕ) → with_size (length bs) bs ≡ bs
+resized_same bs = ext_get_or 0 (with_size (length bs) bs) bs (length-with_size (length bs) bs)
+    (λ i lt. let a : length (with_size (length bs) bs) ≡ length bs = length-with_size (length bs) bs in get_or-with_size (length bs) bs i (omega arith))
 
 -- bytes with the same size and blocks are the same
 pub bytes_same : (bs cs : List ℕ) → length bs ≡ length cs → ((n : ℕ) → block n bs ≡ block n cs) → bs ≡ cs

@@ -9,18 +9,18 @@ use Rattle.su_bytes.specs.declared.file_ids.Kind.TheVariants.{File, Dir}
 use Rattle.su_node.specs.Name.{Name, name_eq}
 use Rattle.su_node.specs.Inode.{Content, Content.Bytes, Content.Names, Inode, kind_of, empty_content}
 use Rattle.su_node.specs.Field.{block, Field, Field.KindOf, Field.LinksOf, Field.SizeOf, Field.BlockOf, Field.NameOf, Value.Nothing, Value.AKind, Value.ANumber, block_value, file_value, content_value, field_value}
-use Rattle.su_node.specs.Change.{Change, Change.Made, Change.Named, Change.Linked, Change.Written, Change.Resized, Change.Copied, Change.Gone, change, named, with_bytes, resized, written}
+use Rattle.su_node.specs.InodeChange.{InodeChange, InodeChange.Made, InodeChange.Named, InodeChange.Linked, InodeChange.Written, InodeChange.Resized, InodeChange.Copied, InodeChange.Gone, inode_after, with_name, map_bytes, with_size, with_bytes_at}
 use Rattle.su_op.specs.Area.{in_run, in_part}
 use Rattle.su_op.specs.Footprint.{run, written_parts, resized_parts, parts}
 use Rattle.su_op.specs.Soundness.{IsA, WellLinked}
-use Rattle.su_op.proofs.Blocks.{block-nil, block_value_same, length-written, length-resized, block_written_alike, block_resized_alike, outside, block_written_within, block_written_beyond, block_resized_outside, resized_same, bytes_same}
+use Rattle.su_op.proofs.Blocks.{block-nil, block_value_same, length-with_bytes_at, length-with_size, block_written_alike, block_resized_alike, outside, block_written_within, block_written_beyond, block_resized_outside, resized_same, bytes_same}
 use Rattle.su_op.proofs.Orders.{get-set_name, same_names}
 
 abbrev pub HasOneLink : Option Inode → Type 0
 HasOneLink o = IsA Dir o → field_value o LinksOf ≡ ANumber 1
 
 -- where a change can be made
-abbrev pub Can : Change → Option Inode → Type 0
+abbrev pub Can : InodeChange → Option Inode → Type 0
 Can (Made h k) o = field_value o KindOf ≡ Nothing
 Can (Named x v) o = IsA Dir o
 Can (Linked n) o = IsA File o × (1 ≤ n) × (n ≤ 255)
@@ -50,7 +50,7 @@ made_leaves h Dir (BlockOf n) out = refl
 made_leaves h File (NameOf x) out = refl
 made_leaves h Dir (NameOf x) out = ap file_value (get-empty _ x)
 
-named_leaves : (x : Name) (v : Option FileId) (c : Content) (f : Field) (h : FileId) (l : ℕ) → list_any (λ p. in_part p f) (parts (Named x v)) ≡ false → content_value (named x v c) l h f ≡ content_value c l h f
+named_leaves : (x : Name) (v : Option FileId) (c : Content) (f : Field) (h : FileId) (l : ℕ) → list_any (λ p. in_part p f) (parts (Named x v)) ≡ false → content_value (with_name x v c) l h f ≡ content_value c l h f
 named_leaves x v (Bytes bs) f h l out = refl
 named_leaves x v (Names m) KindOf h l out = refl
 named_leaves x v (Names m) LinksOf h l out = refl
@@ -68,7 +68,7 @@ linked_leaves (Bytes bs) (NameOf x) h l n out = refl
 linked_leaves (Names m) (NameOf x) h l n out = refl
 
 written_leaves : (s off : ℕ) (xs : List ℕ) (c : Content) (f : Field) (h : FileId) (l : ℕ) → kind_of c ≡ File → content_value c l h SizeOf ≡ ANumber s → 0 < length xs
-    → (b : Bool) → nat_le (off + length xs) s ≡ b → list_any (λ p. in_part p f) (written_parts b s off (off + length xs)) ≡ false → content_value (with_bytes (written off xs) c) l h f ≡ content_value c l h f
+    → (b : Bool) → nat_le (off + length xs) s ≡ b → list_any (λ p. in_part p f) (written_parts b s off (off + length xs)) ≡ false → content_value (map_bytes (with_bytes_at off xs) c) l h f ≡ content_value c l h f
 written_leaves s off xs (Names m) f h l k size some b is out = absurd cc
 written_leaves s off xs (Bytes bs) KindOf h l k size some b is out = refl
 written_leaves s off xs (Bytes bs) LinksOf h l k size some b is out = refl
@@ -77,8 +77,8 @@ written_leaves s off xs (Bytes bs) SizeOf h l k size some false is out = absurd 
 written_leaves s off xs (Bytes bs) SizeOf h l k size some true is out =
     let e : length bs ≡ s = cc in
     let le : off + length xs ≤ s = leb-true (off + length xs) s is in
-    let a : length (written off xs bs) ≡ max (off + length xs) (length bs) = length-written off xs bs in
-    let same : length (written off xs bs) ≡ length bs = omega arith in
+    let a : length (with_bytes_at off xs bs) ≡ max (off + length xs) (length bs) = length-with_bytes_at off xs bs in
+    let same : length (with_bytes_at off xs bs) ≡ length bs = omega arith in
     ap ANumber same
 written_leaves s off xs (Bytes bs) (BlockOf n) h l k size some true is out =
     let e : length bs ≡ s = cc in
@@ -90,12 +90,12 @@ written_leaves s off xs (Bytes bs) (BlockOf n) h l k size some false is out =
     ap block_value (block_written_beyond n off xs bs some (omega arith) (subst (λ z. (n < min off z / 4096) ⊎ ((off + length xs - 1) / 4096 < n)) (sym e) (outside_run _ _ n (or_no _ out))))
 
 resized_leaves : (s t : ℕ) (c : Content) (f : Field) (h : FileId) (l : ℕ) → kind_of c ≡ File → content_value c l h SizeOf ≡ ANumber s
-    → (b : Bool) → nat_eq s t ≡ b → list_any (λ p. in_part p f) (resized_parts b s t) ≡ false → content_value (with_bytes (resized t) c) l h f ≡ content_value c l h f
+    → (b : Bool) → nat_eq s t ≡ b → list_any (λ p. in_part p f) (resized_parts b s t) ≡ false → content_value (map_bytes (with_size t) c) l h f ≡ content_value c l h f
 resized_leaves s t (Names m) f h l k size b is out = absurd cc
 resized_leaves s t (Bytes bs) f h l k size true is out =
     let e : length bs ≡ s = cc in
     let d : s ≡ t = number_is s t is in
-    ap (λ (b : List ℕ). content_value (Bytes b) l h f) (subst (λ z. resized z bs ≡ bs) (e ∙ d) (resized_same bs))
+    ap (λ (b : List ℕ). content_value (Bytes b) l h f) (subst (λ z. with_size z bs ≡ bs) (e ∙ d) (resized_same bs))
 resized_leaves s t (Bytes bs) KindOf h l k size false is out = refl
 resized_leaves s t (Bytes bs) LinksOf h l k size false is out = refl
 resized_leaves s t (Bytes bs) (NameOf x) h l k size false is out = refl
@@ -107,7 +107,7 @@ resized_leaves s t (Bytes bs) (BlockOf n) h l k size false is out =
 kind_is : (k j : Kind) (h g : FileId) → AKind k h ≡ AKind j g → k ≡ j
 kind_is k j h g e = cc
 
-pub leaves : (ch : Change) (o : Option Inode) (f : Field) → Can ch o → list_any (λ p. in_part p f) (parts ch) ≡ false → field_value (change ch o) f ≡ field_value o f
+pub leaves : (ch : InodeChange) (o : Option Inode) (f : Field) → Can ch o → list_any (λ p. in_part p f) (parts ch) ≡ false → field_value (inode_after ch o) f ≡ field_value o f
 leaves (Made h k) None f can out = made_leaves h k f out
 leaves (Made h k) (Some i) f can out = absurd cc
 leaves (Named x v) None f can out = refl
@@ -123,7 +123,7 @@ leaves Gone o f can out = absurd cc
 
 -- ---- what a change writes
 
-named_alike : (x : Name) (v : Option FileId) (c d : Content) (f : Field) (h g : FileId) (l m : ℕ) → kind_of c ≡ Dir → kind_of d ≡ Dir → content_value c l h f ≡ content_value d m g f → content_value (named x v c) l h f ≡ content_value (named x v d) m g f
+named_alike : (x : Name) (v : Option FileId) (c d : Content) (f : Field) (h g : FileId) (l m : ℕ) → kind_of c ≡ Dir → kind_of d ≡ Dir → content_value c l h f ≡ content_value d m g f → content_value (with_name x v c) l h f ≡ content_value (with_name x v d) m g f
 named_alike x v (Bytes bs) d f h g l m k j e = absurd cc
 named_alike x v (Names a) (Bytes bs) f h g l m k j e = absurd cc
 named_alike x v (Names a) (Names b) KindOf h g l m k j e = e
@@ -155,7 +155,7 @@ bytes_alike : (t : List ℕ → List ℕ) (c d : Content) (f : Field) (h g : Fil
     → content_value c l h SizeOf ≡ ANumber s → content_value d m g SizeOf ≡ ANumber s
     → ((a b : List ℕ) → length a ≡ length b → length (t a) ≡ length (t b))
     → ((n : ℕ) (a b : List ℕ) → length a ≡ length b → block n a ≡ block n b → block n (t a) ≡ block n (t b))
-    → content_value c l h f ≡ content_value d m g f → content_value (with_bytes t c) l h f ≡ content_value (with_bytes t d) m g f
+    → content_value c l h f ≡ content_value d m g f → content_value (map_bytes t c) l h f ≡ content_value (map_bytes t d) m g f
 bytes_alike t (Names a) d f h g l m s k j p q long each e = absurd cc
 bytes_alike t (Bytes a) (Names b) f h g l m s k j p q long each e = absurd cc
 bytes_alike t (Bytes a) (Bytes b) KindOf h g l m s k j p q long each e = e
@@ -167,7 +167,7 @@ bytes_alike t (Bytes a) (Bytes b) (NameOf x) h g l m s k j p q long each e = ref
 no_none : {P : Type 0} (k : Kind) → IsA k None → P
 no_none k (h, e) = absurd cc
 
-pub alike : (ch : Change) (o p : Option Inode) (f : Field) → Can ch o → Can ch p → field_value o f ≡ field_value p f → field_value (change ch o) f ≡ field_value (change ch p) f
+pub alike : (ch : InodeChange) (o p : Option Inode) (f : Field) → Can ch o → Can ch p → field_value o f ≡ field_value p f → field_value (inode_after ch o) f ≡ field_value (inode_after ch p) f
 alike (Made h k) o p f a b e = refl
 alike (Copied i) o p f a b e = refl
 alike Gone o p f a b e = refl
@@ -180,17 +180,17 @@ alike (Linked n) (Some i) (Some j) f a b e = linked_alike n i.content j.content 
 alike (Written s off xs) None p f (a, _, _) b e = no_none File a
 alike (Written s off xs) (Some i) None f a (b, _, _) e = no_none File b
 alike (Written s off xs) (Some i) (Some j) f ((h, a), p, _) ((g, b), q, _) e =
-    bytes_alike (written off xs) i.content j.content f i.home j.home i.links j.links s (kind_is _ _ _ _ a) (kind_is _ _ _ _ b) p q
-    (λ a b same. length-written off xs a ∙ ap (max (off + length xs)) same ∙ sym (length-written off xs b)) (λ n a b. block_written_alike n off xs a b) e
+    bytes_alike (with_bytes_at off xs) i.content j.content f i.home j.home i.links j.links s (kind_is _ _ _ _ a) (kind_is _ _ _ _ b) p q
+    (λ a b same. length-with_bytes_at off xs a ∙ ap (max (off + length xs)) same ∙ sym (length-with_bytes_at off xs b)) (λ n a b. block_written_alike n off xs a b) e
 alike (Resized s t) None p f (a, _) b e = no_none File a
 alike (Resized s t) (Some i) None f a (b, _) e = no_none File b
 alike (Resized s t) (Some i) (Some j) f ((h, a), p) ((g, b), q) e =
-    bytes_alike (resized t) i.content j.content f i.home j.home i.links j.links s (kind_is _ _ _ _ a) (kind_is _ _ _ _ b) p q
-    (λ a b same. length-resized t a ∙ sym (length-resized t b)) (λ n a b same. block_resized_alike n t a b) e
+    bytes_alike (with_size t) i.content j.content f i.home j.home i.links j.links s (kind_is _ _ _ _ a) (kind_is _ _ _ _ b) p q
+    (λ a b same. length-with_size t a ∙ sym (length-with_size t b)) (λ n a b same. block_resized_alike n t a b) e
 
 -- ---- links stay in their range
 
-keeps_one_link : (ch : Change) (o : Option Inode) → Can ch o → HasOneLink o → HasOneLink (change ch o)
+keeps_one_link : (ch : InodeChange) (o : Option Inode) → Can ch o → HasOneLink o → HasOneLink (inode_after ch o)
 keeps_one_link (Made h k) o can one is = refl
 keeps_one_link (Copied i) o can one is = can.one is
 keeps_one_link Gone o can one is = no_none Dir is
@@ -199,22 +199,22 @@ keeps_one_link (Named x v) (Some i) can one is = one can
 keeps_one_link (Linked n) None can one is = no_none Dir is
 keeps_one_link (Linked n) (Some i) ((h, a), _, _) one (g, b) = absurd cc
 keeps_one_link (Written s off xs) None can one is = no_none Dir is
-keeps_one_link (Written s off xs) (Some i) ((h, a), _, _) one is = not_dir i.content (written off xs) i.home is (kind_is _ _ _ _ a)
+keeps_one_link (Written s off xs) (Some i) ((h, a), _, _) one is = not_dir i.content (with_bytes_at off xs) i.home is (kind_is _ _ _ _ a)
   where
-    not_dir : {P : Type 0} (c : Content) (t : List ℕ → List ℕ) (h : FileId) → ((g : FileId) × (AKind (kind_of (with_bytes t c)) h ≡ AKind Dir g)) → kind_of c ≡ File → P
+    not_dir : {P : Type 0} (c : Content) (t : List ℕ → List ℕ) (h : FileId) → ((g : FileId) × (AKind (kind_of (map_bytes t c)) h ≡ AKind Dir g)) → kind_of c ≡ File → P
     not_dir (Bytes bs) t h (g, e) k = absurd cc
     not_dir (Names m) t h (g, e) k = absurd cc
 keeps_one_link (Resized s t) None can one is = no_none Dir is
-keeps_one_link (Resized s t) (Some i) ((h, a), _) one is = not_dir i.content (resized t) i.home is (kind_is _ _ _ _ a)
+keeps_one_link (Resized s t) (Some i) ((h, a), _) one is = not_dir i.content (with_size t) i.home is (kind_is _ _ _ _ a)
   where
-    not_dir : {P : Type 0} (c : Content) (t : List ℕ → List ℕ) (h : FileId) → ((g : FileId) × (AKind (kind_of (with_bytes t c)) h ≡ AKind Dir g)) → kind_of c ≡ File → P
+    not_dir : {P : Type 0} (c : Content) (t : List ℕ → List ℕ) (h : FileId) → ((g : FileId) × (AKind (kind_of (map_bytes t c)) h ≡ AKind Dir g)) → kind_of c ≡ File → P
     not_dir (Bytes bs) t h (g, e) k = absurd cc
     not_dir (Names m) t h (g, e) k = absurd cc
 
 pub number_same : (a b : ℕ) → ANumber a ≡ ANumber b → a ≡ b
 number_same a b e = cc
 
-keeps_few : (ch : Change) (o : Option Inode) (l : ℕ) → Can ch o → WellLinked o → field_value (change ch o) LinksOf ≡ ANumber l → (1 ≤ l) × (l ≤ 255)
+keeps_few : (ch : InodeChange) (o : Option Inode) (l : ℕ) → Can ch o → WellLinked o → field_value (inode_after ch o) LinksOf ≡ ANumber l → (1 ≤ l) × (l ≤ 255)
 keeps_few (Made h k) o l can linked e = let same : 1 ≡ l = number_same 1 l e in (omega arith, omega arith)
 keeps_few (Copied i) o l can linked e = can.few l e
 keeps_few Gone o l can linked e = absurd cc
@@ -227,7 +227,7 @@ keeps_few (Written s off xs) (Some i) l can linked e = linked.few l e
 keeps_few (Resized s t) None l can linked e = absurd cc
 keeps_few (Resized s t) (Some i) l can linked e = linked.few l e
 
-pub stays_linked : (ch : Change) (o : Option Inode) → Can ch o → WellLinked o → WellLinked (change ch o)
+pub stays_linked : (ch : InodeChange) (o : Option Inode) → Can ch o → WellLinked o → WellLinked (inode_after ch o)
 stays_linked ch o can linked = record { one = keeps_one_link ch o can linked.one; few = λ l e. keeps_few ch o l can linked e }
 
 -- ---- an inode is known by its cells

@@ -7,8 +7,8 @@ use Rattle.su_bytes.specs.declared.file_ids.FileId.{FileId}
 use Rattle.su_bytes.specs.declared.file_ids.FileId.TheVariants.{User, Group}
 use Rattle.su_node.specs.Inode.{Inode}
 use Rattle.su_node.specs.Field.{Field.KindOf, Value.Nothing, field_value}
-use Rattle.su_node.specs.Change.{Change.Gone, change}
-use Rattle.su_table.specs.Place.{Place}
+use Rattle.su_node.specs.InodeChange.{InodeChange.Gone, inode_after}
+use Rattle.su_bytes.specs.Place.{Place}
 use Rattle.su_table.specs.Tree.{Tree}
 use Rattle.su_table.specs.Cell.{Cell.At, val}
 use Rattle.su_table.specs.Query.{is_nothing, is_free_at, body}
@@ -18,28 +18,28 @@ use Rattle.su_op.specs.declared.areas.Part.TheVariants.{Whole as WholePart}
 use Rattle.su_op.specs.declared.areas.Area.TheVariants.{Inode as InodeArea}
 use Rattle.su_op.specs.declared.taking.Take.{Take}
 use Rattle.su_op.specs.Footprint.{parts, areas_of}
-use Rattle.su_op.specs.Rule.{Plan, reads_of, writes_of, entry_edits, entry_areas, file_areas}
+use Rattle.su_op.specs.Rule.{Plan, reads_of, writes_of, pointer_edits, pointer_areas, file_areas}
 use Rattle.su_op.specs.Taking.{copy_of, take_rule, take_plan}
 use Rattle.su_op.specs.Soundness.{WellLinked, IsBodyOf, Sound}
 use Rattle.su_op.proofs.Backs.{no_inode, back_gone, copied_gone}
-use Rattle.su_op.proofs.Edits.{IsFree, CanEdit, CanEdits, inode_after}
-use Rattle.su_op.proofs.Rules.{Gives, Agrees, left, right, later, field_same, whole_same, body_same, nothing_is, nothing_free, can_entry_some, entry_of_body}
+use Rattle.su_op.proofs.Edits.{IsFree, CanEdit, CanEdits, field_after}
+use Rattle.su_op.proofs.Rules.{Gives, Agrees, left, right, later, field_same, whole_same, body_same, nothing_is, nothing_free, can_pointer_some, pointer_of_body}
 
 copy_parts : (o : Option Inode) → parts (copy_of o) ≡ WholePart ∷ []
 copy_parts None = refl
 copy_parts (Some i) = refl
 
-entry_written : (f : FileId) (v : Option Place) → areas_of (entry_edits f v) ≡ entry_areas f
-entry_written (User u i) v = refl
-entry_written (Group g k) v = refl
+pointer_written : (f : FileId) (v : Option Place) → areas_of (pointer_edits f v) ≡ pointer_areas f
+pointer_written (User u i) v = refl
+pointer_written (Group g k) v = refl
 
 -- what a take writes doesn't depend on the inode
-pub take_writes : (o : Option Inode) (a : ℕ) (t : Take) (f : Place) → writes_of (take_plan o a t f) ≡ InodeArea (a, t.body) WholePart ∷ entry_areas t.file
+pub take_writes : (o : Option Inode) (a : ℕ) (t : Take) (f : Place) → writes_of (take_plan o a t f) ≡ InodeArea (a, t.body) WholePart ∷ pointer_areas t.file
 take_writes o a t f =
-    ap (λ ps. map (InodeArea (a, t.body)) ps ++ areas_of (entry_edits t.file (Some (a, t.body)))) (copy_parts o)
-    ∙ ap (λ w. InodeArea (a, t.body) WholePart ∷ w) (entry_written t.file (Some (a, t.body)))
+    ap (λ ps. map (InodeArea (a, t.body)) ps ++ areas_of (pointer_edits t.file (Some (a, t.body)))) (copy_parts o)
+    ∙ ap (λ w. InodeArea (a, t.body) WholePart ∷ w) (pointer_written t.file (Some (a, t.body)))
 
-copied_is : (o was : Option Inode) → change (copy_of o) was ≡ o
+copied_is : (o was : Option Inode) → inode_after (copy_of o) was ≡ o
 copied_is None was = refl
 copied_is (Some i) was = refl
 
@@ -50,7 +50,7 @@ can_copy T p (Some i) linked free = (linked, free)
 -- what was made for a group file is so where it is copied to
 copied_body : (T : Tree) (p f g : Place) → IsBodyOf T g f → IsBodyOf (edit T (Inodes p (copy_of (get T.inodes f)))) g p
 unfolding val
-copied_body T p f g (k, home) = (k, inode_after T p (copy_of (get T.inodes f)) KindOf ∙ ap (λ o. field_value o KindOf) (copied_is (get T.inodes f) (get T.inodes p)) ∙ home)
+copied_body T p f g (k, home) = (k, field_after T p (copy_of (get T.inodes f)) KindOf ∙ ap (λ o. field_value o KindOf) (copied_is (get T.inodes f) (get T.inodes p)) ∙ home)
 
 module _ (ro : Membership) (a : ℕ) (t : Take) where
   pub take_local : (T T' : Tree) (p : Plan) → Gives (take_rule ro T a t) p → Agrees (reads_of p) T T' → Gives (take_rule ro T' a t) p
@@ -59,7 +59,7 @@ module _ (ro : Membership) (a : ℕ) (t : Take) where
       let all : Agrees (reads_of (take_plan o a t f)) T T' = subst (λ p. Agrees (reads_of p) T T') (sym plan) agree in
       let reads : Agrees (InodeArea f WholePart ∷ file_areas t.file f) T T' = left (InodeArea f WholePart ∷ file_areas t.file f) _ all in
       let w : Agrees (writes_of (take_plan o a t f)) T T' = right (InodeArea f WholePart ∷ file_areas t.file f) _ all in
-      let new : Agrees (InodeArea (a, t.body) WholePart ∷ entry_areas t.file) T T' = subst (λ w. Agrees w T T') (take_writes o a t f) w in
+      let new : Agrees (InodeArea (a, t.body) WholePart ∷ pointer_areas t.file) T T' = subst (λ w. Agrees w T T') (take_writes o a t f) w in
       let free' = ap (λ v. not (nat_eq f.0 a) && is_nothing v) (field_same KindOf new) ∙ free in
       (user, (group, (touch, (f, body_same t.file f at (later reads), (free', ap (λ o. take_plan o a t f) (whole_same reads) ∙ plan)))))
 
@@ -70,11 +70,11 @@ module _ (ro : Membership) (a : ℕ) (t : Take) where
       let empty : val T (At (a, t.body) KindOf) ≡ Nothing = nothing_is _ nothing in
       subst (λ (p : Plan). CanEdits T p.edits) plan (
         can_copy T (a, t.body) o (sound.linked f) (nothing_free T (a, t.body) sound empty),
-        can_entry_some (edit T (Inodes (a, t.body) (copy_of o))) t.file (a, t.body)
-            (λ g e. copied_body T (a, t.body) f g (sound.homes g f (entry_of_body T g f (ap (body T) (sym e) ∙ at)))),
+        can_pointer_some (edit T (Inodes (a, t.body) (copy_of o))) t.file (a, t.body)
+            (λ g e. copied_body T (a, t.body) f g (sound.homes g f (pointer_of_body T g f (ap (body T) (sym e) ∙ at)))),
       )
 
--- ---- a take whose entry couldn't be moved
+-- ---- a take whose pointer couldn't be moved
 
 gone_free : (T : Tree) (p : Place) → is_free_at T p ≡ true → back T (Inodes p Gone) ≡ Inodes p Gone
 unfolding val

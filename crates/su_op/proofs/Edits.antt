@@ -4,12 +4,12 @@ use Rattle.std.proofs.lemmas.List.Folds.{list_any-append}
 use Rattle.std.specs.List.{list_any}
 use Rattle.std.specs.FinMap.{get}
 use Rattle.su_bytes.specs.declared.file_ids.FileId.TheVariants.{Group}
-use Rattle.su_table.specs.Place.{Place, place_eq}
+use Rattle.su_bytes.specs.Place.{Place, place_eq}
 use Rattle.su_table.specs.Tree.{Tree}
 use Rattle.su_node.specs.Field.{Field, Field.KindOf, Value.Nothing, Value.AKind, Value.APlace, field_value}
-use Rattle.su_table.specs.Cell.{Cell, Cell.At, Cell.Entry, place_value, val}
-use Rattle.su_node.specs.Change.{Change, Change.Made, Change.Named, Change.Linked, Change.Written, Change.Resized, Change.Copied, Change.Gone, change}
-use Rattle.su_table.specs.Edit.{Edit, Edit.Inodes, Edit.Entries, edit, edits}
+use Rattle.su_table.specs.Cell.{Cell, Cell.At, Cell.Pointer, place_value, val}
+use Rattle.su_node.specs.InodeChange.{InodeChange, InodeChange.Made, InodeChange.Named, InodeChange.Linked, InodeChange.Written, InodeChange.Resized, InodeChange.Copied, InodeChange.Gone, inode_after}
+use Rattle.su_table.specs.Edit.{Edit, Edit.Inodes, Edit.Pointers, edit, edits}
 use Rattle.su_op.specs.declared.areas.Part.{Part}
 use Rattle.su_op.specs.declared.areas.Area.{Area}
 use Rattle.su_op.specs.declared.areas.Area.TheVariants.{Inode as InodeArea}
@@ -21,10 +21,10 @@ use Rattle.su_op.proofs.Changes.{Can, leaves, alike, stays_linked, inode_same}
 
 -- no group file stands at p
 abbrev pub IsFree : Tree → Place → Type 0
-IsFree T p = (g : Place) → val T (Entry g) ≡ APlace p → ⊥
+IsFree T p = (g : Place) → val T (Pointer g) ≡ APlace p → ⊥
 
--- a change of a kind or home is made only of what no entry points at
-abbrev pub Moves : Change → Tree → Place → Type 0
+-- a change of a kind or home is made only of what no pointer points at
+abbrev pub Moves : InodeChange → Tree → Place → Type 0
 Moves (Made h k) T p = IsFree T p
 Moves (Copied i) T p = IsFree T p
 Moves Gone T p = IsFree T p
@@ -33,8 +33,8 @@ Moves _ T p = Unit {0}
 -- where edits can be made
 abbrev pub CanEdit : Tree → Edit → Type 0
 CanEdit T (Inodes p ch) = Can ch (get T.inodes p) × Moves ch T p
-CanEdit T (Entries g None) = Unit {0}
-CanEdit T (Entries g (Some p)) = IsBodyOf T g p
+CanEdit T (Pointers g None) = Unit {0}
+CanEdit T (Pointers g (Some p)) = IsBodyOf T g p
 
 abbrev pub CanEdits : Tree → List Edit → Type 0
 CanEdits T [] = Unit {0}
@@ -59,80 +59,80 @@ has_parts p q f (a ∷ ps) = ap (λ b. place_eq q p && in_part a f || b) (has_pa
 -- an edit leaves what it doesn't write
 pub edit_leaves : (T : Tree) (e : Edit) (c : Cell) → CanEdit T e → has (edit_areas e) c ≡ false → val (edit T e) c ≡ val T c
 unfolding val edit
-edit_leaves T (Inodes p ch) (Entry g) can out = refl
-edit_leaves T (Entries g v) (At q f) can out = refl
-edit_leaves T (Entries g v) (Entry k) can out = ap place_value (get-set_place T.entries g v k) ∙ go (place_eq k g) out
+edit_leaves T (Inodes p ch) (Pointer g) can out = refl
+edit_leaves T (Pointers g v) (At q f) can out = refl
+edit_leaves T (Pointers g v) (Pointer k) can out = ap place_value (get-set_place T.pointers g v k) ∙ go (place_eq k g) out
   where
-    go : (b : Bool) → (b || false) ≡ false → place_value (cond b v (get T.entries k)) ≡ place_value (get T.entries k)
+    go : (b : Bool) → (b || false) ≡ false → place_value (cond b v (get T.pointers k)) ≡ place_value (get T.pointers k)
     go true out = absurd cc
     go false out = refl
-edit_leaves T (Inodes p ch) (At q f) can out = ap (λ o. field_value o f) (get-set_place T.inodes p (change ch (get T.inodes p)) q) ∙ go (place_eq q p) refl (sym (has_parts p q f (parts ch)) ∙ out)
+edit_leaves T (Inodes p ch) (At q f) can out = ap (λ o. field_value o f) (get-set_place T.inodes p (inode_after ch (get T.inodes p)) q) ∙ go (place_eq q p) refl (sym (has_parts p q f (parts ch)) ∙ out)
   where
-    go : (b : Bool) → place_eq q p ≡ b → (b && list_any (λ a. in_part a f) (parts ch)) ≡ false → field_value (cond b (change ch (get T.inodes p)) (get T.inodes q)) f ≡ field_value (get T.inodes q) f
+    go : (b : Bool) → place_eq q p ≡ b → (b && list_any (λ a. in_part a f) (parts ch)) ≡ false → field_value (cond b (inode_after ch (get T.inodes p)) (get T.inodes q)) f ≡ field_value (get T.inodes q) f
     go true is out = leaves ch (get T.inodes p) f can.0 out ∙ ap (λ r. field_value (get T.inodes r) f) (sym (place_eq-same q p is))
     go false is out = refl
 
 -- and where it finds the same it leaves the same
 pub edit_alike : (T T' : Tree) (e : Edit) (c : Cell) → CanEdit T e → CanEdit T' e → val T c ≡ val T' c → val (edit T e) c ≡ val (edit T' e) c
 unfolding val edit
-edit_alike T T' (Inodes p ch) (Entry g) a b same = same
-edit_alike T T' (Entries g v) (At q f) a b same = same
-edit_alike T T' (Entries g v) (Entry k) a b same = ap place_value (get-set_place T.entries g v k) ∙ go (place_eq k g) ∙ sym (ap place_value (get-set_place T'.entries g v k))
+edit_alike T T' (Inodes p ch) (Pointer g) a b same = same
+edit_alike T T' (Pointers g v) (At q f) a b same = same
+edit_alike T T' (Pointers g v) (Pointer k) a b same = ap place_value (get-set_place T.pointers g v k) ∙ go (place_eq k g) ∙ sym (ap place_value (get-set_place T'.pointers g v k))
   where
-    go : (b : Bool) → place_value (cond b v (get T.entries k)) ≡ place_value (cond b v (get T'.entries k))
+    go : (b : Bool) → place_value (cond b v (get T.pointers k)) ≡ place_value (cond b v (get T'.pointers k))
     go true = refl
     go false = same
 edit_alike T T' (Inodes p ch) (At q f) a b same =
-    ap (λ o. field_value o f) (get-set_place T.inodes p (change ch (get T.inodes p)) q) ∙ go (place_eq q p) refl
-    ∙ sym (ap (λ o. field_value o f) (get-set_place T'.inodes p (change ch (get T'.inodes p)) q))
+    ap (λ o. field_value o f) (get-set_place T.inodes p (inode_after ch (get T.inodes p)) q) ∙ go (place_eq q p) refl
+    ∙ sym (ap (λ o. field_value o f) (get-set_place T'.inodes p (inode_after ch (get T'.inodes p)) q))
   where
-    go : (b : Bool) → place_eq q p ≡ b → field_value (cond b (change ch (get T.inodes p)) (get T.inodes q)) f ≡ field_value (cond b (change ch (get T'.inodes p)) (get T'.inodes q)) f
+    go : (b : Bool) → place_eq q p ≡ b → field_value (cond b (inode_after ch (get T.inodes p)) (get T.inodes q)) f ≡ field_value (cond b (inode_after ch (get T'.inodes p)) (get T'.inodes q)) f
     go true is = alike ch (get T.inodes p) (get T'.inodes p) f a.0 b.0 (subst (λ r. field_value (get T.inodes r) f ≡ field_value (get T'.inodes r) f) (place_eq-same q p is) same)
     go false is = same
 
 edit_linked : (T : Tree) (e : Edit) → CanEdit T e → ((p : Place) → WellLinked (get T.inodes p)) → (q : Place) → WellLinked (get (edit T e).inodes q)
 unfolding edit
-edit_linked T (Entries g v) can fine q = fine q
-edit_linked T (Inodes p ch) can fine q = subst WellLinked (sym (get-set_place T.inodes p (change ch (get T.inodes p)) q)) (go (place_eq q p))
+edit_linked T (Pointers g v) can fine q = fine q
+edit_linked T (Inodes p ch) can fine q = subst WellLinked (sym (get-set_place T.inodes p (inode_after ch (get T.inodes p)) q)) (go (place_eq q p))
   where
-    go : (b : Bool) → WellLinked (cond b (change ch (get T.inodes p)) (get T.inodes q))
+    go : (b : Bool) → WellLinked (cond b (inode_after ch (get T.inodes p)) (get T.inodes q))
     go true = stays_linked ch (get T.inodes p) can.0 (fine p)
     go false = fine q
 
--- an entry after a change of an inode, and an inode after a change of an entry
-pub entry_after : (T : Tree) (p : Place) (ch : Change) (g : Place) → val (edit T (Inodes p ch)) (Entry g) ≡ val T (Entry g)
+-- a pointer after a change of an inode, and an inode after a change of a pointer
+pub pointer_after : (T : Tree) (p : Place) (ch : InodeChange) (g : Place) → val (edit T (Inodes p ch)) (Pointer g) ≡ val T (Pointer g)
 unfolding val edit
-entry_after T p ch g = refl
+pointer_after T p ch g = refl
 
-pub kind_after : (T : Tree) (k : Place) (v : Option Place) (p : Place) → val (edit T (Entries k v)) (At p KindOf) ≡ val T (At p KindOf)
+pub kind_after : (T : Tree) (k : Place) (v : Option Place) (p : Place) → val (edit T (Pointers k v)) (At p KindOf) ≡ val T (At p KindOf)
 unfolding val edit
 kind_after T k v p = refl
 
-pub entry_is : (T : Tree) (k : Place) (v : Option Place) (g : Place) → val (edit T (Entries k v)) (Entry g) ≡ cond (place_eq g k) (place_value v) (val T (Entry g))
+pub pointer_is : (T : Tree) (k : Place) (v : Option Place) (g : Place) → val (edit T (Pointers k v)) (Pointer g) ≡ cond (place_eq g k) (place_value v) (val T (Pointer g))
 unfolding val edit
-entry_is T k v g = ap place_value (get-set_place T.entries k v g) ∙ go (place_eq g k)
+pointer_is T k v g = ap place_value (get-set_place T.pointers k v g) ∙ go (place_eq g k)
   where
-    go : (b : Bool) → place_value (cond b v (get T.entries g)) ≡ cond b (place_value v) (place_value (get T.entries g))
+    go : (b : Bool) → place_value (cond b v (get T.pointers g)) ≡ cond b (place_value v) (place_value (get T.pointers g))
     go true = refl
     go false = refl
 
 -- what a change leaves at its place
-pub inode_after : (T : Tree) (p : Place) (ch : Change) (f : Field) → val (edit T (Inodes p ch)) (At p f) ≡ field_value (change ch (get T.inodes p)) f
+pub field_after : (T : Tree) (p : Place) (ch : InodeChange) (f : Field) → val (edit T (Inodes p ch)) (At p f) ≡ field_value (inode_after ch (get T.inodes p)) f
 unfolding val edit
-inode_after T p ch f = ap (λ o. field_value o f) (get-set_place T.inodes p (change ch (get T.inodes p)) p ∙ ap (λ b. cond b (change ch (get T.inodes p)) (get T.inodes p)) (place_eq-itself p))
+field_after T p ch f = ap (λ o. field_value o f) (get-set_place T.inodes p (inode_after ch (get T.inodes p)) p ∙ ap (λ b. cond b (inode_after ch (get T.inodes p)) (get T.inodes p)) (place_eq-itself p))
 
-in_kind : (p q : Place) (ch : Change) → list_any (λ a. in_part a KindOf) (parts ch) ≡ false → has (edit_areas (Inodes p ch)) (At q KindOf) ≡ false
+in_kind : (p q : Place) (ch : InodeChange) → list_any (λ a. in_part a KindOf) (parts ch) ≡ false → has (edit_areas (Inodes p ch)) (At q KindOf) ≡ false
 in_kind p q ch out = has_parts p q KindOf (parts ch) ∙ ap (λ b. place_eq q p && b) out ∙ go (place_eq q p)
   where
     go : (b : Bool) → (b && false) ≡ false
     go true = refl
     go false = refl
 
-kept_home : (T : Tree) (p : Place) (ch : Change) → CanEdit T (Inodes p ch) → list_any (λ a. in_part a KindOf) (parts ch) ≡ false → (g q : Place) → IsBodyOf T g q → IsBodyOf (edit T (Inodes p ch)) g q
+kept_home : (T : Tree) (p : Place) (ch : InodeChange) → CanEdit T (Inodes p ch) → list_any (λ a. in_part a KindOf) (parts ch) ≡ false → (g q : Place) → IsBodyOf T g q → IsBodyOf (edit T (Inodes p ch)) g q
 kept_home T p ch can out g q (k, e) = (k, edit_leaves T (Inodes p ch) (At q KindOf) can (in_kind p q ch out) ∙ e)
 
 -- what is changed at a place where no group file stands leaves the others
-moved_home : (T : Tree) (p : Place) (ch : Change) → CanEdit T (Inodes p ch) → IsFree T p → (g q : Place) → val T (Entry g) ≡ APlace q → IsBodyOf T g q → IsBodyOf (edit T (Inodes p ch)) g q
+moved_home : (T : Tree) (p : Place) (ch : InodeChange) → CanEdit T (Inodes p ch) → IsFree T p → (g q : Place) → val T (Pointer g) ≡ APlace q → IsBodyOf T g q → IsBodyOf (edit T (Inodes p ch)) g q
 moved_home T p ch can free g q at (k, e) = go (place_eq q p) refl
   where
     go : (b : Bool) → place_eq q p ≡ b → IsBodyOf (edit T (Inodes p ch)) g q
@@ -147,7 +147,7 @@ pub resized_kind : (b : Bool) (s t : ℕ) → list_any (λ a. in_part a KindOf) 
 resized_kind true s t = refl
 resized_kind false s t = refl
 
-inodes_homes : (T : Tree) (p : Place) (ch : Change) → CanEdit T (Inodes p ch) → (g q : Place) → val T (Entry g) ≡ APlace q → IsBodyOf T g q → IsBodyOf (edit T (Inodes p ch)) g q
+inodes_homes : (T : Tree) (p : Place) (ch : InodeChange) → CanEdit T (Inodes p ch) → (g q : Place) → val T (Pointer g) ≡ APlace q → IsBodyOf T g q → IsBodyOf (edit T (Inodes p ch)) g q
 inodes_homes T p (Made h k) can g q at home = moved_home T p (Made h k) can can.1 g q at home
 inodes_homes T p (Copied i) can g q at home = moved_home T p (Copied i) can can.1 g q at home
 inodes_homes T p Gone can g q at home = moved_home T p Gone can can.1 g q at home
@@ -159,18 +159,18 @@ inodes_homes T p (Resized s t) can g q at home = kept_home T p (Resized s t) can
 pub place_same_value : (p q : Place) → APlace p ≡ APlace q → p ≡ q
 place_same_value p q e = cc
 
-edit_homes : (T : Tree) (e : Edit) → CanEdit T e → ((g q : Place) → val T (Entry g) ≡ APlace q → IsBodyOf T g q) → (g q : Place) → val (edit T e) (Entry g) ≡ APlace q → IsBodyOf (edit T e) g q
+edit_homes : (T : Tree) (e : Edit) → CanEdit T e → ((g q : Place) → val T (Pointer g) ≡ APlace q → IsBodyOf T g q) → (g q : Place) → val (edit T e) (Pointer g) ≡ APlace q → IsBodyOf (edit T e) g q
 edit_homes T (Inodes p ch) can stands g q at =
-    let was : val T (Entry g) ≡ APlace q = sym (entry_after T p ch g) ∙ at in
+    let was : val T (Pointer g) ≡ APlace q = sym (pointer_after T p ch g) ∙ at in
     inodes_homes T p ch can g q was (stands g q was)
-edit_homes T (Entries k None) can stands g q at = go (place_eq g k) (sym (entry_is T k None g) ∙ at)
+edit_homes T (Pointers k None) can stands g q at = go (place_eq g k) (sym (pointer_is T k None g) ∙ at)
   where
-    go : (b : Bool) → cond b Nothing (val T (Entry g)) ≡ APlace q → IsBodyOf (edit T (Entries k None)) g q
+    go : (b : Bool) → cond b Nothing (val T (Pointer g)) ≡ APlace q → IsBodyOf (edit T (Pointers k None)) g q
     go true e = absurd cc
     go false e = let (j, h) = stands g q e in (j, kind_after T k None q ∙ h)
-edit_homes T (Entries k (Some p)) can stands g q at = go (place_eq g k) refl (sym (entry_is T k (Some p) g) ∙ at)
+edit_homes T (Pointers k (Some p)) can stands g q at = go (place_eq g k) refl (sym (pointer_is T k (Some p) g) ∙ at)
   where
-    go : (b : Bool) → place_eq g k ≡ b → cond b (APlace p) (val T (Entry g)) ≡ APlace q → IsBodyOf (edit T (Entries k (Some p))) g q
+    go : (b : Bool) → place_eq g k ≡ b → cond b (APlace p) (val T (Pointer g)) ≡ APlace q → IsBodyOf (edit T (Pointers k (Some p))) g q
     go true is e =
         let same : p ≡ q = place_same_value p q e in
         let (j, h) = can in
@@ -205,8 +205,8 @@ pub tree_same : (T T' : Tree) → ((c : Cell) → val T c ≡ val T' c) → T �
 unfolding val
 tree_same T T' each =
     let a : T.inodes ≡ T'.inodes = same_places T.inodes T'.inodes (λ p. inode_same (get T.inodes p) (get T'.inodes p) (λ f. each (At p f))) in
-    let b : T.entries ≡ T'.entries = same_places T.entries T'.entries (λ g. place_value_same (get T.entries g) (get T'.entries g) (each (Entry g))) in
-    λ i. record { inodes = a i; entries = b i }
+    let b : T.pointers ≡ T'.pointers = same_places T.pointers T'.pointers (λ g. place_value_same (get T.pointers g) (get T'.pointers g) (each (Pointer g))) in
+    λ i. record { inodes = a i; pointers = b i }
   where
     place_value_same : (o p : Option Place) → place_value o ≡ place_value p → o ≡ p
     place_value_same None None e = refl

@@ -7,8 +7,8 @@ use Rattle.su_bytes.specs.declared.file_ids.Kind.TheVariants.{File, Dir}
 use Rattle.su_table.specs.Tree.{Tree}
 use Rattle.su_node.specs.Field.{Field.LinksOf}
 use Rattle.su_table.specs.Cell.{Cell.At, val}
-use Rattle.su_table.specs.Query.{is_dir, is_file, is_nothing, number_of, links_at}
-use Rattle.su_node.specs.Change.{Change.Named}
+use Rattle.su_table.specs.Query.{is_dir_kind, is_file_kind, is_nothing, value_number, links_at}
+use Rattle.su_node.specs.InodeChange.{InodeChange.Named}
 use Rattle.su_table.specs.Edit.{Edit.Inodes, edit}
 use Rattle.su_op.specs.declared.areas.Part.TheVariants.{Links as LinksPart, Name as NamePart}
 use Rattle.su_op.specs.declared.areas.Area.TheVariants.{Inode as InodeArea}
@@ -32,11 +32,11 @@ module _ (ro : Membership) (a : ℕ) (l : Link) where
       let reads_f : Agrees (file_areas l.file f) T T' = right (file_areas l.dir d) _ reads in
       let w : Agrees (InodeArea d (NamePart l.name) ∷ InodeArea f LinksPart ∷ []) T T' = right (file_areas l.dir d ++ file_areas l.file f) _ all in
       let links : val T' (At f LinksOf) ≡ val T (At f LinksOf) = links_same (later w) in
-      (user, (touch, (touch', (d, body_same l.dir d at reads_d, (f, body_same l.file f at_f reads_f, (ap is_dir (kind_same reads_d) ∙ is, (ap is_file (kind_same reads_f) ∙ is_f, (holder, (holder', (ap is_nothing (name_same w) ∙ new, (ap (λ v. nat_lt (number_of v) most_links) links ∙ room, ap (λ v. link_plan (number_of v) l d f) links ∙ plan)))))))))))
+      (user, (touch, (touch', (d, body_same l.dir d at reads_d, (f, body_same l.file f at_f reads_f, (ap is_dir_kind (kind_same reads_d) ∙ is, (ap is_file_kind (kind_same reads_f) ∙ is_f, (holder, (holder', (ap is_nothing (name_same w) ∙ new, (ap (λ v. nat_lt (value_number v) most_links) links ∙ room, ap (λ v. link_plan (value_number v) l d f) links ∙ plan)))))))))))
 
   pub link_can : (T : Tree) (p : Plan) → Sound T → Gives (link_rule ro T a l) p → CanEdits T p.edits
   link_can T p sound (user, (touch, (touch', (d, at, (f, at_f, (is, (is_f, (holder, (holder', (new, (room, plan))))))))))) =
       let dir! : IsA Dir (get T.inodes d) = IsA_dir T d is in
       let few : links_at T f < most_links = less (links_at T f) most_links room in
-      let file! : IsA File (get (edit T (Inodes d (Named l.name (Some l.file)))).inodes f) = IsA_file (edit T (Inodes d (Named l.name (Some l.file)))) f (ap is_file (kind_after_name T d l.name (Some l.file) f dir!) ∙ is_f) in
+      let file! : IsA File (get (edit T (Inodes d (Named l.name (Some l.file)))).inodes f) = IsA_file (edit T (Inodes d (Named l.name (Some l.file)))) f (ap is_file_kind (kind_after_name T d l.name (Some l.file) f dir!) ∙ is_f) in
       subst (λ (p : Plan). CanEdits T p.edits) plan ((dir!, tt), (((file!, omega arith, omega arith), tt), tt))

@@ -3,19 +3,19 @@ use Rattle.std.proofs.Common.{◌≡◌, ◌+◌, Bool, true, false, ◌∷◌, 
 use Rattle.su_op.specs.declared.areas.Area.TheVariants.{Inode as InodeArea}
 use Rattle.su_bytes.specs.declared.file_ids.FileId.{FileId}
 use Rattle.su_bytes.specs.declared.file_ids.FileId.TheVariants.{User, Group}
-use Rattle.su_table.specs.Place.{Place}
+use Rattle.su_bytes.specs.Place.{Place}
 use Rattle.su_op.specs.Footprint.{areas_of, written_parts, resized_parts}
-use Rattle.su_op.specs.Rule.{entry_edits, entry_areas}
+use Rattle.su_op.specs.Rule.{pointer_edits, pointer_areas}
 use Rattle.su_op.specs.Unlinking.{unlink_edits}
 use Rattle.su_op.proofs.Copying.{take_writes}
 use Rattle.su_op.specs.Table.{name, kind, links, size, CreateRow, unlinked, UnlinkRow, written, WriteRow, truncated, TruncateRow, TakeRow, LinkRow, RenameRow}
 
-entry_written : (f : FileId) (v : Option Place) → areas_of (entry_edits f v) ≡ entry_areas f
-entry_written (User u i) v = refl
-entry_written (Group g k) v = refl
+pointer_written : (f : FileId) (v : Option Place) → areas_of (pointer_edits f v) ≡ pointer_areas f
+pointer_written (User u i) v = refl
+pointer_written (Group g k) v = refl
 
 pub create_row : CreateRow
-create_row a c d = (refl, ap (λ w. name c.name d ∷ kind (a, c.body) ∷ links (a, c.body) ∷ size (a, c.body) ∷ w) (entry_written c.file _))
+create_row a c d = (refl, ap (λ w. name c.name d ∷ kind (a, c.body) ∷ links (a, c.body) ∷ size (a, c.body) ∷ w) (pointer_written c.file _))
 
 pub unlink_row : UnlinkRow
 unlink_row count u d f = (refl, go (nat_le 2 count) u.file)

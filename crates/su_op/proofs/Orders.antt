@@ -5,8 +5,8 @@ use Rattle.std.specs.Cmp.Lexicographic.{pointwise, bytes_decides}
 use Rattle.std.specs.Cmp.{eq_by_cmp_equiv, both_ways}
 use Rattle.std.specs.FinMap.{FinMap, get, same_map}
 use Rattle.su_node.specs.Name.{Name, name_cmp, name_eq}
-use Rattle.su_table.specs.Place.{Place, place_cmp, place_eq}
-use Rattle.su_node.specs.Change.{set_key}
+use Rattle.su_bytes.specs.Place.{Place, place_cmp, place_eq}
+use Rattle.su_node.specs.InodeChange.{set_key}
 use Rattle.su_node.proofs.Maps.{get-set_key, eq_by_cmp-same}
 use Rattle.su_node.proofs.NameOrder.{name_cmp_total, name_cmp_exact}
 use Rattle.su_table.proofs.Places.{place_cmp_total, place_cmp_exact}

@@ -3,13 +3,13 @@ use Rattle.std.proofs.Common.{◌≡◌, ℕ, ◌+◌, ◌<◌, ◌≤◌, Bool,
 use Rattle.std.proofs.lemmas.Bool.{leb-true, leb-false, and_from, and_parts}
 use Rattle.std.specs.List.{list_any}
 use Rattle.su_node.specs.Name.{Name, name_eq}
-use Rattle.su_table.specs.Place.{Place, place_eq}
+use Rattle.su_bytes.specs.Place.{Place, place_eq}
 use Rattle.su_node.specs.Field.{Field, Field.KindOf, Field.LinksOf, Field.SizeOf, Field.BlockOf, Field.NameOf}
-use Rattle.su_table.specs.Cell.{Cell, Cell.At, Cell.Entry}
+use Rattle.su_table.specs.Cell.{Cell, Cell.At, Cell.Pointer}
 use Rattle.su_op.specs.declared.areas.Part.{Part}
 use Rattle.su_op.specs.declared.areas.Part.TheVariants.{Kind as KindPart, Links as LinksPart, Size as SizePart, Name as NamePart, Blocks as BlocksPart, Whole as WholePart}
 use Rattle.su_op.specs.declared.areas.Area.{Area}
-use Rattle.su_op.specs.declared.areas.Area.TheVariants.{Inode as InodeArea, Entry as EntryArea}
+use Rattle.su_op.specs.declared.areas.Area.TheVariants.{Inode as InodeArea, Pointer as PointerArea}
 use Rattle.su_op.specs.Area.{in_part, in_area, has, ShareACell, parts_overlap, overlaps, meet}
 use Rattle.su_op.proofs.Orders.{place_eq-same, place_eq-itself, name_eq-same, name_eq-itself}
 use Rattle.su_op.proofs.Edits.{neither}
@@ -72,13 +72,13 @@ parts_apart (BlocksPart a) SizePart (BlockOf n) out here = refl
 parts_apart a b f out here = absurd cc
 
 area_apart : (a b : Area) (c : Cell) → overlaps a b ≡ false → in_area a c ≡ true → in_area b c ≡ false
-area_apart (EntryArea g) (EntryArea k) (Entry l) out here = both_places g k l out here
-area_apart (EntryArea g) (EntryArea k) (At q f) out here = refl
-area_apart (EntryArea g) (InodeArea q b) (Entry l) out here = refl
-area_apart (EntryArea g) (InodeArea q b) (At r f) out here = absurd cc
-area_apart (InodeArea p a) (EntryArea k) (At q f) out here = refl
-area_apart (InodeArea p a) (EntryArea k) (Entry l) out here = absurd cc
-area_apart (InodeArea p a) (InodeArea q b) (Entry l) out here = refl
+area_apart (PointerArea g) (PointerArea k) (Pointer l) out here = both_places g k l out here
+area_apart (PointerArea g) (PointerArea k) (At q f) out here = refl
+area_apart (PointerArea g) (InodeArea q b) (Pointer l) out here = refl
+area_apart (PointerArea g) (InodeArea q b) (At r f) out here = absurd cc
+area_apart (InodeArea p a) (PointerArea k) (At q f) out here = refl
+area_apart (InodeArea p a) (PointerArea k) (Pointer l) out here = absurd cc
+area_apart (InodeArea p a) (InodeArea q b) (Pointer l) out here = refl
 area_apart (InodeArea p a) (InodeArea q b) (At r f) out here = go (place_eq p q) refl (place_eq r p) refl (place_eq r q) refl out here
   where
     go : (pq : Bool) → place_eq p q ≡ pq → (rp : Bool) → place_eq r p ≡ rp → (rq : Bool) → place_eq r q ≡ rq → (pq && parts_overlap a b) ≡ false → (rp && in_part a f) ≡ true → (rq && in_part b f) ≡ false
@@ -146,10 +146,10 @@ shared_parts p q (BlocksPart a) (BlocksPart c) e o =
 shared_parts p q a b e o = absurd cc
 
 pub overlap_shares : (a b : Area) → overlaps a b ≡ true → ShareACell a b
-overlap_shares (EntryArea g) (EntryArea k) o = record { cell = Entry g; first = place_eq-itself g; second = o }
+overlap_shares (PointerArea g) (PointerArea k) o = record { cell = Pointer g; first = place_eq-itself g; second = o }
 overlap_shares (InodeArea p a) (InodeArea q b) o = let (e, i) = and_parts (place_eq p q) (parts_overlap a b) o in shared_parts p q a b e i
-overlap_shares (EntryArea g) (InodeArea q b) o = absurd cc
-overlap_shares (InodeArea p a) (EntryArea k) o = absurd cc
+overlap_shares (PointerArea g) (InodeArea q b) o = absurd cc
+overlap_shares (InodeArea p a) (PointerArea k) o = absurd cc
 
 apart_not : (b : Bool) → b ≡ true → b ≡ false → ⊥
 apart_not b e d = absurd cc

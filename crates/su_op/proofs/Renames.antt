@@ -4,10 +4,10 @@ use Rattle.std.specs.FinMap.{get}
 use Rattle.su_bytes.specs.Membership.{Membership}
 use Rattle.su_bytes.specs.declared.file_ids.FileId.{FileId}
 use Rattle.su_bytes.specs.declared.file_ids.Kind.TheVariants.{Dir}
-use Rattle.su_table.specs.Place.{Place}
+use Rattle.su_bytes.specs.Place.{Place}
 use Rattle.su_table.specs.Tree.{Tree}
-use Rattle.su_table.specs.Query.{is_dir, is_file_id, is_nothing, is_dir_at, leads_to_at, is_name_free_at, body}
-use Rattle.su_node.specs.Change.{Change.Named}
+use Rattle.su_table.specs.Query.{is_dir_kind, is_link_to, is_nothing, is_dir_at, leads_to_at, is_name_free_at, body}
+use Rattle.su_node.specs.InodeChange.{InodeChange.Named}
 use Rattle.su_table.specs.Edit.{Edit.Inodes, edit}
 use Rattle.su_op.specs.declared.areas.Part.TheVariants.{Name as NamePart}
 use Rattle.su_op.specs.declared.areas.Area.TheVariants.{Inode as InodeArea}
@@ -34,7 +34,7 @@ module _ (T T' : Tree) (file : FileId) where
 
   moves_same : (m : Option Place) → Agrees (moved_areas file m) T T' → moves_directory T' m ≡ moves_directory T m
   moves_same None agree = refl
-  moves_same (Some f) agree = ap is_dir (kind_same agree)
+  moves_same (Some f) agree = ap is_dir_kind (kind_same agree)
 
 module _ (ro : Membership) (a : ℕ) (r : Rename) where
   pub rename_local : (T T' : Tree) (p : Plan) → Gives (rename_rule ro T a r) p → Agrees (reads_of p) T T' → Gives (rename_rule ro T' a r) p
@@ -62,14 +62,14 @@ module _ (ro : Membership) (a : ℕ) (r : Rename) where
                 (
                   ap (λ o. stays r || is_some o) same ∙ found,
                   (
-                    ap is_dir (kind_same reads_d) ∙ dir_d,
+                    ap is_dir_kind (kind_same reads_d) ∙ dir_d,
                     (
-                      ap is_dir (kind_same reads_t) ∙ dir_t,
+                      ap is_dir_kind (kind_same reads_t) ∙ dir_t,
                       (
                         holder_d,
                         (
                           holder_t,
-                          (ap (λ v. is_file_id v r.file) (name_same (later w)) ∙ named, (ap is_nothing (name_same w) ∙ new, (ap (λ o. not (moves_directory T' o)) same ∙ ap not (moves_same T T' r.file m reads_m) ∙ stay, ap (λ o. rename_plan o r d t) same ∙ plan))),
+                          (ap (λ v. is_link_to v r.file) (name_same (later w)) ∙ named, (ap is_nothing (name_same w) ∙ new, (ap (λ o. not (moves_directory T' o)) same ∙ ap not (moves_same T T' r.file m reads_m) ∙ stay, ap (λ o. rename_plan o r d t) same ∙ plan))),
                         ),
                       ),
                     ),
@@ -85,7 +85,7 @@ module _ (ro : Membership) (a : ℕ) (r : Rename) where
   rename_can T p (user, (touch, (touch', (d, at_d, (t, at_t, (found, (dir_d, (dir_t, (holder_d, (holder_t, (named, (new, (stay, plan))))))))))))) =
       let target! : IsA Dir (get T.inodes t) = IsA_dir T t dir_t in
       let named : Tree = edit T (Inodes t (Named r.new_ (Some r.file))) in
-      let source! : IsA Dir (get named.inodes d) = IsA_dir named d (ap is_dir (kind_after_name T t r.new_ (Some r.file) d target!) ∙ dir_d) in
+      let source! : IsA Dir (get named.inodes d) = IsA_dir named d (ap is_dir_kind (kind_after_name T t r.new_ (Some r.file) d target!) ∙ dir_d) in
       subst (λ (p : Plan). CanEdits T p.edits) plan ((target!, tt), ((source!, tt), tt))
 
 -- ---- what is asked of the directories, up to the new name

@@ -5,7 +5,7 @@ use Rattle.su_bytes.specs.Membership.{Membership}
 use Rattle.su_node.specs.Field.{Field.SizeOf}
 use Rattle.su_table.specs.Tree.{Tree}
 use Rattle.su_table.specs.Cell.{Cell.At, val}
-use Rattle.su_table.specs.Query.{is_file, number_of}
+use Rattle.su_table.specs.Query.{is_file_kind, value_number}
 use Rattle.su_op.specs.declared.areas.Part.TheVariants.{Size as SizePart}
 use Rattle.su_op.specs.declared.areas.Area.TheVariants.{Inode as InodeArea}
 use Rattle.su_op.specs.declared.truncation.Truncate.{Truncate}
@@ -18,10 +18,10 @@ use Rattle.su_op.proofs.Rules.{Gives, Agrees, left, later, kind_same, size_same,
 module _ (ro : Membership) (a : ℕ) (w : Writing) where
   pub write_local : (T T' : Tree) (p : Plan) → Gives (write_rule ro T a w) p → Agrees (reads_of p) T T' → Gives (write_rule ro T' a w) p
   write_local T T' p (user, (some, (touch, (f, at, (is, (holder, (fits, plan))))))) agree =
-      let all : Agrees (reads_of (write_plan (number_of (val T (At f SizeOf))) w f)) T T' = subst (λ p. Agrees (reads_of p) T T') (sym plan) agree in
+      let all : Agrees (reads_of (write_plan (value_number (val T (At f SizeOf))) w f)) T T' = subst (λ p. Agrees (reads_of p) T T') (sym plan) agree in
       let reads : Agrees (InodeArea f SizePart ∷ file_areas w.file f) T T' = left (InodeArea f SizePart ∷ file_areas w.file f) _ all in
       let reads_f : Agrees (file_areas w.file f) T T' = later reads in
-      (user, (some, (touch, (f, body_same w.file f at reads_f, (ap is_file (kind_same reads_f) ∙ is, (holder, (fits, ap (λ v. write_plan (number_of v) w f) (size_same reads) ∙ plan)))))))
+      (user, (some, (touch, (f, body_same w.file f at reads_f, (ap is_file_kind (kind_same reads_f) ∙ is, (holder, (fits, ap (λ v. write_plan (value_number v) w f) (size_same reads) ∙ plan)))))))
 
   pub write_can : (T : Tree) (p : Plan) → Gives (write_rule ro T a w) p → CanEdits T p.edits
   write_can T p (user, (some, (touch, (f, at, (is, (holder, (fits, plan))))))) =
@@ -32,10 +32,10 @@ module _ (ro : Membership) (a : ℕ) (w : Writing) where
 module _ (ro : Membership) (a : ℕ) (t : Truncate) where
   pub truncate_local : (T T' : Tree) (p : Plan) → Gives (truncate_rule ro T a t) p → Agrees (reads_of p) T T' → Gives (truncate_rule ro T' a t) p
   truncate_local T T' p (user, (touch, (f, at, (is, (holder, (fits, plan)))))) agree =
-      let all : Agrees (reads_of (truncate_plan (number_of (val T (At f SizeOf))) t f)) T T' = subst (λ p. Agrees (reads_of p) T T') (sym plan) agree in
+      let all : Agrees (reads_of (truncate_plan (value_number (val T (At f SizeOf))) t f)) T T' = subst (λ p. Agrees (reads_of p) T T') (sym plan) agree in
       let reads : Agrees (InodeArea f SizePart ∷ file_areas t.file f) T T' = left (InodeArea f SizePart ∷ file_areas t.file f) _ all in
       let reads_f : Agrees (file_areas t.file f) T T' = later reads in
-      (user, (touch, (f, body_same t.file f at reads_f, (ap is_file (kind_same reads_f) ∙ is, (holder, (fits, ap (λ v. truncate_plan (number_of v) t f) (size_same reads) ∙ plan))))))
+      (user, (touch, (f, body_same t.file f at reads_f, (ap is_file_kind (kind_same reads_f) ∙ is, (holder, (fits, ap (λ v. truncate_plan (value_number v) t f) (size_same reads) ∙ plan))))))
 
   pub truncate_can : (T : Tree) (p : Plan) → Gives (truncate_rule ro T a t) p → CanEdits T p.edits
   truncate_can T p (user, (touch, (f, at, (is, (holder, (fits, plan)))))) =

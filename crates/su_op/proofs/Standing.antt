@@ -8,13 +8,13 @@ use Rattle.std.specs.FinMap.{get}
 use Rattle.std.proofs.lemmas.Bool.{or_left, or_right, and_parts, or_cases, both_ways}
 use Rattle.su_bytes.specs.Membership.{Membership}
 use Rattle.su_bytes.specs.declared.file_ids.Kind.TheVariants.{File}
-use Rattle.su_table.specs.Place.{Place, place_eq}
+use Rattle.su_bytes.specs.Place.{Place, place_eq}
 use Rattle.su_table.specs.Tree.{Tree}
-use Rattle.su_table.specs.Query.{is_file, is_file_at}
+use Rattle.su_table.specs.Query.{is_file_kind, is_file_at}
 use Rattle.su_node.specs.Field.{Field, Field.KindOf, Field.BlockOf, field_value}
 use Rattle.su_table.specs.Cell.{Cell, Cell.At, val}
-use Rattle.su_node.specs.Change.{Change, Change.Made, Change.Named, Change.Linked, Change.Written, Change.Resized, Change.Copied, Change.Gone}
-use Rattle.su_table.specs.Edit.{Edit, Edit.Inodes, Edit.Entries, edit}
+use Rattle.su_node.specs.InodeChange.{InodeChange, InodeChange.Made, InodeChange.Named, InodeChange.Linked, InodeChange.Written, InodeChange.Resized, InodeChange.Copied, InodeChange.Gone}
+use Rattle.su_table.specs.Edit.{Edit, Edit.Inodes, Edit.Pointers, edit}
 use Rattle.su_op.specs.declared.areas.Part.TheVariants.{Whole as WholePart}
 use Rattle.su_op.specs.Area.{in_part, in_area, has}
 use Rattle.su_op.specs.Footprint.{parts, edit_areas, areas_of}
@@ -32,10 +32,10 @@ whole_written : (q p : Place) (f g : Field) → has (edit_areas (Inodes q Gone))
 whole_written q p f g e = has_parts q p g (WholePart ∷ []) ∙ sym (has_parts q p f (WholePart ∷ [])) ∙ e
 
 -- the change writes that cell at its own place
-at_place : (q p : Place) (ch : Change) (f : Field) → has (edit_areas (Inodes q ch)) (At p f) ≡ true → (place_eq p q ≡ true) × (list_any (λ a. in_part a f) (parts ch) ≡ true)
+at_place : (q p : Place) (ch : InodeChange) (f : Field) → has (edit_areas (Inodes q ch)) (At p f) ≡ true → (place_eq p q ≡ true) × (list_any (λ a. in_part a f) (parts ch) ≡ true)
 at_place q p ch f e = and_parts (place_eq p q) (list_any (λ a. in_part a f) (parts ch)) (sym (has_parts q p f (parts ch)) ∙ e)
 
-unkind : {P : Type 0} (q p : Place) (ch : Change) → list_any (λ a. in_part a KindOf) (parts ch) ≡ false → has (edit_areas (Inodes q ch)) (At p KindOf) ≡ true → P
+unkind : {P : Type 0} (q p : Place) (ch : InodeChange) → list_any (λ a. in_part a KindOf) (parts ch) ≡ false → has (edit_areas (Inodes q ch)) (At p KindOf) ≡ true → P
 unkind q p ch none e = absurd (both_ways (list_any (λ a. in_part a KindOf) (parts ch)) none (at_place q p ch KindOf e).1)
 
 edit_kind : (T : Tree) (e : Edit) (p : Place) → CanEdit T e → has (edit_areas e) (At p KindOf) ≡ true → WholeOrNew T p (has (edit_areas e))
@@ -47,13 +47,13 @@ edit_kind T (Inodes q (Named x v)) p can wrote = unkind q p (Named x v) refl wro
 edit_kind T (Inodes q (Linked n)) p can wrote = unkind q p (Linked n) refl wrote
 edit_kind T (Inodes q (Written s off xs)) p can wrote = unkind q p (Written s off xs) (written_kind _ s off (off + length xs)) wrote
 edit_kind T (Inodes q (Resized s t)) p can wrote = unkind q p (Resized s t) (resized_kind _ s t) wrote
-edit_kind T (Entries g v) p can wrote = absurd cc
+edit_kind T (Pointers g v) p can wrote = absurd cc
 
 file_there : (T : Tree) (q p : Place) → place_eq p q ≡ true → IsA File (get T.inodes q) → is_file_at T p ≡ true
 unfolding val
-file_there T q p is (h, e) = ap (λ r. is_file (field_value (get T.inodes r) KindOf)) (place_eq-same p q is) ∙ ap is_file e
+file_there T q p is (h, e) = ap (λ r. is_file_kind (field_value (get T.inodes r) KindOf)) (place_eq-same p q is) ∙ ap is_file_kind e
 
-unblock : {P : Type 0} (q p : Place) (ch : Change) (n : ℕ) → list_any (λ a. in_part a (BlockOf n)) (parts ch) ≡ false → has (edit_areas (Inodes q ch)) (At p (BlockOf n)) ≡ true → P
+unblock : {P : Type 0} (q p : Place) (ch : InodeChange) (n : ℕ) → list_any (λ a. in_part a (BlockOf n)) (parts ch) ≡ false → has (edit_areas (Inodes q ch)) (At p (BlockOf n)) ≡ true → P
 unblock q p ch n none e = absurd (both_ways (list_any (λ a. in_part a (BlockOf n)) (parts ch)) none (at_place q p ch (BlockOf n) e).1)
 
 edit_block : (T : Tree) (e : Edit) (p : Place) (n : ℕ) → CanEdit T e → has (edit_areas e) (At p (BlockOf n)) ≡ true → KindOrFile T p (has (edit_areas e))
@@ -64,7 +64,7 @@ edit_block T (Inodes q (Named x v)) p n can wrote = unblock q p (Named x v) n re
 edit_block T (Inodes q (Linked m)) p n can wrote = unblock q p (Linked m) n refl wrote
 edit_block T (Inodes q (Written s off xs)) p n can wrote = inr (file_there T q p (at_place q p (Written s off xs) (BlockOf n) wrote).0 can.0.0)
 edit_block T (Inodes q (Resized s t)) p n can wrote = inr (file_there T q p (at_place q p (Resized s t) (BlockOf n) wrote).0 can.0.0)
-edit_block T (Entries g v) p n can wrote = absurd cc
+edit_block T (Pointers g v) p n can wrote = absurd cc
 
 -- ---- a list of edits
 
@@ -103,7 +103,7 @@ edits_block T (e ∷ es) p n (can, more) wrote = go (has (edit_areas e) (At p Ki
 
     later : has (edit_areas e) (At p KindOf) ≡ false → KindOrFile (edit T e) p (has (areas_of es)) → KindOrFile T p (has (areas_of (e ∷ es)))
     later out (inl kind) = inl (has_later e es (At p KindOf) kind)
-    later out (inr file) = inr (ap is_file (sym (edit_leaves T e (At p KindOf) can out)) ∙ file)
+    later out (inr file) = inr (ap is_file_kind (sym (edit_leaves T e (At p KindOf) can out)) ∙ file)
 
     go : (b : Bool) → has (edit_areas e) (At p KindOf) ≡ b → (has (areas_of es) (At p (BlockOf n)) ≡ true → KindOrFile (edit T e) p (has (areas_of es)))
         → (has (edit_areas e) (At p (BlockOf n)) ≡ true) ⊎ (has (areas_of es) (At p (BlockOf n)) ≡ true) → KindOrFile T p (has (areas_of (e ∷ es)))

@@ -6,11 +6,11 @@ use Rattle.std.specs.FinMap.{get, empty, get-empty}
 use Rattle.su_bytes.specs.Membership.{Membership}
 use Rattle.su_bytes.specs.declared.file_ids.FileId.TheVariants.{Group}
 use Rattle.su_bytes.specs.declared.file_ids.Kind.TheVariants.{Dir}
-use Rattle.su_table.specs.Place.{Place, place_cmp, place_eq}
+use Rattle.su_bytes.specs.Place.{Place, place_cmp, place_eq}
 use Rattle.su_node.specs.Inode.{Inode, new_inode}
 use Rattle.su_table.specs.Tree.{Tree, genesis}
 use Rattle.su_node.specs.Field.{Field.KindOf, Value.Nothing, Value.AKind, Value.APlace, field_value}
-use Rattle.su_table.specs.Cell.{Cell, Cell.At, Cell.Entry, place_value, val}
+use Rattle.su_table.specs.Cell.{Cell, Cell.At, Cell.Pointer, place_value, val}
 use Rattle.su_table.specs.Edit.{edits}
 use Rattle.su_op.specs.declared.operations.Op.{Op}
 use Rattle.su_op.specs.declared.operations.Op.TheVariants.{Create, Unlink, Write, Truncate, Take, Link, Rename}
@@ -122,16 +122,16 @@ module _ (ro : Membership) where
   unfolding genesis val root
   genesis_root = ap (λ o. field_value o KindOf) (get-set_place empty (0, 1) (Some root) (0, 1) ∙ ap (λ b. cond b (Some root) (get {R = place_cmp} empty (0, 1))) (place_eq-itself (0, 1)))
 
-  genesis_entry : (g : Place) → val genesis (Entry g) ≡ cond (place_eq g (0, 1)) (APlace (0, 1)) Nothing
+  genesis_pointer : (g : Place) → val genesis (Pointer g) ≡ cond (place_eq g (0, 1)) (APlace (0, 1)) Nothing
   unfolding genesis val
-  genesis_entry g = ap place_value (get-set_place empty (0, 1) (Some (0, 1)) g ∙ ap (cond (place_eq g (0, 1)) (Some (0, 1))) (get-empty {X = Place} place_cmp g)) ∙ go (place_eq g (0, 1))
+  genesis_pointer g = ap place_value (get-set_place empty (0, 1) (Some (0, 1)) g ∙ ap (cond (place_eq g (0, 1)) (Some (0, 1))) (get-empty {X = Place} place_cmp g)) ∙ go (place_eq g (0, 1))
     where
       go : (b : Bool) → place_value (cond b (Some (0, 1)) None) ≡ cond b (APlace (0, 1)) Nothing
       go true = refl
       go false = refl
 
   genesis_sound : Sound genesis
-  genesis_sound = record { linked = genesis_linked; homes = λ g p at. go g p (place_eq g (0, 1)) refl (sym (genesis_entry g) ∙ at) }
+  genesis_sound = record { linked = genesis_linked; homes = λ g p at. go g p (place_eq g (0, 1)) refl (sym (genesis_pointer g) ∙ at) }
     where
       go : (g p : Place) (b : Bool) → place_eq g (0, 1) ≡ b → cond b (APlace (0, 1)) Nothing ≡ APlace p → IsBodyOf genesis g p
       go g p false is e = absurd cc

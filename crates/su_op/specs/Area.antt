@@ -1,15 +1,15 @@
--- Areas: sets of cells that stand together. Of one inode one cell, a run of blocks, or all; or the entry of a group file.
+-- Areas: sets of cells that stand together. Of one inode one cell, a run of blocks, or all; or the pointer of a group file.
 use Rattle.std.specs.Prelude.{◌≡◌, ℕ, ◌+◌, Bool, true, false, ◌&&◌, List, nat_le}
 use Rattle.std.specs.List.{list_any}
 use Rattle.su_node.specs.Name.{name_eq}
-use Rattle.su_table.specs.Place.{place_eq}
+use Rattle.su_bytes.specs.Place.{place_eq}
 use Rattle.su_node.specs.Field.{Field, Field.KindOf, Field.LinksOf, Field.SizeOf, Field.BlockOf, Field.NameOf}
-use Rattle.su_table.specs.Cell.{Cell, Cell.At, Cell.Entry}
+use Rattle.su_table.specs.Cell.{Cell, Cell.At, Cell.Pointer}
 use Rattle.su_op.specs.declared.areas.BlockRun.{BlockRun}
 use Rattle.su_op.specs.declared.areas.Part.{Part}
 use Rattle.su_op.specs.declared.areas.Part.TheVariants.{Kind as KindPart, Links as LinksPart, Size as SizePart, Name as NamePart, Blocks as BlocksPart, Whole as WholePart}
 use Rattle.su_op.specs.declared.areas.Area.{Area}
-use Rattle.su_op.specs.declared.areas.Area.TheVariants.{Inode as InodeArea, Entry as EntryArea}
+use Rattle.su_op.specs.declared.areas.Area.TheVariants.{Inode as InodeArea, Pointer as PointerArea}
 
 -- the blocks from the first to the last, both in it
 abbrev pub in_run : BlockRun → ℕ → Bool
@@ -28,7 +28,7 @@ in_part _ _ = false
 -- the cells of an area
 abbrev pub in_area : Area → Cell → Bool
 in_area (InodeArea p a) (At q f) = place_eq q p && in_part a f
-in_area (EntryArea g) (Entry k) = place_eq k g
+in_area (PointerArea g) (Pointer k) = place_eq k g
 in_area _ _ = false
 
 -- the cells of some areas
@@ -59,7 +59,7 @@ parts_overlap _ _ = false
 
 abbrev pub overlaps : Area → Area → Bool
 overlaps (InodeArea p a) (InodeArea q b) = place_eq p q && parts_overlap a b
-overlaps (EntryArea g) (EntryArea k) = place_eq g k
+overlaps (PointerArea g) (PointerArea k) = place_eq g k
 overlaps _ _ = false
 
 -- an area of the first overlaps one of the second

@@ -1,12 +1,12 @@
 -- The cells that edits write.
 use Rattle.std.specs.Prelude.{ℕ, ◌+◌, ◌-◌, ◌/◌, Bool, true, false, List, [], ◌∷◌, ◌++◌, map, length, min, max, nat_eq, nat_le}
-use Rattle.su_node.specs.Change.{Change, Change.Made, Change.Named, Change.Linked, Change.Written, Change.Resized, Change.Copied, Change.Gone}
-use Rattle.su_table.specs.Edit.{Edit, Edit.Inodes, Edit.Entries}
+use Rattle.su_node.specs.InodeChange.{InodeChange, InodeChange.Made, InodeChange.Named, InodeChange.Linked, InodeChange.Written, InodeChange.Resized, InodeChange.Copied, InodeChange.Gone}
+use Rattle.su_table.specs.Edit.{Edit, Edit.Inodes, Edit.Pointers}
 use Rattle.su_op.specs.declared.areas.BlockRun.{BlockRun}
 use Rattle.su_op.specs.declared.areas.Part.{Part}
 use Rattle.su_op.specs.declared.areas.Part.TheVariants.{Kind as KindPart, Links as LinksPart, Size as SizePart, Name as NamePart, Blocks as BlocksPart, Whole as WholePart}
 use Rattle.su_op.specs.declared.areas.Area.{Area}
-use Rattle.su_op.specs.declared.areas.Area.TheVariants.{Inode as InodeArea, Entry as EntryArea}
+use Rattle.su_op.specs.declared.areas.Area.TheVariants.{Inode as InodeArea, Pointer as PointerArea}
 
 -- the blocks from the first to the last, both in it
 abbrev pub run : ℕ → ℕ → BlockRun
@@ -24,7 +24,7 @@ resized_parts true size new_size = []
 resized_parts false size new_size = SizePart ∷ BlocksPart (run (min size new_size / 4096) ((max size new_size - 1) / 4096)) ∷ []
 
 -- a new inode has no block and no name, so none of these is written
-abbrev pub parts : Change → List Part
+abbrev pub parts : InodeChange → List Part
 parts (Made home kind) = KindPart ∷ LinksPart ∷ SizePart ∷ []
 parts (Named x v) = NamePart x ∷ []
 parts (Linked n) = LinksPart ∷ []
@@ -35,7 +35,7 @@ parts Gone = WholePart ∷ []
 
 abbrev pub edit_areas : Edit → List Area
 edit_areas (Inodes p ch) = map (InodeArea p) (parts ch)
-edit_areas (Entries g v) = EntryArea g ∷ []
+edit_areas (Pointers g v) = PointerArea g ∷ []
 
 abbrev pub areas_of : List Edit → List Area
 areas_of [] = []

@@ -2,8 +2,8 @@
 use Rattle.std.specs.Prelude.{ℕ, ◌+◌, [], ◌∷◌, ◌++◌, Some, nat_eq, nat_lt}
 use Rattle.su_bytes.specs.declared.refusals.Refusal.TheVariants.{NoUser, NotMember, NoFile, WrongKind, NotHolder, Exists, TooManyLinks}
 use Rattle.su_bytes.specs.Membership.{Membership, has_user}
-use Rattle.su_node.specs.Change.{Change.Named, Change.Linked}
-use Rattle.su_table.specs.Place.{Place}
+use Rattle.su_node.specs.InodeChange.{InodeChange.Named, InodeChange.Linked}
+use Rattle.su_bytes.specs.Place.{Place}
 use Rattle.su_table.specs.Tree.{Tree}
 use Rattle.su_table.specs.Query.{body, is_dir_at, is_file_at, is_name_free_at, links_at}
 use Rattle.su_table.specs.Edit.{Edit.Inodes}

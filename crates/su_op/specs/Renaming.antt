@@ -3,8 +3,8 @@ use Rattle.std.specs.Prelude.{ℕ, Bool, false, not, ◌||◌, List, [], ◌∷�
 use Rattle.su_bytes.specs.declared.file_ids.FileId.{FileId}
 use Rattle.su_bytes.specs.declared.refusals.Refusal.TheVariants.{NoUser, NotMember, NoFile, WrongKind, NotHolder, NoName, Exists, DirMove}
 use Rattle.su_bytes.specs.Membership.{Membership, has_user}
-use Rattle.su_node.specs.Change.{Change.Named}
-use Rattle.su_table.specs.Place.{Place, file_eq}
+use Rattle.su_node.specs.InodeChange.{InodeChange.Named}
+use Rattle.su_bytes.specs.Place.{Place, file_eq}
 use Rattle.su_table.specs.Tree.{Tree}
 use Rattle.su_table.specs.Query.{body, is_dir_at, leads_to_at, is_name_free_at}
 use Rattle.su_table.specs.Edit.{Edit.Inodes}

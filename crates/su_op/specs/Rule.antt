@@ -4,11 +4,11 @@ use Rattle.su_bytes.specs.declared.file_ids.FileId.{FileId}
 use Rattle.su_bytes.specs.declared.file_ids.FileId.TheVariants.{User, Group}
 use Rattle.su_bytes.specs.declared.refusals.Refusal.{Refusal}
 use Rattle.su_bytes.specs.Membership.{Membership, is_member}
-use Rattle.su_table.specs.Place.{Place}
-use Rattle.su_table.specs.Edit.{Edit, Edit.Entries}
+use Rattle.su_bytes.specs.Place.{Place}
+use Rattle.su_table.specs.Edit.{Edit, Edit.Pointers}
 use Rattle.su_op.specs.declared.areas.Part.TheVariants.{Kind as KindPart}
 use Rattle.su_op.specs.declared.areas.Area.{Area}
-use Rattle.su_op.specs.declared.areas.Area.TheVariants.{Inode as InodeArea, Entry as EntryArea}
+use Rattle.su_op.specs.declared.areas.Area.TheVariants.{Inode as InodeArea, Pointer as PointerArea}
 use Rattle.su_op.specs.Footprint.{areas_of}
 
 -- what an accepted operation does, and the areas that it reads besides those that it writes
@@ -57,15 +57,15 @@ abbrev pub group_of : FileId → ℕ
 group_of (User u i) = 0
 group_of (Group g k) = g
 
--- a group file's entry points there, or goes; a user's file has none
-abbrev pub entry_edits : FileId → Option Place → List Edit
-entry_edits (User u i) v = []
-entry_edits (Group g k) v = Entries (g, k) v ∷ []
+-- a group file's pointer points there, or goes; a user's file has none
+abbrev pub pointer_edits : FileId → Option Place → List Edit
+pointer_edits (User u i) v = []
+pointer_edits (Group g k) v = Pointers (g, k) v ∷ []
 
-abbrev pub entry_areas : FileId → List Area
-entry_areas (User u i) = []
-entry_areas (Group g k) = EntryArea (g, k) ∷ []
+abbrev pub pointer_areas : FileId → List Area
+pointer_areas (User u i) = []
+pointer_areas (Group g k) = PointerArea (g, k) ∷ []
 
 -- the cells that show that the body of a file is at p, and of which kind it is
 abbrev pub file_areas : FileId → Place → List Area
-file_areas f p = InodeArea p KindPart ∷ entry_areas f
+file_areas f p = InodeArea p KindPart ∷ pointer_areas f

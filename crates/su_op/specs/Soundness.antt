@@ -5,11 +5,11 @@ use Rattle.su_bytes.specs.declared.file_ids.FileId.{FileId}
 use Rattle.su_bytes.specs.declared.file_ids.FileId.TheVariants.{Group}
 use Rattle.su_bytes.specs.declared.file_ids.Kind.{Kind}
 use Rattle.su_bytes.specs.declared.file_ids.Kind.TheVariants.{Dir}
-use Rattle.su_table.specs.Place.{Place}
+use Rattle.su_bytes.specs.Place.{Place}
 use Rattle.su_node.specs.Inode.{Inode}
 use Rattle.su_table.specs.Tree.{Tree}
 use Rattle.su_node.specs.Field.{Field, Field.KindOf, Field.LinksOf, Value.Nothing, Value.AKind, Value.ANumber, Value.APlace, field_value}
-use Rattle.su_table.specs.Cell.{Cell, Cell.At, Cell.Entry, val}
+use Rattle.su_table.specs.Cell.{Cell, Cell.At, Cell.Pointer, val}
 use Rattle.su_table.specs.Query.{is_file_at}
 
 -- an inode of that kind
@@ -25,10 +25,10 @@ pub record WellLinked (o : Option Inode) : Type 0 where
 abbrev pub IsBodyOf : Tree → Place → Place → Type 0
 IsBodyOf T g p = (k : Kind) × (val T (At p KindOf) ≡ AKind k (Group g.0 g.1))
 
--- links are in their range, and each group's entry points at an inode that was made for that group file
+-- links are in their range, and each group's pointer points at an inode that was made for that group file
 pub record Sound (T : Tree) : Type 0 where
   pub linked : (p : Place) → WellLinked (get T.inodes p)
-  pub homes : (g p : Place) → val T (Entry g) ≡ APlace p → IsBodyOf T g p
+  pub homes : (g p : Place) → val T (Pointer g) ≡ APlace p → IsBodyOf T g p
 
 -- ---- what is written of an inode in a tree, by the cells that are written
 

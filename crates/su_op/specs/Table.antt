@@ -3,7 +3,7 @@
 use Rattle.std.specs.Prelude.{◌≡◌, ℕ, ◌+◌, ◌-◌, ◌/◌, Bool, true, false, List, [], ◌∷◌, ◌++◌, length, min, max, nat_eq, nat_le, Option}
 use Rattle.su_node.specs.Name.{Name}
 use Rattle.su_node.specs.Inode.{Inode}
-use Rattle.su_table.specs.Place.{Place}
+use Rattle.su_bytes.specs.Place.{Place}
 use Rattle.su_op.specs.declared.areas.Part.TheVariants.{Kind as KindPart, Links as LinksPart, Size as SizePart, Name as NamePart, Blocks as BlocksPart, Whole as WholePart}
 use Rattle.su_op.specs.declared.areas.Area.{Area}
 use Rattle.su_op.specs.declared.areas.Area.TheVariants.{Inode as InodeArea}
@@ -14,7 +14,7 @@ use Rattle.su_op.specs.declared.renaming.Rename.{Rename}
 use Rattle.su_op.specs.declared.truncation.Truncate.{Truncate}
 use Rattle.su_op.specs.declared.unlinking.Unlink.{Unlink}
 use Rattle.su_op.specs.Footprint.{run}
-use Rattle.su_op.specs.Rule.{entry_areas, writes_of}
+use Rattle.su_op.specs.Rule.{pointer_areas, writes_of}
 use Rattle.su_op.specs.Creation.{create_plan}
 use Rattle.su_op.specs.Unlinking.{unlink_plan}
 use Rattle.su_op.specs.Writing.{Writing, write_plan}
@@ -38,23 +38,23 @@ name x p = InodeArea p (NamePart x)
 abbrev pub whole : Place → Area
 whole p = InodeArea p WholePart
 
--- reads the directory's kind and entry; writes the name at the directory, kind, links and size of the new inode, and the
--- new file's entry
+-- reads the directory's kind and pointer; writes the name at the directory, kind, links and size of the new inode, and the
+-- new file's pointer
 abbrev pub CreateRow : Type 0
 CreateRow = (a : ℕ) (c : Create) (d : Place)
-    → ((create_plan a c d).reads ≡ kind d ∷ entry_areas c.dir)
-    × (writes_of (create_plan a c d) ≡ name c.name d ∷ kind (a, c.body) ∷ links (a, c.body) ∷ size (a, c.body) ∷ entry_areas c.file)
+    → ((create_plan a c d).reads ≡ kind d ∷ pointer_areas c.dir)
+    × (writes_of (create_plan a c d) ≡ name c.name d ∷ kind (a, c.body) ∷ links (a, c.body) ∷ size (a, c.body) ∷ pointer_areas c.file)
 
 -- what an unlink writes of a file that has further links, or has not
 abbrev pub unlinked : Bool → Unlink → Place → Place → List Area
 unlinked true u d f = name u.name d ∷ links f ∷ []
-unlinked false u d f = name u.name d ∷ entry_areas u.file ++ whole f ∷ []
+unlinked false u d f = name u.name d ∷ pointer_areas u.file ++ whole f ∷ []
 
--- reads kind and entry of the directory and of the file; writes the name at the directory, and of the file the links where
--- there are two or more, else the whole inode and its entry
+-- reads kind and pointer of the directory and of the file; writes the name at the directory, and of the file the links where
+-- there are two or more, else the whole inode and its pointer
 abbrev pub UnlinkRow : Type 0
 UnlinkRow = (count : ℕ) (u : Unlink) (d f : Place)
-    → ((unlink_plan count u d f).reads ≡ kind d ∷ entry_areas u.dir ++ kind f ∷ entry_areas u.file)
+    → ((unlink_plan count u d f).reads ≡ kind d ∷ pointer_areas u.dir ++ kind f ∷ pointer_areas u.file)
     × (writes_of (unlink_plan count u d f) ≡ unlinked (nat_le 2 count) u d f)
 
 abbrev pub blocks : ℕ → ℕ → Place → Area
@@ -65,11 +65,11 @@ abbrev pub written : Bool → ℕ → ℕ → ℕ → Place → List Area
 written true count off end f = blocks (off / 4096) ((end - 1) / 4096) f ∷ []
 written false count off end f = size f ∷ blocks (min off count / 4096) ((end - 1) / 4096) f ∷ []
 
--- reads the file's size, kind and entry; writes the blocks that it touches, and where the file grows its size, and the blocks
+-- reads the file's size, kind and pointer; writes the blocks that it touches, and where the file grows its size, and the blocks
 -- from the old end on
 abbrev pub WriteRow : Type 0
 WriteRow = (count : ℕ) (w : Writing) (f : Place)
-    → ((write_plan count w f).reads ≡ size f ∷ kind f ∷ entry_areas w.file)
+    → ((write_plan count w f).reads ≡ size f ∷ kind f ∷ pointer_areas w.file)
     × (writes_of (write_plan count w f) ≡ written (nat_le (w.off + length w.bytes) count) count w.off (w.off + length w.bytes) f)
 
 -- a truncate to the same size, or to another
@@ -77,27 +77,27 @@ abbrev pub truncated : Bool → ℕ → ℕ → Place → List Area
 truncated true count to f = []
 truncated false count to f = size f ∷ blocks (min count to / 4096) ((max count to - 1) / 4096) f ∷ []
 
--- reads the file's size, kind and entry; writes the size, and the blocks between the old end and the new one
+-- reads the file's size, kind and pointer; writes the size, and the blocks between the old end and the new one
 abbrev pub TruncateRow : Type 0
 TruncateRow = (count : ℕ) (t : Truncate) (f : Place)
-    → ((truncate_plan count t f).reads ≡ size f ∷ kind f ∷ entry_areas t.file)
+    → ((truncate_plan count t f).reads ≡ size f ∷ kind f ∷ pointer_areas t.file)
     × (writes_of (truncate_plan count t f) ≡ truncated (nat_eq count t.size) count t.size f)
 
--- reads kind and entry of the file, and all of its old body; writes all of the new body, and the entry
+-- reads kind and pointer of the file, and all of its old body; writes all of the new body, and the pointer
 abbrev pub TakeRow : Type 0
 TakeRow = (o : Option Inode) (a : ℕ) (t : Take) (f : Place)
-    → ((take_plan o a t f).reads ≡ whole f ∷ kind f ∷ entry_areas t.file)
-    × (writes_of (take_plan o a t f) ≡ whole (a, t.body) ∷ entry_areas t.file)
+    → ((take_plan o a t f).reads ≡ whole f ∷ kind f ∷ pointer_areas t.file)
+    × (writes_of (take_plan o a t f) ≡ whole (a, t.body) ∷ pointer_areas t.file)
 
--- reads kind and entry of the directory and of the file; writes the name at the directory, and the file's links
+-- reads kind and pointer of the directory and of the file; writes the name at the directory, and the file's links
 abbrev pub LinkRow : Type 0
 LinkRow = (count : ℕ) (l : Link) (d f : Place)
-    → ((link_plan count l d f).reads ≡ kind d ∷ entry_areas l.dir ++ kind f ∷ entry_areas l.file)
+    → ((link_plan count l d f).reads ≡ kind d ∷ pointer_areas l.dir ++ kind f ∷ pointer_areas l.file)
     × (writes_of (link_plan count l d f) ≡ name l.name d ∷ links f ∷ [])
 
--- reads kind and entry of both directories, and of the file where it goes from one to the other (then `moved` is its place);
+-- reads kind and pointer of both directories, and of the file where it goes from one to the other (then `moved` is its place);
 -- writes the new name at the directory that gets it, and the old name at the directory that loses it
 abbrev pub RenameRow : Type 0
 RenameRow = (moved : Option Place) (r : Rename) (d t : Place)
-    → ((rename_plan moved r d t).reads ≡ kind d ∷ entry_areas r.from_ ++ kind t ∷ entry_areas r.to_ ++ moved_areas r.file moved)
+    → ((rename_plan moved r d t).reads ≡ kind d ∷ pointer_areas r.from_ ++ kind t ∷ pointer_areas r.to_ ++ moved_areas r.file moved)
     × (writes_of (rename_plan moved r d t) ≡ name r.new_ t ∷ name r.old_ d ∷ [])

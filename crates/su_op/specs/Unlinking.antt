@@ -1,20 +1,20 @@
--- An unlink by user a: the name leaves its directory, and with the last link the inode and a group file's entry go.
+-- An unlink by user a: the name leaves its directory, and with the last link the inode and a group file's pointer go.
 use Rattle.std.specs.Prelude.{ℕ, ◌-◌, Bool, true, false, List, [], ◌∷◌, ◌++◌, None, nat_eq, nat_le}
 use Rattle.su_bytes.specs.declared.file_ids.FileId.{FileId}
 use Rattle.su_bytes.specs.declared.refusals.Refusal.TheVariants.{NoUser, NotMember, NoFile, WrongKind, NotHolder, NoName, NotEmpty}
 use Rattle.su_bytes.specs.Membership.{Membership, has_user}
-use Rattle.su_table.specs.Place.{Place}
+use Rattle.su_bytes.specs.Place.{Place}
 use Rattle.su_table.specs.Tree.{Tree}
 use Rattle.su_table.specs.Query.{body, is_dir_at, leads_to_at, is_bare_at, links_at}
-use Rattle.su_node.specs.Change.{Change.Named, Change.Linked, Change.Gone}
+use Rattle.su_node.specs.InodeChange.{InodeChange.Named, InodeChange.Linked, InodeChange.Gone}
 use Rattle.su_table.specs.Edit.{Edit, Edit.Inodes}
 use Rattle.su_op.specs.declared.unlinking.Unlink.{Unlink}
-use Rattle.su_op.specs.Rule.{Plan, Rule, Rule.Accept, Rule.Demand, Rule.Find, may_touch, group_of, entry_edits, file_areas}
+use Rattle.su_op.specs.Rule.{Plan, Rule, Rule.Accept, Rule.Demand, Rule.Find, may_touch, group_of, pointer_edits, file_areas}
 
 -- of an inode with that many links: one less, or gone with the last
 abbrev pub unlink_edits : Bool → ℕ → FileId → Place → List Edit
 unlink_edits true links file f = Inodes f (Linked (links - 1)) ∷ []
-unlink_edits false links file f = entry_edits file None ++ Inodes f Gone ∷ []
+unlink_edits false links file f = pointer_edits file None ++ Inodes f Gone ∷ []
 
 abbrev pub unlink_plan : ℕ → Unlink → Place → Place → Plan
 unlink_plan links u d f = record {

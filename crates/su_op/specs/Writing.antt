@@ -3,8 +3,8 @@ use Rattle.std.specs.Prelude.{ℕ, ◌+◌, ◌&&◌, List, [], ◌∷◌, lengt
 use Rattle.su_bytes.specs.declared.file_ids.FileId.{FileId}
 use Rattle.su_bytes.specs.declared.refusals.Refusal.TheVariants.{NoUser, BadNumber, NotMember, NoFile, WrongKind, NotHolder, TooBig}
 use Rattle.su_bytes.specs.Membership.{Membership, has_user}
-use Rattle.su_node.specs.Change.{Change.Written}
-use Rattle.su_table.specs.Place.{Place}
+use Rattle.su_node.specs.InodeChange.{InodeChange.Written}
+use Rattle.su_bytes.specs.Place.{Place}
 use Rattle.su_table.specs.Tree.{Tree}
 use Rattle.su_table.specs.Query.{body, is_file_at, size_at}
 use Rattle.su_table.specs.Edit.{Edit.Inodes}

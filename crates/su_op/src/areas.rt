@@ -2,7 +2,7 @@
 ghost use Rattle.std.specs.Prelude.{◌≡◌, ◌+◌, ◌↔◌, true};
 ghost use Rattle.su_op.specs.Area.{overlaps, parts_overlap, runs_overlap, ShareACell};
 
-use su_bytes::{Group, Inum, Name, User};
+use su_bytes::{GroupFile, Name, Place};
 
 /// A run of a file's blocks of 4,096 bytes: the first one, and how many follow it. So no run is empty.
 #[derive(Clone, Copy, Debug, PartialEq, Eq)]
@@ -29,9 +29,9 @@ pub enum Part {
 #[derive(Clone, Debug, PartialEq, Eq, Drop)]
 pub enum Area {
     /// Cells of what stands at that number of the user's i-table.
-    Inode((User, Inum), Part),
-    /// The entry of a group file.
-    Entry((Group, Inum)),
+    Inode(Place, Part),
+    /// The pointer of a group file.
+    Pointer(GroupFile),
 }
 
 impl BlockRun {
@@ -77,7 +77,7 @@ impl Area {
             (Area::Inode(place, part), Area::Inode(other_place, other_part)) => {
                 place == other_place && part.overlaps(other_part)
             }
-            (Area::Entry(file), Area::Entry(other_file)) => file == other_file,
+            (Area::Pointer(file), Area::Pointer(other_file)) => file == other_file,
             _ => false,
         }
     }

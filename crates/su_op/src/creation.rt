@@ -1,24 +1,24 @@
 // A new file or directory.
 ghost use Rattle.std.specs.Prelude.{◌≡◌, ◌∷◌, Some, None, true, IfOk, IfErr, OnOk, OnErr};
 ghost use Rattle.su_table.specs.Query.{is_free_at};
-ghost use Rattle.su_node.specs.Change.{Change.Made};
+ghost use Rattle.su_node.specs.InodeChange.{InodeChange.Made};
 ghost use Rattle.su_table.specs.Edit.{Edit.Inodes, edits};
 ghost use Rattle.su_op.specs.Creation.{create_rule, create_plan, is_own_number};
-ghost use Rattle.su_op.specs.Rule.{refusal, plan_of, entry_edits, reads_of, writes_of};
+ghost use Rattle.su_op.specs.Rule.{refusal, plan_of, pointer_edits, reads_of, writes_of};
 ghost use Rattle.su_op.specs.Growth.{AreFreeFor};
 ghost use Rattle.su_bytes.specs.declared.refusals.Refusal.TheVariants.{NoMemory};
 
 use crate::access::closed_group;
 use crate::areas::{Area, Part};
-use crate::entries::point_entry;
-use crate::footprints::{Footprint, push_entry, push_file};
+use crate::pointers::set_pointer;
+use crate::footprints::{Footprint, push_pointer, push_file};
 use std::alloc::Global;
-use su_bytes::{FileId, Inum, Kind, Name, Refusal, Roster, User};
+use su_bytes::{FileId, Inum, Kind, Name, Place, Refusal, Roster, User};
 use su_node::Inode;
 use su_table::Forest;
 
 /// Makes an empty file or directory, and gives it a name. A user's file stands at its own number, which is `body` then; a
-/// group file at any number of the author's that is free, and its group's entry points there.
+/// group file at any number of the author's that is free, and its group's pointer points there.
 #[derive(Clone, Debug, Drop)]
 pub struct Create {
     /// The directory that gets the name.
@@ -38,7 +38,7 @@ impl Create {
         forest: &Forest,
         roster: &Roster,
         author: User,
-    ) -> Result<(User, Inum), Refusal>
+    ) -> Result<Place, Refusal>
         ensures accepted { OnOk result (refusal (create_rule roster.now forest.now author self.now) ≡ None) }
         ensures plan { IfOk result (λ d. plan_of (create_rule roster.now forest.now author self.now) ≡ create_plan author self.now d) }
         ensures free { IfOk result (λ d. AreFreeFor forest.now (create_plan author self.now d).edits) }
@@ -65,7 +65,7 @@ impl Create {
         if directory.0 != author {
             return Err(Refusal::NotHolder(directory.0));
         }
-        if !forest.is_entry_free(self.file) || !forest.is_free((author, self.body)) {
+        if !forest.is_pointer_free(self.file) || !forest.is_free((author, self.body)) {
             return Err(Refusal::Held);
         }
         if !forest.is_name_free(directory, &self.name) {
@@ -89,7 +89,7 @@ impl Create {
         &self,
         alloc: Global,
         author: User,
-        directory: (User, Inum),
+        directory: Place,
     ) -> Result<Footprint, Refusal>
         ensures reads { IfOk result (λ footprint. footprint.reads.items ≡ reads_of (create_plan author self.now directory)) }
         ensures writes { IfOk result (λ footprint. footprint.writes.items ≡ writes_of (create_plan author self.now directory)) }
@@ -103,7 +103,7 @@ impl Create {
         writes.push(Area::Inode((author, self.body), Part::Kind))?;
         writes.push(Area::Inode((author, self.body), Part::Links))?;
         writes.push(Area::Inode((author, self.body), Part::Size))?;
-        push_entry(&mut writes, self.file)?;
+        push_pointer(&mut writes, self.file)?;
         Footprint::new(besides, writes)
     }
 
@@ -113,7 +113,7 @@ impl Create {
         alloc: Global,
         forest: &mut Forest,
         author: User,
-        directory: (User, Inum),
+        directory: Place,
     ) -> Result<(), Refusal>
         requires { AreFreeFor forest.old (create_plan author self.now directory).edits }
         ensures ok { OnOk result (forest.new ≡ edits forest.old (create_plan author self.now directory).edits) }
@@ -128,22 +128,22 @@ impl Create {
         Ok(())
     }
 
-    /// The new inode, and a group file's entry that points at it.
+    /// The new inode, and a group file's pointer that points at it.
     fn add_file(
         &self,
         alloc: Global,
         forest: &mut Forest,
-        place: (User, Inum),
+        place: Place,
     ) -> Result<(), Refusal>
         requires { is_free_at forest.old place ≡ true }
-        ensures ok { OnOk result (forest.new ≡ edits forest.old (Inodes place (Made self.now.file self.now.kind) ∷ entry_edits self.now.file (Some place))) }
+        ensures ok { OnOk result (forest.new ≡ edits forest.old (Inodes place (Made self.now.file self.now.kind) ∷ pointer_edits self.now.file (Some place))) }
         ensures refused { IfErr result (λ e. e ≡ NoMemory) }
         ensures err { OnErr result (forest.new ≡ forest.old) }
     {
         let (user, number) = place;
         let inode = Inode::new(alloc, self.file, self.kind);
         forest.put_inode((user, number), inode)?;
-        if let Err(refusal) = point_entry(forest, self.file, (user, number)) {
+        if let Err(refusal) = set_pointer(forest, self.file, (user, number)) {
             forest.remove_inode((user, number));
             return Err(refusal);
         }

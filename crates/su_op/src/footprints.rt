@@ -1,12 +1,12 @@
 // What an operation reads and writes.
 ghost use Rattle.std.specs.Prelude.{◌≡◌, ◌-◌, ◌/◌, ◌++◌, ◌∷◌, [], IfOk, IfErr, OnOk};
 ghost use Rattle.su_op.specs.Footprint.{run};
-ghost use Rattle.su_op.specs.Rule.{entry_areas, file_areas};
+ghost use Rattle.su_op.specs.Rule.{pointer_areas, file_areas};
 ghost use Rattle.su_bytes.specs.declared.refusals.Refusal.TheVariants.{NoMemory};
 
 use crate::areas::{Area, BlockRun, Part};
 use std::alloc::Global;
-use su_bytes::{FileId, Inum, Refusal, User};
+use su_bytes::{FileId, Place, Refusal, User};
 
 /// The size in bytes of each block of a file but the last.
 const BLOCK_SIZE: u32 = 4096;
@@ -32,15 +32,15 @@ impl Footprint {
     }
 }
 
-/// The entry of a group file; a user's file has none.
-pub(crate) fn push_entry(areas: &mut Vec<Area>, file: FileId) -> Result<(), Refusal>
-    ensures ok { OnOk result (areas.new.items ≡ areas.old.items ++ entry_areas file) }
+/// The pointer of a group file; a user's file has none.
+pub(crate) fn push_pointer(areas: &mut Vec<Area>, file: FileId) -> Result<(), Refusal>
+    ensures ok { OnOk result (areas.new.items ≡ areas.old.items ++ pointer_areas file) }
     ensures refused { IfErr result (λ e. e ≡ NoMemory) }
 {
     match file {
         FileId::User(..) => Ok(()),
         FileId::Group(group, number) => {
-            areas.push(Area::Entry((group, number)))?;
+            areas.push(Area::Pointer((group, number)))?;
             Ok(())
         }
     }
@@ -50,13 +50,13 @@ pub(crate) fn push_entry(areas: &mut Vec<Area>, file: FileId) -> Result<(), Refu
 pub(crate) fn push_file(
     areas: &mut Vec<Area>,
     file: FileId,
-    place: (User, Inum),
+    place: Place,
 ) -> Result<(), Refusal>
     ensures ok { OnOk result (areas.new.items ≡ areas.old.items ++ file_areas file place) }
     ensures refused { IfErr result (λ e. e ≡ NoMemory) }
 {
     areas.push(Area::Inode(place, Part::Kind))?;
-    push_entry(areas, file)
+    push_pointer(areas, file)
 }
 
 /// The blocks of the bytes from an offset up to an end.

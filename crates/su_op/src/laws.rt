@@ -3,7 +3,7 @@ ghost use Rattle.std.specs.Prelude.{◌≡◌, ℕ, true};
 ghost use Rattle.std.specs.Option.{is_none};
 ghost use Rattle.su_bytes.specs.Membership.{Membership};
 ghost use Rattle.su_node.specs.Field.{Field.KindOf, Field.BlockOf};
-ghost use Rattle.su_table.specs.Place.{Place};
+ghost use Rattle.su_bytes.specs.Place.{Place};
 ghost use Rattle.su_table.specs.Tree.{Tree};
 ghost use Rattle.su_table.specs.Cell.{Cell.At};
 ghost use Rattle.su_op.specs.Area.{has};

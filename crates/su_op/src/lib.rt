@@ -4,7 +4,7 @@
 mod access;
 mod areas;
 mod creation;
-mod entries;
+mod pointers;
 mod footprints;
 mod laws;
 mod limits;

@@ -12,7 +12,7 @@ use crate::areas::{Area, Part};
 use crate::footprints::{Footprint, push_file};
 use crate::limits::MOST_LINKS;
 use std::alloc::Global;
-use su_bytes::{FileId, Inum, Name, Refusal, Roster, User};
+use su_bytes::{FileId, Name, Place, Refusal, Roster, User};
 use su_table::Forest;
 
 /// Gives a file a further name. Each name counts as a link; a directory has no name but its own.
@@ -32,7 +32,7 @@ impl Link {
         forest: &Forest,
         roster: &Roster,
         author: User,
-    ) -> Result<((User, Inum), (User, Inum)), Refusal>
+    ) -> Result<(Place, Place), Refusal>
         ensures accepted { OnOk result (refusal (link_rule roster.now forest.now author self.now) ≡ None) }
         ensures plan { IfOk result (λ p. plan_of (link_rule roster.now forest.now author self.now) ≡ link_plan (links_at forest.now p.1) self.now p.0 p.1) }
         ensures room { IfOk result (λ p. links_at forest.now p.1 < most_links) }
@@ -79,8 +79,8 @@ impl Link {
         &self,
         alloc: Global,
         links: u8,
-        directory: (User, Inum),
-        place: (User, Inum),
+        directory: Place,
+        place: Place,
     ) -> Result<Footprint, Refusal>
         ensures reads { IfOk result (λ footprint. footprint.reads.items ≡ reads_of (link_plan links self.now directory place)) }
         ensures writes { IfOk result (λ footprint. footprint.writes.items ≡ writes_of (link_plan links self.now directory place)) }
@@ -101,8 +101,8 @@ impl Link {
     pub(crate) fn perform(
         &self,
         forest: &mut Forest,
-        directory: (User, Inum),
-        place: (User, Inum),
+        directory: Place,
+        place: Place,
     ) -> Result<(), Refusal>
         requires { links_at forest.old place < most_links }
         ensures ok { OnOk result (forest.new ≡ edits forest.old (link_plan (links_at forest.old place) self.now directory place).edits) }

@@ -12,7 +12,7 @@ use crate::truncation::Truncate;
 use crate::unlinking::Unlink;
 use crate::writing::Write;
 use std::alloc::Global;
-use su_bytes::{FileId, Inum, Refusal, Roster, User};
+use su_bytes::{FileId, Place, Refusal, Roster, User};
 use su_table::Forest;
 
 /// An operation on the tree.
@@ -63,7 +63,7 @@ impl Op {
             }
             Op::Rename(rename) => {
                 let places = rename.check(forest, roster, author)?;
-                let _moved: Option<(User, Inum)> = places.moved;
+                let _moved: Option<Place> = places.moved;
             }
         }
         Ok(())
@@ -113,7 +113,7 @@ pub fn apply(
         }
         Op::Rename(rename) => {
             let places = rename.check(forest, roster, author)?;
-            let _moved: Option<(User, Inum)> = places.moved;
+            let _moved: Option<Place> = places.moved;
             rename.perform(forest, &places)
         }
     }
@@ -167,7 +167,7 @@ pub fn footprint(
         }
         Op::Rename(rename) => {
             let places = rename.check(forest, roster, author)?;
-            let _moved: Option<(User, Inum)> = places.moved;
+            let _moved: Option<Place> = places.moved;
             rename.footprint(alloc, &places)
         }
     }

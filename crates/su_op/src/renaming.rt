@@ -9,7 +9,7 @@ use crate::access::closed_group;
 use crate::areas::{Area, Part};
 use crate::footprints::{Footprint, push_file};
 use std::alloc::Global;
-use su_bytes::{FileId, Inum, Name, Refusal, Roster, User};
+use su_bytes::{FileId, Name, Place, Refusal, Roster, User};
 use su_table::Forest;
 
 /// Gives a file another name, in the directory that has it or in another one. A directory stays in its directory.
@@ -28,9 +28,9 @@ pub struct Rename {
 /// Where the directories of a rename stand, and the file if it goes from one to another.
 #[derive(Debug, Drop)]
 pub(crate) struct RenamePlaces {
-    pub(crate) source: (User, Inum),
-    pub(crate) target: (User, Inum),
-    pub(crate) moved: Option<(User, Inum)>,
+    pub(crate) source: Place,
+    pub(crate) target: Place,
+    pub(crate) moved: Option<Place>,
 }
 
 impl Rename {
@@ -114,7 +114,7 @@ impl Rename {
     }
 
     /// Where the file stands, if it goes from one directory to another.
-    fn moved(&self, forest: &Forest) -> Result<Option<(User, Inum)>, Refusal>
+    fn moved(&self, forest: &Forest) -> Result<Option<Place>, Refusal>
         ensures value { IfOk result (λ place. place ≡ moved forest.now self.now) }
         ensures found { OnOk result ((stays self.now || is_some (moved forest.now self.now)) ≡ true) }
         ensures refused { IfErr result (λ e. (e ≡ NoFile self.now.file) × ((stays self.now || is_some (moved forest.now self.now)) ≡ false)) }
@@ -165,7 +165,7 @@ impl Rename {
 }
 
 /// Whether what goes to another directory is a directory.
-fn moves_directory(forest: &Forest, moved: &Option<(User, Inum)>) -> bool
+fn moves_directory(forest: &Forest, moved: &Option<Place>) -> bool
     ensures { result ≡ moves_directory forest.now moved.now }
 {
     match moved {

@@ -10,13 +10,13 @@ ghost use Rattle.su_bytes.specs.declared.refusals.Refusal.TheVariants.{NoMemory}
 
 use crate::access::closed_group;
 use crate::areas::{Area, Part};
-use crate::entries::point_entry;
-use crate::footprints::{Footprint, push_entry, push_file};
+use crate::pointers::set_pointer;
+use crate::footprints::{Footprint, push_pointer, push_file};
 use std::alloc::Global;
-use su_bytes::{FileId, Inum, Refusal, Roster, User};
+use su_bytes::{FileId, Inum, Place, Refusal, Roster, User};
 use su_table::Forest;
 
-/// Takes a group file over: its whole inode is copied into the author's i-table, and the group's entry points there. The old
+/// Takes a group file over: its whole inode is copied into the author's i-table, and the group's pointer points there. The old
 /// inode stays where it stood, and no file id leads to it any more.
 #[derive(Clone, Debug, Drop)]
 pub struct Take {
@@ -33,7 +33,7 @@ impl Take {
         forest: &Forest,
         roster: &Roster,
         author: User,
-    ) -> Result<(User, Inum), Refusal>
+    ) -> Result<Place, Refusal>
         ensures accepted { OnOk result (refusal (take_rule roster.now forest.now author self.now) ≡ None) }
         ensures plan { IfOk result (λ f. plan_of (take_rule roster.now forest.now author self.now) ≡ take_plan (get forest.now.inodes f) author self.now f) }
         ensures free { OnOk result (is_free_at forest.now (author, self.now.body) ≡ true) }
@@ -62,7 +62,7 @@ impl Take {
         &self,
         alloc: Global,
         author: User,
-        place: (User, Inum),
+        place: Place,
     ) -> Result<Footprint, Refusal>
         ensures reads { IfOk result (λ footprint. (o : Option Inode) → footprint.reads.items ≡ reads_of (take_plan o author self.now place)) }
         ensures writes { IfOk result (λ footprint. (o : Option Inode) → footprint.writes.items ≡ writes_of (take_plan o author self.now place)) }
@@ -74,7 +74,7 @@ impl Take {
         push_file(&mut besides, self.file, (user, number))?;
         let mut writes = Vec::new(alloc);
         writes.push(Area::Inode((author, self.body), Part::Whole))?;
-        push_entry(&mut writes, self.file)?;
+        push_pointer(&mut writes, self.file)?;
         Footprint::new(besides, writes)
     }
 
@@ -83,7 +83,7 @@ impl Take {
         &self,
         forest: &mut Forest,
         author: User,
-        place: (User, Inum),
+        place: Place,
     ) -> Result<(), Refusal>
         requires { is_free_at forest.old (author, self.now.body) ≡ true }
         ensures ok { OnOk result (forest.new ≡ edits forest.old (take_plan (get forest.old.inodes place) author self.now place).edits) }
@@ -91,7 +91,7 @@ impl Take {
         ensures err { OnErr result (forest.new ≡ forest.old) }
     {
         copy_inode(forest, place, (author, self.body))?;
-        if let Err(refusal) = point_entry(forest, self.file, (author, self.body)) {
+        if let Err(refusal) = set_pointer(forest, self.file, (author, self.body)) {
             forest.remove_inode((author, self.body));
             return Err(refusal);
         }
@@ -100,7 +100,7 @@ impl Take {
 }
 
 /// What stands at the one place stands at the other as well. On `NoMemory`, which alone can come, nothing is changed.
-fn copy_inode(forest: &mut Forest, place: (User, Inum), other: (User, Inum)) -> Result<(), Refusal>
+fn copy_inode(forest: &mut Forest, place: Place, other: Place) -> Result<(), Refusal>
     ensures ok { OnOk result (forest.new ≡ edit forest.old (Inodes other (copy_of (get forest.old.inodes place)))) }
     ensures refused { IfErr result (λ e. e ≡ NoMemory) }
     ensures err { OnErr result (forest.new ≡ forest.old) }

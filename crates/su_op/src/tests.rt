@@ -177,8 +177,8 @@ fn areas_overlap_where_they_share_a_cell(rt: HostRuntime) -> Result<(), Fail> {
     assert!(rt; name.overlaps(&name) && !name.overlaps(&other));
     let elsewhere = Area::Inode((User::FIRST, Inum::new(3)?), Part::Whole);
     assert!(rt; !whole.overlaps(&elsewhere));
-    let entry = Area::Entry((Group::FIRST, Inum::new(2)?));
-    assert!(rt; entry.overlaps(&entry) && !entry.overlaps(&whole));
+    let pointer = Area::Pointer((Group::FIRST, Inum::new(2)?));
+    assert!(rt; pointer.overlaps(&pointer) && !pointer.overlaps(&whole));
     Ok(())
 }
 
@@ -194,7 +194,7 @@ fn a_create_writes_a_name_and_an_inode(rt: HostRuntime) -> Result<(), Fail> {
     assert!(rt; touched.writes[0] == name);
     assert!(rt; touched.writes[3] == Area::Inode(place, Part::Size));
     assert_eq!(rt; touched.reads.len(), 6);
-    assert!(rt; touched.reads[1] == Area::Entry((Group::FIRST, root)));
+    assert!(rt; touched.reads[1] == Area::Pointer((Group::FIRST, root)));
     operations_are_local();
     table_of_cells();
     Ok(())

@@ -11,7 +11,7 @@ use crate::areas::{Area, Part};
 use crate::footprints::{Footprint, push_file, run};
 use crate::limits::LARGEST_FILE;
 use std::alloc::Global;
-use su_bytes::{FileId, Inum, Refusal, Roster, User};
+use su_bytes::{FileId, Place, Refusal, Roster, User};
 use su_table::Forest;
 
 /// Gives a file another size: it is cut, or has zeros behind it.
@@ -29,7 +29,7 @@ impl Truncate {
         forest: &Forest,
         roster: &Roster,
         author: User,
-    ) -> Result<(User, Inum), Refusal>
+    ) -> Result<Place, Refusal>
         ensures accepted { OnOk result (refusal (truncate_rule roster.now forest.now author self.now) ≡ None) }
         ensures plan { IfOk result (λ f. plan_of (truncate_rule roster.now forest.now author self.now) ≡ truncate_plan (size_at forest.now f) self.now f) }
         ensures refused { IfErr result (λ e. refusal (truncate_rule roster.now forest.now author self.now) ≡ Some e) }
@@ -60,7 +60,7 @@ impl Truncate {
         &self,
         alloc: Global,
         size: u32,
-        place: (User, Inum),
+        place: Place,
     ) -> Result<Footprint, Refusal>
         ensures reads { IfOk result (λ footprint. footprint.reads.items ≡ reads_of (truncate_plan size self.now place)) }
         ensures writes { IfOk result (λ footprint. footprint.writes.items ≡ writes_of (truncate_plan size self.now place)) }
@@ -80,7 +80,7 @@ impl Truncate {
     }
 
     /// Makes the edit. On `NoMemory`, which alone can come, nothing is changed.
-    pub(crate) fn perform(&self, forest: &mut Forest, place: (User, Inum)) -> Result<(), Refusal>
+    pub(crate) fn perform(&self, forest: &mut Forest, place: Place) -> Result<(), Refusal>
         ensures ok { OnOk result (forest.new ≡ edits forest.old (truncate_plan (size_at forest.old place) self.now place).edits) }
         ensures refused { IfErr result (λ e. e ≡ NoMemory) }
         ensures err { OnErr result (forest.new ≡ forest.old) }

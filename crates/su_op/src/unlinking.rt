@@ -1,17 +1,17 @@
 // A name goes.
 ghost use Rattle.std.specs.Prelude.{◌≡◌, ◌++◌, ◌∷◌, [], Some, None, IfOk, OnOk, IfErr};
 ghost use Rattle.su_table.specs.Query.{links_at};
-ghost use Rattle.su_node.specs.Change.{Change.Gone};
+ghost use Rattle.su_node.specs.InodeChange.{InodeChange.Gone};
 ghost use Rattle.su_table.specs.Edit.{Edit.Inodes, edits};
 ghost use Rattle.su_op.specs.Unlinking.{unlink_rule, unlink_plan};
-ghost use Rattle.su_op.specs.Rule.{refusal, plan_of, entry_edits, reads_of, writes_of};
+ghost use Rattle.su_op.specs.Rule.{refusal, plan_of, pointer_edits, reads_of, writes_of};
 ghost use Rattle.su_bytes.specs.declared.refusals.Refusal.TheVariants.{NoMemory};
 
 use crate::access::closed_group;
 use crate::areas::{Area, Part};
-use crate::footprints::{Footprint, push_entry, push_file};
+use crate::footprints::{Footprint, push_pointer, push_file};
 use std::alloc::Global;
-use su_bytes::{FileId, Inum, Name, Refusal, Roster, User};
+use su_bytes::{FileId, Name, Place, Refusal, Roster, User};
 use su_table::Forest;
 
 /// Takes a name out of a directory; with the last name the file goes, and a directory only if it is empty.
@@ -31,7 +31,7 @@ impl Unlink {
         forest: &Forest,
         roster: &Roster,
         author: User,
-    ) -> Result<((User, Inum), (User, Inum)), Refusal>
+    ) -> Result<(Place, Place), Refusal>
         ensures accepted { OnOk result (refusal (unlink_rule roster.now forest.now author self.now) ≡ None) }
         ensures plan { IfOk result (λ p. plan_of (unlink_rule roster.now forest.now author self.now) ≡ unlink_plan (links_at forest.now p.1) self.now p.0 p.1) }
         ensures refused { IfErr result (λ e. refusal (unlink_rule roster.now forest.now author self.now) ≡ Some e) }
@@ -74,8 +74,8 @@ impl Unlink {
         &self,
         alloc: Global,
         links: u8,
-        directory: (User, Inum),
-        place: (User, Inum),
+        directory: Place,
+        place: Place,
     ) -> Result<Footprint, Refusal>
         ensures reads { IfOk result (λ footprint. footprint.reads.items ≡ reads_of (unlink_plan links self.now directory place)) }
         ensures writes { IfOk result (λ footprint. footprint.writes.items ≡ writes_of (unlink_plan links self.now directory place)) }
@@ -89,7 +89,7 @@ impl Unlink {
         let mut writes = Vec::new(alloc);
         writes.push(Area::Inode((user, number), Part::Name(self.name.clone()?)))?;
         if links < 2 {
-            push_entry(&mut writes, self.file)?;
+            push_pointer(&mut writes, self.file)?;
             writes.push(Area::Inode((holder, body), Part::Whole))?;
         } else {
             writes.push(Area::Inode((holder, body), Part::Links))?;
@@ -98,7 +98,7 @@ impl Unlink {
     }
 
     /// Makes the edits. Nothing grows, so nothing can be refused.
-    pub(crate) fn perform(&self, forest: &mut Forest, directory: (User, Inum), place: (User, Inum))
+    pub(crate) fn perform(&self, forest: &mut Forest, directory: Place, place: Place)
         ensures { forest.new ≡ edits forest.old (unlink_plan (links_at forest.old place) self.now directory place).edits }
     {
         let (user, number) = place;
@@ -111,12 +111,12 @@ impl Unlink {
         }
     }
 
-    /// The file and a group file's entry go.
-    fn remove_file(&self, forest: &mut Forest, place: (User, Inum))
-        ensures { forest.new ≡ edits forest.old (entry_edits self.now.file None ++ Inodes place Gone ∷ []) }
+    /// The file and a group file's pointer go.
+    fn remove_file(&self, forest: &mut Forest, place: Place)
+        ensures { forest.new ≡ edits forest.old (pointer_edits self.now.file None ++ Inodes place Gone ∷ []) }
     {
         if let FileId::Group(group, number) = self.file {
-            forest.remove_entry((group, number));
+            forest.remove_pointer((group, number));
         }
         forest.remove_inode(place);
     }

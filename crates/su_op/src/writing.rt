@@ -13,7 +13,7 @@ use crate::footprints::{Footprint, push_file, run};
 use crate::limits::{LARGEST_FILE, LARGEST_WRITE};
 use std::alloc::{AllocError, Global};
 use std::marker::Model;
-use su_bytes::{FileId, Inum, Refusal, Roster, User};
+use su_bytes::{FileId, Place, Refusal, Roster, User};
 use su_table::Forest;
 
 /// Writes bytes to a file; where they begin past its end, the gap is filled with zeros.
@@ -54,7 +54,7 @@ impl Write {
         forest: &Forest,
         roster: &Roster,
         author: User,
-    ) -> Result<(User, Inum), Refusal>
+    ) -> Result<Place, Refusal>
         ensures accepted { OnOk result (refusal (write_rule roster.now forest.now author self.now) ≡ None) }
         ensures plan { IfOk result (λ f. plan_of (write_rule roster.now forest.now author self.now) ≡ write_plan (size_at forest.now f) self.now f) }
         ensures fits { OnOk result (self.now.off + length self.now.bytes ≤ largest_file) }
@@ -90,7 +90,7 @@ impl Write {
         &self,
         alloc: Global,
         size: u32,
-        place: (User, Inum),
+        place: Place,
     ) -> Result<Footprint, Refusal>
         requires { self.now.off + length self.now.bytes ≤ 1048576 }
         ensures reads { IfOk result (λ footprint. footprint.reads.items ≡ reads_of (write_plan size self.now place)) }
@@ -114,7 +114,7 @@ impl Write {
     }
 
     /// Makes the edit. On `NoMemory`, which alone can come, nothing is changed.
-    pub(crate) fn perform(&self, forest: &mut Forest, place: (User, Inum)) -> Result<(), Refusal>
+    pub(crate) fn perform(&self, forest: &mut Forest, place: Place) -> Result<(), Refusal>
         requires { self.now.off + length self.now.bytes ≤ largest_file }
         ensures ok { OnOk result (forest.new ≡ edits forest.old (write_plan (size_at forest.old place) self.now place).edits) }
         ensures refused { IfErr result (λ e. e ≡ NoMemory) }

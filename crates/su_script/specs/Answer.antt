@@ -15,7 +15,7 @@ use Rattle.su_bytes.specs.Principal.{principal_text}
 use Rattle.su_bytes.specs.declared.principals.Principal.{Principal}
 use Rattle.su_node.specs.Name.{Name}
 use Rattle.su_node.specs.Inode.{Inode, kind_of, size_of}
-use Rattle.su_table.specs.Place.{Place}
+use Rattle.su_bytes.specs.Place.{Place}
 
 -- `no 28 Blocked 3`
 abbrev pub refused_text : Refusal → List ℕ

@@ -12,36 +12,36 @@ use Rattle.su_bytes.specs.declared.file_ids.FileId.TheVariants.{User, Group}
 use Rattle.su_bytes.specs.declared.file_ids.Kind.TheVariants.{Dir}
 use Rattle.su_bytes.specs.declared.refusals.Refusal.TheVariants.{NoFile, WrongKind}
 use Rattle.su_bytes.specs.contracts.file_ids.FileIdPartialEq.TheImpl as block
-use Rattle.su_table.specs.Place.{Place, place_cmp, place_eq, file_eq}
+use Rattle.su_bytes.specs.Place.{Place, place_cmp, place_eq, file_eq}
 use Rattle.su_node.specs.Inode.{Inode, new_inode}
 use Rattle.su_table.specs.Tree.{Tree, genesis}
 use Rattle.su_node.specs.Field.{Field, Field.KindOf, field_value, file_value}
-use Rattle.su_table.specs.Cell.{Cell.At, Cell.Entry, place_value, val}
-use Rattle.su_table.specs.Query.{is_nothing, is_file_id, entry_body, body, standing_at, standing, part}
-use Rattle.su_node.specs.Change.{Change, change, set_key}
-use Rattle.su_table.specs.Edit.{Edit.Inodes, Edit.Entries, edit}
+use Rattle.su_table.specs.Cell.{Cell.At, Cell.Pointer, place_value, val}
+use Rattle.su_table.specs.Query.{is_nothing, is_link_to, pointer_body, body, standing_at, standing, part}
+use Rattle.su_node.specs.InodeChange.{InodeChange, inode_after, set_key}
+use Rattle.su_table.specs.Edit.{Edit.Inodes, Edit.Pointers, edit}
 use Rattle.su_node.proofs.Maps.{get-from_entries_lookup, from_entries-updates, set_key-get}
 use Rattle.su_table.proofs.Places.{place_cmp_total, place_cmp_exact}
 
--- what std finds among the entries
+-- what std finds among the pointers
 abbrev pub at_place : {X : Type 0} → List (Place × X) → Place → Option X
 at_place es p = lookup (is_at (place_cmp p)) es
 
 -- ---- reading
 
-pub get-inodes : (es : List (Place × Inode)) (m : FinMap place_cmp Place) (T : Tree) → record { inodes = from_entries es; entries = m } ≡ T → (p : Place) (o : Option Inode) → o ≡ at_place es p → get T.inodes p ≡ o
+pub get-inodes : (es : List (Place × Inode)) (m : FinMap place_cmp Place) (T : Tree) → record { inodes = from_entries es; pointers = m } ≡ T → (p : Place) (o : Option Inode) → o ≡ at_place es p → get T.inodes p ≡ o
 get-inodes es m T is p o found = ap (λ (t : Tree). get t.inodes p) (sym is) ∙ get-from_entries_lookup place_cmp_total es p ∙ sym found
 
-pub get-entries_of : (n : FinMap place_cmp Inode) (es : List (Place × Place)) (T : Tree) → record { inodes = n; entries = from_entries es } ≡ T → (g : Place) (o : Option Place) → o ≡ at_place es g → get T.entries g ≡ o
-get-entries_of n es T is g o found = ap (λ (t : Tree). get t.entries g) (sym is) ∙ get-from_entries_lookup place_cmp_total es g ∙ sym found
+pub get-pairs_of : (n : FinMap place_cmp Inode) (es : List (Place × Place)) (T : Tree) → record { inodes = n; pointers = from_entries es } ≡ T → (g : Place) (o : Option Place) → o ≡ at_place es g → get T.pointers g ≡ o
+get-pairs_of n es T is g o found = ap (λ (t : Tree). get t.pointers g) (sym is) ∙ get-from_entries_lookup place_cmp_total es g ∙ sym found
 
-pub val-At : (es : List (Place × Inode)) (m : FinMap place_cmp Place) (T : Tree) → record { inodes = from_entries es; entries = m } ≡ T → (p : Place) (f : Field) (o : Option Inode) → o ≡ at_place es p → val T (At p f) ≡ field_value o f
+pub val-At : (es : List (Place × Inode)) (m : FinMap place_cmp Place) (T : Tree) → record { inodes = from_entries es; pointers = m } ≡ T → (p : Place) (f : Field) (o : Option Inode) → o ≡ at_place es p → val T (At p f) ≡ field_value o f
 unfolding val
 val-At es m T is p f o found = ap (λ i. field_value i f) (get-inodes es m T is p o found)
 
-pub val-Entry : (n : FinMap place_cmp Inode) (es : List (Place × Place)) (T : Tree) → record { inodes = n; entries = from_entries es } ≡ T → (g : Place) (o : Option Place) → o ≡ at_place es g → val T (Entry g) ≡ place_value o
+pub val-Pointer : (n : FinMap place_cmp Inode) (es : List (Place × Place)) (T : Tree) → record { inodes = n; pointers = from_entries es } ≡ T → (g : Place) (o : Option Place) → o ≡ at_place es g → val T (Pointer g) ≡ place_value o
 unfolding val
-val-Entry n es T is g o found = ap place_value (get-entries_of n es T is g o found)
+val-Pointer n es T is g o found = ap place_value (get-pairs_of n es T is g o found)
 
 pub is_nothing-field_value : (o : Option Inode) → is_nothing (field_value o KindOf) ≡ not (is_some o)
 is_nothing-field_value None = refl
@@ -55,9 +55,9 @@ pub is_nothing-place_value : (o : Option Place) → is_nothing (place_value o) �
 is_nothing-place_value None = refl
 is_nothing-place_value (Some p) = refl
 
-pub entry_body-place_value : (o : Option Place) → entry_body (place_value o) ≡ o
-entry_body-place_value None = refl
-entry_body-place_value (Some p) = refl
+pub pointer_body-place_value : (o : Option Place) → pointer_body (place_value o) ≡ o
+pointer_body-place_value None = refl
+pointer_body-place_value (Some p) = refl
 
 -- ---- telling file ids apart
 
@@ -80,45 +80,45 @@ file_eq-derived (User u i) (Group h l) = refl
 file_eq-derived (Group g k) (User v j) = refl
 file_eq-derived (Group g k) (Group h l) = sym (place_eq-both g k h l)
 
-pub is_file_id-derived : (o : Option FileId) (f : FileId) → option_eq block.ghosts.eq o (Some f) ≡ is_file_id (file_value o) f
-is_file_id-derived None f = refl
-is_file_id-derived (Some g) f = file_eq-derived g f
+pub is_link_to-derived : (o : Option FileId) (f : FileId) → option_eq block.ghosts.eq o (Some f) ≡ is_link_to (file_value o) f
+is_link_to-derived None f = refl
+is_link_to-derived (Some g) f = file_eq-derived g f
 
 -- ---- writing
 
-pub edit-Inodes : (es fs : List (Place × Inode)) (m : FinMap place_cmp Place) (T : Tree) → record { inodes = from_entries es; entries = m } ≡ T
-    → (p : Place) (ch : Change) (v : Option Inode) → ((q : Place) → at_place fs q ≡ cond (is_at (place_cmp p) q) v (at_place es q)) → change ch (at_place es p) ≡ v
-    → record { inodes = from_entries fs; entries = m } ≡ edit T (Inodes p ch)
+pub edit-Inodes : (es fs : List (Place × Inode)) (m : FinMap place_cmp Place) (T : Tree) → record { inodes = from_entries es; pointers = m } ≡ T
+    → (p : Place) (ch : InodeChange) (v : Option Inode) → ((q : Place) → at_place fs q ≡ cond (is_at (place_cmp p) q) v (at_place es q)) → inode_after ch (at_place es p) ≡ v
+    → record { inodes = from_entries fs; pointers = m } ≡ edit T (Inodes p ch)
 unfolding edit
 edit-Inodes es fs m T is p ch v h e =
     let a = from_entries-updates place_cmp_total place_cmp_exact es fs p v h
-    ∙ ap (set_key (from_entries es) p) (sym e ∙ ap (change ch) (sym (get-from_entries_lookup place_cmp_total es p))) in
-    ap (λ (n : FinMap place_cmp Inode). record { inodes = n; entries = m }) a ∙ ap (λ (t : Tree). edit t (Inodes p ch)) is
+    ∙ ap (set_key (from_entries es) p) (sym e ∙ ap (inode_after ch) (sym (get-from_entries_lookup place_cmp_total es p))) in
+    ap (λ (n : FinMap place_cmp Inode). record { inodes = n; pointers = m }) a ∙ ap (λ (t : Tree). edit t (Inodes p ch)) is
 
-pub edit-Inodes_absent : (es : List (Place × Inode)) (m : FinMap place_cmp Place) (T : Tree) → record { inodes = from_entries es; entries = m } ≡ T
-    → (p : Place) (ch : Change) → at_place es p ≡ None → change ch None ≡ None → record { inodes = from_entries es; entries = m } ≡ edit T (Inodes p ch)
+pub edit-Inodes_absent : (es : List (Place × Inode)) (m : FinMap place_cmp Place) (T : Tree) → record { inodes = from_entries es; pointers = m } ≡ T
+    → (p : Place) (ch : InodeChange) → at_place es p ≡ None → inode_after ch None ≡ None → record { inodes = from_entries es; pointers = m } ≡ edit T (Inodes p ch)
 unfolding edit
 edit-Inodes_absent es m T is p ch none e =
     let a = get-inodes es m T is p None (sym none) in
-    is ∙ sym (ap (λ (n : FinMap place_cmp Inode). record T { inodes = n }) (set_key-get place_cmp_total place_cmp_exact T.inodes p _ (a ∙ sym e ∙ ap (change ch) (sym a))))
+    is ∙ sym (ap (λ (n : FinMap place_cmp Inode). record T { inodes = n }) (set_key-get place_cmp_total place_cmp_exact T.inodes p _ (a ∙ sym e ∙ ap (inode_after ch) (sym a))))
 
-pub edit-Entries : (n : FinMap place_cmp Inode) (es fs : List (Place × Place)) (T : Tree) → record { inodes = n; entries = from_entries es } ≡ T
+pub edit-Pointers : (n : FinMap place_cmp Inode) (es fs : List (Place × Place)) (T : Tree) → record { inodes = n; pointers = from_entries es } ≡ T
     → (g : Place) (v : Option Place) → ((q : Place) → at_place fs q ≡ cond (is_at (place_cmp g) q) v (at_place es q))
-    → record { inodes = n; entries = from_entries fs } ≡ edit T (Entries g v)
+    → record { inodes = n; pointers = from_entries fs } ≡ edit T (Pointers g v)
 unfolding edit
-edit-Entries n es fs T is g v h =
-    ap (λ (e : FinMap place_cmp Place). record { inodes = n; entries = e }) (from_entries-updates place_cmp_total place_cmp_exact es fs g v h) ∙ ap (λ (t : Tree). edit t (Entries g v)) is
+edit-Pointers n es fs T is g v h =
+    ap (λ (e : FinMap place_cmp Place). record { inodes = n; pointers = e }) (from_entries-updates place_cmp_total place_cmp_exact es fs g v h) ∙ ap (λ (t : Tree). edit t (Pointers g v)) is
 
 -- ---- the tree before the first operation
 
 pub genesis-made : (es : List (Place × Inode)) (fs : List (Place × Place)) (u g n : ℕ) (root : Inode) → es ≡ ((u, n), root) ∷ [] → fs ≡ ((g, n), (u, n)) ∷ []
-    → u ≡ 0 → g ≡ 0 → n ≡ 1 → root ≡ new_inode (Group g n) Dir → record { inodes = from_entries es; entries = from_entries fs } ≡ genesis
+    → u ≡ 0 → g ≡ 0 → n ≡ 1 → root ≡ new_inode (Group g n) Dir → record { inodes = from_entries es; pointers = from_entries fs } ≡ genesis
 unfolding genesis
 genesis-made es fs u g n root es_is fs_is u_is g_is n_is root_is =
     let made : root ≡ new_inode (Group 0 1) Dir = root_is ∙ (λ i. new_inode (Group (g_is i) (n_is i)) Dir) in
     let a : from_entries {R = place_cmp} es ≡ insert empty (0, 1) (new_inode (Group 0 1) Dir) = ap from_entries (es_is ∙ (λ i. ((u_is i, n_is i), made i) ∷ [])) in
     let b : from_entries {R = place_cmp} fs ≡ insert empty (0, 1) (0, 1) = ap from_entries (fs_is ∙ (λ i. ((g_is i, n_is i), (u_is i, n_is i)) ∷ [])) in
-    λ i. record { inodes = a i; entries = b i }
+    λ i. record { inodes = a i; pointers = b i }
 
 -- ---- what stands for a file
 

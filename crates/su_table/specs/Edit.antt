@@ -3,20 +3,20 @@ use Rattle.std.specs.Prelude.{◌≡◌, ℕ, List, [], ◌∷◌, ◌++◌, Opt
 use Rattle.std.specs.FinMap.{get}
 use Rattle.su_bytes.specs.declared.file_ids.FileId.{FileId}
 use Rattle.su_node.specs.Name.{Name}
-use Rattle.su_table.specs.Place.{Place}
+use Rattle.su_bytes.specs.Place.{Place, GroupFile}
 use Rattle.su_node.specs.Inode.{Inode, Content.Bytes, Content.Names}
-use Rattle.su_node.specs.Change.{Change, Change.Made, Change.Named, Change.Linked, Change.Written, Change.Resized, Change.Copied, Change.Gone, change, set_key}
+use Rattle.su_node.specs.InodeChange.{InodeChange, InodeChange.Made, InodeChange.Named, InodeChange.Linked, InodeChange.Written, InodeChange.Resized, InodeChange.Copied, InodeChange.Gone, inode_after, set_key}
 use Rattle.su_table.specs.Tree.{Tree}
 
 pub data Edit : Type 0 where
   -- of what stands at a place
-  Inodes : Place → Change → Edit
-  -- the entry of a group file points there, or is gone
-  Entries : Place → Option Place → Edit
+  Inodes : Place → InodeChange → Edit
+  -- the pointer of a group file points there, or is gone
+  Pointers : GroupFile → Option Place → Edit
 
 unfoldable pub edit : Tree → Edit → Tree
-edit T (Inodes p ch) = record T { inodes = set_key T.inodes p (change ch (get T.inodes p)) }
-edit T (Entries g v) = record T { entries = set_key T.entries g v }
+edit T (Inodes p ch) = record T { inodes = set_key T.inodes p (inode_after ch (get T.inodes p)) }
+edit T (Pointers g v) = record T { pointers = set_key T.pointers g v }
 
 -- one after another
 abbrev pub edits : Tree → List Edit → Tree
@@ -25,7 +25,7 @@ edits T (e ∷ es) = edits (edit T e) es
 
 -- ---- putting back
 
-abbrev pub restoring : Option Inode → Change
+abbrev pub restoring : Option Inode → InodeChange
 restoring None = Gone
 restoring (Some i) = Copied i
 
@@ -37,7 +37,7 @@ abbrev pub links_in : Option Inode → ℕ
 links_in None = 0
 links_in (Some i) = i.links
 
-abbrev pub change_back : Option Inode → Change → Change
+abbrev pub change_back : Option Inode → InodeChange → InodeChange
 change_back o (Named x v) = Named x (name_in o x)
 change_back o (Linked n) = Linked (links_in o)
 change_back o (Made home kind) = restoring o
@@ -49,7 +49,7 @@ change_back o Gone = restoring o
 -- the edit that puts back what an edit of T overwrites
 unfoldable pub back : Tree → Edit → Edit
 back T (Inodes p ch) = Inodes p (change_back (get T.inodes p) ch)
-back T (Entries g v) = Entries g (get T.entries g)
+back T (Pointers g v) = Pointers g (get T.pointers g)
 
 -- the edits that take back edits of T, the last one first
 abbrev pub edits_back : Tree → List Edit → List Edit

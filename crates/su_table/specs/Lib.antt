@@ -1,4 +1,3 @@
-pub mod Place
 pub mod Tree
 pub mod Cell
 pub mod Query

@@ -9,31 +9,31 @@ use Rattle.su_bytes.specs.declared.file_ids.Kind.TheVariants.{File, Dir}
 use Rattle.su_bytes.specs.declared.refusals.Refusal.{Refusal}
 use Rattle.su_bytes.specs.declared.refusals.Refusal.TheVariants.{NoFile, WrongKind}
 use Rattle.su_node.specs.Name.{Name}
-use Rattle.su_table.specs.Place.{Place, file_eq}
+use Rattle.su_bytes.specs.Place.{Place, file_eq}
 use Rattle.su_node.specs.Inode.{Inode, has_no_names, names_of, bytes_of, within}
 use Rattle.su_table.specs.Tree.{Tree}
 use Rattle.su_node.specs.Field.{Field.KindOf, Field.LinksOf, Field.SizeOf, Field.NameOf, Value, Value.Nothing, Value.AKind, Value.ANumber, Value.AFile, Value.APlace}
-use Rattle.su_table.specs.Cell.{Cell.At, Cell.Entry, val}
+use Rattle.su_table.specs.Cell.{Cell.At, Cell.Pointer, val}
 
 abbrev pub is_nothing : Value → Bool
 is_nothing Nothing = true
 is_nothing _ = false
 
-abbrev pub is_dir : Value → Bool
-is_dir (AKind Dir home) = true
-is_dir _ = false
+abbrev pub is_dir_kind : Value → Bool
+is_dir_kind (AKind Dir home) = true
+is_dir_kind _ = false
 
-abbrev pub is_file : Value → Bool
-is_file (AKind File home) = true
-is_file _ = false
+abbrev pub is_file_kind : Value → Bool
+is_file_kind (AKind File home) = true
+is_file_kind _ = false
 
-abbrev pub number_of : Value → ℕ
-number_of (ANumber n) = n
-number_of _ = 0
+abbrev pub value_number : Value → ℕ
+value_number (ANumber n) = n
+value_number _ = 0
 
-abbrev pub is_file_id : Value → FileId → Bool
-is_file_id (AFile g) f = file_eq g f
-is_file_id _ f = false
+abbrev pub is_link_to : Value → FileId → Bool
+is_link_to (AFile g) f = file_eq g f
+is_link_to _ f = false
 
 -- no inode stands there
 abbrev pub is_free_at : Tree → Place → Bool
@@ -41,18 +41,18 @@ is_free_at T p = is_nothing (val T (At p KindOf))
 
 -- a directory stands there; a file stands there
 abbrev pub is_dir_at : Tree → Place → Bool
-is_dir_at T p = is_dir (val T (At p KindOf))
+is_dir_at T p = is_dir_kind (val T (At p KindOf))
 
 abbrev pub is_file_at : Tree → Place → Bool
-is_file_at T p = is_file (val T (At p KindOf))
+is_file_at T p = is_file_kind (val T (At p KindOf))
 
 -- how many names lead to it
 abbrev pub links_at : Tree → Place → ℕ
-links_at T p = number_of (val T (At p LinksOf))
+links_at T p = value_number (val T (At p LinksOf))
 
 -- how many bytes the file there has; 0 where no file stands
 abbrev pub size_at : Tree → Place → ℕ
-size_at T p = number_of (val T (At p SizeOf))
+size_at T p = value_number (val T (At p SizeOf))
 
 -- the directory there doesn't have the name
 abbrev pub is_name_free_at : Tree → Place → Name → Bool
@@ -60,12 +60,12 @@ is_name_free_at T p x = is_nothing (val T (At p (NameOf x)))
 
 -- in the directory there the name leads to the file
 abbrev pub leads_to_at : Tree → Place → Name → FileId → Bool
-leads_to_at T p x f = is_file_id (val T (At p (NameOf x))) f
+leads_to_at T p x f = is_link_to (val T (At p (NameOf x))) f
 
--- a user's file has no entry; a group file's entry is free
-abbrev pub is_entry_free : Tree → FileId → Bool
-is_entry_free T (User u i) = true
-is_entry_free T (Group g k) = is_nothing (val T (Entry (g, k)))
+-- a user's file has no pointer; a group file's pointer is free
+abbrev pub is_pointer_free : Tree → FileId → Bool
+is_pointer_free T (User u i) = true
+is_pointer_free T (Group g k) = is_nothing (val T (Pointer (g, k)))
 
 -- ---- bodies
 
@@ -73,15 +73,15 @@ abbrev pub home_body : Value → FileId → Place → Option Place
 home_body (AKind kind home) f p = cond (file_eq home f) (Some p) None
 home_body _ f p = None
 
-abbrev pub entry_body : Value → Option Place
-entry_body (APlace p) = Some p
-entry_body _ = None
+abbrev pub pointer_body : Value → Option Place
+pointer_body (APlace p) = Some p
+pointer_body _ = None
 
 -- Where a file's inode stands: of a user's file at its own place, if an inode with that home stands there; of a group file
--- where its entry points.
+-- where its pointer points.
 unfoldable pub body : Tree → FileId → Option Place
 body T (User u i) = home_body (val T (At (u, i) KindOf)) (User u i) (u, i)
-body T (Group g k) = entry_body (val T (Entry (g, k)))
+body T (Group g k) = pointer_body (val T (Pointer (g, k)))
 
 -- ---- names
 
@@ -95,7 +95,7 @@ abbrev pub standing_at : Tree → FileId → Option Place → Result Inode Refus
 standing_at T f None = Err (NoFile f)
 standing_at T f (Some p) = ok_or (get T.inodes p) (WrongKind f)
 
--- The inode that stands for a file: `NoFile` where the file has no body, and `WrongKind` where a group's entry points at nothing.
+-- The inode that stands for a file: `NoFile` where the file has no body, and `WrongKind` where a group's pointer points at nothing.
 unfoldable pub standing : Tree → FileId → Result Inode Refusal
 standing T f = standing_at T f (body T f)
 

@@ -2,7 +2,7 @@
 ghost use Rattle.std.specs.Prelude.{◌≡◌, ◌⊎◌, Ok, Err, IfOk, IfErr, option_copied};
 ghost use Rattle.std.specs.FinMap.{get};
 ghost use Rattle.su_table.specs.Tree.{genesis};
-ghost use Rattle.su_table.specs.Query.{body, is_free_at, is_dir_at, is_file_at, links_at, is_bare_at, is_name_free_at, leads_to_at, is_entry_free, size_at, listing, contents, contents_within};
+ghost use Rattle.su_table.specs.Query.{body, is_free_at, is_dir_at, is_file_at, links_at, is_bare_at, is_name_free_at, leads_to_at, is_pointer_free, size_at, listing, contents, contents_within};
 ghost use Rattle.su_bytes.specs.declared.refusals.Refusal.TheVariants.{NoMemory};
 
 mod edits;
@@ -11,14 +11,14 @@ mod handles;
 use std::alloc::Global;
 use std::collections::BTreeMap;
 use std::marker::Model;
-use su_bytes::{FileId, Group, Inum, Kind, Name, Refusal, Roster, User};
+use su_bytes::{FileId, Group, GroupFile, Inum, Kind, Name, Place, Refusal, Roster, User};
 use su_node::Inode;
 
 /// All i-tables of a store. It is seen as the plain tree that they make.
 #[derive(Drop)]
 pub struct Forest {
-    inodes: BTreeMap<(User, Inum), Inode>,
-    entries: BTreeMap<(Group, Inum), (User, Inum)>,
+    inodes: BTreeMap<Place, Inode>,
+    pointers: BTreeMap<GroupFile, Place>,
     alloc: Global,
 }
 
@@ -31,7 +31,7 @@ impl Model for Forest {
 
     ghost coded = { tree_code };
 
-    ghost view = { λ f. record { inodes = from_entries f.inodes.entries; entries = from_entries f.entries.entries } };
+    ghost view = { λ f. record { inodes = from_entries f.inodes.entries; pointers = from_entries f.pointers.entries } };
 }
 
 impl Forest {
@@ -51,13 +51,13 @@ impl Forest {
         let group = Group::new(0)?;
         let number = Inum::new(1)?;
         let mut inodes = BTreeMap::new(alloc);
-        let mut entries = BTreeMap::new(alloc);
+        let mut pointers = BTreeMap::new(alloc);
         let root = Inode::new(alloc, FileId::Group(group, number), Kind::Dir);
         inodes.insert((user, number), root)?;
-        entries.insert((group, number), (user, number))?;
+        pointers.insert((group, number), (user, number))?;
         Ok(Forest {
             inodes,
-            entries,
+            pointers,
             alloc,
         })
     }
@@ -69,8 +69,8 @@ impl Forest {
         self.inodes.get(&(user, number))
     }
 
-    /// Where the inode of a file stands: of a user's file at its own place, of a group file where its entry points.
-    pub fn body(&self, file: FileId) -> Option<(User, Inum)>
+    /// Where the inode of a file stands: of a user's file at its own place, of a group file where its pointer points.
+    pub fn body(&self, file: FileId) -> Option<Place>
         ensures { result ≡ body self.now file }
     {
         match file {
@@ -83,19 +83,19 @@ impl Forest {
                     None
                 }
             }
-            FileId::Group(group, number) => self.entries.get(&(group, number)).copied(),
+            FileId::Group(group, number) => self.pointers.get(&(group, number)).copied(),
         }
     }
 
     /// Whether no inode stands there.
-    pub fn is_free(&self, place: (User, Inum)) -> bool
+    pub fn is_free(&self, place: Place) -> bool
         ensures { result ≡ is_free_at self.now place }
     {
         !self.inodes.contains_key(&place)
     }
 
     /// Whether a directory stands there.
-    pub fn is_directory(&self, place: (User, Inum)) -> bool
+    pub fn is_directory(&self, place: Place) -> bool
         ensures { result ≡ is_dir_at self.now place }
     {
         match self.inodes.get(&place) {
@@ -105,7 +105,7 @@ impl Forest {
     }
 
     /// Whether a file stands there.
-    pub fn is_file(&self, place: (User, Inum)) -> bool
+    pub fn is_file(&self, place: Place) -> bool
         ensures { result ≡ is_file_at self.now place }
     {
         match self.inodes.get(&place) {
@@ -115,7 +115,7 @@ impl Forest {
     }
 
     /// How many names lead to what stands there; 0 where nothing does.
-    pub fn links(&self, place: (User, Inum)) -> u8
+    pub fn links(&self, place: Place) -> u8
         ensures { result ≡ links_at self.now place }
     {
         match self.inodes.get(&place) {
@@ -125,7 +125,7 @@ impl Forest {
     }
 
     /// How many bytes the file there has; 0 where no file stands.
-    pub fn size(&self, place: (User, Inum)) -> u32
+    pub fn size(&self, place: Place) -> u32
         ensures { result ≡ size_at self.now place }
     {
         match self.inodes.get(&place) {
@@ -135,7 +135,7 @@ impl Forest {
     }
 
     /// Whether what stands there has no names.
-    pub fn is_bare(&self, place: (User, Inum)) -> bool
+    pub fn is_bare(&self, place: Place) -> bool
         ensures { result ≡ is_bare_at self.now place }
     {
         match self.inodes.get(&place) {
@@ -145,7 +145,7 @@ impl Forest {
     }
 
     /// Whether the directory there lacks the name.
-    pub fn is_name_free(&self, place: (User, Inum), name: &Name) -> bool
+    pub fn is_name_free(&self, place: Place, name: &Name) -> bool
         ensures { result ≡ is_name_free_at self.now place name.now }
     {
         match self.inodes.get(&place) {
@@ -155,7 +155,7 @@ impl Forest {
     }
 
     /// Whether in the directory there the name leads to the file.
-    pub fn leads_to(&self, place: (User, Inum), name: &Name, file: FileId) -> bool
+    pub fn leads_to(&self, place: Place, name: &Name, file: FileId) -> bool
         ensures { result ≡ leads_to_at self.now place name.now file }
     {
         match self.inodes.get(&place) {
@@ -164,13 +164,13 @@ impl Forest {
         }
     }
 
-    /// Whether the group's entry for a group file is free; a user's file needs none.
-    pub fn is_entry_free(&self, file: FileId) -> bool
-        ensures { result ≡ is_entry_free self.now file }
+    /// Whether the group's pointer for a group file is free; a user's file needs none.
+    pub fn is_pointer_free(&self, file: FileId) -> bool
+        ensures { result ≡ is_pointer_free self.now file }
     {
         match file {
             FileId::User(..) => true,
-            FileId::Group(group, number) => !self.entries.contains_key(&(group, number)),
+            FileId::Group(group, number) => !self.pointers.contains_key(&(group, number)),
         }
     }
 
@@ -216,13 +216,13 @@ impl Forest {
         for (place, inode) in &self.inodes {
             inodes.insert(*place, inode.copy()?)?;
         }
-        let mut entries = BTreeMap::new(self.alloc);
-        for (file, place) in &self.entries {
-            entries.insert(*file, *place)?;
+        let mut pointers = BTreeMap::new(self.alloc);
+        for (file, place) in &self.pointers {
+            pointers.insert(*file, *place)?;
         }
         Ok(Forest {
             inodes,
-            entries,
+            pointers,
             alloc: self.alloc,
         })
     }

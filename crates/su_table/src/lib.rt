@@ -4,8 +4,6 @@
 
 mod forests;
 mod laws;
-#[cfg(test)]
-mod tests;
 
 pub use forests::Forest;
 pub use laws::edits_can_be_taken_back;

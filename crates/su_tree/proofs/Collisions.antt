@@ -9,8 +9,8 @@ use Rattle.std.proofs.lemmas.Nat.{from_be_bytes-to_be_bytes_2}
 use Rattle.std.proofs.lemmas.List.Elements.{All-head, All-filter, Contains-append_left, Contains-append_right}
 use Rattle.sha2.specs.Sha256.{sha256, digest_bytes}
 use Rattle.su_tree.specs.Bits.{bit_at, common}
-use Rattle.su_tree.specs.Kind.{Kind}
-use Rattle.su_tree.specs.Tree.{Tree, Tree.empty, Tree.one, Tree.split, common_bits, first_difference, with_bit, tree_in, tree_of}
+use Rattle.su_tree.specs.MapKind.{MapKind}
+use Rattle.su_tree.specs.KeyTree.{KeyTree, KeyTree.empty, KeyTree.one, KeyTree.split, common_bits, first_difference, with_bit, tree_in, tree_of}
 use Rattle.su_tree.specs.Digest.{digest, item, pair_item, split_item}
 use Rattle.su_tree.specs.Collision.{tree_items, encodings, Collision}
 use Rattle.su_tree.specs.Laws.Lists.{parts}
@@ -46,14 +46,14 @@ split_items p q a b c d h k la lc e =
     (same_numbers p q h k first.0, first.1, two.1)
 
 -- what is asked of the pairs of a kind of map, which meet ok
-pub record IsEncoding {K V : Type 0} (k : Kind K V) (ok : K × V → Bool) : Type 0 where
+pub record IsEncoding {K V : Type 0} (k : MapKind K V) (ok : K × V → Bool) : Type 0 where
   pub short : (e : K × V) → IsTrue (ok e) → length (k.bits e.0) < 2 ^ 16
   pub small : (e : K × V) → IsTrue (ok e) → length (k.key_bytes e.0) < 2 ^ 16
   pub told : (e f : K × V) → IsTrue (ok e) → IsTrue (ok f) → k.key_bytes e.0 ≡ k.key_bytes f.0 → k.value_bytes e.1 ≡ k.value_bytes f.1 → e ≡ f
 
-module _ {K V : Type 0} (k : Kind K V) (ok : K × V → Bool) (good : IsEncoding k ok) where
+module _ {K V : Type 0} (k : MapKind K V) (ok : K × V → Bool) (good : IsEncoding k ok) where
   -- the pairs of a tree meet ok, and its places have 16 bits
-  abbrev IsGood : Tree K V → Type 0
+  abbrev IsGood : KeyTree K V → Type 0
   IsGood empty = Unit {0}
   IsGood (one e) = IsTrue (ok e)
   IsGood (split p l r) = (p < 2 ^ 16) × IsGood l × IsGood r
@@ -69,29 +69,29 @@ module _ {K V : Type 0} (k : Kind K V) (ok : K × V → Bool) (good : IsEncoding
       let rest = parts a (k.value_bytes e.1) b (k.value_bytes f.1) long front.1 in
       good.told e f he hf rest.0 rest.1
 
-  root : (t : Tree K V) → Contains (tree_items k t) (item k t)
+  root : (t : KeyTree K V) → Contains (tree_items k t) (item k t)
   root empty = (0, omega arith, refl)
   root (one e) = (0, omega arith, refl)
   root (split p l r) = (0, omega arith, refl)
 
-  in_left : (p : ℕ) (l r : Tree K V) (x : List ℕ) → Contains (tree_items k l) x → Contains (tree_items k (split p l r)) x
+  in_left : (p : ℕ) (l r : KeyTree K V) (x : List ℕ) → Contains (tree_items k l) x → Contains (tree_items k (split p l r)) x
   in_left p l r x h = Contains-append_left (item k (split p l r) ∷ tree_items k l) (tree_items k r) x (Contains-append_right (item k (split p l r) ∷ []) (tree_items k l) x h)
 
-  in_right : (p : ℕ) (l r : Tree K V) (x : List ℕ) → Contains (tree_items k r) x → Contains (tree_items k (split p l r)) x
+  in_right : (p : ℕ) (l r : KeyTree K V) (x : List ℕ) → Contains (tree_items k r) x → Contains (tree_items k (split p l r)) x
   in_right p l r x h = Contains-append_right (item k (split p l r) ∷ tree_items k l) (tree_items k r) x h
 
-  Collides : Tree K V → Tree K V → Type 0
+  Collides : KeyTree K V → KeyTree K V → Type 0
   Collides s t = Collision (tree_items k s) (tree_items k t)
 
-  collide : (s t : Tree K V) → sha256 (item k s) ≡ sha256 (item k t) → item k s ≢ item k t → Collides s t
+  collide : (s t : KeyTree K V) → sha256 (item k s) ≡ sha256 (item k t) → item k s ≢ item k t → Collides s t
   unfolding Collides
   collide s t e differ = record { first = item k s; second = item k t; of_ours = root s; of_theirs = root t; differ = differ; same = e }
 
-  wider : (s t a b : Tree K V) → ((x : List ℕ) → Contains (tree_items k a) x → Contains (tree_items k s) x) → ((x : List ℕ) → Contains (tree_items k b) x → Contains (tree_items k t) x) → Collides a b → Collides s t
+  wider : (s t a b : KeyTree K V) → ((x : List ℕ) → Contains (tree_items k a) x → Contains (tree_items k s) x) → ((x : List ℕ) → Contains (tree_items k b) x → Contains (tree_items k t) x) → Collides a b → Collides s t
   unfolding Collides
   wider s t a b f g c = record { first = c.first; second = c.second; of_ours = f c.first c.of_ours; of_theirs = g c.second c.of_theirs; differ = c.differ; same = c.same }
 
-  same_trees : (s t : Tree K V) → IsGood s → IsGood t → sha256 (item k s) ≡ sha256 (item k t) → (s ≡ t) ⊎ Collides s t
+  same_trees : (s t : KeyTree K V) → IsGood s → IsGood t → sha256 (item k s) ≡ sha256 (item k t) → (s ≡ t) ⊎ Collides s t
   same_trees empty empty gs gt e = inl refl
   same_trees empty (one f) gs gt e = inr (collide empty (one f) e (λ h. cc))
   same_trees empty (split p l r) gs gt e = inr (collide empty (split p l r) e (λ h. cc))
@@ -148,7 +148,7 @@ module _ {K V : Type 0} (k : Kind K V) (ok : K × V → Bool) (good : IsEncoding
   good_tree es a = good_tree_in (length es) es a
 
 -- the pairs of a tree, from left to right
-abbrev pairs_of : {K V : Type 0} → Tree K V → List (K × V)
+abbrev pairs_of : {K V : Type 0} → KeyTree K V → List (K × V)
 pairs_of empty = []
 pairs_of (one e) = e ∷ []
 pairs_of (split p l r) = pairs_of l ++ pairs_of r
@@ -162,7 +162,7 @@ pairs_back bits es (by.parted p l r s tl tr is) =
     let right = pairs_back bits r tr in
     ap (λ xs. pairs_of (tree_of bits xs)) is ∙ ap pairs_of (tree_of_split bits p l r s tl tr) ∙ ap (λ xs. xs ++ pairs_of (tree_of bits r)) left ∙ ap (λ ys. l ++ ys) right ∙ sym is
 
-pub same_pairs : {K V : Type 0} (k : Kind K V) (ok : K × V → Bool) → IsEncoding k ok → (m n : List (K × V)) → IsTree k.bits m → IsTree k.bits n → AllPass ok m → AllPass ok n
+pub same_pairs : {K V : Type 0} (k : MapKind K V) (ok : K × V → Bool) → IsEncoding k ok → (m n : List (K × V)) → IsTree k.bits m → IsTree k.bits n → AllPass ok m → AllPass ok n
     → digest k m ≡ digest k n → (m ≡ n) ⊎ Collision (encodings k m) (encodings k n)
 unfolding digest encodings Collides
 same_pairs k ok good m n tm tn am an e =

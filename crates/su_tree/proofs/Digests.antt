@@ -1,12 +1,12 @@
 -- The digest of a map with no pair, with one, and with pairs that part.
 use Rattle.std.proofs.Common.{◌≡◌, ℕ, List, [], ◌∷◌, ◌++◌, length, get_or, refl, ap, arith}
 use Rattle.sha2.specs.Sha256.{sha256}
-use Rattle.su_tree.specs.Kind.{Kind}
-use Rattle.su_tree.specs.Tree.{tree_of}
+use Rattle.su_tree.specs.MapKind.{MapKind}
+use Rattle.su_tree.specs.KeyTree.{tree_of}
 use Rattle.su_tree.specs.Digest.{digest, item, empty_item, pair_item, split_item}
 use Rattle.su_tree.proofs.Splits.{IsSplit, IsTree, tree_of_split}
 
-module _ {K V : Type 0} (k : Kind K V) where
+module _ {K V : Type 0} (k : MapKind K V) where
   pub digest_empty : digest k [] ≡ sha256 empty_item
   unfolding digest tree_of
   digest_empty = refl

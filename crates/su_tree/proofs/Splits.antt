@@ -4,7 +4,7 @@ use Rattle.std.specs.List.{filter, AllByRecursion as Each}
 use Rattle.std.proofs.lemmas.List.{append-nil}
 use Rattle.std.proofs.lemmas.List.Elements.{filter-append}
 use Rattle.su_tree.specs.Bits.{bit_at, common}
-use Rattle.su_tree.specs.Tree.{Tree, Tree.split, common_bits, first_difference, with_bit, tree_in, tree_of}
+use Rattle.su_tree.specs.KeyTree.{KeyTree, KeyTree.split, common_bits, first_difference, with_bit, tree_in, tree_of}
 
 -- the bits k begin with the word w, and then have the bit c
 pub record Turns (w : List Bool) (c : Bool) (k : List Bool) : Type 0 where
@@ -124,7 +124,7 @@ module _ {K V : Type 0} (bits : K → List Bool) where
   tree_in_split : (n p : ℕ) (l r : List (K × V)) → IsSplit bits p l r → tree_in bits (suc n) (l ++ r) ≡ split p (tree_in bits n l) (tree_in bits n r)
   tree_in_split n p l r s =
       let some : 1 < length (l ++ r) = omega (arith, length-append l r, s.some_left, s.some_right) in
-      let at : ℕ → Tree K V = λ q. split q (tree_in bits n (with_bit bits q false (l ++ r))) (tree_in bits n (with_bit bits q true (l ++ r))) in
+      let at : ℕ → KeyTree K V = λ q. split q (tree_in bits n (with_bit bits q false (l ++ r))) (tree_in bits n (with_bit bits q true (l ++ r))) in
       tree_step n (l ++ r) some ∙ ap at (first_difference_split p l r s)
       ∙ ap (λ xs. split p (tree_in bits n xs) (tree_in bits n (with_bit bits p true (l ++ r)))) (left_of_split p l r s)
       ∙ ap (λ ys. split p (tree_in bits n l) (tree_in bits n ys)) (right_of_split p l r s)

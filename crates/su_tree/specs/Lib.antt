@@ -1,6 +1,6 @@
 pub mod Bits
-pub mod Kind
-pub mod Tree
+pub mod MapKind
+pub mod KeyTree
 pub mod Digest
 pub mod Number
 pub mod Name

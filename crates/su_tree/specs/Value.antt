@@ -1,6 +1,7 @@
 -- What is hashed of a value. (This project's own format.)
-use Rattle.std.specs.Prelude.{ℕ, ◌^◌, Bool, List, ◌∷◌, nat_lt}
+use Rattle.std.specs.Prelude.{ℕ, List, ◌∷◌}
 use Rattle.std.specs.Int.{w32, to_be_bytes}
+use Rattle.su_bytes.specs.Place.{Place}
 use Rattle.su_bytes.specs.declared.file_ids.FileId.{FileId}
 use Rattle.su_bytes.specs.declared.file_ids.FileId.TheVariants.{User, Group}
 
@@ -9,15 +10,6 @@ abbrev pub file_id_bytes : FileId → List ℕ
 file_id_bytes (User u i) = 0 ∷ u ∷ to_be_bytes w32 i
 file_id_bytes (Group g k) = 1 ∷ g ∷ to_be_bytes w32 k
 
--- the number of a file has 32 bits
-abbrev pub is_file_id : FileId → Bool
-is_file_id (User u i) = nat_lt i (2 ^ 32)
-is_file_id (Group g k) = nat_lt k (2 ^ 32)
-
 -- a place of a user's table in five bytes: the user, and the i-number
-abbrev pub place_bytes : ℕ × ℕ → List ℕ
+abbrev pub place_bytes : Place → List ℕ
 place_bytes p = p.0 ∷ to_be_bytes w32 p.1
-
--- the i-number has 32 bits
-abbrev pub is_place : ℕ × ℕ → Bool
-is_place p = nat_lt p.1 (2 ^ 32)

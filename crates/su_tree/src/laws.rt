@@ -5,28 +5,30 @@ ghost use Rattle.std.specs.Cmp.Lexicographic.{slice_cmp};
 ghost use Rattle.std.specs.List.{AllPass};
 ghost use Rattle.std.specs.List.Sorted.{IsPermutation};
 ghost use Rattle.std.specs.FinMap.{FinMap, entries};
-ghost use Rattle.su_tree.specs.Kind.{Kind, kind};
+ghost use Rattle.su_tree.specs.MapKind.{MapKind, map_kind};
 ghost use Rattle.su_tree.specs.Digest.{digest};
 ghost use Rattle.su_tree.specs.Collision.{Collision, encodings};
 ghost use Rattle.su_tree.specs.Number.{numbers, is_number};
 ghost use Rattle.su_tree.specs.Name.{names};
-ghost use Rattle.su_tree.specs.Value.{file_id_bytes, is_file_id, place_bytes, is_place};
+ghost use Rattle.su_bytes.specs.FileId.{is_file_id};
+ghost use Rattle.su_bytes.specs.Place.{is_place};
+ghost use Rattle.su_tree.specs.Value.{file_id_bytes, place_bytes};
 ghost use Rattle.su_bytes.specs.Name.{is_name};
 ghost use Rattle.su_bytes.specs.declared.file_ids.FileId.{FileId};
 
 use crate::keys::TreeKey;
 use crate::values::TreeValue;
-use su_bytes::{Digest, FileId, Inum, Name, User};
+use su_bytes::{Digest, FileId, Name, Place};
 
 /// The digest depends on the map alone: its pairs may be given in any order.
 pub fn order_does_not_matter<K, V>()
-    ensures { (k : Kind K V) (xs ys : List (K × V)) → IsPermutation xs ys → digest k xs ≡ digest k ys }
+    ensures { (k : MapKind K V) (xs ys : List (K × V)) → IsPermutation xs ys → digest k xs ≡ digest k ys }
 {}
 
 /// Maps of one kind that have one digest are equal, or two different byte strings, one that is hashed for each of them,
 /// have one SHA-256.
 pub fn digest_tells_map<K: TreeKey, V: TreeValue>()
-    ensures { let k = kind K.bits K.bytes V.bytes in
+    ensures { let k = map_kind K.bits K.bytes V.bytes in
         (m n : FinMap K.cmp V) → AllPass (λ e. K.is_key e.0 && V.is_value e.1) (entries m) → AllPass (λ e. K.is_key e.0 && V.is_value e.1) (entries n)
         → digest k (entries m) ≡ digest k (entries n) → (m ≡ n) ⊎ Collision (encodings k (entries m)) (encodings k (entries n)) }
 {}
@@ -46,7 +48,7 @@ pub fn digest_tells_places()
         (m n : FinMap nat_cmp (ℕ × ℕ)) → AllPass (λ e. is_number e.0 && is_place e.1) (entries m) → AllPass (λ e. is_number e.0 && is_place e.1) (entries n)
         → digest k (entries m) ≡ digest k (entries n) → (m ≡ n) ⊎ Collision (encodings k (entries m)) (encodings k (entries n)) }
 {
-    digest_tells_map::<u32, (User, Inum)>()
+    digest_tells_map::<u32, Place>()
 }
 
 /// That of maps from names to file ids: a directory.

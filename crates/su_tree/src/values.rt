@@ -1,11 +1,13 @@
 // Values of hash trees.
 ghost use Rattle.std.specs.Prelude.{◌≡◌, ℕ, Bool, true, List, ◌++◌, IsTrue};
 ghost use Rattle.sha2.specs.Hashers.{Holds256};
-ghost use Rattle.su_tree.specs.Value.{is_file_id, file_id_bytes, is_place, place_bytes};
+ghost use Rattle.su_bytes.specs.FileId.{is_file_id};
+ghost use Rattle.su_bytes.specs.Place.{is_place};
+ghost use Rattle.su_tree.specs.Value.{file_id_bytes, place_bytes};
 ghost use Rattle.su_tree.specs.Laws.Values as value;
 
 use sha2::{Digest as _, Sha256};
-use su_bytes::{Digest, FileId, Inum, User};
+use su_bytes::{Digest, FileId, Place, User};
 
 /// A value of a hash tree: the bytes that are hashed.
 pub trait TreeValue {
@@ -53,7 +55,7 @@ impl TreeValue for FileId {
 }
 
 /// A place of a user's table: the user, and the number as four bytes.
-impl TreeValue for (User, Inum) {
+impl TreeValue for Place {
     ghost is_value = { is_place };
 
     ghost bytes = { place_bytes };

@@ -185,5 +185,5 @@ fn touches(area: &Area, others: &[Area]) -> bool {
 
 /// Whether an entry of the group is among the areas.
 fn has_entry(areas: &[Area], group: Group) -> bool {
-    areas.iter().any(|area| matches!(area, Area::Entry((of, _)) if *of == group))
+    areas.iter().any(|area| matches!(area, Area::Pointer((of, _)) if *of == group))
 }

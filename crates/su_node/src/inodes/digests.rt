@@ -9,9 +9,6 @@ ghost use Rattle.su_node.specs.Name.{name_cmp};
 ghost use Rattle.su_node.specs.Digest.{content_digest, inode_digest, kind_byte};
 ghost use Rattle.su_bytes.specs.declared.refusals.Refusal.TheVariants.{NoMemory};
 
-#[cfg(test)]
-mod tests;
-
 use super::{Inode, Stored};
 use sha2::{Digest as _, Sha256};
 use std::alloc::{AllocError, Global};

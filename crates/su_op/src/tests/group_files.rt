@@ -46,18 +46,18 @@ fn a_group_file_comes_and_goes(rt: HostRuntime) -> Result<(), Fail> {
 }
 
 #[test]
-fn a_group_file_has_its_entry_written(rt: HostRuntime) -> Result<(), Fail> {
+fn a_group_file_has_its_pointer_written(rt: HostRuntime) -> Result<(), Fail> {
     let alloc = rt.alloc();
     let (number, place) = (Inum::new(2)?, (User::FIRST, Inum::new(5)?));
     let roster = two_users(alloc)?;
     let mut forest = Forest::genesis(alloc, &roster)?;
     let made = touched(alloc, &forest, &roster, create(alloc))?;
     assert_eq!(rt; made.writes.len(), 5);
-    assert!(rt; made.writes[4] == Area::Entry((Group::FIRST, number)));
+    assert!(rt; made.writes[4] == Area::Pointer((Group::FIRST, number)));
     make(alloc, &mut forest, &roster, create(alloc))?;
     let gone = touched(alloc, &forest, &roster, unlink(alloc))?;
     assert_eq!(rt; gone.writes.len(), 3);
-    assert!(rt; gone.writes[1] == Area::Entry((Group::FIRST, number)));
+    assert!(rt; gone.writes[1] == Area::Pointer((Group::FIRST, number)));
     assert!(rt; gone.writes[2] == Area::Inode(place, Part::Whole));
     Ok(())
 }

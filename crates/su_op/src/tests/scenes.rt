@@ -1,7 +1,7 @@
 // What user 0 has: a file and a directory with names in the root.
 use super::{own, root, two_users};
 use std::alloc::Global;
-use su_bytes::{FileId, Inum, Kind, Name, Refusal, Roster, User};
+use su_bytes::{FileId, Inum, Kind, Name, Place, Refusal, Roster, User};
 use su_node::Inode;
 use su_table::Forest;
 
@@ -30,7 +30,7 @@ impl Scene {
 }
 
 /// A number of the i-table of user 0.
-pub(crate) fn place(number: u64) -> Result<(User, Inum), Refusal> {
+pub(crate) fn place(number: u64) -> Result<Place, Refusal> {
     let _file: FileId = own(0, number)?;
     Ok((User::FIRST, Inum::new(number)?))
 }

@@ -3,9 +3,6 @@ ghost use Rattle.std.specs.Prelude.{◌≡◌, IfOk, IfErr};
 ghost use Rattle.su_table.specs.Handle.{handle};
 ghost use Rattle.su_bytes.specs.declared.refusals.Refusal.TheVariants.{NoMemory};
 
-#[cfg(test)]
-mod tests;
-
 use super::Forest;
 use su_bytes::{Digest, Group, Principal, Refusal, User};
 use su_tree::digest_of;
@@ -34,7 +31,7 @@ impl Forest {
         ensures refused { IfErr result (λ e. e ≡ NoMemory) }
     {
         let mut pairs = Vec::new(self.alloc);
-        for (place, body) in &self.entries {
+        for (place, body) in &self.pointers {
             let (owner, number) = *place;
             if owner == group {
                 pairs.push((number.number(), *body))?;

@@ -1,6 +1,6 @@
 use Rattle.std.proofs.Common.{◌≡◌, ◌<◌, ◌≤◌, subst, ◌∷◌}
 use Rattle.std.specs.List.{AllByRecursion}
-use Rattle.su_node.specs.Change.{Change.Resized}
+use Rattle.su_node.specs.InodeChange.{InodeChange.Resized}
 use Rattle.su_table.specs.Query.{size_at}
 use Rattle.su_table.specs.Edit.{Edit.Inodes, edit}
 use Rattle.su_inverse.specs.Kept.{HoldsSize}

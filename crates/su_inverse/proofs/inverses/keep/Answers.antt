@@ -9,7 +9,7 @@ use Rattle.su_inverse.specs.declared.inverses.Kept.{Kept}
 use Rattle.su_inverse.specs.declared.inverses.Kept.TheVariants.{Reset as ResetKept}
 use Rattle.su_inverse.specs.declared.resets.Reset.TheVariants.{Nothing as NothingReset}
 use Rattle.su_inverse.specs.Kept.{CanKeep, HoldsNothing, HoldsKept}
-use Rattle.su_inverse.proofs.Holding.{field_at, no_inode_held, entry_at}
+use Rattle.su_inverse.proofs.Holding.{field_at, no_inode_held, pointer_at}
 use Rattle.su_inverse.proofs.inverses.keep.Goals as goal
 
 -- that nothing is kept is right where nothing is
@@ -37,12 +37,12 @@ returns-in-None-clause-holds c =
     (subst (HoldsNothing c.args.forest.now) (sym c.in-Inode.is) (no_inode_held c.args.forest.now c.in-Inode.place c.in-Inode.part c.in-None.ensures (subst (CanKeep c.args.forest.now) c.in-Inode.is c.requires)))
 
 pub returns-in-Some-body-clause-holds : goal.returns-in-Some-body-clause-holds
-returns-in-Some-body-clause-holds c = entry_at c.args.forest.now c.in-Entry.file.0 c.in-Entry.file.1 (Some c.in-Some-body.place) c.in-Some-body.ensures
+returns-in-Some-body-clause-holds c = pointer_at c.args.forest.now c.in-Pointer.file.0 c.in-Pointer.file.1 (Some c.in-Some-body.place) c.in-Some-body.ensures
 
 pub returns-in-None-body-clause-holds : goal.returns-in-None-body-clause-holds
 returns-in-None-body-clause-holds c =
     nothing_kept c.args.forest.now c.args.area.now _ c.nothing-in-None-body.ensures.value
-    (subst (HoldsNothing c.args.forest.now) (sym c.in-Entry.is) (entry_at c.args.forest.now c.in-Entry.file.0 c.in-Entry.file.1 None c.in-None-body.ensures))
+    (subst (HoldsNothing c.args.forest.now) (sym c.in-Pointer.is) (pointer_at c.args.forest.now c.in-Pointer.file.0 c.in-Pointer.file.1 None c.in-None-body.ensures))
 
 pub returns-in-Size-clause-holds : goal.returns-in-Size-clause-holds
 returns-in-Size-clause-holds c = sym (field_at c.args.forest.now c.in-Inode.place _ SizeOf c.in-Some.ensures) ∙ ap ANumber (sym c.size.ensures)

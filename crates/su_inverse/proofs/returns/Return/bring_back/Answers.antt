@@ -1,4 +1,4 @@
-use Rattle.su_inverse.proofs.Displacing.{displaced_inode, displaced_name, displaced_entry, room_inode, room_name, room_entry}
+use Rattle.su_inverse.proofs.Displacing.{displaced_inode, displaced_name, displaced_pointer, room_inode, room_name, room_pointer}
 use Rattle.su_inverse.proofs.returns.Return.bring_back.Goals as goal
 
 pub returns-in_ok-was-in-Inode-clause-displaced : goal.returns-in_ok-was-in-Inode-clause-displaced
@@ -15,8 +15,8 @@ pub returns-in_ok-add_name-in-Name-clause-room : goal.returns-in_ok-add_name-in-
 returns-in_ok-add_name-in-Name-clause-room c =
     room_name c.args.forest.now c.args.self.now c.in-Name.place c.in-Name.name c.in_ok-displaced-in-Name.displaced c.in-Name.file _ c.in-Name.is c.in_ok-displaced-in-Name.ensures.cases c.name_at-was.ensures
 
-pub returns-in_ok-put_entry-in-Entry-clause-displaced : goal.returns-in_ok-put_entry-in-Entry-clause-displaced
-returns-in_ok-put_entry-in-Entry-clause-displaced c = displaced_entry c.args.forest.now c.args.self.now c.in-Entry.file c.in-Entry.place _ c.in-Entry.is c.body-was.ensures
+pub returns-in_ok-put_pointer-in-Pointer-clause-displaced : goal.returns-in_ok-put_pointer-in-Pointer-clause-displaced
+returns-in_ok-put_pointer-in-Pointer-clause-displaced c = displaced_pointer c.args.forest.now c.args.self.now c.in-Pointer.file c.in-Pointer.place _ c.in-Pointer.is c.body-was.ensures
 
-pub returns-in_ok-put_entry-in-Entry-clause-room : goal.returns-in_ok-put_entry-in-Entry-clause-room
-returns-in_ok-put_entry-in-Entry-clause-room c = λ some. room_entry c.args.forest.now c.args.self.now c.in-Entry.file c.in-Entry.place c.in-Entry.is
+pub returns-in_ok-put_pointer-in-Pointer-clause-room : goal.returns-in_ok-put_pointer-in-Pointer-clause-room
+returns-in_ok-put_pointer-in-Pointer-clause-room c = λ some. room_pointer c.args.forest.now c.args.self.now c.in-Pointer.file c.in-Pointer.place c.in-Pointer.is

@@ -2,7 +2,7 @@ use Rattle.std.proofs.Common.{◌≡◌, sym, ap, subst, arith, length, List, �
 use Rattle.std.specs.List.{concat}
 use Rattle.std.proofs.lemmas.List.{length-take}
 use Rattle.su_node.specs.Stored.{AreBlocksOf}
-use Rattle.su_node.proofs.Contents.{stored, concat_blocks, count_is, cut_is, cut_to_none, length-resized}
+use Rattle.su_node.proofs.Contents.{stored, concat_blocks, count_is, cut_is, cut_to_none, length-with_size}
 use Rattle.su_node.proofs.blocks.Blocks.cut.Goals.{then-count-gt0, else-count-gt0}
 use Rattle.su_node.proofs.blocks.Blocks.cut.Goals as goal
 
@@ -21,8 +21,8 @@ pub invariant_of-self : goal.invariant_of-self
 invariant_of-self c =
     let are = seen _ _ c.self.view_is c.self.invariant.blocks_of in
     elim c.if-count-gt0.branch [
-      | then-count-gt0 w ↦ rw w.self-inside-is (stored _ _ _ (cut_is c.self.inside.blocks.items c.truncate.new.self.items c.args.self.now c.args.size c.count_for-count.result w.index_mut.result.now w.cut.new.self are c.requires c.count_for-count.ensures c.truncate.ensures.items w.if-count-gt0.true w.index_mut.ensures.value w.cut.ensures) (sym (length-resized c.args.size c.args.self.now)))
-      | else-count-gt0 w ↦ rw w.self-inside-is (stored _ _ _ (cut_to_none c.self.inside.blocks.items c.truncate.new.self.items c.args.self.now c.args.size c.count_for-count.result are c.requires c.count_for-count.ensures c.truncate.ensures.items w.if-count-gt0.false) (sym (length-resized c.args.size c.args.self.now)))
+      | then-count-gt0 w ↦ rw w.self-inside-is (stored _ _ _ (cut_is c.self.inside.blocks.items c.truncate.new.self.items c.args.self.now c.args.size c.count_for-count.result w.index_mut.result.now w.cut.new.self are c.requires c.count_for-count.ensures c.truncate.ensures.items w.if-count-gt0.true w.index_mut.ensures.value w.cut.ensures) (sym (length-with_size c.args.size c.args.self.now)))
+      | else-count-gt0 w ↦ rw w.self-inside-is (stored _ _ _ (cut_to_none c.self.inside.blocks.items c.truncate.new.self.items c.args.self.now c.args.size c.count_for-count.result are c.requires c.count_for-count.ensures c.truncate.ensures.items w.if-count-gt0.false) (sym (length-with_size c.args.size c.args.self.now)))
     ]
 
 pub returns : goal.returns

@@ -1,24 +1,24 @@
 use Rattle.std.proofs.Common.{◌≡◌, ◌∙◌, sym, refl, ap, subst, arith, ◌+◌, ◌-◌, ◌*◌, ◌/◌, ◌≤◌, ◌<◌, length, min, max, take, drop, get_or, set, [], List, ℕ}
 use Rattle.std.proofs.lemmas.List.{length-take, take_all, get_or_default}
-use Rattle.su_node.specs.Change.{written}
+use Rattle.su_node.specs.InodeChange.{with_bytes_at}
 use Rattle.su_node.specs.Stored.{AreBlocksOf}
-use Rattle.su_node.proofs.Contents.{stored, reaches, concat_blocks, written_nothing, written_blocks, length-written, length-block}
+use Rattle.su_node.proofs.Contents.{stored, reaches, concat_blocks, written_nothing, written_blocks, length-with_bytes_at, length-block}
 use Rattle.su_node.proofs.blocks.Blocks.overwrite.Goals as goal
 
 -- a file keeps its size where what is written lies within it
-length-kept : (off k : ℕ) (xs bs : List ℕ) → off + length xs ≤ length bs → length (written off (take k xs) bs) ≡ length bs
-length-kept off k xs bs fits = let l = length-written off (take k xs) bs in let t = length-take k xs in omega (arith, l, t)
+length-kept : (off k : ℕ) (xs bs : List ℕ) → off + length xs ≤ length bs → length (with_bytes_at off (take k xs) bs) ≡ length bs
+length-kept off k xs bs fits = let l = length-with_bytes_at off (take k xs) bs in let t = length-take k xs in omega (arith, l, t)
 
 -- the block that is written to
-at_block : (blocks : List (List ℕ)) (off k n : ℕ) (xs bs b : List ℕ) → off + length xs ≤ length bs → AreBlocksOf blocks (written off (take k xs) bs) → 4096 * n < off + length xs
+at_block : (blocks : List (List ℕ)) (off k n : ℕ) (xs bs b : List ℕ) → off + length xs ≤ length bs → AreBlocksOf blocks (with_bytes_at off (take k xs) bs) → 4096 * n < off + length xs
     → b ≡ get_or blocks n b → b ≡ get_or blocks n []
 at_block blocks off k n xs bs b fits are within b_is =
-    b_is ∙ get_or_default blocks n b [] (reaches blocks (written off (take k xs) bs) are n (let l = length-kept off k xs bs fits in omega (arith, l)))
+    b_is ∙ get_or_default blocks n b [] (reaches blocks (with_bytes_at off (take k xs) bs) are n (let l = length-kept off k xs bs fits in omega (arith, l)))
 
-length-at_block : (blocks : List (List ℕ)) (off k n : ℕ) (xs bs b : List ℕ) → off + length xs ≤ length bs → AreBlocksOf blocks (written off (take k xs) bs) → 4096 * n < off + length xs
+length-at_block : (blocks : List (List ℕ)) (off k n : ℕ) (xs bs b : List ℕ) → off + length xs ≤ length bs → AreBlocksOf blocks (with_bytes_at off (take k xs) bs) → 4096 * n < off + length xs
     → b ≡ get_or blocks n b → length b ≡ min 4096 (length bs - 4096 * n)
 length-at_block blocks off k n xs bs b fits are within b_is =
-    ap length (at_block blocks off k n xs bs b fits are within b_is ∙ are.each n) ∙ length-block n (written off (take k xs) bs) ∙ ap (λ l. min 4096 (l - 4096 * n)) (length-kept off k xs bs fits)
+    ap length (at_block blocks off k n xs bs b fits are within b_is ∙ are.each n) ∙ length-block n (with_bytes_at off (take k xs) bs) ∙ ap (λ l. min 4096 (l - 4096 * n)) (length-kept off k xs bs fits)
 
 length-part : (off first last : ℕ) (xs : List ℕ) → last ≤ off + length xs → length (take (last - off - (first - off)) (drop (first - off) xs)) ≤ last - off - (first - off)
 length-part off first last xs le = let l = length-take (last - off - (first - off)) (drop (first - off) xs) in omega (arith, l)
@@ -29,21 +29,21 @@ part_fits off n first last len size first_is last_is fits within reached = omega
 
 written_there : (blocks : List (List ℕ)) (off n first last : ℕ) (xs bs b new : List ℕ) → off + length xs ≤ length bs → first ≡ max off (n * 4096) → last ≡ min (off + length xs) ((n + 1) * 4096)
     → off < 4096 * (n + 1) → 4096 * n < off + length xs
-    → AreBlocksOf blocks (written off (take (min (length xs) (4096 * n - off)) xs) bs) → b ≡ get_or blocks n b
-    → new ≡ written (first - n * 4096) (take (last - off - (first - off)) (drop (first - off) xs)) b
-    → AreBlocksOf (set blocks n new) (written off (take (min (length xs) (4096 * (n + 1) - off)) xs) bs)
+    → AreBlocksOf blocks (with_bytes_at off (take (min (length xs) (4096 * n - off)) xs) bs) → b ≡ get_or blocks n b
+    → new ≡ with_bytes_at (first - n * 4096) (take (last - off - (first - off)) (drop (first - off) xs)) b
+    → AreBlocksOf (set blocks n new) (with_bytes_at off (take (min (length xs) (4096 * (n + 1) - off)) xs) bs)
 written_there blocks off n first last xs bs b new fits first_is last_is reached within are b_is new_is =
     let start : first - n * 4096 ≡ first - 4096 * n = omega arith in
     let count : last - off - (first - off) ≡ last - first = omega (arith, first_is) in
     let was = at_block blocks off (min (length xs) (4096 * n - off)) n xs bs b fits are within b_is in
-    let e = new_is ∙ (λ i. written (start i) (take (count i) (drop (first - off) xs)) (was i)) in
-    subst (λ y. AreBlocksOf (set blocks n y) (written off (take (min (length xs) (4096 * (n + 1) - off)) xs) bs)) (sym e)
+    let e = new_is ∙ (λ i. with_bytes_at (start i) (take (count i) (drop (first - off) xs)) (was i)) in
+    subst (λ y. AreBlocksOf (set blocks n y) (with_bytes_at off (take (min (length xs) (4096 * (n + 1) - off)) xs) bs)) (sym e)
     (written_blocks bs xs off fits n (min (length xs) (4096 * n - off)) (min (length xs) (4096 * (n + 1) - off)) first last refl refl (omega (arith, first_is)) (omega (arith, last_is)) reached within blocks are)
 
 pub loop-number-init : goal.loop-number-init
 loop-number-init c =
     let none : min (length c.args.bytes.now) (4096 * (c.args.off / 4096) - c.args.off) ≡ 0 = omega arith in
-    (refl, subst (AreBlocksOf c.self.inside.blocks.items) (c.self.view_is ∙ written_nothing c.args.off c.args.self.now (omega (arith, c.requires)) ∙ ap (λ k. written c.args.off (take k c.args.bytes.now) c.args.self.now) (sym none)) c.self.invariant.blocks_of)
+    (refl, subst (AreBlocksOf c.self.inside.blocks.items) (c.self.view_is ∙ written_nothing c.args.off c.args.self.now (omega (arith, c.requires)) ∙ ap (λ k. with_bytes_at c.args.off (take k c.args.bytes.now) c.args.self.now) (sym none)) c.self.invariant.blocks_of)
 
 pub invariant_of-self : goal.invariant_of-self
 invariant_of-self c =
@@ -53,7 +53,7 @@ invariant_of-self c =
 pub returns : goal.returns
 returns c =
     concat_blocks c.loop-number.self-inside.blocks.items _ c.loop-number.invariant.1
-    ∙ ap (λ ys. written c.args.off ys c.args.self.now) (take_all (min (length c.args.bytes.now) (4096 * c.loop-number.number - c.args.off)) c.args.bytes.now (omega (arith, c.loop-number-test.false, c.count_for-number-end.ensures)))
+    ∙ ap (λ ys. with_bytes_at c.args.off ys c.args.self.now) (take_all (min (length c.args.bytes.now) (4096 * c.loop-number.number - c.args.off)) c.args.bytes.now (omega (arith, c.loop-number-test.false, c.count_for-number-end.ensures)))
 
 pub index_mut-requires : goal.index_mut-requires
 index_mut-requires c =

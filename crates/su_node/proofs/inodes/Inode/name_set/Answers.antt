@@ -4,18 +4,18 @@ use Rattle.su_node.proofs.Maps.{get-from_entries_lookup}
 use Rattle.su_node.proofs.NameOrder.{name_cmp_total}
 use Rattle.su_node.specs.Inode.{Inode, Content}
 use Rattle.su_node.specs.View.{content_of}
-use Rattle.su_node.specs.Change.{named}
-use Rattle.su_node.proofs.Names.{named-Names, named-file}
+use Rattle.su_node.specs.InodeChange.{with_name}
+use Rattle.su_node.proofs.Names.{with_name-Names, with_name-file}
 use Rattle.su_node.proofs.inodes.Inode.name_set.Goals.{in-Names+in_ok-insert, in_default}
 use Rattle.su_node.proofs.inodes.Inode.name_set.Goals as goal
 
 pub returns-clause-ok : goal.returns-clause-ok
 returns-clause-ok c =
-    let was = ap (λ (i : Inode). Some (record i { content = named c.args.name (Some c.args.file) i.content })) (sym c.self.view_is) in
+    let was = ap (λ (i : Inode). Some (record i { content = with_name c.args.name (Some c.args.file) i.content })) (sym c.self.view_is) in
     let with : Content → Option Inode = λ d. Some (record { home = c.self.inside.home; links = c.self.inside.links; content = d }) in
     elim c.match-self.branch [
-      | in-Names+in_ok-insert w ↦ rw w.self-inside-is (was ∙ ap with (ap (λ s. named c.args.name (Some c.args.file) (content_of s)) w.in-Names.is ∙ named-Names w.in-Names.names.entries w.insert.new.self.entries c.args.name (Some c.args.file) w.in_ok-insert.ensures.updates.0))
-      | in_default w ↦ rw w.self-inside-is (was ∙ ap with (named-file c.args.name (Some c.args.file) c.self.inside.content w.in_default.not-Names))
+      | in-Names+in_ok-insert w ↦ rw w.self-inside-is (was ∙ ap with (ap (λ s. with_name c.args.name (Some c.args.file) (content_of s)) w.in-Names.is ∙ with_name-Names w.in-Names.names.entries w.insert.new.self.entries c.args.name (Some c.args.file) w.in_ok-insert.ensures.updates.0))
+      | in_default w ↦ rw w.self-inside-is (was ∙ ap with (with_name-file c.args.name (Some c.args.file) c.self.inside.content w.in_default.not-Names))
     ]
 
 OnErr-always : {X Y P : Type 0} (r : Result X Y) → P → OnErr r P

@@ -28,10 +28,10 @@ returns-else-eq-clause-value c =
 pub returns-else-eq-clause-exact : goal.returns-else-eq-clause-exact
 returns-else-eq-clause-exact c = exact c.args.self.now c.args.other.now c.eq.result (returns-else-eq-clause-value c)
 
-pub returns-in-Entry-Entry-clause-value : goal.returns-in-Entry-Entry-clause-value
-returns-in-Entry-Entry-clause-value c =
-    c.eq-in-Entry-Entry.ensures ∙ place_eq-derived c.in-Entry-Entry.file c.in-Entry-Entry.other_file
-    ∙ between c.args.self.now c.args.other.now _ _ c.in-Entry-Entry.is-0 c.in-Entry-Entry.is-1
+pub returns-in-Pointer-Pointer-clause-value : goal.returns-in-Pointer-Pointer-clause-value
+returns-in-Pointer-Pointer-clause-value c =
+    c.eq-in-Pointer-Pointer.ensures ∙ place_eq-derived c.in-Pointer-Pointer.file c.in-Pointer-Pointer.other_file
+    ∙ between c.args.self.now c.args.other.now _ _ c.in-Pointer-Pointer.is-0 c.in-Pointer-Pointer.is-1
 
-pub returns-in-Entry-Entry-clause-exact : goal.returns-in-Entry-Entry-clause-exact
-returns-in-Entry-Entry-clause-exact c = exact c.args.self.now c.args.other.now c.eq-in-Entry-Entry.result (returns-in-Entry-Entry-clause-value c)
+pub returns-in-Pointer-Pointer-clause-exact : goal.returns-in-Pointer-Pointer-clause-exact
+returns-in-Pointer-Pointer-clause-exact c = exact c.args.self.now c.args.other.now c.eq-in-Pointer-Pointer.result (returns-in-Pointer-Pointer-clause-value c)

@@ -1,7 +1,7 @@
 use Rattle.std.proofs.Common.{◌∙◌, Some, ap}
-use Rattle.su_node.specs.Change.{Change.Gone, Change.Copied}
+use Rattle.su_node.specs.InodeChange.{InodeChange.Gone, InodeChange.Copied}
 use Rattle.su_table.specs.Edit.{Edit.Inodes, edit, edits}
-use Rattle.su_op.specs.Rule.{entry_edits}
+use Rattle.su_op.specs.Rule.{pointer_edits}
 use Rattle.su_op.proofs.Backs.{copied_gone, edit-copied_new}
 use Rattle.su_op.proofs.creation.Create.add_file.Goals as goal
 
@@ -13,5 +13,5 @@ returns-in-Err-clause-err c =
 pub returns-clause-ok : goal.returns-clause-ok
 returns-clause-ok c =
     c.in_default.ensures.ok
-    ∙ ap (λ T. edits T (entry_edits c.args.self.now.file (Some c.args.place)))
+    ∙ ap (λ T. edits T (pointer_edits c.args.self.now.file (Some c.args.place)))
     (c.in_ok-put_inode.ensures.ok ∙ ap (λ i. edit c.args.forest.now (Inodes c.args.place (Copied i))) c.new-inode.ensures ∙ edit-copied_new c.args.forest.now c.args.place c.args.self.now.file c.args.self.now.kind)

@@ -5,4 +5,4 @@ use Rattle.su_op.proofs.creation.Create.check.Goals as goal
 pub returns-clause-free : goal.returns-clause-free
 returns-clause-free c =
     create_free c.args.forest.now c.args.author c.args.self.now _
-    (sym c.is_name_free.ensures ∙ c.if-not-is_name_free.false) (sym c.is_free.ensures ∙ c.if-not-is_free.false) (sym c.is_entry_free.ensures ∙ c.if-not-is_entry_free.false)
+    (sym c.is_name_free.ensures ∙ c.if-not-is_name_free.false) (sym c.is_free.ensures ∙ c.if-not-is_free.false) (sym c.is_pointer_free.ensures ∙ c.if-not-is_pointer_free.false)

@@ -1,5 +1,5 @@
 use Rattle.std.proofs.Common.{◌∙◌, Some, None, ap}
-use Rattle.su_node.specs.Change.{Change.Named}
+use Rattle.su_node.specs.InodeChange.{InodeChange.Named}
 use Rattle.su_table.specs.Edit.{Edit.Inodes, edit}
 use Rattle.su_op.proofs.Backs.{named_unnamed}
 use Rattle.su_op.proofs.creation.Create.perform.Goals as goal

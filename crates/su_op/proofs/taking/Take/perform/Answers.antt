@@ -1,6 +1,6 @@
 use Rattle.std.proofs.Common.{◌∙◌, ap}
 use Rattle.std.specs.FinMap.{get}
-use Rattle.su_node.specs.Change.{Change.Gone}
+use Rattle.su_node.specs.InodeChange.{InodeChange.Gone}
 use Rattle.su_table.specs.Edit.{Edit.Inodes, edit}
 use Rattle.su_op.proofs.Copying.{copied_back}
 use Rattle.su_op.proofs.taking.Take.perform.Goals as goal

@@ -2,7 +2,7 @@ use Rattle.std.proofs.Common.{◌∙◌, ap, sym, refl, Some}
 use Rattle.std.specs.FinMap.{from_entries}
 use Rattle.std.specs.Option.{is_some}
 use Rattle.std.proofs.lemmas.Map.Steps.{set_value_same}
-use Rattle.su_node.specs.Change.{Change.Named, change}
+use Rattle.su_node.specs.InodeChange.{InodeChange.Named, inode_after}
 use Rattle.su_node.specs.Field.{Field.NameOf}
 use Rattle.su_table.specs.Query.{is_nothing}
 use Rattle.su_table.proofs.Stores.{edit-Inodes, edit-Inodes_absent, val-At, OnErr-always}
@@ -14,7 +14,7 @@ pub returns-in_err-name_set-clause-err : goal.returns-in_err-name_set-clause-err
 returns-in_err-name_set-clause-err c =
     let lent = c.name_set.new.self in
     let same = (c.get_mut.follows.holds lent).0 ∙ set_value_same _ c.self.inside.inodes.entries lent (sym c.in-Some.ensures.value ∙ ap Some (sym c.in_err-name_set.ensures.err)) in
-    OnErr-always c.from_residual.result (ap (λ es. record { inodes = from_entries es; entries = from_entries c.self.inside.entries.entries }) same ∙ c.self.view_is)
+    OnErr-always c.from_residual.result (ap (λ es. record { inodes = from_entries es; pointers = from_entries c.self.inside.pointers.entries }) same ∙ c.self.view_is)
 
 pub returns-clause-ok : goal.returns-clause-ok
 returns-clause-ok c = elim c.match-get_mut.branch [
@@ -22,7 +22,7 @@ returns-clause-ok c = elim c.match-get_mut.branch [
       let found = w.in-Some.ensures.value in
       let ch = Named c.args.name (Some c.args.file) in
       rw w.self-inside-is (edit-Inodes c.self.inside.inodes.entries _ _ _ c.self.view_is c.args.place ch _
-      ((c.get_mut.follows.holds w.name_set.new.self).3 (ap is_some (sym found))).0 (ap (change ch) (sym found) ∙ w.in_ok-name_set.ensures.ok))
+      ((c.get_mut.follows.holds w.name_set.new.self).3 (ap is_some (sym found))).0 (ap (inode_after ch) (sym found) ∙ w.in_ok-name_set.ensures.ok))
   | in_default w ↦ rw (w.self-inside-is, c.get_mut.follows.holds-at-none) (edit-Inodes_absent c.self.inside.inodes.entries _ _ c.self.view_is c.args.place (Named c.args.name (Some c.args.file)) (sym w.in_default.ensures.value) refl)
 ]
 

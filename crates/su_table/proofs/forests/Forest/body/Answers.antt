@@ -1,9 +1,9 @@
 use Rattle.std.proofs.Common.{◌≡◌, ◌∙◌, ap, sym, Some, None, true, false, cond}
 use Rattle.su_bytes.specs.declared.file_ids.FileId.TheVariants.{User}
-use Rattle.su_table.specs.Place.{Place, file_eq}
-use Rattle.su_table.specs.Query.{body, home_body, entry_body}
+use Rattle.su_bytes.specs.Place.{Place, file_eq}
+use Rattle.su_table.specs.Query.{body, home_body, pointer_body}
 use Rattle.su_node.specs.Field.{Field.KindOf}
-use Rattle.su_table.proofs.Stores.{val-At, val-Entry, entry_body-place_value, file_eq-derived}
+use Rattle.su_table.proofs.Stores.{val-At, val-Pointer, pointer_body-place_value, file_eq-derived}
 use Rattle.su_table.proofs.forests.Forest.body.Goals as goal
 
 pub returns-in_err-inode-in-User : goal.returns-in_err-inode-in-User
@@ -40,6 +40,6 @@ pub returns-in-Group : goal.returns-in-Group
 unfolding body
 returns-in-Group c =
     let g : Place = (c.in-Group.group, c.in-Group.number) in
-    c.copied.ensures ∙ sym (entry_body-place_value _)
-    ∙ sym (ap entry_body (val-Entry _ c.self.inside.entries.entries c.args.self.now c.self.view_is g _ c.get-in-Group.ensures.value))
+    c.copied.ensures ∙ sym (pointer_body-place_value _)
+    ∙ sym (ap pointer_body (val-Pointer _ c.self.inside.pointers.entries c.args.self.now c.self.view_is g _ c.get-in-Group.ensures.value))
     ∙ ap (body c.args.self.now) (sym c.in-Group.is)

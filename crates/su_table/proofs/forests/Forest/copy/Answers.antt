@@ -1,6 +1,6 @@
 use Rattle.std.proofs.Common.{◌∙◌, ap, sym, ◌++◌}
 use Rattle.std.specs.BTreeMap.{insert_entry}
-use Rattle.su_table.specs.Place.{place_cmp}
+use Rattle.su_bytes.specs.Place.{place_cmp}
 use Rattle.su_node.proofs.Maps.{copied_more}
 use Rattle.su_table.proofs.Places.{place_cmp_total}
 use Rattle.su_table.proofs.forests.Forest.copy.Goals as goal
@@ -26,5 +26,5 @@ loop-place-preserved c =
 
 pub loop-file-preserved : goal.loop-file-preserved
 loop-file-preserved c =
-    copied_more place_cmp_total c.self.inside.entries.entries c.loop-file.entries.entries c.insert-in-loop-file.new.self.entries c.next-in-loop-file.new.self c.in-Some-2.file.now c.in-Some-2.place.now
-    c.into_iter-file-iterator.ensures.into_iter_gives.5 (ap (λ r. c.loop-file.entries.entries ++ r) (sym c.in-Some-2.ensures.steps) ∙ c.loop-file.invariant) c.in_ok-insert-2.ensures.entries
+    copied_more place_cmp_total c.self.inside.pointers.entries c.loop-file.pointers.entries c.insert-in-loop-file.new.self.entries c.next-in-loop-file.new.self c.in-Some-2.file.now c.in-Some-2.place.now
+    c.into_iter-file-iterator.ensures.into_iter_gives.5 (ap (λ r. c.loop-file.pointers.entries ++ r) (sym c.in-Some-2.ensures.steps) ∙ c.loop-file.invariant) c.in_ok-insert-2.ensures.entries

@@ -5,4 +5,4 @@ abbrev pub invariant-loop-place : goal.invariant-loop-place
 invariant-loop-place l = l.inodes.entries ++ l.place-iterator ≡ l.self-inside.inodes.entries
 
 abbrev pub invariant-loop-file : goal.invariant-loop-file
-invariant-loop-file l = l.entries.entries ++ l.file-iterator ≡ l.self-inside.entries.entries
+invariant-loop-file l = l.pointers.entries ++ l.file-iterator ≡ l.self-inside.pointers.entries

@@ -1,5 +1,5 @@
 use Rattle.std.proofs.Common.{◌∙◌, ap, sym, refl, Result, Ok, Err, OnErr}
-use Rattle.su_node.specs.Change.{Change.Copied}
+use Rattle.su_node.specs.InodeChange.{InodeChange.Copied}
 use Rattle.su_node.specs.Field.{Field.KindOf}
 use Rattle.su_table.specs.Query.{is_nothing}
 use Rattle.su_table.proofs.Stores.{edit-Inodes, get-inodes, val-At}

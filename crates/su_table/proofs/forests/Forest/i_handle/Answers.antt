@@ -7,11 +7,11 @@ use Rattle.su_tree.specs.Number.{numbers, is_number}
 use Rattle.su_node.specs.Inode.{Inode}
 use Rattle.su_node.specs.Digest.{inode_digest}
 use Rattle.su_node.proofs.Maps.{entries-from_entries}
-use Rattle.su_table.specs.Place.{Place}
+use Rattle.su_bytes.specs.Place.{Place}
 use Rattle.su_table.specs.Tree.{Tree}
-use Rattle.su_table.specs.Handle.{entries_of, user_table}
+use Rattle.su_table.specs.Handle.{pairs_of, user_table}
 use Rattle.su_table.proofs.Places.{place_cmp_total}
-use Rattle.su_table.proofs.Tables.{entries_of-ascend, listed_more}
+use Rattle.su_table.proofs.Tables.{pairs_of-ascend, listed_more}
 use Rattle.su_table.proofs.forests.Forest.i_handle.Goals as goal
 
 pub loop-place-preserved-in-Continue-branch-2 : goal.loop-place-preserved-in-Continue-branch-2
@@ -24,7 +24,7 @@ loop-place-preserved-in-Continue-branch-2 c =
     c.in_ok-push.ensures.items ∙ ap (λ (n : ℕ). c.loop-place.pairs.items ++ (n, c.in_ok-digest.digest) ∷ []) number
     ∙ ap (λ (d : List ℕ). c.loop-place.pairs.items ++ (c.in-Some.place.now.1, d) ∷ []) c.in_ok-digest.ensures.value in
     record {
-      listed = ap (λ (ps : List (ℕ × List ℕ)). ps ++ entries_of f g c.next.new.self) pushed
+      listed = ap (λ (ps : List (ℕ × List ℕ)). ps ++ pairs_of f g c.next.new.self) pushed
           ∙ listed_more f g c.loop-place.pairs.items c.in-Some.place.now c.in-Some.inode.now c.next.new.self c.loop-place.place-iterator _ (sym c.eq.ensures ∙ c.if-eq.true) c.in-Some.ensures.steps c.loop-place.invariant.listed;
       keys = rw c.in_ok-push.ensures.items (All-push (λ (p : ℕ × List ℕ). IsTrue (is_number p.0)) c.loop-place.pairs.items (c.number.result, c.in_ok-digest.digest) c.loop-place.invariant.keys (lt-ltb c.number.result (2 ^ 32) small));
     }
@@ -35,10 +35,10 @@ digest_of-requires-clause-ascending c =
     let g = c.args.user in
     let es = c.self.inside.inodes.entries in
     let items = c.loop-place.pairs.items in
-    let all : c.deref.result.now ≡ entries_of f g es =
-    c.deref.ensures.value ∙ sym (append-nil items) ∙ ap (λ (r : List (Place × Inode)). items ++ entries_of f g r) (sym c.in-None.ensures.steps.0) ∙ c.loop-place.invariant.listed
-    ∙ ap (entries_of f g) c.into_iter-place-iterator.ensures.into_iter_gives.0 in
-    rw all (entries_of-ascend f g es c.into_iter-place-iterator.ensures.into_iter_gives.5)
+    let all : c.deref.result.now ≡ pairs_of f g es =
+    c.deref.ensures.value ∙ sym (append-nil items) ∙ ap (λ (r : List (Place × Inode)). items ++ pairs_of f g r) (sym c.in-None.ensures.steps.0) ∙ c.loop-place.invariant.listed
+    ∙ ap (pairs_of f g) c.into_iter-place-iterator.ensures.into_iter_gives.0 in
+    rw all (pairs_of-ascend f g es c.into_iter-place-iterator.ensures.into_iter_gives.5)
 
 pub returns-clause-value : goal.returns-clause-value
 unfolding user_table
@@ -47,9 +47,9 @@ returns-clause-value c =
     let g = c.args.user in
     let es = c.self.inside.inodes.entries in
     let items = c.loop-place.pairs.items in
-    let all : c.deref.result.now ≡ entries_of f g es =
-    c.deref.ensures.value ∙ sym (append-nil items) ∙ ap (λ (r : List (Place × Inode)). items ++ entries_of f g r) (sym c.in-None.ensures.steps.0) ∙ c.loop-place.invariant.listed
-    ∙ ap (entries_of f g) c.into_iter-place-iterator.ensures.into_iter_gives.0 in
-    let table : entries_of f g es ≡ entries_of f g (entries c.args.self.now.inodes) =
-    ap (entries_of f g) (sym (entries-from_entries place_cmp_total es c.into_iter-place-iterator.ensures.into_iter_gives.5) ∙ ap (λ (T : Tree). entries T.inodes) c.self.view_is) in
+    let all : c.deref.result.now ≡ pairs_of f g es =
+    c.deref.ensures.value ∙ sym (append-nil items) ∙ ap (λ (r : List (Place × Inode)). items ++ pairs_of f g r) (sym c.in-None.ensures.steps.0) ∙ c.loop-place.invariant.listed
+    ∙ ap (pairs_of f g) c.into_iter-place-iterator.ensures.into_iter_gives.0 in
+    let table : pairs_of f g es ≡ pairs_of f g (entries c.args.self.now.inodes) =
+    ap (pairs_of f g) (sym (entries-from_entries place_cmp_total es c.into_iter-place-iterator.ensures.into_iter_gives.5) ∙ ap (λ (T : Tree). entries T.inodes) c.self.view_is) in
     c.digest_of.ensures ∙ ap (digest (numbers (λ d. d))) (all ∙ table)

@@ -4,17 +4,17 @@ use Rattle.su_bytes.specs.declared.file_ids.Kind.{Kind}
 use Rattle.su_bytes.specs.declared.file_ids.Kind.TheVariants.{File, Dir}
 use Rattle.su_bytes.specs.declared.file_ids.FileId.{FileId}
 use Rattle.su_bytes.specs.contracts.file_ids.Kind.{the_type}
-use Rattle.su_table.specs.Query.{is_dir}
+use Rattle.su_table.specs.Query.{is_dir_kind}
 use Rattle.su_node.specs.Field.{Field.KindOf, Value.AKind}
 use Rattle.su_table.proofs.Stores.{val-At}
 use Rattle.su_table.proofs.forests.Forest.is_directory.Goals as goal
 
-is_dir-derived : (k : Kind) (home : FileId) → sameb the_type k Dir ≡ is_dir (AKind k home)
-is_dir-derived File home = refl
-is_dir-derived Dir home = refl
+is_dir_kind-derived : (k : Kind) (home : FileId) → sameb the_type k Dir ≡ is_dir_kind (AKind k home)
+is_dir_kind-derived File home = refl
+is_dir_kind-derived Dir home = refl
 
 pub returns-in-Some : goal.returns-in-Some
-returns-in-Some c = c.eq.ensures ∙ ap (λ k. sameb the_type k Dir) c.kind.ensures ∙ is_dir-derived _ _ ∙ sym (ap is_dir (val-At c.self.inside.inodes.entries _ c.args.self.now c.self.view_is c.args.place KindOf _ c.in-Some.ensures.value))
+returns-in-Some c = c.eq.ensures ∙ ap (λ k. sameb the_type k Dir) c.kind.ensures ∙ is_dir_kind-derived _ _ ∙ sym (ap is_dir_kind (val-At c.self.inside.inodes.entries _ c.args.self.now c.self.view_is c.args.place KindOf _ c.in-Some.ensures.value))
 
 pub returns-in-None : goal.returns-in-None
-returns-in-None c = sym (ap is_dir (val-At c.self.inside.inodes.entries _ c.args.self.now c.self.view_is c.args.place KindOf _ c.in-None.ensures.value))
+returns-in-None c = sym (ap is_dir_kind (val-At c.self.inside.inodes.entries _ c.args.self.now c.self.view_is c.args.place KindOf _ c.in-None.ensures.value))

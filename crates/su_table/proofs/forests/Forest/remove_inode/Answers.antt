@@ -1,5 +1,5 @@
 use Rattle.std.proofs.Common.{refl}
-use Rattle.su_node.specs.Change.{Change.Gone}
+use Rattle.su_node.specs.InodeChange.{InodeChange.Gone}
 use Rattle.su_table.proofs.Stores.{edit-Inodes}
 use Rattle.su_table.proofs.forests.Forest.remove_inode.Goals as goal
 

@@ -2,11 +2,11 @@ use Rattle.std.proofs.Common.{◌∙◌, ap, sym, refl, Some, ◌≡◌, arith}
 use Rattle.std.specs.FinMap.{from_entries}
 use Rattle.std.specs.Option.{is_some}
 use Rattle.std.proofs.lemmas.Map.Steps.{set_value_same}
-use Rattle.su_node.specs.Change.{Change.Resized, change}
+use Rattle.su_node.specs.InodeChange.{InodeChange.Resized, inode_after}
 use Rattle.std.proofs.lemmas.Bool.{false≢true}
 use Rattle.su_node.specs.Inode.{size_of}
 use Rattle.su_node.specs.Field.{Field.SizeOf}
-use Rattle.su_table.specs.Query.{size_at, number_of}
+use Rattle.su_table.specs.Query.{size_at, value_number}
 use Rattle.su_table.proofs.Stores.{val-At, edit-Inodes, edit-Inodes_absent, OnErr-always}
 use Rattle.su_table.proofs.forests.Forest.resize.Goals.{in-Some+in_ok-resize, in_default}
 use Rattle.su_table.proofs.forests.Forest.resize.Goals as goal
@@ -16,7 +16,7 @@ pub returns-in_err-resize-clause-err : goal.returns-in_err-resize-clause-err
 returns-in_err-resize-clause-err c =
     let lent = c.resize.new.self in
     let same = (c.get_mut.follows.holds lent).0 ∙ set_value_same _ c.self.inside.inodes.entries lent (sym c.in-Some.ensures.value ∙ ap Some (sym c.in_err-resize.ensures.err)) in
-    OnErr-always c.from_residual.result (ap (λ es. record { inodes = from_entries es; entries = from_entries c.self.inside.entries.entries }) same ∙ c.self.view_is)
+    OnErr-always c.from_residual.result (ap (λ es. record { inodes = from_entries es; pointers = from_entries c.self.inside.pointers.entries }) same ∙ c.self.view_is)
 
 pub returns-clause-ok : goal.returns-clause-ok
 returns-clause-ok c = elim c.match-get_mut.branch [
@@ -24,11 +24,11 @@ returns-clause-ok c = elim c.match-get_mut.branch [
       let found = w.in-Some.ensures.value in
       let ch = Resized (size_at c.args.self.now c.args.place) c.args.size in
       rw w.self-inside-is (edit-Inodes c.self.inside.inodes.entries _ _ _ c.self.view_is c.args.place ch _
-      ((c.get_mut.follows.holds w.resize.new.self).3 (ap is_some (sym found))).0 (ap (change ch) (sym found) ∙ w.in_ok-resize.ensures.ok))
+      ((c.get_mut.follows.holds w.resize.new.self).3 (ap is_some (sym found))).0 (ap (inode_after ch) (sym found) ∙ w.in_ok-resize.ensures.ok))
   | in_default w ↦ rw (w.self-inside-is, c.get_mut.follows.holds-at-none) (edit-Inodes_absent c.self.inside.inodes.entries _ _ c.self.view_is c.args.place (Resized (size_at c.args.self.now c.args.place) c.args.size) (sym w.in_default.ensures.value) refl)
 ]
 
 pub returns-in_err-resize-clause-succeeds : goal.returns-in_err-resize-clause-succeeds
 returns-in_err-resize-clause-succeeds c = λ within.
-    let size : size_at c.args.self.now c.args.place ≡ size_of c.in-Some.inode.now.content = ap number_of (val-At c.self.inside.inodes.entries _ c.args.self.now c.self.view_is c.args.place SizeOf _ c.in-Some.ensures.value) in
+    let size : size_at c.args.self.now c.args.place ≡ size_of c.in-Some.inode.now.content = ap value_number (val-At c.self.inside.inodes.entries _ c.args.self.now c.self.view_is c.args.place SizeOf _ c.in-Some.ensures.value) in
     absurd (false≢true (c.in_err-resize.ensures.succeeds (omega (arith, within, size))))

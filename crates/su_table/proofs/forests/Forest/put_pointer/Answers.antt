@@ -1,10 +1,10 @@
 use Rattle.std.proofs.Common.{ap, sym, Some, Result, Ok, Err, OnErr}
 use Rattle.su_table.specs.Query.{is_nothing}
-use Rattle.su_table.proofs.Stores.{edit-Entries, val-Entry}
-use Rattle.su_table.proofs.forests.Forest.put_entry.Goals as goal
+use Rattle.su_table.proofs.Stores.{edit-Pointers, val-Pointer}
+use Rattle.su_table.proofs.forests.Forest.put_pointer.Goals as goal
 
 pub returns-clause-ok : goal.returns-clause-ok
-returns-clause-ok c = edit-Entries _ c.self.inside.entries.entries _ _ c.self.view_is c.args.file (Some c.args.place) c.in_ok-insert.ensures.updates.0
+returns-clause-ok c = edit-Pointers _ c.self.inside.pointers.entries _ _ c.self.view_is c.args.file (Some c.args.place) c.in_ok-insert.ensures.updates.0
 
 OnErr-always : {X Y P : Type 0} (r : Result X Y) → P → OnErr r P
 OnErr-always (Ok x) p = tt
@@ -12,4 +12,4 @@ OnErr-always (Err y) p = p
 
 pub returns-in_err-insert-clause-absent : goal.returns-in_err-insert-clause-absent
 returns-in_err-insert-clause-absent c = OnErr-always c.from_residual.result
-    (ap is_nothing (val-Entry _ c.self.inside.entries.entries c.args.self.now c.self.view_is c.args.file _ (sym c.in_err-insert.ensures.absent)))
+    (ap is_nothing (val-Pointer _ c.self.inside.pointers.entries c.args.self.now c.self.view_is c.args.file _ (sym c.in_err-insert.ensures.absent)))
