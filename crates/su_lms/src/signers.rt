@@ -130,6 +130,7 @@ impl<S: KeyStore> Signer<S> {
 
         ensures spent { IsErrOf result KeySpent ↔ (self.old.next ≡ leaf_count self.old.key) }
         ensures fault { IsErrOf result KeyFileFault → S.failure_count self.old.store < 2 ^ 64 - 1 → S.failure_count self.old.store < S.failure_count self.new.store }
+        ensures missed { IsErrOf result KeyFileFault → S.misses self.old.store (self.old.next + 1) self.new.store }
         ensures unused { OnErr result (self.new.next ≡ self.old.next) }
         ensures untouched { IfErr result (λ e. e ≢ KeyFileFault → self.new.store ≡ self.old.store) }
         ensures refused { IfErr result (λ e. (e ≡ KeySpent) ⊎ (e ≡ NoMemory) ⊎ (e ≡ KeyFileFault)) }

@@ -87,6 +87,8 @@ struct ShortStore {
 impl KeyStore for ShortStore {
     ghost stores = { λ before q after. (after.last ≡ q) × (after.failures ≡ before.failures) };
 
+    ghost misses = { λ before _ after. (after.last ≡ before.last) × (after.calls ≡ before.calls) };
+
     ghost failure_count = { λ s. s.failures };
 
     fn store_next(&mut self, q: u32) -> bool {

@@ -3,7 +3,7 @@ ghost use Rattle.std.specs.Prelude.{◌≡◌, ◌+◌, ◌-◌, ◌*◌, ◌/�
 ghost use Rattle.su_node.specs.InodeChange.{with_size, with_bytes_at};
 ghost use Rattle.su_node.specs.Inode.{within};
 ghost use Rattle.su_node.specs.Digest.{block_count};
-ghost use Rattle.su_node.specs.Stored.{AreZeroBlocks};
+ghost use Rattle.su_node.specs.Stored.{AreZeroBlocks, with_last_padded};
 
 mod digests;
 
@@ -28,7 +28,7 @@ impl Model for Block {
 }
 
 impl Block {
-    /// A block of zeros.
+    /// Makes a block of zeros.
     fn zeros(alloc: Global, size: usize) -> Result<Block, AllocError>
         ensures value { IfOk result (λ block. block ≡ with_size size []) }
     {
@@ -43,7 +43,7 @@ impl Block {
         self.bytes.as_slice()
     }
 
-    /// The block again.
+    /// Copies the block.
     fn copy(&self, alloc: Global) -> Result<Block, AllocError>
         ensures value { IfOk result (λ copy. copy ≡ self.now) }
     {
@@ -51,7 +51,7 @@ impl Block {
         Ok(Block { bytes })
     }
 
-    /// The block with another size: cut, or with zeros behind it.
+    /// Cuts the block, or fills it with zeros up to a size. Where there is no memory, it changes nothing.
     fn resize(&mut self, size: usize) -> Result<(), AllocError>
         ensures ok { OnOk result (self.new ≡ with_size size self.old) }
         ensures err { OnErr result (self.new ≡ self.old) }
@@ -97,7 +97,7 @@ impl Model for Blocks {
 }
 
 impl Blocks {
-    /// No bytes.
+    /// Makes a file of no bytes.
     pub(crate) fn new(alloc: Global) -> Blocks
         ensures { result ≡ [] }
     {
@@ -108,21 +108,21 @@ impl Blocks {
         }
     }
 
-    /// How many bytes.
+    /// Returns the number of bytes.
     pub(crate) fn size(&self) -> u32
         ensures { result ≡ length self.now }
     {
         self.size
     }
 
-    /// All bytes.
+    /// Reads all bytes.
     pub(crate) fn content(&self) -> Result<Vec<u8>, AllocError>
         ensures { IfOk result (λ bytes. bytes.items ≡ self.now) }
     {
         self.read(0, u64::from(self.size))
     }
 
-    /// The bytes within a range.
+    /// Reads the bytes within a range, which may reach past the end.
     pub(crate) fn read(&self, off: u64, len: u64) -> Result<Vec<u8>, AllocError>
         ensures value { IfOk result (λ bytes. bytes.items ≡ within off len self.now) }
     {
@@ -140,7 +140,7 @@ impl Blocks {
         Ok(bytes)
     }
 
-    /// The bytes again.
+    /// Copies the file.
     pub(crate) fn copy(&self) -> Result<Blocks, AllocError>
         ensures value { IfOk result (λ copy. copy ≡ self.now) }
     {
@@ -155,9 +155,8 @@ impl Blocks {
         })
     }
 
-    /// The bytes from an offset on are these; a gap before them is zeros. Only the blocks that are written, and the last one
-    /// where the file grows, are touched. Where there is no memory, nothing changes; a file that doesn't grow needs
-    /// none.
+    /// Writes bytes from an offset on, and fills a gap before them with zeros. Takes no memory where the file doesn't grow;
+    /// where there is none, it changes nothing.
     pub(crate) fn write_at(&mut self, off: u32, bytes: &[u8]) -> Result<(), AllocError>
         requires { off + length bytes.now < 2 ^ 32 }
         ensures ok { OnOk result (self.new ≡ with_bytes_at off bytes.now self.old) }
@@ -172,8 +171,8 @@ impl Blocks {
         Ok(())
     }
 
-    /// The size is this: the file is cut, or has zeros behind it. Where there is no memory, nothing changes; a file
-    /// that doesn't grow needs none.
+    /// Cuts the file to a size, or fills it with zeros up to it. Takes no memory where the file doesn't grow; where there is
+    /// none, it changes nothing.
     pub(crate) fn resize(&mut self, size: u32) -> Result<(), AllocError>
         ensures ok { OnOk result (self.new ≡ with_size size self.old) }
         ensures succeeds { size ≤ length self.old → IsOk result }
@@ -187,7 +186,7 @@ impl Blocks {
         }
     }
 
-    /// The first bytes alone.
+    /// Cuts the file to its first bytes.
     fn cut(&mut self, size: u32)
         requires { size ≤ length self.old }
         ensures { self.new ≡ with_size size self.old }
@@ -200,7 +199,7 @@ impl Blocks {
         self.size = size;
     }
 
-    /// Zeros behind the bytes, up to a size. All room is taken before the first change.
+    /// Adds zeros up to a size. All room is taken before the first change.
     fn grow(&mut self, size: u32) -> Result<(), AllocError>
         requires { length self.old ≤ size }
         ensures ok { OnOk result (self.new ≡ with_size size self.old) }
@@ -214,11 +213,12 @@ impl Blocks {
         Ok(())
     }
 
-    /// These bytes in place of those that stand there.
+    /// Writes bytes over those from an offset on.
     fn overwrite(&mut self, off: usize, bytes: &[u8])
         requires { off + length bytes.now ≤ length self.old }
         ensures { self.new ≡ with_bytes_at off bytes.now self.old }
     {
+        // names the size for the prover (docs/ARCHITECTURE.md, "Forms the kit wants")
         let _size = self.size;
         let end_ = off + bytes.len();
         for number in off / BLOCK_SIZE..count_for(end_) {
@@ -255,7 +255,7 @@ fn zero_blocks(alloc: Global, first: usize, size: usize) -> Result<Vec<Block>, A
 /// Zeros behind the last block, if there is one, up to where it is full or the file has that size.
 fn pad_last(blocks: &mut Vec<Block>, size: usize) -> Result<(), AllocError>
     requires { BLOCK_SIZE * (length blocks.old.items - 1) ≤ size }
-    ensures ok { OnOk result (blocks.new.items ≡ slice_set blocks.old.items (length blocks.old.items - 1) (with_size (min BLOCK_SIZE (size - BLOCK_SIZE * (length blocks.old.items - 1))) (slice_index_or blocks.old.items (length blocks.old.items - 1) []))) }
+    ensures ok { OnOk result (blocks.new.items ≡ with_last_padded size blocks.old.items) }
     ensures room { vec_capacity blocks.new ≡ vec_capacity blocks.old }
     ensures err { OnErr result (blocks.new.items ≡ blocks.old.items) }
 {

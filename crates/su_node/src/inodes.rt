@@ -14,7 +14,7 @@ use std::collections::BTreeMap;
 use std::marker::Model;
 use su_bytes::{FileId, Kind, Name, Refusal};
 
-/// The content as it is stored.
+/// The content of an inode as it is stored.
 #[derive(Drop)]
 enum Stored {
     Bytes(Blocks),
@@ -44,7 +44,7 @@ impl Model for Inode {
 }
 
 impl Inode {
-    /// An empty file or directory with one link.
+    /// Makes an empty file or directory with one link.
     pub fn new(alloc: Global, home: FileId, kind: Kind) -> Inode
         ensures { result ≡ new_inode home kind }
     {
@@ -60,13 +60,14 @@ impl Inode {
         }
     }
 
-    /// The file id that it was made for.
+    /// Returns the file id that it was made for.
     pub fn home(&self) -> FileId
         ensures { result ≡ self.now.home }
     {
         self.home
     }
 
+    /// Tells a file from a directory.
     pub fn kind(&self) -> Kind
         ensures { result ≡ kind_of self.now.content }
     {
@@ -76,14 +77,14 @@ impl Inode {
         }
     }
 
-    /// How many names lead to it.
+    /// Returns the number of names that lead to it.
     pub fn links(&self) -> u8
         ensures { result ≡ self.now.links }
     {
         self.links
     }
 
-    /// The size of a file in bytes; of a directory 0.
+    /// Returns the size of a file in bytes; 0 for a directory.
     pub fn size(&self) -> u32
         ensures { result ≡ size_of self.now.content }
     {
@@ -93,7 +94,7 @@ impl Inode {
         }
     }
 
-    /// Whether no names stand in it.
+    /// Tells whether it has no names, which no file has.
     pub fn is_bare(&self) -> bool
         ensures { result ≡ has_no_names (Some self.now) }
     {
@@ -103,7 +104,7 @@ impl Inode {
         }
     }
 
-    /// Where the name leads, in a directory that has it.
+    /// Returns the file that a name of the directory leads to, if it has the name.
     pub fn name_get(&self, name: &Name) -> Option<FileId>
         ensures { file_value result ≡ field_value (Some self.now) (NameOf name.now) }
     {
@@ -113,9 +114,10 @@ impl Inode {
         }
     }
 
-    /// The names by their bytes, and where each leads; none for a file. Only `NoMemory` can come.
+    /// Lists the names by their bytes, and where each leads; none for a file. Fails only with `NoMemory`.
     pub fn names(&self) -> Result<Option<Vec<(Name, FileId)>>, Refusal>
-        ensures value { IfOk result (λ names. option_map (λ v. v.items) names ≡ names_of (Some self.now)) }
+        ensures value { IfOk result (λ names.
+            option_map (λ v. v.items) names ≡ names_of (Some self.now)) }
         ensures refused { IfErr result (λ e. e ≡ NoMemory) }
     {
         let Stored::Names(names) = &self.content else {
@@ -128,9 +130,10 @@ impl Inode {
         Ok(Some(list))
     }
 
-    /// The bytes of a file; none for a directory. Only `NoMemory` can come.
+    /// Reads all bytes of a file; none for a directory. Fails only with `NoMemory`.
     pub fn content(&self) -> Result<Option<Vec<u8>>, Refusal>
-        ensures value { IfOk result (λ bytes. option_map (λ v. v.items) bytes ≡ bytes_of (Some self.now)) }
+        ensures value { IfOk result (λ bytes.
+            option_map (λ v. v.items) bytes ≡ bytes_of (Some self.now)) }
         ensures refused { IfErr result (λ e. e ≡ NoMemory) }
     {
         match &self.content {
@@ -139,10 +142,11 @@ impl Inode {
         }
     }
 
-    /// The bytes of a file within a range; none for a directory. Only the blocks in the range are read. Only `NoMemory` can
-    /// come.
+    /// Reads the bytes of a file within a range; none for a directory. Fails only with `NoMemory`. (It looks at the blocks in
+    /// the range alone.)
     pub fn read_at(&self, off: u64, len: u64) -> Result<Option<Vec<u8>>, Refusal>
-        ensures value { IfOk result (λ bytes. option_map (λ v. v.items) bytes ≡ option_map (within off len) (bytes_of (Some self.now))) }
+        ensures value { IfOk result (λ bytes.
+            option_map (λ v. v.items) bytes ≡ option_map (within off len) (bytes_of (Some self.now))) }
         ensures refused { IfErr result (λ e. e ≡ NoMemory) }
     {
         match &self.content {
@@ -151,7 +155,7 @@ impl Inode {
         }
     }
 
-    /// The same inode again. Only `NoMemory` can come.
+    /// Copies the inode. Fails only with `NoMemory`.
     pub fn copy(&self) -> Result<Inode, Refusal>
         ensures value { IfOk result (λ copy. copy ≡ self.now) }
         ensures refused { IfErr result (λ e. e ≡ NoMemory) }
@@ -168,10 +172,11 @@ impl Inode {
         })
     }
 
-    /// The name leads there from now on; a file stays as it is. On `NoMemory`, which alone can come, nothing changes. Only a
-    /// name that isn't there takes memory.
+    /// Makes a name lead to `file`; does nothing to a file. Takes memory only for a name that isn't there. Fails only with
+    /// `NoMemory`, and then changes nothing.
     pub fn name_set(&mut self, name: Name, file: FileId) -> Result<(), Refusal>
-        ensures ok { OnOk result (inode_after (Named name (Some file)) (Some self.old) ≡ Some self.new) }
+        ensures ok { OnOk result
+            (inode_after (Named name (Some file)) (Some self.old) ≡ Some self.new) }
         ensures refused { IfErr result (λ e. e ≡ NoMemory) }
         ensures absent { OnErr result (field_value (Some self.old) (NameOf name) ≡ Nothing) }
         ensures err { OnErr result (self.new ≡ self.old) }
@@ -182,7 +187,7 @@ impl Inode {
         Ok(())
     }
 
-    /// The name is gone from now on.
+    /// Removes a name, if it is there.
     pub fn name_remove(&mut self, name: &Name)
         ensures { inode_after (Named name.now None) (Some self.old) ≡ Some self.new }
     {
@@ -191,11 +196,14 @@ impl Inode {
         }
     }
 
-    /// The bytes of a file from an offset on are these; a gap before them is zeros, and a directory stays as it is. Only the
-    /// blocks are touched that hold these bytes or the gap. On `NoMemory`, which alone can come, nothing changes.
+    /// Writes bytes into a file from an offset on, and fills a gap before them with zeros; does nothing to a directory. Fails
+    /// only with `NoMemory`, where the file grows, and then changes nothing. (It touches the blocks alone that hold these
+    /// bytes or the gap.)
     pub fn write_at(&mut self, off: u32, bytes: &[u8]) -> Result<(), Refusal>
         requires { off + length bytes.now < 2 ^ 32 }
-        ensures ok { OnOk result (inode_after (Written (size_of self.old.content) off bytes.now) (Some self.old) ≡ Some self.new) }
+        ensures ok { OnOk result
+            (inode_after (Written (size_of self.old.content) off bytes.now) (Some self.old)
+                ≡ Some self.new) }
         ensures refused { IfErr result (λ e. e ≡ NoMemory) }
         ensures succeeds { off + length bytes.now ≤ size_of self.old.content → IsOk result }
         ensures err { OnErr result (self.new ≡ self.old) }
@@ -206,11 +214,12 @@ impl Inode {
         Ok(())
     }
 
-    /// The file has that many bytes: it is cut, or has zeros behind it, and a directory stays as it is. Only the last block and
-    /// those that come or go are touched. On `NoMemory`, which alone can come, nothing changes; a file that doesn't grow needs
-    /// no memory.
+    /// Cuts a file to a size in bytes, or fills it with zeros up to it; does nothing to a directory. Fails only with
+    /// `NoMemory`, where the file grows, and then changes nothing. (It touches the last block alone, and those that come or
+    /// go.)
     pub fn resize(&mut self, size: u32) -> Result<(), Refusal>
-        ensures ok { OnOk result (inode_after (Resized (size_of self.old.content) size) (Some self.old) ≡ Some self.new) }
+        ensures ok { OnOk result
+            (inode_after (Resized (size_of self.old.content) size) (Some self.old) ≡ Some self.new) }
         ensures succeeds { size ≤ size_of self.old.content → IsOk result }
         ensures refused { IfErr result (λ e. e ≡ NoMemory) }
         ensures err { OnErr result (self.new ≡ self.old) }
@@ -221,7 +230,7 @@ impl Inode {
         Ok(())
     }
 
-    /// So many names lead to it from now on.
+    /// Sets the number of names that lead to it.
     pub fn set_links(&mut self, links: u8)
         ensures { inode_after (Linked links) (Some self.old) ≡ Some self.new }
     {

@@ -111,13 +111,12 @@ edit-Pointers n es fs T is g v h =
 
 -- ---- the tree before the first operation
 
-pub genesis-made : (es : List (Place × Inode)) (fs : List (Place × Place)) (u g n : ℕ) (root : Inode) → es ≡ ((u, n), root) ∷ [] → fs ≡ ((g, n), (u, n)) ∷ []
-    → u ≡ 0 → g ≡ 0 → n ≡ 1 → root ≡ new_inode (Group g n) Dir → record { inodes = from_entries es; pointers = from_entries fs } ≡ genesis
+pub genesis-made : (es : List (Place × Inode)) (fs : List (Place × Place)) (root : Inode) → es ≡ ((0, 1), root) ∷ [] → fs ≡ ((0, 1), (0, 1)) ∷ []
+    → root ≡ new_inode (Group 0 1) Dir → record { inodes = from_entries es; pointers = from_entries fs } ≡ genesis
 unfolding genesis
-genesis-made es fs u g n root es_is fs_is u_is g_is n_is root_is =
-    let made : root ≡ new_inode (Group 0 1) Dir = root_is ∙ (λ i. new_inode (Group (g_is i) (n_is i)) Dir) in
-    let a : from_entries {R = place_cmp} es ≡ insert empty (0, 1) (new_inode (Group 0 1) Dir) = ap from_entries (es_is ∙ (λ i. ((u_is i, n_is i), made i) ∷ [])) in
-    let b : from_entries {R = place_cmp} fs ≡ insert empty (0, 1) (0, 1) = ap from_entries (fs_is ∙ (λ i. ((g_is i, n_is i), (u_is i, n_is i)) ∷ [])) in
+genesis-made es fs root es_is fs_is root_is =
+    let a : from_entries {R = place_cmp} es ≡ insert empty (0, 1) (new_inode (Group 0 1) Dir) = ap from_entries (es_is ∙ (λ i. ((0, 1), root_is i) ∷ [])) in
+    let b : from_entries {R = place_cmp} fs ≡ insert empty (0, 1) (0, 1) = ap from_entries fs_is in
     λ i. record { inodes = a i; pointers = b i }
 
 -- ---- what stands for a file

@@ -1,4 +1,4 @@
--- What is asked of a tree, by its cells alone: bodies, kinds, links, sizes, names; the names of a directory in order; the
+-- What is asked of a tree: bodies, kinds, links, sizes, names; the names of a directory in order; the
 -- bytes of a file.
 use Rattle.std.specs.Prelude.{ℕ, Bool, true, false, List, Option, Some, None, Result, Ok, Err, cond}
 use Rattle.std.specs.FinMap.{get}
@@ -35,7 +35,7 @@ abbrev pub is_link_to : Value → FileId → Bool
 is_link_to (AFile g) f = file_eq g f
 is_link_to _ f = false
 
--- no inode stands there
+-- no inode stands at p
 abbrev pub is_free_at : Tree → Place → Bool
 is_free_at T p = is_nothing (val T (At p KindOf))
 

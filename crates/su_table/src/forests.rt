@@ -2,7 +2,7 @@
 ghost use Rattle.std.specs.Prelude.{◌≡◌, ◌⊎◌, Ok, Err, IfOk, IfErr, option_copied};
 ghost use Rattle.std.specs.FinMap.{get};
 ghost use Rattle.su_table.specs.Tree.{genesis};
-ghost use Rattle.su_table.specs.Query.{body, is_free_at, is_dir_at, is_file_at, links_at, is_bare_at, is_name_free_at, leads_to_at, is_pointer_free, size_at, listing, contents, contents_within};
+ghost use Rattle.su_table.specs.Query.{body, is_free_at, is_dir_at, is_file_at, links_at, is_bare_at, is_name_free_at, leads_to_at, is_pointer_free, size_at, standing, listing, contents, contents_within};
 ghost use Rattle.su_bytes.specs.declared.refusals.Refusal.TheVariants.{NoMemory};
 
 mod edits;
@@ -35,26 +35,17 @@ impl Model for Forest {
 }
 
 impl Forest {
-    /// The tree before the first operation: the empty root directory of group 0. Only `NoMemory` can come.
+    /// Makes the tree before the first operation: the empty root directory of group 0, which stands at user 0. It is the
+    /// same for each roster: later forms of a forest will keep a table for each of its users. Fails only with `NoMemory`.
     pub fn genesis(alloc: Global, _roster: &Roster) -> Result<Forest, Refusal>
         ensures value { IfOk result (λ forest. forest ≡ genesis) }
         ensures refused { IfErr result (λ e. e ≡ NoMemory) }
     {
-        Forest::rooted(alloc)
-    }
-
-    pub(crate) fn rooted(alloc: Global) -> Result<Forest, Refusal>
-        ensures value { IfOk result (λ forest. forest ≡ genesis) }
-        ensures refused { IfErr result (λ e. e ≡ NoMemory) }
-    {
-        let user = User::new(0)?;
-        let group = Group::new(0)?;
-        let number = Inum::new(1)?;
         let mut inodes = BTreeMap::new(alloc);
         let mut pointers = BTreeMap::new(alloc);
-        let root = Inode::new(alloc, FileId::Group(group, number), Kind::Dir);
-        inodes.insert((user, number), root)?;
-        pointers.insert((group, number), (user, number))?;
+        let root = Inode::new(alloc, FileId::ROOT, Kind::Dir);
+        inodes.insert((User::FIRST, Inum::FIRST), root)?;
+        pointers.insert((Group::FIRST, Inum::FIRST), (User::FIRST, Inum::FIRST))?;
         Ok(Forest {
             inodes,
             pointers,
@@ -62,14 +53,14 @@ impl Forest {
         })
     }
 
-    /// What stands at number `number` of the user's i-table.
+    /// Returns the inode at number `number` of the user's i-table, if any.
     pub fn inode(&self, user: User, number: Inum) -> Option<&Inode>
         ensures { option_copied result ≡ get self.now.inodes (user, number) }
     {
         self.inodes.get(&(user, number))
     }
 
-    /// Where the inode of a file stands: of a user's file at its own place, of a group file where its pointer points.
+    /// Returns the place of a file's inode: a user's file stands at its own place, a group file where its pointer leads.
     pub fn body(&self, file: FileId) -> Option<Place>
         ensures { result ≡ body self.now file }
     {
@@ -87,14 +78,14 @@ impl Forest {
         }
     }
 
-    /// Whether no inode stands there.
+    /// Tells whether no inode stands at `place`.
     pub fn is_free(&self, place: Place) -> bool
         ensures { result ≡ is_free_at self.now place }
     {
         !self.inodes.contains_key(&place)
     }
 
-    /// Whether a directory stands there.
+    /// Tells whether a directory stands at `place`.
     pub fn is_directory(&self, place: Place) -> bool
         ensures { result ≡ is_dir_at self.now place }
     {
@@ -104,7 +95,7 @@ impl Forest {
         }
     }
 
-    /// Whether a file stands there.
+    /// Tells whether a file stands at `place`.
     pub fn is_file(&self, place: Place) -> bool
         ensures { result ≡ is_file_at self.now place }
     {
@@ -114,7 +105,7 @@ impl Forest {
         }
     }
 
-    /// How many names lead to what stands there; 0 where nothing does.
+    /// Returns the number of links of the inode at `place`; 0 where none stands.
     pub fn links(&self, place: Place) -> u8
         ensures { result ≡ links_at self.now place }
     {
@@ -124,7 +115,7 @@ impl Forest {
         }
     }
 
-    /// How many bytes the file there has; 0 where no file stands.
+    /// Returns the size in bytes of the file at `place`; 0 where no file stands.
     pub fn size(&self, place: Place) -> u32
         ensures { result ≡ size_at self.now place }
     {
@@ -134,7 +125,7 @@ impl Forest {
         }
     }
 
-    /// Whether what stands there has no names.
+    /// Tells whether the inode at `place`, if any, has no names.
     pub fn is_bare(&self, place: Place) -> bool
         ensures { result ≡ is_bare_at self.now place }
     {
@@ -144,7 +135,7 @@ impl Forest {
         }
     }
 
-    /// Whether the directory there lacks the name.
+    /// Tells whether the directory at `place` lacks the name.
     pub fn is_name_free(&self, place: Place, name: &Name) -> bool
         ensures { result ≡ is_name_free_at self.now place name.now }
     {
@@ -154,7 +145,7 @@ impl Forest {
         }
     }
 
-    /// Whether in the directory there the name leads to the file.
+    /// Tells whether the directory at `place` has the name, and it leads to the file.
     pub fn leads_to(&self, place: Place, name: &Name, file: FileId) -> bool
         ensures { result ≡ leads_to_at self.now place name.now file }
     {
@@ -164,7 +155,7 @@ impl Forest {
         }
     }
 
-    /// Whether the group's pointer for a group file is free; a user's file needs none.
+    /// Tells whether a group file has no pointer; a user's file needs none.
     pub fn is_pointer_free(&self, file: FileId) -> bool
         ensures { result ≡ is_pointer_free self.now file }
     {
@@ -174,40 +165,46 @@ impl Forest {
         }
     }
 
-    /// The names of a directory by their bytes, and where each leads. `NoFile` where the file has no body, `WrongKind` where
+    /// Returns the inode of a file: `NoFile` where the file has no body, `WrongKind` where its pointer leads to nothing.
+    fn standing(&self, file: &FileId) -> Result<&Inode, Refusal>
+        ensures ok { IfOk result (λ inode. standing self.now file.now ≡ Ok inode.now) }
+        ensures refused { IfErr result (λ e. standing self.now file.now ≡ Err e) }
+    {
+        let (user, number) = self.body(*file).ok_or(Refusal::NoFile(*file))?;
+        self.inode(user, number).ok_or(Refusal::WrongKind(*file))
+    }
+
+    /// Lists the names of a directory by their bytes, and where each leads. `NoFile` where the file has no body, `WrongKind` where
     /// its body is no directory, `NoMemory` where there is no room for the list.
     pub fn list(&self, file: FileId) -> Result<Vec<(Name, FileId)>, Refusal>
         ensures ok { IfOk result (λ names. listing self.now file ≡ Ok names.items) }
         ensures refused { IfErr result (λ e. (e ≡ NoMemory) ⊎ (listing self.now file ≡ Err e)) }
     {
-        let (user, number) = self.body(file).ok_or(Refusal::NoFile(file))?;
-        let inode = self.inode(user, number).ok_or(Refusal::WrongKind(file))?;
+        let inode = self.standing(&file)?;
         inode.names()?.ok_or(Refusal::WrongKind(file))
     }
 
-    /// The bytes of a file. `NoFile` where the file has no body, `WrongKind` where its body is a directory, `NoMemory` where
+    /// Reads all bytes of a file. `NoFile` where the file has no body, `WrongKind` where its body is a directory, `NoMemory` where
     /// there is no room for the bytes.
     pub fn read(&self, file: FileId) -> Result<Vec<u8>, Refusal>
         ensures ok { IfOk result (λ bytes. contents self.now file ≡ Ok bytes.items) }
         ensures refused { IfErr result (λ e. (e ≡ NoMemory) ⊎ (contents self.now file ≡ Err e)) }
     {
-        let (user, number) = self.body(file).ok_or(Refusal::NoFile(file))?;
-        let inode = self.inode(user, number).ok_or(Refusal::WrongKind(file))?;
+        let inode = self.standing(&file)?;
         inode.content()?.ok_or(Refusal::WrongKind(file))
     }
 
-    /// Those bytes of a file that lie within a range, which may reach past its end. `NoFile` where the file has no body,
+    /// Reads the bytes of a file within a range, which may reach past its end. `NoFile` where the file has no body,
     /// `WrongKind` where its body is a directory, `NoMemory` where there is no room for the bytes.
     pub fn read_at(&self, file: FileId, off: u64, len: u64) -> Result<Vec<u8>, Refusal>
         ensures ok { IfOk result (λ bytes. contents_within self.now file off len ≡ Ok bytes.items) }
         ensures refused { IfErr result (λ e. (e ≡ NoMemory) ⊎ (contents_within self.now file off len ≡ Err e)) }
     {
-        let (user, number) = self.body(file).ok_or(Refusal::NoFile(file))?;
-        let inode = self.inode(user, number).ok_or(Refusal::WrongKind(file))?;
+        let inode = self.standing(&file)?;
         inode.read_at(off, len)?.ok_or(Refusal::WrongKind(file))
     }
 
-    /// The same tree again. Only `NoMemory` can come.
+    /// Copies the forest. Fails only with `NoMemory`.
     pub fn copy(&self) -> Result<Forest, Refusal>
         ensures value { IfOk result (λ copy. copy ≡ self.now) }
         ensures refused { IfErr result (λ e. e ≡ NoMemory) }

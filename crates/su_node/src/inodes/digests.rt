@@ -17,7 +17,7 @@ use su_bytes::{Digest, FileId, Kind, Name, Refusal};
 use su_tree::{TreeValue, digest_of};
 
 impl Inode {
-    /// The digest of the inode, computed from nothing. Only `NoMemory` can come.
+    /// Computes the digest of the inode from nothing. Fails only with `NoMemory`.
     pub fn digest(&self) -> Result<Digest, Refusal>
         ensures value { IfOk result (λ d. d ≡ inode_digest self.now) }
         ensures refused { IfErr result (λ e. e ≡ NoMemory) }
@@ -57,6 +57,7 @@ fn digest_of_names(alloc: Global, directory: &BTreeMap<Name, FileId>) -> Result<
 {
     let mut pairs = Vec::with_capacity(alloc, directory.len())?;
     for (name, file) in directory {
+        // names the bytes for the prover (docs/ARCHITECTURE.md, "Forms the kit wants")
         let _bytes = name.as_bytes();
         pairs.push((name.clone()?, *file))?;
     }

@@ -1,5 +1,5 @@
-// Single changes of the i-tables, of which operations are made. A change that grows a table may be refused with
-// `NoMemory`, and then nothing changes.
+// Single edits of the i-tables, of which operations are made. An edit that grows a table or a file fails with `NoMemory`
+// where there is none, and with nothing else, and then it changes nothing.
 ghost use Rattle.std.specs.Prelude.{◌≡◌, ◌+◌, ◌<◌, ◌≤◌, ◌^◌, length, true, IsOk, Some, None, IfOk, IfErr, OnOk, OnErr};
 ghost use Rattle.std.specs.FinMap.{get};
 ghost use Rattle.su_node.specs.InodeChange.{InodeChange.Named, InodeChange.Linked, InodeChange.Written, InodeChange.Resized, InodeChange.Copied, InodeChange.Gone};
@@ -13,8 +13,8 @@ use su_bytes::{FileId, GroupFile, Name, Place, Refusal};
 use su_node::Inode;
 
 impl Forest {
-    /// In the directory there the name leads to the file. Where no directory stands, nothing changes. Only a name that isn't
-    /// there takes memory.
+    /// Makes a name of the directory at `place` lead to the file. Does nothing where no directory stands. Takes memory only
+    /// for a name that isn't there.
     pub fn add_name(&mut self, place: Place, name: Name, file: FileId) -> Result<(), Refusal>
         ensures ok { OnOk result (self.new ≡ edit self.old (Inodes place (Named name (Some file)))) }
         ensures refused { IfErr result (λ e. e ≡ NoMemory) }
@@ -27,7 +27,7 @@ impl Forest {
         Ok(())
     }
 
-    /// In the directory there the name is gone.
+    /// Removes a name from the directory at `place`, if it is there.
     pub fn remove_name(&mut self, place: Place, name: &Name)
         ensures { self.new ≡ edit self.old (Inodes place (Named name.now None)) }
     {
@@ -36,7 +36,7 @@ impl Forest {
         }
     }
 
-    /// So many names lead to what stands there. Where nothing stands, nothing changes.
+    /// Sets the number of links of the inode at `place`, if there is one.
     pub fn set_links(&mut self, place: Place, links: u8)
         ensures { self.new ≡ edit self.old (Inodes place (Linked links)) }
     {
@@ -45,11 +45,12 @@ impl Forest {
         }
     }
 
-    /// The bytes of the file there are these from an offset on, and a gap before them is zeros. Where no file stands, nothing
-    /// changes. A file that doesn't grow needs no memory.
+    /// Writes bytes into the file at `place` from an offset on, and fills a gap before them with zeros. Does nothing where no
+    /// file stands. Takes no memory where the file doesn't grow.
     pub fn write_at(&mut self, place: Place, off: u32, bytes: &[u8]) -> Result<(), Refusal>
         requires { off + length bytes.now < 2 ^ 32 }
-        ensures ok { OnOk result (self.new ≡ edit self.old (Inodes place (Written (size_at self.old place) off bytes.now))) }
+        ensures ok { OnOk result
+            (self.new ≡ edit self.old (Inodes place (Written (size_at self.old place) off bytes.now))) }
         ensures refused { IfErr result (λ e. e ≡ NoMemory) }
         ensures succeeds { off + length bytes.now ≤ size_at self.old place → IsOk result }
         ensures err { OnErr result (self.new ≡ self.old) }
@@ -60,10 +61,11 @@ impl Forest {
         Ok(())
     }
 
-    /// The file there has that many bytes: it is cut, or has zeros behind it. Where no file stands, nothing changes. A file
-    /// that doesn't grow needs no memory.
+    /// Cuts the file at `place` to a size in bytes, or fills it with zeros up to it. Does nothing where no file stands. Takes
+    /// no memory where the file doesn't grow.
     pub fn resize(&mut self, place: Place, size: u32) -> Result<(), Refusal>
-        ensures ok { OnOk result (self.new ≡ edit self.old (Inodes place (Resized (size_at self.old place) size))) }
+        ensures ok { OnOk result
+            (self.new ≡ edit self.old (Inodes place (Resized (size_at self.old place) size))) }
         ensures succeeds { size ≤ size_at self.old place → IsOk result }
         ensures refused { IfErr result (λ e. e ≡ NoMemory) }
         ensures err { OnErr result (self.new ≡ self.old) }
@@ -74,17 +76,18 @@ impl Forest {
         Ok(())
     }
 
-    /// The inode stands there, in place of what did.
+    /// Puts an inode at `place`, over the one that stands there, if any. Takes memory only where none does.
     pub fn put_inode(&mut self, place: Place, inode: Inode) -> Result<(), Refusal>
         ensures ok { OnOk result (self.new ≡ edit self.old (Inodes place (Copied inode))) }
         ensures refused { IfErr result (λ e. e ≡ NoMemory) }
+        ensures absent { OnErr result (is_free_at self.old place ≡ true) }
         ensures err { OnErr result (self.new ≡ self.old) }
     {
         self.inodes.insert(place, inode)?;
         Ok(())
     }
 
-    /// The inode stands there, in place of what is answered. Only a place where nothing stands takes memory.
+    /// Puts an inode at `place`, and returns the one that stood there, if any. Takes memory only where none did.
     pub fn exchange_inode(
         &mut self,
         place: Place,
@@ -100,14 +103,14 @@ impl Forest {
         Ok(was)
     }
 
-    /// Nothing stands there.
+    /// Removes the inode at `place`, if any.
     pub fn remove_inode(&mut self, place: Place)
         ensures { self.new ≡ edit self.old (Inodes place Gone) }
     {
         self.inodes.remove(&place);
     }
 
-    /// The group file's pointer points there. Only a pointer that isn't there takes memory.
+    /// Points a group file at `place`. Takes memory only where the file has no pointer yet.
     pub fn put_pointer(&mut self, file: GroupFile, place: Place) -> Result<(), Refusal>
         ensures ok { OnOk result (self.new ≡ edit self.old (Pointers file (Some place))) }
         ensures refused { IfErr result (λ e. e ≡ NoMemory) }
@@ -118,7 +121,7 @@ impl Forest {
         Ok(())
     }
 
-    /// The group file has no pointer.
+    /// Removes the pointer of a group file, if any.
     pub fn remove_pointer(&mut self, file: GroupFile)
         ensures { self.new ≡ edit self.old (Pointers file None) }
     {

@@ -2,12 +2,8 @@ use Rattle.std.proofs.Common.{◌∙◌, ap, sym, refl, Result, Ok, Err, OnErr}
 use Rattle.su_node.specs.InodeChange.{InodeChange.Copied}
 use Rattle.su_node.specs.Field.{Field.KindOf}
 use Rattle.su_table.specs.Query.{is_nothing}
-use Rattle.su_table.proofs.Stores.{edit-Inodes, get-inodes, val-At}
+use Rattle.su_table.proofs.Stores.{edit-Inodes, get-inodes, val-At, OnErr-always}
 use Rattle.su_table.proofs.forests.Forest.exchange_inode.Goals as goal
-
-OnErr-always : {X Y P : Type 0} (r : Result X Y) → P → OnErr r P
-OnErr-always (Ok x) p = tt
-OnErr-always (Err y) p = p
 
 pub returns-clause-ok : goal.returns-clause-ok
 returns-clause-ok c = edit-Inodes c.self.inside.inodes.entries _ _ _ c.self.view_is c.args.place (Copied c.args.inode) _ c.in_ok-was.ensures.updates.0 refl

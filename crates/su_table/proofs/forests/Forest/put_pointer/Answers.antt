@@ -1,14 +1,10 @@
 use Rattle.std.proofs.Common.{ap, sym, Some, Result, Ok, Err, OnErr}
 use Rattle.su_table.specs.Query.{is_nothing}
-use Rattle.su_table.proofs.Stores.{edit-Pointers, val-Pointer}
+use Rattle.su_table.proofs.Stores.{edit-Pointers, val-Pointer, OnErr-always}
 use Rattle.su_table.proofs.forests.Forest.put_pointer.Goals as goal
 
 pub returns-clause-ok : goal.returns-clause-ok
 returns-clause-ok c = edit-Pointers _ c.self.inside.pointers.entries _ _ c.self.view_is c.args.file (Some c.args.place) c.in_ok-insert.ensures.updates.0
-
-OnErr-always : {X Y P : Type 0} (r : Result X Y) → P → OnErr r P
-OnErr-always (Ok x) p = tt
-OnErr-always (Err y) p = p
 
 pub returns-in_err-insert-clause-absent : goal.returns-in_err-insert-clause-absent
 returns-in_err-insert-clause-absent c = OnErr-always c.from_residual.result
