@@ -1,0 +1,611 @@
+#!/usr/bin/env python3
+"""A second desk, written from docs/DEFINITIONS.md and docs/FORMATS.md alone, in the plainest way: it keeps the history, and
+for each answer replays what is live from the first tree on. With scripts by chance it checks the program, and that the
+definitions mean what they were meant to.
+
+usage: desk_model.py FOLDER COUNT LINES    writes COUNT scripts of LINES lines each into FOLDER, as NAME, NAME.args, NAME.stdout
+       desk_model.py --run USERS           reads a script of good lines on standard input, and prints what it answers
+"""
+import hashlib
+import random
+import sys
+
+BLOCK = 4096
+LARGEST_FILE = 1048576
+LARGEST_WRITE = 65536
+MOST_LINKS = 255
+
+
+class Refused(Exception):
+    pass
+
+
+def user_file(u, i):
+    return ("U", u, i)
+
+
+def group_file(g, k):
+    return ("G", g, k)
+
+
+def text_of(file):
+    return f"{file[0]}{file[1]}:{file[2]}"
+
+
+# ---- the tree: inodes by (user, number) as (home, links, content), pointers by (group, number)
+
+def genesis():
+    return {(0, 1): (group_file(0, 1), 1, {})}, {(0, 1): (0, 1)}
+
+
+def body(tree, file):
+    inodes, pointers = tree
+    if file[0] == "G":
+        return pointers.get(file[1:])
+    at = inodes.get(file[1:])
+    return file[1:] if at and at[0] == file else None
+
+
+def is_dir(tree, place):
+    return place in tree[0] and isinstance(tree[0][place][2], dict)
+
+
+def is_file(tree, place):
+    return place in tree[0] and isinstance(tree[0][place][2], bytes)
+
+
+class Roster:
+    """Users 0 and on; group 0 has all of them, group 1 has user 0."""
+
+    def __init__(self, users):
+        self.users = range(users)
+        self.groups = {0: set(self.users), 1: {0}}
+
+    def may_touch(self, a, file):
+        return file[0] == "U" or a in self.groups.get(file[1], ())
+
+
+# ---- operations: the first refusal
+
+def demand(test, refusal):
+    if not test:
+        raise Refused(refusal)
+
+
+def found(tree, file):
+    place = body(tree, file)
+    demand(place is not None, f"14 NoFile {text_of(file)}")
+    return place
+
+
+def touch(roster, a, *files):
+    for file in files:
+        demand(roster.may_touch(a, file), f"13 NotMember {file[1]}")
+
+
+def holds(a, *places):
+    for place in places:
+        demand(place[0] == a, f"16 NotHolder {place[0]}")
+
+
+def check(roster, tree, a, op):
+    """Raises the first refusal; else answers the effect, the cells that are read besides, and those that are written."""
+    demand(a in roster.users, f"12 NoUser {a}")
+    return globals()["check_" + op[0]](roster, tree, a, *op[1:])
+
+
+def names(tree, place):
+    return tree[0][place][2]
+
+
+def kind_cells(file, place):
+    """The cells that tell that the file's body is there, and its kind."""
+    return {("inode", place, "kind")} | pointer_cells(file)
+
+
+def pointer_cells(file):
+    return {("pointer", file[1:])} if file[0] == "G" else set()
+
+
+def put(tree, place, inode):
+    inodes = dict(tree[0])
+    if inode is None:
+        inodes.pop(place, None)
+    else:
+        inodes[place] = inode
+    return inodes, tree[1]
+
+
+def point(tree, file, place):
+    if file[0] == "U":
+        return tree
+    pointers = dict(tree[1])
+    if place is None:
+        pointers.pop(file[1:], None)
+    else:
+        pointers[file[1:]] = place
+    return tree[0], pointers
+
+
+def with_name(tree, place, name, file):
+    home, links, content = tree[0][place]
+    content = dict(content)
+    if file is None:
+        content.pop(name, None)
+    else:
+        content[name] = file
+    return put(tree, place, (home, links, content))
+
+
+def with_links(tree, place, links):
+    home, _, content = tree[0][place]
+    return put(tree, place, (home, links, content))
+
+
+def check_create(roster, tree, a, kind, directory, name, file, number):
+    demand(file[0] == "G" or file == user_file(a, number), "3 BadNumber")
+    touch(roster, a, directory, file)
+    d = found(tree, directory)
+    demand(is_dir(tree, d), f"15 WrongKind {text_of(directory)}")
+    holds(a, d)
+    new = (a, number)
+    free = new not in tree[0] and (file[0] == "U" or file[1:] not in tree[1])
+    demand(free, "17 Held")
+    demand(name not in names(tree, d), "19 Exists")
+    after = with_name(tree, d, name, file)
+    after = put(after, new, (file, 1, {} if kind == "mkdir" else b""))
+    after = point(after, file, new)
+    writes = {("inode", d, "name", name), ("inode", new, "kind"), ("inode", new, "links"), ("inode", new, "size")}
+    return after, kind_cells(directory, d), writes | pointer_cells(file)
+
+
+def blocks(place, first, last):
+    return {("inode", place, "block", n) for n in range(first // BLOCK, last // BLOCK + 1)}
+
+
+def check_write(roster, tree, a, file, off, data):
+    demand(1 <= len(data) <= LARGEST_WRITE, "3 BadNumber")
+    touch(roster, a, file)
+    f = found(tree, file)
+    demand(is_file(tree, f), f"15 WrongKind {text_of(file)}")
+    holds(a, f)
+    end = off + len(data)
+    demand(end <= LARGEST_FILE, "22 TooBig")
+    home, links, content = tree[0][f]
+    size = len(content)
+    after = content.ljust(off, b"\0")
+    after = after[:off] + data + after[end:]
+    reads = kind_cells(file, f) | {("inode", f, "size")}
+    if end <= size:
+        writes = blocks(f, off, end - 1)
+    else:
+        writes = {("inode", f, "size")} | blocks(f, min(off, size), end - 1)
+    return put(tree, f, (home, links, after)), reads, writes
+
+
+def check_truncate(roster, tree, a, file, size):
+    touch(roster, a, file)
+    f = found(tree, file)
+    demand(is_file(tree, f), f"15 WrongKind {text_of(file)}")
+    holds(a, f)
+    demand(size <= LARGEST_FILE, "22 TooBig")
+    home, links, content = tree[0][f]
+    old = len(content)
+    writes = set()
+    if old != size:
+        writes = {("inode", f, "size")} | blocks(f, min(old, size), max(old, size) - 1)
+    after = content[:size].ljust(size, b"\0")
+    return put(tree, f, (home, links, after)), kind_cells(file, f) | {("inode", f, "size")}, writes
+
+
+def check_link(roster, tree, a, directory, name, file):
+    touch(roster, a, directory, file)
+    d = found(tree, directory)
+    f = found(tree, file)
+    demand(is_dir(tree, d), f"15 WrongKind {text_of(directory)}")
+    demand(is_file(tree, f), f"15 WrongKind {text_of(file)}")
+    holds(a, d, f)
+    demand(name not in names(tree, d), "19 Exists")
+    links = tree[0][f][1]
+    demand(links < MOST_LINKS, "23 TooManyLinks")
+    after = with_links(with_name(tree, d, name, file), f, links + 1)
+    return after, kind_cells(directory, d) | kind_cells(file, f), {("inode", d, "name", name), ("inode", f, "links")}
+
+
+def check_unlink(roster, tree, a, directory, name, file):
+    touch(roster, a, directory, file)
+    d = found(tree, directory)
+    f = found(tree, file)
+    demand(is_dir(tree, d), f"15 WrongKind {text_of(directory)}")
+    holds(a, d, f)
+    demand(names(tree, d).get(name) == file, "18 NoName")
+    demand(not (is_dir(tree, f) and names(tree, f)), "20 NotEmpty")
+    links = tree[0][f][1]
+    after = with_name(tree, d, name, None)
+    writes = {("inode", d, "name", name)}
+    if links > 1:
+        after = with_links(after, f, links - 1)
+        writes |= {("inode", f, "links")}
+    else:
+        after = point(put(after, f, None), file, None)
+        writes |= {("inode", f, "whole")} | pointer_cells(file)
+    return after, kind_cells(directory, d) | kind_cells(file, f), writes
+
+
+def check_rename(roster, tree, a, source, old, target, new, file):
+    touch(roster, a, source, target)
+    d = found(tree, source)
+    t = found(tree, target)
+    moves = source != target
+    f = found(tree, file) if moves else None
+    demand(is_dir(tree, d), f"15 WrongKind {text_of(source)}")
+    demand(is_dir(tree, t), f"15 WrongKind {text_of(target)}")
+    holds(a, d, t)
+    demand(names(tree, d).get(old) == file, "18 NoName")
+    demand(new not in names(tree, t), "19 Exists")
+    demand(not (moves and is_dir(tree, f)), "21 DirMove")
+    after = with_name(with_name(tree, t, new, file), d, old, None)
+    reads = kind_cells(source, d) | kind_cells(target, t)
+    if moves:
+        reads |= kind_cells(file, f)
+    return after, reads, {("inode", t, "name", new), ("inode", d, "name", old)}
+
+
+def check_take(roster, tree, a, file, number):
+    demand(file[0] == "G", "3 BadNumber")
+    touch(roster, a, file)
+    f = found(tree, file)
+    new = (a, number)
+    demand(f[0] != a and new not in tree[0], "17 Held")
+    after = point(put(tree, new, tree[0][f]), file, new)
+    reads = kind_cells(file, f) | {("inode", f, "whole")}
+    return after, reads, {("inode", new, "whole")} | pointer_cells(file)
+
+
+def share(some, others):
+    def same(x, y):
+        whole = "whole" in (x[2:3] + y[2:3])
+        return x == y or (x[0] == y[0] == "inode" and x[1] == y[1] and whole)
+
+    return any(same(x, y) for x in some for y in others)
+
+
+# ---- the desk
+
+class Desk:
+    def __init__(self, users):
+        self.roster = Roster(users)
+        self.history = []
+        self.mark = None
+
+    def live(self, history):
+        undone = {change[1] for _, change in history if change[0] == "undo"}
+        return [n for n, (_, change) in enumerate(history, 1) if change[0] != "undo" and n not in undone]
+
+    def tree(self, history):
+        tree = genesis()
+        for n in self.live(history):
+            tree, _, _ = check(self.roster, tree, *history[n - 1])
+        return tree
+
+    def cells(self, n):
+        """What entry n read and wrote, in the tree of the entries before it."""
+        _, reads, writes = check(self.roster, self.tree(self.history[:n - 1]), *self.history[n - 1])
+        return reads | writes, writes
+
+    def blocker(self, n):
+        _, writes = self.cells(n)
+        readers = [m for m in self.live(self.history) if m > n and share(self.cells(m)[0], writes)]
+        return max(readers, default=None)
+
+    def check_undo(self, a, n):
+        demand(a in self.roster.users, f"12 NoUser {a}")
+        demand(1 <= n <= len(self.history), f"24 NoOperation {n}")
+        author, change = self.history[n - 1]
+        demand(change[0] != "undo", f"25 NotOperation {n}")
+        for m, (_, other) in enumerate(self.history, 1):
+            demand(other != ("undo", n), f"26 AlreadyUndone {n} {m}")
+        demand(author == a, f"27 NotAuthor {author}")
+        m = self.blocker(n)
+        demand(m is None, f"28 Blocked {m}")
+
+    def apply(self, a, change):
+        if change[0] == "undo":
+            self.check_undo(a, change[1])
+        else:
+            check(self.roster, self.tree(self.history), a, change)
+        self.history.append((a, change))
+        return len(self.history)
+
+    def undo_last(self, a):
+        live = self.live(self.history)
+        return self.apply(a, ("undo", live[-1] if live else 0))
+
+    def versions(self):
+        counts = {("U", u): 0 for u in self.roster.users} | {("G", g): 0 for g in self.roster.groups}
+        for n, (a, change) in enumerate(self.history, 1):
+            _, writes = self.cells(change[1] if change[0] == "undo" else n)
+            counts["U", a] += 1
+            for g in {cell[1][0] for cell in writes if cell[0] == "pointer"}:
+                counts["G", g] += 1
+        return " ".join(f"{p}{i}={count}" for (p, i), count in counts.items())
+
+
+# ---- digests of maps, inodes and i-tables
+
+def sha256(data):
+    return hashlib.sha256(data).digest()
+
+
+def number_bits(x):
+    return format(x, "032b")
+
+
+def name_bits(x):
+    return "".join("1" + format(b, "08b") for b in x) + "0"
+
+
+def digest_of(pairs):
+    """Of triples: the bits of a key, its bytes, the bytes of the value."""
+    if not pairs:
+        return sha256(b"\2")
+    if len(pairs) == 1:
+        _, key, value = pairs[0]
+        return sha256(b"\0" + len(key).to_bytes(2, "big") + key + value)
+    place = next(n for n in range(10 ** 6) if len({bits[n] for bits, _, _ in pairs}) > 1)
+    sides = [digest_of([p for p in pairs if p[0][place] == bit]) for bit in "01"]
+    return sha256(b"\1" + place.to_bytes(2, "big") + sides[0] + sides[1])
+
+
+def file_bytes(file):
+    return bytes(["UG".index(file[0]), file[1]]) + file[2].to_bytes(4, "big")
+
+
+def inode_digest(inode):
+    home, links, content = inode
+    if isinstance(content, dict):
+        parts = digest_of([(name_bits(x), x, file_bytes(f)) for x, f in content.items()])
+        kind, size = 1, 0
+    else:
+        count = (len(content) + BLOCK - 1) // BLOCK
+        cut = [content[n * BLOCK:(n + 1) * BLOCK] for n in range(count)]
+        parts = digest_of([(number_bits(n), n.to_bytes(4, "big"), sha256(b"\4" + b)) for n, b in enumerate(cut)])
+        kind, size = 0, len(content)
+    return sha256(b"\3" + file_bytes(home) + bytes([kind, links]) + size.to_bytes(4, "big") + parts)
+
+
+def handle(tree, principal):
+    kind, owner = principal
+    table = tree[0] if kind == "U" else tree[1]
+    pairs = []
+    for (p, number), value in table.items():
+        if p == owner:
+            value = inode_digest(value) if kind == "U" else bytes([value[0]]) + value[1].to_bytes(4, "big")
+            pairs.append((number_bits(number), number.to_bytes(4, "big"), value))
+    return digest_of(pairs).hex()
+
+
+# ---- scripts
+
+def is_file_id(file):
+    return (0 <= file[1] <= (63 if file[0] == "U" else 15)) and 1 <= file[2] <= 1000000
+
+
+def is_name(name):
+    return 1 <= len(name) <= 255 and name not in (b".", b"..") and b"/" not in name and b"\0" not in name
+
+
+def file_of(word):
+    owner, number = word[1:].split(":")
+    return (word[0], int(owner), int(number))
+
+
+def change_of(word, rest):
+    """The change of a user's line, its names, its file ids, and whether its other numbers are in their ranges."""
+    if word in ("mkdir", "create"):
+        d, f = file_of(rest[0]), file_of(rest[2])
+        number = int(rest[3]) if len(rest) == 4 else f[2]
+        name = rest[1].encode()
+        return ("create", word, d, name, f, number), [name], [d, f], 1 <= number <= 1000000
+    if word == "write":
+        f, off = file_of(rest[0]), int(rest[1])
+        return ("write", f, off, bytes.fromhex(rest[2])), [], [f], off < 2 ** 32
+    if word == "truncate":
+        f, size = file_of(rest[0]), int(rest[1])
+        return ("truncate", f, size), [], [f], size < 2 ** 32
+    if word in ("link", "unlink"):
+        d, name, f = file_of(rest[0]), rest[1].encode(), file_of(rest[2])
+        return (word, d, name, f), [name], [d, f], True
+    if word == "rename":
+        d, old, t, new, f = file_of(rest[0]), rest[1].encode(), file_of(rest[2]), rest[3].encode(), file_of(rest[4])
+        return (word, d, old, t, new, f), [old, new], [d, t, f], True
+    if word == "take":
+        f, number = file_of(rest[0]), int(rest[1])
+        return (word, f, number), [], [f], 1 <= number <= 1000000
+    return ("undo", int(rest[0])), [], [], True
+
+
+def carry_out_change(desk, a, words):
+    last = words[0] == "undo_last"
+    change, bad_names, files, numbers = (None, [], [], True) if last else change_of(words[0], words[1:])
+    demand(a > 63 or a in desk.roster.users, f"12 NoUser {a}")
+    demand(all(map(is_name, bad_names)), "2 BadName")
+    demand(a <= 63 and all(map(is_file_id, files)) and numbers, "3 BadNumber")
+    return f"ok {desk.undo_last(a) if last else desk.apply(a, change)}"
+
+
+def ask(desk, words):
+    tree = desk.tree(desk.history)
+    if words[0] == "versions":
+        return [desk.versions()]
+    if words[0] == "ihandle":
+        return [handle(tree, (words[1][0], int(words[1][1:])))]
+    handles = [handle(tree, ("U", u)) for u in desk.roster.users] + [handle(tree, ("G", g)) for g in desk.roster.groups]
+    if words[0] == "mark":
+        desk.mark = handles
+        return []
+    if words[0] == "same":
+        return ["no mark" if desk.mark is None else "same" if desk.mark == handles else "differs"]
+    file = file_of(words[1])
+    demand(is_file_id(file), "3 BadNumber")
+    place = found(tree, file)
+    home, links, content = tree[0][place]
+    if words[0] == "stat":
+        kind, size = ("dir", 0) if isinstance(content, dict) else ("file", len(content))
+        return [f"{kind} size {size} links {links} at {text_of(user_file(*place))}"]
+    wanted = dict if words[0] == "ls" else bytes
+    demand(isinstance(content, wanted), f"15 WrongKind {text_of(file)}")
+    if words[0] == "ls":
+        return [f"{name.decode()} {text_of(f)}" for name, f in sorted(content.items())]
+    off, count = int(words[2]), int(words[3])
+    return [content[off:off + count].hex()]
+
+
+def answer(desk, line):
+    """The lines that a line of a script prints."""
+    words = line.split(" ")
+    try:
+        if words[0].isdigit():
+            return [carry_out_change(desk, int(words[0]), words[1:])]
+        return ask(desk, words)
+    except Refused as refusal:
+        return [f"no {refusal}"]
+
+
+# ---- chance
+
+class Dice:
+    """Lines by chance over few users, groups, files and names, so that they have to do with each other. Most are made to
+    fit the tree that there is, the others are anything."""
+
+    def __init__(self, seed, desk):
+        self.random = random.Random(seed)
+        self.desk = desk
+        self.users = len(desk.roster.users)
+
+    def pick(self, *choices):
+        return self.random.choice(choices)
+
+    def rarely(self, odd, usual):
+        return odd if self.random.random() < 0.05 else usual
+
+    # ---- anything
+
+    def user(self):
+        return self.rarely(self.pick(self.users, 63, 64), self.random.randrange(self.users))
+
+    def number(self):
+        return self.rarely(self.pick(0, 1000000, 1000001), self.random.randint(1, 8))
+
+    def file(self):
+        if self.random.random() < 0.5:
+            return self.rarely(f"U{self.pick(63, 64)}:2", f"U{self.random.randrange(self.users)}:{self.number()}")
+        group = self.rarely(self.pick(2, 15, 16), self.pick(0, 0, 1))
+        return f"G{group}:{self.number()}"
+
+    def name(self):
+        return self.rarely(self.pick("..", ".", "a/b", "n" * 255, "n" * 256), self.pick("a", "b", "c", "d"))
+
+    def size(self):
+        usual = self.pick(0, 1, 2, 4095, 4096, 4097, 8192, 8193)
+        return self.rarely(self.pick(1048575, 1048576, 1048577, 2 ** 32), usual)
+
+    def data(self):
+        return bytes([self.random.randrange(256)] * self.pick(1, 2, 4096)).hex()
+
+    def any_change(self):
+        f, d, x = self.file(), self.file(), self.name()
+        change = self.pick(
+            f"mkdir {d} {x} {f} {self.number()}", f"create {d} {x} {f}", f"write {f} {self.size()} {self.data()}",
+            f"truncate {f} {self.size()}", f"link {d} {x} {f}", f"unlink {d} {x} {f}",
+            f"rename {d} {x} {self.file()} {self.name()} {f}", f"take {f} {self.number()}", f"undo {self.number()}",
+            "undo_last")
+        return change if "G" not in change or not change.startswith("create") else change + f" {self.number()}"
+
+    # ---- what fits the tree, mostly
+
+    def fitting_change(self):
+        """A user, and a change that he can make but for a detail."""
+        tree = self.desk.tree(self.desk.history)
+        bodies = [(home, place) for place, (home, _, _) in tree[0].items() if body(tree, home) == place]
+        dirs = [b for b in bodies if is_dir(tree, b[1])]
+        files = [b for b in bodies if is_file(tree, b[1])]
+        entries = [(d, place, x, f) for d, place in dirs for x, f in names(tree, place).items()]
+        d, at = self.pick(*dirs)
+        kind = self.pick("new", "new", "write", "write", "truncate", "link", "unlink", "rename", "rename", "take", "undo",
+                         "undo", "undo_last")
+        if kind == "write" and files:
+            f, place = self.pick(*files)
+            return place[0], f"write {text_of(f)} {self.size()} {self.data()}"
+        if kind == "truncate" and files:
+            f, place = self.pick(*files)
+            return place[0], f"truncate {text_of(f)} {self.size()}"
+        if kind == "link" and files:
+            f, place = self.pick(*files)
+            return at[0], f"link {text_of(d)} {self.name()} {text_of(f)}"
+        if kind in ("unlink", "rename") and entries:
+            d, at, x, f = self.pick(*entries)
+            x = x.decode()
+            if kind == "unlink":
+                return at[0], f"unlink {text_of(d)} {x} {text_of(f)}"
+            target, _ = self.pick((d, at), *dirs)
+            return at[0], f"rename {text_of(d)} {x} {text_of(target)} {self.name()} {text_of(f)}"
+        if kind == "take":
+            shared = [home for home, _ in bodies if home[0] == "G"]
+            return self.random.randrange(self.users), f"take {text_of(self.pick(*shared))} {self.random.randint(1, 40)}"
+        if kind == "undo" and self.desk.history:
+            n = self.random.randint(1, len(self.desk.history))
+            return self.desk.history[n - 1][0], f"undo {n}"
+        if kind == "undo_last":
+            live = self.desk.live(self.desk.history)
+            return (self.desk.history[live[-1] - 1][0] if live else 0), "undo_last"
+        number = self.random.randint(2, 40)
+        word = self.pick("mkdir", "create", "create")
+        new = self.pick(f"U{at[0]}:{number}", f"G{self.pick(0, 0, 1)}:{number} {number}")
+        return at[0], f"{word} {text_of(d)} {self.name()} {new}"
+
+    def question(self):
+        tree = self.desk.tree(self.desk.history)
+        known = text_of(self.pick(*[home for home, _, _ in tree[0].values()]))
+        file = self.pick(known, known, known, self.file())
+        return self.pick(
+            f"ls {file}", f"cat {file} {self.size()} {self.pick(0, 1, 5, 2 ** 64 - 1)}", f"stat {file}", "versions",
+            f"ihandle {self.pick('U0', 'U1', 'G0', 'G1', 'G15', 'U63')}", "mark", "same", "same")
+
+    def line(self):
+        chance = self.random.random()
+        if chance < 0.2:
+            return self.question()
+        if chance < 0.35:
+            return f"{self.user()} {self.any_change()}"
+        user, change = self.fitting_change()
+        return f"{self.rarely(self.user(), user)} {change}"
+
+
+def write_scripts(folder, count, lines):
+    for seed in range(count):
+        users = 1 + seed % 3
+        desk = Desk(users)
+        dice = Dice(seed, desk)
+        script, printed = [], []
+        for n in range(lines + 3):
+            line = dice.line() if n < lines else ("versions", "ihandle U0", "ihandle G0")[n - lines]
+            script.append(line)
+            printed += answer(desk, line)
+        name = f"{folder}/chance_{seed}"
+        with open(name, "w") as file:
+            file.write("".join(line + "\n" for line in script))
+        with open(f"{name}.args", "w") as file:
+            file.write(f"desk\n--users\n{users}\n")
+        with open(f"{name}.stdout", "w") as file:
+            file.write("".join(text + "\n" for text in printed))
+
+
+if __name__ == "__main__":
+    if sys.argv[1] == "--run":
+        desk = Desk(int(sys.argv[2]))
+        for line in sys.stdin.read().split("\n"):
+            for text in answer(desk, line) if line else []:
+                print(text)
+    else:
+        write_scripts(sys.argv[1], int(sys.argv[2]), int(sys.argv[3]))
