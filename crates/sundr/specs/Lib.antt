@@ -1,2 +1,3 @@
 pub mod Key
 pub mod Line
+pub mod Run

@@ -2,17 +2,18 @@
 //! key for signatures.
 #![tactic(auto)]
 
-ghost use Rattle.std.specs.Prelude.{◌≡◌, IfOk, ◌≤◌, string_bytes};
+ghost use Rattle.std.specs.Prelude.{◌≡◌, ℕ, List, Some, IfOk, ◌≤◌, string_bytes};
+ghost use Rattle.su_script.specs.Transcript.{Prints};
 ghost use Rattle.sundr.specs.Key.{IsPublicLine};
 ghost use Rattle.sundr.specs.Line.{IsInRange, refused_status};
+ghost use Rattle.sundr.specs.Run.{CarriesOut, PrintsUnlessFault};
 
 mod keygen;
 mod line;
-#[cfg(test)]
-mod tests;
 
 use keygen::{KeygenFault, make_key};
 use line::{Line, LineFault, line_of};
+use std::io::{Read, Write};
 use std::process::ExitCode;
 use std::{env, io};
 use su_lms::Params;
@@ -20,13 +21,13 @@ use su_script::{Status, run_desk};
 
 fn main(rt: HostRuntime) -> ExitCode {
     let status = match command_line(&rt) {
-        Ok(line) => carry_out(&rt, line),
+        Ok(line) => carry_out(&rt, line, rt.reader(), &mut io::writer(&rt)),
         Err(fault) => refuse(&rt, &fault),
     };
     ExitCode::from(status.code())
 }
 
-/// What the arguments ask for. Arguments that are no text are a wrong command line.
+/// Reads what the arguments ask for. Arguments that are no text are a wrong command line.
 fn command_line(rt: &HostRuntime) -> Result<Line, LineFault>
     ensures { IfOk result IsInRange }
 {
@@ -39,26 +40,42 @@ fn command_line(rt: &HostRuntime) -> Result<Line, LineFault>
     line_of(alloc, words.as_slice())
 }
 
-/// Carries out a command line.
-fn carry_out(rt: &HostRuntime, line: Line) -> Status
+/// Carries out a command line with this input and output. A fault is told on standard error.
+fn carry_out<R: Read + Drop, W: Write>(
+    rt: &HostRuntime,
+    line: Line,
+    reader: R,
+    writer: &mut W,
+) -> Status
     requires { IsInRange line }
+    ensures { (input before : List ℕ)
+        → R.remaining reader ≡ Some input → W.contents writer.old ≡ Some before
+        → CarriesOut line input before (W.contents writer.new) result }
 {
     match line {
-        Line::Desk { users } => run_script(rt, users),
+        Line::Desk { users } => run_script(rt, users, reader, writer),
         Line::Keygen {
             entropy,
             out,
             params,
-        } => new_key(rt, entropy.as_str(), out.as_str(), params),
-        Line::Text(text) => print(rt, text),
+        } => new_key(rt, entropy.as_str(), out.as_str(), params, writer),
+        Line::Text(text) => print(rt, text.as_str(), writer),
     }
 }
 
-/// Runs the script on standard input.
-fn run_script(rt: &HostRuntime, users: u8) -> Status
+/// Runs a script on a new desk of so many users, 1 to 64.
+fn run_script<R: Read + Drop, W: Write>(
+    rt: &HostRuntime,
+    users: u8,
+    reader: R,
+    writer: &mut W,
+) -> Status
     requires { (1 ≤ users) × (users ≤ 64) }
+    ensures { (input before : List ℕ)
+        → R.remaining reader ≡ Some input → W.contents writer.old ≡ Some before
+        → Prints users input before (W.contents writer.new) result }
 {
-    let status = run_desk(rt.alloc(), rt.reader(), &mut io::writer(rt), users);
+    let status = run_desk(rt.alloc(), reader, writer, users);
     if status == Status::Fault {
         let _ = eprintln!(rt;
             "reading the script or writing an answer failed, or there was no memory"
@@ -67,10 +84,19 @@ fn run_script(rt: &HostRuntime, users: u8) -> Status
     status
 }
 
-/// Makes a key, and prints the public key.
-fn new_key(rt: &HostRuntime, entropy: &str, out: &str, params: Params) -> Status {
+/// Makes a key, and prints its public key.
+fn new_key<W: Write>(
+    rt: &HostRuntime,
+    entropy: &str,
+    out: &str,
+    params: Params,
+    writer: &mut W,
+) -> Status
+    ensures { (before : List ℕ) → W.contents writer.old ≡ Some before
+        → PrintsUnlessFault (IsPublicLine params) before (W.contents writer.new) result }
+{
     match public_line(rt, entropy, out, params) {
-        Ok(text) => print(rt, text),
+        Ok(text) => print(rt, text.as_str(), writer),
         Err(fault) => {
             let _ = eprintln!(rt; "{fault}");
             Status::Fault
@@ -78,7 +104,7 @@ fn new_key(rt: &HostRuntime, entropy: &str, out: &str, params: Params) -> Status
     }
 }
 
-/// Makes a key; its public key is 112 hex digits.
+/// Makes a key, and returns its public key as a line of 112 hex digits.
 fn public_line(
     rt: &HostRuntime,
     entropy: &str,
@@ -93,8 +119,12 @@ fn public_line(
     Ok(format!(in alloc; "{digits}\n")?)
 }
 
-fn print(rt: &HostRuntime, text: String) -> Status {
-    match rt.print(text) {
+/// Prints a text.
+fn print<W: Write>(rt: &HostRuntime, text: &str, writer: &mut W) -> Status
+    ensures { (before : List ℕ) → W.contents writer.old ≡ Some before
+        → PrintsUnlessFault (λ t. t ≡ text.now) before (W.contents writer.new) result }
+{
+    match writer.write_all(text.as_bytes()) {
         Ok(()) => Status::Finished,
         Err(_) => {
             let _ = eprintln!(rt; "writing to standard output failed");
@@ -103,7 +133,7 @@ fn print(rt: &HostRuntime, text: String) -> Status {
     }
 }
 
-/// Says on standard error why there is nothing to do.
+/// Tells on standard error why there is nothing to do.
 fn refuse(rt: &HostRuntime, fault: &LineFault) -> Status
     ensures { result ≡ refused_status fault.now }
 {
