@@ -1,30 +1,16 @@
 -- The answer to a change after a history, and good histories.
-use Rattle.std.specs.Prelude.{◌≡◌, ℕ, ◌+◌, Bool, ◌&&◌, cond, List, [], ◌∷◌, ◌++◌, length, Option, None, Some, Result, Ok, Err, nat_eq, nat_lt}
-use Rattle.std.specs.List.{filter}
+use Rattle.std.specs.Prelude.{◌≡◌, ℕ, ◌+◌, cond, List, [], ◌∷◌, ◌++◌, length, Option, None, Some, Result, Ok, Err, nat_eq}
 use Rattle.std.specs.Option.{option_or}
 use Rattle.su_bytes.specs.Membership.{Membership, has_user}
 use Rattle.su_bytes.specs.declared.refusals.Refusal.{Refusal}
 use Rattle.su_bytes.specs.declared.refusals.Refusal.TheVariants.{NoUser, NoOperation, NotOperation, AlreadyUndone, NotAuthor, Blocked}
 use Rattle.su_op.specs.declared.operations.Change.{Change}
 use Rattle.su_op.specs.declared.operations.Change.TheVariants.{Do, Undo}
-use Rattle.su_op.specs.Area.{meet}
 use Rattle.su_op.specs.Operation.{why}
 use Rattle.su_desk.specs.declared.entries.Entry.{Entry}
-use Rattle.su_desk.specs.History.{Turn, live, entry_at, undoer}
-use Rattle.su_desk.specs.Applied.{reads_of, written, tree_after}
-
--- the number of the last of these operations
-abbrev pub last_number : List Turn → Option ℕ
-last_number [] = None
-last_number (t ∷ ts) = option_or (last_number ts) (Some t.number)
-
--- operation t came after n, and read a cell that n wrote, each where it was applied
-abbrev pub reads_after : Membership → List Entry → ℕ → Turn → Bool
-reads_after ro h n t = nat_lt n t.number && meet (reads_of ro h t) (written ro h n)
-
--- what stands in the way of an undo of n: the last live operation that came after it and read a cell that it wrote
-abbrev pub blocker : Membership → List Entry → ℕ → Option ℕ
-blocker ro h n = last_number (filter (reads_after ro h n) (live h))
+use Rattle.su_desk.specs.History.{entry_at, undoer}
+use Rattle.su_desk.specs.Applied.{tree_after}
+use Rattle.su_desk.specs.Blocker.{blocker}
 
 abbrev pub blocked_refusal : Option ℕ → Option Refusal
 blocked_refusal None = None
@@ -54,7 +40,9 @@ author_refusal a (Some e) = cond (nat_eq a e.author) None (Some (NotAuthor e.aut
 -- why user a may not undo n: no such user; n is no live operation; another's; blocked
 abbrev pub undo_refusal : Membership → List Entry → ℕ → ℕ → Option Refusal
 undo_refusal ro h a n =
-    cond (has_user ro a) (option_or (live_refusal h n) (option_or (author_refusal a (entry_at h n)) (blocked_refusal (blocker ro h n)))) (Some (NoUser a))
+    cond (has_user ro a)
+    (option_or (live_refusal h n) (option_or (author_refusal a (entry_at h n)) (blocked_refusal (blocker ro h n))))
+    (Some (NoUser a))
 
 -- why a change by user a is refused after a history. (After a good history there always is a tree.)
 abbrev pub refusal_of : Membership → List Entry → ℕ → Change → Option Refusal

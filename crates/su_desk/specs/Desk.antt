@@ -7,6 +7,7 @@ use Rattle.su_op.specs.declared.operations.Change.{Change}
 use Rattle.su_desk.specs.declared.entries.Entry.{Entry}
 use Rattle.su_desk.specs.declared.entries.DeskReply.{DeskReply}
 use Rattle.su_desk.specs.declared.entries.DeskReply.TheVariants.{Done, Refused}
+use Rattle.su_desk.specs.History.{entry_by}
 use Rattle.su_desk.specs.Answer.{answer}
 
 pub record DeskState : Type 0 where
@@ -15,7 +16,7 @@ pub record DeskState : Type 0 where
 
 -- the desk with one entry more
 abbrev pub with_entry : DeskState → ℕ → Change → DeskState
-with_entry d a c = record { roster = d.roster; history = d.history ++ record { author = a; change = c } ∷ [] }
+with_entry d a c = record { roster = d.roster; history = d.history ++ entry_by a c ∷ [] }
 
 -- What may be answered to a change by user a, and what the desk then is: the answer of its history, with one entry more
 -- where that is Done; or want of memory, with no change.

@@ -6,27 +6,28 @@ use Rattle.su_table.specs.Tree.{Tree, genesis}
 use Rattle.su_table.specs.Cell.{Cell}
 use Rattle.su_op.specs.declared.areas.Area.{Area}
 use Rattle.su_op.specs.Area.{has, meet}
-use Rattle.su_op.specs.Operation.{why, effect, reads, writes}
+use Rattle.su_op.specs.Operation.{why, reads, writes}
+use Rattle.su_op.specs.Store.{store}
 use Rattle.su_inverse.specs.Kept.{areas_of, IsKeptOf}
 use Rattle.su_desk.specs.declared.entries.Entry.{Entry}
 use Rattle.su_desk.specs.declared.kept.KeptOperation.{KeptOperation}
-use Rattle.su_desk.specs.History.{Turn, live}
+use Rattle.su_desk.specs.History.{NumberedAction, live}
 use Rattle.su_desk.specs.Answer.{Good}
 
 -- The operation is accepted in T; and what is kept of it is its number, the cells that it reads and writes there, and what
 -- those that it writes hold in T.
-pub record Fits (ro : Membership) (T : Tree) (t : Turn) (k : KeptOperation) : Type 0 where
-  pub accepted : why ro T t.author t.op ≡ None
+pub record Fits (ro : Membership) (T : Tree) (t : NumberedAction) (k : KeptOperation) : Type 0 where
+  pub accepted : why ro T t.action.author t.action.op ≡ None
   pub number : k.number ≡ t.number
-  pub reads : k.footprint.reads.items ≡ reads ro T t.author t.op
-  pub writes : k.footprint.writes.items ≡ writes ro T t.author t.op
+  pub reads : k.footprint.reads.items ≡ reads ro T t.action.author t.action.op
+  pub writes : k.footprint.writes.items ≡ writes ro T t.action.author t.action.op
   pub areas : (c : Cell) → has (areas_of k.inverse) c ≡ has k.footprint.writes.items c
   pub kept : IsKeptOf k.inverse T
 
 -- from S the operations lead to T, and what is kept of each fits the tree where it is applied
-abbrev pub Leads : Membership → Tree → List Turn → List KeptOperation → Tree → Type 0
+abbrev pub Leads : Membership → Tree → List NumberedAction → List KeptOperation → Tree → Type 0
 Leads ro S [] [] T = S ≡ T
-Leads ro S (t ∷ ts) (k ∷ ks) T = Fits ro S t k × Leads ro (effect ro S t.author t.op) ts ks T
+Leads ro S (t ∷ ts) (k ∷ ks) T = Fits ro S t k × Leads ro ((store ro).act S t.action) ts ks T
 Leads ro S [] (k ∷ ks) T = ⊥
 Leads ro S (t ∷ ts) [] T = ⊥
 

@@ -1,6 +1,6 @@
 -- Version numbers: how often each user and group was concerned by an entry. They only rise, also with an undo.
 use Rattle.std.specs.Prelude.{ℕ, ◌+◌, Bool, false, cond, List, [], ◌∷◌, ◌++◌, map, nat_eq}
-use Rattle.std.specs.List.{list_any}
+use Rattle.std.specs.List.{list_any, filter}
 use Rattle.su_bytes.specs.Membership.{Membership}
 use Rattle.su_bytes.specs.Principal.{principals}
 use Rattle.su_bytes.specs.declared.principals.Principal.{Principal}
@@ -11,7 +11,7 @@ use Rattle.su_op.specs.declared.operations.Change.{Change}
 use Rattle.su_op.specs.declared.operations.Change.TheVariants.{Do, Undo}
 use Rattle.su_op.specs.Operation.{writes}
 use Rattle.su_desk.specs.declared.entries.Entry.{Entry}
-use Rattle.su_desk.specs.Applied.{tree_after, written}
+use Rattle.su_desk.specs.Applied.{tree_after, written_by}
 
 -- the area is an entry of group g
 abbrev pub is_pointer_of : ℕ → Area → Bool
@@ -22,11 +22,15 @@ is_pointer_of g (PointerArea k) = nat_eq k.0 g
 abbrev pub carries : ℕ → List Area → Bool
 carries g w = list_any (is_pointer_of g) w
 
+-- the groups of the roster of which an entry is in what is written, ascending as in the roster
+abbrev pub carried_groups : Membership → List Area → List ℕ
+carried_groups ro w = filter (λ g. carries g w) (map (λ g. g.0) ro.groups)
+
 -- what the cells are of a change by user a after a history: those that the operation writes, or those that the operation
 -- wrote that it undoes
 abbrev pub cells_of : Membership → List Entry → ℕ → Change → List Area
 cells_of ro h a (Do op) = writes ro (tree_after ro h) a op
-cells_of ro h a (Undo n) = written ro h n
+cells_of ro h a (Undo n) = written_by ro h n
 
 -- an entry by user a that writes these areas raises the number of a, and of the groups that it carries
 abbrev pub raises : ℕ → List Area → Principal → Bool

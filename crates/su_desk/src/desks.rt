@@ -5,7 +5,8 @@ ghost use Rattle.su_desk.specs.Headline.{Headline};
 ghost use Rattle.su_bytes.specs.declared.refusals.Refusal.TheVariants.{NoMemory};
 ghost use Rattle.su_op.specs.declared.operations.Change.TheVariants.{Do, Undo};
 ghost use Rattle.su_desk.specs.History.{tree, live_numbers, last_live, entry_at, undoer};
-ghost use Rattle.su_desk.specs.Answer.{blocker, live_refusal, undo_refusal, Good};
+ghost use Rattle.su_desk.specs.Blocker.{blocker};
+ghost use Rattle.su_desk.specs.Answer.{live_refusal, undo_refusal, Good};
 ghost use Rattle.su_desk.specs.Desk.{Answers, Runs, result_of};
 
 use crate::entries::{DeskReply, Entry};

@@ -5,8 +5,6 @@ mod desks;
 mod entries;
 mod kept;
 mod laws;
-#[cfg(test)]
-mod tests;
 mod versions;
 
 pub use desks::Desk;

@@ -1,4 +1,4 @@
-use Rattle.su_desk.proofs.Counting.{never_falls, author_rises}
+use Rattle.su_desk.proofs.VersionNumbers.{never_falls, author_rises}
 use Rattle.su_desk.proofs.laws.versions_rise.Goals as goal
 
 pub returns-clause-none_falls : goal.returns-clause-none_falls

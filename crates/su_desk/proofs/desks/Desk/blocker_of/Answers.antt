@@ -1,8 +1,9 @@
 use Rattle.std.proofs.Common.{◌∙◌, sym, refl, ap, subst}
 use Rattle.std.specs.List.Sorted.{IsNonDecreasingBy}
 use Rattle.su_desk.specs.declared.kept.KeptOperation.{KeptOperation}
-use Rattle.su_desk.specs.Answer.{live_refusal, blocker}
-use Rattle.su_desk.proofs.Finding.{kept_ascend, none_kept_live, blocker_found}
+use Rattle.su_desk.specs.Blocker.{blocker}
+use Rattle.su_desk.specs.Answer.{live_refusal}
+use Rattle.su_desk.proofs.KeptPlaces.{kept_ascend, none_kept_live, blocker_found}
 use Rattle.su_desk.proofs.desks.Desk.blocker_of.Goals as goal
 
 pub place_of-requires : goal.place_of-requires

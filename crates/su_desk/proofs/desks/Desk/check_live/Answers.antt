@@ -2,7 +2,7 @@ use Rattle.std.proofs.Common.{◌∙◌, sym, ap, subst}
 use Rattle.std.specs.List.Sorted.{IsNonDecreasingBy}
 use Rattle.su_desk.specs.declared.kept.KeptOperation.{KeptOperation}
 use Rattle.su_desk.specs.Answer.{live_refusal}
-use Rattle.su_desk.proofs.Finding.{kept_ascend, found_live}
+use Rattle.su_desk.proofs.KeptPlaces.{kept_ascend, found_live}
 use Rattle.su_desk.proofs.desks.Desk.check_live.Goals as goal
 
 pub place_of-requires : goal.place_of-requires

@@ -1,7 +1,7 @@
 use Rattle.std.proofs.Common.{◌∙◌, map, ap}
 use Rattle.su_desk.specs.declared.kept.KeptOperation.{KeptOperation}
 use Rattle.su_desk.specs.History.{live_numbers}
-use Rattle.su_desk.proofs.Leading.{numbers_kept}
+use Rattle.su_desk.proofs.KeptOperations.{numbers_kept}
 use Rattle.su_desk.proofs.desks.Desk.live.Goals as goal
 
 pub returns-clause-value : goal.returns-clause-value

@@ -5,14 +5,15 @@ use Rattle.su_desk.specs.declared.kept.KeptOperation.{KeptOperation}
 use Rattle.su_bytes.specs.declared.principals.Principal.{Principal}
 use Rattle.su_op.specs.declared.operations.Change.TheVariants.{Undo}
 use Rattle.su_desk.specs.declared.entries.Entry.{Entry}
+use Rattle.su_desk.specs.History.{undo_by}
 use Rattle.su_desk.specs.Answer.{answer, undo_refusal}
 use Rattle.su_desk.specs.Desk.{DeskState, with_entry}
 use Rattle.su_desk.specs.Keeping.{Keeps, IsPlaceOf}
 use Rattle.su_desk.specs.Version.{cells_of, versions}
-use Rattle.su_desk.proofs.Counting.{counters_next, versions_within}
-use Rattle.su_desk.proofs.Live.{undo_accepted}
-use Rattle.su_desk.proofs.Finding.{none_kept_live, kept_ascend}
-use Rattle.su_desk.proofs.Answering.{Found, found, undone_there, undone_written, answer_done, answer_refused}
+use Rattle.su_desk.proofs.VersionNumbers.{counters_next, versions_within}
+use Rattle.su_desk.proofs.LiveNumbers.{undo_accepted}
+use Rattle.su_desk.proofs.KeptPlaces.{none_kept_live, kept_ascend}
+use Rattle.su_desk.proofs.Replies.{Found, found, undone_there, undone_written, answer_done, answer_refused}
 use Rattle.su_desk.proofs.desks.Desk.undo.Goals as goal
 
 pub returns-in-Err : goal.returns-in-Err
@@ -31,8 +32,8 @@ returns-in_default-place_of c =
 pub invariant_of-self-2 : goal.invariant_of-self-2
 invariant_of-self-2 c =
     let s = c.self.inside in
-    let e : Entry = record { author = c.args.author; change = Undo c.args.number } in
-    let entries = c.push_reserved.ensures.items ∙ ap (λ h. h ++ record { author = c.args.author; change = Undo c.args.number } ∷ []) c.in_ok-reserve.ensures.items in
+    let e : Entry = undo_by c.args.author c.args.number in
+    let entries = c.push_reserved.ensures.items ∙ ap (λ h. h ++ undo_by c.args.author c.args.number ∷ []) c.in_ok-reserve.ensures.items in
     let accepted = ap (λ d. undo_refusal d.roster d.history c.args.author c.args.number) c.self.view_is ∙ c.in_default.ensures.accepted in
     let k = c.index-kept.result.now in
     let i = c.in-Some.place in
@@ -50,8 +51,8 @@ invariant_of-self-2 c =
 pub returns : goal.returns
 returns c =
     let s = c.self.inside in
-    let entries = c.push_reserved.ensures.items ∙ ap (λ h. h ++ record { author = c.args.author; change = Undo c.args.number } ∷ []) c.in_ok-reserve.ensures.items in
-    let number : length s.entries.items + 1 ≡ c.len.result = omega (arith, c.len.ensures, c.push_reserved.new.self.ok.0, ap length entries, length-append s.entries.items (record { author = c.args.author; change = Undo c.args.number } ∷ [])) in
+    let entries = c.push_reserved.ensures.items ∙ ap (λ h. h ++ undo_by c.args.author c.args.number ∷ []) c.in_ok-reserve.ensures.items in
+    let number : length s.entries.items + 1 ≡ c.len.result = omega (arith, c.len.ensures, c.push_reserved.new.self.ok.0, ap length entries, length-append s.entries.items (undo_by c.args.author c.args.number ∷ [])) in
     let accepted = ap (λ d. undo_refusal d.roster d.history c.args.author c.args.number) c.self.view_is ∙ c.in_default.ensures.accepted in
     let seen : List Entry → DeskState = λ h. record { roster = s.roster; history = h } in (
       subst (λ d. answer d.roster d.history c.args.author (Undo c.args.number) ≡ Ok c.len.result) c.self.view_is

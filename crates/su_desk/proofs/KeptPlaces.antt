@@ -13,25 +13,26 @@ use Rattle.su_op.specs.declared.areas.Area.{Area}
 use Rattle.su_op.specs.Area.{meet}
 use Rattle.su_desk.specs.declared.entries.Entry.{Entry}
 use Rattle.su_desk.specs.declared.kept.KeptOperation.{KeptOperation}
-use Rattle.su_desk.specs.History.{Turn, turns_from, is_undone, live}
-use Rattle.su_desk.specs.Applied.{reads_of, written}
-use Rattle.su_desk.specs.Answer.{last_number, reads_after, blocker, undone_refusal, entry_refusal, live_refusal}
+use Rattle.su_desk.specs.History.{NumberedAction, last_number, live}
+use Rattle.su_desk.specs.Applied.{reads_where_applied, written_by}
+use Rattle.su_desk.specs.Blocker.{reads_after, blocker}
+use Rattle.su_desk.specs.Answer.{undone_refusal, entry_refusal, live_refusal}
 use Rattle.su_desk.specs.Keeping.{Keeps, IsPlaceOf, last_kept_reader}
-use Rattle.su_desk.proofs.Turns.{Rising, rising_live, rising_after}
-use Rattle.su_desk.proofs.Live.{none_undoes, live_number}
-use Rattle.su_desk.proofs.Blocking.{front_dropped}
-use Rattle.su_desk.proofs.Leading.{AreAsApplied, applied, part, written_kept}
+use Rattle.su_desk.proofs.Operations.{Rising, rising_live, rising_after}
+use Rattle.su_desk.proofs.LiveNumbers.{live_number, live_alone}
+use Rattle.su_desk.proofs.Blockers.{front_dropped}
+use Rattle.su_desk.proofs.KeptOperations.{AreAsApplied, applied, part, written_kept}
 
 -- ---- the numbers of what is kept ascend
 
-above : (ro : Membership) (h : List Entry) (low : ℕ) (ts : List Turn) (ks : List KeptOperation) → Rising low ts → AreAsApplied ro h ts ks → (j : ℕ) (d : KeptOperation) → j < length ks → low < (get_or ks j d).number
+above : (ro : Membership) (h : List Entry) (low : ℕ) (ts : List NumberedAction) (ks : List KeptOperation) → Rising low ts → AreAsApplied ro h ts ks → (j : ℕ) (d : KeptOperation) → j < length ks → low < (get_or ks j d).number
 above ro h low [] [] r a j d l = absurd (omega arith)
 above ro h low (t ∷ ts) (k ∷ ks) (first, r) (is, a) zero d l = let e = is.number in omega arith
 above ro h low (t ∷ ts) (k ∷ ks) (first, r) (is, a) (suc j) d l = let m : t.number < (get_or ks j d).number = above ro h t.number ts ks r a j d (omega arith) in omega arith
 above ro h low [] (k ∷ ks) r a j d l = absurd a
 above ro h low (t ∷ ts) [] r a j d l = absurd a
 
-ascending : (ro : Membership) (h : List Entry) (low : ℕ) (ts : List Turn) (ks : List KeptOperation) → Rising low ts → AreAsApplied ro h ts ks → (i j : ℕ) (d : KeptOperation) → i ≤ j → j < length ks → (get_or ks i d).number ≤ (get_or ks j d).number
+ascending : (ro : Membership) (h : List Entry) (low : ℕ) (ts : List NumberedAction) (ks : List KeptOperation) → Rising low ts → AreAsApplied ro h ts ks → (i j : ℕ) (d : KeptOperation) → i ≤ j → j < length ks → (get_or ks i d).number ≤ (get_or ks j d).number
 ascending ro h low [] [] r a i j d le l = absurd (omega arith)
 ascending ro h low (t ∷ ts) (k ∷ ks) (first, r) (is, a) zero zero d le l = omega arith
 ascending ro h low (t ∷ ts) (k ∷ ks) (first, r) (is, a) zero (suc j) d le l = let m : t.number < (get_or ks j d).number = above ro h t.number ts ks r a j d (omega arith) in let e = is.number in omega arith
@@ -55,7 +56,7 @@ none_later : {A : Type 0} (o : Option A) → option_or o None ≡ o
 none_later None = refl
 none_later (Some x) = refl
 
-later_readers : (ro : Membership) (h : List Entry) (n low : ℕ) (w : List Area) (ts : List Turn) (ks : List KeptOperation) → n ≤ low → w ≡ written ro h n → Rising low ts → AreAsApplied ro h ts ks
+later_readers : (ro : Membership) (h : List Entry) (n low : ℕ) (w : List Area) (ts : List NumberedAction) (ks : List KeptOperation) → n ≤ low → w ≡ written_by ro h n → Rising low ts → AreAsApplied ro h ts ks
     → last_kept_reader w ks ≡ last_number (filter (reads_after ro h n) ts)
 later_readers ro h n low w [] [] le is r a = refl
 later_readers ro h n low w (t ∷ ts) (k ∷ ks) le is (l, r) (fits, a) =
@@ -66,7 +67,7 @@ later_readers ro h n low w (t ∷ ts) (k ∷ ks) le is (l, r) (fits, a) =
   where
     same : meet k.footprint.reads.items w ≡ reads_after ro h n t
     same = let after : nat_lt n t.number ≡ true = grind arith in
-        ap (λ u. meet u w) fits.reads ∙ ap (meet (reads_of ro h t)) is ∙ ap (λ b. b && meet (reads_of ro h t) (written ro h n)) (sym after)
+        ap (λ u. meet u w) fits.reads ∙ ap (meet (reads_where_applied ro h t)) is ∙ ap (λ b. b && meet (reads_where_applied ro h t) (written_by ro h n)) (sym after)
 
     go : (b : Bool) → option_or (last_number (filter (reads_after ro h n) ts)) (cond b (Some t.number) None) ≡ last_number (cond b (t ∷ filter (reads_after ro h n) ts) (filter (reads_after ro h n) ts))
     go true = refl
@@ -78,37 +79,22 @@ later_readers ro h n low w (t ∷ ts) [] le is r a = absurd a
 pub blocker_there : (ro : Membership) (h : List Entry) (front rest : List KeptOperation) (k : KeptOperation) (T : Tree) (n : ℕ) → Keeps ro h (front ++ k ∷ rest) T → k.number ≡ n → last_kept_reader k.footprint.writes.items rest ≡ blocker ro h n
 blocker_there ro h front rest k T n keeps number =
     let p = part ro h (live h) front k rest (applied ro h (front ++ k ∷ rest) T keeps) in
-    let named : n ≡ p.turn.number = sym number ∙ p.here.number in
+    let named : n ≡ p.operation.number = sym number ∙ p.here.number in
     let rising = subst (Rising 0) p.whole (rising_live h) in
-    later_readers ro h p.turn.number p.turn.number k.footprint.writes.items p.after rest (omega arith) (written_kept ro h p.turn k p.turn.number p.here refl) (rising_after 0 p.before p.after p.turn rising) p.later
-    ∙ ap last_number (sym (front_dropped ro h 0 p.before p.after p.turn rising) ∙ ap (filter (reads_after ro h p.turn.number)) (sym p.whole))
+    later_readers ro h p.operation.number p.operation.number k.footprint.writes.items p.after rest (omega arith) (written_kept ro h p.operation k p.operation.number p.here refl) (rising_after 0 p.before p.after p.operation rising) p.later
+    ∙ ap last_number (sym (front_dropped ro h 0 p.before p.after p.operation rising) ∙ ap (filter (reads_after ro h p.operation.number)) (sym p.whole))
     ∙ ap (blocker ro h) (sym named)
 
 -- ---- which are live
-
-passed : (p : Turn → Bool) (xs ys zs : List Turn) (x : Turn) → filter p xs ≡ ys ++ x ∷ zs → p x ≡ true
-passed p [] [] zs x e = absurd (let bad : [] ≡ x ∷ zs = e in cc)
-passed p [] (y ∷ ys) zs x e = absurd (let bad : [] ≡ y ∷ (ys ++ x ∷ zs) = e in cc)
-passed p (z ∷ xs) ys zs x e = go (p z) refl (λ ys. passed p xs ys zs x) ys e
-  where
-    here : p z ≡ true → (ys : List Turn) → z ∷ filter p xs ≡ ys ++ x ∷ zs → ((ys : List Turn) → filter p xs ≡ ys ++ x ∷ zs → p x ≡ true) → p x ≡ true
-    here is [] e ih = let same : z ≡ x = cc in ap p (sym same) ∙ is
-    here is (y ∷ ys) e ih = ih ys (let rest : filter p xs ≡ ys ++ x ∷ zs = cc in rest)
-
-    go : (b : Bool) → p z ≡ b → ((ys : List Turn) → filter p xs ≡ ys ++ x ∷ zs → p x ≡ true) → (ys : List Turn) → cond b (z ∷ filter p xs) (filter p xs) ≡ ys ++ x ∷ zs → p x ≡ true
-    go true is ih ys e = here is ys e ih
-    go false is ih ys e = ih ys e
 
 -- what is kept is live
 pub live_there : (ro : Membership) (h : List Entry) (front rest : List KeptOperation) (k : KeptOperation) (T : Tree) (n : ℕ) → Keeps ro h (front ++ k ∷ rest) T → k.number ≡ n → live_refusal h n ≡ None
 live_there ro h front rest k T n keeps number =
     let p = part ro h (live h) front k rest (applied ro h (front ++ k ∷ rest) T keeps) in
-    let named : p.turn.number ≡ n = sym p.here.number ∙ number in
-    let stands : not (is_undone h p.turn.number) ≡ true = passed (λ t. not (is_undone h t.number)) (turns_from 1 h) p.before p.after p.turn p.whole in
-    subst (λ m. live_refusal h m ≡ None) named
-    (ap (entry_refusal h p.turn.number) p.here.entry ∙ ap (undone_refusal p.turn.number) (none_undoes 1 h p.turn.number (not-true (is_undone h p.turn.number) stands)))
+    let named : p.operation.number ≡ n = sym p.here.number ∙ number in
+    subst (λ m. live_refusal h m ≡ None) named (live_alone h p.before p.after p.operation p.whole p.here.entry)
 
-numbers_alike : (ro : Membership) (h : List Entry) (n : ℕ) (ts : List Turn) (ks : List KeptOperation) → AreAsApplied ro h ts ks → list_any (λ (k : KeptOperation). nat_eq k.number n) ks ≡ list_any (λ (t : Turn). nat_eq t.number n) ts
+numbers_alike : (ro : Membership) (h : List Entry) (n : ℕ) (ts : List NumberedAction) (ks : List KeptOperation) → AreAsApplied ro h ts ks → list_any (λ (k : KeptOperation). nat_eq k.number n) ks ≡ list_any (λ (t : NumberedAction). nat_eq t.number n) ts
 numbers_alike ro h n [] [] a = refl
 numbers_alike ro h n (t ∷ ts) (k ∷ ks) (is, a) = λ i. nat_eq (is.number i) n || numbers_alike ro h n ts ks a i
 numbers_alike ro h n [] (k ∷ ks) a = absurd a

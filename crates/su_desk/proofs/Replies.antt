@@ -11,12 +11,12 @@ use Rattle.su_op.specs.declared.operations.Change.{Change}
 use Rattle.su_op.specs.declared.operations.Change.TheVariants.{Do, Undo}
 use Rattle.su_op.specs.Operation.{why}
 use Rattle.su_desk.specs.declared.entries.Entry.{Entry}
-use Rattle.su_desk.specs.History.{tree, last_live}
+use Rattle.su_desk.specs.History.{undo_by, tree, last_live}
 use Rattle.su_desk.specs.declared.kept.KeptOperation.{KeptOperation}
-use Rattle.su_desk.specs.Applied.{written}
+use Rattle.su_desk.specs.Applied.{written_by}
 use Rattle.su_desk.specs.Keeping.{Keeps, IsPlaceOf}
-use Rattle.su_desk.proofs.Leading.{keeps_undo, written_there, last_kept, none_kept}
-use Rattle.su_desk.proofs.Finding.{split_at}
+use Rattle.su_desk.proofs.KeptOperations.{keeps_undo, written_there, last_kept, none_kept}
+use Rattle.su_desk.proofs.KeptPlaces.{split_at}
 use Rattle.su_desk.specs.Answer.{undo_refusal, refusal_of, reply, answer}
 
 pub answer_done : (ro : Membership) (h : List Entry) (a : ℕ) (c : Change) → refusal_of ro h a c ≡ None → answer ro h a c ≡ Ok (length h + 1)
@@ -68,8 +68,8 @@ found ro h ks k i n T keeps place here = record {
 }
 
 pub undone_there : (ro : Membership) (h : List Entry) (ks : List KeptOperation) (k : KeptOperation) (i : ℕ) (T T' : Tree) (a n : ℕ) → Found ro h ks k i n T → undo_refusal ro h a n ≡ None
-    → ((B : Tree) → IsPutBack k.inverse T B → T' ≡ B) → Keeps ro (h ++ record { author = a; change = Undo n } ∷ []) (take i ks ++ drop (i + 1) ks) T'
+    → ((B : Tree) → IsPutBack k.inverse T B → T' ≡ B) → Keeps ro (h ++ undo_by a n ∷ []) (take i ks ++ drop (i + 1) ks) T'
 undone_there ro h ks k i T T' a n there accepted put = keeps_undo ro h (take i ks) (drop (i + 1) ks) T T' a n k there.whole there.number accepted put
 
-pub undone_written : (ro : Membership) (h : List Entry) (ks : List KeptOperation) (k : KeptOperation) (i n : ℕ) (T : Tree) → Found ro h ks k i n T → k.footprint.writes.items ≡ written ro h n
+pub undone_written : (ro : Membership) (h : List Entry) (ks : List KeptOperation) (k : KeptOperation) (i n : ℕ) (T : Tree) → Found ro h ks k i n T → k.footprint.writes.items ≡ written_by ro h n
 undone_written ro h ks k i n T there = written_there ro h (take i ks) (drop (i + 1) ks) T n k there.whole there.number
