@@ -4,8 +4,8 @@ use Rattle.std.specs.List.{filter, list_any}
 use Rattle.std.specs.List.Sorted.{IsNonDecreasingBy}
 use Rattle.std.specs.Prelude.{IfSome}
 use Rattle.std.specs.Option.{is_some, option_or}
-use Rattle.std.proofs.lemmas.List.{take-append-drop, length-drop, get_or_default}
-use Rattle.std.proofs.Math.Seq.{drop-cons, take-length}
+use Rattle.std.proofs.lemmas.List.{take-append-drop, take_rest, get_or_default}
+use Rattle.std.proofs.Math.Seq.{drop-cons}
 use Rattle.std.proofs.lemmas.Bool.{not-true}
 use Rattle.su_bytes.specs.Membership.{Membership}
 use Rattle.su_table.specs.Tree.{Tree}
@@ -155,14 +155,11 @@ pub found_live : (ro : Membership) (h : List Entry) (ks seen : List KeptOperatio
 found_live ro h ks seen T n None keeps same found some = absurd (let bad : false ≡ true = some in cc)
 found_live ro h ks seen T n (Some i) keeps same found some = placed_live ro h ks T n i keeps (subst (λ xs. IsPlaceOf n xs i) same found)
 
-rest_is : (ks : List KeptOperation) (i : ℕ) → take (length ks - i) (drop i ks) ≡ drop i ks
-rest_is ks i = ap (λ n. take n (drop i ks)) (sym (length-drop i ks)) ∙ take-length (drop i ks)
-
 -- and the last of those behind it that read what it wrote is its blocker
 pub blocker_found : (ro : Membership) (h : List Entry) (ks seen sliced : List KeptOperation) (T : Tree) (n i : ℕ) (k : KeptOperation) (w : List Area) → Keeps ro h ks T → seen ≡ ks → IsPlaceOf n seen i → k ≡ get_or ks i k → w ≡ k.footprint.writes.items → sliced ≡ ks
     → last_kept_reader w (take (length sliced - (i + 1)) (drop (i + 1) sliced)) ≡ blocker ro h n
 blocker_found ro h ks seen sliced T n i k w keeps same placed here writes is =
     let place : IsPlaceOf n ks i = subst (λ xs. IsPlaceOf n xs i) same placed in
-    ap (last_kept_reader w) (ap (λ xs. take (length xs - (i + 1)) (drop (i + 1) xs)) is ∙ rest_is ks (i + 1))
+    ap (last_kept_reader w) (ap (λ xs. take (length xs - (i + 1)) (drop (i + 1) xs)) is ∙ take_rest ks (i + 1))
     ∙ ap (λ a. last_kept_reader a (drop (i + 1) ks)) writes
     ∙ blocker_there ro h (take i ks) (drop (i + 1) ks) k T n (subst (λ xs. Keeps ro h xs T) (split_at ks i k place.within (sym here)) keeps) (ap (λ (x : KeptOperation). x.number) here ∙ place.number k)

@@ -1,6 +1,7 @@
 -- The operations of a history: their numbers rise, and what one more entry makes of the live ones.
-use Rattle.std.proofs.Common.{◌≡◌, ℕ, ◌+◌, ◌<◌, ◌≤◌, ◌||◌, ◌&&◌, Bool, true, false, not, cond, List, [], ◌∷◌, ◌++◌, length, nat_eq, refl, sym, ap, ◌∙◌, arith, append_assoc, append-nil}
-use Rattle.std.specs.List.{filter}
+use Rattle.std.proofs.Common.{◌≡◌, ℕ, ◌+◌, ◌<◌, ◌≤◌, ◌||◌, ◌&&◌, Bool, true, false, not, cond, List, [], ◌∷◌, ◌++◌, length, map, nat_eq, zero, suc, add-one, subst, refl, sym, ap, ◌∙◌, arith, append_assoc, append-nil}
+use Rattle.std.specs.List.{filter, slice_index}
+use Rattle.std.specs.List.Sorted.{IsStrictlyIncreasing}
 use Rattle.std.proofs.lemmas.List.Elements.{filter-append}
 use Rattle.std.proofs.lemmas.List.Folds.{list_any-append}
 use Rattle.std.proofs.lemmas.Bool.{eq-eqb}
@@ -9,7 +10,7 @@ use Rattle.su_op.specs.Store.{Action}
 use Rattle.su_op.specs.declared.operations.Change.{Change}
 use Rattle.su_op.specs.declared.operations.Change.TheVariants.{Do, Undo}
 use Rattle.su_desk.specs.declared.entries.Entry.{Entry}
-use Rattle.su_desk.specs.History.{NumberedAction, entry_by, undo_by, operation_of, operations_from, undoes, is_undone, live}
+use Rattle.su_desk.specs.History.{NumberedAction, entry_by, undo_by, operation_of, operations_from, undoes, is_undone, live, live_numbers}
 
 -- ---- lists
 
@@ -123,3 +124,17 @@ live-undo h a n =
     filter_same (λ t. not (is_undone (h ++ undo_by a n ∷ []) t.number)) (λ t. not (is_undone h t.number) && not (nat_eq t.number n)) _ (λ t. ap not (is_undone-append h _ t.number) ∙ and_not (is_undone h t.number) (nat_eq t.number n))
     ∙ filter-and (λ t. not (is_undone h t.number)) (λ t. not (nat_eq t.number n)) (operations_from 1 (h ++ undo_by a n ∷ []))
     ∙ ap (λ ts. filter (λ (t : NumberedAction). not (nat_eq t.number n)) (filter (λ (t : NumberedAction). not (is_undone h t.number)) ts)) (operations_from-append 1 h _ ∙ append-nil (operations_from 1 h))
+
+-- ---- the numbers of live operations ascend
+
+abbrev numbers : List NumberedAction → List ℕ
+numbers ts = map (λ t. t.number) ts
+
+rises_at : (low : ℕ) (ts : List NumberedAction) (k : ℕ) → Rising low ts → suc k < length (numbers ts) → slice_index (numbers ts) k < slice_index (numbers ts) (suc k)
+rises_at low [] k r within = absurd (omega arith)
+rises_at low (t ∷ []) k r within = absurd (omega arith)
+rises_at low (t ∷ u ∷ ts) zero (l, (next, r)) within = next
+rises_at low (t ∷ u ∷ ts) (suc k) (l, r) within = rises_at t.number (u ∷ ts) k r (omega arith)
+
+pub live_ascend : (h : List Entry) → IsStrictlyIncreasing (live_numbers h)
+live_ascend h k within = subst (λ j. slice_index (live_numbers h) k < slice_index (live_numbers h) j) (sym (add-one k)) (rises_at 0 (live h) k (rising_live h) (omega arith))

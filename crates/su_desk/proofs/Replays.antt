@@ -1,6 +1,6 @@
 -- The live operations of a good history go in the replay as they did where they were applied, whatever was undone; so the replay
 -- never refuses one.
-use Rattle.std.proofs.Common.{◌≡◌, ℕ, ◌+◌, ◌<◌, ◌||◌, false, not, IsTrue, List, [], ◌∷◌, ◌++◌, length, length-append, nat_eq, None, Some, refl, sym, ap, ◌∙◌, subst, arith, append_assoc, append-nil}
+use Rattle.std.proofs.Common.{◌≡◌, ℕ, ◌+◌, ◌<◌, ◌||◌, ◌↔◌, false, not, IsTrue, List, [], ◌∷◌, ◌++◌, length, length-append, nat_eq, None, Some, refl, sym, ap, ◌∙◌, subst, arith, append_assoc, append-nil}
 use Rattle.std.specs.Option.{is_none, unwrap_or}
 use Rattle.std.specs.List.{filter}
 use Rattle.std.proofs.lemmas.List.{map-append}
@@ -191,3 +191,16 @@ good_replayed ro h T g is =
     let r = good_has_tree ro h g in
     let both : Some r.state ≡ Some T = sym (tree_replayed ro h r.state r.replayed) ∙ is in
     let same : r.state ≡ T = cc in subst (Replayed ro h) same r.replayed
+
+-- of a history and one entry more
+accepted_apart : (ro : Membership) (h es : List Entry) (e : Entry) → GoodAfter ro h (es ++ e ∷ []) → GoodAfter ro h es × (refusal_of ro (h ++ es) e.author e.change ≡ None)
+accepted_apart ro h [] e (accepted, g) = (tt, ap (λ l. refusal_of ro l e.author e.change) (append-nil h) ∙ accepted)
+accepted_apart ro h (x ∷ es) e (first, g) =
+    let r = accepted_apart ro (h ++ x ∷ []) es e g in ((first, r.0), ap (λ l. refusal_of ro l e.author e.change) (sym (append_assoc h (x ∷ []) es)) ∙ r.1)
+
+pub good_exact : (ro : Membership) (h : List Entry) (e : Entry) → Good ro (h ++ e ∷ []) ↔ (Good ro h × (refusal_of ro h e.author e.change ≡ None))
+good_exact ro h e = (accepted_apart ro [] h e, λ (good, accepted). good_further ro h e good accepted)
+
+-- an operation after a good history is live
+pub live_done : (ro : Membership) (h : List Entry) (x : Action) → Good ro h → live (h ++ entry_by x.author (Do x.op) ∷ []) ≡ live h ++ record { number = length h + 1; action = x } ∷ []
+live_done ro h x good = live-do h x ((good_has_tree ro h good).replayed.past (length h + 1) (omega arith))

@@ -1,18 +1,21 @@
 -- Version numbers, one entry further on.
-use Rattle.std.proofs.Common.{◌≡◌, ℕ, ◌+◌, ◌≤◌, ◌<◌, ◌^◌, Bool, true, false, cond, List, [], ◌∷◌, ◌++◌, map, length, refl, sym, ap, ◌∙◌, arith, append_assoc, append-nil, take, drop, get_or, suc, add-one}
-use Rattle.std.specs.List.{All, AllByRecursion}
+use Rattle.std.proofs.Common.{◌≡◌, ℕ, ◌+◌, ◌≤◌, ◌<◌, ◌^◌, ◌||◌, ◌&&◌, nat_eq, Bool, true, false, cond, List, [], ◌∷◌, ◌++◌, map, length, refl, sym, ap, ◌∙◌, arith, append_assoc, append-nil, take, drop, get_or, suc, add-one}
+use Rattle.std.specs.List.{All, AllByRecursion, filter, list_any}
+use Rattle.std.specs.List.Sorted.{IsStrictlyIncreasing}
+use Rattle.std.proofs.lemmas.List.Kept.{IsStrictlyIncreasing-filter}
 use Rattle.std.proofs.lemmas.List.Elements.{All-from_recursion}
-use Rattle.std.proofs.lemmas.List.{take_more, length-take}
+use Rattle.std.proofs.lemmas.List.{take_more, length-take, length-map, map-append}
 use Rattle.std.proofs.Math.ListN.{set}
 use Rattle.std.proofs.Math.Seq.{set-append_seam, get_or-append_seam, take-append_seam, drop-cons}
 use Rattle.std.proofs.lemmas.Bool.{eq-eqb}
-use Rattle.su_bytes.specs.Membership.{Membership}
+use Rattle.std.proofs.Math.Bool.{and-false}
+use Rattle.su_bytes.specs.Membership.{Membership, IsRoster, has_number}
 use Rattle.su_bytes.specs.Principal.{principals}
 use Rattle.su_bytes.specs.declared.principals.Principal.{Principal}
 use Rattle.su_bytes.specs.declared.principals.Principal.TheVariants.{User}
 use Rattle.su_op.specs.declared.areas.Area.{Area}
 use Rattle.su_desk.specs.declared.entries.Entry.{Entry}
-use Rattle.su_desk.specs.Version.{cells_of, raises, raised, version_after, version, numbered, versions}
+use Rattle.su_desk.specs.Version.{carries, carried_groups, cells_of, raises, raised, version_after, version, numbered, versions}
 
 -- by how much an entry after a history raises a number
 abbrev pub rise : Membership → List Entry → Entry → Principal → ℕ
@@ -72,15 +75,35 @@ all_raised ro h e (p ∷ ps) = λ i. (p, version-append ro h e p i) ∷ all_rais
 pub versions-append : (ro : Membership) (h : List Entry) (e : Entry) (w : List Area) → w ≡ cells_of ro h e.author e.change → versions ro (h ++ e ∷ []) ≡ map (raised e.author w) (versions ro h)
 versions-append ro h e w is = all_raised ro h e (principals ro) ∙ ap (λ w. map (raised e.author w) (versions ro h)) (sym is)
 
+-- ---- the groups that are carried
+
+same_number : (a g : ℕ) → nat_eq a g ≡ true → a ≡ g
+same_number a g is = grind arith
+
+carried_among : (w : List Area) (g : ℕ) (es : List (ℕ × List ℕ)) → list_any (λ c. nat_eq c g) (filter (λ c. carries c w) (map (λ e. e.0) es)) ≡ (has_number es g && carries g w)
+carried_among w g [] = refl
+carried_among w g (e ∷ es) = go (carries e.0 w) refl (nat_eq e.0 g) refl (carried_among w g es)
+  where
+    rest : List ℕ
+    rest = filter (λ c. carries c w) (map (λ e. e.0) es)
+
+    go : (b : Bool) → carries e.0 w ≡ b → (n : Bool) → nat_eq e.0 g ≡ n → list_any (λ c. nat_eq c g) rest ≡ (has_number es g && carries g w)
+        → list_any (λ c. nat_eq c g) (cond b (e.0 ∷ rest) rest) ≡ ((nat_eq e.0 g || has_number es g) && carries g w)
+    go true is true same ih =
+        ap (λ x. x || list_any (λ c. nat_eq c g) rest) same ∙ sym (ap (λ x. (x || has_number es g) && carries g w) same ∙ ap (λ c. carries c w) (sym (same_number e.0 g same)) ∙ is)
+    go true is false other ih = ap (λ x. x || list_any (λ c. nat_eq c g) rest) other ∙ ih ∙ ap (λ x. (x || has_number es g) && carries g w) (sym other)
+    go false is true same ih =
+        let out : carries g w ≡ false = ap (λ c. carries c w) (sym (same_number e.0 g same)) ∙ is in
+        ih ∙ ap (λ x. has_number es g && x) out ∙ and-false (has_number es g) ∙ sym (ap (λ x. (x || has_number es g) && carries g w) same ∙ out)
+    go false is false other ih = ih ∙ ap (λ x. (x || has_number es g) && carries g w) (sym other)
+
+pub carried_listed : (ro : Membership) (w : List Area) (g : ℕ) → list_any (λ c. nat_eq c g) (carried_groups ro w) ≡ (has_number ro.groups g && carries g w)
+carried_listed ro w g = carried_among w g ro.groups
+
+pub carried_ascend : (ro : Membership) (w : List Area) → IsRoster ro → IsStrictlyIncreasing (carried_groups ro w)
+carried_ascend ro w roster = IsStrictlyIncreasing-filter (λ g. carries g w) (map (λ g. g.0) ro.groups) roster.groups_ascend
+
 -- ---- one number after another is raised
-
-map_more : {A : Type 0} (f : A → A) (xs : List A) (y : A) → map f (xs ++ y ∷ []) ≡ map f xs ++ f y ∷ []
-map_more f [] y = refl
-map_more f (x ∷ xs) y = ap (λ zs. f x ∷ zs) (map_more f xs y)
-
-length_map : {A : Type 0} (f : A → A) (xs : List A) → length (map f xs) ≡ length xs
-length_map f [] = refl
-length_map f (x ∷ xs) = ap (λ n. suc n) (length_map f xs)
 
 set_at : {A : Type 0} (xs ys : List A) (y z : A) (i : ℕ) → length xs ≡ i → set (xs ++ y ∷ ys) i z ≡ (xs ++ z ∷ []) ++ ys
 set_at xs ys y z i is = ap (λ n. set (xs ++ y ∷ ys) n z) (sym is) ∙ set-append_seam xs y ys z ∙ sym (append_assoc xs (z ∷ []) ys)
@@ -93,12 +116,12 @@ pub next_changed : {A : Type 0} (f : A → A) (xs now : List A) (i : ℕ) (x y :
     → set now i y ≡ map f (take (i + 1) xs) ++ drop (i + 1) xs
 next_changed f xs now i x y within long is here changed =
     let inside : i < length xs = omega arith in
-    let front : length (map f (take i xs)) ≡ i = length_map f (take i xs) ∙ length-take i xs ∙ omega arith in
+    let front : length (map f (take i xs)) ≡ i = length-map (take i xs) f ∙ length-take i xs ∙ omega arith in
     let split : drop i xs ≡ get_or xs i x ∷ drop (i + 1) xs = drop-cons xs i x inside ∙ ap (λ j. get_or xs i x ∷ drop j xs) (sym (add-one i)) in
     let whole : now ≡ map f (take i xs) ++ get_or xs i x ∷ drop (i + 1) xs = is ∙ ap (λ zs. map f (take i xs) ++ zs) split in
     let same : x ≡ get_or xs i x = here ∙ ap (λ zs. get_or zs i x) whole ∙ get_at (map f (take i xs)) (drop (i + 1) xs) (get_or xs i x) x i front in
     ap (λ zs. set zs i y) whole ∙ set_at (map f (take i xs)) (drop (i + 1) xs) (get_or xs i x) y i front
-    ∙ ap (λ zs. zs ++ drop (i + 1) xs) (ap (λ z. map f (take i xs) ++ z ∷ []) (changed ∙ ap f same) ∙ sym (map_more f (take i xs) (get_or xs i x)) ∙ ap (map f) (sym (take_more xs i x inside)))
+    ∙ ap (λ zs. zs ++ drop (i + 1) xs) (ap (λ z. map f (take i xs) ++ z ∷ []) (changed ∙ ap f same) ∙ sym (map-append f (take i xs) (get_or xs i x ∷ [])) ∙ ap (map f) (sym (take_more xs i x inside)))
 
 pub raised_one : (a : ℕ) (w : List Area) (x y : Principal × ℕ) (b : Bool) → b ≡ raises a w y.0 → b ≡ true → x ≡ y → (y.0, y.1 + 1) ≡ raised a w x
 raised_one a w x y b is true_is same = ap (λ r. (y.0, y.1 + cond r 1 0)) (sym true_is ∙ is) ∙ ap (raised a w) (sym same)
@@ -118,5 +141,5 @@ pub counters_next : (ro : Membership) (h : List Entry) (e : Entry) (w : List Are
     → new ≡ map (raised e.author w) now → take n (new ++ rest) ≡ versions ro (h ++ e ∷ [])
 counters_next ro h e w n vs now new rest is were long same raised_all =
     let all : new ≡ map (raised e.author w) vs = raised_all ∙ ap (map (raised e.author w)) same in
-    put_back_whole n new rest (long ∙ sym (length_map (raised e.author w) vs) ∙ ap length (sym all))
+    put_back_whole n new rest (long ∙ sym (length-map vs (raised e.author w)) ∙ ap length (sym all))
     ∙ all ∙ ap (map (raised e.author w)) were ∙ sym (versions-append ro h e w is)
