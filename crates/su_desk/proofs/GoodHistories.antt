@@ -1,13 +1,12 @@
 -- What the desk is for holds of every good history.
-use Rattle.std.proofs.Common.{◌≡◌, ℕ, Bool, true, cond, List, [], ◌∷◌, ◌++◌, None, Some, nat_eq, refl, sym, ap, ◌∙◌, subst, append_assoc, append-nil}
+use Rattle.std.proofs.Common.{◌≡◌, ℕ, true, cond, List, [], ◌∷◌, ◌++◌, None, Some, refl, sym, ap, ◌∙◌, append_assoc, append-nil}
 use Rattle.std.specs.Option.{option_or, unwrap_or}
 use Rattle.std.proofs.lemmas.Bool.{eq-eqb}
 use Rattle.su_bytes.specs.Membership.{Membership, has_user}
-use Rattle.su_bytes.specs.declared.refusals.Refusal.TheVariants.{NoUser, NotAuthor}
+use Rattle.su_bytes.specs.declared.refusals.Refusal.TheVariants.{NotAuthor}
 use Rattle.su_table.specs.Tree.{Tree, genesis}
 use Rattle.su_op.specs.declared.operations.Op.{Op}
 use Rattle.su_op.specs.declared.operations.Op.TheVariants.{Create, Unlink, Write, Truncate, Take, Link, Rename}
-use Rattle.su_op.specs.declared.operations.Change.TheVariants.{Undo}
 use Rattle.su_op.specs.Rule.{Plan}
 use Rattle.su_op.specs.Operation.{rule_of, why}
 use Rattle.su_op.proofs.Rules.{Gives, gives_of}
@@ -16,11 +15,11 @@ use Rattle.su_desk.specs.declared.entries.Entry.{Entry}
 use Rattle.su_desk.specs.History.{NumberedAction, undo_by, undos, live, replay, tree, entry_at, last_number, last_live}
 use Rattle.su_desk.specs.Applied.{tree_after}
 use Rattle.su_desk.specs.Blocker.{blocker}
-use Rattle.su_desk.specs.Answer.{live_refusal, author_refusal, blocked_refusal, undo_refusal, refusal_of, Good, GoodAfter}
+use Rattle.su_desk.specs.Answer.{author_refusal, blocked_refusal, undo_refusal, Good, GoodAfter}
 use Rattle.su_desk.specs.Headline.{Headline}
 use Rattle.su_desk.proofs.VersionNumbers.{never_falls}
 use Rattle.su_desk.proofs.Blockers.{latest_free, named_exact, free_exact}
-use Rattle.su_desk.proofs.LiveNumbers.{live_alone}
+use Rattle.su_desk.proofs.LiveNumbers.{live_alone, by_blocker_alone}
 use Rattle.su_desk.proofs.Replays.{Replayed, HasTree, tree_replayed, split_live, undone_out, can_be_taken_out, goes_in_turn, good_after, good_further_after, good_has_tree, good_replayed}
 
 -- ---- who did an accepted operation belongs to the roster
@@ -48,9 +47,7 @@ refused_by_blocker ro h T r before after t is =
     let p = split_live ro h T before after t r is in
     let known = author_known ro p.earlier a t.action.op (none_is (why ro p.earlier a t.action.op) p.here.goes.alike.ok) in
     let own : author_refusal a (entry_at h n) ≡ None = ap (author_refusal a) p.here.entry ∙ ap (λ b. cond b None (Some (NotAuthor a))) (eq-eqb a a refl) in
-    ap (λ b. cond b (option_or (live_refusal h n) (option_or (author_refusal a (entry_at h n)) (blocked_refusal (blocker ro h n)))) (Some (NoUser a))) known
-    ∙ ap (λ o. option_or o (option_or (author_refusal a (entry_at h n)) (blocked_refusal (blocker ro h n)))) (live_alone h before after t is p.here.entry)
-    ∙ ap (λ o. option_or o (blocked_refusal (blocker ro h n))) own
+    by_blocker_alone ro h a n known (live_alone h before after t is p.here.entry) own
 
 -- ---- undone from the last on
 

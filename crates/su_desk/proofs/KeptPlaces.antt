@@ -1,12 +1,11 @@
 -- Where an operation is among what a desk keeps, and what stands in its way there.
-use Rattle.std.proofs.Common.{◌≡◌, ℕ, ◌+◌, ◌-◌, ◌<◌, ◌≤◌, ◌||◌, ◌&&◌, Bool, true, false, not, cond, zero, suc, List, [], ◌∷◌, ◌++◌, length, nat_eq, nat_lt, Option, Some, None, refl, sym, ap, ◌∙◌, subst, arith, get_or, take, drop, add-one}
+use Rattle.std.proofs.Common.{◌≡◌, ℕ, ◌+◌, ◌-◌, ◌<◌, ◌≤◌, ◌||◌, ◌&&◌, Bool, true, false, cond, zero, suc, List, [], ◌∷◌, ◌++◌, length, nat_eq, nat_lt, Option, Some, None, refl, sym, ap, ◌∙◌, subst, arith, get_or, take, drop, add-one}
 use Rattle.std.specs.List.{filter, list_any}
 use Rattle.std.specs.List.Sorted.{IsNonDecreasingBy}
-use Rattle.std.specs.Prelude.{IfSome}
-use Rattle.std.specs.Option.{is_some, option_or}
+use Rattle.std.specs.Option.{option_or}
 use Rattle.std.proofs.lemmas.List.{take-append-drop, take_rest, get_or_default}
 use Rattle.std.proofs.Math.Seq.{drop-cons}
-use Rattle.std.proofs.lemmas.Bool.{not-true}
+use Rattle.std.proofs.lemmas.Bool.{both_ways}
 use Rattle.su_bytes.specs.Membership.{Membership}
 use Rattle.su_table.specs.Tree.{Tree}
 use Rattle.su_op.specs.declared.areas.Area.{Area}
@@ -16,8 +15,8 @@ use Rattle.su_desk.specs.declared.kept.KeptOperation.{KeptOperation}
 use Rattle.su_desk.specs.History.{NumberedAction, last_number, live}
 use Rattle.su_desk.specs.Applied.{reads_where_applied, written_by}
 use Rattle.su_desk.specs.Blocker.{reads_after, blocker}
-use Rattle.su_desk.specs.Answer.{undone_refusal, entry_refusal, live_refusal}
-use Rattle.su_desk.specs.Keeping.{Keeps, IsPlaceOf, last_kept_reader}
+use Rattle.su_desk.specs.Answer.{live_refusal}
+use Rattle.su_desk.specs.Keeping.{Keeps, AreKept, IsPlaceOf, last_kept_reader, kept_blocker}
 use Rattle.su_desk.proofs.Operations.{Rising, rising_live, rising_after}
 use Rattle.su_desk.proofs.LiveNumbers.{live_number, live_alone}
 use Rattle.su_desk.proofs.Blockers.{front_dropped}
@@ -138,28 +137,47 @@ reader_not_yet w ks later k some within here none reads = one_earlier w ks later
 
 -- ---- places
 
-pub none_kept_live : {P : Type 0} (ro : Membership) (h : List Entry) (ks seen : List KeptOperation) (T : Tree) (n : ℕ) → Keeps ro h ks T → live_refusal h n ≡ None → seen ≡ ks → list_any (λ (k : KeptOperation). nat_eq k.number n) seen ≡ false → P
-none_kept_live ro h ks seen T n keeps stands same none =
-    let kept = kept_there ro h ks T n keeps stands in
-    absurd (let bad : true ≡ false = sym kept ∙ ap (list_any (λ (k : KeptOperation). nat_eq k.number n)) (sym same) ∙ none in cc)
+-- what is seen of a desk
+pub are_kept : (ro : Membership) (h seen : List Entry) (ks kept : List KeptOperation) (T : Tree) → seen ≡ h → kept ≡ ks → Keeps ro h ks T → AreKept ro seen kept
+are_kept ro h seen ks kept T e k keeps = (T, subst (λ xs. Keeps ro seen xs T) (sym k) (subst (λ g. Keeps ro g ks T) (sym e) keeps))
 
-placed_live : (ro : Membership) (h : List Entry) (ks : List KeptOperation) (T : Tree) (n i : ℕ) → Keeps ro h ks T → IsPlaceOf n ks i → live_refusal h n ≡ None
-placed_live ro h [] T n i keeps place = let within = place.within in absurd (omega arith)
-placed_live ro h (l ∷ ks) T n i keeps place =
+pub none_kept_live : {P : Type 0} (ro : Membership) (h : List Entry) (ks : List KeptOperation) (T : Tree) (n : ℕ) → Keeps ro h ks T → live_refusal h n ≡ None → list_any (λ (k : KeptOperation). nat_eq k.number n) ks ≡ false → P
+none_kept_live ro h ks T n keeps stands none = absurd (both_ways (list_any (λ (k : KeptOperation). nat_eq k.number n) ks) none (kept_there ro h ks T n keeps stands))
+
+-- what is kept at a place, with what is kept before and behind it
+record KeptAt (ro : Membership) (h : List Entry) (ks : List KeptOperation) (T : Tree) (n i : ℕ) : Type 0 where
+  operation : KeptOperation
+  here : get_or ks i operation ≡ operation
+  number : operation.number ≡ n
+  whole : Keeps ro h (take i ks ++ operation ∷ drop (i + 1) ks) T
+
+kept_at : (ro : Membership) (h : List Entry) (ks : List KeptOperation) (T : Tree) (n i : ℕ) → Keeps ro h ks T → IsPlaceOf n ks i → KeptAt ro h ks T n i
+kept_at ro h [] T n i keeps place = let within = place.within in absurd (omega arith)
+kept_at ro h (l ∷ ks) T n i keeps place =
     let k : KeptOperation = get_or (l ∷ ks) i l in
     let here : get_or (l ∷ ks) i k ≡ k = get_or_default (l ∷ ks) i k l place.within in
-    live_there ro h (take i (l ∷ ks)) (drop (i + 1) (l ∷ ks)) k T n (subst (λ xs. Keeps ro h xs T) (split_at (l ∷ ks) i k place.within here) keeps) (place.number l)
+    record { operation = k; here = here; number = place.number l; whole = subst (λ xs. Keeps ro h xs T) (split_at (l ∷ ks) i k place.within here) keeps }
 
 -- what is found is live
-pub found_live : (ro : Membership) (h : List Entry) (ks seen : List KeptOperation) (T : Tree) (n : ℕ) (o : Option ℕ) → Keeps ro h ks T → seen ≡ ks → IfSome o (λ place. IsPlaceOf n seen place) → is_some o ≡ true → live_refusal h n ≡ None
-found_live ro h ks seen T n None keeps same found some = absurd (let bad : false ≡ true = some in cc)
-found_live ro h ks seen T n (Some i) keeps same found some = placed_live ro h ks T n i keeps (subst (λ xs. IsPlaceOf n xs i) same found)
+pub place_live : (ro : Membership) (h : List Entry) (ks : List KeptOperation) (T : Tree) (n i : ℕ) → Keeps ro h ks T → IsPlaceOf n ks i → live_refusal h n ≡ None
+place_live ro h ks T n i keeps place =
+    let k = kept_at ro h ks T n i keeps place in live_there ro h (take i ks) (drop (i + 1) ks) k.operation T n k.whole k.number
 
--- and the last of those behind it that read what it wrote is its blocker
-pub blocker_found : (ro : Membership) (h : List Entry) (ks seen sliced : List KeptOperation) (T : Tree) (n i : ℕ) (k : KeptOperation) (w : List Area) → Keeps ro h ks T → seen ≡ ks → IsPlaceOf n seen i → k ≡ get_or ks i k → w ≡ k.footprint.writes.items → sliced ≡ ks
-    → last_kept_reader w (take (length sliced - (i + 1)) (drop (i + 1) sliced)) ≡ blocker ro h n
-blocker_found ro h ks seen sliced T n i k w keeps same placed here writes is =
-    let place : IsPlaceOf n ks i = subst (λ xs. IsPlaceOf n xs i) same placed in
-    ap (last_kept_reader w) (ap (λ xs. take (length xs - (i + 1)) (drop (i + 1) xs)) is ∙ take_rest ks (i + 1))
-    ∙ ap (λ a. last_kept_reader a (drop (i + 1) ks)) writes
-    ∙ blocker_there ro h (take i ks) (drop (i + 1) ks) k T n (subst (λ xs. Keeps ro h xs T) (split_at ks i k place.within (sym here)) keeps) (ap (λ (x : KeptOperation). x.number) here ∙ place.number k)
+kept_blocker_at : (ks : List KeptOperation) (i : ℕ) (k : KeptOperation) → i < length ks → get_or ks i k ≡ k → kept_blocker ks i ≡ last_kept_reader k.footprint.writes.items (drop (i + 1) ks)
+kept_blocker_at [] i k within here = absurd (omega arith)
+kept_blocker_at (l ∷ ks) zero k within here = ap (λ (x : KeptOperation). last_kept_reader x.footprint.writes.items ks) here
+kept_blocker_at (l ∷ ks) (suc i) k within here =
+    let further : suc (i + 1) ≡ suc i + 1 = omega arith in
+    kept_blocker_at ks i k (omega arith) here ∙ ap (λ j. last_kept_reader k.footprint.writes.items (drop j (l ∷ ks))) further
+
+-- the last of those behind it that read what it wrote
+pub behind_it : (ks : List KeptOperation) (i : ℕ) (k : KeptOperation) (w : List Area) → i < length ks → k ≡ get_or ks i k → w ≡ (get_or ks i k).footprint.writes.items
+    → last_kept_reader w (take (length ks - (i + 1)) (drop (i + 1) ks)) ≡ kept_blocker ks i
+behind_it ks i k w within here writes =
+    ap (last_kept_reader w) (take_rest ks (i + 1)) ∙ ap (λ a. last_kept_reader a (drop (i + 1) ks)) (writes ∙ ap (λ (x : KeptOperation). x.footprint.writes.items) (sym here)) ∙ sym (kept_blocker_at ks i k within (sym here))
+
+-- is its blocker
+pub blocker_kept : (ro : Membership) (h : List Entry) (ks : List KeptOperation) (T : Tree) (n i : ℕ) → Keeps ro h ks T → IsPlaceOf n ks i → kept_blocker ks i ≡ blocker ro h n
+blocker_kept ro h ks T n i keeps place =
+    let k = kept_at ro h ks T n i keeps place in
+    kept_blocker_at ks i k.operation place.within k.here ∙ blocker_there ro h (take i ks) (drop (i + 1) ks) k.operation T n k.whole k.number

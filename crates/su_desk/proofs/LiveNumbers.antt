@@ -157,3 +157,10 @@ undo_accepted ro h a n e = user (has_user ro a) e
     user : (b : Bool) → cond b (option_or (live_refusal h n) (option_or (author_refusal a (entry_at h n)) (blocked_refusal (blocker ro h n)))) (Some (NoUser a)) ≡ None → Undoable ro h n
     user false e = absurd (let bad : Some (NoUser a) ≡ None = e in cc)
     user true e = here (live_refusal h n) refl e
+
+-- the undo of a live operation by its author is refused by its blocker alone
+pub by_blocker_alone : (ro : Membership) (h : List Entry) (a n : ℕ) → has_user ro a ≡ true → live_refusal h n ≡ None → author_refusal a (entry_at h n) ≡ None → undo_refusal ro h a n ≡ blocked_refusal (blocker ro h n)
+by_blocker_alone ro h a n known stands own =
+    ap (λ b. cond b (option_or (live_refusal h n) (option_or (author_refusal a (entry_at h n)) (blocked_refusal (blocker ro h n)))) (Some (NoUser a))) known
+    ∙ ap (λ o. option_or o (option_or (author_refusal a (entry_at h n)) (blocked_refusal (blocker ro h n)))) stands
+    ∙ ap (λ o. option_or o (blocked_refusal (blocker ro h n))) own

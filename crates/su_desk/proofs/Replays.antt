@@ -19,7 +19,7 @@ use Rattle.su_undo.specs.Replay.{replay as replay_actions, NoneReads, CanBeTaken
 use Rattle.su_undo.proofs.TakingOut.{AllBeside, led_to, agree_read, past_it, undo_is_safe}
 use Rattle.su_desk.specs.declared.entries.Entry.{Entry}
 use Rattle.su_desk.specs.History.{NumberedAction, actions, entry_by, undo_by, is_undone, live, replay, tree}
-use Rattle.su_desk.specs.Applied.{writes_where_applied, GoesAsApplied}
+use Rattle.su_desk.specs.Applied.{GoesAsApplied}
 use Rattle.su_desk.specs.Blocker.{blocker}
 use Rattle.su_desk.specs.Answer.{refusal_of, live_refusal, Good, GoodAfter}
 use Rattle.su_desk.proofs.Operations.{Rising, rising_live, one_taken_out, is_undone-append, live-do, live-undo}

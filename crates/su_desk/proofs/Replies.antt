@@ -1,18 +1,20 @@
 -- The answers of a desk from what it keeps.
-use Rattle.std.proofs.Common.{◌≡◌, ◌∙◌, sym, refl, ap, ℕ, ◌+◌, ◌-◌, List, [], ◌∷◌, ◌++◌, length, Some, None, Ok, Err, slice_get, get_or, take, drop, subst, zero, suc, arith}
+use Rattle.std.proofs.Common.{◌⊎◌, ⊎_elim, inl, inr, Result, IsErrAnd, ◌≡◌, ◌∙◌, sym, refl, ap, ℕ, ◌+◌, ◌-◌, List, [], ◌∷◌, ◌++◌, length, Some, None, Ok, Err, slice_get, get_or, take, drop, subst, zero, suc, arith}
 use Rattle.std.specs.Option.{unwrap_or}
 use Rattle.std.proofs.lemmas.Option.{slice_get-get_or}
 use Rattle.su_bytes.specs.Membership.{Membership}
 use Rattle.su_bytes.specs.declared.refusals.Refusal.{Refusal}
+use Rattle.su_bytes.specs.declared.refusals.Refusal.TheVariants.{NoMemory}
 use Rattle.su_table.specs.Tree.{Tree, genesis}
 use Rattle.su_inverse.specs.Kept.{IsPutBack}
 use Rattle.su_op.specs.declared.operations.Op.{Op}
 use Rattle.su_op.specs.declared.operations.Change.{Change}
-use Rattle.su_op.specs.declared.operations.Change.TheVariants.{Do, Undo}
+use Rattle.su_op.specs.declared.operations.Change.TheVariants.{Do}
 use Rattle.su_op.specs.Operation.{why}
 use Rattle.su_desk.specs.declared.entries.Entry.{Entry}
 use Rattle.su_desk.specs.History.{undo_by, tree, last_live}
 use Rattle.su_desk.specs.declared.kept.KeptOperation.{KeptOperation}
+use Rattle.su_desk.specs.Desk.{DeskState, Answers}
 use Rattle.su_desk.specs.Applied.{written_by}
 use Rattle.su_desk.specs.Keeping.{Keeps, IsPlaceOf}
 use Rattle.su_desk.proofs.KeptOperations.{keeps_undo, written_there, last_kept, none_kept}
@@ -26,6 +28,11 @@ answer_done ro h a c e = ap (reply (length h + 1)) e
 pub answer_refused : (ro : Membership) (h : List Entry) (a : ℕ) (c : Change) (r : Refusal) → refusal_of ro h a c ≡ Some r → answer ro h a c ≡ Err r
 unfolding answer
 answer_refused ro h a c r e = ap (reply (length h + 1)) e
+
+-- a refusal that is passed on
+pub passed_on : (d : DeskState) (a : ℕ) (c : Change) (r : Result ℕ Refusal) (x : Refusal) → IsErrAnd r (λ e. e ≡ x) → (x ≡ NoMemory) ⊎ (answer d.roster d.history a c ≡ Err x) → Answers d a c r d
+passed_on d a c (Ok n) x is why = absurd is
+passed_on d a c (Err e) x is why = (⊎_elim (λ m. inl (is ∙ m)) (λ f. inr (f ∙ ap Err (sym is))) why, refl)
 
 -- an operation is answered from the tree
 pub refusal_of-do : (ro : Membership) (h : List Entry) (T : Tree) (a : ℕ) (op : Op) → tree ro h ≡ Some T → refusal_of ro h a (Do op) ≡ why ro T a op

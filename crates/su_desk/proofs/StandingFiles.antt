@@ -6,7 +6,7 @@ use Rattle.su_bytes.specs.Membership.{Membership}
 use Rattle.su_node.specs.Field.{Field.KindOf, Field.BlockOf, Value.Nothing}
 use Rattle.su_bytes.specs.Place.{Place}
 use Rattle.su_table.specs.Tree.{Tree}
-use Rattle.su_table.specs.Cell.{Cell, Cell.At, val}
+use Rattle.su_table.specs.Cell.{Cell.At, val}
 use Rattle.su_table.specs.Query.{is_file_kind, is_file_at}
 use Rattle.su_op.specs.declared.areas.Area.{Area}
 use Rattle.su_op.specs.Area.{has, meet}

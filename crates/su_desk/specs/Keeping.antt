@@ -1,5 +1,5 @@
 -- What a desk keeps so that operations can be undone.
-use Rattle.std.specs.Prelude.{◌≡◌, ℕ, ◌<◌, cond, List, [], ◌∷◌, Option, Some, None, length, get_or}
+use Rattle.std.specs.Prelude.{◌≡◌, ℕ, ◌<◌, cond, zero, suc, List, [], ◌∷◌, Option, Some, None, length, get_or}
 use Rattle.std.specs.Option.{option_or}
 use Rattle.su_bytes.specs.Membership.{Membership}
 use Rattle.su_table.specs.Tree.{Tree, genesis}
@@ -36,6 +36,10 @@ pub record Keeps (ro : Membership) (h : List Entry) (ks : List KeptOperation) (T
   pub good : Good ro h
   pub leads : Leads ro genesis (live h) ks T
 
+-- the same for some forest
+abbrev pub AreKept : Membership → List Entry → List KeptOperation → Type 0
+AreKept ro h ks = (T : Tree) × Keeps ro h ks T
+
 -- ---- what is looked up among what is kept
 
 -- the operation of that number is kept at that place
@@ -47,3 +51,9 @@ pub record IsPlaceOf (n : ℕ) (ks : List KeptOperation) (place : ℕ) : Type 0 
 abbrev pub last_kept_reader : List Area → List KeptOperation → Option ℕ
 last_kept_reader w [] = None
 last_kept_reader w (k ∷ ks) = option_or (last_kept_reader w ks) (cond (meet k.footprint.reads.items w) (Some k.number) None)
+
+-- of the operation that is kept at that place: the number of the last one behind it that read a cell that it wrote
+abbrev pub kept_blocker : List KeptOperation → ℕ → Option ℕ
+kept_blocker [] i = None
+kept_blocker (k ∷ ks) zero = last_kept_reader k.footprint.writes.items ks
+kept_blocker (k ∷ ks) (suc i) = kept_blocker ks i

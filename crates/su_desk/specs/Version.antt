@@ -13,16 +13,16 @@ use Rattle.su_op.specs.Operation.{writes}
 use Rattle.su_desk.specs.declared.entries.Entry.{Entry}
 use Rattle.su_desk.specs.Applied.{tree_after, written_by}
 
--- the area is an entry of group g
+-- the area is a pointer of group g
 abbrev pub is_pointer_of : ℕ → Area → Bool
 is_pointer_of g (InodeArea p a) = false
 is_pointer_of g (PointerArea k) = nat_eq k.0 g
 
--- what is written has an entry of group g
+-- what is written has a pointer of group g
 abbrev pub carries : ℕ → List Area → Bool
 carries g w = list_any (is_pointer_of g) w
 
--- the groups of the roster of which an entry is in what is written, ascending as in the roster
+-- the groups of the roster of which a pointer is in what is written, in the order of the roster
 abbrev pub carried_groups : Membership → List Area → List ℕ
 carried_groups ro w = filter (λ g. carries g w) (map (λ g. g.0) ro.groups)
 
@@ -44,7 +44,8 @@ raised a w v = (v.0, v.1 + cond (raises a w v.0) 1 0)
 -- how many of the further entries, after those of h, raise the number of a principal
 abbrev pub version_after : Membership → List Entry → List Entry → Principal → ℕ
 version_after ro h [] p = 0
-version_after ro h (e ∷ es) p = cond (raises e.author (cells_of ro h e.author e.change) p) 1 0 + version_after ro (h ++ e ∷ []) es p
+version_after ro h (e ∷ es) p =
+    cond (raises e.author (cells_of ro h e.author e.change) p) 1 0 + version_after ro (h ++ e ∷ []) es p
 
 -- the version number of a principal: of a user how many entries are his, of a group how many carry it
 abbrev pub version : Membership → List Entry → Principal → ℕ

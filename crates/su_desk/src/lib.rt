@@ -10,6 +10,6 @@ mod versions;
 pub use desks::Desk;
 pub use entries::{DeskReply, Entry};
 pub use laws::{
-    areas_meet_in_a_cell, carried_groups_are_listed, good_histories_can_be_undone, latest_is_free, live_numbers_ascend,
-    one_entry_more, versions_rise,
+    areas_meet_in_a_cell, carried_groups_are_listed, good_histories_can_be_undone, latest_is_free,
+    live_numbers_ascend, one_entry_more, versions_rise,
 };

@@ -1,13 +1,10 @@
-use Rattle.su_bytes.specs.declared.refusals.Refusal.{Refusal}
-use Rattle.su_bytes.specs.declared.refusals.Refusal.TheVariants.{NoMemory}
-use Rattle.su_op.specs.declared.operations.Change.{Change}
-use Rattle.std.proofs.Common.{ℕ, ◌⊎◌, ⊎_elim, inl, Result, IsErrAnd, ◌≡◌, ◌∙◌, ◌+◌, ◌++◌, ◌∷◌, [], sym, refl, ap, subst, inr, Ok, Err, length, length-append, List, arith, take, drop, ◌<◌, ◌^◌}
+use Rattle.std.proofs.Common.{ℕ, ⊎_elim, inl, ◌≡◌, ◌∙◌, ◌+◌, ◌++◌, ◌∷◌, [], sym, ap, subst, inr, Ok, Err, length, length-append, List, arith, take, drop, ◌<◌, ◌^◌}
 use Rattle.su_op.specs.declared.operations.Change.TheVariants.{Do}
 use Rattle.su_op.specs.Area.{has}
 use Rattle.su_desk.specs.declared.entries.Entry.{Entry}
 use Rattle.su_desk.specs.History.{entry_by}
 use Rattle.su_desk.specs.Answer.{answer}
-use Rattle.su_desk.specs.Desk.{DeskState, Answers, with_entry}
+use Rattle.su_desk.specs.Desk.{DeskState, with_entry}
 use Rattle.su_desk.specs.Keeping.{Keeps}
 use Rattle.std.specs.Option.{unwrap_or}
 use Rattle.su_table.specs.Tree.{genesis}
@@ -16,7 +13,7 @@ use Rattle.su_bytes.specs.declared.principals.Principal.{Principal}
 use Rattle.su_desk.specs.Version.{cells_of, versions}
 use Rattle.su_desk.proofs.VersionNumbers.{counters_next, versions_within}
 use Rattle.su_desk.proofs.KeptOperations.{tree_kept, keeps_do}
-use Rattle.su_desk.proofs.Replies.{answer_done, answer_refused, refusal_of-do}
+use Rattle.su_desk.proofs.Replies.{passed_on, answer_done, answer_refused, refusal_of-do}
 use Rattle.std.specs.List.{All}
 use Rattle.su_inverse.specs.Kept.{CanKeep}
 use Rattle.su_inverse.proofs.Writing.{writes_kept}
@@ -63,11 +60,6 @@ pub build-requires : goal.build-requires
 build-requires c =
     let s = c.self.inside in
     subst (All (CanKeep s.forest)) (sym (c.as_slice.ensures.value ∙ c.in_ok-footprint.ensures.writes)) (writes_kept s.roster s.forest c.args.author c.args.op c.in_ok-footprint.ensures.accepted)
-
--- a refusal that is passed on
-passed_on : (d : DeskState) (a : ℕ) (c : Change) (r : Result ℕ Refusal) (x : Refusal) → IsErrAnd r (λ e. e ≡ x) → (x ≡ NoMemory) ⊎ (answer d.roster d.history a c ≡ Err x) → Answers d a c r d
-passed_on d a c (Ok n) x is why = absurd is
-passed_on d a c (Err e) x is why = (⊎_elim (λ m. inl (is ∙ m)) (λ f. inr (f ∙ ap Err (sym is))) why, refl)
 
 pub returns-in_err-footprint : goal.returns-in_err-footprint
 returns-in_err-footprint c =

@@ -1,7 +1,5 @@
-use Rattle.std.proofs.Common.{◌≡◌, ◌∙◌, ◌+◌, ◌++◌, ◌∷◌, [], List, sym, refl, ap, subst, inr, Ok, length, length-append, take, drop, arith, ℕ, ◌<◌, ◌^◌}
+use Rattle.std.proofs.Common.{◌∙◌, ◌+◌, ◌++◌, ◌∷◌, [], List, sym, ap, subst, inr, Ok, Err, Some, ◌≡◌, length, length-append, take, drop, arith, ℕ, ◌<◌, ◌^◌}
 use Rattle.std.specs.List.{All}
-use Rattle.std.specs.List.Sorted.{IsNonDecreasingBy}
-use Rattle.su_desk.specs.declared.kept.KeptOperation.{KeptOperation}
 use Rattle.su_bytes.specs.declared.principals.Principal.{Principal}
 use Rattle.su_op.specs.declared.operations.Change.TheVariants.{Undo}
 use Rattle.su_desk.specs.declared.entries.Entry.{Entry}
@@ -11,34 +9,31 @@ use Rattle.su_desk.specs.Desk.{DeskState, with_entry}
 use Rattle.su_desk.specs.Keeping.{Keeps, IsPlaceOf}
 use Rattle.su_desk.specs.Version.{cells_of, versions}
 use Rattle.su_desk.proofs.VersionNumbers.{counters_next, versions_within}
-use Rattle.su_desk.proofs.LiveNumbers.{undo_accepted}
-use Rattle.su_desk.proofs.KeptPlaces.{none_kept_live, kept_ascend}
-use Rattle.su_desk.proofs.Replies.{Found, found, undone_there, undone_written, answer_done, answer_refused}
+use Rattle.su_desk.proofs.KeptPlaces.{are_kept}
+use Rattle.su_desk.proofs.Replies.{passed_on, Found, found, undone_there, undone_written, answer_done, answer_refused}
 use Rattle.su_desk.proofs.desks.Desk.undo.Goals as goal
 
-pub returns-in-Err : goal.returns-in-Err
-returns-in-Err c = (inr (answer_refused _ _ _ _ _ c.in-Err.ensures.refused), refl)
+pub undo_place-requires : goal.undo_place-requires
+undo_place-requires c = are_kept _ _ _ _ _ _ c.as_slice-entries.ensures.value c.as_slice.ensures.value c.self.invariant.0
 
-pub place_of-requires : goal.place_of-requires
-place_of-requires c = subst (IsNonDecreasingBy (λ (k : KeptOperation). k.number)) (sym c.as_slice.ensures.value) (kept_ascend _ _ _ _ c.self.invariant.0)
-
-pub returns-in_default-place_of : goal.returns-in_default-place_of
-returns-in_default-place_of c =
+pub returns-in_err-place : goal.returns-in_err-place
+returns-in_err-place c =
     let s = c.self.inside in
-    let accepted = ap (λ d. undo_refusal d.roster d.history c.args.author c.args.number) c.self.view_is ∙ c.in_default.ensures.accepted in
-    let u = undo_accepted s.roster s.entries.items c.args.author c.args.number accepted in
-    none_kept_live s.roster s.entries.items s.kept.items c.as_slice.result.now s.forest c.args.number c.self.invariant.0 u.stands c.as_slice.ensures.value (c.in_default-place_of.ensures.missing refl)
+    let refused : undo_refusal s.roster s.entries.items c.args.author c.args.number ≡ Some c.in_err-place.field-0.0
+    = ap (λ h. undo_refusal s.roster h c.args.author c.args.number) (sym c.as_slice-entries.ensures.value) ∙ c.in_err-place.ensures.refused in
+    passed_on c.args.self.now c.args.author (Undo c.args.number) c.from_residual.result c.in_err-place.field-0.0 c.from_residual.ensures.1
+    (inr (subst (λ d. answer d.roster d.history c.args.author (Undo c.args.number) ≡ Err c.in_err-place.field-0.0) c.self.view_is (answer_refused s.roster s.entries.items c.args.author (Undo c.args.number) c.in_err-place.field-0.0 refused)))
 
 pub invariant_of-self-2 : goal.invariant_of-self-2
 invariant_of-self-2 c =
     let s = c.self.inside in
     let e : Entry = undo_by c.args.author c.args.number in
     let entries = c.push_reserved.ensures.items ∙ ap (λ h. h ++ undo_by c.args.author c.args.number ∷ []) c.in_ok-reserve.ensures.items in
-    let accepted = ap (λ d. undo_refusal d.roster d.history c.args.author c.args.number) c.self.view_is ∙ c.in_default.ensures.accepted in
+    let accepted = ap (λ h. undo_refusal s.roster h c.args.author c.args.number) (sym c.as_slice-entries.ensures.value) ∙ c.in_ok-place.ensures.accepted in
     let k = c.index-kept.result.now in
-    let i = c.in-Some.place in
+    let i = c.in_ok-place.place in
     let there : Found s.roster s.entries.items s.kept.items k i c.args.number s.forest
-    = found s.roster s.entries.items s.kept.items k i c.args.number s.forest c.self.invariant.0 (subst (λ ks. IsPlaceOf c.args.number ks i) c.as_slice.ensures.value c.in-Some.ensures.found) (sym c.index-kept.ensures) in
+    = found s.roster s.entries.items s.kept.items k i c.args.number s.forest c.self.invariant.0 (subst (λ ks. IsPlaceOf c.args.number ks i) c.as_slice.ensures.value c.in_ok-place.ensures.found) (sym c.index-kept.ensures) in
     let written : c.as_slice-2.result.now ≡ cells_of s.roster s.entries.items c.args.author (Undo c.args.number)
     = c.as_slice-2.ensures.value ∙ undone_written s.roster s.entries.items s.kept.items k i c.args.number s.forest there in (
       subst (λ h. Keeps s.roster h c.remove.new.self.items c.undo_on.new.forest) (sym entries)
@@ -53,7 +48,7 @@ returns c =
     let s = c.self.inside in
     let entries = c.push_reserved.ensures.items ∙ ap (λ h. h ++ undo_by c.args.author c.args.number ∷ []) c.in_ok-reserve.ensures.items in
     let number : length s.entries.items + 1 ≡ c.len.result = omega (arith, c.len.ensures, c.push_reserved.new.self.ok.0, ap length entries, length-append s.entries.items (undo_by c.args.author c.args.number ∷ [])) in
-    let accepted = ap (λ d. undo_refusal d.roster d.history c.args.author c.args.number) c.self.view_is ∙ c.in_default.ensures.accepted in
+    let accepted = ap (λ h. undo_refusal s.roster h c.args.author c.args.number) (sym c.as_slice-entries.ensures.value) ∙ c.in_ok-place.ensures.accepted in
     let seen : List Entry → DeskState = λ h. record { roster = s.roster; history = h } in (
       subst (λ d. answer d.roster d.history c.args.author (Undo c.args.number) ≡ Ok c.len.result) c.self.view_is
           (answer_done s.roster s.entries.items c.args.author (Undo c.args.number) accepted ∙ ap Ok number),
