@@ -1,5 +1,5 @@
--- What stands in the way of an undo: nothing before the operation, and nothing of the last one; where there is nothing, no later
--- live operation read what it wrote; and the same by cells.
+-- What stands in the way of an undo: nothing before the operation, and nothing of the last one;
+-- where there is nothing, no later live operation read what it wrote; and the same by cells.
 use Rattle.std.proofs.Common.{◌≡◌, ℕ, ◌<◌, ◌≤◌, ◌&&◌, ◌||◌, ◌↔◌, Bool, true, false, cond, List, [], ◌∷◌, ◌++◌, nat_lt, Option, Some, None, refl, sym, ap, ◌∙◌, subst, arith}
 use Rattle.std.specs.Prelude.{All, Contains}
 use Rattle.std.specs.List.{filter, list_any, AllByRecursion}

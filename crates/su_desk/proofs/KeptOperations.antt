@@ -1,4 +1,5 @@
--- What a desk keeps leads from the first tree to its forest, step by step, and stays so with each entry.
+-- What a desk keeps leads from the first tree to its forest, step by step, and stays so with each
+-- entry.
 use Rattle.std.proofs.Common.{◌≡◌, ℕ, ◌+◌, true, inl, inr, List, [], ◌∷◌, ◌++◌, map, length, Option, Some, None, refl, sym, ap, ◌∙◌, subst, arith}
 use Rattle.std.specs.Option.{is_none, option_or, unwrap_or}
 use Rattle.su_bytes.specs.Membership.{Membership}
@@ -87,7 +88,8 @@ keeps_do ro h ks T x k keeps fits =
 
 -- ---- what is kept of operations as they were applied
 
--- The operation is that of an entry, by its number; and what is kept of it are the cells that it read and wrote where it was applied.
+-- The operation is that of an entry, by its number; and what is kept of it are the cells that it
+-- read and wrote where it was applied.
 pub record IsAsApplied (ro : Membership) (h : List Entry) (t : NumberedAction) (k : KeptOperation) : Type 0 where
   pub number : k.number ≡ t.number
   pub entry : entry_at h t.number ≡ Some (entry_by t.action.author (Do t.action.op))

@@ -1,5 +1,5 @@
--- The live operations of a good history go in the replay as they did where they were applied, whatever was undone; so the replay
--- never refuses one.
+-- The live operations of a good history go in the replay as they did where they were applied,
+-- whatever was undone; so the replay never refuses one.
 use Rattle.std.proofs.Common.{◌≡◌, ℕ, ◌+◌, ◌<◌, ◌||◌, ◌↔◌, false, not, IsTrue, List, [], ◌∷◌, ◌++◌, length, length-append, nat_eq, None, Some, refl, sym, ap, ◌∙◌, subst, arith, append_assoc, append-nil}
 use Rattle.std.specs.Option.{is_none, unwrap_or}
 use Rattle.std.specs.List.{filter}
@@ -30,7 +30,8 @@ use Rattle.su_desk.proofs.Blockers.{UnreadBy, free_unread}
 pub first_sound : (ro : Membership) → Sound genesis
 first_sound ro = (store_lawful ro).start_sound
 
--- the replay of the live operations, of which each goes as it did; and no undo names an entry that is still to come
+-- the replay of the live operations, of which each goes as it did; and no undo names an entry that
+-- is still to come
 pub record Replayed (ro : Membership) (h : List Entry) (T : Tree) : Type 0 where
   pub in_turn : AllInTurn ro h genesis (live h) T
   pub past : (n : ℕ) → length h < n → is_undone h n ≡ false

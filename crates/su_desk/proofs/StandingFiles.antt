@@ -1,5 +1,5 @@
--- Where operations don't read blocks, the files of these blocks stay; and of trees that differ in what an operation doesn't
--- read, in both or in neither a file stands where it writes blocks.
+-- Where operations don't read blocks, the files of these blocks stay; and of trees that differ in
+-- what an operation doesn't read, in both or in neither a file stands where it writes blocks.
 use Rattle.std.proofs.Common.{◌≡◌, ℕ, Bool, true, false, IsTrue, inl, inr, List, [], ◌∷◌, refl, sym, ap, ◌∙◌}
 use Rattle.std.proofs.lemmas.Bool.{both_ways}
 use Rattle.su_bytes.specs.Membership.{Membership}

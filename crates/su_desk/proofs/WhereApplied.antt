@@ -58,7 +58,8 @@ tree_before_next ro h T is =
 
 -- ---- operations in the replay
 
--- an operation in its turn of the replay goes as it did where it was applied, and is that of its entry
+-- an operation in its turn of the replay goes as it did where it was applied, and is that of its
+-- entry
 pub record InTurn (ro : Membership) (h : List Entry) (S : Tree) (t : NumberedAction) : Type 0 where
   pub goes : GoesAsApplied ro h S t
   pub entry : entry_at h t.number ≡ Some (entry_by t.action.author (Do t.action.op))

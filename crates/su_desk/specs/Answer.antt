@@ -41,7 +41,8 @@ author_refusal a (Some e) = cond (nat_eq a e.author) None (Some (NotAuthor e.aut
 abbrev pub undo_refusal : Membership → List Entry → ℕ → ℕ → Option Refusal
 undo_refusal ro h a n =
     cond (has_user ro a)
-    (option_or (live_refusal h n) (option_or (author_refusal a (entry_at h n)) (blocked_refusal (blocker ro h n))))
+    (option_or (live_refusal h n)
+    (option_or (author_refusal a (entry_at h n)) (blocked_refusal (blocker ro h n))))
     (Some (NoUser a))
 
 -- why a change by user a is refused after a history. (After a good history there always is a tree.)

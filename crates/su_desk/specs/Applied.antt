@@ -1,5 +1,5 @@
--- What the operations of a history read and wrote where they were applied: in the tree of the entries before them. And what
--- it means that they go in the replay as they did there.
+-- What the operations of a history read and wrote where they were applied: in the tree of the
+-- entries before them. And what it means that they go in the replay as they did there.
 use Rattle.std.specs.Prelude.{ℕ, ◌-◌, List, [], take, Option, Some, None}
 use Rattle.std.specs.Option.{unwrap_or}
 use Rattle.su_bytes.specs.Membership.{Membership}
@@ -42,7 +42,8 @@ abbrev pub written_by : Membership → List Entry → ℕ → List Area
 written_by ro h n = entry_writes ro (tree_before ro h n) (entry_at h n)
 
 -- In tree S, where its turn comes in the replay, an operation goes as it did where it was applied.
-pub record GoesAsApplied (ro : Membership) (h : List Entry) (S : Tree) (t : NumberedAction) : Type 0 where
+pub record GoesAsApplied (ro : Membership) (h : List Entry) (S : Tree) (t : NumberedAction)
+    : Type 0 where
   -- the cells that it read there, and so those that it wrote, hold what they held
   pub found : Agree (store ro) (reads_where_applied ro h t) S (tree_before ro h t.number)
   -- it is accepted, reads and writes the same cells, and writes the same values

@@ -13,7 +13,8 @@ use Rattle.su_desk.specs.Applied.{reads_where_applied, written_by}
 abbrev pub reads_after : Membership → List Entry → ℕ → NumberedAction → Bool
 reads_after ro h n t = nat_lt n t.number && meet (reads_where_applied ro h t) (written_by ro h n)
 
--- what stands in the way of an undo of n: the last live operation that came after it and read a cell that it wrote
+-- what stands in the way of an undo of n: the last live operation that came after it and read a
+-- cell that it wrote
 abbrev pub blocker : Membership → List Entry → ℕ → Option ℕ
 blocker ro h n = last_number (filter (reads_after ro h n) (live h))
 
@@ -25,8 +26,10 @@ pub record HaveCommonCell (u w : List Area) : Type 0 where
   pub first : has u cell ≡ true
   pub second : has w cell ≡ true
 
--- operation t came after n, and a cell is both among those that it read and among those that n wrote
-pub record ReadsCellOf (ro : Membership) (h : List Entry) (n : ℕ) (t : NumberedAction) : Type 0 where
+-- operation t came after n, and a cell is both among those that it read and among those that n
+-- wrote
+pub record ReadsCellOf (ro : Membership) (h : List Entry) (n : ℕ) (t : NumberedAction)
+    : Type 0 where
   pub later : n < t.number
   pub common : HaveCommonCell (reads_where_applied ro h t) (written_by ro h n)
 

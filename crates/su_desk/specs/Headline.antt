@@ -15,28 +15,34 @@ use Rattle.su_desk.specs.Answer.{blocked_refusal, undo_refusal, GoodAfter}
 pub record Headline (ro : Membership) (h : List Entry) (T : Tree) : Type 0 where
   -- the tree is a replay of the operations that weren't undone, none of which the replay refuses
   pub replayed : tree ro h ≡ Some T
-  -- in the replay each live operation goes as it did where it was applied, and finds the same in the cells that it reads
-  pub as_applied : (before after : List NumberedAction) (t : NumberedAction) (S : Tree) → live h ≡ before ++ t ∷ after
-      → replay ro genesis before ≡ Some S → GoesAsApplied ro h S t
+  -- in the replay each live operation goes as it did where it was applied, and finds the same in
+  -- the cells that it reads
+  pub as_applied : (before after : List NumberedAction) (t : NumberedAction) (S : Tree)
+      → live h ≡ before ++ t ∷ after → replay ro genesis before ≡ Some S → GoesAsApplied ro h S t
   -- version numbers don't fall with a further entry, be it an undo
   pub rising : (e : Entry) (p : Principal) → version ro h p ≤ version ro (h ++ e ∷ []) p
   -- the latest operation that wasn't undone is never blocked
   pub latest : blocker ro h (last_live h) ≡ None
   -- undone from the last on, each by its author, live operations are never blocked or refused
   pub accepted : (ts us : List NumberedAction) → live h ≡ ts ++ us → GoodAfter ro h (undos us)
-  -- and the tree comes by every earlier point: after the undos of the last ones it is the replay of those before them
-  pub every_point : (ts us : List NumberedAction) → live h ≡ ts ++ us → tree ro (h ++ undos us) ≡ replay ro genesis ts
+  -- and the tree comes by every earlier point: after the undos of the last ones it is the replay of
+  -- those before them
+  pub every_point : (ts us : List NumberedAction) → live h ≡ ts ++ us
+      → tree ro (h ++ undos us) ≡ replay ro genesis ts
   -- an undo takes its operation out of the live ones, and that alone
-  pub out : (before after : List NumberedAction) (t : NumberedAction) (a : ℕ) → live h ≡ before ++ t ∷ after
-      → live (h ++ undo_by a t.number ∷ []) ≡ before ++ after
-  -- where nothing blocks its undo, the later operations go alike without it, and the tree without it has what stood before it
-  -- in the cells that it wrote, and in all others what it has
-  pub taken_out : (before after : List NumberedAction) (t : NumberedAction) → live h ≡ before ++ t ∷ after
-      → blocker ro h t.number ≡ None → CanBeTakenOut (store ro) genesis (actions before) t.action (actions after) T
-  -- the undo of a live operation by its author is refused just where it has a blocker, which it names
-  pub blocked : (before after : List NumberedAction) (t : NumberedAction) → live h ≡ before ++ t ∷ after
+  pub out : (before after : List NumberedAction) (t : NumberedAction) (a : ℕ)
+      → live h ≡ before ++ t ∷ after → live (h ++ undo_by a t.number ∷ []) ≡ before ++ after
+  -- where nothing blocks its undo, the later operations go alike without it, and the tree without
+  -- it has what stood before it in the cells that it wrote, and in all others what it has
+  pub taken_out : (before after : List NumberedAction) (t : NumberedAction)
+      → live h ≡ before ++ t ∷ after → blocker ro h t.number ≡ None
+      → CanBeTakenOut (store ro) genesis (actions before) t.action (actions after) T
+  -- the undo of a live operation by its author is refused just where it has a blocker, which it
+  -- names
+  pub blocked : (before after : List NumberedAction) (t : NumberedAction)
+      → live h ≡ before ++ t ∷ after
       → undo_refusal ro h t.action.author t.number ≡ blocked_refusal (blocker ro h t.number)
-  -- a blocker is the last live operation that came later and read a cell that the undone one wrote; there is none just where
-  -- no live operation did
+  -- a blocker is the last live operation that came later and read a cell that the undone one wrote;
+  -- there is none just where no live operation did
   pub named : (n m : ℕ) → (blocker ro h n ≡ Some m) ↔ IsLastReader ro h n m
   pub free : (n : ℕ) → (blocker ro h n ≡ None) ↔ All (λ t. ¬ ReadsCellOf ro h n t) (live h)

@@ -1,4 +1,5 @@
--- Histories: entries numbered from 1, the operations that are live after them, and the tree that these make.
+-- Histories: entries numbered from 1, the operations that are live after them, and the tree that
+-- these make.
 use Rattle.std.specs.Prelude.{ℕ, ◌+◌, ◌-◌, Bool, false, not, cond, List, [], ◌∷◌, ◌++◌, map, Option, None, Some, nat_eq, slice_get}
 use Rattle.std.specs.List.{filter, list_any}
 use Rattle.std.specs.Option.{option_or, unwrap_or}
@@ -50,7 +51,8 @@ live h = filter (λ t. not (is_undone h t.number)) (operations_from 1 h)
 abbrev pub live_numbers : List Entry → List ℕ
 live_numbers h = map (λ t. t.number) (live h)
 
--- the tree that operations lead to from T, one after another; none where one of them isn't accepted in its turn
+-- the tree that operations lead to from T, one after another; none where one of them isn't accepted
+-- in its turn
 abbrev pub replay : Membership → Tree → List NumberedAction → Option Tree
 replay ro T ts = replay_actions (store ro) T (actions ts)
 

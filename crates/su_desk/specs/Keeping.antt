@@ -14,8 +14,8 @@ use Rattle.su_desk.specs.declared.kept.KeptOperation.{KeptOperation}
 use Rattle.su_desk.specs.History.{NumberedAction, live}
 use Rattle.su_desk.specs.Answer.{Good}
 
--- The operation is accepted in T; and what is kept of it is its number, the cells that it reads and writes there, and what
--- those that it writes hold in T.
+-- The operation is accepted in T; and what is kept of it is its number, the cells that it reads and
+-- writes there, and what those that it writes hold in T.
 pub record Fits (ro : Membership) (T : Tree) (t : NumberedAction) (k : KeptOperation) : Type 0 where
   pub accepted : why ro T t.action.author t.action.op ≡ None
   pub number : k.number ≡ t.number
@@ -31,8 +31,10 @@ Leads ro S (t ∷ ts) (k ∷ ks) T = Fits ro S t k × Leads ro ((store ro).act S
 Leads ro S [] (k ∷ ks) T = ⊥
 Leads ro S (t ∷ ts) [] T = ⊥
 
--- The history is a good one; and its live operations, of which this is kept, lead from the first tree to the forest of a desk.
-pub record Keeps (ro : Membership) (h : List Entry) (ks : List KeptOperation) (T : Tree) : Type 0 where
+-- The history is a good one; and its live operations, of which this is kept, lead from the first
+-- tree to the forest of a desk.
+pub record Keeps (ro : Membership) (h : List Entry) (ks : List KeptOperation) (T : Tree)
+    : Type 0 where
   pub good : Good ro h
   pub leads : Leads ro genesis (live h) ks T
 
@@ -50,9 +52,11 @@ pub record IsPlaceOf (n : ℕ) (ks : List KeptOperation) (place : ℕ) : Type 0 
 -- the number of the last operation that read a cell of the areas
 abbrev pub last_kept_reader : List Area → List KeptOperation → Option ℕ
 last_kept_reader w [] = None
-last_kept_reader w (k ∷ ks) = option_or (last_kept_reader w ks) (cond (meet k.footprint.reads.items w) (Some k.number) None)
+last_kept_reader w (k ∷ ks) =
+    option_or (last_kept_reader w ks) (cond (meet k.footprint.reads.items w) (Some k.number) None)
 
--- of the operation that is kept at that place: the number of the last one behind it that read a cell that it wrote
+-- of the operation that is kept at that place: the number of the last one behind it that read a
+-- cell that it wrote
 abbrev pub kept_blocker : List KeptOperation → ℕ → Option ℕ
 kept_blocker [] i = None
 kept_blocker (k ∷ ks) zero = last_kept_reader k.footprint.writes.items ks

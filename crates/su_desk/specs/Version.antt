@@ -1,4 +1,5 @@
--- Version numbers: how often each user and group was concerned by an entry. They only rise, also with an undo.
+-- Version numbers: how often each user and group was concerned by an entry. They only rise, also
+-- with an undo.
 use Rattle.std.specs.Prelude.{ℕ, ◌+◌, Bool, false, cond, List, [], ◌∷◌, ◌++◌, map, nat_eq}
 use Rattle.std.specs.List.{list_any, filter}
 use Rattle.su_bytes.specs.Membership.{Membership}
@@ -26,13 +27,14 @@ carries g w = list_any (is_pointer_of g) w
 abbrev pub carried_groups : Membership → List Area → List ℕ
 carried_groups ro w = filter (λ g. carries g w) (map (λ g. g.0) ro.groups)
 
--- what the cells are of a change by user a after a history: those that the operation writes, or those that the operation
--- wrote that it undoes
+-- what the cells are of a change by user a after a history: those that the operation writes, or
+-- those that the operation wrote that it undoes
 abbrev pub cells_of : Membership → List Entry → ℕ → Change → List Area
 cells_of ro h a (Do op) = writes ro (tree_after ro h) a op
 cells_of ro h a (Undo n) = written_by ro h n
 
--- an entry by user a that writes these areas raises the number of a, and of the groups that it carries
+-- an entry by user a that writes these areas raises the number of a, and of the groups that it
+-- carries
 abbrev pub raises : ℕ → List Area → Principal → Bool
 raises a w (User u) = nat_eq u a
 raises a w (Group g) = carries g w
@@ -45,9 +47,11 @@ raised a w v = (v.0, v.1 + cond (raises a w v.0) 1 0)
 abbrev pub version_after : Membership → List Entry → List Entry → Principal → ℕ
 version_after ro h [] p = 0
 version_after ro h (e ∷ es) p =
-    cond (raises e.author (cells_of ro h e.author e.change) p) 1 0 + version_after ro (h ++ e ∷ []) es p
+    cond (raises e.author (cells_of ro h e.author e.change) p) 1 0
+    + version_after ro (h ++ e ∷ []) es p
 
--- the version number of a principal: of a user how many entries are his, of a group how many carry it
+-- the version number of a principal: of a user how many entries are his, of a group how many carry
+-- it
 abbrev pub version : Membership → List Entry → Principal → ℕ
 version ro h p = version_after ro [] h p
 

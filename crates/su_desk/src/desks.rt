@@ -19,7 +19,8 @@ use su_inverse::build;
 use su_op::{Change, Op, apply, footprint};
 use su_table::Forest;
 
-/// A history of changes, and the tree of its live operations. It is seen as its roster and its history.
+/// A history of changes, and the tree of its live operations. It is seen as its roster and its
+/// history.
 #[derive(Drop)]
 pub struct Desk {
     roster: Roster,
@@ -69,7 +70,8 @@ impl Desk {
         &self.roster
     }
 
-    /// Returns the tree of the live operations. Of it, the history and the version numbers all holds that the desk is for.
+    /// Returns the tree of the live operations. Of it, the history and the version numbers all
+    /// holds that the desk is for.
     pub fn forest(&self) -> &Forest
         ensures tree { tree self.now.roster self.now.history ≡ Some result.now }
         ensures good { Good self.now.roster self.now.history }
@@ -86,17 +88,17 @@ impl Desk {
         numbers_of(self.alloc, self.kept.as_slice())
     }
 
-    /// Returns the version numbers of the users of the roster, and then of its groups: of a user how many entries are his,
-    /// of a group how many carry it. They only rise.
+    /// Returns the version numbers of the users of the roster, and then of its groups: of a user
+    /// how many entries are his, of a group how many carry it. They only rise.
     pub fn versions(&self) -> &[(Principal, u64)]
         ensures { result.now ≡ versions self.now.roster self.now.history }
     {
         self.counters.as_slice()
     }
 
-    /// Returns what stands in the way of an undo of a live operation: the last live operation that came after it and read
-    /// a cell that it wrote. Fails with `NoOperation` where there is no such entry, with `NotOperation` where it is an
-    /// undo, and with `AlreadyUndone`. Takes no memory.
+    /// Returns what stands in the way of an undo of a live operation: the last live operation that
+    /// came after it and read a cell that it wrote. Fails with `NoOperation` where there is no such
+    /// entry, with `NotOperation` where it is an undo, and with `AlreadyUndone`. Takes no memory.
     pub fn blocker(&self, number: u64) -> Result<Option<u64>, Refusal>
         ensures value { IfOk result (λ m. m ≡ blocker self.now.roster self.now.history number) }
         ensures live { OnOk result (live_refusal self.now.history number ≡ None) }
@@ -106,7 +108,8 @@ impl Desk {
         Ok(blocker_at(self.kept.as_slice(), place))
     }
 
-    /// Makes a change, and returns the number of its entry. A refusal, the first in order or `NoMemory`, changes nothing.
+    /// Makes a change, and returns the number of its entry. A refusal, the first in order or
+    /// `NoMemory`, changes nothing.
     pub fn apply(&mut self, author: User, change: Change) -> Result<u64, Refusal>
         ensures { Answers self.old author change result self.new }
     {
@@ -124,8 +127,9 @@ impl Desk {
         self.undo(author, number)
     }
 
-    /// Makes the changes one after another, and returns a reply to each. Fails only with `NoMemory`, where there is no room
-    /// for the replies, and then nothing is changed; want of memory for a single change is the reply to it.
+    /// Makes the changes one after another, and returns a reply to each. Fails only with
+    /// `NoMemory`, where there is no room for the replies, and then nothing is changed; want of
+    /// memory for a single change is the reply to it.
     pub fn run(&mut self, changes: &[(User, Change)]) -> Result<Vec<DeskReply>, Refusal>
         ensures replies { IfOk result (λ replies. Runs self.old changes.now replies.items self.new) }
         ensures refused { IfErr result (λ e. e ≡ NoMemory) }

@@ -12,7 +12,8 @@ use su_bytes::{Refusal, Roster, User};
 use su_inverse::Inverse;
 use su_op::{Area, Change, Footprint};
 
-/// A live operation, by its number: the cells that it read and wrote, and what those that it wrote held before.
+/// A live operation, by its number: the cells that it read and wrote, and what those that it wrote
+/// held before.
 #[derive(Drop)]
 pub(crate) struct KeptOperation {
     pub(crate) number: u64,
@@ -20,7 +21,8 @@ pub(crate) struct KeptOperation {
     pub(crate) inverse: Inverse,
 }
 
-/// Finds where the author's operation of that number is kept, if he may undo it; else tells the first refusal.
+/// Finds where the author's operation of that number is kept, if he may undo it; else tells the
+/// first refusal.
 pub(crate) fn undo_place(
     roster: &Roster,
     entries: &[Entry],
@@ -49,7 +51,8 @@ pub(crate) fn undo_place(
     }
 }
 
-/// Finds where the live operation of that number is kept; else tells why it is none. Only then the history is searched.
+/// Finds where the live operation of that number is kept; else tells why it is none. Only then the
+/// history is searched.
 pub(crate) fn live_place(
     entries: &[Entry],
     kept: &[KeptOperation],
@@ -85,7 +88,8 @@ fn place_of(kept: &[KeptOperation], number: u64) -> Option<usize>
         .ok()
 }
 
-/// Returns the number of the last operation behind that place that read a cell that the one there wrote, if one did.
+/// Returns the number of the last operation behind that place that read a cell that the one there
+/// wrote, if one did.
 pub(crate) fn blocker_at(kept: &[KeptOperation], place: usize) -> Option<u64>
     requires { place < length kept.now }
     ensures { result ≡ kept_blocker kept.now place }

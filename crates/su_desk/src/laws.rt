@@ -8,7 +8,8 @@ ghost use Rattle.su_bytes.specs.declared.principals.Principal.TheVariants.{User}
 ghost use Rattle.su_op.specs.declared.areas.Area.{Area};
 ghost use Rattle.su_op.specs.declared.operations.Change.TheVariants.{Do};
 ghost use Rattle.su_op.specs.Area.{meet};
-ghost use Rattle.su_op.specs.Store.{Action};
+ghost use Rattle.su_op.specs.Store.{Action, store};
+ghost use Rattle.su_undo.specs.Replay.{UndoIsSafe};
 ghost use Rattle.su_desk.specs.declared.entries.Entry.{Entry};
 ghost use Rattle.su_desk.specs.History.{NumberedAction, entry_by, undo_by, live, live_numbers, last_live};
 ghost use Rattle.su_desk.specs.Blocker.{blocker, HaveCommonCell};
@@ -17,9 +18,16 @@ ghost use Rattle.su_desk.specs.Applied.{tree_after};
 ghost use Rattle.su_desk.specs.Headline.{Headline};
 ghost use Rattle.su_desk.specs.Version.{carries, carried_groups, cells_of, raised, version, versions};
 
-/// What the desk is for holds of every good history, with every kind of undo, and the tree that it leaves.
+/// What the desk is for holds of every good history, with every kind of undo, and the tree that it
+/// leaves.
 pub fn good_histories_can_be_undone()
     ensures { (ro : Membership) (h : List Entry) → Good ro h → Headline ro h (tree_after ro h) }
+{}
+
+/// Of operations that lead from a sound tree to another, each can be taken out that wrote no cell that
+/// a later one reads, without a history.
+pub fn operations_can_be_taken_out()
+    ensures { (ro : Membership) → UndoIsSafe (store ro) }
 {}
 
 /// The last live operation is never blocked.
@@ -37,31 +45,39 @@ pub fn live_numbers_ascend()
     ensures { (h : List Entry) → IsStrictlyIncreasing (live_numbers h) }
 {}
 
-/// One entry more: an operation is live then, if it comes after a good history, and an undo takes out the operation that it
-/// names. The history is good if it was, and the entry is accepted after it.
+/// One entry more: an operation is live then, if it comes after a good history, and an undo takes
+/// out the operation that it names. The history is good if it was, and the entry is accepted after
+/// it.
 pub fn one_entry_more()
     ensures done { (ro : Membership) (h : List Entry) (x : Action) → Good ro h
-        → live (h ++ entry_by x.author (Do x.op) ∷ []) ≡ live h ++ record { number = length h + 1; action = x } ∷ [] }
+        → live (h ++ entry_by x.author (Do x.op) ∷ [])
+        ≡ live h ++ record { number = length h + 1; action = x } ∷ [] }
     ensures undone { (h : List Entry) (a n : ℕ)
-        → live (h ++ undo_by a n ∷ []) ≡ filter (λ (t : NumberedAction). not (nat_eq t.number n)) (live h) }
+        → live (h ++ undo_by a n ∷ [])
+        ≡ filter (λ (t : NumberedAction). not (nat_eq t.number n)) (live h) }
     ensures good { (ro : Membership) (h : List Entry) (e : Entry)
         → Good ro (h ++ e ∷ []) ↔ (Good ro h × (refusal_of ro h e.author e.change ≡ None)) }
 {}
 
-/// With each entry, also with an undo, no version number falls, and that of its author rises by one: the numbers of its author
-/// and of the groups that it carries are raised, and all others stay.
+/// With each entry, also with an undo, no version number falls, and that of its author rises by
+/// one: the numbers of its author and of the groups that it carries are raised, and all others
+/// stay.
 pub fn versions_rise()
     ensures none_falls { (ro : Membership) (h : List Entry) (e : Entry) (p : Principal)
         → version ro h p ≤ version ro (h ++ e ∷ []) p }
     ensures author { (ro : Membership) (h : List Entry) (e : Entry)
         → version ro (h ++ e ∷ []) (User e.author) ≡ version ro h (User e.author) + 1 }
     ensures all { (ro : Membership) (h : List Entry) (e : Entry)
-        → versions ro (h ++ e ∷ []) ≡ map (raised e.author (cells_of ro h e.author e.change)) (versions ro h) }
+        → versions ro (h ++ e ∷ [])
+        ≡ map (raised e.author (cells_of ro h e.author e.change)) (versions ro h) }
 {}
 
-/// The groups that an entry carries, as a list: those of the roster of which it writes a pointer. In a roster they ascend.
+/// The groups that an entry carries, as a list: those of the roster of which it writes a pointer.
+/// In a roster they ascend.
 pub fn carried_groups_are_listed()
     ensures listed { (ro : Membership) (w : List Area) (g : ℕ)
-        → list_any (λ c. nat_eq c g) (carried_groups ro w) ≡ (has_number ro.groups g && carries g w) }
-    ensures ascending { (ro : Membership) (w : List Area) → IsRoster ro → IsStrictlyIncreasing (carried_groups ro w) }
+        → list_any (λ c. nat_eq c g) (carried_groups ro w)
+        ≡ (has_number ro.groups g && carries g w) }
+    ensures ascending { (ro : Membership) (w : List Area) → IsRoster ro
+        → IsStrictlyIncreasing (carried_groups ro w) }
 {}

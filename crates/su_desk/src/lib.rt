@@ -11,5 +11,5 @@ pub use desks::Desk;
 pub use entries::{DeskReply, Entry};
 pub use laws::{
     areas_meet_in_a_cell, carried_groups_are_listed, good_histories_can_be_undone, latest_is_free,
-    live_numbers_ascend, one_entry_more, versions_rise,
+    live_numbers_ascend, one_entry_more, operations_can_be_taken_out, versions_rise,
 };

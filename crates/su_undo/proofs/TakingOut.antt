@@ -1,5 +1,5 @@
--- Actions that don't read some cells go alike in two states that differ in these cells alone; so one that wrote them can be
--- taken out.
+-- Actions that don't read some cells go alike in two states that differ in these cells alone; so
+-- one that wrote them can be taken out.
 use Rattle.std.proofs.Common.{◌≡◌, Bool, true, false, cond, IsTrue, List, [], ◌∷◌, ◌++◌, Option, Some, None, refl, sym, ap, ◌∙◌, subst}
 use Rattle.std.proofs.lemmas.Bool.{both_ways}
 use Rattle.su_undo.specs.System.{System, Agree, AgreeOutside, GoesAlike, Lawful}
@@ -38,7 +38,8 @@ alike_alike s R S S' x first second = record {
 pub alike_itself : (s : System) (S : s.State) (x : s.Action) → IsTrue (s.ok S x) → GoesAlike s S S x
 alike_itself s S x ok = record { ok = ok; reads = refl; writes = refl; values = λ c is. refl }
 
--- In S' as in S the action is accepted, and the two states differ in the cells alone, which it doesn't read.
+-- In S' as in S the action is accepted, and the two states differ in the cells alone, which it
+-- doesn't read.
 pub record Beside (s : System) (w : s.Areas) (S S' : s.State) (x : s.Action) : Type 0 where
   pub sound : s.Sound S
   pub sound' : s.Sound S'

@@ -12,7 +12,8 @@ pub record Copy : Type 0 where
 abbrev pub has_register : List ℕ → ℕ → Bool
 has_register rs r = list_any (nat_eq r) rs
 
--- Each register is a cell, and holds its own number at first. A copy is refused where the register that is copied holds 0.
+-- Each register is a cell, and holds its own number at first. A copy is refused where the register
+-- that is copied holds 0.
 abbrev pub registers : System
 registers = record {
   State = ℕ → ℕ;

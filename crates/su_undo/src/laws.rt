@@ -1,4 +1,5 @@
-// What holds of the definitions themselves, at one small system. (A contract can't speak of every system.)
+// What holds of the definitions themselves, at one small system. (A contract can't speak of every
+// system.)
 ghost use Rattle.su_undo.specs.System.{Lawful};
 ghost use Rattle.su_undo.specs.Replay.{UndoIsSafe};
 ghost use Rattle.su_undo.specs.Registers.{registers};
