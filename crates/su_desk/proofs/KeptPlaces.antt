@@ -158,6 +158,10 @@ kept_at ro h (l ∷ ks) T n i keeps place =
     let here : get_or (l ∷ ks) i k ≡ k = get_or_default (l ∷ ks) i k l place.within in
     record { operation = k; here = here; number = place.number l; whole = subst (λ xs. Keeps ro h xs T) (split_at (l ∷ ks) i k place.within here) keeps }
 
+-- one operation is kept at a place
+pub same_there : (ks : List KeptOperation) (i : ℕ) (k l : KeptOperation) → i < length ks → k ≡ get_or ks i k → get_or ks i l ≡ l → k ≡ l
+same_there ks i k l within here there = here ∙ get_or_default ks i k l within ∙ there
+
 -- what is found is live
 pub place_live : (ro : Membership) (h : List Entry) (ks : List KeptOperation) (T : Tree) (n i : ℕ) → Keeps ro h ks T → IsPlaceOf n ks i → live_refusal h n ≡ None
 place_live ro h ks T n i keeps place =

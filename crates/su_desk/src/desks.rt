@@ -181,10 +181,9 @@ impl Desk {
         let entries = self.entries.as_slice();
         let place = undo_place(&self.roster, entries, self.kept.as_slice(), author, number)?;
         self.entries.reserve(1)?;
-        let kept = &self.kept[place];
-        kept.inverse.undo_on(&mut self.forest)?;
-        raise(&mut self.counters, author, kept.footprint.writes.as_slice());
-        self.kept.remove(place);
+        self.kept[place].inverse.undo_on(&mut self.forest)?;
+        let undone = self.kept.remove(place);
+        raise(&mut self.counters, author, undone.footprint.writes.as_slice());
         let change = Change::Undo(number);
         self.entries.push_reserved(Entry { author, change });
         Ok(self.entries.len() as u64)

@@ -3,13 +3,14 @@ use Rattle.std.specs.List.{All}
 use Rattle.su_bytes.specs.declared.principals.Principal.{Principal}
 use Rattle.su_op.specs.declared.operations.Change.TheVariants.{Undo}
 use Rattle.su_desk.specs.declared.entries.Entry.{Entry}
+use Rattle.su_desk.specs.declared.kept.KeptOperation.{KeptOperation}
 use Rattle.su_desk.specs.History.{undo_by}
 use Rattle.su_desk.specs.Answer.{answer, undo_refusal}
 use Rattle.su_desk.specs.Desk.{DeskState, with_entry}
 use Rattle.su_desk.specs.Keeping.{Keeps, IsPlaceOf}
 use Rattle.su_desk.specs.Version.{cells_of, versions}
 use Rattle.su_desk.proofs.VersionNumbers.{counters_next, versions_within}
-use Rattle.su_desk.proofs.KeptPlaces.{are_kept}
+use Rattle.su_desk.proofs.KeptPlaces.{are_kept, same_there}
 use Rattle.su_desk.proofs.Replies.{passed_on, Found, found, undone_there, undone_written, answer_done, answer_refused}
 use Rattle.su_desk.proofs.desks.Desk.undo.Goals as goal
 
@@ -30,14 +31,14 @@ invariant_of-self-2 c =
     let e : Entry = undo_by c.args.author c.args.number in
     let entries = c.push_reserved.ensures.items ∙ ap (λ h. h ++ undo_by c.args.author c.args.number ∷ []) c.in_ok-reserve.ensures.items in
     let accepted = ap (λ h. undo_refusal s.roster h c.args.author c.args.number) (sym c.as_slice-entries.ensures.value) ∙ c.in_ok-place.ensures.accepted in
-    let k = c.index-kept.result.now in
+    let k = c.index.result.now in
     let i = c.in_ok-place.place in
     let there : Found s.roster s.entries.items s.kept.items k i c.args.number s.forest
-    = found s.roster s.entries.items s.kept.items k i c.args.number s.forest c.self.invariant.0 (subst (λ ks. IsPlaceOf c.args.number ks i) c.as_slice.ensures.value c.in_ok-place.ensures.found) (sym c.index-kept.ensures) in
+    = found s.roster s.entries.items s.kept.items k i c.args.number s.forest c.self.invariant.0 (subst (λ ks. IsPlaceOf c.args.number ks i) c.as_slice.ensures.value c.in_ok-place.ensures.found) (sym c.index.ensures) in
     let written : c.as_slice-2.result.now ≡ cells_of s.roster s.entries.items c.args.author (Undo c.args.number)
-    = c.as_slice-2.ensures.value ∙ undone_written s.roster s.entries.items s.kept.items k i c.args.number s.forest there in (
-      subst (λ h. Keeps s.roster h c.remove.new.self.items c.undo_on.new.forest) (sym entries)
-          (subst (λ ks. Keeps s.roster (s.entries.items ++ e ∷ []) ks c.undo_on.new.forest) (sym c.remove.ensures.by_index.2)
+    = c.as_slice-2.ensures.value ∙ ap (λ (x : KeptOperation). x.footprint.writes.items) (same_there s.kept.items i c.remove-undone.result k (subst (λ ks. IsPlaceOf c.args.number ks i) c.as_slice.ensures.value c.in_ok-place.ensures.found).within c.remove-undone.ensures.value (sym c.index.ensures)) ∙ undone_written s.roster s.entries.items s.kept.items k i c.args.number s.forest there in (
+      subst (λ h. Keeps s.roster h c.remove-undone.new.self.items c.undo_on.new.forest) (sym entries)
+          (subst (λ ks. Keeps s.roster (s.entries.items ++ e ∷ []) ks c.undo_on.new.forest) (sym c.remove-undone.ensures.by_index.2)
           (undone_there s.roster s.entries.items s.kept.items k i s.forest c.undo_on.new.forest c.args.author c.args.number there accepted c.in_ok-undo_on.ensures.ok)),
       subst (λ h. take s.counters.len (c.raise.new.versions ++ drop (length c.raise.new.versions) s.counters.items) ≡ versions s.roster h) (sym entries)
           (counters_next s.roster s.entries.items e c.as_slice-2.result.now s.counters.len s.counters.items c.deref_mut.result.now c.raise.new.versions _ written c.self.invariant.1 s.counters.ok.0 c.deref_mut.ensures.value c.raise.ensures),
