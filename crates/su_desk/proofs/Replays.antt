@@ -19,7 +19,7 @@ use Rattle.su_undo.specs.Replay.{replay as replay_actions, NoneReads, CanBeTaken
 use Rattle.su_undo.proofs.TakingOut.{AllBeside, led_to, agree_read, past_it, undo_is_safe}
 use Rattle.su_desk.specs.declared.entries.Entry.{Entry}
 use Rattle.su_desk.specs.History.{NumberedAction, actions, entry_by, undo_by, is_undone, live, replay, tree}
-use Rattle.su_desk.specs.Applied.{GoesAsApplied}
+use Rattle.su_desk.specs.Applied.{tree_after, GoesAsApplied}
 use Rattle.su_desk.specs.Blocker.{blocker}
 use Rattle.su_desk.specs.Answer.{refusal_of, live_refusal, Good, GoodAfter}
 use Rattle.su_desk.proofs.Operations.{Rising, rising_live, one_taken_out, is_undone-append, live-do, live-undo}
@@ -205,3 +205,12 @@ good_exact ro h e = (accepted_apart ro [] h e, λ (good, accepted). good_further
 -- an operation after a good history is live
 pub live_done : (ro : Membership) (h : List Entry) (x : Action) → Good ro h → live (h ++ entry_by x.author (Do x.op) ∷ []) ≡ live h ++ record { number = length h + 1; action = x } ∷ []
 live_done ro h x good = live-do h x ((good_has_tree ro h good).replayed.past (length h + 1) (omega arith))
+
+-- and an accepted one does what it does to the tree that the history left
+pub tree_done : (ro : Membership) (h : List Entry) (x : Action) → Good ro h → why ro (tree_after ro h) x.author x.op ≡ None → tree ro (h ++ entry_by x.author (Do x.op) ∷ []) ≡ Some ((store ro).act (tree_after ro h) x)
+tree_done ro h x good accepted =
+    let r = good_has_tree ro h good in
+    let same : tree_after ro h ≡ r.state = ap (λ o. unwrap_or o genesis) (tree_replayed ro h r.state r.replayed) in
+    let ok : IsTrue ((store ro).ok r.state x) = ap is_none (ap (λ R. why ro R x.author x.op) (sym same) ∙ accepted) in
+    tree_replayed ro (h ++ entry_by x.author (Do x.op) ∷ []) ((store ro).act r.state x) (next_do ro h r.state x r.replayed ok)
+    ∙ ap (λ R. Some ((store ro).act R x)) (sym same)

@@ -1,5 +1,5 @@
 // What holds of the definitions themselves.
-ghost use Rattle.std.specs.Prelude.{◌≡◌, ◌≤◌, ◌+◌, ◌↔◌, ◌&&◌, ℕ, true, not, List, [], ◌∷◌, ◌++◌, map, length, nat_eq, None};
+ghost use Rattle.std.specs.Prelude.{◌≡◌, ◌≤◌, ◌+◌, ◌↔◌, ◌&&◌, ℕ, true, not, List, [], ◌∷◌, ◌++◌, map, length, nat_eq, None, Some};
 ghost use Rattle.std.specs.List.{filter, list_any};
 ghost use Rattle.std.specs.List.Sorted.{IsStrictlyIncreasing};
 ghost use Rattle.su_bytes.specs.Membership.{Membership, IsRoster, has_number};
@@ -8,10 +8,11 @@ ghost use Rattle.su_bytes.specs.declared.principals.Principal.TheVariants.{User}
 ghost use Rattle.su_op.specs.declared.areas.Area.{Area};
 ghost use Rattle.su_op.specs.declared.operations.Change.TheVariants.{Do};
 ghost use Rattle.su_op.specs.Area.{meet};
+ghost use Rattle.su_op.specs.Operation.{why, effect};
 ghost use Rattle.su_op.specs.Store.{Action, store};
 ghost use Rattle.su_undo.specs.Replay.{UndoIsSafe};
 ghost use Rattle.su_desk.specs.declared.entries.Entry.{Entry};
-ghost use Rattle.su_desk.specs.History.{NumberedAction, entry_by, undo_by, live, live_numbers, last_live};
+ghost use Rattle.su_desk.specs.History.{NumberedAction, entry_by, undo_by, live, live_numbers, last_live, tree};
 ghost use Rattle.su_desk.specs.Blocker.{blocker, HaveCommonCell};
 ghost use Rattle.su_desk.specs.Answer.{refusal_of, Good};
 ghost use Rattle.su_desk.specs.Applied.{tree_after};
@@ -45,13 +46,17 @@ pub fn live_numbers_ascend()
     ensures { (h : List Entry) → IsStrictlyIncreasing (live_numbers h) }
 {}
 
-/// One entry more: an operation is live then, if it comes after a good history, and an undo takes
-/// out the operation that it names. The history is good if it was, and the entry is accepted after
-/// it.
+/// One entry more: an operation is live then, if it comes after a good history, and makes the tree that
+/// the history left what it does to it; and an undo takes out the operation that it names. The history is
+/// good if it was, and the entry is accepted after it.
 pub fn one_entry_more()
     ensures done { (ro : Membership) (h : List Entry) (x : Action) → Good ro h
         → live (h ++ entry_by x.author (Do x.op) ∷ [])
         ≡ live h ++ record { number = length h + 1; action = x } ∷ [] }
+    ensures effect { (ro : Membership) (h : List Entry) (x : Action) → Good ro h
+        → why ro (tree_after ro h) x.author x.op ≡ None
+        → tree ro (h ++ entry_by x.author (Do x.op) ∷ [])
+        ≡ Some (effect ro (tree_after ro h) x.author x.op) }
     ensures undone { (h : List Entry) (a n : ℕ)
         → live (h ++ undo_by a n ∷ [])
         ≡ filter (λ (t : NumberedAction). not (nat_eq t.number n)) (live h) }
