@@ -85,7 +85,7 @@ impl Desk {
         ensures value { IfOk result (λ numbers. numbers.items ≡ live_numbers self.now.history) }
         ensures refused { IfErr result (λ e. e ≡ NoMemory) }
     {
-        numbers_of(self.alloc, self.kept.as_slice())
+        numbers_of(self.alloc, &self.kept)
     }
 
     /// Returns the version numbers of the users of the roster, and then of its groups: of a user
@@ -93,7 +93,7 @@ impl Desk {
     pub fn versions(&self) -> &[(Principal, u64)]
         ensures { result.now ≡ versions self.now.roster self.now.history }
     {
-        self.counters.as_slice()
+        &self.counters
     }
 
     /// Returns what stands in the way of an undo of a live operation: the last live operation that
@@ -104,8 +104,8 @@ impl Desk {
         ensures live { OnOk result (live_refusal self.now.history number ≡ None) }
         ensures refused { IfErr result (λ e. live_refusal self.now.history number ≡ Some e) }
     {
-        let place = live_place(self.entries.as_slice(), self.kept.as_slice(), number)?;
-        Ok(blocker_at(self.kept.as_slice(), place))
+        let place = live_place(&self.entries, &self.kept, number)?;
+        Ok(blocker_at(&self.kept, place))
     }
 
     /// Makes a change, and returns the number of its entry. A refusal, the first in order or
@@ -178,8 +178,7 @@ impl Desk {
     fn undo(&mut self, author: User, number: u64) -> Result<u64, Refusal>
         ensures { Answers self.old author (Undo number) result self.new }
     {
-        let entries = self.entries.as_slice();
-        let place = undo_place(&self.roster, entries, self.kept.as_slice(), author, number)?;
+        let place = undo_place(&self.roster, &self.entries, &self.kept, author, number)?;
         self.entries.reserve(1)?;
         self.kept[place].inverse.undo_on(&mut self.forest)?;
         let undone = self.kept.remove(place);

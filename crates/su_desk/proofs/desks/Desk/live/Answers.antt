@@ -7,5 +7,5 @@ use Rattle.su_desk.proofs.desks.Desk.live.Goals as goal
 pub returns-clause-value : goal.returns-clause-value
 returns-clause-value c =
     subst (λ (ns : List ℕ). IfOk c.numbers_of.result (λ v. v.items ≡ ns))
-    (ap (map (λ (k : KeptOperation). k.number)) c.as_slice.ensures.value ∙ numbers_kept _ _ _ _ c.self.invariant.0 ∙ ap (λ d. live_numbers d.history) c.self.view_is)
+    (ap (map (λ (k : KeptOperation). k.number)) c.deref.ensures.value ∙ numbers_kept _ _ _ _ c.self.invariant.0 ∙ ap (λ d. live_numbers d.history) c.self.view_is)
     c.numbers_of.ensures.value
