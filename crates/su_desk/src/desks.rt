@@ -182,8 +182,7 @@ impl Desk {
         self.entries.reserve(1)?;
         self.kept[place].inverse.undo_on(&mut self.forest)?;
         let undone = self.kept.remove(place);
-        let written = undone.footprint.writes.as_slice();
-        raise(&mut self.counters, author, written);
+        raise(&mut self.counters, author, &undone.footprint.writes);
         let change = Change::Undo(number);
         self.entries.push_reserved(Entry { author, change });
         Ok(self.entries.len() as u64)

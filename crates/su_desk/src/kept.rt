@@ -94,8 +94,7 @@ pub(crate) fn blocker_at(kept: &[KeptOperation], place: usize) -> Option<u64>
     requires { place < length kept.now }
     ensures { result ≡ kept_blocker kept.now place }
 {
-    let written = kept[place].footprint.writes.as_slice();
-    last_reader(&kept[place + 1..], written)
+    last_reader(&kept[place + 1..], &kept[place].footprint.writes)
 }
 
 /// Returns the number of the last of these operations that read a cell of the areas, if one did.
@@ -104,7 +103,7 @@ fn last_reader(kept: &[KeptOperation], written: &[Area]) -> Option<u64>
 {
     for later in (0..kept.len()).rev() {
         let operation = &kept[later];
-        if meet(operation.footprint.reads.as_slice(), written) {
+        if meet(&operation.footprint.reads, written) {
             return Some(operation.number);
         }
     }

@@ -35,13 +35,13 @@ invariant_of-self-2 c =
     let i = c.in_ok-place.place in
     let there : Found s.roster s.entries.items s.kept.items k i c.args.number s.forest
     = found s.roster s.entries.items s.kept.items k i c.args.number s.forest c.self.invariant.0 (subst (λ ks. IsPlaceOf c.args.number ks i) c.deref-2.ensures.value c.in_ok-place.ensures.found) (sym c.index.ensures) in
-    let written : c.as_slice-written.result.now ≡ cells_of s.roster s.entries.items c.args.author (Undo c.args.number)
-    = c.as_slice-written.ensures.value ∙ ap (λ (x : KeptOperation). x.footprint.writes.items) (same_there s.kept.items i c.remove-undone.result k (subst (λ ks. IsPlaceOf c.args.number ks i) c.deref-2.ensures.value c.in_ok-place.ensures.found).within c.remove-undone.ensures.value (sym c.index.ensures)) ∙ undone_written s.roster s.entries.items s.kept.items k i c.args.number s.forest there in (
+    let written : c.deref-3.result.now ≡ cells_of s.roster s.entries.items c.args.author (Undo c.args.number)
+    = c.deref-3.ensures.value ∙ ap (λ (x : KeptOperation). x.footprint.writes.items) (same_there s.kept.items i c.remove-undone.result k (subst (λ ks. IsPlaceOf c.args.number ks i) c.deref-2.ensures.value c.in_ok-place.ensures.found).within c.remove-undone.ensures.value (sym c.index.ensures)) ∙ undone_written s.roster s.entries.items s.kept.items k i c.args.number s.forest there in (
       subst (λ h. Keeps s.roster h c.remove-undone.new.self.items c.undo_on.new.forest) (sym entries)
           (subst (λ ks. Keeps s.roster (s.entries.items ++ e ∷ []) ks c.undo_on.new.forest) (sym c.remove-undone.ensures.by_index.2)
           (undone_there s.roster s.entries.items s.kept.items k i s.forest c.undo_on.new.forest c.args.author c.args.number there accepted c.in_ok-undo_on.ensures.ok)),
       subst (λ h. take s.counters.len (c.raise.new.versions ++ drop (length c.raise.new.versions) s.counters.items) ≡ versions s.roster h) (sym entries)
-          (counters_next s.roster s.entries.items e c.as_slice-written.result.now s.counters.len s.counters.items c.deref_mut.result.now c.raise.new.versions _ written c.self.invariant.1 s.counters.ok.0 c.deref_mut.ensures.value c.raise.ensures),
+          (counters_next s.roster s.entries.items e c.deref-3.result.now s.counters.len s.counters.items c.deref_mut.result.now c.raise.new.versions _ written c.self.invariant.1 s.counters.ok.0 c.deref_mut.ensures.value c.raise.ensures),
     )
 
 pub returns : goal.returns
