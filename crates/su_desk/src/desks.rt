@@ -42,7 +42,8 @@ impl Model for Desk {
 
     ghost view = { λ d. record { roster = d.roster; history = d.entries.items } };
 
-    ghost invariant = { λ d. Keeps d.roster d.entries.items d.kept.items d.forest × (d.counters.items ≡ versions d.roster d.entries.items) };
+    ghost invariant = { λ d. Keeps d.roster d.entries.items d.kept.items d.forest
+        × (d.counters.items ≡ versions d.roster d.entries.items) };
 }
 
 impl Desk {
@@ -131,7 +132,7 @@ impl Desk {
     /// `NoMemory`, where there is no room for the replies, and then nothing is changed; want of
     /// memory for a single change is the reply to it.
     pub fn run(&mut self, changes: &[(User, Change)]) -> Result<Vec<DeskReply>, Refusal>
-        ensures replies { IfOk result (λ replies. Runs self.old changes.now replies.items self.new) }
+        ensures replies { IfOk result (λ r. Runs self.old changes.now r.items self.new) }
         ensures refused { IfErr result (λ e. e ≡ NoMemory) }
         ensures err { OnErr result (self.new ≡ self.old) }
     {

@@ -33,7 +33,8 @@ pub(crate) fn undo_place(
     requires { AreKept roster.now entries.now kept.now }
     ensures found { IfOk result (λ place. IsPlaceOf number kept.now place) }
     ensures accepted { OnOk result (undo_refusal roster.now entries.now author number ≡ None) }
-    ensures refused { IfErr result (λ e. undo_refusal roster.now entries.now author number ≡ Some e) }
+    ensures refused { IfErr result (λ e.
+        undo_refusal roster.now entries.now author number ≡ Some e) }
 {
     if !roster.has_user(author) {
         return Err(Refusal::NoUser(author));
