@@ -20,7 +20,7 @@ use Rattle.su_desk.specs.Headline.{Headline}
 use Rattle.su_desk.proofs.VersionNumbers.{never_falls}
 use Rattle.su_desk.proofs.Blockers.{latest_free, named_exact, free_exact}
 use Rattle.su_desk.proofs.LiveNumbers.{live_alone, by_blocker_alone}
-use Rattle.su_desk.proofs.Replays.{Replayed, HasTree, tree_replayed, split_live, undone_out, can_be_taken_out, goes_in_turn, good_after, good_further_after, good_has_tree, good_replayed}
+use Rattle.su_desk.proofs.Replays.{Replayed, HasTree, tree_replayed, split_live, undone_out, can_be_taken_out, goes_in_replay, good_after, good_further_after, good_has_tree, good_replayed}
 
 -- ---- who did an accepted operation belongs to the roster
 
@@ -89,7 +89,7 @@ headline_of ro h T good is =
     let has : HasTree ro h = record { state = T; replayed = r } in
     record {
       replayed = is;
-      as_applied = goes_in_turn ro h T r;
+      as_applied = goes_in_replay ro h T r;
       rising = never_falls ro h;
       latest = latest_free ro h;
       accepted = λ ts us whole. (come_back ro h has ts us whole).good;

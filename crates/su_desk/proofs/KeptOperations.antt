@@ -28,7 +28,7 @@ use Rattle.su_desk.specs.Blocker.{blocker}
 use Rattle.su_desk.specs.Answer.{undo_refusal}
 use Rattle.su_desk.specs.Keeping.{Fits, Leads, Keeps}
 use Rattle.su_desk.proofs.Operations.{live-do}
-use Rattle.su_desk.proofs.WhereApplied.{InTurn, AllInTurn, replay-in_turn, written_of}
+use Rattle.su_desk.proofs.WhereApplied.{InReplay, AllInReplay, replay_reached, written_of}
 use Rattle.su_desk.proofs.LiveNumbers.{undo_accepted}
 use Rattle.su_desk.proofs.Blockers.{UnreadBy, free_unread}
 use Rattle.su_desk.proofs.StandingFiles.{files_alike, all_files_stay}
@@ -103,7 +103,7 @@ AreAsApplied ro h (t ∷ ts) (k ∷ ks) = IsAsApplied ro h t k × AreAsApplied r
 AreAsApplied ro h [] (k ∷ ks) = ⊥
 AreAsApplied ro h (t ∷ ts) [] = ⊥
 
-all_as_applied : (ro : Membership) (h : List Entry) (S T T' : Tree) (ts : List NumberedAction) (ks : List KeptOperation) → AllInTurn ro h S ts T' → Leads ro S ts ks T → AreAsApplied ro h ts ks
+all_as_applied : (ro : Membership) (h : List Entry) (S T T' : Tree) (ts : List NumberedAction) (ks : List KeptOperation) → AllInReplay ro h S ts T' → Leads ro S ts ks T → AreAsApplied ro h ts ks
 all_as_applied ro h S T T' [] [] e leads = tt
 all_as_applied ro h S T T' (t ∷ ts) (k ∷ ks) (s, rest) (fits, more) = (
   record {
@@ -118,7 +118,7 @@ all_as_applied ro h S T T' [] (k ∷ ks) e leads = absurd leads
 all_as_applied ro h S T T' (t ∷ ts) [] s leads = absurd leads
 
 pub applied : (ro : Membership) (h : List Entry) (ks : List KeptOperation) (T : Tree) → Keeps ro h ks T → AreAsApplied ro h (live h) ks
-applied ro h ks T keeps = all_as_applied ro h genesis T T (live h) ks (replayed_kept ro h ks T keeps).in_turn keeps.leads
+applied ro h ks T keeps = all_as_applied ro h genesis T T (live h) ks (replayed_kept ro h ks T keeps).in_replay keeps.leads
 
 -- an operation with those before and after it, where what is kept of it stands at that place
 pub record Parted (ro : Membership) (h : List Entry) (ts : List NumberedAction) (front : List KeptOperation) (k : KeptOperation) (rest : List KeptOperation) : Type 0 where
@@ -178,16 +178,16 @@ module _ (ro : Membership) where
   file_back S R x p inside stays (inl kind) = ap is_file_kind (inside (At p KindOf) kind)
   file_back S R x p inside stays (inr file) = stays file ∙ sym file
 
-  first_out : (h : List Entry) (S T : Tree) (t : NumberedAction) (k : KeptOperation) (ts : List NumberedAction) (ks : List KeptOperation) → Sound S → InTurn ro h S t → AllInTurn ro h ((store ro).act S t.action) ts T → Fits ro S t k → Leads ro ((store ro).act S t.action) ts ks T
+  first_out : (h : List Entry) (S T : Tree) (t : NumberedAction) (k : KeptOperation) (ts : List NumberedAction) (ks : List KeptOperation) → Sound S → InReplay ro h S t → AllInReplay ro h ((store ro).act S t.action) ts T → Fits ro S t k → Leads ro ((store ro).act S t.action) ts ks T
       → UnreadBy ro h (writes_where_applied ro h t) ts → TakenOut S ts ks k T
-  first_out h S T t k ts ks sound s in_turn fits rest unread =
+  first_out h S T t k ts ks sound s in_replay fits rest unread =
       let x = t.action in
       let after = (store ro).act S x in
       let w = (store ro).writes S x in
-      let replayed = replay-in_turn ro h after T ts in_turn in
+      let replayed = replay_reached ro h after T ts in_replay in
       let same : (c : Cell) → has (areas_of k.inverse) c ≡ has w c = λ c. fits.areas c ∙ ap (λ a. has a c) fits.writes in
       let b = past_it (store ro) (store_lawful ro) S T x (actions ts) sound s.goes.alike.ok replayed
-      (none_reads ro h w after T ts in_turn (subst (λ a. UnreadBy ro h a ts) (sym s.goes.alike.writes) unread)) in
+      (none_reads ro h w after T ts in_replay (subst (λ a. UnreadBy ro h a ts) (sym s.goes.alike.writes) unread)) in
       let inside = stay_inside (store ro) (store_lawful ro) w after S (actions ts) b in
       let files = all_files_stay ro w after S (actions ts) b in
       let others = same_outside (store ro) (store_lawful ro) w after S (actions ts) (leaves_others (store ro) (store_lawful ro) S x sound s.goes.alike.ok) b in
@@ -205,14 +205,14 @@ module _ (ro : Membership) where
         };
       }
 
-  take_out_kept : (h : List Entry) (S T : Tree) (before after : List NumberedAction) (t : NumberedAction) (front rest : List KeptOperation) (k : KeptOperation) → Sound S → AreAsApplied ro h before front → AllInTurn ro h S (before ++ t ∷ after) T
+  take_out_kept : (h : List Entry) (S T : Tree) (before after : List NumberedAction) (t : NumberedAction) (front rest : List KeptOperation) (k : KeptOperation) → Sound S → AreAsApplied ro h before front → AllInReplay ro h S (before ++ t ∷ after) T
       → Leads ro S (before ++ t ∷ after) (front ++ k ∷ rest) T → UnreadBy ro h (writes_where_applied ro h t) after → TakenOut S (before ++ after) (front ++ rest) k T
-  take_out_kept h S T [] after t [] rest k sound a (s, in_turn) (fits, later) unread = first_out h S T t k after rest sound s in_turn fits later unread
-  take_out_kept h S T (u ∷ before) after t (l ∷ front) rest k sound (is, others) (s, in_turn) (fits, later) unread =
-      let r = take_out_kept h ((store ro).act S u.action) T before after t front rest k ((store_lawful ro).stays_sound S u.action sound s.goes.alike.ok) others in_turn later unread in
+  take_out_kept h S T [] after t [] rest k sound a (s, in_replay) (fits, later) unread = first_out h S T t k after rest sound s in_replay fits later unread
+  take_out_kept h S T (u ∷ before) after t (l ∷ front) rest k sound (is, others) (s, in_replay) (fits, later) unread =
+      let r = take_out_kept h ((store ro).act S u.action) T before after t front rest k ((store_lawful ro).stays_sound S u.action sound s.goes.alike.ok) others in_replay later unread in
       record { state = r.state; leads = (fits, r.leads); back = r.back }
-  take_out_kept h S T [] after t (l ∷ front) rest k sound a in_turn leads unread = absurd a
-  take_out_kept h S T (u ∷ before) after t [] rest k sound a in_turn leads unread = absurd a
+  take_out_kept h S T [] after t (l ∷ front) rest k sound a in_replay leads unread = absurd a
+  take_out_kept h S T (u ∷ before) after t [] rest k sound a in_replay leads unread = absurd a
 
 -- an operation is undone that nothing blocks: T' is the tree where what is kept of it is put back
 pub keeps_undo : (ro : Membership) (h : List Entry) (front rest : List KeptOperation) (T T' : Tree) (a n : ℕ) (k : KeptOperation) → Keeps ro h (front ++ k ∷ rest) T → k.number ≡ n → undo_refusal ro h a n ≡ None
@@ -223,7 +223,7 @@ keeps_undo ro h front rest T T' a n k keeps number accepted put =
     let q = replayed_kept ro h (front ++ k ∷ rest) T keeps in
     let named : n ≡ p.operation.number = sym number ∙ p.here.number in
     let free = ap (blocker ro h) (sym named) ∙ (undo_accepted ro h a n accepted).free in
-    let r = take_out_kept ro h genesis T p.before p.after p.operation front rest k (first_sound ro) p.first (subst (λ ts. AllInTurn ro h genesis ts T) p.whole q.in_turn)
+    let r = take_out_kept ro h genesis T p.before p.after p.operation front rest k (first_sound ro) p.first (subst (λ ts. AllInReplay ro h genesis ts T) p.whole q.in_replay)
     (subst (λ ts. Leads ro genesis ts (front ++ k ∷ rest) T) p.whole keeps.leads) (subst (λ w. UnreadBy ro h w p.after) (sym (written_of ro h p.operation p.here.entry)) (free_unread ro h p.before p.after p.operation p.whole free)) in
     let left : live (h ++ e ∷ []) ≡ p.before ++ p.after
     = ap (λ m. live (h ++ undo_by a m ∷ [])) named ∙ undone_out h p.before p.after p.operation a p.whole in

@@ -23,7 +23,7 @@ use Rattle.su_desk.specs.Applied.{tree_after, GoesAsApplied}
 use Rattle.su_desk.specs.Blocker.{blocker}
 use Rattle.su_desk.specs.Answer.{refusal_of, live_refusal, Good, GoodAfter}
 use Rattle.su_desk.proofs.Operations.{Rising, rising_live, one_taken_out, is_undone-append, live-do, live-undo}
-use Rattle.su_desk.proofs.WhereApplied.{InTurn, AllInTurn, entry_within, replay-in_turn, goes_beside, all_further, all_added, in_turn_now, written_of}
+use Rattle.su_desk.proofs.WhereApplied.{InReplay, AllInReplay, entry_within, replay_reached, goes_beside, all_further, all_added, in_replay_now, written_of}
 use Rattle.su_desk.proofs.LiveNumbers.{is_live, live_number, live_operation, undo_accepted}
 use Rattle.su_desk.proofs.Blockers.{UnreadBy, free_unread}
 
@@ -33,34 +33,34 @@ first_sound ro = (store_lawful ro).start_sound
 -- the replay of the live operations, of which each goes as it did; and no undo names an entry that
 -- is still to come
 pub record Replayed (ro : Membership) (h : List Entry) (T : Tree) : Type 0 where
-  pub in_turn : AllInTurn ro h genesis (live h) T
+  pub in_replay : AllInReplay ro h genesis (live h) T
   pub past : (n : ℕ) → length h < n → is_undone h n ≡ false
 
 -- the tree is that of the history
 pub tree_replayed : (ro : Membership) (h : List Entry) (T : Tree) → Replayed ro h T → tree ro h ≡ Some T
 unfolding tree
-tree_replayed ro h T r = replay-in_turn ro h genesis T (live h) r.in_turn
+tree_replayed ro h T r = replay_reached ro h genesis T (live h) r.in_replay
 
 -- ---- operations before and after one
 
 pub record Split (ro : Membership) (h : List Entry) (S : Tree) (before : List NumberedAction) (t : NumberedAction) (after : List NumberedAction) (T : Tree) : Type 0 where
   pub earlier : Tree
   pub sound : Sound earlier
-  pub front : AllInTurn ro h S before earlier
-  pub here : InTurn ro h earlier t
-  pub rest : AllInTurn ro h ((store ro).act earlier t.action) after T
+  pub front : AllInReplay ro h S before earlier
+  pub here : InReplay ro h earlier t
+  pub rest : AllInReplay ro h ((store ro).act earlier t.action) after T
 
-pub split : (ro : Membership) (h : List Entry) (S T : Tree) (before after : List NumberedAction) (t : NumberedAction) → Sound S → AllInTurn ro h S (before ++ t ∷ after) T → Split ro h S before t after T
+pub split : (ro : Membership) (h : List Entry) (S T : Tree) (before after : List NumberedAction) (t : NumberedAction) → Sound S → AllInReplay ro h S (before ++ t ∷ after) T → Split ro h S before t after T
 split ro h S T [] after t sound (s, rest) = record { earlier = S; sound = sound; front = refl; here = s; rest = rest }
 split ro h S T (u ∷ before) after t sound (s, more) =
     let r = split ro h ((store ro).act S u.action) T before after t ((store_lawful ro).stays_sound S u.action sound s.goes.alike.ok) more in
     record { earlier = r.earlier; sound = r.sound; front = (s, r.front); here = r.here; rest = r.rest }
 
 pub split_live : (ro : Membership) (h : List Entry) (T : Tree) (before after : List NumberedAction) (t : NumberedAction) → Replayed ro h T → live h ≡ before ++ t ∷ after → Split ro h genesis before t after T
-split_live ro h T before after t r is = split ro h genesis T before after t (first_sound ro) (subst (λ ts. AllInTurn ro h genesis ts T) is r.in_turn)
+split_live ro h T before after t r is = split ro h genesis T before after t (first_sound ro) (subst (λ ts. AllInReplay ro h genesis ts T) is r.in_replay)
 
-join : (ro : Membership) (h : List Entry) (S R T : Tree) (before after : List NumberedAction) → AllInTurn ro h S before R → AllInTurn ro h R after T → AllInTurn ro h S (before ++ after) T
-join ro h S R T [] after e rest = subst (λ U. AllInTurn ro h U after T) (sym e) rest
+join : (ro : Membership) (h : List Entry) (S R T : Tree) (before after : List NumberedAction) → AllInReplay ro h S before R → AllInReplay ro h R after T → AllInReplay ro h S (before ++ after) T
+join ro h S R T [] after e rest = subst (λ U. AllInReplay ro h U after T) (sym e) rest
 join ro h S R T (u ∷ before) after (s, front) rest = (s, join ro h ((store ro).act S u.action) R T before after front rest)
 
 -- ---- an operation taken out
@@ -73,15 +73,15 @@ undone_out h before after t a is =
     ∙ one_taken_out 0 before after t (subst (Rising 0) is (rising_live h))
 
 -- operations that didn't read some cells where they were applied don't read them in the replay
-pub none_reads : (ro : Membership) (h : List Entry) (w : List Area) (S T : Tree) (ts : List NumberedAction) → AllInTurn ro h S ts T → UnreadBy ro h w ts → NoneReads (store ro) w S (actions ts)
+pub none_reads : (ro : Membership) (h : List Entry) (w : List Area) (S T : Tree) (ts : List NumberedAction) → AllInReplay ro h S ts T → UnreadBy ro h w ts → NoneReads (store ro) w S (actions ts)
 none_reads ro h w S T [] e unread = tt
 none_reads ro h w S T (t ∷ ts) (s, rest) (clear, unread) = (ap (λ a. meet a w) s.goes.alike.reads ∙ clear, none_reads ro h w ((store ro).act S t.action) T ts rest unread)
 
-in_turn_beside : (ro : Membership) (h : List Entry) (w : List Area) (S S' T : Tree) (ts : List NumberedAction) → AllBeside (store ro) w S S' (actions ts) → AllInTurn ro h S ts T → AllInTurn ro h S' ts (led_to (store ro) S' (actions ts))
-in_turn_beside ro h w S S' T [] b e = refl
-in_turn_beside ro h w S S' T (t ∷ ts) (b, more) (s, rest) = (
+in_replay_beside : (ro : Membership) (h : List Entry) (w : List Area) (S S' T : Tree) (ts : List NumberedAction) → AllBeside (store ro) w S S' (actions ts) → AllInReplay ro h S ts T → AllInReplay ro h S' ts (led_to (store ro) S' (actions ts))
+in_replay_beside ro h w S S' T [] b e = refl
+in_replay_beside ro h w S S' T (t ∷ ts) (b, more) (s, rest) = (
   record { goes = goes_beside ro h S S' t s.goes (agree_read (store ro) (store_lawful ro) S S' t.action w b.clear b.agree) b.goes; entry = s.entry },
-  in_turn_beside ro h w ((store ro).act S t.action) ((store ro).act S' t.action) T ts more rest,
+  in_replay_beside ro h w ((store ro).act S t.action) ((store ro).act S' t.action) T ts more rest,
 )
 
 -- after one that nothing blocks, no later one reads what it writes
@@ -97,28 +97,28 @@ pub can_be_taken_out : (ro : Membership) (h : List Entry) (T : Tree) → Replaye
 can_be_taken_out ro h T r before after t is free =
     let p = split_live ro h T before after t r is in
     undo_is_safe (store ro) (store_lawful ro) genesis p.earlier T (actions before) (actions after) t.action (first_sound ro)
-    (replay-in_turn ro h genesis p.earlier before p.front)
-    (ap (replay_actions (store ro) genesis) (sym (map-append (λ u. u.action) before (t ∷ after)) ∙ ap actions (sym is)) ∙ replay-in_turn ro h genesis T (live h) r.in_turn)
+    (replay_reached ro h genesis p.earlier before p.front)
+    (ap (replay_actions (store ro) genesis) (sym (map-append (λ u. u.action) before (t ∷ after)) ∙ ap actions (sym is)) ∙ replay_reached ro h genesis T (live h) r.in_replay)
     (free_none_reads ro h T before after t p is free)
 
 -- and the others lead to a tree without it
-left_out : (ro : Membership) (h : List Entry) (T : Tree) (before after : List NumberedAction) (t : NumberedAction) → Replayed ro h T → live h ≡ before ++ t ∷ after → blocker ro h t.number ≡ None → (R : Tree) × AllInTurn ro h genesis (before ++ after) R
+left_out : (ro : Membership) (h : List Entry) (T : Tree) (before after : List NumberedAction) (t : NumberedAction) → Replayed ro h T → live h ≡ before ++ t ∷ after → blocker ro h t.number ≡ None → (R : Tree) × AllInReplay ro h genesis (before ++ after) R
 left_out ro h T before after t r is free =
     let p = split_live ro h T before after t r is in
     let b = past_it (store ro) (store_lawful ro) p.earlier T t.action (actions after) p.sound p.here.goes.alike.ok
-    (replay-in_turn ro h ((store ro).act p.earlier t.action) T after p.rest) (free_none_reads ro h T before after t p is free) in (
+    (replay_reached ro h ((store ro).act p.earlier t.action) T after p.rest) (free_none_reads ro h T before after t p is free) in (
       led_to (store ro) p.earlier (actions after),
       join ro h genesis p.earlier (led_to (store ro) p.earlier (actions after)) before after p.front
-          (in_turn_beside ro h ((store ro).writes p.earlier t.action) ((store ro).act p.earlier t.action) p.earlier T after b p.rest),
+          (in_replay_beside ro h ((store ro).writes p.earlier t.action) ((store ro).act p.earlier t.action) p.earlier T after b p.rest),
     )
 
--- ---- in its turn
+-- ---- where it comes in the replay
 
 -- in the replay each live operation goes as it did where it was applied
-pub goes_in_turn : (ro : Membership) (h : List Entry) (T : Tree) → Replayed ro h T → (before after : List NumberedAction) (t : NumberedAction) (S : Tree) → live h ≡ before ++ t ∷ after → replay ro genesis before ≡ Some S → GoesAsApplied ro h S t
-goes_in_turn ro h T r before after t S is e =
+pub goes_in_replay : (ro : Membership) (h : List Entry) (T : Tree) → Replayed ro h T → (before after : List NumberedAction) (t : NumberedAction) (S : Tree) → live h ≡ before ++ t ∷ after → replay ro genesis before ≡ Some S → GoesAsApplied ro h S t
+goes_in_replay ro h T r before after t S is e =
     let p = split_live ro h T before after t r is in
-    let both : Some p.earlier ≡ Some S = sym (replay-in_turn ro h genesis p.earlier before p.front) ∙ e in
+    let both : Some p.earlier ≡ Some S = sym (replay_reached ro h genesis p.earlier before p.front) ∙ e in
     let same : p.earlier ≡ S = cc in subst (λ U. GoesAsApplied ro h U t) same p.here.goes
 
 -- ---- one entry more
@@ -136,8 +136,8 @@ next_do ro h T x r ok =
     let e : Entry = entry_by x.author (Do x.op) in
     let t : NumberedAction = record { number = length h + 1; action = x } in
     record {
-      in_turn = subst (λ ts. AllInTurn ro (h ++ e ∷ []) genesis ts ((store ro).act T x)) (sym (live-do h x (r.past (length h + 1) (omega arith))))
-          (all_added ro (h ++ e ∷ []) genesis T (live h) t (all_further ro h e genesis T (live h) r.in_turn) (in_turn_now ro h T x (tree_replayed ro h T r) ok));
+      in_replay = subst (λ ts. AllInReplay ro (h ++ e ∷ []) genesis ts ((store ro).act T x)) (sym (live-do h x (r.past (length h + 1) (omega arith))))
+          (all_added ro (h ++ e ∷ []) genesis T (live h) t (all_further ro h e genesis T (live h) r.in_replay) (in_replay_now ro h T x (tree_replayed ro h T r) ok));
       past = λ n l. is_undone-append h e n ∙ or-false (is_undone h n) ∙ r.past n (let more = length-append h (e ∷ []) in omega arith);
     }
 
@@ -152,7 +152,7 @@ next_undo ro h T a n r lives free =
     record {
       state = o.0;
       replayed = record {
-        in_turn = subst (λ ts. AllInTurn ro (h ++ e ∷ []) genesis ts o.0) (sym left) (all_further ro h e genesis o.0 (l.before ++ l.after) o.1);
+        in_replay = subst (λ ts. AllInReplay ro (h ++ e ∷ []) genesis ts o.0) (sym left) (all_further ro h e genesis o.0 (l.before ++ l.after) o.1);
         past = λ m l.
             let more = length-append h (e ∷ []) in
             is_undone-append h e m ∙ ap (λ b. b || nat_eq m n) (r.past m (omega arith)) ∙ other m n (omega arith);
@@ -175,7 +175,7 @@ good_after ro h [] r g = subst (HasTree ro) (sym (append-nil h)) r
 good_after ro h (e ∷ es) r (accepted, g) = subst (HasTree ro) (append_assoc h (e ∷ []) es) (good_after ro (h ++ e ∷ []) es (next ro h e.author e.change r accepted) g)
 
 pub good_has_tree : (ro : Membership) (h : List Entry) → Good ro h → HasTree ro h
-good_has_tree ro h g = good_after ro [] h (record { state = genesis; replayed = record { in_turn = refl; past = λ n l. refl } }) g
+good_has_tree ro h g = good_after ro [] h (record { state = genesis; replayed = record { in_replay = refl; past = λ n l. refl } }) g
 
 pub good_further_after : (ro : Membership) (h es : List Entry) (e : Entry) → GoodAfter ro h es → refusal_of ro (h ++ es) e.author e.change ≡ None → GoodAfter ro h (es ++ e ∷ [])
 good_further_after ro h [] e g accepted = (ap (λ l. refusal_of ro l e.author e.change) (sym (append-nil h)) ∙ accepted, tt)

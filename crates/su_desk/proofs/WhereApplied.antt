@@ -58,20 +58,20 @@ tree_before_next ro h T is =
 
 -- ---- operations in the replay
 
--- an operation in its turn of the replay goes as it did where it was applied, and is that of its
+-- an operation where it comes in the replay goes as it did where it was applied, and is that of its
 -- entry
-pub record InTurn (ro : Membership) (h : List Entry) (S : Tree) (t : NumberedAction) : Type 0 where
+pub record InReplay (ro : Membership) (h : List Entry) (S : Tree) (t : NumberedAction) : Type 0 where
   pub goes : GoesAsApplied ro h S t
   pub entry : entry_at h t.number ≡ Some (entry_by t.action.author (Do t.action.op))
 
 -- operations one after another from S to T
-abbrev pub AllInTurn : Membership → List Entry → Tree → List NumberedAction → Tree → Type 0
-AllInTurn ro h S [] T = S ≡ T
-AllInTurn ro h S (t ∷ ts) T = InTurn ro h S t × AllInTurn ro h ((store ro).act S t.action) ts T
+abbrev pub AllInReplay : Membership → List Entry → Tree → List NumberedAction → Tree → Type 0
+AllInReplay ro h S [] T = S ≡ T
+AllInReplay ro h S (t ∷ ts) T = InReplay ro h S t × AllInReplay ro h ((store ro).act S t.action) ts T
 
-pub replay-in_turn : (ro : Membership) (h : List Entry) (S T : Tree) (ts : List NumberedAction) → AllInTurn ro h S ts T → replay ro S ts ≡ Some T
-replay-in_turn ro h S T [] e = ap Some e
-replay-in_turn ro h S T (t ∷ ts) (s, rest) = replay-cons (store ro) S t.action (actions ts) s.goes.alike.ok ∙ replay-in_turn ro h ((store ro).act S t.action) T ts rest
+pub replay_reached : (ro : Membership) (h : List Entry) (S T : Tree) (ts : List NumberedAction) → AllInReplay ro h S ts T → replay ro S ts ≡ Some T
+replay_reached ro h S T [] e = ap Some e
+replay_reached ro h S T (t ∷ ts) (s, rest) = replay-cons (store ro) S t.action (actions ts) s.goes.alike.ok ∙ replay_reached ro h ((store ro).act S t.action) T ts rest
 
 -- it goes alike from a tree that holds the same in the cells that it reads
 pub goes_beside : (ro : Membership) (h : List Entry) (S S' : Tree) (t : NumberedAction) → GoesAsApplied ro h S t → Agree (store ro) ((store ro).reads S t.action) S' S → GoesAlike (store ro) S S' t.action → GoesAsApplied ro h S' t
@@ -80,8 +80,8 @@ goes_beside ro h S S' t g agree alike = record {
   alike = alike_alike (store ro) (tree_before ro h t.number) S S' t.action g.alike alike;
 }
 
-in_turn_further : (ro : Membership) (h : List Entry) (e : Entry) (S : Tree) (t : NumberedAction) → InTurn ro h S t → InTurn ro (h ++ e ∷ []) S t
-in_turn_further ro h e S t s =
+in_replay_further : (ro : Membership) (h : List Entry) (e : Entry) (S : Tree) (t : NumberedAction) → InReplay ro h S t → InReplay ro (h ++ e ∷ []) S t
+in_replay_further ro h e S t s =
     let within = entry_within h t.number _ s.entry in
     let same : tree_before ro (h ++ e ∷ []) t.number ≡ tree_before ro h t.number = tree_before-append ro h e t.number (omega arith) in
     record {
@@ -93,19 +93,19 @@ in_turn_further ro h e S t s =
     }
 
 -- with one entry more in the history
-pub all_further : (ro : Membership) (h : List Entry) (e : Entry) (S T : Tree) (ts : List NumberedAction) → AllInTurn ro h S ts T → AllInTurn ro (h ++ e ∷ []) S ts T
+pub all_further : (ro : Membership) (h : List Entry) (e : Entry) (S T : Tree) (ts : List NumberedAction) → AllInReplay ro h S ts T → AllInReplay ro (h ++ e ∷ []) S ts T
 all_further ro h e S T [] same = same
-all_further ro h e S T (t ∷ ts) (s, rest) = (in_turn_further ro h e S t s, all_further ro h e ((store ro).act S t.action) T ts rest)
+all_further ro h e S T (t ∷ ts) (s, rest) = (in_replay_further ro h e S t s, all_further ro h e ((store ro).act S t.action) T ts rest)
 
 -- with one operation more
-pub all_added : (ro : Membership) (h : List Entry) (S T : Tree) (ts : List NumberedAction) (t : NumberedAction) → AllInTurn ro h S ts T → InTurn ro h T t → AllInTurn ro h S (ts ++ t ∷ []) ((store ro).act T t.action)
-all_added ro h S T [] t e s = (subst (λ R. InTurn ro h R t) (sym e) s, ap (λ R. (store ro).act R t.action) e)
+pub all_added : (ro : Membership) (h : List Entry) (S T : Tree) (ts : List NumberedAction) (t : NumberedAction) → AllInReplay ro h S ts T → InReplay ro h T t → AllInReplay ro h S (ts ++ t ∷ []) ((store ro).act T t.action)
+all_added ro h S T [] t e s = (subst (λ R. InReplay ro h R t) (sym e) s, ap (λ R. (store ro).act R t.action) e)
 all_added ro h S T (u ∷ ts) t (v, rest) s = (v, all_added ro h ((store ro).act S u.action) T ts t rest s)
 
 -- the operation of the entry that is added
-pub in_turn_now : (ro : Membership) (h : List Entry) (T : Tree) (x : Action) → tree ro h ≡ Some T → IsTrue ((store ro).ok T x)
-    → InTurn ro (h ++ entry_by x.author (Do x.op) ∷ []) T (record { number = length h + 1; action = x })
-in_turn_now ro h T x is ok =
+pub in_replay_now : (ro : Membership) (h : List Entry) (T : Tree) (x : Action) → tree ro h ≡ Some T → IsTrue ((store ro).ok T x)
+    → InReplay ro (h ++ entry_by x.author (Do x.op) ∷ []) T (record { number = length h + 1; action = x })
+in_replay_now ro h T x is ok =
     let e : Entry = entry_by x.author (Do x.op) in
     let same : tree_before ro (h ++ e ∷ []) (length h + 1) ≡ T = tree_before-append ro h e (length h + 1) (omega arith) ∙ tree_before_next ro h T is in
     record {

@@ -41,7 +41,7 @@ entry_writes ro T (Some e) = change_writes ro T e.author e.change
 abbrev pub written_by : Membership → List Entry → ℕ → List Area
 written_by ro h n = entry_writes ro (tree_before ro h n) (entry_at h n)
 
--- In tree S, where its turn comes in the replay, an operation goes as it did where it was applied.
+-- In tree S, where it comes in the replay, an operation goes as it did where it was applied.
 pub record GoesAsApplied (ro : Membership) (h : List Entry) (S : Tree) (t : NumberedAction)
     : Type 0 where
   -- the cells that it read there, and so those that it wrote, hold what they held

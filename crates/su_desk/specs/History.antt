@@ -52,7 +52,7 @@ abbrev pub live_numbers : List Entry → List ℕ
 live_numbers h = map (λ t. t.number) (live h)
 
 -- the tree that operations lead to from T, one after another; none where one of them isn't accepted
--- in its turn
+-- where it comes
 abbrev pub replay : Membership → Tree → List NumberedAction → Option Tree
 replay ro T ts = replay_actions (store ro) T (actions ts)
 
