@@ -81,6 +81,10 @@ point_tree : (ro : Membership) (h : List Entry) (ts us : List NumberedAction) �
 unfolding tree
 point_tree ro h ts us left = ap (replay ro genesis) left
 
+undone_tree : (ro : Membership) (h : List Entry) (before after : List NumberedAction) (t : NumberedAction) (a : ℕ) → live h ≡ before ++ t ∷ after → tree ro (h ++ undo_by a t.number ∷ []) ≡ replay ro genesis (before ++ after)
+unfolding tree
+undone_tree ro h before after t a is = ap (replay ro genesis) (undone_out h before after t a is)
+
 -- ---- all of it
 
 pub headline_of : (ro : Membership) (h : List Entry) (T : Tree) → Good ro h → tree ro h ≡ Some T → Headline ro h T
@@ -95,6 +99,7 @@ headline_of ro h T good is =
       accepted = λ ts us whole. (come_back ro h has ts us whole).good;
       every_point = λ ts us whole. point_tree ro h ts us (come_back ro h has ts us whole).left;
       out = undone_out h;
+      undone = undone_tree ro h;
       taken_out = can_be_taken_out ro h T r;
       blocked = refused_by_blocker ro h T r;
       named = named_exact ro h;

@@ -29,11 +29,16 @@ pub record Headline (ro : Membership) (h : List Entry) (T : Tree) : Type 0 where
   -- those before them
   pub every_point : (ts us : List NumberedAction) → live h ≡ ts ++ us
       → tree ro (h ++ undos us) ≡ replay ro genesis ts
-  -- an undo takes its operation out of the live ones, and that alone
+  -- an undo takes its operation out of the live ones, and that alone, so that the tree is the replay
+  -- of the others
   pub out : (before after : List NumberedAction) (t : NumberedAction) (a : ℕ)
       → live h ≡ before ++ t ∷ after → live (h ++ undo_by a t.number ∷ []) ≡ before ++ after
-  -- where nothing blocks its undo, the later operations go alike without it, and the tree without
-  -- it has what stood before it in the cells that it wrote, and in all others what it has
+  pub undone : (before after : List NumberedAction) (t : NumberedAction) (a : ℕ)
+      → live h ≡ before ++ t ∷ after
+      → tree ro (h ++ undo_by a t.number ∷ []) ≡ replay ro genesis (before ++ after)
+  -- where nothing blocks its undo, the later operations go alike without it, and that replay is a
+  -- tree that holds in the cells that it wrote what stood there before it, and in all others what T
+  -- holds
   pub taken_out : (before after : List NumberedAction) (t : NumberedAction)
       → live h ≡ before ++ t ∷ after → blocker ro h t.number ≡ None
       → CanBeTakenOut (store ro) genesis (actions before) t.action (actions after) T

@@ -3,7 +3,7 @@ use Rattle.std.specs.Prelude.{◌≡◌, false, cond, List, [], ◌∷◌, ◌++
 use Rattle.su_undo.specs.System.{System, Agree, AgreeOutside, GoesAlike}
 
 -- the state that actions lead to from S, one after another; none where one of them isn't accepted
--- in its turn
+-- where it comes
 abbrev pub replay : (s : System) → s.State → List s.Action → Option s.State
 replay s S [] = Some S
 replay s S (x ∷ xs) = cond (s.ok S x) (replay s (s.act S x) xs) None
