@@ -12,18 +12,22 @@ use Rattle.su_desk.specs.History.{entry_at, undoer}
 use Rattle.su_desk.specs.Applied.{tree_after}
 use Rattle.su_desk.specs.Blocker.{blocker}
 
+-- the refusal of an undo by what stands in its way, if something does
 abbrev pub blocked_refusal : Option ℕ → Option Refusal
 blocked_refusal None = None
 blocked_refusal (Some m) = Some (Blocked m)
 
+-- the refusal of an undo of n by the entry that undid n, if one did
 abbrev pub undone_refusal : ℕ → Option ℕ → Option Refusal
 undone_refusal n None = None
 undone_refusal n (Some by) = Some (AlreadyUndone n by)
 
+-- why entry n, which made that change, is no live operation
 abbrev pub change_refusal : List Entry → ℕ → Change → Option Refusal
 change_refusal h n (Undo m) = Some (NotOperation n)
 change_refusal h n (Do op) = undone_refusal n (undoer h n)
 
+-- the same where there may be no such entry
 abbrev pub entry_refusal : List Entry → ℕ → Option Entry → Option Refusal
 entry_refusal h n None = Some (NoOperation n)
 entry_refusal h n (Some e) = change_refusal h n e.change
@@ -50,6 +54,7 @@ abbrev pub refusal_of : Membership → List Entry → ℕ → Change → Option 
 refusal_of ro h a (Do op) = why ro (tree_after ro h) a op
 refusal_of ro h a (Undo n) = undo_refusal ro h a n
 
+-- number n, or the refusal if there is one
 abbrev pub reply : ℕ → Option Refusal → Result ℕ Refusal
 reply n None = Ok n
 reply n (Some r) = Err r
@@ -63,5 +68,6 @@ abbrev pub GoodAfter : Membership → List Entry → List Entry → Type 0
 GoodAfter ro h [] = Unit {0}
 GoodAfter ro h (e ∷ es) = (refusal_of ro h e.author e.change ≡ None) × GoodAfter ro (h ++ e ∷ []) es
 
+-- a good history: each of its entries was accepted after those before it
 abbrev pub Good : Membership → List Entry → Type 0
 Good ro h = GoodAfter ro [] h

@@ -21,10 +21,11 @@ tree_after ro h = unwrap_or (tree ro h) genesis
 abbrev pub tree_before : Membership → List Entry → ℕ → Tree
 tree_before ro h n = tree_after ro (take (n - 1) h)
 
--- what an operation read there, and what it wrote
+-- what an operation read there
 abbrev pub reads_where_applied : Membership → List Entry → NumberedAction → List Area
 reads_where_applied ro h t = reads ro (tree_before ro h t.number) t.action.author t.action.op
 
+-- and what it wrote
 abbrev pub writes_where_applied : Membership → List Entry → NumberedAction → List Area
 writes_where_applied ro h t = writes ro (tree_before ro h t.number) t.action.author t.action.op
 
@@ -33,6 +34,7 @@ abbrev pub change_writes : Membership → Tree → ℕ → Change → List Area
 change_writes ro T a (Do op) = writes ro T a op
 change_writes ro T a (Undo m) = []
 
+-- the same of an entry, if there is one
 abbrev pub entry_writes : Membership → Tree → Option Entry → List Area
 entry_writes ro T None = []
 entry_writes ro T (Some e) = change_writes ro T e.author e.change

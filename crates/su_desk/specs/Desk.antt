@@ -10,6 +10,7 @@ use Rattle.su_desk.specs.declared.entries.DeskReply.TheVariants.{Done, Refused}
 use Rattle.su_desk.specs.History.{entry_by}
 use Rattle.su_desk.specs.Answer.{answer}
 
+-- what is seen of a desk
 pub record DeskState : Type 0 where
   pub roster : Membership
   pub history : List Entry
@@ -24,6 +25,7 @@ abbrev pub Answers : DeskState → ℕ → Change → Result ℕ Refusal → Des
 Answers d a c (Ok n) d' = (answer d.roster d.history a c ≡ Ok n) × (d' ≡ with_entry d a c)
 Answers d a c (Err r) d' = ((r ≡ NoMemory) ⊎ (answer d.roster d.history a c ≡ Err r)) × (d' ≡ d)
 
+-- a reply as the result of one change
 abbrev pub result_of : DeskReply → Result ℕ Refusal
 result_of (Done n) = Ok n
 result_of (Refused r) = Err r

@@ -12,6 +12,7 @@ use Rattle.su_desk.specs.Version.{version}
 use Rattle.su_desk.specs.Blocker.{blocker, ReadsCellOf, IsLastReader}
 use Rattle.su_desk.specs.Answer.{blocked_refusal, undo_refusal, GoodAfter}
 
+-- what holds of a roster, a good history and the tree that it leaves
 pub record Headline (ro : Membership) (h : List Entry) (T : Tree) : Type 0 where
   -- the tree is a replay of the operations that weren't undone, none of which the replay refuses
   pub replayed : tree ro h ≡ Some T

@@ -16,6 +16,7 @@ pub record NumberedAction : Type 0 where
   pub number : ℕ
   pub action : Action
 
+-- the operations without their numbers
 abbrev pub actions : List NumberedAction → List Action
 actions ts = map (λ t. t.action) ts
 
@@ -27,6 +28,7 @@ entry_by a c = record { author = a; change = c }
 abbrev pub undo_by : ℕ → ℕ → Entry
 undo_by a n = entry_by a (Undo n)
 
+-- the operation of entry n by user a, if its change is one
 abbrev pub operation_of : ℕ → ℕ → Change → List NumberedAction
 operation_of n a (Do op) = record { number = n; action = record { author = a; op = op } } ∷ []
 operation_of n a (Undo m) = []
@@ -36,6 +38,7 @@ abbrev pub operations_from : ℕ → List Entry → List NumberedAction
 operations_from n [] = []
 operations_from n (e ∷ es) = operation_of n e.author e.change ++ operations_from (n + 1) es
 
+-- the change is the undo of n
 abbrev pub undoes : ℕ → Change → Bool
 undoes n (Do op) = false
 undoes n (Undo m) = nat_eq n m
@@ -48,6 +51,7 @@ is_undone h n = list_any (λ e. undoes n e.change) h
 abbrev pub live : List Entry → List NumberedAction
 live h = filter (λ t. not (is_undone h t.number)) (operations_from 1 h)
 
+-- their numbers
 abbrev pub live_numbers : List Entry → List ℕ
 live_numbers h = map (λ t. t.number) (live h)
 

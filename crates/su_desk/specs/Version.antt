@@ -55,6 +55,7 @@ version_after ro h (e ∷ es) p =
 abbrev pub version : Membership → List Entry → Principal → ℕ
 version ro h p = version_after ro [] h p
 
+-- a principal with its version number
 abbrev pub numbered : Membership → List Entry → Principal → Principal × ℕ
 numbered ro h p = (p, version ro h p)
 
