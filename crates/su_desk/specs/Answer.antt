@@ -1,43 +1,33 @@
 -- The answer to a change after a history, and good histories.
-use Rattle.std.specs.Prelude.{◌≡◌, ℕ, ◌+◌, Bool, ◌&&◌, cond, List, [], ◌∷◌, ◌++◌, length, Option, None, Some, Result, Ok, Err, nat_eq, nat_lt}
-use Rattle.std.specs.List.{filter}
+use Rattle.std.specs.Prelude.{◌≡◌, ℕ, ◌+◌, cond, List, [], ◌∷◌, ◌++◌, length, Option, None, Some, Result, Ok, Err, nat_eq}
 use Rattle.std.specs.Option.{option_or}
 use Rattle.su_bytes.specs.Membership.{Membership, has_user}
 use Rattle.su_bytes.specs.declared.refusals.Refusal.{Refusal}
 use Rattle.su_bytes.specs.declared.refusals.Refusal.TheVariants.{NoUser, NoOperation, NotOperation, AlreadyUndone, NotAuthor, Blocked}
 use Rattle.su_op.specs.declared.operations.Change.{Change}
 use Rattle.su_op.specs.declared.operations.Change.TheVariants.{Do, Undo}
-use Rattle.su_op.specs.Area.{meet}
 use Rattle.su_op.specs.Operation.{why}
 use Rattle.su_desk.specs.declared.entries.Entry.{Entry}
-use Rattle.su_desk.specs.History.{Turn, live, entry_at, undoer}
-use Rattle.su_desk.specs.Applied.{reads_of, written, tree_after}
+use Rattle.su_desk.specs.History.{entry_at, undoer}
+use Rattle.su_desk.specs.Applied.{tree_after}
+use Rattle.su_desk.specs.Blocker.{blocker}
 
--- the number of the last of these operations
-abbrev pub last_number : List Turn → Option ℕ
-last_number [] = None
-last_number (t ∷ ts) = option_or (last_number ts) (Some t.number)
-
--- operation t came after n, and read a cell that n wrote, each where it was applied
-abbrev pub reads_after : Membership → List Entry → ℕ → Turn → Bool
-reads_after ro h n t = nat_lt n t.number && meet (reads_of ro h t) (written ro h n)
-
--- what stands in the way of an undo of n: the last live operation that came after it and read a cell that it wrote
-abbrev pub blocker : Membership → List Entry → ℕ → Option ℕ
-blocker ro h n = last_number (filter (reads_after ro h n) (live h))
-
+-- the refusal of an undo by what stands in its way, if something does
 abbrev pub blocked_refusal : Option ℕ → Option Refusal
 blocked_refusal None = None
 blocked_refusal (Some m) = Some (Blocked m)
 
+-- the refusal of an undo of n by the entry that undid n, if one did
 abbrev pub undone_refusal : ℕ → Option ℕ → Option Refusal
 undone_refusal n None = None
 undone_refusal n (Some by) = Some (AlreadyUndone n by)
 
+-- why entry n, which made that change, is no live operation
 abbrev pub change_refusal : List Entry → ℕ → Change → Option Refusal
 change_refusal h n (Undo m) = Some (NotOperation n)
 change_refusal h n (Do op) = undone_refusal n (undoer h n)
 
+-- the same where there may be no such entry
 abbrev pub entry_refusal : List Entry → ℕ → Option Entry → Option Refusal
 entry_refusal h n None = Some (NoOperation n)
 entry_refusal h n (Some e) = change_refusal h n e.change
@@ -54,13 +44,17 @@ author_refusal a (Some e) = cond (nat_eq a e.author) None (Some (NotAuthor e.aut
 -- why user a may not undo n: no such user; n is no live operation; another's; blocked
 abbrev pub undo_refusal : Membership → List Entry → ℕ → ℕ → Option Refusal
 undo_refusal ro h a n =
-    cond (has_user ro a) (option_or (live_refusal h n) (option_or (author_refusal a (entry_at h n)) (blocked_refusal (blocker ro h n)))) (Some (NoUser a))
+    cond (has_user ro a)
+    (option_or (live_refusal h n)
+    (option_or (author_refusal a (entry_at h n)) (blocked_refusal (blocker ro h n))))
+    (Some (NoUser a))
 
 -- why a change by user a is refused after a history. (After a good history there always is a tree.)
 abbrev pub refusal_of : Membership → List Entry → ℕ → Change → Option Refusal
 refusal_of ro h a (Do op) = why ro (tree_after ro h) a op
 refusal_of ro h a (Undo n) = undo_refusal ro h a n
 
+-- number n, or the refusal if there is one
 abbrev pub reply : ℕ → Option Refusal → Result ℕ Refusal
 reply n None = Ok n
 reply n (Some r) = Err r
@@ -74,5 +68,6 @@ abbrev pub GoodAfter : Membership → List Entry → List Entry → Type 0
 GoodAfter ro h [] = Unit {0}
 GoodAfter ro h (e ∷ es) = (refusal_of ro h e.author e.change ≡ None) × GoodAfter ro (h ++ e ∷ []) es
 
+-- a good history: each of its entries was accepted after those before it
 abbrev pub Good : Membership → List Entry → Type 0
 Good ro h = GoodAfter ro [] h

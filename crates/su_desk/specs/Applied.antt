@@ -1,4 +1,5 @@
--- What the operations of a history read and wrote where they were applied: in the tree of the entries before them.
+-- What the operations of a history read and wrote where they were applied: in the tree of the
+-- entries before them. And what it means that they go in the replay as they did there.
 use Rattle.std.specs.Prelude.{ℕ, ◌-◌, List, [], take, Option, Some, None}
 use Rattle.std.specs.Option.{unwrap_or}
 use Rattle.su_bytes.specs.Membership.{Membership}
@@ -7,8 +8,10 @@ use Rattle.su_op.specs.declared.areas.Area.{Area}
 use Rattle.su_op.specs.declared.operations.Change.{Change}
 use Rattle.su_op.specs.declared.operations.Change.TheVariants.{Do, Undo}
 use Rattle.su_op.specs.Operation.{reads, writes}
+use Rattle.su_op.specs.Store.{store}
+use Rattle.su_undo.specs.System.{Agree, GoesAlike}
 use Rattle.su_desk.specs.declared.entries.Entry.{Entry}
-use Rattle.su_desk.specs.History.{Turn, tree, entry_at}
+use Rattle.su_desk.specs.History.{NumberedAction, tree, entry_at}
 
 -- the tree that a history leaves. (A good history always has one.)
 abbrev pub tree_after : Membership → List Entry → Tree
@@ -18,21 +21,32 @@ tree_after ro h = unwrap_or (tree ro h) genesis
 abbrev pub tree_before : Membership → List Entry → ℕ → Tree
 tree_before ro h n = tree_after ro (take (n - 1) h)
 
--- what a live operation read there, and what it wrote
-abbrev pub reads_of : Membership → List Entry → Turn → List Area
-reads_of ro h t = reads ro (tree_before ro h t.number) t.author t.op
+-- what an operation read there
+abbrev pub reads_where_applied : Membership → List Entry → NumberedAction → List Area
+reads_where_applied ro h t = reads ro (tree_before ro h t.number) t.action.author t.action.op
 
-abbrev pub writes_of : Membership → List Entry → Turn → List Area
-writes_of ro h t = writes ro (tree_before ro h t.number) t.author t.op
+-- and what it wrote
+abbrev pub writes_where_applied : Membership → List Entry → NumberedAction → List Area
+writes_where_applied ro h t = writes ro (tree_before ro h t.number) t.action.author t.action.op
 
-abbrev pub change_written : Membership → Tree → ℕ → Change → List Area
-change_written ro T a (Do op) = writes ro T a op
-change_written ro T a (Undo m) = []
+-- what a change by user a writes in T: an undo nothing of its own
+abbrev pub change_writes : Membership → Tree → ℕ → Change → List Area
+change_writes ro T a (Do op) = writes ro T a op
+change_writes ro T a (Undo m) = []
 
-abbrev pub entry_written : Membership → Tree → Option Entry → List Area
-entry_written ro T None = []
-entry_written ro T (Some e) = change_written ro T e.author e.change
+-- the same of an entry, if there is one
+abbrev pub entry_writes : Membership → Tree → Option Entry → List Area
+entry_writes ro T None = []
+entry_writes ro T (Some e) = change_writes ro T e.author e.change
 
 -- what the operation of entry n wrote where it was applied; nothing where entry n is no operation
-abbrev pub written : Membership → List Entry → ℕ → List Area
-written ro h n = entry_written ro (tree_before ro h n) (entry_at h n)
+abbrev pub written_by : Membership → List Entry → ℕ → List Area
+written_by ro h n = entry_writes ro (tree_before ro h n) (entry_at h n)
+
+-- In tree S, where it comes in the replay, an operation goes as it did where it was applied.
+pub record GoesAsApplied (ro : Membership) (h : List Entry) (S : Tree) (t : NumberedAction)
+    : Type 0 where
+  -- the cells that it read there, and so those that it wrote, hold what they held
+  pub found : Agree (store ro) (reads_where_applied ro h t) S (tree_before ro h t.number)
+  -- it is accepted, reads and writes the same cells, and writes the same values
+  pub alike : GoesAlike (store ro) (tree_before ro h t.number) S t.action

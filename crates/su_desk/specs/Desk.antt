@@ -7,22 +7,25 @@ use Rattle.su_op.specs.declared.operations.Change.{Change}
 use Rattle.su_desk.specs.declared.entries.Entry.{Entry}
 use Rattle.su_desk.specs.declared.entries.DeskReply.{DeskReply}
 use Rattle.su_desk.specs.declared.entries.DeskReply.TheVariants.{Done, Refused}
+use Rattle.su_desk.specs.History.{entry_by}
 use Rattle.su_desk.specs.Answer.{answer}
 
+-- what is seen of a desk
 pub record DeskState : Type 0 where
   pub roster : Membership
   pub history : List Entry
 
 -- the desk with one entry more
 abbrev pub with_entry : DeskState → ℕ → Change → DeskState
-with_entry d a c = record { roster = d.roster; history = d.history ++ record { author = a; change = c } ∷ [] }
+with_entry d a c = record { roster = d.roster; history = d.history ++ entry_by a c ∷ [] }
 
--- What may be answered to a change by user a, and what the desk then is: the answer of its history, with one entry more
--- where that is Done; or want of memory, with no change.
+-- What may be answered to a change by user a, and what the desk then is: the answer of its history,
+-- with one entry more where that is Done; or want of memory, with no change.
 abbrev pub Answers : DeskState → ℕ → Change → Result ℕ Refusal → DeskState → Type 0
 Answers d a c (Ok n) d' = (answer d.roster d.history a c ≡ Ok n) × (d' ≡ with_entry d a c)
 Answers d a c (Err r) d' = ((r ≡ NoMemory) ⊎ (answer d.roster d.history a c ≡ Err r)) × (d' ≡ d)
 
+-- a reply as the result of one change
 abbrev pub result_of : DeskReply → Result ℕ Refusal
 result_of (Done n) = Ok n
 result_of (Refused r) = Err r
@@ -30,6 +33,7 @@ result_of (Refused r) = Err r
 -- the replies to changes, each made after those before it
 abbrev pub Runs : DeskState → List (ℕ × Change) → List DeskReply → DeskState → Type 0
 Runs d [] [] d' = d' ≡ d
-Runs d (c ∷ cs) (r ∷ rs) d' = (mid : DeskState) × Answers d c.0 c.1 (result_of r) mid × Runs mid cs rs d'
+Runs d (c ∷ cs) (r ∷ rs) d' =
+    (mid : DeskState) × Answers d c.0 c.1 (result_of r) mid × Runs mid cs rs d'
 Runs d [] (r ∷ rs) d' = ⊥
 Runs d (c ∷ cs) [] d' = ⊥

@@ -1,30 +1,44 @@
--- Histories: entries numbered from 1, the operations that are live after them, and the tree that these make.
+-- Histories: entries numbered from 1, the operations that are live after them, and the tree that
+-- these make.
 use Rattle.std.specs.Prelude.{ℕ, ◌+◌, ◌-◌, Bool, false, not, cond, List, [], ◌∷◌, ◌++◌, map, Option, None, Some, nat_eq, slice_get}
 use Rattle.std.specs.List.{filter, list_any}
-use Rattle.std.specs.Option.{is_none}
+use Rattle.std.specs.Option.{option_or, unwrap_or}
 use Rattle.su_bytes.specs.Membership.{Membership}
 use Rattle.su_table.specs.Tree.{Tree, genesis}
-use Rattle.su_op.specs.declared.operations.Op.{Op}
 use Rattle.su_op.specs.declared.operations.Change.{Change}
 use Rattle.su_op.specs.declared.operations.Change.TheVariants.{Do, Undo}
-use Rattle.su_op.specs.Operation.{why, effect}
+use Rattle.su_op.specs.Store.{Action, store}
+use Rattle.su_undo.specs.Replay.{replay as replay_actions}
 use Rattle.su_desk.specs.declared.entries.Entry.{Entry}
 
--- an operation of a history, with the number of its entry
-pub record Turn : Type 0 where
+-- an operation by a user, with the number of its entry
+pub record NumberedAction : Type 0 where
   pub number : ℕ
-  pub author : ℕ
-  pub op : Op
+  pub action : Action
 
-abbrev pub turn_of : ℕ → ℕ → Change → List Turn
-turn_of n a (Do op) = record { number = n; author = a; op = op } ∷ []
-turn_of n a (Undo m) = []
+-- the operations without their numbers
+abbrev pub actions : List NumberedAction → List Action
+actions ts = map (λ t. t.action) ts
+
+-- the entry of a change by user a
+abbrev pub entry_by : ℕ → Change → Entry
+entry_by a c = record { author = a; change = c }
+
+-- the entry of the undo of n by user a
+abbrev pub undo_by : ℕ → ℕ → Entry
+undo_by a n = entry_by a (Undo n)
+
+-- the operation of entry n by user a, if its change is one
+abbrev pub operation_of : ℕ → ℕ → Change → List NumberedAction
+operation_of n a (Do op) = record { number = n; action = record { author = a; op = op } } ∷ []
+operation_of n a (Undo m) = []
 
 -- the operations among entries of which the first has number n
-abbrev pub turns_from : ℕ → List Entry → List Turn
-turns_from n [] = []
-turns_from n (e ∷ es) = turn_of n e.author e.change ++ turns_from (n + 1) es
+abbrev pub operations_from : ℕ → List Entry → List NumberedAction
+operations_from n [] = []
+operations_from n (e ∷ es) = operation_of n e.author e.change ++ operations_from (n + 1) es
 
+-- the change is the undo of n
 abbrev pub undoes : ℕ → Change → Bool
 undoes n (Do op) = false
 undoes n (Undo m) = nat_eq n m
@@ -34,16 +48,17 @@ abbrev pub is_undone : List Entry → ℕ → Bool
 is_undone h n = list_any (λ e. undoes n e.change) h
 
 -- the operations that no undo names, in order
-abbrev pub live : List Entry → List Turn
-live h = filter (λ t. not (is_undone h t.number)) (turns_from 1 h)
+abbrev pub live : List Entry → List NumberedAction
+live h = filter (λ t. not (is_undone h t.number)) (operations_from 1 h)
 
+-- their numbers
 abbrev pub live_numbers : List Entry → List ℕ
 live_numbers h = map (λ t. t.number) (live h)
 
--- operations one after another; no tree where one of them isn't accepted in its turn
-abbrev pub replay : Membership → Tree → List Turn → Option Tree
-replay ro T [] = Some T
-replay ro T (t ∷ ts) = cond (is_none (why ro T t.author t.op)) (replay ro (effect ro T t.author t.op) ts) None
+-- the tree that operations lead to from T, one after another; none where one of them isn't accepted
+-- where it comes
+abbrev pub replay : Membership → Tree → List NumberedAction → Option Tree
+replay ro T ts = replay_actions (store ro) T (actions ts)
 
 -- the tree after a history: a replay of its live operations from the first tree
 unfoldable pub tree : Membership → List Entry → Option Tree
@@ -62,10 +77,16 @@ undoer_from k (e ∷ es) n = cond (undoes n e.change) (Some k) (undoer_from (k +
 abbrev pub undoer : List Entry → ℕ → Option ℕ
 undoer h n = undoer_from 1 h n
 
-abbrev pub last_of : ℕ → List ℕ → ℕ
-last_of n [] = n
-last_of n (m ∷ ms) = last_of m ms
+-- the number of the last of these operations
+abbrev pub last_number : List NumberedAction → Option ℕ
+last_number [] = None
+last_number (t ∷ ts) = option_or (last_number ts) (Some t.number)
 
 -- the number of the last live operation, 0 where there is none
 abbrev pub last_live : List Entry → ℕ
-last_live h = last_of 0 (live_numbers h)
+last_live h = unwrap_or (last_number (live h)) 0
+
+-- the undos of operations from the last to the first, each by its author
+abbrev pub undos : List NumberedAction → List Entry
+undos [] = []
+undos (t ∷ ts) = undos ts ++ undo_by t.action.author t.number ∷ []

@@ -1,8 +1,8 @@
 pub mod History
 pub mod Applied
+pub mod Blocker
 pub mod Version
 pub mod Answer
-pub mod Commuting
 pub mod Desk
 pub mod Keeping
 pub mod Headline

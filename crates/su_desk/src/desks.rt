@@ -5,11 +5,12 @@ ghost use Rattle.su_desk.specs.Headline.{Headline};
 ghost use Rattle.su_bytes.specs.declared.refusals.Refusal.TheVariants.{NoMemory};
 ghost use Rattle.su_op.specs.declared.operations.Change.TheVariants.{Do, Undo};
 ghost use Rattle.su_desk.specs.History.{tree, live_numbers, last_live, entry_at, undoer};
-ghost use Rattle.su_desk.specs.Answer.{blocker, live_refusal, undo_refusal, Good};
+ghost use Rattle.su_desk.specs.Blocker.{blocker};
+ghost use Rattle.su_desk.specs.Answer.{live_refusal, undo_refusal, Good};
 ghost use Rattle.su_desk.specs.Desk.{Answers, Runs, result_of};
 
 use crate::entries::{DeskReply, Entry};
-use crate::kept::{KeptOperation, last_reader, place_of};
+use crate::kept::{KeptOperation, blocker_at, live_place, undo_place};
 use crate::versions::{first_versions, raise};
 use std::alloc::Global;
 use std::marker::Model;
@@ -18,7 +19,8 @@ use su_inverse::build;
 use su_op::{Change, Op, apply, footprint};
 use su_table::Forest;
 
-/// A history of changes, and the tree of its live operations. It is seen as its roster and its history.
+/// A history of changes, and the tree of its live operations. It is seen as its roster and its
+/// history.
 #[derive(Drop)]
 pub struct Desk {
     roster: Roster,
@@ -40,11 +42,12 @@ impl Model for Desk {
 
     ghost view = { λ d. record { roster = d.roster; history = d.entries.items } };
 
-    ghost invariant = { λ d. Keeps d.roster d.entries.items d.kept.items d.forest × (d.counters.items ≡ versions d.roster d.entries.items) };
+    ghost invariant = { λ d. Keeps d.roster d.entries.items d.kept.items d.forest
+        × (d.counters.items ≡ versions d.roster d.entries.items) };
 }
 
 impl Desk {
-    /// A desk with an empty history. Only `NoMemory` can come.
+    /// Makes a desk with an empty history. Fails only with `NoMemory`.
     pub fn new(alloc: Global, roster: Roster) -> Result<Desk, Refusal>
         ensures value { IfOk result (λ desk. desk ≡ record { roster = roster; history = [] }) }
         ensures refused { IfErr result (λ e. e ≡ NoMemory) }
@@ -61,14 +64,15 @@ impl Desk {
         })
     }
 
-    /// Who belongs to the store.
+    /// Returns who belongs to the store.
     pub fn roster(&self) -> &Roster
         ensures { result.now ≡ self.now.roster }
     {
         &self.roster
     }
 
-    /// The tree of the live operations; of it, the history and the version numbers all holds that the desk is for.
+    /// Returns the tree of the live operations. Of it, the history and the version numbers all
+    /// holds that the desk is for.
     pub fn forest(&self) -> &Forest
         ensures tree { tree self.now.roster self.now.history ≡ Some result.now }
         ensures good { Good self.now.roster self.now.history }
@@ -77,38 +81,36 @@ impl Desk {
         &self.forest
     }
 
-    /// The numbers of the live operations, ascending. Only `NoMemory` can come.
+    /// Returns the numbers of the live operations, ascending. Fails only with `NoMemory`.
     pub fn live(&self) -> Result<Vec<u64>, Refusal>
         ensures value { IfOk result (λ numbers. numbers.items ≡ live_numbers self.now.history) }
         ensures refused { IfErr result (λ e. e ≡ NoMemory) }
     {
-        let numbers = numbers(self.alloc, self.kept.as_slice())?;
-        Ok(numbers)
+        numbers_of(self.alloc, &self.kept)
     }
 
-    /// The version numbers of the users of the roster, and then of its groups: of a user how many entries are his, of a
-    /// group how many carry it. They only rise.
+    /// Returns the version numbers of the users of the roster, and then of its groups: of a user
+    /// how many entries are his, of a group how many carry it. They only rise.
     pub fn versions(&self) -> &[(Principal, u64)]
         ensures { result.now ≡ versions self.now.roster self.now.history }
     {
-        self.counters.as_slice()
+        &self.counters
     }
 
-    /// What stands in the way of an undo of a live operation: the last live operation that came after it and read a cell
-    /// that it wrote. `NoOperation` where there is no such entry, `NotOperation` where it is an undo, `AlreadyUndone`.
-    /// Takes no memory.
+    /// Returns what stands in the way of an undo of a live operation: the last live operation that
+    /// came after it and read a cell that it wrote. Fails with `NoOperation` where there is no such
+    /// entry, with `NotOperation` where it is an undo, and with `AlreadyUndone`. Takes no memory.
     pub fn blocker(&self, number: u64) -> Result<Option<u64>, Refusal>
         ensures value { IfOk result (λ m. m ≡ blocker self.now.roster self.now.history number) }
         ensures live { OnOk result (live_refusal self.now.history number ≡ None) }
         ensures refused { IfErr result (λ e. live_refusal self.now.history number ≡ Some e) }
     {
-        match self.check_live(number) {
-            Ok(()) => Ok(self.blocker_of(number)),
-            Err(refusal) => Err(refusal),
-        }
+        let place = live_place(&self.entries, &self.kept, number)?;
+        Ok(blocker_at(&self.kept, place))
     }
 
-    /// Makes a change, and answers the number of its entry. A refusal, the first in order or `NoMemory`, changes nothing.
+    /// Makes a change, and returns the number of its entry. A refusal, the first in order or
+    /// `NoMemory`, changes nothing.
     pub fn apply(&mut self, author: User, change: Change) -> Result<u64, Refusal>
         ensures { Answers self.old author change result self.new }
     {
@@ -118,7 +120,7 @@ impl Desk {
         }
     }
 
-    /// Undoes the last live operation; `NoOperation` with 0 where there is none.
+    /// Undoes the last live operation. Fails with `NoOperation` of 0 where there is none.
     pub fn undo_last(&mut self, author: User) -> Result<u64, Refusal>
         ensures { Answers self.old author (Undo (last_live self.old.history)) result self.new }
     {
@@ -126,10 +128,11 @@ impl Desk {
         self.undo(author, number)
     }
 
-    /// Makes the changes one after another, and answers each. `NoMemory` comes where there is no room for the replies, and
-    /// then nothing is changed; want of memory for a single change is the reply to it.
+    /// Makes the changes one after another, and returns a reply to each. Fails only with
+    /// `NoMemory`, where there is no room for the replies, and then nothing is changed; want of
+    /// memory for a single change is the reply to it.
     pub fn run(&mut self, changes: &[(User, Change)]) -> Result<Vec<DeskReply>, Refusal>
-        ensures replies { IfOk result (λ replies. Runs self.old changes.now replies.items self.new) }
+        ensures replies { IfOk result (λ r. Runs self.old changes.now r.items self.new) }
         ensures refused { IfErr result (λ e. e ≡ NoMemory) }
         ensures err { OnErr result (self.new ≡ self.old) }
     {
@@ -141,7 +144,7 @@ impl Desk {
         Ok(replies)
     }
 
-    /// The number of the last live operation, 0 where there is none.
+    /// Returns the number of the last live operation, 0 where there is none.
     fn last(&self) -> u64
         ensures { result ≡ last_live self.now.history }
     {
@@ -176,82 +179,22 @@ impl Desk {
     fn undo(&mut self, author: User, number: u64) -> Result<u64, Refusal>
         ensures { Answers self.old author (Undo number) result self.new }
     {
-        if let Err(refusal) = self.check_undo(author, number) {
-            return Err(refusal);
-        }
+        let place = undo_place(&self.roster, &self.entries, &self.kept, author, number)?;
         self.entries.reserve(1)?;
-        let Some(place) = place_of(self.kept.as_slice(), number) else {
-            return Err(Refusal::NoOperation(number));
-        };
-        let kept = &self.kept[place];
-        kept.inverse.undo_on(&mut self.forest)?;
-        raise(&mut self.counters, author, kept.footprint.writes.as_slice());
-        self.kept.remove(place);
+        self.kept[place].inverse.undo_on(&mut self.forest)?;
+        let undone = self.kept.remove(place);
+        raise(&mut self.counters, author, &undone.footprint.writes);
         let change = Change::Undo(number);
         self.entries.push_reserved(Entry { author, change });
         Ok(self.entries.len() as u64)
     }
 
-    /// Whether the author may undo that operation; else the first refusal.
-    fn check_undo(&self, author: User, number: u64) -> Result<(), Refusal>
-        ensures accepted { OnOk result (undo_refusal self.now.roster self.now.history author number ≡ None) }
-        ensures refused { IfErr result (λ e. undo_refusal self.now.roster self.now.history author number ≡ Some e) }
-    {
-        if !self.roster.has_user(author) {
-            return Err(Refusal::NoUser(author));
-        }
-        if let Err(refusal) = self.check_live(number) {
-            return Err(refusal);
-        }
-        let Some(entry) = entry_at(self.entries.as_slice(), number) else {
-            return Err(Refusal::NoOperation(number));
-        };
-        if author != entry.author {
-            return Err(Refusal::NotAuthor(entry.author));
-        }
-        match self.blocker_of(number) {
-            Some(blocker) => Err(Refusal::Blocked(blocker)),
-            None => Ok(()),
-        }
-    }
-
-    /// Whether that is a live operation; else why not. The history is searched only where it isn't.
-    fn check_live(&self, number: u64) -> Result<(), Refusal>
-        ensures live { OnOk result (live_refusal self.now.history number ≡ None) }
-        ensures refused { IfErr result (λ e. live_refusal self.now.history number ≡ Some e) }
-    {
-        if place_of(self.kept.as_slice(), number).is_some() {
-            return Ok(());
-        }
-        let Some(entry) = entry_at(self.entries.as_slice(), number) else {
-            return Err(Refusal::NoOperation(number));
-        };
-        let Change::Do(_) = &entry.change else {
-            return Err(Refusal::NotOperation(number));
-        };
-        match undoer_in(self.entries.as_slice(), number) {
-            Some(by) => Err(Refusal::AlreadyUndone(number, by)),
-            None => Ok(()),
-        }
-    }
-
-    /// What stands in the way of an undo of a live operation.
-    fn blocker_of(&self, number: u64) -> Option<u64>
-        requires { live_refusal self.now.history number ≡ None }
-        ensures { result ≡ blocker self.now.roster self.now.history number }
-    {
-        let place = place_of(self.kept.as_slice(), number)?;
-        let written = self.kept[place].footprint.writes.as_slice();
-        last_reader(&self.kept[place + 1..], written)
-    }
-
-    /// What is answered to one of several changes.
+    /// Makes one of several changes, and returns the reply to it.
     fn reply(&mut self, change: &(User, Change)) -> DeskReply
         ensures { Answers self.old change.now.0 change.now.1 (result_of result) self.new }
     {
-        let copy = match change.1.clone() {
-            Ok(copy) => copy,
-            Err(_) => return DeskReply::Refused(Refusal::NoMemory),
+        let Ok(copy) = change.1.clone() else {
+            return DeskReply::Refused(Refusal::NoMemory);
         };
         match self.apply(change.0, copy) {
             Ok(number) => DeskReply::Done(number),
@@ -260,30 +203,8 @@ impl Desk {
     }
 }
 
-/// The entry of a number.
-fn entry_at(entries: &[Entry], number: u64) -> Option<&Entry>
-    ensures { option_copied result ≡ entry_at entries.now number }
-{
-    if number == 0 {
-        return None;
-    }
-    let index = usize::try_from(number - 1).ok()?;
-    entries.get(index)
-}
-
-/// The number of the first entry that undoes that one.
-fn undoer_in(entries: &[Entry], number: u64) -> Option<u64>
-    ensures { result ≡ undoer entries.now number }
-{
-    for (index, entry) in entries.iter().enumerate() {
-        if entry.undoes(number) {
-            return Some(index as u64 + 1);
-        }
-    }
-    None
-}
-
-fn numbers(alloc: Global, kept: &[KeptOperation]) -> Result<Vec<u64>, Refusal>
+/// Returns the numbers of operations. Fails only with `NoMemory`.
+fn numbers_of(alloc: Global, kept: &[KeptOperation]) -> Result<Vec<u64>, Refusal>
     ensures value { IfOk result (λ v. v.items ≡ map (λ k. k.number) kept.now) }
     ensures refused { IfErr result (λ e. e ≡ NoMemory) }
 {

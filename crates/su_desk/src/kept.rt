@@ -1,14 +1,19 @@
 // What is kept of live operations, so that they can be undone.
-ghost use Rattle.std.specs.Prelude.{◌≡◌, None, false, nat_eq, IfSome};
+ghost use Rattle.std.specs.Prelude.{◌≡◌, ◌<◌, None, Some, false, length, nat_eq, IfSome, IfOk, IfErr, OnOk};
 ghost use Rattle.std.specs.List.{list_any};
 ghost use Rattle.std.specs.List.Sorted.{IsNonDecreasingBy};
+ghost use Rattle.su_bytes.specs.Membership.{Membership};
 ghost use Rattle.su_op.specs.Area.{meet, overlaps};
-ghost use Rattle.su_desk.specs.Keeping.{IsPlaceOf, last_kept_reader};
+ghost use Rattle.su_desk.specs.Answer.{live_refusal, undo_refusal};
+ghost use Rattle.su_desk.specs.Keeping.{AreKept, IsPlaceOf, last_kept_reader, kept_blocker};
 
+use crate::entries::{Entry, entry_at, undoer_in};
+use su_bytes::{Refusal, Roster, User};
 use su_inverse::Inverse;
-use su_op::{Area, Footprint};
+use su_op::{Area, Change, Footprint};
 
-/// A live operation, by its number: the cells that it read and wrote, and what those that it wrote held before.
+/// A live operation, by its number: the cells that it read and wrote, and what those that it wrote
+/// held before.
 #[derive(Drop)]
 pub(crate) struct KeptOperation {
     pub(crate) number: u64,
@@ -16,8 +21,66 @@ pub(crate) struct KeptOperation {
     pub(crate) inverse: Inverse,
 }
 
-/// Where the operation of that number is among these, whose numbers ascend.
-pub(crate) fn place_of(kept: &[KeptOperation], number: u64) -> Option<usize>
+/// Finds where the author's operation of that number is kept, if he may undo it; else tells the
+/// first refusal.
+pub(crate) fn undo_place(
+    roster: &Roster,
+    entries: &[Entry],
+    kept: &[KeptOperation],
+    author: User,
+    number: u64,
+) -> Result<usize, Refusal>
+    requires { AreKept roster.now entries.now kept.now }
+    ensures found { IfOk result (λ place. IsPlaceOf number kept.now place) }
+    ensures accepted { OnOk result (undo_refusal roster.now entries.now author number ≡ None) }
+    ensures refused { IfErr result (λ e.
+        undo_refusal roster.now entries.now author number ≡ Some e) }
+{
+    if !roster.has_user(author) {
+        return Err(Refusal::NoUser(author));
+    }
+    let place = live_place(entries, kept, number)?;
+    let Some(entry) = entry_at(entries, number) else {
+        unreachable!()
+    };
+    if author != entry.author {
+        return Err(Refusal::NotAuthor(entry.author));
+    }
+    match blocker_at(kept, place) {
+        Some(blocker) => Err(Refusal::Blocked(blocker)),
+        None => Ok(place),
+    }
+}
+
+/// Finds where the live operation of that number is kept; else tells why it is none. Only then the
+/// history is searched.
+pub(crate) fn live_place(
+    entries: &[Entry],
+    kept: &[KeptOperation],
+    number: u64,
+) -> Result<usize, Refusal>
+    requires { (ro : Membership) × AreKept ro entries.now kept.now }
+    ensures found { IfOk result (λ place. IsPlaceOf number kept.now place) }
+    ensures live { OnOk result (live_refusal entries.now number ≡ None) }
+    ensures refused { IfErr result (λ e. live_refusal entries.now number ≡ Some e) }
+{
+    if let Some(place) = place_of(kept, number) {
+        return Ok(place);
+    }
+    let Some(entry) = entry_at(entries, number) else {
+        return Err(Refusal::NoOperation(number));
+    };
+    let Change::Do(_) = &entry.change else {
+        return Err(Refusal::NotOperation(number));
+    };
+    let Some(by) = undoer_in(entries, number) else {
+        unreachable!()
+    };
+    Err(Refusal::AlreadyUndone(number, by))
+}
+
+/// Finds where the operation of that number is among these, whose numbers ascend.
+fn place_of(kept: &[KeptOperation], number: u64) -> Option<usize>
     requires { IsNonDecreasingBy (λ k. k.number) kept.now }
     ensures found { IfSome result (λ place. IsPlaceOf number kept.now place) }
     ensures missing { result ≡ None → list_any (λ k. nat_eq k.number number) kept.now ≡ false }
@@ -26,27 +89,36 @@ pub(crate) fn place_of(kept: &[KeptOperation], number: u64) -> Option<usize>
         .ok()
 }
 
-/// The number of the last of these operations that read a cell of the areas.
-pub(crate) fn last_reader(kept: &[KeptOperation], written: &[Area]) -> Option<u64>
+/// Returns the number of the last operation behind that place that read a cell that the one there
+/// wrote, if one did.
+pub(crate) fn blocker_at(kept: &[KeptOperation], place: usize) -> Option<u64>
+    requires { place < length kept.now }
+    ensures { result ≡ kept_blocker kept.now place }
+{
+    last_reader(&kept[place + 1..], &kept[place].footprint.writes)
+}
+
+/// Returns the number of the last of these operations that read a cell of the areas, if one did.
+fn last_reader(kept: &[KeptOperation], written: &[Area]) -> Option<u64>
     ensures { result ≡ last_kept_reader written.now kept.now }
 {
     for later in (0..kept.len()).rev() {
         let operation = &kept[later];
-        if meet(operation.footprint.reads.as_slice(), written) {
+        if meet(&operation.footprint.reads, written) {
             return Some(operation.number);
         }
     }
     None
 }
 
-/// Whether an area of the first overlaps one of the second.
+/// Tells whether an area of the first overlaps one of the second.
 fn meet(areas: &[Area], others: &[Area]) -> bool
     ensures { result ≡ meet areas.now others.now }
 {
     areas.iter().any(|area| overlaps_one(area, others))
 }
 
-/// Whether the area overlaps one of these.
+/// Tells whether the area overlaps one of these.
 fn overlaps_one(area: &Area, others: &[Area]) -> bool
     ensures { result ≡ list_any (overlaps area.now) others.now }
 {

@@ -5,10 +5,11 @@ mod desks;
 mod entries;
 mod kept;
 mod laws;
-#[cfg(test)]
-mod tests;
 mod versions;
 
 pub use desks::Desk;
 pub use entries::{DeskReply, Entry};
-pub use laws::{good_histories_can_be_undone, latest_is_free, versions_rise};
+pub use laws::{
+    areas_meet_in_a_cell, carried_groups_are_listed, good_histories_can_be_undone, latest_is_free,
+    live_numbers_ascend, one_entry_more, operations_can_be_taken_out, versions_rise,
+};

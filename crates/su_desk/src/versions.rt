@@ -8,7 +8,7 @@ use std::alloc::Global;
 use su_bytes::{Group, Principal, Refusal, Roster, User};
 use su_op::Area;
 
-/// The numbers of an empty history, which are all 0. Only `NoMemory` can come.
+/// Makes the numbers of an empty history, which are all 0. Fails only with `NoMemory`.
 pub(crate) fn first_versions(
     alloc: Global,
     roster: &Roster,
@@ -36,7 +36,7 @@ pub(crate) fn raise(versions: &mut [(Principal, u64)], author: User, written: &[
     }
 }
 
-/// Whether an entry of that author, which writes these areas, raises the number.
+/// Tells whether an entry of that author, which writes these areas, raises the number.
 fn raises(principal: Principal, author: User, written: &[Area]) -> bool
     ensures { result ≡ raises author written.now principal }
 {
@@ -46,7 +46,7 @@ fn raises(principal: Principal, author: User, written: &[Area]) -> bool
     }
 }
 
-/// Whether one of the areas is an entry of the group.
+/// Tells whether one of the areas is a pointer of the group.
 fn carries(written: &[Area], group: Group) -> bool
     ensures { result ≡ carries group written.now }
 {

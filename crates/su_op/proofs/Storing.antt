@@ -18,7 +18,7 @@ use Rattle.su_op.specs.Area.{in_area, has}
 use Rattle.su_op.specs.Rule.{Plan, refusal, plan_of, reads_of, writes_of}
 use Rattle.su_op.specs.Operation.{rule_of, why, effect, reads, writes}
 use Rattle.su_op.specs.Soundness.{WellLinked, IsBodyOf, Sound}
-use Rattle.su_op.specs.System.{LeavesOthers, IsLocal, Lawful}
+use Rattle.su_undo.specs.System.{LeavesOthers, IsLocal, Lawful}
 use Rattle.su_op.specs.Store.{Action, store}
 use Rattle.su_op.proofs.Orders.{get-set_place, place_eq-itself, place_eq-same}
 use Rattle.su_op.proofs.Changes.{number_same}

@@ -12,6 +12,5 @@ pub mod Renaming
 pub mod Operation
 pub mod Growth
 pub mod Soundness
-pub mod System
 pub mod Store
 pub mod Table

@@ -10,7 +10,7 @@ use Rattle.su_op.specs.declared.operations.Op.{Op}
 use Rattle.su_op.specs.Area.{has, meet}
 use Rattle.su_op.specs.Operation.{why, effect, reads, writes}
 use Rattle.su_op.specs.Soundness.{Sound}
-use Rattle.su_op.specs.System.{System}
+use Rattle.su_undo.specs.System.{System}
 
 -- an operation by a user
 pub record Action : Type 0 where

@@ -9,7 +9,7 @@ ghost use Rattle.su_table.specs.Cell.{Cell.At};
 ghost use Rattle.su_op.specs.Area.{has};
 ghost use Rattle.su_op.specs.Operation.{why, writes};
 ghost use Rattle.su_op.specs.Soundness.{Sound, WholeOrNew, KindOrFile};
-ghost use Rattle.su_op.specs.System.{Lawful};
+ghost use Rattle.su_undo.specs.System.{Lawful};
 ghost use Rattle.su_op.specs.Store.{Action, store};
 ghost use Rattle.su_op.specs.Table.{CreateRow, UnlinkRow, WriteRow, TruncateRow, TakeRow, LinkRow, RenameRow};
 

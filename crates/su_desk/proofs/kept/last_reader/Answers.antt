@@ -2,7 +2,7 @@ use Rattle.std.proofs.Common.{◌≡◌, ◌∙◌, sym, ap, drop, arith}
 use Rattle.std.proofs.Math.Seq.{drop-length}
 use Rattle.su_op.specs.Area.{meet}
 use Rattle.su_desk.specs.Keeping.{last_kept_reader}
-use Rattle.su_desk.proofs.Finding.{reader_found, reader_not_yet}
+use Rattle.su_desk.proofs.KeptPlaces.{reader_found, reader_not_yet}
 use Rattle.su_desk.proofs.kept.last_reader.Goals as goal
 
 pub loop-later-init : goal.loop-later-init
@@ -11,12 +11,12 @@ loop-later-init c = record { within = omega arith; unread = ap (last_kept_reader
 pub returns-then-meet : goal.returns-then-meet
 returns-then-meet c =
     let l = c.loop-later in
-    reader_found c.args.written.now c.args.kept.now l.later c.index-kept-later.result (omega arith) l.invariant.within (sym c.index-kept-later.is) l.invariant.unread (ap (λ u. meet u c.args.written.now) (sym c.as_slice.ensures.value) ∙ sym c.meet.ensures ∙ c.if-meet.true)
+    reader_found c.args.written.now c.args.kept.now l.later c.index-kept-later.result (omega arith) l.invariant.within (sym c.index-kept-later.is) l.invariant.unread (ap (λ u. meet u c.args.written.now) (sym c.deref.ensures.value) ∙ sym c.meet.ensures ∙ c.if-meet.true)
 
 pub loop-later-preserved : goal.loop-later-preserved
 loop-later-preserved c =
     let l = c.loop-later in
-    record { within = omega (arith, l.invariant.within); unread = reader_not_yet c.args.written.now c.args.kept.now l.later c.index-kept-later.result (omega arith) l.invariant.within (sym c.index-kept-later.is) l.invariant.unread (ap (λ u. meet u c.args.written.now) (sym c.as_slice.ensures.value) ∙ sym c.meet.ensures ∙ c.if-meet.false) }
+    record { within = omega (arith, l.invariant.within); unread = reader_not_yet c.args.written.now c.args.kept.now l.later c.index-kept-later.result (omega arith) l.invariant.within (sym c.index-kept-later.is) l.invariant.unread (ap (λ u. meet u c.args.written.now) (sym c.deref.ensures.value) ∙ sym c.meet.ensures ∙ c.if-meet.false) }
 
 pub returns : goal.returns
 returns c =

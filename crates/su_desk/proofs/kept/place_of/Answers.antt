@@ -3,7 +3,7 @@ use Rattle.std.specs.Prelude.{IfSome}
 use Rattle.std.proofs.lemmas.List.Sorted.{answers_always}
 use Rattle.su_desk.specs.declared.kept.KeptOperation.{KeptOperation}
 use Rattle.su_desk.specs.Keeping.{IsPlaceOf}
-use Rattle.su_desk.proofs.Placing.{searched}
+use Rattle.su_desk.proofs.NumberSearch.{searched}
 use Rattle.su_desk.proofs.kept.place_of.Goals as goal
 
 pub returns-clause-found : goal.returns-clause-found

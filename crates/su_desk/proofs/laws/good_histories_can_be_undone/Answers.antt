@@ -1,4 +1,4 @@
-use Rattle.su_desk.proofs.Heading.{good_headline}
+use Rattle.su_desk.proofs.GoodHistories.{good_headline}
 use Rattle.su_desk.proofs.laws.good_histories_can_be_undone.Goals as goal
 
 pub returns : goal.returns

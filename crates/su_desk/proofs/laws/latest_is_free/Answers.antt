@@ -1,4 +1,4 @@
-use Rattle.su_desk.proofs.Blocking.{latest_free}
+use Rattle.su_desk.proofs.Blockers.{latest_free}
 use Rattle.su_desk.proofs.laws.latest_is_free.Goals as goal
 
 pub returns : goal.returns

@@ -1,6 +1,6 @@
 use Rattle.std.proofs.Common.{◌∙◌, arith}
 use Rattle.su_desk.specs.Version.{raised}
-use Rattle.su_desk.proofs.Counting.{next_changed, raised_one, raised_none}
+use Rattle.su_desk.proofs.VersionNumbers.{next_changed, raised_one, raised_none}
 use Rattle.su_desk.proofs.versions.raise.Goals as goal
 use Rattle.su_desk.proofs.versions.raise.Goals.{then-raises, else-raises}
 

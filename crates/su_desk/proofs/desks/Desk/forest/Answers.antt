@@ -2,8 +2,8 @@ use Rattle.std.proofs.Common.{sym, ◌∙◌, ap, subst}
 use Rattle.su_desk.specs.History.{tree}
 use Rattle.su_desk.specs.Answer.{Good}
 use Rattle.su_desk.specs.Headline.{Headline}
-use Rattle.su_desk.proofs.Leading.{tree_kept}
-use Rattle.su_desk.proofs.Heading.{headline_of}
+use Rattle.su_desk.proofs.KeptOperations.{tree_kept}
+use Rattle.su_desk.proofs.GoodHistories.{headline_of}
 use Rattle.su_desk.proofs.desks.Desk.forest.Goals as goal
 
 pub returns-clause-tree : goal.returns-clause-tree

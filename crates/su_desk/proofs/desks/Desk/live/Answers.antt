@@ -1,10 +1,11 @@
-use Rattle.std.proofs.Common.{◌∙◌, map, ap}
+use Rattle.std.proofs.Common.{◌≡◌, ◌∙◌, List, ℕ, map, ap, subst, IfOk}
 use Rattle.su_desk.specs.declared.kept.KeptOperation.{KeptOperation}
 use Rattle.su_desk.specs.History.{live_numbers}
-use Rattle.su_desk.proofs.Leading.{numbers_kept}
+use Rattle.su_desk.proofs.KeptOperations.{numbers_kept}
 use Rattle.su_desk.proofs.desks.Desk.live.Goals as goal
 
 pub returns-clause-value : goal.returns-clause-value
 returns-clause-value c =
-    c.in_ok-numbers.ensures.value ∙ ap (map (λ (k : KeptOperation). k.number)) c.as_slice.ensures.value
-    ∙ numbers_kept _ _ _ _ c.self.invariant.0 ∙ ap (λ d. live_numbers d.history) c.self.view_is
+    subst (λ (ns : List ℕ). IfOk c.numbers_of.result (λ v. v.items ≡ ns))
+    (ap (map (λ (k : KeptOperation). k.number)) c.deref.ensures.value ∙ numbers_kept _ _ _ _ c.self.invariant.0 ∙ ap (λ d. live_numbers d.history) c.self.view_is)
+    c.numbers_of.ensures.value

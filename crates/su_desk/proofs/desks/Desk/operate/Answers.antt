@@ -1,21 +1,19 @@
-use Rattle.su_bytes.specs.declared.refusals.Refusal.{Refusal}
-use Rattle.su_bytes.specs.declared.refusals.Refusal.TheVariants.{NoMemory}
-use Rattle.su_op.specs.declared.operations.Change.{Change}
-use Rattle.std.proofs.Common.{ℕ, ◌⊎◌, ⊎_elim, inl, Result, IsErrAnd, ◌≡◌, ◌∙◌, ◌+◌, ◌++◌, ◌∷◌, [], sym, refl, ap, subst, inr, Ok, Err, length, length-append, List, arith, take, drop, ◌<◌, ◌^◌}
+use Rattle.std.proofs.Common.{ℕ, ⊎_elim, inl, ◌≡◌, ◌∙◌, ◌+◌, ◌++◌, ◌∷◌, [], sym, ap, subst, inr, Ok, Err, length, length-append, List, arith, take, drop, ◌<◌, ◌^◌}
 use Rattle.su_op.specs.declared.operations.Change.TheVariants.{Do}
 use Rattle.su_op.specs.Area.{has}
 use Rattle.su_desk.specs.declared.entries.Entry.{Entry}
+use Rattle.su_desk.specs.History.{entry_by}
 use Rattle.su_desk.specs.Answer.{answer}
-use Rattle.su_desk.specs.Desk.{DeskState, Answers, with_entry}
+use Rattle.su_desk.specs.Desk.{DeskState, with_entry}
 use Rattle.su_desk.specs.Keeping.{Keeps}
 use Rattle.std.specs.Option.{unwrap_or}
 use Rattle.su_table.specs.Tree.{genesis}
 use Rattle.su_op.specs.Operation.{writes}
 use Rattle.su_bytes.specs.declared.principals.Principal.{Principal}
 use Rattle.su_desk.specs.Version.{cells_of, versions}
-use Rattle.su_desk.proofs.Counting.{counters_next, versions_within}
-use Rattle.su_desk.proofs.Leading.{tree_kept, keeps_do}
-use Rattle.su_desk.proofs.Answering.{answer_done, answer_refused, refusal_of-do}
+use Rattle.su_desk.proofs.VersionNumbers.{counters_next, versions_within}
+use Rattle.su_desk.proofs.KeptOperations.{tree_kept, keeps_do}
+use Rattle.su_desk.proofs.Replies.{passed_on, answer_done, answer_refused, refusal_of-do}
 use Rattle.std.specs.List.{All}
 use Rattle.su_inverse.specs.Kept.{CanKeep}
 use Rattle.su_inverse.proofs.Writing.{writes_kept}
@@ -24,17 +22,17 @@ use Rattle.su_desk.proofs.desks.Desk.operate.Goals as goal
 pub invariant_of-self-2 : goal.invariant_of-self-2
 invariant_of-self-2 c =
     let s = c.self.inside in
-    let entries = c.push_reserved.ensures.items ∙ ap (λ h. h ++ record { author = c.args.author; change = Do c.args.op } ∷ []) c.in_ok-reserve.ensures.items in
+    let entries = c.push_reserved.ensures.items ∙ ap (λ h. h ++ entry_by c.args.author (Do c.args.op) ∷ []) c.in_ok-reserve.ensures.items in
     let kept = c.push_reserved-2.ensures.items ∙ ap (λ ks. ks ++ record { number = c.len-number.result; footprint = c.in_ok-footprint.footprint; inverse = c.in_ok-inverse.inverse } ∷ []) c.in_ok-reserve-2.ensures.items in
     let accepted = c.in_ok-footprint.ensures.accepted in
-    let number : c.len-number.result ≡ length s.entries.items + 1 = omega (arith, c.len-number.ensures, c.push_reserved.new.self.ok.0, ap length entries, length-append s.entries.items (record { author = c.args.author; change = Do c.args.op } ∷ [])) in
-    let e : Entry = record { author = c.args.author; change = Do c.args.op } in
+    let number : c.len-number.result ≡ length s.entries.items + 1 = omega (arith, c.len-number.ensures, c.push_reserved.new.self.ok.0, ap length entries, length-append s.entries.items (entry_by c.args.author (Do c.args.op) ∷ [])) in
+    let e : Entry = entry_by c.args.author (Do c.args.op) in
     let written : c.as_slice-2.result.now ≡ cells_of s.roster s.entries.items c.args.author (Do c.args.op)
     = c.as_slice-2.ensures.value ∙ c.in_ok-footprint.ensures.writes ∙ ap (λ o. writes s.roster (unwrap_or o genesis) c.args.author c.args.op) (sym (tree_kept s.roster s.entries.items s.kept.items s.forest c.self.invariant.0)) in (
       subst (λ h. Keeps s.roster h c.push_reserved-2.new.self.items c.apply.new.forest) (sym entries)
-          (subst (λ ks. Keeps s.roster (s.entries.items ++ record { author = c.args.author; change = Do c.args.op } ∷ []) ks c.apply.new.forest) (sym kept)
-          (subst (λ T. Keeps s.roster (s.entries.items ++ record { author = c.args.author; change = Do c.args.op } ∷ []) (s.kept.items ++ record { number = c.len-number.result; footprint = c.in_ok-footprint.footprint; inverse = c.in_ok-inverse.inverse } ∷ []) T) (sym c.in_ok-apply.ensures.done)
-          (keeps_do s.roster s.entries.items s.kept.items s.forest c.args.author c.args.op (record { number = c.len-number.result; footprint = c.in_ok-footprint.footprint; inverse = c.in_ok-inverse.inverse }) c.self.invariant.0
+          (subst (λ ks. Keeps s.roster (s.entries.items ++ entry_by c.args.author (Do c.args.op) ∷ []) ks c.apply.new.forest) (sym kept)
+          (subst (λ T. Keeps s.roster (s.entries.items ++ entry_by c.args.author (Do c.args.op) ∷ []) (s.kept.items ++ record { number = c.len-number.result; footprint = c.in_ok-footprint.footprint; inverse = c.in_ok-inverse.inverse } ∷ []) T) (sym c.in_ok-apply.ensures.done)
+          (keeps_do s.roster s.entries.items s.kept.items s.forest (record { author = c.args.author; op = c.args.op }) (record { number = c.len-number.result; footprint = c.in_ok-footprint.footprint; inverse = c.in_ok-inverse.inverse }) c.self.invariant.0
           (record {
             accepted = accepted;
             number = number;
@@ -50,8 +48,8 @@ invariant_of-self-2 c =
 pub returns : goal.returns
 returns c =
     let s = c.self.inside in
-    let entries = c.push_reserved.ensures.items ∙ ap (λ h. h ++ record { author = c.args.author; change = Do c.args.op } ∷ []) c.in_ok-reserve.ensures.items in
-    let number : length s.entries.items + 1 ≡ c.len-number.result = omega (arith, c.len-number.ensures, c.push_reserved.new.self.ok.0, ap length entries, length-append s.entries.items (record { author = c.args.author; change = Do c.args.op } ∷ [])) in
+    let entries = c.push_reserved.ensures.items ∙ ap (λ h. h ++ entry_by c.args.author (Do c.args.op) ∷ []) c.in_ok-reserve.ensures.items in
+    let number : length s.entries.items + 1 ≡ c.len-number.result = omega (arith, c.len-number.ensures, c.push_reserved.new.self.ok.0, ap length entries, length-append s.entries.items (entry_by c.args.author (Do c.args.op) ∷ [])) in
     let seen : List Entry → DeskState = λ h. record { roster = s.roster; history = h } in (
       subst (λ d. answer d.roster d.history c.args.author (Do c.args.op) ≡ Ok c.len-number.result) c.self.view_is
           (answer_done _ _ _ _ (refusal_of-do s.roster s.entries.items s.forest c.args.author c.args.op (tree_kept _ _ _ _ c.self.invariant.0) ∙ c.in_ok-footprint.ensures.accepted) ∙ ap Ok number),
@@ -62,11 +60,6 @@ pub build-requires : goal.build-requires
 build-requires c =
     let s = c.self.inside in
     subst (All (CanKeep s.forest)) (sym (c.as_slice.ensures.value ∙ c.in_ok-footprint.ensures.writes)) (writes_kept s.roster s.forest c.args.author c.args.op c.in_ok-footprint.ensures.accepted)
-
--- a refusal that is passed on
-passed_on : (d : DeskState) (a : ℕ) (c : Change) (r : Result ℕ Refusal) (x : Refusal) → IsErrAnd r (λ e. e ≡ x) → (x ≡ NoMemory) ⊎ (answer d.roster d.history a c ≡ Err x) → Answers d a c r d
-passed_on d a c (Ok n) x is why = absurd is
-passed_on d a c (Err e) x is why = (⊎_elim (λ m. inl (is ∙ m)) (λ f. inr (f ∙ ap Err (sym is))) why, refl)
 
 pub returns-in_err-footprint : goal.returns-in_err-footprint
 returns-in_err-footprint c =

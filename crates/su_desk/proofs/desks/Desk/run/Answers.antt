@@ -1,7 +1,7 @@
 use Rattle.std.proofs.Common.{◌∙◌, ◌++◌, ◌∷◌, [], sym, ap, subst, take, arith}
 use Rattle.std.proofs.lemmas.List.{take_more}
 use Rattle.su_desk.specs.Desk.{Runs}
-use Rattle.su_desk.proofs.Running.{runs_further}
+use Rattle.su_desk.proofs.Runs.{runs_further}
 use Rattle.su_desk.proofs.desks.Desk.run.Goals as goal
 
 pub loop-change-preserved : goal.loop-change-preserved

@@ -1,0 +1,114 @@
+-- What the desk is for holds of every good history.
+use Rattle.std.proofs.Common.{◌≡◌, ℕ, true, cond, List, [], ◌∷◌, ◌++◌, None, Some, refl, sym, ap, ◌∙◌, append_assoc, append-nil}
+use Rattle.std.specs.Option.{option_or, unwrap_or}
+use Rattle.std.proofs.lemmas.Bool.{eq-eqb}
+use Rattle.su_bytes.specs.Membership.{Membership, has_user}
+use Rattle.su_bytes.specs.declared.refusals.Refusal.TheVariants.{NotAuthor}
+use Rattle.su_table.specs.Tree.{Tree, genesis}
+use Rattle.su_op.specs.declared.operations.Op.{Op}
+use Rattle.su_op.specs.declared.operations.Op.TheVariants.{Create, Unlink, Write, Truncate, Take, Link, Rename}
+use Rattle.su_op.specs.Rule.{Plan}
+use Rattle.su_op.specs.Operation.{rule_of, why}
+use Rattle.su_op.proofs.Rules.{Gives, gives_of}
+use Rattle.su_op.proofs.Storing.{none_is}
+use Rattle.su_desk.specs.declared.entries.Entry.{Entry}
+use Rattle.su_desk.specs.History.{NumberedAction, undo_by, undos, live, replay, tree, entry_at, last_number, last_live}
+use Rattle.su_desk.specs.Applied.{tree_after}
+use Rattle.su_desk.specs.Blocker.{blocker}
+use Rattle.su_desk.specs.Answer.{author_refusal, blocked_refusal, undo_refusal, Good, GoodAfter}
+use Rattle.su_desk.specs.Headline.{Headline}
+use Rattle.su_desk.proofs.VersionNumbers.{never_falls}
+use Rattle.su_desk.proofs.Blockers.{latest_free, named_exact, free_exact}
+use Rattle.su_desk.proofs.LiveNumbers.{live_alone, by_blocker_alone}
+use Rattle.su_desk.proofs.Replays.{Replayed, HasTree, tree_replayed, split_live, undone_out, can_be_taken_out, goes_in_replay, good_after, good_further_after, good_has_tree, good_replayed}
+
+-- ---- who did an accepted operation belongs to the roster
+
+author_demanded : (ro : Membership) (T : Tree) (a : ℕ) (op : Op) (p : Plan) → Gives (rule_of ro T a op) p → has_user ro a ≡ true
+author_demanded ro T a (Create c) p (user, rest) = user
+author_demanded ro T a (Unlink u) p (user, rest) = user
+author_demanded ro T a (Write w) p (user, rest) = user
+author_demanded ro T a (Truncate t) p (user, rest) = user
+author_demanded ro T a (Take t) p (user, rest) = user
+author_demanded ro T a (Link l) p (user, rest) = user
+author_demanded ro T a (Rename r) p (user, rest) = user
+
+author_known : (ro : Membership) (T : Tree) (a : ℕ) (op : Op) → why ro T a op ≡ None → has_user ro a ≡ true
+unfolding why
+author_known ro T a op ok = author_demanded ro T a op _ (gives_of (rule_of ro T a op) ok)
+
+-- ---- the undo of a live operation by its author
+
+refused_by_blocker : (ro : Membership) (h : List Entry) (T : Tree) → Replayed ro h T → (before after : List NumberedAction) (t : NumberedAction) → live h ≡ before ++ t ∷ after
+    → undo_refusal ro h t.action.author t.number ≡ blocked_refusal (blocker ro h t.number)
+refused_by_blocker ro h T r before after t is =
+    let a = t.action.author in
+    let n = t.number in
+    let p = split_live ro h T before after t r is in
+    let known = author_known ro p.earlier a t.action.op (none_is (why ro p.earlier a t.action.op) p.here.goes.alike.ok) in
+    let own : author_refusal a (entry_at h n) ≡ None = ap (author_refusal a) p.here.entry ∙ ap (λ b. cond b None (Some (NotAuthor a))) (eq-eqb a a refl) in
+    by_blocker_alone ro h a n known (live_alone h before after t is p.here.entry) own
+
+-- ---- undone from the last on
+
+last_number-append : (ts : List NumberedAction) (t : NumberedAction) → last_number (ts ++ t ∷ []) ≡ Some t.number
+last_number-append [] t = refl
+last_number-append (u ∷ ts) t = ap (λ o. option_or o (Some u.number)) (last_number-append ts t)
+
+-- the last of the live operations can be undone by its author
+last_accepted : (ro : Membership) (h : List Entry) (T : Tree) → Replayed ro h T → (ts : List NumberedAction) (t : NumberedAction) → live h ≡ ts ++ t ∷ [] → undo_refusal ro h t.action.author t.number ≡ None
+last_accepted ro h T r ts t is =
+    let last : last_live h ≡ t.number = ap (λ us. unwrap_or (last_number us) 0) is ∙ ap (λ o. unwrap_or o 0) (last_number-append ts t) in
+    refused_by_blocker ro h T r ts [] t is ∙ ap blocked_refusal (ap (blocker ro h) (sym last) ∙ latest_free ro h)
+
+-- so can all behind a point, and then those before it are left
+record ComeBack (ro : Membership) (h : List Entry) (ts us : List NumberedAction) : Type 0 where
+  good : GoodAfter ro h (undos us)
+  left : live (h ++ undos us) ≡ ts
+
+come_back : (ro : Membership) (h : List Entry) → HasTree ro h → (ts us : List NumberedAction) → live h ≡ ts ++ us → ComeBack ro h ts us
+come_back ro h r ts [] is = record { good = tt; left = ap live (append-nil h) ∙ is ∙ append-nil ts }
+come_back ro h r ts (t ∷ us) is =
+    let e : Entry = undo_by t.action.author t.number in
+    let b = come_back ro h r (ts ++ t ∷ []) us (is ∙ sym (append_assoc ts (t ∷ []) us)) in
+    let q = good_after ro h (undos us) r b.good in
+    record {
+      good = good_further_after ro h (undos us) e b.good (last_accepted ro (h ++ undos us) q.state q.replayed ts t b.left);
+      left = ap live (sym (append_assoc h (undos us) (e ∷ []))) ∙ undone_out (h ++ undos us) ts [] t t.action.author b.left ∙ append-nil ts;
+    }
+
+point_tree : (ro : Membership) (h : List Entry) (ts us : List NumberedAction) → live (h ++ undos us) ≡ ts → tree ro (h ++ undos us) ≡ replay ro genesis ts
+unfolding tree
+point_tree ro h ts us left = ap (replay ro genesis) left
+
+undone_tree : (ro : Membership) (h : List Entry) (before after : List NumberedAction) (t : NumberedAction) (a : ℕ) → live h ≡ before ++ t ∷ after → tree ro (h ++ undo_by a t.number ∷ []) ≡ replay ro genesis (before ++ after)
+unfolding tree
+undone_tree ro h before after t a is = ap (replay ro genesis) (undone_out h before after t a is)
+
+-- ---- all of it
+
+pub headline_of : (ro : Membership) (h : List Entry) (T : Tree) → Good ro h → tree ro h ≡ Some T → Headline ro h T
+headline_of ro h T good is =
+    let r = good_replayed ro h T good is in
+    let has : HasTree ro h = record { state = T; replayed = r } in
+    record {
+      replayed = is;
+      as_applied = goes_in_replay ro h T r;
+      rising = never_falls ro h;
+      latest = latest_free ro h;
+      accepted = λ ts us whole. (come_back ro h has ts us whole).good;
+      every_point = λ ts us whole. point_tree ro h ts us (come_back ro h has ts us whole).left;
+      out = undone_out h;
+      undone = undone_tree ro h;
+      taken_out = can_be_taken_out ro h T r;
+      blocked = refused_by_blocker ro h T r;
+      named = named_exact ro h;
+      free = free_exact ro h;
+    }
+
+-- a good history has it, with the tree that it leaves
+pub good_headline : (ro : Membership) (h : List Entry) → Good ro h → Headline ro h (tree_after ro h)
+good_headline ro h good =
+    let r = good_has_tree ro h good in
+    let is = tree_replayed ro h r.state r.replayed in
+    headline_of ro h (tree_after ro h) good (is ∙ ap (λ o. Some (unwrap_or o genesis)) (sym is))

@@ -1,0 +1,82 @@
+-- The answers of a desk from what it keeps.
+use Rattle.std.proofs.Common.{◌⊎◌, ⊎_elim, inl, inr, Result, IsErrAnd, ◌≡◌, ◌∙◌, sym, refl, ap, ℕ, ◌+◌, ◌-◌, List, [], ◌∷◌, ◌++◌, length, Some, None, Ok, Err, slice_get, get_or, take, drop, subst, zero, suc, arith}
+use Rattle.std.specs.Option.{unwrap_or}
+use Rattle.std.proofs.lemmas.Option.{slice_get-get_or}
+use Rattle.su_bytes.specs.Membership.{Membership}
+use Rattle.su_bytes.specs.declared.refusals.Refusal.{Refusal}
+use Rattle.su_bytes.specs.declared.refusals.Refusal.TheVariants.{NoMemory}
+use Rattle.su_table.specs.Tree.{Tree, genesis}
+use Rattle.su_inverse.specs.Kept.{IsPutBack}
+use Rattle.su_op.specs.declared.operations.Op.{Op}
+use Rattle.su_op.specs.declared.operations.Change.{Change}
+use Rattle.su_op.specs.declared.operations.Change.TheVariants.{Do}
+use Rattle.su_op.specs.Operation.{why}
+use Rattle.su_desk.specs.declared.entries.Entry.{Entry}
+use Rattle.su_desk.specs.History.{undo_by, tree, last_live}
+use Rattle.su_desk.specs.declared.kept.KeptOperation.{KeptOperation}
+use Rattle.su_desk.specs.Desk.{DeskState, Answers}
+use Rattle.su_desk.specs.Applied.{written_by}
+use Rattle.su_desk.specs.Keeping.{Keeps, IsPlaceOf}
+use Rattle.su_desk.proofs.KeptOperations.{keeps_undo, written_there, last_kept, none_kept}
+use Rattle.su_desk.proofs.KeptPlaces.{split_at}
+use Rattle.su_desk.specs.Answer.{undo_refusal, refusal_of, reply, answer}
+
+pub answer_done : (ro : Membership) (h : List Entry) (a : ℕ) (c : Change) → refusal_of ro h a c ≡ None → answer ro h a c ≡ Ok (length h + 1)
+unfolding answer
+answer_done ro h a c e = ap (reply (length h + 1)) e
+
+pub answer_refused : (ro : Membership) (h : List Entry) (a : ℕ) (c : Change) (r : Refusal) → refusal_of ro h a c ≡ Some r → answer ro h a c ≡ Err r
+unfolding answer
+answer_refused ro h a c r e = ap (reply (length h + 1)) e
+
+-- a refusal that is passed on
+pub passed_on : (d : DeskState) (a : ℕ) (c : Change) (r : Result ℕ Refusal) (x : Refusal) → IsErrAnd r (λ e. e ≡ x) → (x ≡ NoMemory) ⊎ (answer d.roster d.history a c ≡ Err x) → Answers d a c r d
+passed_on d a c (Ok n) x is why = absurd is
+passed_on d a c (Err e) x is why = (⊎_elim (λ m. inl (is ∙ m)) (λ f. inr (f ∙ ap Err (sym is))) why, refl)
+
+-- an operation is answered from the tree
+pub refusal_of-do : (ro : Membership) (h : List Entry) (T : Tree) (a : ℕ) (op : Op) → tree ro h ≡ Some T → refusal_of ro h a (Do op) ≡ why ro T a op
+refusal_of-do ro h T a op e = ap (λ o. why ro (unwrap_or o genesis) a op) e
+
+-- a list ends with its last element
+ends_at : {A : Type 0} (xs : List A) (n : ℕ) (x : A) → length xs ≡ suc n → slice_get xs n ≡ Some x → xs ≡ take n xs ++ x ∷ []
+ends_at [] n x len e = absurd (let bad : None ≡ Some x = e in cc)
+ends_at (y ∷ []) zero x len e = let same : y ≡ x = cc in ap (λ z. z ∷ []) same
+ends_at (y ∷ z ∷ ys) zero x len e = absurd (omega arith)
+ends_at (y ∷ ys) (suc n) x len e = ap (λ t. y ∷ t) (ends_at ys n x (omega arith) e)
+
+pub ends_with : {A : Type 0} (xs : List A) (x : A) → slice_get xs (length xs - 1) ≡ Some x → xs ≡ take (length xs - 1) xs ++ x ∷ []
+ends_with [] x e = absurd (let bad : None ≡ Some x = e in cc)
+ends_with (y ∷ ys) x e = ends_at (y ∷ ys) (length (y ∷ ys) - 1) x (omega arith) e
+
+pub is_empty : {A : Type 0} (xs : List A) → slice_get xs (length xs - 1) ≡ None → xs ≡ []
+is_empty [] e = refl
+is_empty (y ∷ ys) e = let there = slice_get-get_or (y ∷ ys) (length (y ∷ ys) - 1) y (omega arith) in absurd (let bad : None ≡ Some (get_or (y ∷ ys) (length (y ∷ ys) - 1) y) = sym e ∙ there in cc)
+
+-- ---- what is kept last
+
+pub last_number : (ro : Membership) (h : List Entry) (ks : List KeptOperation) (k : KeptOperation) (T : Tree) → Keeps ro h ks T → slice_get ks (length ks - 1) ≡ Some k → k.number ≡ last_live h
+last_number ro h ks k T keeps e = sym (last_kept ro h (take (length ks - 1) ks) k T (subst (λ xs. Keeps ro h xs T) (ends_with ks k e) keeps))
+
+pub no_number : (ro : Membership) (h : List Entry) (ks : List KeptOperation) (T : Tree) → Keeps ro h ks T → slice_get ks (length ks - 1) ≡ None → 0 ≡ last_live h
+no_number ro h ks T keeps e = sym (none_kept ro h T (subst (λ xs. Keeps ro h xs T) (is_empty ks e) keeps))
+
+-- ---- an undo
+
+-- where an accepted undo finds its operation
+pub record Found (ro : Membership) (h : List Entry) (ks : List KeptOperation) (k : KeptOperation) (i : ℕ) (n : ℕ) (T : Tree) : Type 0 where
+  pub whole : Keeps ro h (take i ks ++ k ∷ drop (i + 1) ks) T
+  pub number : k.number ≡ n
+
+pub found : (ro : Membership) (h : List Entry) (ks : List KeptOperation) (k : KeptOperation) (i n : ℕ) (T : Tree) → Keeps ro h ks T → IsPlaceOf n ks i → get_or ks i k ≡ k → Found ro h ks k i n T
+found ro h ks k i n T keeps place here = record {
+  whole = subst (λ xs. Keeps ro h xs T) (split_at ks i k place.within here) keeps;
+  number = ap (λ (x : KeptOperation). x.number) (sym here) ∙ place.number k;
+}
+
+pub undone_there : (ro : Membership) (h : List Entry) (ks : List KeptOperation) (k : KeptOperation) (i : ℕ) (T T' : Tree) (a n : ℕ) → Found ro h ks k i n T → undo_refusal ro h a n ≡ None
+    → ((B : Tree) → IsPutBack k.inverse T B → T' ≡ B) → Keeps ro (h ++ undo_by a n ∷ []) (take i ks ++ drop (i + 1) ks) T'
+undone_there ro h ks k i T T' a n there accepted put = keeps_undo ro h (take i ks) (drop (i + 1) ks) T T' a n k there.whole there.number accepted put
+
+pub undone_written : (ro : Membership) (h : List Entry) (ks : List KeptOperation) (k : KeptOperation) (i n : ℕ) (T : Tree) → Found ro h ks k i n T → k.footprint.writes.items ≡ written_by ro h n
+undone_written ro h ks k i n T there = written_there ro h (take i ks) (drop (i + 1) ks) T n k there.whole there.number

@@ -1,0 +1,2 @@
+pub mod TakingOut
+pub mod Copies
