@@ -13,10 +13,10 @@ use Rattle.su_op.specs.declared.operations.Change.TheVariants.{Do, Undo}
 use Rattle.su_op.specs.Area.{has}
 use Rattle.su_op.specs.Operation.{why, effect, reads, writes}
 use Rattle.su_op.specs.Soundness.{Sound, KindOrFile}
-use Rattle.su_op.proofs.Storing.{store_lawful}
-use Rattle.su_op.proofs.Standing.{block_written}
+use Rattle.su_op.proofs.StoreLemmas.{store_lawful}
+use Rattle.su_op.proofs.SoundnessLemmas.{block_written}
 use Rattle.su_inverse.specs.Kept.{areas_of, IsPutBack}
-use Rattle.su_inverse.proofs.Again.{kept_again}
+use Rattle.su_inverse.proofs.KeptLemmas.{kept_again}
 use Rattle.su_desk.specs.declared.entries.Entry.{Entry}
 use Rattle.su_desk.specs.declared.kept.KeptOperation.{KeptOperation}
 use Rattle.su_desk.specs.History.{Turn, live, live_numbers, replay, tree, entry_at, last_of, last_live}

@@ -8,13 +8,13 @@ use Rattle.su_op.specs.declared.areas.Area.{Area}
 use Rattle.su_op.specs.declared.operations.Op.{Op}
 use Rattle.su_op.specs.declared.operations.Op.TheVariants.{Create, Unlink, Write, Truncate, Take, Link, Rename}
 use Rattle.su_op.specs.Rule.{Rule, refusal, plan_of, reads_of, writes_of}
-use Rattle.su_op.specs.Creation.{create_rule}
-use Rattle.su_op.specs.Unlinking.{unlink_rule}
-use Rattle.su_op.specs.Writing.{write_rule}
-use Rattle.su_op.specs.Truncation.{truncate_rule}
-use Rattle.su_op.specs.Taking.{take_rule}
-use Rattle.su_op.specs.Linking.{link_rule}
-use Rattle.su_op.specs.Renaming.{rename_rule}
+use Rattle.su_op.specs.Create.{create_rule}
+use Rattle.su_op.specs.Unlink.{unlink_rule}
+use Rattle.su_op.specs.Write.{write_rule}
+use Rattle.su_op.specs.Truncate.{truncate_rule}
+use Rattle.su_op.specs.Take.{take_rule}
+use Rattle.su_op.specs.Link.{link_rule}
+use Rattle.su_op.specs.Rename.{rename_rule}
 
 -- the rule of each operation
 abbrev pub rule_of : Membership → Tree → ℕ → Op → Rule

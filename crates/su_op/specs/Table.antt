@@ -7,21 +7,21 @@ use Rattle.su_bytes.specs.Place.{Place}
 use Rattle.su_op.specs.declared.areas.Part.TheVariants.{Kind as KindPart, Links as LinksPart, Size as SizePart, Name as NamePart, Blocks as BlocksPart, Whole as WholePart}
 use Rattle.su_op.specs.declared.areas.Area.{Area}
 use Rattle.su_op.specs.declared.areas.Area.TheVariants.{Inode as InodeArea}
-use Rattle.su_op.specs.declared.creation.Create.{Create}
-use Rattle.su_op.specs.declared.taking.Take.{Take}
-use Rattle.su_op.specs.declared.linking.Link.{Link}
-use Rattle.su_op.specs.declared.renaming.Rename.{Rename}
-use Rattle.su_op.specs.declared.truncation.Truncate.{Truncate}
-use Rattle.su_op.specs.declared.unlinking.Unlink.{Unlink}
+use Rattle.su_op.specs.declared.create.Create.{Create}
+use Rattle.su_op.specs.declared.take.Take.{Take}
+use Rattle.su_op.specs.declared.link.Link.{Link}
+use Rattle.su_op.specs.declared.rename.Rename.{Rename}
+use Rattle.su_op.specs.declared.truncate.Truncate.{Truncate}
+use Rattle.su_op.specs.declared.unlink.Unlink.{Unlink}
 use Rattle.su_op.specs.Footprint.{run}
 use Rattle.su_op.specs.Rule.{pointer_areas, writes_of}
-use Rattle.su_op.specs.Creation.{create_plan}
-use Rattle.su_op.specs.Unlinking.{unlink_plan}
-use Rattle.su_op.specs.Writing.{Writing, write_plan}
-use Rattle.su_op.specs.Truncation.{truncate_plan}
-use Rattle.su_op.specs.Taking.{take_plan}
-use Rattle.su_op.specs.Linking.{link_plan}
-use Rattle.su_op.specs.Renaming.{moved_areas, rename_plan}
+use Rattle.su_op.specs.Create.{create_plan}
+use Rattle.su_op.specs.Unlink.{unlink_plan}
+use Rattle.su_op.specs.Write.{Writing, write_plan}
+use Rattle.su_op.specs.Truncate.{truncate_plan}
+use Rattle.su_op.specs.Take.{take_plan}
+use Rattle.su_op.specs.Link.{link_plan}
+use Rattle.su_op.specs.Rename.{moved_areas, rename_plan}
 
 abbrev pub kind : Place → Area
 kind p = InodeArea p KindPart

@@ -3,14 +3,14 @@ ghost use Rattle.std.specs.Prelude.{◌≡◌, ◌⊎◌, Some, None, IfOk, IfEr
 ghost use Rattle.su_op.specs.Operation.{why, effect, reads, writes};
 ghost use Rattle.su_bytes.specs.declared.refusals.Refusal.TheVariants.{NoMemory};
 
-use crate::creation::Create;
+use crate::create::Create;
 use crate::footprints::Footprint;
-use crate::linking::Link;
-use crate::renaming::Rename;
-use crate::taking::Take;
-use crate::truncation::Truncate;
-use crate::unlinking::Unlink;
-use crate::writing::Write;
+use crate::link::Link;
+use crate::rename::Rename;
+use crate::take::Take;
+use crate::truncate::Truncate;
+use crate::unlink::Unlink;
+use crate::write::Write;
 use std::alloc::Global;
 use su_bytes::{FileId, Place, Refusal, Roster, User};
 use su_table::Forest;

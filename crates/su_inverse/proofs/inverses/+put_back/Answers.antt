@@ -5,8 +5,8 @@ use Rattle.su_table.proofs.TakenBack.{edit-back}
 use Rattle.su_inverse.specs.Kept.{HoldsReturn, HoldsSize, return_edit}
 use Rattle.su_inverse.specs.Displaced.{displaced_edit}
 use Rattle.su_inverse.specs.Putting.{left, AgreeBut, IsRoomy}
-use Rattle.su_inverse.proofs.Sets.{returned, all_areas}
-use Rattle.su_inverse.proofs.Lengths.{first_roomy}
+use Rattle.su_inverse.proofs.AreaListLemmas.{returned, all_areas}
+use Rattle.su_inverse.proofs.SizeLemmas.{first_roomy}
 use Rattle.su_inverse.proofs.inverses.+put_back.Goals as goal
 
 pub returns-in-Err-clause-err : goal.returns-in-Err-clause-err

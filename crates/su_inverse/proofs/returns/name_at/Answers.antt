@@ -1,6 +1,6 @@
 use Rattle.std.proofs.Common.{◌∙◌, None}
 use Rattle.su_node.specs.Field.{Field.NameOf}
-use Rattle.su_inverse.proofs.Holding.{field_at}
+use Rattle.su_inverse.proofs.HeldLemmas.{field_at}
 use Rattle.su_inverse.proofs.returns.name_at.Goals as goal
 
 pub returns-in-Some : goal.returns-in-Some

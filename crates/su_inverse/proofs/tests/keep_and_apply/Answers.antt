@@ -1,7 +1,7 @@
 use Rattle.std.proofs.Common.{◌∙◌, sym, subst}
 use Rattle.std.specs.List.{All}
 use Rattle.su_inverse.specs.Kept.{CanKeep}
-use Rattle.su_inverse.proofs.Writing.{writes_kept}
+use Rattle.su_inverse.proofs.InverseLemmas.{writes_kept}
 use Rattle.su_inverse.proofs.tests.keep_and_apply.Goals as goal
 
 pub build-requires : goal.build-requires

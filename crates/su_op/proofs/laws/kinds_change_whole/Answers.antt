@@ -1,4 +1,4 @@
-use Rattle.su_op.proofs.Standing.{kind_written, block_written}
+use Rattle.su_op.proofs.SoundnessLemmas.{kind_written, block_written}
 use Rattle.su_op.proofs.laws.kinds_change_whole.Goals as goal
 
 pub returns-clause-kind : goal.returns-clause-kind

@@ -1,4 +1,4 @@
-use Rattle.su_op.proofs.Listing.{create_row, unlink_row, write_row, truncate_row, take_row, link_row, rename_row}
+use Rattle.su_op.proofs.TableLemmas.{create_row, unlink_row, write_row, truncate_row, take_row, link_row, rename_row}
 use Rattle.su_op.proofs.laws.table_of_cells.Goals as goal
 
 pub returns-clause-create : goal.returns-clause-create

@@ -1,7 +1,7 @@
 use Rattle.std.proofs.Common.{◌∙◌, ◌||◌, sym, ap}
 use Rattle.su_op.specs.Area.{in_area, has}
 use Rattle.su_inverse.specs.Kept.{kept_area, areas_of}
-use Rattle.su_inverse.proofs.Sets.{all_areas, push_return, push_size, push_reset, push_blocks}
+use Rattle.su_inverse.proofs.AreaListLemmas.{all_areas, push_return, push_size, push_reset, push_blocks}
 use Rattle.su_inverse.proofs.inverses.Inverse.add.Goals.{in-Return+in_ok-push-in-Return, in-Size+in_ok-push-in-Size, in-Reset+in_ok-push-in-Reset, in-Blocks+in_ok-push-in-Blocks}
 use Rattle.su_inverse.proofs.inverses.Inverse.add.Goals as goal
 

@@ -3,7 +3,7 @@ use Rattle.std.proofs.lemmas.List.{at_drop_more, drop_all}
 use Rattle.std.specs.List.{AllByRecursion}
 use Rattle.su_inverse.specs.Kept.{HoldsSize}
 use Rattle.su_inverse.specs.Putting.{left_sizes, AgreeBut}
-use Rattle.su_inverse.proofs.Lengths.{size_cut}
+use Rattle.su_inverse.proofs.SizeLemmas.{size_cut}
 use Rattle.su_inverse.proofs.inverses.Inverse.finish.Goals as goal
 
 pub loop-kept-preserved : goal.loop-kept-preserved

@@ -3,7 +3,7 @@ use Rattle.std.proofs.lemmas.List.{at_drop_more, drop_all}
 use Rattle.std.specs.List.{AllByRecursion}
 use Rattle.su_inverse.specs.Kept.{reset_area, blocks_area, HoldsReset}
 use Rattle.su_inverse.specs.Putting.{left_resets, AgreeBut}
-use Rattle.su_inverse.proofs.Sets.{reset}
+use Rattle.su_inverse.proofs.AreaListLemmas.{reset}
 use Rattle.su_inverse.proofs.inverses.Inverse.set.Goals as goal
 
 pub loop-reset-preserved : goal.loop-reset-preserved

@@ -2,7 +2,7 @@ use Rattle.std.proofs.Common.{sym, subst, Result, Ok, Err, OnOk}
 use Rattle.std.specs.List.{AllByRecursion}
 use Rattle.su_inverse.specs.Kept.{HoldsReturn}
 use Rattle.su_inverse.specs.Putting.{left, AgreeBut}
-use Rattle.su_inverse.proofs.Sets.{left_over, held_all}
+use Rattle.su_inverse.proofs.AreaListLemmas.{left_over, held_all}
 use Rattle.su_inverse.proofs.inverses.Inverse.undo_on.Goals as goal
 
 OnOk-map : {X Y P Q : Type 0} (r : Result X Y) → (P → Q) → OnOk r P → OnOk r Q

@@ -3,8 +3,8 @@ use Rattle.std.proofs.lemmas.List.{at_drop_more, drop_all}
 use Rattle.std.specs.List.{AllByRecursion}
 use Rattle.su_inverse.specs.Kept.{HoldsBlocks}
 use Rattle.su_inverse.specs.Putting.{left_blocks, AgreeBut}
-use Rattle.su_inverse.proofs.Restored.{all_back}
-use Rattle.su_inverse.proofs.Lengths.{blocks_back}
+use Rattle.su_inverse.proofs.MixedLemmas.{all_back}
+use Rattle.su_inverse.proofs.SizeLemmas.{blocks_back}
 use Rattle.su_inverse.proofs.inverses.Inverse.write.Goals as goal
 
 pub loop-kept-preserved : goal.loop-kept-preserved

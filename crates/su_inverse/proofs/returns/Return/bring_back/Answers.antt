@@ -1,4 +1,4 @@
-use Rattle.su_inverse.proofs.Displacing.{displaced_inode, displaced_name, displaced_pointer, room_inode, room_name, room_pointer}
+use Rattle.su_inverse.proofs.OverwrittenLemmas.{displaced_inode, displaced_name, displaced_pointer, room_inode, room_name, room_pointer}
 use Rattle.su_inverse.proofs.returns.Return.bring_back.Goals as goal
 
 pub returns-in_ok-was-in-Inode-clause-displaced : goal.returns-in_ok-was-in-Inode-clause-displaced
