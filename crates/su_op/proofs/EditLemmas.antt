@@ -1,6 +1,7 @@
 -- Edits of a tree, cell by cell.
 use Rattle.std.proofs.Common.{ℕ, ◌+◌, length, ◌≡◌, ℕ, ◌+◌, length, Bool, true, false, cond, ◌&&◌, ◌||◌, List, [], ◌∷◌, ◌++◌, map, Option, Some, None, refl, sym, ap, ◌∙◌, subst}
 use Rattle.std.proofs.lemmas.List.Folds.{list_any-append}
+use Rattle.std.specs.Bool.{if◌then◌else◌}
 use Rattle.std.specs.List.{list_any}
 use Rattle.std.specs.FinMap.{get}
 use Rattle.su_bytes.specs.declared.file_ids.FileId.TheVariants.{Group}
@@ -14,7 +15,7 @@ use Rattle.su_op.specs.declared.areas.Part.{Part}
 use Rattle.su_op.specs.declared.areas.Area.{Area}
 use Rattle.su_op.specs.declared.areas.Area.TheVariants.{Inode as InodeArea}
 use Rattle.su_op.specs.Area.{in_part, in_area, has}
-use Rattle.su_op.specs.Footprint.{written_parts, resized_parts, parts, edit_areas, areas_of}
+use Rattle.su_op.specs.Footprint.{overwritten_parts, grown_parts, other_size_parts, parts, edit_areas, edits_areas}
 use Rattle.su_op.specs.Soundness.{WellLinked, IsBodyOf, Sound}
 use Rattle.su_op.proofs.KeyLemmas.{get-set_place, same_places, place_eq-same, place_eq-itself}
 use Rattle.su_op.proofs.InodeChangeLemmas.{Can, leaves, alike, stays_linked, inode_same}
@@ -139,11 +140,11 @@ moved_home T p ch can free g q at (k, e) = go (place_eq q p) refl
     go true is = absurd (free g (at ∙ ap APlace (place_eq-same q p is)))
     go false is = (k, edit_leaves T (Inodes p ch) (At q KindOf) can (has_parts p q KindOf (parts ch) ∙ ap (λ b. b && list_any (λ a. in_part a KindOf) (parts ch)) is) ∙ e)
 
-pub written_kind : (b : Bool) (s off end : ℕ) → list_any (λ a. in_part a KindOf) (written_parts b s off end) ≡ false
+pub written_kind : (b : Bool) (s off end : ℕ) → list_any (λ a. in_part a KindOf) (if b then overwritten_parts off end else grown_parts s off end) ≡ false
 written_kind true s off end = refl
 written_kind false s off end = refl
 
-pub resized_kind : (b : Bool) (s t : ℕ) → list_any (λ a. in_part a KindOf) (resized_parts b s t) ≡ false
+pub resized_kind : (b : Bool) (s t : ℕ) → list_any (λ a. in_part a KindOf) (if b then [] else other_size_parts s t) ≡ false
 resized_kind true s t = refl
 resized_kind false s t = refl
 
@@ -185,10 +186,10 @@ edit_sound T e can sound = record { linked = edit_linked T e can sound.linked; h
 pub has_none : (u w : List Area) (c : Cell) → has (u ++ w) c ≡ false → (has u c ≡ false) × (has w c ≡ false)
 has_none u w c e = neither (has u c) (has w c) (sym (list_any-append (λ a. in_area a c) u w) ∙ e)
 
-pub edits_leave : (T : Tree) (es : List Edit) (c : Cell) → CanEdits T es → has (areas_of es) c ≡ false → val (edits T es) c ≡ val T c
+pub edits_leave : (T : Tree) (es : List Edit) (c : Cell) → CanEdits T es → has (edits_areas es) c ≡ false → val (edits T es) c ≡ val T c
 edits_leave T [] c can out = refl
 edits_leave T (e ∷ es) c (can, more) out =
-    let (here, later) = has_none (edit_areas e) (areas_of es) c out in
+    let (here, later) = has_none (edit_areas e) (edits_areas es) c out in
     edits_leave (edit T e) es c more later ∙ edit_leaves T e c can here
 
 pub edits_alike : (T T' : Tree) (es : List Edit) (c : Cell) → CanEdits T es → CanEdits T' es → val T c ≡ val T' c → val (edits T es) c ≡ val (edits T' es) c

@@ -1,6 +1,7 @@
 -- What takes single edits back, where they add to what is free, and what an edit leaves as it was.
 use Rattle.std.proofs.Common.{◌≡◌, ◌∙◌, sym, refl, ap, ℕ, Bool, true, false, cond, [], ◌∷◌, ◌++◌, ◌-◌, nat_le, Option, Some, None, arith}
 use Rattle.std.specs.Ordering.{eq_by_cmp}
+use Rattle.std.specs.Bool.{if◌then◌else◌}
 use Rattle.std.specs.FinMap.{get, len, empty_of_len, get-empty}
 use Rattle.su_bytes.specs.declared.file_ids.FileId.{FileId}
 use Rattle.su_bytes.specs.declared.file_ids.FileId.TheVariants.{User, Group}
@@ -19,7 +20,7 @@ use Rattle.su_op.specs.declared.create.Create.{Create}
 use Rattle.su_op.specs.Rule.{pointer_edits}
 use Rattle.su_op.specs.Create.{create_plan}
 use Rattle.su_op.specs.declared.unlink.Unlink.{Unlink}
-use Rattle.su_op.specs.Unlink.{unlink_plan, unlink_edits}
+use Rattle.su_op.specs.Unlink.{unlink_plan, link_goes, fewer_links, file_goes}
 use Rattle.su_op.specs.Growth.{AreFreeFor}
 use Rattle.su_node.proofs.Maps.{get-set_key, get-set_key_here, eq_by_cmp-same}
 use Rattle.su_table.proofs.TakenBack.{edit-back}
@@ -224,16 +225,16 @@ pub unlink_some : (T : Tree) (d f : Place) (u : Unlink) (l : ℕ) → l ≡ link
     → edit (edit T (Inodes d (Named u.name None))) (Inodes f (Linked (l - 1))) ≡ edits T (unlink_plan (links_at T f) u d f).edits
 unlink_some T d f u l is more =
     let same : l ≡ links_at T f = is ∙ links_at-with_name T d u.name None f in
-    ap (λ b. edits (edit T (Inodes d (Named u.name None))) (unlink_edits b l u.file f)) (sym more)
-    ∙ ap (λ n. edits (edit T (Inodes d (Named u.name None))) (unlink_edits (nat_le 2 n) n u.file f)) same
+    ap (λ b. edits (edit T (Inodes d (Named u.name None))) (if b then fewer_links l f else file_goes u.file f)) (sym more)
+    ∙ ap (λ n. edits (edit T (Inodes d (Named u.name None))) (link_goes n u.file f)) same
 
 -- of the last link: the name goes, and the file
 pub unlink_last : (T : Tree) (d f : Place) (u : Unlink) (l : ℕ) → l ≡ links_at (edit T (Inodes d (Named u.name None))) f → nat_le 2 l ≡ false
     → edits (edit T (Inodes d (Named u.name None))) (pointer_edits u.file None ++ Inodes f Gone ∷ []) ≡ edits T (unlink_plan (links_at T f) u d f).edits
 unlink_last T d f u l is more =
     let same : l ≡ links_at T f = is ∙ links_at-with_name T d u.name None f in
-    ap (λ b. edits (edit T (Inodes d (Named u.name None))) (unlink_edits b l u.file f)) (sym more)
-    ∙ ap (λ n. edits (edit T (Inodes d (Named u.name None))) (unlink_edits (nat_le 2 n) n u.file f)) same
+    ap (λ b. edits (edit T (Inodes d (Named u.name None))) (if b then fewer_links l f else file_goes u.file f)) (sym more)
+    ∙ ap (λ n. edits (edit T (Inodes d (Named u.name None))) (link_goes n u.file f)) same
 
 -- ---- what was added is taken away again
 

@@ -1,6 +1,7 @@
 -- A change of an inode leaves the cells that it doesn't write, and where it finds the same it leaves the same.
-use Rattle.std.proofs.Common.{◌≡◌, ℕ, ◌+◌, ◌-◌, ◌/◌, ◌<◌, ◌≤◌, Bool, true, false, cond, ◌||◌, ◌⊎◌, inl, inr, ⊎_elim, nat_le, nat_eq, min, max, List, length, Option, Some, None, refl, sym, ap, ◌∙◌, subst, arith}
+use Rattle.std.proofs.Common.{◌≡◌, ℕ, ◌+◌, ◌-◌, ◌/◌, ◌<◌, ◌≤◌, Bool, true, false, cond, ◌||◌, ◌⊎◌, inl, inr, ⊎_elim, nat_le, nat_eq, min, max, List, [], length, Option, Some, None, refl, sym, ap, ◌∙◌, subst, arith}
 use Rattle.std.proofs.lemmas.Bool.{leb-true, leb-false}
+use Rattle.std.specs.Bool.{if◌then◌else◌}
 use Rattle.std.specs.List.{list_any}
 use Rattle.std.specs.FinMap.{get, get-empty}
 use Rattle.su_bytes.specs.declared.file_ids.FileId.{FileId}
@@ -11,7 +12,8 @@ use Rattle.su_node.specs.Inode.{Content, Content.Bytes, Content.Names, Inode, ki
 use Rattle.su_node.specs.Field.{block, Field, Field.KindOf, Field.LinksOf, Field.SizeOf, Field.BlockOf, Field.NameOf, Value.Nothing, Value.AKind, Value.ANumber, block_value, file_value, content_value, field_value}
 use Rattle.su_node.specs.InodeChange.{InodeChange, InodeChange.Made, InodeChange.Named, InodeChange.Linked, InodeChange.Written, InodeChange.Resized, InodeChange.Copied, InodeChange.Gone, inode_after, with_name, map_bytes, with_size, with_bytes_at}
 use Rattle.su_op.specs.Area.{in_run, in_part}
-use Rattle.su_op.specs.Footprint.{run, written_parts, resized_parts, parts}
+use Rattle.su_op.specs.Area.{run}
+use Rattle.su_op.specs.Footprint.{overwritten_parts, grown_parts, other_size_parts, parts}
 use Rattle.su_op.specs.Soundness.{IsA, WellLinked}
 use Rattle.su_op.proofs.BlockLemmas.{block-nil, block_value_same, length-with_bytes_at, length-with_size, block_written_alike, block_resized_alike, outside, block_written_within, block_written_beyond, block_resized_outside, resized_same, bytes_same}
 use Rattle.su_op.proofs.KeyLemmas.{get-set_name, same_names}
@@ -68,7 +70,7 @@ linked_leaves (Bytes bs) (NameOf x) h l n out = refl
 linked_leaves (Names m) (NameOf x) h l n out = refl
 
 written_leaves : (s off : ℕ) (xs : List ℕ) (c : Content) (f : Field) (h : FileId) (l : ℕ) → kind_of c ≡ File → content_value c l h SizeOf ≡ ANumber s → 0 < length xs
-    → (b : Bool) → nat_le (off + length xs) s ≡ b → list_any (λ p. in_part p f) (written_parts b s off (off + length xs)) ≡ false → content_value (map_bytes (with_bytes_at off xs) c) l h f ≡ content_value c l h f
+    → (b : Bool) → nat_le (off + length xs) s ≡ b → list_any (λ p. in_part p f) (if b then overwritten_parts off (off + length xs) else grown_parts s off (off + length xs)) ≡ false → content_value (map_bytes (with_bytes_at off xs) c) l h f ≡ content_value c l h f
 written_leaves s off xs (Names m) f h l k size some b is out = absurd cc
 written_leaves s off xs (Bytes bs) KindOf h l k size some b is out = refl
 written_leaves s off xs (Bytes bs) LinksOf h l k size some b is out = refl
@@ -90,7 +92,7 @@ written_leaves s off xs (Bytes bs) (BlockOf n) h l k size some false is out =
     ap block_value (block_written_beyond n off xs bs some (omega arith) (subst (λ z. (n < min off z / 4096) ⊎ ((off + length xs - 1) / 4096 < n)) (sym e) (outside_run _ _ n (or_no _ out))))
 
 resized_leaves : (s t : ℕ) (c : Content) (f : Field) (h : FileId) (l : ℕ) → kind_of c ≡ File → content_value c l h SizeOf ≡ ANumber s
-    → (b : Bool) → nat_eq s t ≡ b → list_any (λ p. in_part p f) (resized_parts b s t) ≡ false → content_value (map_bytes (with_size t) c) l h f ≡ content_value c l h f
+    → (b : Bool) → nat_eq s t ≡ b → list_any (λ p. in_part p f) (if b then [] else other_size_parts s t) ≡ false → content_value (map_bytes (with_size t) c) l h f ≡ content_value c l h f
 resized_leaves s t (Names m) f h l k size b is out = absurd cc
 resized_leaves s t (Bytes bs) f h l k size true is out =
     let e : length bs ≡ s = cc in

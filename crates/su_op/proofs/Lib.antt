@@ -13,4 +13,3 @@ pub mod LinkLemmas
 pub mod RenameLemmas
 pub mod StoreLemmas
 pub mod SoundnessLemmas
-pub mod TableLemmas

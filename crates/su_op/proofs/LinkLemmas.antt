@@ -15,18 +15,20 @@ use Rattle.su_op.specs.declared.areas.Area.TheVariants.{Inode as InodeArea}
 use Rattle.su_op.specs.declared.link.Link.{Link}
 use Rattle.su_op.specs.Limits.{most_links}
 use Rattle.su_op.specs.Link.{link_rule, link_plan}
-use Rattle.su_op.specs.Rule.{Plan, reads_of, file_areas}
+use Rattle.su_op.specs.Rule.{Plan, plan_reads, file_areas}
 use Rattle.su_op.specs.Soundness.{IsA, Sound}
 use Rattle.su_op.proofs.EditLemmas.{CanEdits}
 use Rattle.su_op.proofs.RuleLemmas.{Gives, Agrees, left, right, later, kind_same, links_same, name_same, body_same, IsA_dir, IsA_file, kind_after_name}
+use Rattle.su_op.specs.Link.{LinkRow}
+use Rattle.std.proofs.Common.{refl}
 
 less : (n m : ℕ) → nat_lt n m ≡ true → n < m
 less n m e = grind (arith, nat_tests)
 
 module _ (ro : Membership) (a : ℕ) (l : Link) where
-  pub link_local : (T T' : Tree) (p : Plan) → Gives (link_rule ro T a l) p → Agrees (reads_of p) T T' → Gives (link_rule ro T' a l) p
+  pub link_local : (T T' : Tree) (p : Plan) → Gives (link_rule ro T a l) p → Agrees (plan_reads p) T T' → Gives (link_rule ro T' a l) p
   link_local T T' p (user, (touch, (touch', (d, at, (f, at_f, (is, (is_f, (holder, (holder', (new, (room, plan))))))))))) agree =
-      let all : Agrees (reads_of (link_plan (links_at T f) l d f)) T T' = subst (λ p. Agrees (reads_of p) T T') (sym plan) agree in
+      let all : Agrees (plan_reads (link_plan (links_at T f) l d f)) T T' = subst (λ p. Agrees (plan_reads p) T T') (sym plan) agree in
       let reads = left (file_areas l.dir d ++ file_areas l.file f) _ all in
       let reads_d : Agrees (file_areas l.dir d) T T' = left (file_areas l.dir d) _ reads in
       let reads_f : Agrees (file_areas l.file f) T T' = right (file_areas l.dir d) _ reads in
@@ -40,3 +42,6 @@ module _ (ro : Membership) (a : ℕ) (l : Link) where
       let few : links_at T f < most_links = less (links_at T f) most_links room in
       let file! : IsA File (get (edit T (Inodes d (Named l.name (Some l.file)))).inodes f) = IsA_file (edit T (Inodes d (Named l.name (Some l.file)))) f (ap is_file_kind (kind_after_name T d l.name (Some l.file) f dir!) ∙ is_f) in
       subst (λ (p : Plan). CanEdits T p.edits) plan ((dir!, tt), (((file!, omega arith, omega arith), tt), tt))
+
+pub link_row : (l : Link) → LinkRow l
+link_row l links d f = record { reads = refl; writes = refl }

@@ -13,12 +13,13 @@ use Rattle.su_op.specs.declared.areas.Part.TheVariants.{Name as NamePart}
 use Rattle.su_op.specs.declared.areas.Area.TheVariants.{Inode as InodeArea}
 use Rattle.su_op.specs.declared.rename.Rename.{Rename}
 use Rattle.su_op.specs.Rename.{stays, moved, moved_areas, moves_directory, rename_rule, rename_rule_at, rename_plan}
-use Rattle.su_op.specs.Rule.{Plan, Rule, Rule.Demand, refusal, reads_of, file_areas}
+use Rattle.su_op.specs.Rule.{Plan, Rule, Rule.Demand, refusal, plan_reads, file_areas}
 use Rattle.su_bytes.specs.declared.refusals.Refusal.{Refusal}
 use Rattle.su_bytes.specs.declared.refusals.Refusal.TheVariants.{Exists}
 use Rattle.su_op.specs.Soundness.{IsA}
 use Rattle.su_op.proofs.EditLemmas.{CanEdits}
 use Rattle.su_op.proofs.RuleLemmas.{Gives, Agrees, left, right, later, kind_same, name_same, body_same, IsA_dir, kind_after_name}
+use Rattle.su_op.specs.Rename.{RenameRow}
 
 there_is : {A : Type 0} (o : Option A) → is_some o ≡ true → (x : A) × (o ≡ Some x)
 there_is None e = absurd cc
@@ -37,10 +38,10 @@ module _ (T T' : Tree) (file : FileId) where
   moves_same (Some f) agree = ap is_dir_kind (kind_same agree)
 
 module _ (ro : Membership) (a : ℕ) (r : Rename) where
-  pub rename_local : (T T' : Tree) (p : Plan) → Gives (rename_rule ro T a r) p → Agrees (reads_of p) T T' → Gives (rename_rule ro T' a r) p
+  pub rename_local : (T T' : Tree) (p : Plan) → Gives (rename_rule ro T a r) p → Agrees (plan_reads p) T T' → Gives (rename_rule ro T' a r) p
   rename_local T T' p (user, (touch, (touch', (d, at_d, (t, at_t, (found, (dir_d, (dir_t, (holder_d, (holder_t, (named, (new, (stay, plan))))))))))))) agree =
       let m : Option Place = moved T r in
-      let all : Agrees (reads_of (rename_plan m r d t)) T T' = subst (λ p. Agrees (reads_of p) T T') (sym plan) agree in
+      let all : Agrees (plan_reads (rename_plan m r d t)) T T' = subst (λ p. Agrees (plan_reads p) T T') (sym plan) agree in
       let reads : Agrees (file_areas r.from_ d ++ file_areas r.to_ t ++ moved_areas r.file m) T T' = left (file_areas r.from_ d ++ file_areas r.to_ t ++ moved_areas r.file m) _ all in
       let reads_both : Agrees (file_areas r.from_ d ++ file_areas r.to_ t) T T' = left (file_areas r.from_ d ++ file_areas r.to_ t) _ reads in
       let reads_d : Agrees (file_areas r.from_ d) T T' = left (file_areas r.from_ d) _ reads_both in
@@ -106,3 +107,6 @@ module _ (T : Tree) (a : ℕ) (r : Rename) (m : Option Place) (d t : Place) (dir
 pub not_false : (b : Bool) → not b ≡ false → b ≡ true
 not_false true e = refl
 not_false false e = absurd cc
+
+pub rename_row : (r : Rename) → RenameRow r
+rename_row r moved d t = record { reads = refl; writes = refl }

@@ -21,12 +21,13 @@ use Rattle.su_op.specs.declared.areas.Part.TheVariants.{Kind as KindPart, Links 
 use Rattle.su_op.specs.declared.areas.Area.{Area}
 use Rattle.su_op.specs.declared.areas.Area.TheVariants.{Inode as InodeArea, Pointer as PointerArea}
 use Rattle.su_op.specs.Area.{in_area, has}
-use Rattle.su_op.specs.Footprint.{areas_of}
+use Rattle.su_op.specs.Footprint.{edits_areas}
 use Rattle.su_op.specs.Rule.{Plan, Rule, Rule.Accept, Rule.Demand, Rule.Find, refusal, plan_of, pointer_edits, file_areas}
 use Rattle.su_op.specs.Soundness.{IsA, IsBodyOf, Sound}
 use Rattle.su_op.proofs.KeyLemmas.{place_eq-itself, name_eq-itself}
 use Rattle.su_op.proofs.InodeChangeLemmas.{HasOneLink, inode_same}
 use Rattle.su_op.proofs.EditLemmas.{IsFree, CanEdits, edit_leaves, pointer_after}
+use Rattle.su_op.specs.Rule.{pointer_areas}
 
 -- each check passes, and this is the plan
 abbrev pub Gives : Rule → Plan → Type 0
@@ -111,7 +112,7 @@ module _ {T T' : Tree} where
       ap (λ v. home_body v (User u i) (u, i)) e ∙ is
   body_same (Group g k) p is agree = ap pointer_body (pointer_same (later agree)) ∙ is
 
-  pub is_pointer_free_same : (f : FileId) (v : Option Place) → Agrees (areas_of (pointer_edits f v)) T T' → is_pointer_free T' f ≡ is_pointer_free T f
+  pub is_pointer_free_same : (f : FileId) (v : Option Place) → Agrees (edits_areas (pointer_edits f v)) T T' → is_pointer_free T' f ≡ is_pointer_free T f
   is_pointer_free_same (User u i) v agree = refl
   is_pointer_free_same (Group g k) v agree = ap is_nothing (pointer_same agree)
 
@@ -274,3 +275,9 @@ size_is_at (Some i) e = go i.content
 pub size_is : (T : Tree) (p : Place) → is_file_kind (val T (At p KindOf)) ≡ true → field_value (get T.inodes p) SizeOf ≡ ANumber (value_number (val T (At p SizeOf)))
 unfolding val
 size_is T p e = size_is_at (get T.inodes p) e
+
+-- ---- rows of the table of cells
+
+pub pointer_written : (f : FileId) (v : Option Place) → edits_areas (pointer_edits f v) ≡ pointer_areas f
+pointer_written (User u i) v = refl
+pointer_written (Group g k) v = refl

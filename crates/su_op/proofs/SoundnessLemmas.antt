@@ -17,7 +17,7 @@ use Rattle.su_node.specs.InodeChange.{InodeChange, InodeChange.Made, InodeChange
 use Rattle.su_table.specs.Edit.{Edit, Edit.Inodes, Edit.Pointers, edit}
 use Rattle.su_op.specs.declared.areas.Part.TheVariants.{Whole as WholePart}
 use Rattle.su_op.specs.Area.{in_part, in_area, has}
-use Rattle.su_op.specs.Footprint.{parts, edit_areas, areas_of}
+use Rattle.su_op.specs.Footprint.{parts, edit_areas, edits_areas}
 use Rattle.su_op.specs.Operation.{rule_of, why, writes}
 use Rattle.su_op.specs.Rule.{plan_of}
 use Rattle.su_op.specs.Soundness.{IsA, Sound, WholeOrNew, KindOrFile}
@@ -68,45 +68,45 @@ edit_block T (Pointers g v) p n can wrote = absurd cc
 
 -- ---- a list of edits
 
-has_first : (e : Edit) (es : List Edit) (c : Cell) → has (edit_areas e) c ≡ true → has (areas_of (e ∷ es)) c ≡ true
-has_first e es c is = list_any-append (λ a. in_area a c) (edit_areas e) (areas_of es) ∙ or_left (has (edit_areas e) c) (has (areas_of es) c) is
+has_first : (e : Edit) (es : List Edit) (c : Cell) → has (edit_areas e) c ≡ true → has (edits_areas (e ∷ es)) c ≡ true
+has_first e es c is = list_any-append (λ a. in_area a c) (edit_areas e) (edits_areas es) ∙ or_left (has (edit_areas e) c) (has (edits_areas es) c) is
 
-has_later : (e : Edit) (es : List Edit) (c : Cell) → has (areas_of es) c ≡ true → has (areas_of (e ∷ es)) c ≡ true
-has_later e es c is = list_any-append (λ a. in_area a c) (edit_areas e) (areas_of es) ∙ or_right (has (edit_areas e) c) (has (areas_of es) c) is
+has_later : (e : Edit) (es : List Edit) (c : Cell) → has (edits_areas es) c ≡ true → has (edits_areas (e ∷ es)) c ≡ true
+has_later e es c is = list_any-append (λ a. in_area a c) (edit_areas e) (edits_areas es) ∙ or_right (has (edit_areas e) c) (has (edits_areas es) c) is
 
-has_either : (e : Edit) (es : List Edit) (c : Cell) → has (areas_of (e ∷ es)) c ≡ true → (has (edit_areas e) c ≡ true) ⊎ (has (areas_of es) c ≡ true)
-has_either e es c is = or_cases (has (edit_areas e) c) (has (areas_of es) c) (sym (list_any-append (λ a. in_area a c) (edit_areas e) (areas_of es)) ∙ is)
+has_either : (e : Edit) (es : List Edit) (c : Cell) → has (edits_areas (e ∷ es)) c ≡ true → (has (edit_areas e) c ≡ true) ⊎ (has (edits_areas es) c ≡ true)
+has_either e es c is = or_cases (has (edit_areas e) c) (has (edits_areas es) c) (sym (list_any-append (λ a. in_area a c) (edit_areas e) (edits_areas es)) ∙ is)
 
-pub edits_kind : (T : Tree) (es : List Edit) (p : Place) → CanEdits T es → has (areas_of es) (At p KindOf) ≡ true → WholeOrNew T p (has (areas_of es))
+pub edits_kind : (T : Tree) (es : List Edit) (p : Place) → CanEdits T es → has (edits_areas es) (At p KindOf) ≡ true → WholeOrNew T p (has (edits_areas es))
 edits_kind T [] p can wrote = absurd cc
 edits_kind T (e ∷ es) p (can, more) wrote = go (has (edit_areas e) (At p KindOf)) refl (edits_kind (edit T e) es p more)
   where
-    here : WholeOrNew T p (has (edit_areas e)) → WholeOrNew T p (has (areas_of (e ∷ es)))
+    here : WholeOrNew T p (has (edit_areas e)) → WholeOrNew T p (has (edits_areas (e ∷ es)))
     here (inl new) = inl new
     here (inr whole) = inr (λ f. has_first e es (At p f) (whole f))
 
-    later : has (edit_areas e) (At p KindOf) ≡ false → WholeOrNew (edit T e) p (has (areas_of es)) → WholeOrNew T p (has (areas_of (e ∷ es)))
+    later : has (edit_areas e) (At p KindOf) ≡ false → WholeOrNew (edit T e) p (has (edits_areas es)) → WholeOrNew T p (has (edits_areas (e ∷ es)))
     later out (inl new) = inl (sym (edit_leaves T e (At p KindOf) can out) ∙ new)
     later out (inr whole) = inr (λ f. has_later e es (At p f) (whole f))
 
-    go : (b : Bool) → has (edit_areas e) (At p KindOf) ≡ b → (has (areas_of es) (At p KindOf) ≡ true → WholeOrNew (edit T e) p (has (areas_of es))) → WholeOrNew T p (has (areas_of (e ∷ es)))
+    go : (b : Bool) → has (edit_areas e) (At p KindOf) ≡ b → (has (edits_areas es) (At p KindOf) ≡ true → WholeOrNew (edit T e) p (has (edits_areas es))) → WholeOrNew T p (has (edits_areas (e ∷ es)))
     go true is rest = here (edit_kind T e p can is)
     go false is rest = later is (rest (⊎_elim (λ i. absurd (both_ways (has (edit_areas e) (At p KindOf)) is i)) (λ i. i) (has_either e es (At p KindOf) wrote)))
 
-pub edits_block : (T : Tree) (es : List Edit) (p : Place) (n : ℕ) → CanEdits T es → has (areas_of es) (At p (BlockOf n)) ≡ true → KindOrFile T p (has (areas_of es))
+pub edits_block : (T : Tree) (es : List Edit) (p : Place) (n : ℕ) → CanEdits T es → has (edits_areas es) (At p (BlockOf n)) ≡ true → KindOrFile T p (has (edits_areas es))
 edits_block T [] p n can wrote = absurd cc
 edits_block T (e ∷ es) p n (can, more) wrote = go (has (edit_areas e) (At p KindOf)) refl (edits_block (edit T e) es p n more) (has_either e es (At p (BlockOf n)) wrote)
   where
-    here : KindOrFile T p (has (edit_areas e)) → KindOrFile T p (has (areas_of (e ∷ es)))
+    here : KindOrFile T p (has (edit_areas e)) → KindOrFile T p (has (edits_areas (e ∷ es)))
     here (inl kind) = inl (has_first e es (At p KindOf) kind)
     here (inr file) = inr file
 
-    later : has (edit_areas e) (At p KindOf) ≡ false → KindOrFile (edit T e) p (has (areas_of es)) → KindOrFile T p (has (areas_of (e ∷ es)))
+    later : has (edit_areas e) (At p KindOf) ≡ false → KindOrFile (edit T e) p (has (edits_areas es)) → KindOrFile T p (has (edits_areas (e ∷ es)))
     later out (inl kind) = inl (has_later e es (At p KindOf) kind)
     later out (inr file) = inr (ap is_file_kind (sym (edit_leaves T e (At p KindOf) can out)) ∙ file)
 
-    go : (b : Bool) → has (edit_areas e) (At p KindOf) ≡ b → (has (areas_of es) (At p (BlockOf n)) ≡ true → KindOrFile (edit T e) p (has (areas_of es)))
-        → (has (edit_areas e) (At p (BlockOf n)) ≡ true) ⊎ (has (areas_of es) (At p (BlockOf n)) ≡ true) → KindOrFile T p (has (areas_of (e ∷ es)))
+    go : (b : Bool) → has (edit_areas e) (At p KindOf) ≡ b → (has (edits_areas es) (At p (BlockOf n)) ≡ true → KindOrFile (edit T e) p (has (edits_areas es)))
+        → (has (edit_areas e) (At p (BlockOf n)) ≡ true) ⊎ (has (edits_areas es) (At p (BlockOf n)) ≡ true) → KindOrFile T p (has (edits_areas (e ∷ es)))
     go true is rest where_ = inl (has_first e es (At p KindOf) is)
     go false is rest (inl first) = here (edit_block T e p n can first)
     go false is rest (inr other) = later is (rest other)

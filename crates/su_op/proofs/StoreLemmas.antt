@@ -15,8 +15,8 @@ use Rattle.su_table.specs.Edit.{edits}
 use Rattle.su_op.specs.declared.operations.Op.{Op}
 use Rattle.su_op.specs.declared.operations.Op.TheVariants.{Create, Unlink, Write, Truncate, Take, Link, Rename}
 use Rattle.su_op.specs.Area.{in_area, has}
-use Rattle.su_op.specs.Rule.{Plan, refusal, plan_of, reads_of, writes_of}
-use Rattle.su_op.specs.Operation.{rule_of, why, effect, reads, writes}
+use Rattle.su_op.specs.Rule.{Plan, refusal, plan_of, plan_reads, plan_writes}
+use Rattle.su_op.specs.Operation.{rule_of, Row, why, effect, reads, writes}
 use Rattle.su_op.specs.Soundness.{WellLinked, IsBodyOf, Sound}
 use Rattle.su_op.specs.System.{LeavesOthers, IsLocal, Lawful}
 use Rattle.su_op.specs.Store.{Action, store}
@@ -25,16 +25,16 @@ use Rattle.su_op.proofs.InodeChangeLemmas.{number_same}
 use Rattle.su_op.proofs.EditLemmas.{CanEdits, edits_leave, edits_alike, edits_sound, tree_same, place_same_value}
 use Rattle.su_op.proofs.AreaLemmas.{areas_apart}
 use Rattle.su_op.proofs.RuleLemmas.{Gives, Agrees, gives_of, of_gives}
-use Rattle.su_op.proofs.CreateLemmas.{create_local, create_can}
-use Rattle.su_op.proofs.UnlinkLemmas.{unlink_local, unlink_can}
-use Rattle.su_op.proofs.WriteLemmas.{write_local, write_can, truncate_local, truncate_can}
-use Rattle.su_op.proofs.TakeLemmas.{take_local, take_can}
-use Rattle.su_op.proofs.LinkLemmas.{link_local, link_can}
-use Rattle.su_op.proofs.RenameLemmas.{rename_local, rename_can}
+use Rattle.su_op.proofs.CreateLemmas.{create_local, create_can, create_row}
+use Rattle.su_op.proofs.UnlinkLemmas.{unlink_local, unlink_can, unlink_row}
+use Rattle.su_op.proofs.WriteLemmas.{write_local, write_can, write_row, truncate_local, truncate_can, truncate_row}
+use Rattle.su_op.proofs.TakeLemmas.{take_local, take_can, take_row}
+use Rattle.su_op.proofs.LinkLemmas.{link_local, link_can, link_row}
+use Rattle.su_op.proofs.RenameLemmas.{rename_local, rename_can, rename_row}
 
 -- ---- by cases over the operations
 
-local_of : (ro : Membership) (a : ℕ) (x : Op) (T T' : Tree) (p : Plan) → Sound T → Gives (rule_of ro T a x) p → Agrees (reads_of p) T T' → Gives (rule_of ro T' a x) p
+local_of : (ro : Membership) (a : ℕ) (x : Op) (T T' : Tree) (p : Plan) → Sound T → Gives (rule_of ro T a x) p → Agrees (plan_reads p) T T' → Gives (rule_of ro T' a x) p
 local_of ro a (Create c) T T' p sound g agree = create_local ro a c T T' p g agree
 local_of ro a (Unlink u) T T' p sound g agree = unlink_local ro a u T T' p sound g agree
 local_of ro a (Write w) T T' p sound g agree = write_local ro a w T T' p g agree
@@ -52,6 +52,15 @@ can_of ro a (Take t) T p sound g = take_can ro a t T p sound g
 can_of ro a (Link l) T p sound g = link_can ro a l T p sound g
 can_of ro a (Rename r) T p sound g = rename_can ro a r T p g
 
+pub row_of : (x : Op) → Row x
+row_of (Create c) = create_row c
+row_of (Unlink u) = unlink_row u
+row_of (Write w) = write_row w
+row_of (Truncate t) = truncate_row t
+row_of (Take t) = take_row t
+row_of (Link l) = link_row l
+row_of (Rename r) = rename_row r
+
 -- ---- the laws
 
 pub none_is : {A : Type 0} (o : Option A) → is_none o ≡ true → o ≡ None
@@ -62,8 +71,8 @@ or_true : (a b : Bool) → b ≡ true → (a || b) ≡ true
 or_true true b e = refl
 or_true false b e = e
 
-in_reads : (p : Plan) (c : Cell) → has (writes_of p) c ≡ true → has (reads_of p) c ≡ true
-in_reads p c e = list_any-append (λ a. in_area a c) p.reads (writes_of p) ∙ or_true (has p.reads c) (has (writes_of p) c) e
+in_reads : (p : Plan) (c : Cell) → has (plan_writes p) c ≡ true → has (plan_reads p) c ≡ true
+in_reads p c e = list_any-append (λ a. in_area a c) p.reads (plan_writes p) ∙ or_true (has p.reads c) (has (plan_writes p) c) e
 
 module _ (ro : Membership) where
   given : (T : Tree) (x : Action) → is_none (why ro T x.author x.op) ≡ true → Gives (rule_of ro T x.author x.op) (plan_of (rule_of ro T x.author x.op))
@@ -86,8 +95,8 @@ module _ (ro : Membership) where
       let ok' : is_none (refusal (rule_of ro T' x.author x.op)) ≡ true = ap is_none fine in
       record {
         ok = ok';
-        reads = ap reads_of same;
-        writes = ap writes_of same;
+        reads = ap plan_reads same;
+        writes = ap plan_writes same;
         values = λ c wrote. ap (λ (q : Plan). val (edits T' q.edits) c) same
             ∙ edits_alike T' T p.edits c (can_of ro x.author x.op T' p sound' g) (can_of_action T x sound ok) (agree c (in_reads p c wrote));
       }

@@ -3,8 +3,6 @@ use Rattle.std.proofs.Common.{◌≡◌, ◌∙◌, ℕ, true, not, ◌&&◌, []
 use Rattle.std.specs.FinMap.{get}
 use Rattle.std.proofs.lemmas.Bool.{and_parts}
 use Rattle.su_bytes.specs.Membership.{Membership}
-use Rattle.su_bytes.specs.declared.file_ids.FileId.{FileId}
-use Rattle.su_bytes.specs.declared.file_ids.FileId.TheVariants.{User, Group}
 use Rattle.su_node.specs.Inode.{Inode}
 use Rattle.su_node.specs.Field.{Field.KindOf, Value.Nothing, field_value}
 use Rattle.su_node.specs.InodeChange.{InodeChange.Gone, inode_after}
@@ -17,26 +15,24 @@ use Rattle.su_table.proofs.TakenBack.{edit-back}
 use Rattle.su_op.specs.declared.areas.Part.TheVariants.{Whole as WholePart}
 use Rattle.su_op.specs.declared.areas.Area.TheVariants.{Inode as InodeArea}
 use Rattle.su_op.specs.declared.take.Take.{Take}
-use Rattle.su_op.specs.Footprint.{parts, areas_of}
-use Rattle.su_op.specs.Rule.{Plan, reads_of, writes_of, pointer_edits, pointer_areas, file_areas}
+use Rattle.su_op.specs.Footprint.{parts, edits_areas}
+use Rattle.su_op.specs.Rule.{Plan, plan_reads, plan_writes, pointer_edits, pointer_areas, file_areas}
 use Rattle.su_op.specs.Take.{copy_of, take_rule, take_plan}
 use Rattle.su_op.specs.Soundness.{WellLinked, IsBodyOf, Sound}
 use Rattle.su_op.proofs.GrowthLemmas.{no_inode, back_gone, copied_gone}
 use Rattle.su_op.proofs.EditLemmas.{IsFree, CanEdit, CanEdits, field_after}
 use Rattle.su_op.proofs.RuleLemmas.{Gives, Agrees, left, right, later, field_same, whole_same, body_same, nothing_is, nothing_free, can_pointer_some, pointer_of_body}
+use Rattle.su_op.specs.Take.{TakeRow}
+use Rattle.su_op.proofs.RuleLemmas.{pointer_written}
 
 copy_parts : (o : Option Inode) → parts (copy_of o) ≡ WholePart ∷ []
 copy_parts None = refl
 copy_parts (Some i) = refl
 
-pointer_written : (f : FileId) (v : Option Place) → areas_of (pointer_edits f v) ≡ pointer_areas f
-pointer_written (User u i) v = refl
-pointer_written (Group g k) v = refl
-
 -- what a take writes doesn't depend on the inode
-pub take_writes : (o : Option Inode) (a : ℕ) (t : Take) (f : Place) → writes_of (take_plan o a t f) ≡ InodeArea (a, t.body) WholePart ∷ pointer_areas t.file
+pub take_writes : (o : Option Inode) (a : ℕ) (t : Take) (f : Place) → plan_writes (take_plan o a t f) ≡ InodeArea (a, t.body) WholePart ∷ pointer_areas t.file
 take_writes o a t f =
-    ap (λ ps. map (InodeArea (a, t.body)) ps ++ areas_of (pointer_edits t.file (Some (a, t.body)))) (copy_parts o)
+    ap (λ ps. map (InodeArea (a, t.body)) ps ++ edits_areas (pointer_edits t.file (Some (a, t.body)))) (copy_parts o)
     ∙ ap (λ w. InodeArea (a, t.body) WholePart ∷ w) (pointer_written t.file (Some (a, t.body)))
 
 copied_is : (o was : Option Inode) → inode_after (copy_of o) was ≡ o
@@ -53,12 +49,12 @@ unfolding val
 copied_body T p f g (k, home) = (k, field_after T p (copy_of (get T.inodes f)) KindOf ∙ ap (λ o. field_value o KindOf) (copied_is (get T.inodes f) (get T.inodes p)) ∙ home)
 
 module _ (ro : Membership) (a : ℕ) (t : Take) where
-  pub take_local : (T T' : Tree) (p : Plan) → Gives (take_rule ro T a t) p → Agrees (reads_of p) T T' → Gives (take_rule ro T' a t) p
+  pub take_local : (T T' : Tree) (p : Plan) → Gives (take_rule ro T a t) p → Agrees (plan_reads p) T T' → Gives (take_rule ro T' a t) p
   take_local T T' p (user, (group, (touch, (f, at, (free, plan))))) agree =
       let o : Option Inode = get T.inodes f in
-      let all : Agrees (reads_of (take_plan o a t f)) T T' = subst (λ p. Agrees (reads_of p) T T') (sym plan) agree in
+      let all : Agrees (plan_reads (take_plan o a t f)) T T' = subst (λ p. Agrees (plan_reads p) T T') (sym plan) agree in
       let reads : Agrees (InodeArea f WholePart ∷ file_areas t.file f) T T' = left (InodeArea f WholePart ∷ file_areas t.file f) _ all in
-      let w : Agrees (writes_of (take_plan o a t f)) T T' = right (InodeArea f WholePart ∷ file_areas t.file f) _ all in
+      let w : Agrees (plan_writes (take_plan o a t f)) T T' = right (InodeArea f WholePart ∷ file_areas t.file f) _ all in
       let new : Agrees (InodeArea (a, t.body) WholePart ∷ pointer_areas t.file) T T' = subst (λ w. Agrees w T T') (take_writes o a t f) w in
       let free' = ap (λ v. not (nat_eq f.0 a) && is_nothing v) (field_same KindOf new) ∙ free in
       (user, (group, (touch, (f, body_same t.file f at (later reads), (free', ap (λ o. take_plan o a t f) (whole_same reads) ∙ plan)))))
@@ -84,3 +80,6 @@ gone_free T p free = back_gone T p ∙ ap (λ o. Inodes p (restoring o)) (no_ino
 pub copied_back : (T : Tree) (p : Place) (o : Option Inode) → is_free_at T p ≡ true → edit (edit T (Inodes p (copy_of o))) (Inodes p Gone) ≡ T
 copied_back T p (Some i) free = copied_gone T p i free
 copied_back T p None free = ap (edit (edit T (Inodes p Gone))) (sym (gone_free T p free)) ∙ edit-back T (Inodes p Gone)
+
+pub take_row : (t : Take) → TakeRow t
+take_row t o a f = record { reads = refl; writes = take_writes o a t f }

@@ -1,6 +1,7 @@
 -- An unlink depends on the cells that it reads, and its edits can be made.
 use Rattle.std.proofs.Common.{◌≡◌, ℕ, ◌≤◌, Bool, true, false, cond, nat_le, [], ◌∷◌, ◌++◌, Some, None, refl, sym, ap, ◌∙◌, subst, arith}
 use Rattle.std.proofs.lemmas.Bool.{leb-true}
+use Rattle.std.specs.Bool.{if◌then◌else◌}
 use Rattle.std.specs.FinMap.{get}
 use Rattle.su_bytes.specs.Membership.{Membership}
 use Rattle.su_bytes.specs.declared.file_ids.FileId.{FileId}
@@ -16,34 +17,37 @@ use Rattle.su_table.specs.Edit.{Edit.Inodes, edit}
 use Rattle.su_op.specs.declared.areas.Part.TheVariants.{Name as NamePart, Whole as WholePart}
 use Rattle.su_op.specs.declared.areas.Area.TheVariants.{Inode as InodeArea}
 use Rattle.su_op.specs.declared.unlink.Unlink.{Unlink}
-use Rattle.su_op.specs.Footprint.{areas_of}
-use Rattle.su_op.specs.Rule.{Plan, reads_of, pointer_edits, file_areas}
-use Rattle.su_op.specs.Unlink.{unlink_rule, unlink_plan, unlink_edits}
+use Rattle.su_op.specs.Footprint.{edits_areas}
+use Rattle.su_op.specs.Rule.{Plan, plan_reads, pointer_edits, file_areas}
+use Rattle.su_op.specs.Unlink.{unlink_rule, unlink_plan, link_goes, fewer_links, file_goes}
 use Rattle.su_op.specs.Soundness.{IsA, Sound}
 use Rattle.su_op.proofs.KeyLemmas.{place_eq-itself}
 use Rattle.su_op.proofs.EditLemmas.{CanEdits, pointer_after, pointer_is}
 use Rattle.su_op.proofs.RuleLemmas.{Gives, Agrees, left, right, later, kind_same, links_same, name_same, field_same, whole_same, body_same, IsA_dir, IsA_file, many_links, bare_file, bare_same, kind_after_name, few_links, user_home, one_group, pointer_of_body}
+use Rattle.su_op.specs.Unlink.{UnlinkRow}
+use Rattle.su_op.specs.Area.{links_cell, name_cell, all_cells}
+use Rattle.su_op.specs.Rule.{pointer_areas}
 
-whole_of : (T T' : Tree) (l : ℕ) (f : Place) (file : FileId) → Agrees (areas_of (unlink_edits false l file f)) T T' → Agrees (InodeArea f WholePart ∷ []) T T'
-whole_of T T' l f (User u i) agree = agree
-whole_of T T' l f (Group g k) agree = later agree
+whole_of : (T T' : Tree) (f : Place) (file : FileId) → Agrees (edits_areas (file_goes file f)) T T' → Agrees (InodeArea f WholePart ∷ []) T T'
+whole_of T T' f (User u i) agree = agree
+whole_of T T' f (Group g k) agree = later agree
 
 module _ (ro : Membership) (a : ℕ) (u : Unlink) where
-  pub unlink_local : (T T' : Tree) (p : Plan) → Sound T → Gives (unlink_rule ro T a u) p → Agrees (reads_of p) T T' → Gives (unlink_rule ro T' a u) p
+  pub unlink_local : (T T' : Tree) (p : Plan) → Sound T → Gives (unlink_rule ro T a u) p → Agrees (plan_reads p) T T' → Gives (unlink_rule ro T' a u) p
   unlink_local T T' p sound (user, (touch, (touch', (d, at, (f, at_f, (is, (holder, (holder', (named, (empty, plan)))))))))) agree =
       let l : ℕ = value_number (val T (At f LinksOf)) in
-      let all : Agrees (reads_of (unlink_plan l u d f)) T T' = subst (λ p. Agrees (reads_of p) T T') (sym plan) agree in
+      let all : Agrees (plan_reads (unlink_plan l u d f)) T T' = subst (λ p. Agrees (plan_reads p) T T') (sym plan) agree in
       let reads = left (file_areas u.dir d ++ file_areas u.file f) _ all in
       let reads_d : Agrees (file_areas u.dir d) T T' = left (file_areas u.dir d) _ reads in
       let reads_f : Agrees (file_areas u.file f) T T' = right (file_areas u.dir d) _ reads in
-      let w : Agrees (InodeArea d (NamePart u.name) ∷ areas_of (unlink_edits (nat_le 2 l) l u.file f)) T T' = right (file_areas u.dir d ++ file_areas u.file f) _ all in
+      let w : Agrees (InodeArea d (NamePart u.name) ∷ edits_areas (link_goes l u.file f)) T T' = right (file_areas u.dir d ++ file_areas u.file f) _ all in
       let (links, empty') = go f empty (nat_le 2 l) refl (kind_same reads_f) (later w) in
       (user, (touch, (touch', (d, body_same u.dir d at reads_d, (f, body_same u.file f at_f reads_f, (ap is_dir_kind (kind_same reads_d) ∙ is, (holder, (holder', (ap (λ v. is_link_to v u.file) (name_same w) ∙ named, (empty', ap (λ v. unlink_plan (value_number v) u d f) links ∙ plan))))))))))
     where
       go : (f : Place) → is_bare_at T f ≡ true → (b : Bool) → nat_le 2 (value_number (val T (At f LinksOf))) ≡ b → val T' (At f KindOf) ≡ val T (At f KindOf)
-          → Agrees (areas_of (unlink_edits b (value_number (val T (At f LinksOf))) u.file f)) T T' → (val T' (At f LinksOf) ≡ val T (At f LinksOf)) × (is_bare_at T' f ≡ true)
+          → Agrees (edits_areas (if b then fewer_links (value_number (val T (At f LinksOf))) f else file_goes u.file f)) T T' → (val T' (At f LinksOf) ≡ val T (At f LinksOf)) × (is_bare_at T' f ≡ true)
       go f empty true many kind agree = (links_same agree, bare_file T' f (ap is_file_kind kind ∙ many_links T f ((sound.linked f).one) many))
-      go f empty false last kind agree = let w = whole_of T T' (value_number (val T (At f LinksOf))) f u.file agree in (field_same LinksOf w, bare_same T T' f (whole_same w) ∙ empty)
+      go f empty false last kind agree = let w = whole_of T T' f u.file agree in (field_same LinksOf w, bare_same T T' f (whole_same w) ∙ empty)
 
   -- an inode that goes is no group file's body once its own pointer is gone
   last_can : (T : Tree) (d f : Place) → Sound T → (file : FileId) → body T file ≡ Some f → CanEdits (edit T (Inodes d (Named u.name None))) (pointer_edits file None ++ Inodes f Gone ∷ [])
@@ -74,9 +78,17 @@ module _ (ro : Membership) (a : ℕ) (u : Unlink) where
       subst (λ (p : Plan). CanEdits T p.edits) plan
       ((dir!, tt), go d f at_f dir! (nat_le 2 (value_number (val T (At f LinksOf)))) refl)
     where
-      go : (d f : Place) → body T u.file ≡ Some f → IsA Dir (get T.inodes d) → (b : Bool) → nat_le 2 (value_number (val T (At f LinksOf))) ≡ b → CanEdits (edit T (Inodes d (Named u.name None))) (unlink_edits b (value_number (val T (At f LinksOf))) u.file f)
+      go : (d f : Place) → body T u.file ≡ Some f → IsA Dir (get T.inodes d) → (b : Bool) → nat_le 2 (value_number (val T (At f LinksOf))) ≡ b → CanEdits (edit T (Inodes d (Named u.name None))) (if b then fewer_links (value_number (val T (At f LinksOf))) f else file_goes u.file f)
       go d f at_f dir! true many =
           let two : 2 ≤ value_number (val T (At f LinksOf)) = leb-true 2 _ many in
           let few : value_number (val T (At f LinksOf)) ≤ 255 = few_links T f sound many in
           (((IsA_file (edit T (Inodes d (Named u.name None))) f (ap is_file_kind (kind_after_name T d u.name None f dir!) ∙ many_links T f ((sound.linked f).one) many), omega arith, omega arith), tt), tt)
       go d f at_f dir! false last = last_can T d f sound u.file at_f
+
+pub unlink_row : (u : Unlink) → UnlinkRow u
+unlink_row u l d f = record { reads = refl; writes = ap (λ w. name_cell u.name d ∷ w) (go (nat_le 2 l) u.file) }
+  where
+    go : (b : Bool) (file : FileId) → edits_areas (if b then fewer_links l f else file_goes file f) ≡ (if b then links_cell f ∷ [] else pointer_areas file ++ all_cells f ∷ [])
+    go true file = refl
+    go false (User v i) = refl
+    go false (Group g k) = refl

@@ -1,5 +1,5 @@
 -- A rename by user a: a file gets another name, in the directory that has it or in another one, and loses the old name.
-use Rattle.std.specs.Prelude.{ℕ, Bool, false, not, ◌||◌, List, [], ◌∷◌, ◌++◌, Option, Some, None, cond, is_some, nat_eq}
+use Rattle.std.specs.Prelude.{ℕ, Bool, false, not, ◌||◌, List, [], ◌∷◌, ◌++◌, Option, Some, None, is_some, nat_eq, if◌then◌else◌}
 use Rattle.su_bytes.specs.declared.file_ids.FileId.{FileId}
 use Rattle.su_bytes.specs.declared.refusals.Refusal.TheVariants.{NoUser, NotMember, NoFile, WrongKind, NotHolder, NoName, Exists, DirMove}
 use Rattle.su_bytes.specs.Membership.{Membership, has_user}
@@ -10,7 +10,9 @@ use Rattle.su_table.specs.Query.{body, is_dir_at, leads_to_at, is_name_free_at}
 use Rattle.su_table.specs.Edit.{Edit.Inodes}
 use Rattle.su_op.specs.declared.areas.Area.{Area}
 use Rattle.su_op.specs.declared.rename.Rename.{Rename}
-use Rattle.su_op.specs.Rule.{Plan, Rule, Rule.Accept, Rule.Demand, Rule.Find, may_touch, group_of, file_areas}
+use Rattle.su_op.specs.declared.rename.AcceptedRename.{AcceptedRename}
+use Rattle.su_op.specs.Area.{kind_cell, name_cell}
+use Rattle.su_op.specs.Rule.{Plan, HasRow, Rule, Rule.Accept, Rule.Demand, Rule.Find, may_touch, group_of, pointer_areas, file_areas}
 
 -- the file stays in its directory
 abbrev pub stays : Rename → Bool
@@ -18,7 +20,7 @@ stays r = file_eq r.from_ r.to_
 
 -- where the file stands that goes to another directory; a file that stays is not looked for
 abbrev pub moved : Tree → Rename → Option Place
-moved T r = cond (stays r) None (body T r.file)
+moved T r = if stays r then None else body T r.file
 
 -- what is read of the file that goes to another directory
 abbrev pub moved_areas : FileId → Option Place → List Area
@@ -58,3 +60,15 @@ rename_rule ro T a r =
     (Find (body T r.to_) (NoFile r.to_) (λ t.
     (Demand (stays r || is_some (moved T r)) (NoFile r.file)
     (rename_rule_at T a r (moved T r) d t))))))))
+
+-- ---- what it does once it is accepted
+
+abbrev pub accepted_rename_plan : AcceptedRename → Plan
+accepted_rename_plan x = rename_plan x.moved x.rename.now x.source x.target
+
+-- reads kind and pointer of both directories, and of the file where it goes from one to the other (then `moved` is its place);
+-- writes the new name at the directory that gets it, and the old name at the directory that loses it
+abbrev pub RenameRow : Rename → Type 0
+RenameRow r = (moved : Option Place) (d t : Place) → HasRow (rename_plan moved r d t)
+    (kind_cell d ∷ pointer_areas r.from_ ++ kind_cell t ∷ pointer_areas r.to_ ++ moved_areas r.file moved)
+    (name_cell r.new_ t ∷ name_cell r.old_ d ∷ [])

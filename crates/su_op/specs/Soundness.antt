@@ -10,16 +10,17 @@ use Rattle.su_node.specs.Inode.{Inode}
 use Rattle.su_table.specs.Tree.{Tree}
 use Rattle.su_node.specs.Field.{Field, Field.KindOf, Field.LinksOf, Value.Nothing, Value.AKind, Value.ANumber, Value.APlace, field_value}
 use Rattle.su_table.specs.Cell.{Cell, Cell.At, Cell.Pointer, val}
+use Rattle.su_op.specs.Limits.{most_links}
 use Rattle.su_table.specs.Query.{is_file_at}
 
 -- an inode of that kind
 abbrev pub IsA : Kind → Option Inode → Type 0
 IsA k o = (home : FileId) × (field_value o KindOf ≡ AKind k home)
 
--- a directory has one link, and a file up to 255
+-- a directory has one link, and a file up to the most
 pub record WellLinked (o : Option Inode) : Type 0 where
   pub one : IsA Dir o → field_value o LinksOf ≡ ANumber 1
-  pub few : (l : ℕ) → field_value o LinksOf ≡ ANumber l → (1 ≤ l) × (l ≤ 255)
+  pub few : (l : ℕ) → field_value o LinksOf ≡ ANumber l → (1 ≤ l) × (l ≤ most_links)
 
 -- what stands at p was made for group file g
 abbrev pub IsBodyOf : Tree → Place → Place → Type 0

@@ -1,5 +1,5 @@
 -- An unlink by user a: the name leaves its directory, and with the last link the inode and a group file's pointer go.
-use Rattle.std.specs.Prelude.{ℕ, ◌-◌, Bool, true, false, List, [], ◌∷◌, ◌++◌, None, nat_eq, nat_le}
+use Rattle.std.specs.Prelude.{◌≡◌, ℕ, ◌-◌, List, [], ◌∷◌, ◌++◌, None, nat_eq, nat_le, if◌then◌else◌}
 use Rattle.su_bytes.specs.declared.file_ids.FileId.{FileId}
 use Rattle.su_bytes.specs.declared.refusals.Refusal.TheVariants.{NoUser, NotMember, NoFile, WrongKind, NotHolder, NoName, NotEmpty}
 use Rattle.su_bytes.specs.Membership.{Membership, has_user}
@@ -9,17 +9,26 @@ use Rattle.su_table.specs.Query.{body, is_dir_at, leads_to_at, is_bare_at, links
 use Rattle.su_node.specs.InodeChange.{InodeChange.Named, InodeChange.Linked, InodeChange.Gone}
 use Rattle.su_table.specs.Edit.{Edit, Edit.Inodes}
 use Rattle.su_op.specs.declared.unlink.Unlink.{Unlink}
-use Rattle.su_op.specs.Rule.{Plan, Rule, Rule.Accept, Rule.Demand, Rule.Find, may_touch, group_of, pointer_edits, file_areas}
+use Rattle.su_op.specs.declared.unlink.AcceptedUnlink.{AcceptedUnlink}
+use Rattle.su_op.specs.Area.{kind_cell, links_cell, name_cell, all_cells}
+use Rattle.su_op.specs.Rule.{Plan, HasRow, Rule, Rule.Accept, Rule.Demand, Rule.Find, may_touch, group_of, pointer_edits, pointer_areas, file_areas}
 
--- of an inode with that many links: one less, or gone with the last
-abbrev pub unlink_edits : Bool → ℕ → FileId → Place → List Edit
-unlink_edits true links file f = Inodes f (Linked (links - 1)) ∷ []
-unlink_edits false links file f = pointer_edits file None ++ Inodes f Gone ∷ []
+-- of two or more links one goes
+abbrev pub fewer_links : ℕ → Place → List Edit
+fewer_links links f = Inodes f (Linked (links - 1)) ∷ []
+
+-- with the last link a group file's pointer goes, and the inode
+abbrev pub file_goes : FileId → Place → List Edit
+file_goes file f = pointer_edits file None ++ Inodes f Gone ∷ []
+
+-- of a file with that many links
+abbrev pub link_goes : ℕ → FileId → Place → List Edit
+link_goes links file f = if nat_le 2 links then fewer_links links f else file_goes file f
 
 abbrev pub unlink_plan : ℕ → Unlink → Place → Place → Plan
 unlink_plan links u d f = record {
   reads = file_areas u.dir d ++ file_areas u.file f;
-  edits = Inodes d (Named u.name None) ∷ unlink_edits (nat_le 2 links) links u.file f;
+  edits = Inodes d (Named u.name None) ∷ link_goes links u.file f;
 }
 
 abbrev pub unlink_rule : Membership → Tree → ℕ → Unlink → Rule
@@ -35,3 +44,19 @@ unlink_rule ro T a u =
     (Demand (leads_to_at T d u.name u.file) NoName
     (Demand (is_bare_at T f) NotEmpty
     (Accept (unlink_plan (links_at T f) u d f)))))))))))
+
+-- ---- what it does once it is accepted
+
+abbrev pub accepted_unlink_plan : AcceptedUnlink → Plan
+accepted_unlink_plan x = unlink_plan x.links x.unlink.now x.directory x.place
+
+-- in T the file still has as many links
+abbrev pub UnlinkFits : Tree → AcceptedUnlink → Type 0
+UnlinkFits T x = links_at T x.place ≡ x.links
+
+-- reads kind and pointer of the directory and of the file; writes the name at the directory, and of the file the links where
+-- there are two or more, else the whole inode and its pointer
+abbrev pub UnlinkRow : Unlink → Type 0
+UnlinkRow u = (links : ℕ) (d f : Place) → HasRow (unlink_plan links u d f)
+    (kind_cell d ∷ pointer_areas u.dir ++ kind_cell f ∷ pointer_areas u.file)
+    (name_cell u.name d ∷ (if nat_le 2 links then links_cell f ∷ [] else pointer_areas u.file ++ all_cells f ∷ []))

@@ -1,6 +1,5 @@
 -- A write by user a: the bytes of a file from an offset on are these, and a gap before them is zeros.
-use Rattle.std.specs.Prelude.{ℕ, ◌+◌, ◌&&◌, List, [], ◌∷◌, length, nat_eq, nat_le}
-use Rattle.su_bytes.specs.declared.file_ids.FileId.{FileId}
+use Rattle.std.specs.Prelude.{◌≡◌, ℕ, ◌+◌, ◌&&◌, [], ◌∷◌, length, min, nat_eq, nat_le, if◌then◌else◌}
 use Rattle.su_bytes.specs.declared.refusals.Refusal.TheVariants.{NoUser, BadNumber, NotMember, NoFile, WrongKind, NotHolder, TooBig}
 use Rattle.su_bytes.specs.Membership.{Membership, has_user}
 use Rattle.su_node.specs.InodeChange.{InodeChange.Written}
@@ -8,21 +7,16 @@ use Rattle.su_bytes.specs.Place.{Place}
 use Rattle.su_table.specs.Tree.{Tree}
 use Rattle.su_table.specs.Query.{body, is_file_at, size_at}
 use Rattle.su_table.specs.Edit.{Edit.Inodes}
-use Rattle.su_op.specs.declared.areas.Part.TheVariants.{Size as SizePart}
-use Rattle.su_op.specs.declared.areas.Area.TheVariants.{Inode as InodeArea}
+use Rattle.su_op.specs.declared.write.AcceptedWrite.{AcceptedWrite}
+use Rattle.su_op.specs.Area.{blocks_between, kind_cell, size_cell, block_cells}
+use Rattle.su_op.specs.Writing.{Writing}
 use Rattle.su_op.specs.Limits.{largest_write, largest_file}
-use Rattle.su_op.specs.Rule.{Plan, Rule, Rule.Accept, Rule.Demand, Rule.Find, may_touch, group_of, file_areas}
-
--- what is written, and where
-pub record Writing : Type 0 where
-  pub file : FileId
-  pub off : ℕ
-  pub bytes : List ℕ
+use Rattle.su_op.specs.Rule.{Plan, HasRow, Rule, Rule.Accept, Rule.Demand, Rule.Find, may_touch, group_of, pointer_areas, file_areas}
 
 -- of a file of that size at that place
 abbrev pub write_plan : ℕ → Writing → Place → Plan
 write_plan size w f = record {
-  reads = InodeArea f SizePart ∷ file_areas w.file f;
+  reads = size_cell f ∷ file_areas w.file f;
   edits = Inodes f (Written size w.off w.bytes) ∷ [];
 }
 
@@ -36,3 +30,20 @@ write_rule ro T a w =
     (Demand (nat_eq f.0 a) (NotHolder f.0)
     (Demand (nat_le (w.off + length w.bytes) largest_file) TooBig
     (Accept (write_plan (size_at T f) w f))))))))
+
+-- ---- what it does once it is accepted
+
+abbrev pub accepted_write_plan : AcceptedWrite → Plan
+accepted_write_plan x = write_plan x.size x.write.now x.place
+
+-- in T the file still has that size
+abbrev pub WriteFits : Tree → AcceptedWrite → Type 0
+WriteFits T x = size_at T x.place ≡ x.size
+
+-- reads the file's size, kind and pointer; writes the blocks that it touches, and where the file grows its size, and the blocks
+-- from the old end on
+abbrev pub WriteRow : Writing → Type 0
+WriteRow w = (size : ℕ) (f : Place) → let end = w.off + length w.bytes in HasRow (write_plan size w f)
+    (size_cell f ∷ kind_cell f ∷ pointer_areas w.file)
+    (if nat_le end size then block_cells (blocks_between w.off end) f ∷ []
+    else size_cell f ∷ block_cells (blocks_between (min w.off size) end) f ∷ [])

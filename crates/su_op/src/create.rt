@@ -1,17 +1,17 @@
 // A new file or directory.
-ghost use Rattle.std.specs.Prelude.{◌≡◌, ◌∷◌, Some, None, true, IfOk, IfErr, OnOk, OnErr};
+ghost use Rattle.std.specs.Prelude.{◌≡◌, Some, None, true, IfOk, IfErr, OnOk, OnErr};
 ghost use Rattle.su_table.specs.Query.{is_free_at};
-ghost use Rattle.su_node.specs.InodeChange.{InodeChange.Made};
-ghost use Rattle.su_table.specs.Edit.{Edit.Inodes, edits};
-ghost use Rattle.su_op.specs.Create.{create_rule, create_plan, is_own_number};
-ghost use Rattle.su_op.specs.Rule.{refusal, plan_of, pointer_edits, reads_of, writes_of};
-ghost use Rattle.su_op.specs.Growth.{AreFreeFor};
+ghost use Rattle.su_table.specs.Edit.{edits};
+ghost use Rattle.su_op.specs.Create.{create_rule, is_own_number, accepted_create_plan, added_file_edits, CreateFits};
+ghost use Rattle.su_op.specs.Operation.{accepted_plan, StillFits};
+ghost use Rattle.su_op.specs.Rule.{refusal, plan_of, plan_reads, plan_writes};
 ghost use Rattle.su_bytes.specs.declared.refusals.Refusal.TheVariants.{NoMemory};
 
 use crate::access::closed_group;
 use crate::areas::{Area, Part};
+use crate::footprints::{Footprint, push_file, push_pointer};
+use crate::operations::Accepted;
 use crate::pointers::set_pointer;
-use crate::footprints::{Footprint, push_pointer, push_file};
 use std::alloc::Global;
 use su_bytes::{FileId, Inum, Kind, Name, Place, Refusal, Roster, User};
 use su_node::Inode;
@@ -31,17 +31,25 @@ pub struct Create {
     pub kind: Kind,
 }
 
+/// A create that is accepted, and where the directory stands.
+#[derive(Clone, Copy)]
+pub struct AcceptedCreate<'a> {
+    pub(crate) create: &'a Create,
+    pub(crate) author: User,
+    pub(crate) directory: Place,
+}
+
 impl Create {
-    /// Where the directory stands, if the author may create; else the first refusal.
+    /// Checks whether the author may create. The error is the first refusal.
     pub(crate) fn check(
         &self,
         forest: &Forest,
         roster: &Roster,
         author: User,
-    ) -> Result<Place, Refusal>
+    ) -> Result<Accepted<'_>, Refusal>
         ensures accepted { OnOk result (refusal (create_rule roster.now forest.now author self.now) ≡ None) }
-        ensures plan { IfOk result (λ d. plan_of (create_rule roster.now forest.now author self.now) ≡ create_plan author self.now d) }
-        ensures free { IfOk result (λ d. AreFreeFor forest.now (create_plan author self.now d).edits) }
+        ensures plan { IfOk result (λ x. plan_of (create_rule roster.now forest.now author self.now) ≡ accepted_plan forest.now x) }
+        ensures fits { IfOk result (λ x. StillFits forest.now x) }
         ensures refused { IfErr result (λ e. refusal (create_rule roster.now forest.now author self.now) ≡ Some e) }
     {
         if !roster.has_user(author) {
@@ -71,7 +79,11 @@ impl Create {
         if !forest.is_name_free(directory, &self.name) {
             return Err(Refusal::Exists);
         }
-        Ok(directory)
+        Ok(Accepted::Create(AcceptedCreate {
+            create: self,
+            author,
+            directory,
+        }))
     }
 
     /// Whether the file id is one that the author can make at that number.
@@ -83,68 +95,55 @@ impl Create {
             FileId::Group(..) => true,
         }
     }
+}
 
-    /// What it reads and writes. Only `NoMemory` can come.
-    pub(crate) fn footprint(
-        &self,
-        alloc: Global,
-        author: User,
-        directory: Place,
-    ) -> Result<Footprint, Refusal>
-        ensures reads { IfOk result (λ footprint. footprint.reads.items ≡ reads_of (create_plan author self.now directory)) }
-        ensures writes { IfOk result (λ footprint. footprint.writes.items ≡ writes_of (create_plan author self.now directory)) }
+impl AcceptedCreate<'_> {
+    /// Returns what it reads and writes. Fails only with `NoMemory`.
+    pub(crate) fn footprint(&self, alloc: Global) -> Result<Footprint, Refusal>
+        ensures reads { IfOk result (λ f. f.reads.items ≡ plan_reads (accepted_create_plan self.now)) }
+        ensures writes { IfOk result (λ f. f.writes.items ≡ plan_writes (accepted_create_plan self.now)) }
         ensures refused { IfErr result (λ e. e ≡ NoMemory) }
     {
-        let (user, number) = directory;
+        let create = self.create;
         let mut besides = Vec::new(alloc);
-        push_file(&mut besides, self.dir, (user, number))?;
+        push_file(&mut besides, create.dir, self.directory)?;
         let mut writes = Vec::new(alloc);
-        writes.push(Area::Inode((user, number), Part::Name(self.name.clone()?)))?;
-        writes.push(Area::Inode((author, self.body), Part::Kind))?;
-        writes.push(Area::Inode((author, self.body), Part::Links))?;
-        writes.push(Area::Inode((author, self.body), Part::Size))?;
-        push_pointer(&mut writes, self.file)?;
+        writes.push(Area::Inode(self.directory, Part::Name(create.name.clone()?)))?;
+        writes.push(Area::Inode((self.author, create.body), Part::Kind))?;
+        writes.push(Area::Inode((self.author, create.body), Part::Links))?;
+        writes.push(Area::Inode((self.author, create.body), Part::Size))?;
+        push_pointer(&mut writes, create.file)?;
         Footprint::new(besides, writes)
     }
 
-    /// Makes the edits. On `NoMemory`, which alone can come, nothing is changed.
-    pub(crate) fn perform(
-        &self,
-        alloc: Global,
-        forest: &mut Forest,
-        author: User,
-        directory: Place,
-    ) -> Result<(), Refusal>
-        requires { AreFreeFor forest.old (create_plan author self.now directory).edits }
-        ensures ok { OnOk result (forest.new ≡ edits forest.old (create_plan author self.now directory).edits) }
+    /// Gives the directory the name, and adds the file. Fails only with `NoMemory`, and then changes nothing.
+    pub(crate) fn perform(&self, alloc: Global, forest: &mut Forest) -> Result<(), Refusal>
+        requires { CreateFits forest.old self.now }
+        ensures ok { OnOk result (forest.new ≡ edits forest.old (accepted_create_plan self.now).edits) }
         ensures refused { IfErr result (λ e. e ≡ NoMemory) }
         ensures err { OnErr result (forest.new ≡ forest.old) }
     {
-        forest.add_name(directory, self.name.clone()?, self.file)?;
-        if let Err(refusal) = self.add_file(alloc, forest, (author, self.body)) {
-            forest.remove_name(directory, &self.name);
+        let create = self.create;
+        forest.add_name(self.directory, create.name.clone()?, create.file)?;
+        if let Err(refusal) = self.add_file(alloc, forest) {
+            forest.remove_name(self.directory, &create.name);
             return Err(refusal);
         }
         Ok(())
     }
 
-    /// The new inode, and a group file's pointer that points at it.
-    fn add_file(
-        &self,
-        alloc: Global,
-        forest: &mut Forest,
-        place: Place,
-    ) -> Result<(), Refusal>
-        requires { is_free_at forest.old place ≡ true }
-        ensures ok { OnOk result (forest.new ≡ edits forest.old (Inodes place (Made self.now.file self.now.kind) ∷ pointer_edits self.now.file (Some place))) }
+    /// Adds the new inode, and a group file's pointer that points at it. Fails only with `NoMemory`, and then changes nothing.
+    fn add_file(&self, alloc: Global, forest: &mut Forest) -> Result<(), Refusal>
+        requires { is_free_at forest.old (self.now.author, self.now.create.now.body) ≡ true }
+        ensures ok { OnOk result (forest.new ≡ edits forest.old (added_file_edits self.now)) }
         ensures refused { IfErr result (λ e. e ≡ NoMemory) }
         ensures err { OnErr result (forest.new ≡ forest.old) }
     {
-        let (user, number) = place;
-        let inode = Inode::new(alloc, self.file, self.kind);
-        forest.put_inode((user, number), inode)?;
-        if let Err(refusal) = set_pointer(forest, self.file, (user, number)) {
-            forest.remove_inode((user, number));
+        let create = self.create;
+        let inode = Inode::new(alloc, create.file, create.kind);
+        forest.put_inode((self.author, create.body), inode)?;
+        if let Err(refusal) = set_pointer(forest, create.file, (self.author, create.body)) {
+            forest.remove_inode((self.author, create.body));
             return Err(refusal);
         }
         Ok(())

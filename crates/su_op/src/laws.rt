@@ -7,11 +7,11 @@ ghost use Rattle.su_bytes.specs.Place.{Place};
 ghost use Rattle.su_table.specs.Tree.{Tree};
 ghost use Rattle.su_table.specs.Cell.{Cell.At};
 ghost use Rattle.su_op.specs.Area.{has};
-ghost use Rattle.su_op.specs.Operation.{why, writes};
+ghost use Rattle.su_op.specs.Operation.{why, writes, Row};
 ghost use Rattle.su_op.specs.Soundness.{Sound, WholeOrNew, KindOrFile};
 ghost use Rattle.su_op.specs.System.{Lawful};
 ghost use Rattle.su_op.specs.Store.{Action, store};
-ghost use Rattle.su_op.specs.Table.{CreateRow, UnlinkRow, WriteRow, TruncateRow, TakeRow, LinkRow, RenameRow};
+ghost use Rattle.su_op.specs.declared.operations.Op.{Op};
 
 /// An operation depends on the cells that it reads alone, leaves the cells that it doesn't write, and keeps a tree sound.
 pub fn operations_are_local()
@@ -29,11 +29,5 @@ pub fn kinds_change_whole()
 
 /// The table of cells: what each operation reads and writes.
 pub fn table_of_cells()
-    ensures create { CreateRow }
-    ensures unlink { UnlinkRow }
-    ensures write { WriteRow }
-    ensures truncate { TruncateRow }
-    ensures take { TakeRow }
-    ensures link { LinkRow }
-    ensures rename { RenameRow }
+    ensures { (op : Op) → Row op }
 {}

@@ -4,16 +4,14 @@
 mod access;
 mod areas;
 mod create;
-mod pointers;
 mod footprints;
 mod laws;
 mod limits;
 mod link;
 mod operations;
+mod pointers;
 mod rename;
 mod take;
-#[cfg(test)]
-mod tests;
 mod truncate;
 mod unlink;
 mod write;
@@ -24,7 +22,7 @@ pub use footprints::Footprint;
 pub use laws::{kinds_change_whole, operations_are_local, table_of_cells};
 pub use limits::{LARGEST_FILE, LARGEST_WRITE, MOST_LINKS};
 pub use link::Link;
-pub use operations::{Change, Op, apply, footprint};
+pub use operations::{Accepted, Change, Op, apply, footprint};
 pub use rename::Rename;
 pub use take::Take;
 pub use truncate::Truncate;

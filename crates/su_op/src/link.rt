@@ -1,16 +1,13 @@
 // A file gets a further name.
 ghost use Rattle.std.specs.Prelude.{◌≡◌, ◌<◌, Some, None, IfOk, IfErr, OnOk, OnErr};
-ghost use Rattle.su_table.specs.Query.{links_at};
-ghost use Rattle.su_table.specs.Edit.{edits};
 ghost use Rattle.su_op.specs.Limits.{most_links};
-ghost use Rattle.su_op.specs.Link.{link_rule, link_plan};
-ghost use Rattle.su_op.specs.Rule.{refusal, plan_of, reads_of, writes_of};
 ghost use Rattle.su_bytes.specs.declared.refusals.Refusal.TheVariants.{NoMemory};
 
 use crate::access::closed_group;
 use crate::areas::{Area, Part};
 use crate::footprints::{Footprint, push_file};
 use crate::limits::MOST_LINKS;
+use crate::operations::Accepted;
 use std::alloc::Global;
 use su_bytes::{FileId, Name, Place, Refusal, Roster, User};
 use su_table::Forest;
@@ -25,17 +22,32 @@ pub struct Link {
     pub file: FileId,
 }
 
+/// A link that is accepted, and where the directory and the file stand.
+#[derive(Clone, Copy)]
+pub struct AcceptedLink<'a> {
+    pub(crate) link: &'a Link,
+    pub(crate) directory: Place,
+    pub(crate) place: Place,
+    /// How many links the file has.
+    pub(crate) links: u8,
+    ghost room: { links < most_links },
+}
+
 impl Link {
-    /// Where the directory and the file stand, if the author may link; else the first refusal.
+    ghost use Rattle.su_op.specs.Link.{link_rule};
+    ghost use Rattle.su_op.specs.Operation.{accepted_plan, StillFits};
+    ghost use Rattle.su_op.specs.Rule.{refusal, plan_of};
+
+    /// Checks whether the author may link. The error is the first refusal.
     pub(crate) fn check(
         &self,
         forest: &Forest,
         roster: &Roster,
         author: User,
-    ) -> Result<(Place, Place), Refusal>
+    ) -> Result<Accepted<'_>, Refusal>
         ensures accepted { OnOk result (refusal (link_rule roster.now forest.now author self.now) ≡ None) }
-        ensures plan { IfOk result (λ p. plan_of (link_rule roster.now forest.now author self.now) ≡ link_plan (links_at forest.now p.1) self.now p.0 p.1) }
-        ensures room { IfOk result (λ p. links_at forest.now p.1 < most_links) }
+        ensures plan { IfOk result (λ x. plan_of (link_rule roster.now forest.now author self.now) ≡ accepted_plan forest.now x) }
+        ensures fits { IfOk result (λ x. StillFits forest.now x) }
         ensures refused { IfErr result (λ e. refusal (link_rule roster.now forest.now author self.now) ≡ Some e) }
     {
         if !roster.has_user(author) {
@@ -68,51 +80,50 @@ impl Link {
         if !forest.is_name_free(directory, &self.name) {
             return Err(Refusal::Exists);
         }
-        if MOST_LINKS <= forest.links(place) {
+        let links = forest.links(place);
+        if MOST_LINKS <= links {
             return Err(Refusal::TooManyLinks);
         }
-        Ok((directory, place))
+        Ok(Accepted::Link(AcceptedLink {
+            link: self,
+            directory,
+            place,
+            links,
+        }))
     }
+}
 
-    /// What it reads and writes. Only `NoMemory` can come.
-    pub(crate) fn footprint(
-        &self,
-        alloc: Global,
-        links: u8,
-        directory: Place,
-        place: Place,
-    ) -> Result<Footprint, Refusal>
-        ensures reads { IfOk result (λ footprint. footprint.reads.items ≡ reads_of (link_plan links self.now directory place)) }
-        ensures writes { IfOk result (λ footprint. footprint.writes.items ≡ writes_of (link_plan links self.now directory place)) }
+impl AcceptedLink<'_> {
+    ghost use Rattle.su_table.specs.Edit.{edits};
+    ghost use Rattle.su_op.specs.Link.{accepted_link_plan, LinkFits};
+    ghost use Rattle.su_op.specs.Rule.{plan_reads, plan_writes};
+
+    /// Returns what it reads and writes. Fails only with `NoMemory`.
+    pub(crate) fn footprint(&self, alloc: Global) -> Result<Footprint, Refusal>
+        ensures reads { IfOk result (λ f. f.reads.items ≡ plan_reads (accepted_link_plan self.now)) }
+        ensures writes { IfOk result (λ f. f.writes.items ≡ plan_writes (accepted_link_plan self.now)) }
         ensures refused { IfErr result (λ e. e ≡ NoMemory) }
     {
-        let (user, number) = directory;
-        let (holder, body) = place;
+        let link = self.link;
         let mut besides = Vec::new(alloc);
-        push_file(&mut besides, self.dir, (user, number))?;
-        push_file(&mut besides, self.file, (holder, body))?;
+        push_file(&mut besides, link.dir, self.directory)?;
+        push_file(&mut besides, link.file, self.place)?;
         let mut writes = Vec::new(alloc);
-        writes.push(Area::Inode((user, number), Part::Name(self.name.clone()?)))?;
-        writes.push(Area::Inode((holder, body), Part::Links))?;
+        writes.push(Area::Inode(self.directory, Part::Name(link.name.clone()?)))?;
+        writes.push(Area::Inode(self.place, Part::Links))?;
         Footprint::new(besides, writes)
     }
 
-    /// Makes the edits. On `NoMemory`, which alone can come, nothing is changed.
-    pub(crate) fn perform(
-        &self,
-        forest: &mut Forest,
-        directory: Place,
-        place: Place,
-    ) -> Result<(), Refusal>
-        requires { links_at forest.old place < most_links }
-        ensures ok { OnOk result (forest.new ≡ edits forest.old (link_plan (links_at forest.old place) self.now directory place).edits) }
+    /// Gives the directory the name, and the file a link more. Fails only with `NoMemory`, and then changes nothing.
+    pub(crate) fn perform(&self, forest: &mut Forest) -> Result<(), Refusal>
+        requires { LinkFits forest.old self.now }
+        ensures ok { OnOk result (forest.new ≡ edits forest.old (accepted_link_plan self.now).edits) }
         ensures refused { IfErr result (λ e. e ≡ NoMemory) }
         ensures err { OnErr result (forest.new ≡ forest.old) }
     {
-        let (user, number) = place;
-        let links = forest.links((user, number));
-        forest.add_name(directory, self.name.clone()?, self.file)?;
-        forest.set_links((user, number), links + 1);
+        let link = self.link;
+        forest.add_name(self.directory, link.name.clone()?, link.file)?;
+        forest.set_links(self.place, self.links + 1);
         Ok(())
     }
 }

@@ -1,13 +1,15 @@
 // A file gets another name.
 ghost use Rattle.std.specs.Prelude.{◌≡◌, ◌||◌, Some, None, IfOk, IfErr, OnOk, OnErr, true, false, is_some};
 ghost use Rattle.su_table.specs.Edit.{edits};
-ghost use Rattle.su_op.specs.Rename.{stays, moved, moves_directory, rename_rule, rename_rule_at, rename_plan};
-ghost use Rattle.su_op.specs.Rule.{refusal, plan_of, reads_of, writes_of};
+ghost use Rattle.su_op.specs.Rename.{stays, moved, moves_directory, rename_rule, rename_rule_at, accepted_rename_plan};
+ghost use Rattle.su_op.specs.Operation.{accepted_plan, StillFits};
+ghost use Rattle.su_op.specs.Rule.{refusal, plan_of, plan_reads, plan_writes};
 ghost use Rattle.su_bytes.specs.declared.refusals.Refusal.TheVariants.{NoMemory, NoFile};
 
 use crate::access::closed_group;
 use crate::areas::{Area, Part};
 use crate::footprints::{Footprint, push_file};
+use crate::operations::Accepted;
 use std::alloc::Global;
 use su_bytes::{FileId, Name, Place, Refusal, Roster, User};
 use su_table::Forest;
@@ -25,31 +27,28 @@ pub struct Rename {
     pub file: FileId,
 }
 
-/// Where the directories of a rename stand, and the file if it goes from one to another.
-#[derive(Debug, Drop)]
-pub(crate) struct RenamePlaces {
+/// A rename that is accepted, and where the directories stand, and the file if it goes from one to the other.
+#[derive(Clone, Copy)]
+pub struct AcceptedRename<'a> {
+    pub(crate) rename: &'a Rename,
     pub(crate) source: Place,
     pub(crate) target: Place,
     pub(crate) moved: Option<Place>,
 }
 
 impl Rename {
-    /// Where the directories and the file stand, if the author may rename; else the first refusal.
+    /// Checks whether the author may rename. The error is the first refusal.
     pub(crate) fn check(
         &self,
         forest: &Forest,
         roster: &Roster,
         author: User,
-    ) -> Result<RenamePlaces, Refusal>
+    ) -> Result<Accepted<'_>, Refusal>
         ensures accepted { OnOk result (refusal (rename_rule roster.now forest.now author self.now) ≡ None) }
-        ensures plan { IfOk result (λ p. plan_of (rename_rule roster.now forest.now author self.now) ≡ rename_plan p.moved self.now p.source p.target) }
+        ensures plan { IfOk result (λ x. plan_of (rename_rule roster.now forest.now author self.now) ≡ accepted_plan forest.now x) }
         ensures refused { IfErr result (λ e. refusal (rename_rule roster.now forest.now author self.now) ≡ Some e) }
     {
-        let RenamePlaces {
-            source,
-            target,
-            moved,
-        } = self.places(forest, roster, author)?;
+        let (source, target, moved) = self.places(forest, roster, author)?;
         if !forest.is_directory(source) {
             return Err(Refusal::WrongKind(self.from_));
         }
@@ -71,23 +70,24 @@ impl Rename {
         if moves_directory(forest, &moved) {
             return Err(Refusal::DirMove);
         }
-        Ok(RenamePlaces {
+        Ok(Accepted::Rename(AcceptedRename {
+            rename: self,
             source,
             target,
             moved,
-        })
+        }))
     }
 
-    /// Where the directories stand, and the file if it goes from one to another; else the first refusal of those that ask
-    /// for users, groups and bodies.
+    /// Finds where the directories stand, and the file if it goes from one to the other. The error is the first refusal of the
+    /// checks for users, groups and bodies.
     fn places(
         &self,
         forest: &Forest,
         roster: &Roster,
         author: User,
-    ) -> Result<RenamePlaces, Refusal>
-        ensures refusal { IfOk result (λ p. refusal (rename_rule roster.now forest.now author self.now) ≡ refusal (rename_rule_at forest.now author self.now p.moved p.source p.target)) }
-        ensures plan { IfOk result (λ p. plan_of (rename_rule roster.now forest.now author self.now) ≡ plan_of (rename_rule_at forest.now author self.now p.moved p.source p.target)) }
+    ) -> Result<(Place, Place, Option<Place>), Refusal>
+        ensures refusal { IfOk result (λ p. refusal (rename_rule roster.now forest.now author self.now) ≡ refusal (rename_rule_at forest.now author self.now p.2 p.0 p.1)) }
+        ensures plan { IfOk result (λ p. plan_of (rename_rule roster.now forest.now author self.now) ≡ plan_of (rename_rule_at forest.now author self.now p.2 p.0 p.1)) }
         ensures refused { IfErr result (λ e. refusal (rename_rule roster.now forest.now author self.now) ≡ Some e) }
     {
         if !roster.has_user(author) {
@@ -106,14 +106,10 @@ impl Rename {
             return Err(Refusal::NoFile(self.to_));
         };
         let moved = self.moved(forest)?;
-        Ok(RenamePlaces {
-            source,
-            target,
-            moved,
-        })
+        Ok((source, target, moved))
     }
 
-    /// Where the file stands, if it goes from one directory to another.
+    /// Finds where the file stands, if it goes from one directory to another. Fails with `NoFile` where it has no body.
     fn moved(&self, forest: &Forest) -> Result<Option<Place>, Refusal>
         ensures value { IfOk result (λ place. place ≡ moved forest.now self.now) }
         ensures found { OnOk result ((stays self.now || is_some (moved forest.now self.now)) ≡ true) }
@@ -127,39 +123,37 @@ impl Rename {
             None => Err(Refusal::NoFile(self.file)),
         }
     }
+}
 
-    /// What it reads and writes. Only `NoMemory` can come.
-    pub(crate) fn footprint(
-        &self,
-        alloc: Global,
-        places: &RenamePlaces,
-    ) -> Result<Footprint, Refusal>
-        ensures reads { IfOk result (λ footprint. footprint.reads.items ≡ reads_of (rename_plan places.now.moved self.now places.now.source places.now.target)) }
-        ensures writes { IfOk result (λ footprint. footprint.writes.items ≡ writes_of (rename_plan places.now.moved self.now places.now.source places.now.target)) }
+impl AcceptedRename<'_> {
+    /// Returns what it reads and writes. Fails only with `NoMemory`.
+    pub(crate) fn footprint(&self, alloc: Global) -> Result<Footprint, Refusal>
+        ensures reads { IfOk result (λ f. f.reads.items ≡ plan_reads (accepted_rename_plan self.now)) }
+        ensures writes { IfOk result (λ f. f.writes.items ≡ plan_writes (accepted_rename_plan self.now)) }
         ensures refused { IfErr result (λ e. e ≡ NoMemory) }
     {
-        let (user, number) = places.source;
-        let (holder, place) = places.target;
+        let rename = self.rename;
         let mut besides = Vec::new(alloc);
-        push_file(&mut besides, self.from_, (user, number))?;
-        push_file(&mut besides, self.to_, (holder, place))?;
-        if let Some(moved) = places.moved {
-            push_file(&mut besides, self.file, moved)?;
+        push_file(&mut besides, rename.from_, self.source)?;
+        push_file(&mut besides, rename.to_, self.target)?;
+        if let Some(moved) = self.moved {
+            push_file(&mut besides, rename.file, moved)?;
         }
         let mut writes = Vec::new(alloc);
-        writes.push(Area::Inode((holder, place), Part::Name(self.new_.clone()?)))?;
-        writes.push(Area::Inode((user, number), Part::Name(self.old_.clone()?)))?;
+        writes.push(Area::Inode(self.target, Part::Name(rename.new_.clone()?)))?;
+        writes.push(Area::Inode(self.source, Part::Name(rename.old_.clone()?)))?;
         Footprint::new(besides, writes)
     }
 
-    /// Makes the edits. On `NoMemory`, which alone can come, nothing is changed.
-    pub(crate) fn perform(&self, forest: &mut Forest, places: &RenamePlaces) -> Result<(), Refusal>
-        ensures ok { OnOk result (forest.new ≡ edits forest.old (rename_plan places.now.moved self.now places.now.source places.now.target).edits) }
+    /// Adds the new name, and removes the old one. Fails only with `NoMemory`, and then changes nothing.
+    pub(crate) fn perform(&self, forest: &mut Forest) -> Result<(), Refusal>
+        ensures ok { OnOk result (forest.new ≡ edits forest.old (accepted_rename_plan self.now).edits) }
         ensures refused { IfErr result (λ e. e ≡ NoMemory) }
         ensures err { OnErr result (forest.new ≡ forest.old) }
     {
-        forest.add_name(places.target, self.new_.clone()?, self.file)?;
-        forest.remove_name(places.source, &self.old_);
+        let rename = self.rename;
+        forest.add_name(self.target, rename.new_.clone()?, rename.file)?;
+        forest.remove_name(self.source, &rename.old_);
         Ok(())
     }
 }

@@ -1,15 +1,16 @@
 // A file gets another size.
 ghost use Rattle.std.specs.Prelude.{◌≡◌, Some, None, IfOk, IfErr, OnOk, OnErr};
-ghost use Rattle.su_table.specs.Query.{size_at};
 ghost use Rattle.su_table.specs.Edit.{edits};
-ghost use Rattle.su_op.specs.Truncate.{truncate_rule, truncate_plan};
-ghost use Rattle.su_op.specs.Rule.{refusal, plan_of, reads_of, writes_of};
+ghost use Rattle.su_op.specs.Truncate.{truncate_rule, accepted_truncate_plan, TruncateFits};
+ghost use Rattle.su_op.specs.Operation.{accepted_plan, StillFits};
+ghost use Rattle.su_op.specs.Rule.{refusal, plan_of, plan_reads, plan_writes};
 ghost use Rattle.su_bytes.specs.declared.refusals.Refusal.TheVariants.{NoMemory};
 
 use crate::access::closed_group;
 use crate::areas::{Area, Part};
-use crate::footprints::{Footprint, push_file, run};
+use crate::footprints::{Footprint, blocks_between, push_file};
 use crate::limits::LARGEST_FILE;
+use crate::operations::Accepted;
 use std::alloc::Global;
 use su_bytes::{FileId, Place, Refusal, Roster, User};
 use su_table::Forest;
@@ -22,16 +23,26 @@ pub struct Truncate {
     pub size: u32,
 }
 
+/// A truncate that is accepted, and where the file stands.
+#[derive(Clone, Copy)]
+pub struct AcceptedTruncate<'a> {
+    pub(crate) truncate: &'a Truncate,
+    pub(crate) place: Place,
+    /// How many bytes the file has.
+    pub(crate) size: u32,
+}
+
 impl Truncate {
-    /// Where the file stands, if the author may truncate it; else the first refusal.
+    /// Checks whether the author may truncate the file. The error is the first refusal.
     pub(crate) fn check(
         &self,
         forest: &Forest,
         roster: &Roster,
         author: User,
-    ) -> Result<Place, Refusal>
+    ) -> Result<Accepted<'_>, Refusal>
         ensures accepted { OnOk result (refusal (truncate_rule roster.now forest.now author self.now) ≡ None) }
-        ensures plan { IfOk result (λ f. plan_of (truncate_rule roster.now forest.now author self.now) ≡ truncate_plan (size_at forest.now f) self.now f) }
+        ensures plan { IfOk result (λ x. plan_of (truncate_rule roster.now forest.now author self.now) ≡ accepted_plan forest.now x) }
+        ensures fits { IfOk result (λ x. StillFits forest.now x) }
         ensures refused { IfErr result (λ e. refusal (truncate_rule roster.now forest.now author self.now) ≡ Some e) }
     {
         if !roster.has_user(author) {
@@ -52,39 +63,41 @@ impl Truncate {
         if LARGEST_FILE < self.size {
             return Err(Refusal::TooBig);
         }
-        Ok(place)
+        Ok(Accepted::Truncate(AcceptedTruncate {
+            truncate: self,
+            place,
+            size: forest.size(place),
+        }))
     }
+}
 
-    /// What it reads and writes, of a file of that size. Only `NoMemory` can come.
-    pub(crate) fn footprint(
-        &self,
-        alloc: Global,
-        size: u32,
-        place: Place,
-    ) -> Result<Footprint, Refusal>
-        ensures reads { IfOk result (λ footprint. footprint.reads.items ≡ reads_of (truncate_plan size self.now place)) }
-        ensures writes { IfOk result (λ footprint. footprint.writes.items ≡ writes_of (truncate_plan size self.now place)) }
+impl AcceptedTruncate<'_> {
+    /// Returns what it reads and writes. Fails only with `NoMemory`.
+    pub(crate) fn footprint(&self, alloc: Global) -> Result<Footprint, Refusal>
+        ensures reads { IfOk result (λ f. f.reads.items ≡ plan_reads (accepted_truncate_plan self.now)) }
+        ensures writes { IfOk result (λ f. f.writes.items ≡ plan_writes (accepted_truncate_plan self.now)) }
         ensures refused { IfErr result (λ e. e ≡ NoMemory) }
     {
-        let (user, number) = place;
+        let (old_size, new_size) = (self.size, self.truncate.size);
         let mut besides = Vec::new(alloc);
-        besides.push(Area::Inode((user, number), Part::Size))?;
-        push_file(&mut besides, self.file, (user, number))?;
+        besides.push(Area::Inode(self.place, Part::Size))?;
+        push_file(&mut besides, self.truncate.file, self.place)?;
         let mut writes = Vec::new(alloc);
-        if size != self.size {
-            writes.push(Area::Inode((user, number), Part::Size))?;
-            let blocks = run(size.min(self.size), size.max(self.size));
-            writes.push(Area::Inode((user, number), Part::Blocks(blocks)))?;
+        if old_size != new_size {
+            writes.push(Area::Inode(self.place, Part::Size))?;
+            let blocks = blocks_between(old_size.min(new_size), old_size.max(new_size));
+            writes.push(Area::Inode(self.place, Part::Blocks(blocks)))?;
         }
         Footprint::new(besides, writes)
     }
 
-    /// Makes the edit. On `NoMemory`, which alone can come, nothing is changed.
-    pub(crate) fn perform(&self, forest: &mut Forest, place: Place) -> Result<(), Refusal>
-        ensures ok { OnOk result (forest.new ≡ edits forest.old (truncate_plan (size_at forest.old place) self.now place).edits) }
+    /// Gives the file the size. Fails only with `NoMemory`, and then changes nothing.
+    pub(crate) fn perform(&self, forest: &mut Forest) -> Result<(), Refusal>
+        requires { TruncateFits forest.old self.now }
+        ensures ok { OnOk result (forest.new ≡ edits forest.old (accepted_truncate_plan self.now).edits) }
         ensures refused { IfErr result (λ e. e ≡ NoMemory) }
         ensures err { OnErr result (forest.new ≡ forest.old) }
     {
-        forest.resize(place, self.size)
+        forest.resize(self.place, self.truncate.size)
     }
 }

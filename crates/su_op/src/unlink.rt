@@ -1,15 +1,15 @@
 // A name goes.
-ghost use Rattle.std.specs.Prelude.{◌≡◌, ◌++◌, ◌∷◌, [], Some, None, IfOk, OnOk, IfErr};
-ghost use Rattle.su_table.specs.Query.{links_at};
-ghost use Rattle.su_node.specs.InodeChange.{InodeChange.Gone};
-ghost use Rattle.su_table.specs.Edit.{Edit.Inodes, edits};
-ghost use Rattle.su_op.specs.Unlink.{unlink_rule, unlink_plan};
-ghost use Rattle.su_op.specs.Rule.{refusal, plan_of, pointer_edits, reads_of, writes_of};
+ghost use Rattle.std.specs.Prelude.{◌≡◌, Some, None, IfOk, OnOk, IfErr};
+ghost use Rattle.su_table.specs.Edit.{edits};
+ghost use Rattle.su_op.specs.Unlink.{unlink_rule, file_goes, accepted_unlink_plan, UnlinkFits};
+ghost use Rattle.su_op.specs.Operation.{accepted_plan, StillFits};
+ghost use Rattle.su_op.specs.Rule.{refusal, plan_of, plan_reads, plan_writes};
 ghost use Rattle.su_bytes.specs.declared.refusals.Refusal.TheVariants.{NoMemory};
 
 use crate::access::closed_group;
 use crate::areas::{Area, Part};
-use crate::footprints::{Footprint, push_pointer, push_file};
+use crate::footprints::{Footprint, push_file, push_pointer};
+use crate::operations::Accepted;
 use std::alloc::Global;
 use su_bytes::{FileId, Name, Place, Refusal, Roster, User};
 use su_table::Forest;
@@ -24,16 +24,27 @@ pub struct Unlink {
     pub file: FileId,
 }
 
+/// An unlink that is accepted, and where the directory and the file stand.
+#[derive(Clone, Copy)]
+pub struct AcceptedUnlink<'a> {
+    pub(crate) unlink: &'a Unlink,
+    pub(crate) directory: Place,
+    pub(crate) place: Place,
+    /// How many links the file has.
+    pub(crate) links: u8,
+}
+
 impl Unlink {
-    /// Where the directory and the file stand, if the author may unlink; else the first refusal.
+    /// Checks whether the author may unlink. The error is the first refusal.
     pub(crate) fn check(
         &self,
         forest: &Forest,
         roster: &Roster,
         author: User,
-    ) -> Result<(Place, Place), Refusal>
+    ) -> Result<Accepted<'_>, Refusal>
         ensures accepted { OnOk result (refusal (unlink_rule roster.now forest.now author self.now) ≡ None) }
-        ensures plan { IfOk result (λ p. plan_of (unlink_rule roster.now forest.now author self.now) ≡ unlink_plan (links_at forest.now p.1) self.now p.0 p.1) }
+        ensures plan { IfOk result (λ x. plan_of (unlink_rule roster.now forest.now author self.now) ≡ accepted_plan forest.now x) }
+        ensures fits { IfOk result (λ x. StillFits forest.now x) }
         ensures refused { IfErr result (λ e. refusal (unlink_rule roster.now forest.now author self.now) ≡ Some e) }
     {
         if !roster.has_user(author) {
@@ -66,58 +77,57 @@ impl Unlink {
         if !forest.is_bare(place) {
             return Err(Refusal::NotEmpty);
         }
-        Ok((directory, place))
+        Ok(Accepted::Unlink(AcceptedUnlink {
+            unlink: self,
+            directory,
+            place,
+            links: forest.links(place),
+        }))
     }
+}
 
-    /// What it reads and writes, where the file has that many links. Only `NoMemory` can come.
-    pub(crate) fn footprint(
-        &self,
-        alloc: Global,
-        links: u8,
-        directory: Place,
-        place: Place,
-    ) -> Result<Footprint, Refusal>
-        ensures reads { IfOk result (λ footprint. footprint.reads.items ≡ reads_of (unlink_plan links self.now directory place)) }
-        ensures writes { IfOk result (λ footprint. footprint.writes.items ≡ writes_of (unlink_plan links self.now directory place)) }
+impl AcceptedUnlink<'_> {
+    /// Returns what it reads and writes. Fails only with `NoMemory`.
+    pub(crate) fn footprint(&self, alloc: Global) -> Result<Footprint, Refusal>
+        ensures reads { IfOk result (λ f. f.reads.items ≡ plan_reads (accepted_unlink_plan self.now)) }
+        ensures writes { IfOk result (λ f. f.writes.items ≡ plan_writes (accepted_unlink_plan self.now)) }
         ensures refused { IfErr result (λ e. e ≡ NoMemory) }
     {
-        let (user, number) = directory;
-        let (holder, body) = place;
+        let unlink = self.unlink;
         let mut besides = Vec::new(alloc);
-        push_file(&mut besides, self.dir, (user, number))?;
-        push_file(&mut besides, self.file, (holder, body))?;
+        push_file(&mut besides, unlink.dir, self.directory)?;
+        push_file(&mut besides, unlink.file, self.place)?;
         let mut writes = Vec::new(alloc);
-        writes.push(Area::Inode((user, number), Part::Name(self.name.clone()?)))?;
-        if links < 2 {
-            push_pointer(&mut writes, self.file)?;
-            writes.push(Area::Inode((holder, body), Part::Whole))?;
+        writes.push(Area::Inode(self.directory, Part::Name(unlink.name.clone()?)))?;
+        if self.links < 2 {
+            push_pointer(&mut writes, unlink.file)?;
+            writes.push(Area::Inode(self.place, Part::Whole))?;
         } else {
-            writes.push(Area::Inode((holder, body), Part::Links))?;
+            writes.push(Area::Inode(self.place, Part::Links))?;
         }
         Footprint::new(besides, writes)
     }
 
-    /// Makes the edits. Nothing grows, so nothing can be refused.
-    pub(crate) fn perform(&self, forest: &mut Forest, directory: Place, place: Place)
-        ensures { forest.new ≡ edits forest.old (unlink_plan (links_at forest.old place) self.now directory place).edits }
+    /// Removes the name, and a link or the file. Nothing grows, so nothing is refused.
+    pub(crate) fn perform(&self, forest: &mut Forest)
+        requires { UnlinkFits forest.old self.now }
+        ensures { forest.new ≡ edits forest.old (accepted_unlink_plan self.now).edits }
     {
-        let (user, number) = place;
-        forest.remove_name(directory, &self.name);
-        let links = forest.links((user, number));
-        if 2 <= links {
-            forest.set_links((user, number), links - 1);
+        forest.remove_name(self.directory, &self.unlink.name);
+        if 2 <= self.links {
+            forest.set_links(self.place, self.links - 1);
         } else {
-            self.remove_file(forest, (user, number));
+            self.remove_file(forest);
         }
     }
 
-    /// The file and a group file's pointer go.
-    fn remove_file(&self, forest: &mut Forest, place: Place)
-        ensures { forest.new ≡ edits forest.old (pointer_edits self.now.file None ++ Inodes place Gone ∷ []) }
+    /// Removes the inode, and a group file's pointer.
+    fn remove_file(&self, forest: &mut Forest)
+        ensures { forest.new ≡ edits forest.old (file_goes self.now.unlink.now.file self.now.place) }
     {
-        if let FileId::Group(group, number) = self.file {
+        if let FileId::Group(group, number) = self.unlink.file {
             forest.remove_pointer((group, number));
         }
-        forest.remove_inode(place);
+        forest.remove_inode(self.place);
     }
 }

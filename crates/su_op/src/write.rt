@@ -1,16 +1,13 @@
 // Bytes are written to a file.
-ghost use Rattle.std.specs.Prelude.{◌≡◌, ◌+◌, ◌≤◌, Some, None, IfOk, IfErr, OnOk, OnErr, length};
-ghost use Rattle.su_table.specs.Query.{size_at};
-ghost use Rattle.su_table.specs.Edit.{edits};
+ghost use Rattle.std.specs.Prelude.{◌≡◌, ◌+◌, ◌≤◌, length, Some, None, IfOk, IfErr, OnOk, OnErr};
 ghost use Rattle.su_op.specs.Limits.{largest_file};
-ghost use Rattle.su_op.specs.Write.{write_rule, write_plan};
-ghost use Rattle.su_op.specs.Rule.{refusal, plan_of, reads_of, writes_of};
 ghost use Rattle.su_bytes.specs.declared.refusals.Refusal.TheVariants.{NoMemory};
 
 use crate::access::closed_group;
 use crate::areas::{Area, Part};
-use crate::footprints::{Footprint, push_file, run};
+use crate::footprints::{Footprint, blocks_between, push_file};
 use crate::limits::{LARGEST_FILE, LARGEST_WRITE};
+use crate::operations::Accepted;
 use std::alloc::{AllocError, Global};
 use std::marker::Model;
 use su_bytes::{FileId, Place, Refusal, Roster, User};
@@ -27,7 +24,7 @@ pub struct Write {
 }
 
 impl Model for Write {
-    ghost use Rattle.su_op.specs.Write.{Writing};
+    ghost use Rattle.su_op.specs.Writing.{Writing};
 
     ghost Value = { Writing };
 
@@ -47,17 +44,31 @@ impl Clone for Write {
     }
 }
 
+/// A write that is accepted, and where the file stands.
+#[derive(Clone, Copy)]
+pub struct AcceptedWrite<'a> {
+    pub(crate) write: &'a Write,
+    pub(crate) place: Place,
+    /// How many bytes the file has.
+    pub(crate) size: u32,
+    ghost ends_in_file: { write.now.off + length write.now.bytes ≤ largest_file },
+}
+
 impl Write {
-    /// Where the file stands, if the author may write to it; else the first refusal.
+    ghost use Rattle.su_op.specs.Write.{write_rule};
+    ghost use Rattle.su_op.specs.Operation.{accepted_plan, StillFits};
+    ghost use Rattle.su_op.specs.Rule.{refusal, plan_of};
+
+    /// Checks whether the author may write to the file. The error is the first refusal.
     pub(crate) fn check(
         &self,
         forest: &Forest,
         roster: &Roster,
         author: User,
-    ) -> Result<Place, Refusal>
+    ) -> Result<Accepted<'_>, Refusal>
         ensures accepted { OnOk result (refusal (write_rule roster.now forest.now author self.now) ≡ None) }
-        ensures plan { IfOk result (λ f. plan_of (write_rule roster.now forest.now author self.now) ≡ write_plan (size_at forest.now f) self.now f) }
-        ensures fits { OnOk result (self.now.off + length self.now.bytes ≤ largest_file) }
+        ensures plan { IfOk result (λ x. plan_of (write_rule roster.now forest.now author self.now) ≡ accepted_plan forest.now x) }
+        ensures fits { IfOk result (λ x. StillFits forest.now x) }
         ensures refused { IfErr result (λ e. refusal (write_rule roster.now forest.now author self.now) ≡ Some e) }
     {
         if !roster.has_user(author) {
@@ -82,44 +93,49 @@ impl Write {
         if (LARGEST_FILE as usize) < self.off as usize + count {
             return Err(Refusal::TooBig);
         }
-        Ok(place)
+        Ok(Accepted::Write(AcceptedWrite {
+            write: self,
+            place,
+            size: forest.size(place),
+        }))
     }
+}
 
-    /// What it reads and writes, in a file of that size. Only `NoMemory` can come.
-    pub(crate) fn footprint(
-        &self,
-        alloc: Global,
-        size: u32,
-        place: Place,
-    ) -> Result<Footprint, Refusal>
-        requires { self.now.off + length self.now.bytes ≤ 1048576 }
-        ensures reads { IfOk result (λ footprint. footprint.reads.items ≡ reads_of (write_plan size self.now place)) }
-        ensures writes { IfOk result (λ footprint. footprint.writes.items ≡ writes_of (write_plan size self.now place)) }
+impl AcceptedWrite<'_> {
+    ghost use Rattle.su_table.specs.Edit.{edits};
+    ghost use Rattle.su_op.specs.Write.{accepted_write_plan, WriteFits};
+    ghost use Rattle.su_op.specs.Rule.{plan_reads, plan_writes};
+
+    /// Returns what it reads and writes. Fails only with `NoMemory`.
+    pub(crate) fn footprint(&self, alloc: Global) -> Result<Footprint, Refusal>
+        ensures reads { IfOk result (λ f. f.reads.items ≡ plan_reads (accepted_write_plan self.now)) }
+        ensures writes { IfOk result (λ f. f.writes.items ≡ plan_writes (accepted_write_plan self.now)) }
         ensures refused { IfErr result (λ e. e ≡ NoMemory) }
     {
-        let (user, number) = place;
+        let write = self.write;
         let mut besides = Vec::new(alloc);
-        besides.push(Area::Inode((user, number), Part::Size))?;
-        push_file(&mut besides, self.file, (user, number))?;
-        let end_ = self.off + self.bytes.len() as u32;
+        besides.push(Area::Inode(self.place, Part::Size))?;
+        push_file(&mut besides, write.file, self.place)?;
+        let end_ = write.off + write.bytes.len() as u32;
         let mut writes = Vec::new(alloc);
-        let mut first = self.off;
-        if size < end_ {
-            writes.push(Area::Inode((user, number), Part::Size))?;
-            first = first.min(size);
+        let mut first = write.off;
+        if self.size < end_ {
+            writes.push(Area::Inode(self.place, Part::Size))?;
+            first = first.min(self.size);
         }
-        let blocks = run(first, end_);
-        writes.push(Area::Inode((user, number), Part::Blocks(blocks)))?;
+        let blocks = blocks_between(first, end_);
+        writes.push(Area::Inode(self.place, Part::Blocks(blocks)))?;
         Footprint::new(besides, writes)
     }
 
-    /// Makes the edit. On `NoMemory`, which alone can come, nothing is changed.
-    pub(crate) fn perform(&self, forest: &mut Forest, place: Place) -> Result<(), Refusal>
-        requires { self.now.off + length self.now.bytes ≤ largest_file }
-        ensures ok { OnOk result (forest.new ≡ edits forest.old (write_plan (size_at forest.old place) self.now place).edits) }
+    /// Writes the bytes. Fails only with `NoMemory`, and then changes nothing.
+    pub(crate) fn perform(&self, forest: &mut Forest) -> Result<(), Refusal>
+        requires { WriteFits forest.old self.now }
+        ensures ok { OnOk result (forest.new ≡ edits forest.old (accepted_write_plan self.now).edits) }
         ensures refused { IfErr result (λ e. e ≡ NoMemory) }
         ensures err { OnErr result (forest.new ≡ forest.old) }
     {
-        forest.write_at(place, self.off, self.bytes.as_slice())
+        let write = self.write;
+        forest.write_at(self.place, write.off, write.bytes.as_slice())
     }
 }

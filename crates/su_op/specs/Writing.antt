@@ -1,0 +1,8 @@
+-- A write, as it is seen: what is written, and where.
+use Rattle.std.specs.Prelude.{ℕ, List}
+use Rattle.su_bytes.specs.declared.file_ids.FileId.{FileId}
+
+pub record Writing : Type 0 where
+  pub file : FileId
+  pub off : ℕ
+  pub bytes : List ℕ
