@@ -1,22 +1,15 @@
 -- Blocks of a file's bytes after a write or a change of size.
-use Rattle.std.proofs.Common.{◌≡◌, ℕ, ◌+◌, ◌-◌, ◌*◌, ◌/◌, ◌<◌, ◌≤◌, Bool, true, false, ◌&&◌, ◌⊎◌, inl, inr, ⊎_elim, nat_le, min, max, List, [], ◌∷◌, ◌++◌, length, take, drop, get_or, replicate, refl, sym, ap, ◌∙◌, arith}
-use Rattle.std.proofs.lemmas.List.{length-take, length-drop, length-append, length-replicate, get_or-take, get_or-drop, get_or_append_left, get_or-append_right, get_or-replicate, get_or_past, ext_get_or}
+use Rattle.std.proofs.Common.{◌≡◌, ℕ, ◌+◌, ◌-◌, ◌*◌, ◌/◌, ◌<◌, ◌≤◌, Bool, true, false, ◌&&◌, ◌⊎◌, inl, inr, ⊎_elim, nat_le, min, max, List, [], ◌∷◌, length, take, get_or, refl, sym, ap, ◌∙◌, arith}
+use Rattle.std.proofs.lemmas.List.{ext_get_or}
 use Rattle.std.proofs.lemmas.Bool.{leb-true, leb-false}
 use Rattle.std.proofs.Math.Seq.{drop-nil}
 use Rattle.su_node.specs.Field.{block, block_value}
 use Rattle.su_node.specs.InodeChange.{with_size, with_bytes_at}
+pub use Rattle.su_node.proofs.Contents.{length-block, get_or-block, length-with_size, get_or-with_size, length-with_bytes_at, get_or-written_in, get_or-written_before, get_or-written_after}
 
 pub block-nil : (n : ℕ) → block n [] ≡ []
 unfolding block
 block-nil n = ap (take 4096) (drop-nil (4096 * n))
-
-pub length-block : (n : ℕ) (bs : List ℕ) → length (block n bs) ≡ min 4096 (length bs - 4096 * n)
-unfolding block
-length-block n bs = length-take 4096 (drop (4096 * n) bs) ∙ ap (min 4096) (length-drop (4096 * n) bs)
-
-get_or-block : (n : ℕ) (bs : List ℕ) (i : ℕ) → i < 4096 → get_or (block n bs) i 0 ≡ get_or bs (4096 * n + i) 0
-unfolding block
-get_or-block n bs i lt = get_or-take 4096 (drop (4096 * n) bs) i 0 lt ∙ get_or-drop (4096 * n) bs i 0
 
 pub block_value_same : (b c : List ℕ) → block_value b ≡ block_value c → b ≡ c
 block_value_same [] [] e = refl
@@ -38,62 +31,6 @@ block_same n bs cs long each =
     (λ i lt.
     let l : length (block n bs) ≡ min 4096 (length bs - 4096 * n) = length-block n bs in
     get_or-block n bs i (omega arith) ∙ each (4096 * n + i) (omega arith) (omega arith) (omega arith) ∙ sym (get_or-block n cs i (omega arith)))
-
--- ---- the bytes of what is written
-
-pub length-with_size : (t : ℕ) (bs : List ℕ) → length (with_size t bs) ≡ t
-unfolding with_size
-length-with_size t bs =
-    let a = length-append (take t bs) (replicate (t - length bs) 0) in
-    let b = length-take t bs in
-    let c = length-replicate {A = ℕ} (t - length bs) 0 in
-    omega (arith, a, b, c)
-
-pub get_or-with_size : (t : ℕ) (bs : List ℕ) (i : ℕ) → i < t → get_or (with_size t bs) i 0 ≡ get_or bs i 0
-unfolding with_size
-get_or-with_size t bs i lt = go (nat_le (length (take t bs)) i) refl
-  where
-    l : length (take t bs) ≡ min t (length bs)
-    l = length-take t bs
-
-    go : (b : Bool) → nat_le (length (take t bs)) i ≡ b → get_or (take t bs ++ replicate (t - length bs) 0) i 0 ≡ get_or bs i 0
-    go false is =
-        let h : i < length (take t bs) = leb-false (length (take t bs)) i is in
-        get_or_append_left (take t bs) (replicate (t - length bs) 0) 0 i h ∙ get_or-take t bs i 0 lt
-    go true is =
-        let h : length (take t bs) ≤ i = leb-true (length (take t bs)) i is in
-        get_or-append_right (take t bs) (replicate (t - length bs) 0) (length bs) i 0 (omega (arith, l)) (omega (arith, l))
-        ∙ get_or-replicate (t - length bs) (i - length bs) 0 0 (omega (arith, l))
-        ∙ sym (get_or_past bs i 0 (omega (arith, l)))
-
-pub length-with_bytes_at : (off : ℕ) (xs bs : List ℕ) → length (with_bytes_at off xs bs) ≡ max (off + length xs) (length bs)
-unfolding with_bytes_at
-length-with_bytes_at off xs bs =
-    let a = length-append (with_size off bs) (xs ++ drop (off + length xs) bs) in
-    let b = length-append xs (drop (off + length xs) bs) in
-    let c = length-drop (off + length xs) bs in
-    let d = length-with_size off bs in
-    omega (arith, a, b, c, d)
-
-pub get_or-written_in : (off : ℕ) (xs bs : List ℕ) (i : ℕ) → off ≤ i → i < off + length xs → get_or (with_bytes_at off xs bs) i 0 ≡ get_or xs (i - off) 0
-unfolding with_bytes_at
-get_or-written_in off xs bs i low high =
-    get_or-append_right (with_size off bs) (xs ++ drop (off + length xs) bs) off i 0 (length-with_size off bs) low
-    ∙ get_or_append_left xs (drop (off + length xs) bs) 0 (i - off) (omega arith)
-
-pub get_or-written_before : (off : ℕ) (xs bs : List ℕ) (i : ℕ) → i < off → get_or (with_bytes_at off xs bs) i 0 ≡ get_or bs i 0
-unfolding with_bytes_at
-get_or-written_before off xs bs i lt =
-    let l : length (with_size off bs) ≡ off = length-with_size off bs in
-    get_or_append_left (with_size off bs) (xs ++ drop (off + length xs) bs) 0 i (omega arith) ∙ get_or-with_size off bs i lt
-
-pub get_or-written_after : (off : ℕ) (xs bs : List ℕ) (i : ℕ) → off + length xs ≤ i → get_or (with_bytes_at off xs bs) i 0 ≡ get_or bs i 0
-unfolding with_bytes_at
-get_or-written_after off xs bs i le =
-    let at : off + length xs + (i - off - length xs) ≡ i = omega arith in
-    get_or-append_right (with_size off bs) (xs ++ drop (off + length xs) bs) off i 0 (length-with_size off bs) (omega arith)
-    ∙ get_or-append_right xs (drop (off + length xs) bs) (length xs) (i - off) 0 refl (omega arith)
-    ∙ get_or-drop (off + length xs) bs (i - off - length xs) 0 ∙ ap (λ j. get_or bs j 0) at
 
 -- ---- a block of it
 

@@ -19,6 +19,7 @@ use Rattle.su_op.specs.Footprint.{overwritten_parts, grown_parts, other_size_par
 use Rattle.su_op.specs.Soundness.{WellLinked, IsBodyOf, Sound}
 use Rattle.su_op.proofs.KeyLemmas.{get-set_place, same_places, place_eq-same, place_eq-itself}
 use Rattle.su_op.proofs.InodeChangeLemmas.{Can, leaves, alike, stays_linked, inode_same}
+use Rattle.su_table.specs.Query.{is_free_at}
 
 -- no group file stands at p
 abbrev pub IsFree : Tree → Place → Type 0
@@ -40,6 +41,17 @@ CanEdit T (Pointers g (Some p)) = IsBodyOf T g p
 abbrev pub CanEdits : Tree → List Edit → Type 0
 CanEdits T [] = Unit {0}
 CanEdits T (e ∷ es) = CanEdit T e × CanEdits (edit T e) es
+
+-- an inode is made only where nothing stood before the first edit
+abbrev pub MakesNew : Tree → List Edit → Type 0
+MakesNew T [] = Unit {0}
+MakesNew T (Inodes p (Made h k) ∷ es) = (is_free_at T p ≡ true) × MakesNew T es
+MakesNew T (e ∷ es) = MakesNew T es
+
+-- an operation's edits can be made
+pub record CanDo (T : Tree) (es : List Edit) : Type 0 where
+  pub can : CanEdits T es
+  pub new : MakesNew T es
 
 pub neither : (a b : Bool) → (a || b) ≡ false → (a ≡ false) × (b ≡ false)
 neither true b e = absurd cc

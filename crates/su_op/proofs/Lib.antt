@@ -8,6 +8,7 @@ pub mod RuleLemmas
 pub mod CreateLemmas
 pub mod UnlinkLemmas
 pub mod WriteLemmas
+pub mod TruncateLemmas
 pub mod TakeLemmas
 pub mod LinkLemmas
 pub mod RenameLemmas

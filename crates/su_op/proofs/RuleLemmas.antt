@@ -26,7 +26,7 @@ use Rattle.su_op.specs.Rule.{Plan, Rule, Rule.Accept, Rule.Demand, Rule.Find, re
 use Rattle.su_op.specs.Soundness.{IsA, IsBodyOf, Sound}
 use Rattle.su_op.proofs.KeyLemmas.{place_eq-itself, name_eq-itself}
 use Rattle.su_op.proofs.InodeChangeLemmas.{HasOneLink, inode_same}
-use Rattle.su_op.proofs.EditLemmas.{IsFree, CanEdits, edit_leaves, pointer_after}
+use Rattle.su_op.proofs.EditLemmas.{IsFree, CanEdits, MakesNew, edit_leaves, pointer_after}
 use Rattle.su_op.specs.Rule.{pointer_areas}
 
 -- each check passes, and this is the plan
@@ -171,6 +171,10 @@ can_pointer_none T (Group g k) = (tt, tt)
 pub can_pointer_some : (T : Tree) (f : FileId) (p : Place) → ((g : Place) → f ≡ Group g.0 g.1 → IsBodyOf T g p) → CanEdits T (pointer_edits f (Some p))
 can_pointer_some T (User u i) p home = tt
 can_pointer_some T (Group g k) p home = (home (g, k) refl, tt)
+
+pub pointers_make_none : (T : Tree) (f : FileId) (v : Option Place) → MakesNew T (pointer_edits f v)
+pointers_make_none T (User u i) v = tt
+pointers_make_none T (Group g k) v = tt
 
 -- ---- where no group file stands
 

@@ -25,6 +25,15 @@ use Rattle.su_op.specs.Store.{Action}
 use Rattle.su_op.proofs.KeyLemmas.{place_eq-same}
 use Rattle.su_op.proofs.EditLemmas.{CanEdit, CanEdits, has_parts, written_kind, resized_kind, edit_leaves}
 use Rattle.su_op.proofs.StoreLemmas.{can_of_action}
+use Rattle.std.proofs.Common.{map, nat_le, nat_eq, ◌++◌}
+use Rattle.std.specs.Bool.{if◌then◌else◌}
+use Rattle.std.specs.List.{All, AllByRecursion}
+use Rattle.std.proofs.lemmas.List.Elements.{All-from_recursion}
+use Rattle.su_op.specs.declared.areas.Area.{Area}
+use Rattle.su_op.specs.declared.areas.Area.TheVariants.{Inode as InodeArea}
+use Rattle.su_op.specs.Footprint.{overwritten_parts, grown_parts, other_size_parts}
+use Rattle.su_op.specs.Soundness.{KindIsNew}
+use Rattle.su_op.proofs.EditLemmas.{MakesNew}
 
 -- ---- one edit
 
@@ -111,14 +120,43 @@ edits_block T (e ∷ es) p n (can, more) wrote = go (has (edit_areas e) (At p Ki
     go false is rest (inl first) = here (edit_block T e p n can first)
     go false is rest (inr other) = later is (rest other)
 
+-- ---- kinds alone
+
+written_new : (T : Tree) (p : Place) (b : Bool) (s off end : ℕ) (w : List Area) → AllByRecursion (KindIsNew T) w → AllByRecursion (KindIsNew T) (map (InodeArea p) (if b then overwritten_parts off end else grown_parts s off end) ++ w)
+written_new T p true s off end w rest = (tt, rest)
+written_new T p false s off end w rest = (tt, (tt, rest))
+
+resized_new : (T : Tree) (p : Place) (b : Bool) (s t : ℕ) (w : List Area) → AllByRecursion (KindIsNew T) w → AllByRecursion (KindIsNew T) (map (InodeArea p) (if b then [] else other_size_parts s t) ++ w)
+resized_new T p true s t w rest = rest
+resized_new T p false s t w rest = (tt, (tt, rest))
+
+-- who makes only what is new writes a kind alone only where nothing stands
+edits_new : (T : Tree) (es : List Edit) → MakesNew T es → AllByRecursion (KindIsNew T) (edits_areas es)
+edits_new T [] new = tt
+edits_new T (Inodes p (Made h k) ∷ es) (free, new) = (free, (tt, (tt, edits_new T es new)))
+edits_new T (Inodes p (Named x v) ∷ es) new = (tt, edits_new T es new)
+edits_new T (Inodes p (Linked n) ∷ es) new = (tt, edits_new T es new)
+edits_new T (Inodes p (Written s off xs) ∷ es) new = written_new T p (nat_le (off + length xs) s) s off (off + length xs) (edits_areas es) (edits_new T es new)
+edits_new T (Inodes p (Resized s t) ∷ es) new = resized_new T p (nat_eq s t) s t (edits_areas es) (edits_new T es new)
+edits_new T (Inodes p (Copied i) ∷ es) new = (tt, edits_new T es new)
+edits_new T (Inodes p Gone ∷ es) new = (tt, edits_new T es new)
+edits_new T (Pointers g v ∷ es) new = (tt, edits_new T es new)
+
 -- ---- operations
 
 -- an accepted operation that writes the kind of an inode writes all of it, or nothing stood there
 pub kind_written : (ro : Membership) (T : Tree) (x : Action) (p : Place) → Sound T → is_none (why ro T x.author x.op) ≡ true → has (writes ro T x.author x.op) (At p KindOf) ≡ true → WholeOrNew T p (has (writes ro T x.author x.op))
 unfolding writes
-kind_written ro T x p sound ok wrote = edits_kind T (plan_of (rule_of ro T x.author x.op)).edits p (can_of_action ro T x sound ok) wrote
+kind_written ro T x p sound ok wrote = edits_kind T (plan_of (rule_of ro T x.author x.op)).edits p (can_of_action ro T x sound ok).can wrote
 
 -- an accepted operation that writes a block writes the kind too, or a file stands there
 pub block_written : (ro : Membership) (T : Tree) (x : Action) (p : Place) (n : ℕ) → Sound T → is_none (why ro T x.author x.op) ≡ true → has (writes ro T x.author x.op) (At p (BlockOf n)) ≡ true → KindOrFile T p (has (writes ro T x.author x.op))
 unfolding writes
-block_written ro T x p n sound ok wrote = edits_block T (plan_of (rule_of ro T x.author x.op)).edits p n (can_of_action ro T x sound ok) wrote
+block_written ro T x p n sound ok wrote = edits_block T (plan_of (rule_of ro T x.author x.op)).edits p n (can_of_action ro T x sound ok).can wrote
+
+-- an accepted operation writes a kind alone only where nothing stands
+pub kinds_new : (ro : Membership) (T : Tree) (x : Action) → Sound T → is_none (why ro T x.author x.op) ≡ true → All (KindIsNew T) (writes ro T x.author x.op)
+unfolding writes
+kinds_new ro T x sound ok =
+    let es : List Edit = (plan_of (rule_of ro T x.author x.op)).edits in
+    All-from_recursion (KindIsNew T) (edits_areas es) (edits_new T es (can_of_action ro T x sound ok).new)

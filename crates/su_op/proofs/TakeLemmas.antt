@@ -3,6 +3,7 @@ use Rattle.std.proofs.Common.{◌≡◌, ◌∙◌, ℕ, true, not, ◌&&◌, []
 use Rattle.std.specs.FinMap.{get}
 use Rattle.std.proofs.lemmas.Bool.{and_parts}
 use Rattle.su_bytes.specs.Membership.{Membership}
+use Rattle.su_bytes.specs.declared.file_ids.FileId.{FileId}
 use Rattle.su_node.specs.Inode.{Inode}
 use Rattle.su_node.specs.Field.{Field.KindOf, Value.Nothing, field_value}
 use Rattle.su_node.specs.InodeChange.{InodeChange.Gone, inode_after}
@@ -20,10 +21,11 @@ use Rattle.su_op.specs.Rule.{Plan, plan_reads, plan_writes, pointer_edits, point
 use Rattle.su_op.specs.Take.{copy_of, take_rule, take_plan}
 use Rattle.su_op.specs.Soundness.{WellLinked, IsBodyOf, Sound}
 use Rattle.su_op.proofs.GrowthLemmas.{no_inode, back_gone, copied_gone}
-use Rattle.su_op.proofs.EditLemmas.{IsFree, CanEdit, CanEdits, field_after}
+use Rattle.su_op.proofs.EditLemmas.{IsFree, CanEdit, MakesNew, CanDo, field_after}
 use Rattle.su_op.proofs.RuleLemmas.{Gives, Agrees, left, right, later, field_same, whole_same, body_same, nothing_is, nothing_free, can_pointer_some, pointer_of_body}
 use Rattle.su_op.specs.Take.{TakeRow}
 use Rattle.su_op.proofs.RuleLemmas.{pointer_written}
+use Rattle.su_op.proofs.RuleLemmas.{pointers_make_none}
 
 copy_parts : (o : Option Inode) → parts (copy_of o) ≡ WholePart ∷ []
 copy_parts None = refl
@@ -43,6 +45,10 @@ can_copy : (T : Tree) (p : Place) (o : Option Inode) → WellLinked o → IsFree
 can_copy T p None linked free = (tt, free)
 can_copy T p (Some i) linked free = (linked, free)
 
+copy_makes_none : (T : Tree) (p : Place) (o : Option Inode) (f : FileId) (v : Option Place) → MakesNew T (Inodes p (copy_of o) ∷ pointer_edits f v)
+copy_makes_none T p None f v = pointers_make_none T f v
+copy_makes_none T p (Some i) f v = pointers_make_none T f v
+
 -- what was made for a group file is so where it is copied to
 copied_body : (T : Tree) (p f g : Place) → IsBodyOf T g f → IsBodyOf (edit T (Inodes p (copy_of (get T.inodes f)))) g p
 unfolding val
@@ -59,16 +65,19 @@ module _ (ro : Membership) (a : ℕ) (t : Take) where
       let free' = ap (λ v. not (nat_eq f.0 a) && is_nothing v) (field_same KindOf new) ∙ free in
       (user, (group, (touch, (f, body_same t.file f at (later reads), (free', ap (λ o. take_plan o a t f) (whole_same reads) ∙ plan)))))
 
-  pub take_can : (T : Tree) (p : Plan) → Sound T → Gives (take_rule ro T a t) p → CanEdits T p.edits
+  pub take_can : (T : Tree) (p : Plan) → Sound T → Gives (take_rule ro T a t) p → CanDo T p.edits
   take_can T p sound (user, (group, (touch, (f, at, (free, plan))))) =
       let o : Option Inode = get T.inodes f in
       let (_, nothing) = and_parts (not (nat_eq f.0 a)) _ free in
       let empty : val T (At (a, t.body) KindOf) ≡ Nothing = nothing_is _ nothing in
-      subst (λ (p : Plan). CanEdits T p.edits) plan (
-        can_copy T (a, t.body) o (sound.linked f) (nothing_free T (a, t.body) sound empty),
-        can_pointer_some (edit T (Inodes (a, t.body) (copy_of o))) t.file (a, t.body)
-            (λ g e. copied_body T (a, t.body) f g (sound.homes g f (pointer_of_body T g f (ap (body T) (sym e) ∙ at)))),
-      )
+      subst (λ (p : Plan). CanDo T p.edits) plan (record {
+        can = (
+          can_copy T (a, t.body) o (sound.linked f) (nothing_free T (a, t.body) sound empty),
+          can_pointer_some (edit T (Inodes (a, t.body) (copy_of o))) t.file (a, t.body)
+              (λ g e. copied_body T (a, t.body) f g (sound.homes g f (pointer_of_body T g f (ap (body T) (sym e) ∙ at)))),
+        );
+        new = copy_makes_none T (a, t.body) o t.file (Some (a, t.body));
+      })
 
 -- ---- a take whose pointer couldn't be moved
 

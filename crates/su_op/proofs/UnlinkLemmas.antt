@@ -22,7 +22,7 @@ use Rattle.su_op.specs.Rule.{Plan, plan_reads, pointer_edits, file_areas}
 use Rattle.su_op.specs.Unlink.{unlink_rule, unlink_plan, link_goes, fewer_links, file_goes}
 use Rattle.su_op.specs.Soundness.{IsA, Sound}
 use Rattle.su_op.proofs.KeyLemmas.{place_eq-itself}
-use Rattle.su_op.proofs.EditLemmas.{CanEdits, pointer_after, pointer_is}
+use Rattle.su_op.proofs.EditLemmas.{CanEdits, MakesNew, CanDo, pointer_after, pointer_is}
 use Rattle.su_op.proofs.RuleLemmas.{Gives, Agrees, left, right, later, kind_same, links_same, name_same, field_same, whole_same, body_same, IsA_dir, IsA_file, many_links, bare_file, bare_same, kind_after_name, few_links, user_home, one_group, pointer_of_body}
 use Rattle.su_op.specs.Unlink.{UnlinkRow}
 use Rattle.su_op.specs.Area.{links_cell, name_cell, all_cells}
@@ -72,11 +72,11 @@ module _ (ro : Membership) (a : ℕ) (u : Unlink) where
           apart : true ≡ false → ⊥
           apart e = absurd cc
 
-  pub unlink_can : (T : Tree) (p : Plan) → Sound T → Gives (unlink_rule ro T a u) p → CanEdits T p.edits
+  pub unlink_can : (T : Tree) (p : Plan) → Sound T → Gives (unlink_rule ro T a u) p → CanDo T p.edits
   unlink_can T p sound (user, (touch, (touch', (d, at, (f, at_f, (is, (holder, (holder', (named, (empty, plan)))))))))) =
       let dir! : IsA Dir (get T.inodes d) = IsA_dir T d is in
-      subst (λ (p : Plan). CanEdits T p.edits) plan
-      ((dir!, tt), go d f at_f dir! (nat_le 2 (value_number (val T (At f LinksOf)))) refl)
+      let links : ℕ = value_number (val T (At f LinksOf)) in
+      subst (λ (p : Plan). CanDo T p.edits) plan (record { can = ((dir!, tt), go d f at_f dir! (nat_le 2 links) refl); new = none_made (nat_le 2 links) u.file links f })
     where
       go : (d f : Place) → body T u.file ≡ Some f → IsA Dir (get T.inodes d) → (b : Bool) → nat_le 2 (value_number (val T (At f LinksOf))) ≡ b → CanEdits (edit T (Inodes d (Named u.name None))) (if b then fewer_links (value_number (val T (At f LinksOf))) f else file_goes u.file f)
       go d f at_f dir! true many =
@@ -84,6 +84,11 @@ module _ (ro : Membership) (a : ℕ) (u : Unlink) where
           let few : value_number (val T (At f LinksOf)) ≤ 255 = few_links T f sound many in
           (((IsA_file (edit T (Inodes d (Named u.name None))) f (ap is_file_kind (kind_after_name T d u.name None f dir!) ∙ many_links T f ((sound.linked f).one) many), omega arith, omega arith), tt), tt)
       go d f at_f dir! false last = last_can T d f sound u.file at_f
+
+      none_made : (b : Bool) (file : FileId) (links : ℕ) (f : Place) → MakesNew T (if b then fewer_links links f else file_goes file f)
+      none_made true file links f = tt
+      none_made false (User v i) links f = tt
+      none_made false (Group g k) links f = tt
 
 pub unlink_row : (u : Unlink) → UnlinkRow u
 unlink_row u l d f = record { reads = refl; writes = ap (λ w. name_cell u.name d ∷ w) (go (nat_le 2 l) u.file) }

@@ -1,5 +1,5 @@
 -- What holds of every tree that operations make of the first one.
-use Rattle.std.specs.Prelude.{◌≡◌, ℕ, ◌≤◌, Bool, true, ◌⊎◌, Option}
+use Rattle.std.specs.Prelude.{◌≡◌, ℕ, ◌≤◌, Bool, true, ◌⊎◌, ⊤, Option}
 use Rattle.std.specs.FinMap.{get}
 use Rattle.su_bytes.specs.declared.file_ids.FileId.{FileId}
 use Rattle.su_bytes.specs.declared.file_ids.FileId.TheVariants.{Group}
@@ -11,7 +11,10 @@ use Rattle.su_table.specs.Tree.{Tree}
 use Rattle.su_node.specs.Field.{Field, Field.KindOf, Field.LinksOf, Value.Nothing, Value.AKind, Value.ANumber, Value.APlace, field_value}
 use Rattle.su_table.specs.Cell.{Cell, Cell.At, Cell.Pointer, val}
 use Rattle.su_op.specs.Limits.{most_links}
-use Rattle.su_table.specs.Query.{is_file_at}
+use Rattle.su_table.specs.Query.{is_free_at, is_file_at}
+use Rattle.su_op.specs.declared.areas.Part.TheVariants.{Kind as KindPart}
+use Rattle.su_op.specs.declared.areas.Area.{Area}
+use Rattle.su_op.specs.declared.areas.Area.TheVariants.{Inode as InodeArea}
 
 -- an inode of that kind
 abbrev pub IsA : Kind → Option Inode → Type 0
@@ -36,6 +39,11 @@ pub record Sound (T : Tree) : Type 0 where
 -- all of it, or nothing stood there
 abbrev pub WholeOrNew : Tree → Place → (Cell → Bool) → Type 0
 WholeOrNew T p w = (val T (At p KindOf) ≡ Nothing) ⊎ ((f : Field) → w (At p f) ≡ true)
+
+-- the area isn't the kind alone of what stands in T: that is written only where nothing stands
+abbrev pub KindIsNew : Tree → Area → Type 0
+KindIsNew T (InodeArea p KindPart) = is_free_at T p ≡ true
+KindIsNew T a = ⊤
 
 -- its kind too, or a file stands there
 abbrev pub KindOrFile : Tree → Place → (Cell → Bool) → Type 0

@@ -1,6 +1,7 @@
 // What holds of the definitions themselves.
 ghost use Rattle.std.specs.Prelude.{◌≡◌, ℕ, true};
 ghost use Rattle.std.specs.Option.{is_none};
+ghost use Rattle.std.specs.List.{All};
 ghost use Rattle.su_bytes.specs.Membership.{Membership};
 ghost use Rattle.su_node.specs.Field.{Field.KindOf, Field.BlockOf};
 ghost use Rattle.su_bytes.specs.Place.{Place};
@@ -8,7 +9,7 @@ ghost use Rattle.su_table.specs.Tree.{Tree};
 ghost use Rattle.su_table.specs.Cell.{Cell.At};
 ghost use Rattle.su_op.specs.Area.{has};
 ghost use Rattle.su_op.specs.Operation.{why, writes, Row};
-ghost use Rattle.su_op.specs.Soundness.{Sound, WholeOrNew, KindOrFile};
+ghost use Rattle.su_op.specs.Soundness.{Sound, WholeOrNew, KindIsNew, KindOrFile};
 ghost use Rattle.su_op.specs.System.{Lawful};
 ghost use Rattle.su_op.specs.Store.{Action, store};
 ghost use Rattle.su_op.specs.declared.operations.Op.{Op};
@@ -23,6 +24,8 @@ pub fn operations_are_local()
 pub fn kinds_change_whole()
     ensures kind { (ro : Membership) (T : Tree) (x : Action) (p : Place) → Sound T → is_none (why ro T x.author x.op) ≡ true
         → has (writes ro T x.author x.op) (At p KindOf) ≡ true → WholeOrNew T p (has (writes ro T x.author x.op)) }
+    ensures new { (ro : Membership) (T : Tree) (x : Action) → Sound T → is_none (why ro T x.author x.op) ≡ true
+        → All (KindIsNew T) (writes ro T x.author x.op) }
     ensures block { (ro : Membership) (T : Tree) (x : Action) (p : Place) (n : ℕ) → Sound T → is_none (why ro T x.author x.op) ≡ true
         → has (writes ro T x.author x.op) (At p (BlockOf n)) ≡ true → KindOrFile T p (has (writes ro T x.author x.op)) }
 {}
