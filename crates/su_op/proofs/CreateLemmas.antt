@@ -18,12 +18,13 @@ use Rattle.su_op.specs.Footprint.{edits_areas}
 use Rattle.su_op.specs.Rule.{Plan, plan_reads, pointer_edits, file_areas}
 use Rattle.su_op.specs.Create.{create_rule, create_plan}
 use Rattle.su_op.specs.Soundness.{IsA, Sound}
-use Rattle.su_op.proofs.EditLemmas.{CanDo, field_after}
+use Rattle.su_op.proofs.EditLemmas.{CanEdits, field_after}
 use Rattle.su_op.proofs.RuleLemmas.{Gives, Agrees, left, right, later, kind_same, name_same, body_same, is_pointer_free_same, IsA_dir, nothing_is, no_inode, kind_after_name, can_pointer_some, nothing_free, free_after_name}
 use Rattle.su_op.specs.Create.{CreateRow}
 use Rattle.su_op.specs.Area.{kind_cell, links_cell, size_cell, name_cell}
 use Rattle.su_op.proofs.RuleLemmas.{pointer_written}
 use Rattle.su_op.proofs.RuleLemmas.{pointers_make_none}
+use Rattle.su_op.proofs.RuleLemmas.{PlanMakesNew}
 
 module _ (ro : Membership) (a : ℕ) (c : Create) where
   pub create_local : (T T' : Tree) (p : Plan) → Gives (create_rule ro T a c) p → Agrees (plan_reads p) T T' → Gives (create_rule ro T' a c) p
@@ -35,22 +36,24 @@ module _ (ro : Membership) (a : ℕ) (c : Create) where
       let free' = ap (λ b. b && is_nothing (val T' (At (a, c.body) KindOf))) (is_pointer_free_same c.file (Some (a, c.body)) (later (later (later w2)))) ∙ ap (λ v. is_pointer_free T c.file && is_nothing v) (kind_same w2) ∙ free in
       (user, (own, (touch, (touch', (d, body_same c.dir d at reads, (ap is_dir_kind (kind_same reads) ∙ is, (holder, (free', (ap is_nothing (name_same w1) ∙ new, plan)))))))))
 
-  pub create_can : (T : Tree) (p : Plan) → Sound T → Gives (create_rule ro T a c) p → CanDo T p.edits
+  pub create_can : (T : Tree) (p : Plan) → Sound T → Gives (create_rule ro T a c) p → CanEdits T p.edits
   create_can T p sound (user, (own, (touch, (touch', (d, at, (is, (holder, (free, (new, plan))))))))) =
       let dir! : IsA Dir (get T.inodes d) = IsA_dir T d is in
       let (_, nothing) = and_parts (is_pointer_free T c.file) _ free in
       let empty : val T (At (a, c.body) KindOf) ≡ Nothing = nothing_is _ nothing in
       let named : Tree = edit T (Inodes d (Named c.name (Some c.file))) in
-      subst (λ (p : Plan). CanDo T p.edits) plan (record {
-        can = (
-          (dir!, tt),
-          (
-            (no_inode named (a, c.body) (kind_after_name T d c.name (Some c.file) (a, c.body) dir! ∙ empty), free_after_name T d c.name (Some c.file) (a, c.body) (nothing_free T (a, c.body) sound empty)),
-            can_pointer_some (edit named (Inodes (a, c.body) (Made c.file c.kind))) c.file (a, c.body) (λ g e. (kind_of (empty_content c.kind), field_after named (a, c.body) (Made c.file c.kind) KindOf ∙ ap (AKind (kind_of (empty_content c.kind))) e)),
-          ),
-        );
-        new = (nothing, pointers_make_none T c.file _);
-      })
+      subst (λ (p : Plan). CanEdits T p.edits) plan (
+        (dir!, tt),
+        (
+          (no_inode named (a, c.body) (kind_after_name T d c.name (Some c.file) (a, c.body) dir! ∙ empty), free_after_name T d c.name (Some c.file) (a, c.body) (nothing_free T (a, c.body) sound empty)),
+          can_pointer_some (edit named (Inodes (a, c.body) (Made c.file c.kind))) c.file (a, c.body) (λ g e. (kind_of (empty_content c.kind), field_after named (a, c.body) (Made c.file c.kind) KindOf ∙ ap (AKind (kind_of (empty_content c.kind))) e)),
+        ),
+      )
+
+pub create_new : (ro : Membership) (T : Tree) (a : ℕ) (c : Create) (p : Plan) → Gives (create_rule ro T a c) p → PlanMakesNew T p
+create_new ro T a c p (user, (own, (touch, (touch', (d, at, (is, (holder, (free, (new, plan))))))))) =
+    let (_, nothing) = and_parts (is_pointer_free T c.file) _ free in
+    subst (PlanMakesNew T) plan (nothing, pointers_make_none T c.file _)
 
 pub create_row : (c : Create) → CreateRow c
 create_row c a d = record {

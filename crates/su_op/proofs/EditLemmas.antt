@@ -48,11 +48,6 @@ MakesNew T [] = Unit {0}
 MakesNew T (Inodes p (Made h k) ∷ es) = (is_free_at T p ≡ true) × MakesNew T es
 MakesNew T (e ∷ es) = MakesNew T es
 
--- an operation's edits can be made
-pub record CanDo (T : Tree) (es : List Edit) : Type 0 where
-  pub can : CanEdits T es
-  pub new : MakesNew T es
-
 pub neither : (a b : Bool) → (a || b) ≡ false → (a ≡ false) × (b ≡ false)
 neither true b e = absurd cc
 neither false b e = (refl, e)

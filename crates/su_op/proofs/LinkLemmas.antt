@@ -17,10 +17,11 @@ use Rattle.su_op.specs.Limits.{most_links}
 use Rattle.su_op.specs.Link.{link_rule, link_plan}
 use Rattle.su_op.specs.Rule.{Plan, plan_reads, file_areas}
 use Rattle.su_op.specs.Soundness.{IsA, Sound}
-use Rattle.su_op.proofs.EditLemmas.{CanDo}
+use Rattle.su_op.proofs.EditLemmas.{CanEdits}
 use Rattle.su_op.proofs.RuleLemmas.{Gives, Agrees, left, right, later, kind_same, links_same, name_same, body_same, IsA_dir, IsA_file, kind_after_name}
 use Rattle.su_op.specs.Link.{LinkRow}
 use Rattle.std.proofs.Common.{refl}
+use Rattle.su_op.proofs.RuleLemmas.{OfEachPlan, PlanMakesNew}
 
 less : (n m : ℕ) → nat_lt n m ≡ true → n < m
 less n m e = grind (arith, nat_tests)
@@ -36,12 +37,15 @@ module _ (ro : Membership) (a : ℕ) (l : Link) where
       let links : val T' (At f LinksOf) ≡ val T (At f LinksOf) = links_same (later w) in
       (user, (touch, (touch', (d, body_same l.dir d at reads_d, (f, body_same l.file f at_f reads_f, (ap is_dir_kind (kind_same reads_d) ∙ is, (ap is_file_kind (kind_same reads_f) ∙ is_f, (holder, (holder', (ap is_nothing (name_same w) ∙ new, (ap (λ v. nat_lt (value_number v) most_links) links ∙ room, ap (λ v. link_plan (value_number v) l d f) links ∙ plan)))))))))))
 
-  pub link_can : (T : Tree) (p : Plan) → Sound T → Gives (link_rule ro T a l) p → CanDo T p.edits
+  pub link_can : (T : Tree) (p : Plan) → Sound T → Gives (link_rule ro T a l) p → CanEdits T p.edits
   link_can T p sound (user, (touch, (touch', (d, at, (f, at_f, (is, (is_f, (holder, (holder', (new, (room, plan))))))))))) =
       let dir! : IsA Dir (get T.inodes d) = IsA_dir T d is in
       let few : links_at T f < most_links = less (links_at T f) most_links room in
       let file! : IsA File (get (edit T (Inodes d (Named l.name (Some l.file)))).inodes f) = IsA_file (edit T (Inodes d (Named l.name (Some l.file)))) f (ap is_file_kind (kind_after_name T d l.name (Some l.file) f dir!) ∙ is_f) in
-      subst (λ (p : Plan). CanDo T p.edits) plan (record { can = ((dir!, tt), (((file!, omega arith, omega arith), tt), tt)); new = tt })
+      subst (λ (p : Plan). CanEdits T p.edits) plan ((dir!, tt), (((file!, omega arith, omega arith), tt), tt))
+
+pub link_new : (ro : Membership) (T : Tree) (a : ℕ) (l : Link) → OfEachPlan (PlanMakesNew T) (link_rule ro T a l)
+link_new ro T a l = λ d f. tt
 
 pub link_row : (l : Link) → LinkRow l
 link_row l links d f = record { reads = refl; writes = refl }

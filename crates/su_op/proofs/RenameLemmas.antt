@@ -17,9 +17,10 @@ use Rattle.su_op.specs.Rule.{Plan, Rule, Rule.Demand, refusal, plan_reads, file_
 use Rattle.su_bytes.specs.declared.refusals.Refusal.{Refusal}
 use Rattle.su_bytes.specs.declared.refusals.Refusal.TheVariants.{Exists}
 use Rattle.su_op.specs.Soundness.{IsA}
-use Rattle.su_op.proofs.EditLemmas.{CanDo}
+use Rattle.su_op.proofs.EditLemmas.{CanEdits}
 use Rattle.su_op.proofs.RuleLemmas.{Gives, Agrees, left, right, later, kind_same, name_same, body_same, IsA_dir, kind_after_name}
 use Rattle.su_op.specs.Rename.{RenameRow}
+use Rattle.su_op.proofs.RuleLemmas.{OfEachPlan, PlanMakesNew}
 
 there_is : {A : Type 0} (o : Option A) → is_some o ≡ true → (x : A) × (o ≡ Some x)
 there_is None e = absurd cc
@@ -82,12 +83,12 @@ module _ (ro : Membership) (a : ℕ) (r : Rename) where
         ),
       )
 
-  pub rename_can : (T : Tree) (p : Plan) → Gives (rename_rule ro T a r) p → CanDo T p.edits
+  pub rename_can : (T : Tree) (p : Plan) → Gives (rename_rule ro T a r) p → CanEdits T p.edits
   rename_can T p (user, (touch, (touch', (d, at_d, (t, at_t, (found, (dir_d, (dir_t, (holder_d, (holder_t, (named, (new, (stay, plan))))))))))))) =
       let target! : IsA Dir (get T.inodes t) = IsA_dir T t dir_t in
       let named : Tree = edit T (Inodes t (Named r.new_ (Some r.file))) in
       let source! : IsA Dir (get named.inodes d) = IsA_dir named d (ap is_dir_kind (kind_after_name T t r.new_ (Some r.file) d target!) ∙ dir_d) in
-      subst (λ (p : Plan). CanDo T p.edits) plan (record { can = ((target!, tt), ((source!, tt), tt)); new = tt })
+      subst (λ (p : Plan). CanEdits T p.edits) plan ((target!, tt), ((source!, tt), tt))
 
 -- ---- what is asked of the directories, up to the new name
 
@@ -107,6 +108,9 @@ module _ (T : Tree) (a : ℕ) (r : Rename) (m : Option Place) (d t : Place) (dir
 pub not_false : (b : Bool) → not b ≡ false → b ≡ true
 not_false true e = refl
 not_false false e = absurd cc
+
+pub rename_new : (ro : Membership) (T : Tree) (a : ℕ) (r : Rename) → OfEachPlan (PlanMakesNew T) (rename_rule ro T a r)
+rename_new ro T a r = λ d t. tt
 
 pub rename_row : (r : Rename) → RenameRow r
 rename_row r moved d t = record { reads = refl; writes = refl }

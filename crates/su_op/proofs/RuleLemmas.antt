@@ -51,6 +51,17 @@ of_gives (Demand false r k) p (b, g) = absurd cc
 of_gives (Find None r k) p (x, o, g) = absurd cc
 of_gives (Find (Some y) r k) p (x, o, g) = let e : x ≡ y = cc in of_gives (k y) p (subst (λ z. Gives (k z) p) e g)
 
+-- what holds of the plan at each place that may be found
+abbrev pub OfEachPlan : (Plan → Type 0) → Rule → Type 0
+OfEachPlan P (Accept p) = P p
+OfEachPlan P (Demand b r k) = OfEachPlan P k
+OfEachPlan P (Find o r k) = (x : Place) → OfEachPlan P (k x)
+
+pub of_given : (P : Plan → Type 0) (k : Rule) (p : Plan) → OfEachPlan P k → Gives k p → P p
+of_given P (Accept q) p each is = subst P is each
+of_given P (Demand b r k) p each (passes, given) = of_given P k p each given
+of_given P (Find o r k) p each (x, found, given) = of_given P (k x) p (each x) given
+
 -- ---- two trees that agree on areas
 
 pub record Agrees (w : List Area) (T T' : Tree) : Type 0 where
@@ -171,6 +182,10 @@ can_pointer_none T (Group g k) = (tt, tt)
 pub can_pointer_some : (T : Tree) (f : FileId) (p : Place) → ((g : Place) → f ≡ Group g.0 g.1 → IsBodyOf T g p) → CanEdits T (pointer_edits f (Some p))
 can_pointer_some T (User u i) p home = tt
 can_pointer_some T (Group g k) p home = (home (g, k) refl, tt)
+
+-- the plan's inodes are made where nothing stood
+abbrev pub PlanMakesNew : Tree → Plan → Type 0
+PlanMakesNew T p = MakesNew T p.edits
 
 pub pointers_make_none : (T : Tree) (f : FileId) (v : Option Place) → MakesNew T (pointer_edits f v)
 pointers_make_none T (User u i) v = tt

@@ -22,16 +22,23 @@ use Rattle.su_op.specs.System.{LeavesOthers, IsLocal, Lawful}
 use Rattle.su_op.specs.Store.{Action, store}
 use Rattle.su_op.proofs.KeyLemmas.{get-set_place, place_eq-itself, place_eq-same}
 use Rattle.su_op.proofs.InodeChangeLemmas.{number_same}
-use Rattle.su_op.proofs.EditLemmas.{CanDo, edits_leave, edits_alike, edits_sound, tree_same, place_same_value}
+use Rattle.su_op.proofs.EditLemmas.{CanEdits, edits_leave, edits_alike, edits_sound, tree_same, place_same_value}
 use Rattle.su_op.proofs.AreaLemmas.{areas_apart}
 use Rattle.su_op.proofs.RuleLemmas.{Gives, Agrees, gives_of, of_gives}
-use Rattle.su_op.proofs.CreateLemmas.{create_local, create_can, create_row}
-use Rattle.su_op.proofs.UnlinkLemmas.{unlink_local, unlink_can, unlink_row}
-use Rattle.su_op.proofs.WriteLemmas.{write_local, write_can, write_row}
-use Rattle.su_op.proofs.TruncateLemmas.{truncate_local, truncate_can, truncate_row}
-use Rattle.su_op.proofs.TakeLemmas.{take_local, take_can, take_row}
-use Rattle.su_op.proofs.LinkLemmas.{link_local, link_can, link_row}
-use Rattle.su_op.proofs.RenameLemmas.{rename_local, rename_can, rename_row}
+use Rattle.su_op.proofs.CreateLemmas.{create_local, create_can, create_new, create_row}
+use Rattle.su_op.proofs.UnlinkLemmas.{unlink_local, unlink_can, unlink_new, unlink_row}
+use Rattle.su_op.proofs.WriteLemmas.{write_local, write_can, write_new, write_row}
+use Rattle.su_op.proofs.TruncateLemmas.{truncate_local, truncate_can, truncate_new, truncate_row}
+use Rattle.su_op.proofs.TakeLemmas.{take_local, take_can, take_new, take_row}
+use Rattle.su_op.proofs.LinkLemmas.{link_local, link_can, link_new, link_row}
+use Rattle.su_op.proofs.RenameLemmas.{rename_local, rename_can, rename_new, rename_row}
+use Rattle.su_op.proofs.RuleLemmas.{PlanMakesNew, of_given}
+use Rattle.su_op.specs.Unlink.{unlink_rule}
+use Rattle.su_op.specs.Write.{write_rule}
+use Rattle.su_op.specs.Truncate.{truncate_rule}
+use Rattle.su_op.specs.Take.{take_rule}
+use Rattle.su_op.specs.Link.{link_rule}
+use Rattle.su_op.specs.Rename.{rename_rule}
 
 -- ---- by cases over the operations
 
@@ -44,7 +51,7 @@ local_of ro a (Take t) T T' p sound g agree = take_local ro a t T T' p g agree
 local_of ro a (Link l) T T' p sound g agree = link_local ro a l T T' p g agree
 local_of ro a (Rename r) T T' p sound g agree = rename_local ro a r T T' p g agree
 
-can_of : (ro : Membership) (a : ℕ) (x : Op) (T : Tree) (p : Plan) → Sound T → Gives (rule_of ro T a x) p → CanDo T p.edits
+can_of : (ro : Membership) (a : ℕ) (x : Op) (T : Tree) (p : Plan) → Sound T → Gives (rule_of ro T a x) p → CanEdits T p.edits
 can_of ro a (Create c) T p sound g = create_can ro a c T p sound g
 can_of ro a (Unlink u) T p sound g = unlink_can ro a u T p sound g
 can_of ro a (Write w) T p sound g = write_can ro a w T p g
@@ -52,6 +59,15 @@ can_of ro a (Truncate t) T p sound g = truncate_can ro a t T p g
 can_of ro a (Take t) T p sound g = take_can ro a t T p sound g
 can_of ro a (Link l) T p sound g = link_can ro a l T p sound g
 can_of ro a (Rename r) T p sound g = rename_can ro a r T p g
+
+new_of : (ro : Membership) (a : ℕ) (x : Op) (T : Tree) (p : Plan) → Gives (rule_of ro T a x) p → PlanMakesNew T p
+new_of ro a (Create c) T p g = create_new ro T a c p g
+new_of ro a (Unlink u) T p g = of_given (PlanMakesNew T) (unlink_rule ro T a u) p (unlink_new ro T a u) g
+new_of ro a (Write w) T p g = of_given (PlanMakesNew T) (write_rule ro T a w) p (write_new ro T a w) g
+new_of ro a (Truncate t) T p g = of_given (PlanMakesNew T) (truncate_rule ro T a t) p (truncate_new ro T a t) g
+new_of ro a (Take t) T p g = of_given (PlanMakesNew T) (take_rule ro T a t) p (take_new ro T a t) g
+new_of ro a (Link l) T p g = of_given (PlanMakesNew T) (link_rule ro T a l) p (link_new ro T a l) g
+new_of ro a (Rename r) T p g = of_given (PlanMakesNew T) (rename_rule ro T a r) p (rename_new ro T a r) g
 
 pub row_of : (x : Op) → Row x
 row_of (Create c) = create_row c
@@ -80,12 +96,15 @@ module _ (ro : Membership) where
   unfolding why
   given T x ok = gives_of (rule_of ro T x.author x.op) (none_is (refusal (rule_of ro T x.author x.op)) ok)
 
-  pub can_of_action : (T : Tree) (x : Action) → Sound T → is_none (why ro T x.author x.op) ≡ true → CanDo T (plan_of (rule_of ro T x.author x.op)).edits
+  pub can_of_action : (T : Tree) (x : Action) → Sound T → is_none (why ro T x.author x.op) ≡ true → CanEdits T (plan_of (rule_of ro T x.author x.op)).edits
   can_of_action T x sound ok = can_of ro x.author x.op T (plan_of (rule_of ro T x.author x.op)) sound (given T x ok)
+
+  pub new_of_action : (T : Tree) (x : Action) → is_none (why ro T x.author x.op) ≡ true → PlanMakesNew T (plan_of (rule_of ro T x.author x.op))
+  new_of_action T x ok = new_of ro x.author x.op T (plan_of (rule_of ro T x.author x.op)) (given T x ok)
 
   store_leaves : LeavesOthers (store ro)
   unfolding effect writes
-  store_leaves T x sound ok c out = edits_leave T (plan_of (rule_of ro T x.author x.op)).edits c (can_of_action T x sound ok).can out
+  store_leaves T x sound ok c out = edits_leave T (plan_of (rule_of ro T x.author x.op)).edits c (can_of_action T x sound ok) out
 
   store_local : IsLocal (store ro)
   unfolding why effect reads writes
@@ -99,7 +118,7 @@ module _ (ro : Membership) where
         reads = ap plan_reads same;
         writes = ap plan_writes same;
         values = λ c wrote. ap (λ (q : Plan). val (edits T' q.edits) c) same
-            ∙ edits_alike T' T p.edits c (can_of ro x.author x.op T' p sound' g).can (can_of_action T x sound ok).can (agree c (in_reads p c wrote));
+            ∙ edits_alike T' T p.edits c (can_of ro x.author x.op T' p sound' g) (can_of_action T x sound ok) (agree c (in_reads p c wrote));
       }
 
   store_within : (T : Tree) (x : Action) (c : Cell) → Sound T → is_none (why ro T x.author x.op) ≡ true → has (writes ro T x.author x.op) c ≡ true → has (reads ro T x.author x.op) c ≡ true
@@ -108,7 +127,7 @@ module _ (ro : Membership) where
 
   store_stays_sound : (T : Tree) (x : Action) → Sound T → is_none (why ro T x.author x.op) ≡ true → Sound (effect ro T x.author x.op)
   unfolding effect
-  store_stays_sound T x sound ok = edits_sound T (plan_of (rule_of ro T x.author x.op)).edits (can_of_action T x sound ok).can sound
+  store_stays_sound T x sound ok = edits_sound T (plan_of (rule_of ro T x.author x.op)).edits (can_of_action T x sound ok) sound
 
   root : Inode
   root = new_inode (Group 0 1) Dir

@@ -21,11 +21,12 @@ use Rattle.su_op.specs.Rule.{Plan, plan_reads, plan_writes, pointer_edits, point
 use Rattle.su_op.specs.Take.{copy_of, take_rule, take_plan}
 use Rattle.su_op.specs.Soundness.{WellLinked, IsBodyOf, Sound}
 use Rattle.su_op.proofs.GrowthLemmas.{no_inode, back_gone, copied_gone}
-use Rattle.su_op.proofs.EditLemmas.{IsFree, CanEdit, MakesNew, CanDo, field_after}
+use Rattle.su_op.proofs.EditLemmas.{IsFree, CanEdit, MakesNew, CanEdits, field_after}
 use Rattle.su_op.proofs.RuleLemmas.{Gives, Agrees, left, right, later, field_same, whole_same, body_same, nothing_is, nothing_free, can_pointer_some, pointer_of_body}
 use Rattle.su_op.specs.Take.{TakeRow}
 use Rattle.su_op.proofs.RuleLemmas.{pointer_written}
 use Rattle.su_op.proofs.RuleLemmas.{pointers_make_none}
+use Rattle.su_op.proofs.RuleLemmas.{OfEachPlan, PlanMakesNew}
 
 copy_parts : (o : Option Inode) → parts (copy_of o) ≡ WholePart ∷ []
 copy_parts None = refl
@@ -65,19 +66,16 @@ module _ (ro : Membership) (a : ℕ) (t : Take) where
       let free' = ap (λ v. not (nat_eq f.0 a) && is_nothing v) (field_same KindOf new) ∙ free in
       (user, (group, (touch, (f, body_same t.file f at (later reads), (free', ap (λ o. take_plan o a t f) (whole_same reads) ∙ plan)))))
 
-  pub take_can : (T : Tree) (p : Plan) → Sound T → Gives (take_rule ro T a t) p → CanDo T p.edits
+  pub take_can : (T : Tree) (p : Plan) → Sound T → Gives (take_rule ro T a t) p → CanEdits T p.edits
   take_can T p sound (user, (group, (touch, (f, at, (free, plan))))) =
       let o : Option Inode = get T.inodes f in
       let (_, nothing) = and_parts (not (nat_eq f.0 a)) _ free in
       let empty : val T (At (a, t.body) KindOf) ≡ Nothing = nothing_is _ nothing in
-      subst (λ (p : Plan). CanDo T p.edits) plan (record {
-        can = (
-          can_copy T (a, t.body) o (sound.linked f) (nothing_free T (a, t.body) sound empty),
-          can_pointer_some (edit T (Inodes (a, t.body) (copy_of o))) t.file (a, t.body)
-              (λ g e. copied_body T (a, t.body) f g (sound.homes g f (pointer_of_body T g f (ap (body T) (sym e) ∙ at)))),
-        );
-        new = copy_makes_none T (a, t.body) o t.file (Some (a, t.body));
-      })
+      subst (λ (p : Plan). CanEdits T p.edits) plan (
+        can_copy T (a, t.body) o (sound.linked f) (nothing_free T (a, t.body) sound empty),
+        can_pointer_some (edit T (Inodes (a, t.body) (copy_of o))) t.file (a, t.body)
+            (λ g e. copied_body T (a, t.body) f g (sound.homes g f (pointer_of_body T g f (ap (body T) (sym e) ∙ at)))),
+      )
 
 -- ---- a take whose pointer couldn't be moved
 
@@ -89,6 +87,9 @@ gone_free T p free = back_gone T p ∙ ap (λ o. Inodes p (restoring o)) (no_ino
 pub copied_back : (T : Tree) (p : Place) (o : Option Inode) → is_free_at T p ≡ true → edit (edit T (Inodes p (copy_of o))) (Inodes p Gone) ≡ T
 copied_back T p (Some i) free = copied_gone T p i free
 copied_back T p None free = ap (edit (edit T (Inodes p Gone))) (sym (gone_free T p free)) ∙ edit-back T (Inodes p Gone)
+
+pub take_new : (ro : Membership) (T : Tree) (a : ℕ) (t : Take) → OfEachPlan (PlanMakesNew T) (take_rule ro T a t)
+take_new ro T a t = λ f. copy_makes_none T (a, t.body) (get T.inodes f) t.file (Some (a, t.body))
 
 pub take_row : (t : Take) → TakeRow t
 take_row t o a f = record { reads = refl; writes = take_writes o a t f }

@@ -10,7 +10,7 @@ use Rattle.su_op.specs.declared.areas.Area.TheVariants.{Inode as InodeArea}
 use Rattle.su_op.specs.declared.truncate.Truncate.{Truncate}
 use Rattle.su_op.specs.Rule.{Plan, plan_reads, file_areas}
 use Rattle.su_op.specs.Truncate.{truncate_rule, truncate_plan}
-use Rattle.su_op.proofs.EditLemmas.{CanDo}
+use Rattle.su_op.proofs.EditLemmas.{CanEdits}
 use Rattle.su_op.proofs.RuleLemmas.{Gives, Agrees, left, later, kind_same, size_same, body_same, IsA_file, size_is}
 use Rattle.std.proofs.Common.{Bool, true, false, [], ◌++◌, map, min, refl, ◌≡◌}
 use Rattle.std.specs.Bool.{if◌then◌else◌}
@@ -18,6 +18,7 @@ use Rattle.su_op.specs.Area.{blocks_between, size_cell, block_cells}
 use Rattle.su_op.specs.Footprint.{other_size_parts}
 use Rattle.su_op.specs.Truncate.{TruncateRow}
 use Rattle.std.proofs.Common.{max, nat_eq}
+use Rattle.su_op.proofs.RuleLemmas.{OfEachPlan, PlanMakesNew}
 
 module _ (ro : Membership) (a : ℕ) (t : Truncate) where
   pub truncate_local : (T T' : Tree) (p : Plan) → Gives (truncate_rule ro T a t) p → Agrees (plan_reads p) T T' → Gives (truncate_rule ro T' a t) p
@@ -27,9 +28,12 @@ module _ (ro : Membership) (a : ℕ) (t : Truncate) where
       let reads_f : Agrees (file_areas t.file f) T T' = later reads in
       (user, (touch, (f, body_same t.file f at reads_f, (ap is_file_kind (kind_same reads_f) ∙ is, (holder, (fits, ap (λ v. truncate_plan (value_number v) t f) (size_same reads) ∙ plan))))))
 
-  pub truncate_can : (T : Tree) (p : Plan) → Gives (truncate_rule ro T a t) p → CanDo T p.edits
+  pub truncate_can : (T : Tree) (p : Plan) → Gives (truncate_rule ro T a t) p → CanEdits T p.edits
   truncate_can T p (user, (touch, (f, at, (is, (holder, (fits, plan)))))) =
-      subst (λ (p : Plan). CanDo T p.edits) plan (record { can = (((IsA_file T f is, size_is T f is), tt), tt); new = tt })
+      subst (λ (p : Plan). CanEdits T p.edits) plan (((IsA_file T f is, size_is T f is), tt), tt)
+
+pub truncate_new : (ro : Membership) (T : Tree) (a : ℕ) (t : Truncate) → OfEachPlan (PlanMakesNew T) (truncate_rule ro T a t)
+truncate_new ro T a t = λ f. tt
 
 pub truncate_row : (t : Truncate) → TruncateRow t
 truncate_row t s f = record { reads = refl; writes = go (nat_eq s t.size) }

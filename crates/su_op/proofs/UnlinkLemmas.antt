@@ -22,11 +22,13 @@ use Rattle.su_op.specs.Rule.{Plan, plan_reads, pointer_edits, file_areas}
 use Rattle.su_op.specs.Unlink.{unlink_rule, unlink_plan, link_goes, fewer_links, file_goes}
 use Rattle.su_op.specs.Soundness.{IsA, Sound}
 use Rattle.su_op.proofs.KeyLemmas.{place_eq-itself}
-use Rattle.su_op.proofs.EditLemmas.{CanEdits, MakesNew, CanDo, pointer_after, pointer_is}
+use Rattle.su_op.proofs.EditLemmas.{CanEdits, MakesNew, pointer_after, pointer_is}
 use Rattle.su_op.proofs.RuleLemmas.{Gives, Agrees, left, right, later, kind_same, links_same, name_same, field_same, whole_same, body_same, IsA_dir, IsA_file, many_links, bare_file, bare_same, kind_after_name, few_links, user_home, one_group, pointer_of_body}
 use Rattle.su_op.specs.Unlink.{UnlinkRow}
 use Rattle.su_op.specs.Area.{links_cell, name_cell, all_cells}
 use Rattle.su_op.specs.Rule.{pointer_areas}
+use Rattle.su_op.proofs.RuleLemmas.{OfEachPlan, PlanMakesNew}
+use Rattle.su_table.specs.Query.{links_at}
 
 whole_of : (T T' : Tree) (f : Place) (file : FileId) → Agrees (edits_areas (file_goes file f)) T T' → Agrees (InodeArea f WholePart ∷ []) T T'
 whole_of T T' f (User u i) agree = agree
@@ -72,11 +74,11 @@ module _ (ro : Membership) (a : ℕ) (u : Unlink) where
           apart : true ≡ false → ⊥
           apart e = absurd cc
 
-  pub unlink_can : (T : Tree) (p : Plan) → Sound T → Gives (unlink_rule ro T a u) p → CanDo T p.edits
+  pub unlink_can : (T : Tree) (p : Plan) → Sound T → Gives (unlink_rule ro T a u) p → CanEdits T p.edits
   unlink_can T p sound (user, (touch, (touch', (d, at, (f, at_f, (is, (holder, (holder', (named, (empty, plan)))))))))) =
       let dir! : IsA Dir (get T.inodes d) = IsA_dir T d is in
       let links : ℕ = value_number (val T (At f LinksOf)) in
-      subst (λ (p : Plan). CanDo T p.edits) plan (record { can = ((dir!, tt), go d f at_f dir! (nat_le 2 links) refl); new = none_made (nat_le 2 links) u.file links f })
+      subst (λ (p : Plan). CanEdits T p.edits) plan ((dir!, tt), go d f at_f dir! (nat_le 2 links) refl)
     where
       go : (d f : Place) → body T u.file ≡ Some f → IsA Dir (get T.inodes d) → (b : Bool) → nat_le 2 (value_number (val T (At f LinksOf))) ≡ b → CanEdits (edit T (Inodes d (Named u.name None))) (if b then fewer_links (value_number (val T (At f LinksOf))) f else file_goes u.file f)
       go d f at_f dir! true many =
@@ -85,10 +87,13 @@ module _ (ro : Membership) (a : ℕ) (u : Unlink) where
           (((IsA_file (edit T (Inodes d (Named u.name None))) f (ap is_file_kind (kind_after_name T d u.name None f dir!) ∙ many_links T f ((sound.linked f).one) many), omega arith, omega arith), tt), tt)
       go d f at_f dir! false last = last_can T d f sound u.file at_f
 
-      none_made : (b : Bool) (file : FileId) (links : ℕ) (f : Place) → MakesNew T (if b then fewer_links links f else file_goes file f)
-      none_made true file links f = tt
-      none_made false (User v i) links f = tt
-      none_made false (Group g k) links f = tt
+pub unlink_new : (ro : Membership) (T : Tree) (a : ℕ) (u : Unlink) → OfEachPlan (PlanMakesNew T) (unlink_rule ro T a u)
+unlink_new ro T a u = λ d f. go (nat_le 2 (links_at T f)) u.file (links_at T f) f
+  where
+    go : (b : Bool) (file : FileId) (links : ℕ) (f : Place) → MakesNew T (if b then fewer_links links f else file_goes file f)
+    go true file links f = tt
+    go false (User v i) links f = tt
+    go false (Group g k) links f = tt
 
 pub unlink_row : (u : Unlink) → UnlinkRow u
 unlink_row u l d f = record { reads = refl; writes = ap (λ w. name_cell u.name d ∷ w) (go (nat_le 2 l) u.file) }

@@ -24,7 +24,7 @@ pub fn operations_are_local()
 pub fn kinds_change_whole()
     ensures kind { (ro : Membership) (T : Tree) (x : Action) (p : Place) → Sound T → is_none (why ro T x.author x.op) ≡ true
         → has (writes ro T x.author x.op) (At p KindOf) ≡ true → WholeOrNew T p (has (writes ro T x.author x.op)) }
-    ensures new { (ro : Membership) (T : Tree) (x : Action) → Sound T → is_none (why ro T x.author x.op) ≡ true
+    ensures new { (ro : Membership) (T : Tree) (x : Action) → is_none (why ro T x.author x.op) ≡ true
         → All (KindIsNew T) (writes ro T x.author x.op) }
     ensures block { (ro : Membership) (T : Tree) (x : Action) (p : Place) (n : ℕ) → Sound T → is_none (why ro T x.author x.op) ≡ true
         → has (writes ro T x.author x.op) (At p (BlockOf n)) ≡ true → KindOrFile T p (has (writes ro T x.author x.op)) }
