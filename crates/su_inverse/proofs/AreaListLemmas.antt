@@ -19,8 +19,8 @@ use Rattle.su_inverse.specs.declared.resets.Reset.TheVariants.{Nothing as Nothin
 use Rattle.su_inverse.specs.declared.contents.KeptSize.{KeptSize}
 use Rattle.su_inverse.specs.declared.contents.KeptBlocks.{KeptBlocks}
 use Rattle.su_inverse.specs.declared.inverses.Inverse.{Inverse}
-use Rattle.su_inverse.specs.Kept.{return_area, size_area, reset_area, blocks_area, areas_of, IsKeptOf, IsPutBack, HoldsReturn, HoldsReset, HoldsNothing, return_edit, reset_edits, nothing_edits}
-use Rattle.su_inverse.specs.Putting.{widened, left, AgreeBut, HoldsAll}
+use Rattle.su_inverse.specs.Kept.{return_area, size_area, reset_area, blocks_area, inverse_areas, IsKeptOf, IsPutBack, HoldsReturn, HoldsReset, HoldsNothing, return_edit, reset_edits, nothing_edits}
+use Rattle.su_inverse.specs.Remaining.{widened, left, AgreeOutside, HoldsAll}
 use Rattle.su_inverse.proofs.MixedLemmas.{IsClosed, MixedTree, back_name, back_links, back_gone, back_whole, back_none, back_pointer, back_no_blocks}
 
 or_same : (a b : Bool) → (a || b) ≡ false → (a ≡ false) × (b ≡ false)
@@ -156,19 +156,19 @@ has-widened (a ∷ w) c e =
     let (x, y) = or_same (in_area (widened a) c) (has (map widened w) c) e in
     ap (λ b. b || has w c) (in_wide a c x) ∙ has-widened w c y
 
-to_mixed : (w : List Area) (F T : Tree) → AgreeBut w F T → MixedTree (has w) F T
+to_mixed : (w : List Area) (F T : Tree) → AgreeOutside w F T → MixedTree (has w) F T
 to_mixed w F T m = record { each = m.each }
 
-to_agree : (w : List Area) (F T : Tree) → MixedTree (has w) F T → AgreeBut w F T
+to_agree : (w : List Area) (F T : Tree) → MixedTree (has w) F T → AgreeOutside w F T
 to_agree w F T m = record { each = m.each }
 
 -- something is brought back
-pub returned : (r : Return) (w : List Area) (F T : Tree) → HoldsReturn T r → AgreeBut (map widened (return_area r ∷ w)) F T → AgreeBut (map widened w) (edit F (return_edit r)) T
+pub returned : (r : Return) (w : List Area) (F T : Tree) → HoldsReturn T r → AgreeOutside (map widened (return_area r ∷ w)) F T → AgreeOutside (map widened w) (edit F (return_edit r)) T
 returned (InodeReturn p i) w F T held m = to_agree _ _ T (back_whole (has (map widened w)) F T p i held (to_mixed _ F T m))
 returned (NameReturn p x f) w F T held m = to_agree _ _ T (back_name (has (map widened w)) F T p x (Some f) (left_closed w) (sym held) (to_mixed _ F T m))
 returned (PointerReturn g p) w F T held m = to_agree _ _ T (back_pointer (has (map widened w)) F T g (Some p) (sym held) (to_mixed _ F T m))
 
-cleared : (a : Area) (w : List Area) (F T : Tree) → HoldsNothing T a → AgreeBut (map widened (a ∷ w)) F T → AgreeBut (map widened w) (edits F (nothing_edits a)) T
+cleared : (a : Area) (w : List Area) (F T : Tree) → HoldsNothing T a → AgreeOutside (map widened (a ∷ w)) F T → AgreeOutside (map widened w) (edits F (nothing_edits a)) T
 cleared (PointerArea g) w F T held m = to_agree _ _ T (back_pointer (has (map widened w)) F T g None (sym held) (to_mixed _ F T m))
 cleared (InodeArea p KindPart) w F T held m = to_agree _ _ T (back_gone (has (map widened w)) F T p held (to_mixed _ F T m))
 cleared (InodeArea p WholePart) w F T held m = to_agree _ _ T (back_gone (has (map widened w)) F T p held (to_mixed _ F T m))
@@ -178,13 +178,13 @@ cleared (InodeArea p SizePart) w F T held m = to_agree _ _ T (back_none (has (ma
 cleared (InodeArea p (BlocksPart r)) w F T held m = to_agree _ _ T (back_no_blocks (has (map widened w)) F T p r (left_closed w) held (to_mixed _ F T m))
 
 -- something is set again
-pub reset : (r : Reset) (w : List Area) (F T : Tree) → HoldsReset T r → AgreeBut (map widened (reset_area r ∷ w)) F T → AgreeBut (map widened w) (edits F (reset_edits r)) T
+pub reset : (r : Reset) (w : List Area) (F T : Tree) → HoldsReset T r → AgreeOutside (map widened (reset_area r ∷ w)) F T → AgreeOutside (map widened w) (edits F (reset_edits r)) T
 reset (NothingReset a) w F T held m = cleared a w F T held m
 reset (LinksReset p n) w F T held m = to_agree _ _ T (back_links (has (map widened w)) F T p n (left_closed w) held (to_mixed _ F T m))
 
 -- at first all areas are left
-pub left_over : (i : Inverse) (F T : Tree) → IsPutBack i F T → AgreeBut (left i.returns.items i) F T
-left_over i F T put = record { each = λ c out. put.others c (has-widened (areas_of i) c out) }
+pub left_over : (i : Inverse) (F T : Tree) → IsPutBack i F T → AgreeOutside (left i.returns.items i) F T
+left_over i F T put = record { each = λ c out. put.others c (has-widened (inverse_areas i) c out) }
 
 pub held_all : (i : Inverse) (T : Tree) → IsKeptOf i T → HoldsAll i T
 held_all i T kept = record { sizes = kept.sizes; resets = kept.resets; blocks = kept.blocks }

@@ -27,7 +27,7 @@ use Rattle.su_inverse.specs.declared.resets.Reset.TheVariants.{Nothing as Nothin
 use Rattle.su_inverse.specs.declared.contents.KeptSize.{KeptSize}
 use Rattle.su_inverse.specs.declared.contents.KeptBlocks.{KeptBlocks}
 use Rattle.su_inverse.specs.declared.inverses.Inverse.{Inverse}
-use Rattle.su_inverse.specs.Kept.{return_area, size_area, reset_area, blocks_area, areas_of, HoldsReturn, HoldsNothing, HoldsReset, HoldsSize, HoldsBlocks, IsKeptOf, HoldsSame}
+use Rattle.su_inverse.specs.Kept.{return_area, size_area, reset_area, blocks_area, inverse_areas, HoldsReturn, HoldsNothing, HoldsReset, HoldsSize, HoldsBlocks, IsKeptOf, HoldsSame}
 use Rattle.su_inverse.proofs.AreaListLemmas.{has-append}
 
 of_fewer : (w u : Cell → Bool) (S T : Tree) → ((c : Cell) → u c ≡ true → w c ≡ true) → HoldsSame w S T → HoldsSame u S T
@@ -175,7 +175,7 @@ blocks_again S T k same held =
 
 -- ---- all that is kept
 
-pub kept_again : (i : Inverse) (S T : Tree) → HoldsSame (has (areas_of i)) S T → IsKeptOf i S → IsKeptOf i T
+pub kept_again : (i : Inverse) (S T : Tree) → HoldsSame (has (inverse_areas i)) S T → IsKeptOf i S → IsKeptOf i T
 kept_again i S T same held =
     let rs = map return_area i.returns.items in
     let zs = map size_area i.sizes.items in

@@ -21,7 +21,7 @@ use Rattle.su_op.proofs.KeyLemmas.{place_eq-same, place_eq-itself, name_eq-same,
 use Rattle.su_op.proofs.BlockLemmas.{byte_same, block_same, block_value_same, length-with_size, get_or-with_size, length-with_bytes_at, get_or-written_in, get_or-written_before, get_or-written_after}
 use Rattle.su_op.proofs.InodeChangeLemmas.{number_same}
 use Rattle.su_op.proofs.EditLemmas.{tree_same}
-use Rattle.su_inverse.specs.Putting.{AgreeBut}
+use Rattle.su_inverse.specs.Remaining.{AgreeOutside}
 
 -- ---- of an inode
 
@@ -259,7 +259,7 @@ put_no_blocks r P o t k e m = record { each = each }
 -- ---- of a tree
 
 -- nothing is left: it is the tree
-pub all_back : (F T : Tree) → AgreeBut [] F T → F ≡ T
+pub all_back : (F T : Tree) → AgreeOutside [] F T → F ≡ T
 all_back F T m = tree_same F T (λ c. m.each c refl)
 
 -- a kind is left only with all of its inode

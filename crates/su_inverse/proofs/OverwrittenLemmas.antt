@@ -1,4 +1,4 @@
--- What is displaced by something that is brought back, and that there is room for it again.
+-- What is overwritten by something that is brought back, and that there is room for it again.
 use Rattle.std.proofs.Common.{◌≡◌, true, false, cond, Option, Some, None, sym, ap, ◌∙◌}
 use Rattle.std.specs.Option.{is_some}
 use Rattle.std.specs.FinMap.{get}
@@ -20,17 +20,17 @@ use Rattle.su_inverse.specs.declared.returns.Return.TheVariants.{Inode as InodeR
 use Rattle.su_inverse.specs.Kept.{return_edit}
 use Rattle.su_inverse.proofs.HeldLemmas.{pointer_in, name_there}
 
-pub displaced_inode : (T : Tree) (r : Return) (p : Place) (i : Inode) (o : Option Inode) → r ≡ InodeReturn p i → o ≡ get T.inodes p → Inodes p (restoring o) ≡ back T (return_edit r)
+pub overwritten_inode : (T : Tree) (r : Return) (p : Place) (i : Inode) (o : Option Inode) → r ≡ InodeReturn p i → o ≡ get T.inodes p → Inodes p (restoring o) ≡ back T (return_edit r)
 unfolding back
-displaced_inode T r p i o is was = ap (λ o. Inodes p (restoring o)) was ∙ sym (ap (λ r. back T (return_edit r)) is)
+overwritten_inode T r p i o is was = ap (λ o. Inodes p (restoring o)) was ∙ sym (ap (λ r. back T (return_edit r)) is)
 
-pub displaced_name : (T : Tree) (r : Return) (p : Place) (x y : Name) (f : FileId) (o : Option FileId) → r ≡ NameReturn p x f → y ≡ x → file_value o ≡ val T (At p (NameOf x)) → Inodes p (Named y o) ≡ back T (return_edit r)
+pub overwritten_name : (T : Tree) (r : Return) (p : Place) (x y : Name) (f : FileId) (o : Option FileId) → r ≡ NameReturn p x f → y ≡ x → file_value o ≡ val T (At p (NameOf x)) → Inodes p (Named y o) ≡ back T (return_edit r)
 unfolding back
-displaced_name T r p x y f o is same was = ap (λ y. Inodes p (Named y o)) same ∙ ap (λ o. Inodes p (Named x o)) (name_there T p x o was) ∙ sym (ap (λ r. back T (return_edit r)) is)
+overwritten_name T r p x y f o is same was = ap (λ y. Inodes p (Named y o)) same ∙ ap (λ o. Inodes p (Named x o)) (name_there T p x o was) ∙ sym (ap (λ r. back T (return_edit r)) is)
 
-pub displaced_pointer : (T : Tree) (r : Return) (g p : Place) (o : Option Place) → r ≡ PointerReturn g p → o ≡ body T (Group g.0 g.1) → Pointers g o ≡ back T (return_edit r)
+pub overwritten_pointer : (T : Tree) (r : Return) (g p : Place) (o : Option Place) → r ≡ PointerReturn g p → o ≡ body T (Group g.0 g.1) → Pointers g o ≡ back T (return_edit r)
 unfolding back
-displaced_pointer T r g p o is was = ap (Pointers g) (pointer_in T g.0 g.1 o was) ∙ sym (ap (λ r. back T (return_edit r)) is)
+overwritten_pointer T r g p o is was = ap (Pointers g) (pointer_in T g.0 g.1 o was) ∙ sym (ap (λ r. back T (return_edit r)) is)
 
 pub room_inode : (T : Tree) (r : Return) (p : Place) (i : Inode) → r ≡ InodeReturn p i → is_free_at (edit T (return_edit r)) p ≡ false
 room_inode T r p i is = ap (λ r. is_free_at (edit T (return_edit r)) p) is ∙ ap is_nothing (field_after T p (Copied i) KindOf)

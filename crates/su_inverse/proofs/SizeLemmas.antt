@@ -28,7 +28,7 @@ use Rattle.su_inverse.specs.declared.contents.KeptSize.{KeptSize}
 use Rattle.su_inverse.specs.declared.contents.KeptBlocks.{KeptBlocks}
 use Rattle.su_inverse.specs.declared.inverses.Inverse.{Inverse}
 use Rattle.su_inverse.specs.Kept.{size_area, reset_area, blocks_area, HoldsReset, HoldsSize, HoldsBlocks}
-use Rattle.su_inverse.specs.Putting.{widened, left, left_sizes, left_blocks, AgreeBut, HoldsAll, IsRoomy}
+use Rattle.su_inverse.specs.Remaining.{widened, left, left_sizes, left_blocks, AgreeOutside, HoldsAll, IsRoomy}
 use Rattle.su_inverse.proofs.MixedLemmas.{MixedTree, back_size, back_blocks, back_past}
 use Rattle.su_inverse.proofs.AreaListLemmas.{has-append}
 
@@ -252,11 +252,11 @@ cut_again F G H p n grown same cut kept = go (nat_le n (size_at F p)) refl
 -- ---- a size is put back
 
 -- where nothing but sizes and blocks is touched
-resized_agrees : (w : List Area) (F T : Tree) (p : Place) (s n : ℕ) → has w (At p KindOf) ≡ false → val T (At p SizeOf) ≡ ANumber n → AgreeBut (InodeArea p SizePart ∷ w) F T → AgreeBut w (edit F (Inodes p (Resized s n))) T
+resized_agrees : (w : List Area) (F T : Tree) (p : Place) (s n : ℕ) → has w (At p KindOf) ≡ false → val T (At p SizeOf) ≡ ANumber n → AgreeOutside (InodeArea p SizePart ∷ w) F T → AgreeOutside w (edit F (Inodes p (Resized s n))) T
 resized_agrees w F T p s n kind size m =
     let r = back_size (has w) F T p s n kind size (record { each = m.each }) in record { each = r.each }
 
-more_left : (a : Area) (w : List Area) (F T : Tree) → AgreeBut w F T → AgreeBut (a ∷ w) F T
+more_left : (a : Area) (w : List Area) (F T : Tree) → AgreeOutside w F T → AgreeOutside (a ∷ w) F T
 more_left a w F T m = record { each = λ c out. m.each c (last_false (in_area a c) (has w c) out) }
   where
     last_false : (a b : Bool) → (a || b) ≡ false → b ≡ false
@@ -286,12 +286,12 @@ roomy_step zs F T k s here room = record { each = λ q out. go q (place_eq q k.p
 -- a file is cut to its size
 pub size_cut : (i : Inverse) (zs : List KeptSize) (k : KeptSize) (F G T : Tree) → HoldsAll i T → HoldsSize T k
     → (k.size < size_at F k.place → G ≡ edit F (Inodes k.place (Resized (size_at F k.place) k.size))) → (size_at F k.place ≤ k.size → G ≡ F)
-    → AgreeBut (left_sizes (k ∷ zs) i) F T × IsRoomy [] F T → AgreeBut (left_sizes zs i) G T × IsRoomy [] G T
+    → AgreeOutside (left_sizes (k ∷ zs) i) F T × IsRoomy [] F T → AgreeOutside (left_sizes zs i) G T × IsRoomy [] G T
 size_cut i zs k F G T held size cut kept (agree, room) =
     let s = size_at F k.place in
     let enough : k.size ≤ s = subst (λ x. x ≤ size_at F k.place) (size_of_T T k size) (room.each k.place refl) in
     let is : G ≡ edit F (Inodes k.place (Resized s k.size)) = resized_is enough in (
-      subst (λ S. AgreeBut (left_sizes zs i) S T) (sym is) (resized_agrees (left_sizes zs i) F T k.place s k.size (kind_right T k zs i held size) size agree),
+      subst (λ S. AgreeOutside (left_sizes zs i) S T) (sym is) (resized_agrees (left_sizes zs i) F T k.place s k.size (kind_right T k zs i held size) size agree),
       subst (λ S. IsRoomy [] S T) (sym is) (roomy_step [] F T k s
           (subst (λ x. x ≤ size_at (edit F (Inodes k.place (Resized s k.size))) k.place) (sym (size_of_T T k size))
           (let a = length-edited F k.place s k.size in let b = length-size_at F k.place in let c : k.size ≤ length_of (inode_after (Resized s k.size) (get F.inodes k.place)) = longer_at (get F.inodes k.place) s k.size (omega (arith, b)) in omega (arith, a, c)))
@@ -322,7 +322,7 @@ file_grown (Some i) (Some j) s n lt kind size = go i.content j.content kind size
 
 pub size_grown : (i : Inverse) (zs : List KeptSize) (k : KeptSize) (F G T : Tree) → HoldsAll i T → HoldsSize T k
     → (size_at F k.place < k.size → G ≡ edit F (Inodes k.place (Resized (size_at F k.place) k.size))) → (k.size ≤ size_at F k.place → G ≡ F)
-    → AgreeBut (left [] i) F T → IsRoomy (k ∷ zs) F T → AgreeBut (left [] i) G T × IsRoomy zs G T
+    → AgreeOutside (left [] i) F T → IsRoomy (k ∷ zs) F T → AgreeOutside (left [] i) G T × IsRoomy zs G T
 unfolding val
 size_grown i zs k F G T held size grown kept agree room = go (nat_le k.size (size_at F k.place)) refl
   where
@@ -332,10 +332,10 @@ size_grown i zs k F G T held size grown kept agree room = go (nat_le k.size (siz
     right : has (left [] i) (At k.place KindOf) ≡ false
     right = kind_right T k i.sizes.items i held size
 
-    short : size_at F k.place < k.size → AgreeBut (left [] i) G T × IsRoomy zs G T
+    short : size_at F k.place < k.size → AgreeOutside (left [] i) G T × IsRoomy zs G T
     short lt =
         let is : G ≡ edit F (Inodes k.place (Resized (size_at F k.place) k.size)) = grown lt in (
-          subst (λ S. AgreeBut (left [] i) S T) (sym is) (resized_agrees (left [] i) F T k.place (size_at F k.place) k.size right size (more_left (InodeArea k.place SizePart) (left [] i) F T agree)),
+          subst (λ S. AgreeOutside (left [] i) S T) (sym is) (resized_agrees (left [] i) F T k.place (size_at F k.place) k.size right size (more_left (InodeArea k.place SizePart) (left [] i) F T agree)),
           subst (λ S. IsRoomy zs S T) (sym is) (roomy_step zs F T k (size_at F k.place)
               (subst (λ x. x ≤ size_at (edit F (Inodes k.place (Resized (size_at F k.place) k.size))) k.place) (sym (size_of_T T k size))
               (subst (λ x. k.size ≤ x) (sym (length-edited F k.place (size_at F k.place) k.size)) (at_place lt)))
@@ -345,16 +345,16 @@ size_grown i zs k F G T held size grown kept agree room = go (nat_le k.size (siz
         at_place : size_at F k.place < k.size → k.size ≤ length_of (inode_after (Resized (size_at F k.place) k.size) (get F.inodes k.place))
         at_place lt = file_grown (get F.inodes k.place) (get T.inodes k.place) (size_at F k.place) k.size lt (agree.each (At k.place KindOf) right) size
 
-    long : k.size ≤ size_at F k.place → AgreeBut (left [] i) G T × IsRoomy zs G T
+    long : k.size ≤ size_at F k.place → AgreeOutside (left [] i) G T × IsRoomy zs G T
     long le =
         let is : G ≡ F = kept le in
-        (subst (λ S. AgreeBut (left [] i) S T) (sym is) agree, subst (λ S. IsRoomy zs S T) (sym is) (record { each = λ q out. at q (place_eq q k.place) refl out }))
+        (subst (λ S. AgreeOutside (left [] i) S T) (sym is) agree, subst (λ S. IsRoomy zs S T) (sym is) (record { each = λ q out. at q (place_eq q k.place) refl out }))
       where
         at : (q : Place) (b : Bool) → place_eq q k.place ≡ b → has (map size_area zs) (At q SizeOf) ≡ false → size_at T q ≤ size_at F q
         at q true e out = subst (λ r. size_at T r ≤ size_at F r) (sym (place_eq-same q k.place e)) (subst (λ x. x ≤ size_at F k.place) (sym (size_of_T T k size)) le)
         at q false e out = room.each q (ap (λ b. (b && true) || has (map size_area zs) (At q SizeOf)) e ∙ out)
 
-    go : (b : Bool) → nat_le k.size (size_at F k.place) ≡ b → AgreeBut (left [] i) G T × IsRoomy zs G T
+    go : (b : Bool) → nat_le k.size (size_at F k.place) ≡ b → AgreeOutside (left [] i) G T × IsRoomy zs G T
     go true e = long (leb-true k.size (size_at F k.place) e)
     go false e = short (leb-false k.size (size_at F k.place) e)
 
@@ -372,7 +372,7 @@ wide_size p (k ∷ zs) e = go (wide_size p zs) (place_eq p k.place && true) e
     go later true e = absurd cc
     go later false e = later e
 
-pub first_roomy : (i : Inverse) (F T : Tree) → HoldsAll i T → AgreeBut (left [] i) F T → IsRoomy i.sizes.items F T
+pub first_roomy : (i : Inverse) (F T : Tree) → HoldsAll i T → AgreeOutside (left [] i) F T → IsRoomy i.sizes.items F T
 unfolding val
 first_roomy i F T held agree = record { each = λ p out. go p out (has (left [] i) (At p SizeOf)) refl }
   where
@@ -409,7 +409,7 @@ nil_or_more (x ∷ xs) none = omega arith
 
 pub blocks_back : (ks : List KeptBlocks) (k : KeptBlocks) (F G T : Tree) → HoldsBlocks T k
     → (0 < length k.bytes.items → 4096 * k.run.first + length k.bytes.items ≤ size_at F k.place → G ≡ edit F (Inodes k.place (Written (size_at F k.place) (4096 * k.run.first) k.bytes.items)))
-    → (k.bytes.items ≡ [] → G ≡ F) → AgreeBut (left_blocks (k ∷ ks)) F T → AgreeBut (left_blocks ks) G T
+    → (k.bytes.items ≡ [] → G ≡ F) → AgreeOutside (left_blocks (k ∷ ks)) F T → AgreeOutside (left_blocks ks) G T
 blocks_back ks k F G T held written none agree = go k.bytes.items refl
   where
     p : Place
@@ -427,13 +427,13 @@ blocks_back ks k F G T held written none agree = go k.bytes.items refl
     mixed : MixedTree (λ c. in_area (InodeArea k.place (BlocksPart k.run)) c || has (left_blocks ks) c) F T
     mixed = record { each = agree.each }
 
-    go : (xs : List ℕ) → k.bytes.items ≡ xs → AgreeBut (left_blocks ks) G T
+    go : (xs : List ℕ) → k.bytes.items ≡ xs → AgreeOutside (left_blocks ks) G T
     go [] is =
         let m = back_past (has (left_blocks ks)) F T k.place k.run kind size (held ∙ ap Some is) mixed in
-        subst (λ S. AgreeBut (left_blocks ks) S T) (sym (none is)) (record { each = m.each })
+        subst (λ S. AgreeOutside (left_blocks ks) S T) (sym (none is)) (record { each = m.each })
     go (x ∷ xs) is =
         let some : 0 < length k.bytes.items = subst (λ ys. 0 < length ys) (sym is) (omega arith) in
         let fit : 4096 * k.run.first + length k.bytes.items ≤ length_of (get T.inodes k.place) = fits (4096 * k.run.first) (4096 * (k.run.more + 1)) k.bytes.items (get T.inodes k.place) held some in
         let a = length-size_at T k.place in
         let m = back_blocks (has (left_blocks ks)) F T k.place (size_at F k.place) k.run k.bytes.items kind size held some mixed in
-        subst (λ S. AgreeBut (left_blocks ks) S T) (sym (written some (omega (arith, a, long, fit)))) (record { each = m.each })
+        subst (λ S. AgreeOutside (left_blocks ks) S T) (sym (written some (omega (arith, a, long, fit)))) (record { each = m.each })

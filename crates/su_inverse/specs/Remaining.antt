@@ -17,12 +17,12 @@ use Rattle.su_inverse.specs.declared.contents.KeptBlocks.{KeptBlocks}
 use Rattle.su_inverse.specs.declared.inverses.Inverse.{Inverse}
 use Rattle.su_inverse.specs.Kept.{return_area, size_area, reset_area, blocks_area, HoldsSize, HoldsReset, HoldsBlocks}
 
--- an inode's kind goes with all of it
+-- an inode that wasn't there goes as a whole, so the area of its kind becomes that of all its cells
 abbrev pub widened : Area → Area
 widened (InodeArea p KindPart) = InodeArea p WholePart
 widened a = a
 
--- the areas that are left to be put back: blocks; what is set; sizes; what is brought back
+-- the areas that are left to be put back, last steps first: blocks; links and absences; sizes; what is brought back
 abbrev pub left_blocks : List KeptBlocks → List Area
 left_blocks blocks = map widened (map blocks_area blocks)
 
@@ -33,10 +33,11 @@ abbrev pub left_sizes : List KeptSize → Inverse → List Area
 left_sizes sizes i = map widened (map size_area sizes ++ (map reset_area i.resets.items ++ map blocks_area i.blocks.items))
 
 abbrev pub left : List Return → Inverse → List Area
-left returns i = map widened (map return_area returns ++ (map size_area i.sizes.items ++ (map reset_area i.resets.items ++ map blocks_area i.blocks.items)))
+left returns i =
+    map widened (map return_area returns ++ (map size_area i.sizes.items ++ (map reset_area i.resets.items ++ map blocks_area i.blocks.items)))
 
--- F is T but for the areas
-pub record AgreeBut (w : List Area) (F : Tree) (T : Tree) : Type 0 where
+-- the trees have the same values in all cells outside the areas
+pub record AgreeOutside (w : List Area) (F : Tree) (T : Tree) : Type 0 where
   pub each : (c : Cell) → has w c ≡ false → val F c ≡ val T c
 
 -- T holds what takes no memory, once files are long enough
