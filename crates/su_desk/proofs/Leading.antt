@@ -15,7 +15,7 @@ use Rattle.su_op.specs.Operation.{why, effect, reads, writes}
 use Rattle.su_op.specs.Soundness.{Sound, KindOrFile}
 use Rattle.su_op.proofs.StoreLemmas.{store_lawful}
 use Rattle.su_op.proofs.SoundnessLemmas.{block_written}
-use Rattle.su_inverse.specs.Kept.{areas_of, IsPutBack}
+use Rattle.su_inverse.specs.Kept.{inverse_areas, IsPutBack}
 use Rattle.su_inverse.proofs.KeptLemmas.{kept_again}
 use Rattle.su_desk.specs.declared.entries.Entry.{Entry}
 use Rattle.su_desk.specs.declared.kept.KeptOperation.{KeptOperation}
@@ -144,7 +144,7 @@ module _ (ro : Membership) where
   -- what is kept of an operation fits the tree beside it too
   fits_beside : (S S' : Tree) (t : Turn) (k : KeptOperation) (w : List Area) → Beside ro w S S' t → Fits ro S t k → Fits ro S' t k
   fits_beside S S' t k w b fits =
-      let wrote : (c : Cell) → has (areas_of k.inverse) c ≡ true → has (writes ro S t.author t.op) c ≡ true = λ c is. ap (λ a. has a c) (sym fits.writes) ∙ sym (fits.areas c) ∙ is in
+      let wrote : (c : Cell) → has (inverse_areas k.inverse) c ≡ true → has (writes ro S t.author t.op) c ≡ true = λ c is. ap (λ a. has a c) (sym fits.writes) ∙ sym (fits.areas c) ∙ is in
       record {
         accepted = b.accepted';
         number = fits.number;
@@ -177,7 +177,7 @@ module _ (ro : Membership) where
       → UnreadBy ro h (writes_of ro h t) ts → TakenOut S ts ks k T
   first_out h S T t k ts ks sound s stand fits rest unread =
       let w = writes ro S t.author t.op in
-      let same : (c : Cell) → has (areas_of k.inverse) c ≡ has w c = λ c. fits.areas c ∙ ap (λ a. has a c) fits.writes in
+      let same : (c : Cell) → has (inverse_areas k.inverse) c ≡ has w c = λ c. fits.areas c ∙ ap (λ a. has a c) fits.writes in
       let b = past_it ro h w S T t ts sound s.stands refl stand (subst (λ a. UnreadBy ro h a ts) (sym s.stands.writes) unread) in
       let inside = stay_inside ro w (effect ro S t.author t.op) S ts b in
       let files = all_files_stay ro w (effect ro S t.author t.op) S ts b in

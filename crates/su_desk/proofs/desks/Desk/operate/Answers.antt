@@ -1,12 +1,9 @@
-use Rattle.su_bytes.specs.declared.refusals.Refusal.{Refusal}
-use Rattle.su_bytes.specs.declared.refusals.Refusal.TheVariants.{NoMemory}
-use Rattle.su_op.specs.declared.operations.Change.{Change}
-use Rattle.std.proofs.Common.{ℕ, ◌⊎◌, ⊎_elim, inl, Result, IsErrAnd, ◌≡◌, ◌∙◌, ◌+◌, ◌++◌, ◌∷◌, [], sym, refl, ap, subst, inr, Ok, Err, length, length-append, List, arith, take, drop, ◌<◌, ◌^◌}
+use Rattle.std.proofs.Common.{ℕ, ◌≡◌, ◌∙◌, ◌+◌, ◌++◌, ◌∷◌, [], sym, refl, ap, subst, inr, Ok, Err, length, length-append, List, arith, take, drop, ◌<◌, ◌^◌}
 use Rattle.su_op.specs.declared.operations.Change.TheVariants.{Do}
 use Rattle.su_op.specs.Area.{has}
 use Rattle.su_desk.specs.declared.entries.Entry.{Entry}
 use Rattle.su_desk.specs.Answer.{answer}
-use Rattle.su_desk.specs.Desk.{DeskState, Answers, with_entry}
+use Rattle.su_desk.specs.Desk.{DeskState, with_entry}
 use Rattle.su_desk.specs.Keeping.{Keeps}
 use Rattle.std.specs.Option.{unwrap_or}
 use Rattle.su_table.specs.Tree.{genesis}
@@ -26,20 +23,20 @@ invariant_of-self-2 c =
     let s = c.self.inside in
     let entries = c.push_reserved.ensures.items ∙ ap (λ h. h ++ record { author = c.args.author; change = Do c.args.op } ∷ []) c.in_ok-reserve.ensures.items in
     let kept = c.push_reserved-2.ensures.items ∙ ap (λ ks. ks ++ record { number = c.len-number.result; footprint = c.in_ok-footprint.footprint; inverse = c.in_ok-inverse.inverse } ∷ []) c.in_ok-reserve-2.ensures.items in
-    let accepted = c.in_ok-footprint.ensures.accepted in
+    let accepted = c.in-Ok.ensures.accepted in
     let number : c.len-number.result ≡ length s.entries.items + 1 = omega (arith, c.len-number.ensures, c.push_reserved.new.self.ok.0, ap length entries, length-append s.entries.items (record { author = c.args.author; change = Do c.args.op } ∷ [])) in
     let e : Entry = record { author = c.args.author; change = Do c.args.op } in
     let written : c.as_slice-2.result.now ≡ cells_of s.roster s.entries.items c.args.author (Do c.args.op)
-    = c.as_slice-2.ensures.value ∙ c.in_ok-footprint.ensures.writes ∙ ap (λ o. writes s.roster (unwrap_or o genesis) c.args.author c.args.op) (sym (tree_kept s.roster s.entries.items s.kept.items s.forest c.self.invariant.0)) in (
-      subst (λ h. Keeps s.roster h c.push_reserved-2.new.self.items c.apply.new.forest) (sym entries)
-          (subst (λ ks. Keeps s.roster (s.entries.items ++ record { author = c.args.author; change = Do c.args.op } ∷ []) ks c.apply.new.forest) (sym kept)
-          (subst (λ T. Keeps s.roster (s.entries.items ++ record { author = c.args.author; change = Do c.args.op } ∷ []) (s.kept.items ++ record { number = c.len-number.result; footprint = c.in_ok-footprint.footprint; inverse = c.in_ok-inverse.inverse } ∷ []) T) (sym c.in_ok-apply.ensures.done)
+    = c.as_slice-2.ensures.value ∙ c.in_ok-footprint.ensures.writes s.forest ∙ sym c.in-Ok.ensures.writes ∙ ap (λ o. writes s.roster (unwrap_or o genesis) c.args.author c.args.op) (sym (tree_kept s.roster s.entries.items s.kept.items s.forest c.self.invariant.0)) in (
+      subst (λ h. Keeps s.roster h c.push_reserved-2.new.self.items c.perform.new.forest) (sym entries)
+          (subst (λ ks. Keeps s.roster (s.entries.items ++ record { author = c.args.author; change = Do c.args.op } ∷ []) ks c.perform.new.forest) (sym kept)
+          (subst (λ T. Keeps s.roster (s.entries.items ++ record { author = c.args.author; change = Do c.args.op } ∷ []) (s.kept.items ++ record { number = c.len-number.result; footprint = c.in_ok-footprint.footprint; inverse = c.in_ok-inverse.inverse } ∷ []) T) (sym (c.in_ok-perform.ensures.ok ∙ sym c.in-Ok.ensures.effect))
           (keeps_do s.roster s.entries.items s.kept.items s.forest c.args.author c.args.op (record { number = c.len-number.result; footprint = c.in_ok-footprint.footprint; inverse = c.in_ok-inverse.inverse }) c.self.invariant.0
           (record {
             accepted = accepted;
             number = number;
-            reads = c.in_ok-footprint.ensures.reads;
-            writes = c.in_ok-footprint.ensures.writes;
+            reads = c.in_ok-footprint.ensures.reads s.forest ∙ sym c.in-Ok.ensures.reads;
+            writes = c.in_ok-footprint.ensures.writes s.forest ∙ sym c.in-Ok.ensures.writes;
             areas = λ x. c.in_ok-inverse.ensures.areas x ∙ ap (λ w. has w x) c.as_slice.ensures.value;
             kept = c.in_ok-inverse.ensures.kept;
           })))),
@@ -54,28 +51,20 @@ returns c =
     let number : length s.entries.items + 1 ≡ c.len-number.result = omega (arith, c.len-number.ensures, c.push_reserved.new.self.ok.0, ap length entries, length-append s.entries.items (record { author = c.args.author; change = Do c.args.op } ∷ [])) in
     let seen : List Entry → DeskState = λ h. record { roster = s.roster; history = h } in (
       subst (λ d. answer d.roster d.history c.args.author (Do c.args.op) ≡ Ok c.len-number.result) c.self.view_is
-          (answer_done _ _ _ _ (refusal_of-do s.roster s.entries.items s.forest c.args.author c.args.op (tree_kept _ _ _ _ c.self.invariant.0) ∙ c.in_ok-footprint.ensures.accepted) ∙ ap Ok number),
+          (answer_done _ _ _ _ (refusal_of-do s.roster s.entries.items s.forest c.args.author c.args.op (tree_kept _ _ _ _ c.self.invariant.0) ∙ c.in-Ok.ensures.accepted) ∙ ap Ok number),
       ap seen entries ∙ ap (λ d. with_entry d c.args.author (Do c.args.op)) c.self.view_is,
     )
 
 pub build-requires : goal.build-requires
 build-requires c =
     let s = c.self.inside in
-    subst (All (CanKeep s.forest)) (sym (c.as_slice.ensures.value ∙ c.in_ok-footprint.ensures.writes)) (writes_kept s.roster s.forest c.args.author c.args.op c.in_ok-footprint.ensures.accepted)
+    subst (All (CanKeep s.forest)) (sym (c.as_slice.ensures.value ∙ c.in_ok-footprint.ensures.writes s.forest ∙ sym c.in-Ok.ensures.writes)) (writes_kept s.roster s.forest c.args.author c.args.op c.in-Ok.ensures.accepted)
 
--- a refusal that is passed on
-passed_on : (d : DeskState) (a : ℕ) (c : Change) (r : Result ℕ Refusal) (x : Refusal) → IsErrAnd r (λ e. e ≡ x) → (x ≡ NoMemory) ⊎ (answer d.roster d.history a c ≡ Err x) → Answers d a c r d
-passed_on d a c (Ok n) x is why = absurd is
-passed_on d a c (Err e) x is why = (⊎_elim (λ m. inl (is ∙ m)) (λ f. inr (f ∙ ap Err (sym is))) why, refl)
-
-pub returns-in_err-footprint : goal.returns-in_err-footprint
-returns-in_err-footprint c =
+pub returns-in-Err : goal.returns-in-Err
+returns-in-Err c =
     let s = c.self.inside in
-    passed_on c.args.self.now c.args.author (Do c.args.op) c.from_residual.result c.in_err-footprint.field-0.0 c.from_residual.ensures.1
-    (⊎_elim (λ m. inl m)
-    (λ f. inr (subst (λ d. answer d.roster d.history c.args.author (Do c.args.op) ≡ Err c.in_err-footprint.field-0.0) c.self.view_is
-    (answer_refused _ _ _ _ _ (refusal_of-do s.roster s.entries.items s.forest c.args.author c.args.op (tree_kept _ _ _ _ c.self.invariant.0) ∙ f))))
-    c.in_err-footprint.ensures.refused)
+    (inr (subst (λ d. answer d.roster d.history c.args.author (Do c.args.op) ≡ Err c.in-Err.refusal) c.self.view_is
+    (answer_refused _ _ _ _ _ (refusal_of-do s.roster s.entries.items s.forest c.args.author c.args.op (tree_kept _ _ _ _ c.self.invariant.0) ∙ c.in-Err.ensures.refused))), refl)
 
 pub raise-requires : goal.raise-requires
 raise-requires c =
