@@ -13,10 +13,9 @@ use Rattle.su_op.specs.declared.operations.Change.TheVariants.{Do, Undo}
 use Rattle.su_op.specs.Area.{has}
 use Rattle.su_op.specs.Operation.{why, effect, reads, writes}
 use Rattle.su_op.specs.Soundness.{Sound, KindOrFile}
-use Rattle.su_op.proofs.StoreLemmas.{store_lawful}
-use Rattle.su_op.proofs.SoundnessLemmas.{block_written}
+use Rattle.su_op.proofs.Public.{store_lawful, block_written}
 use Rattle.su_inverse.specs.Kept.{inverse_areas, IsPutBack}
-use Rattle.su_inverse.proofs.KeptLemmas.{kept_again}
+use Rattle.su_inverse.proofs.Public.{kept_again}
 use Rattle.su_desk.specs.declared.entries.Entry.{Entry}
 use Rattle.su_desk.specs.declared.kept.KeptOperation.{KeptOperation}
 use Rattle.su_desk.specs.History.{Turn, live, live_numbers, replay, tree, entry_at, last_of, last_live}

@@ -14,8 +14,7 @@ use Rattle.su_op.specs.Operation.{why, effect, reads, writes}
 use Rattle.su_op.specs.Soundness.{Sound, WholeOrNew, KindOrFile}
 use Rattle.su_op.specs.System.{GoesAlike}
 use Rattle.su_op.specs.Store.{Action, store}
-use Rattle.su_op.proofs.StoreLemmas.{none_is, store_lawful}
-use Rattle.su_op.proofs.SoundnessLemmas.{kind_written, block_written}
+use Rattle.su_op.proofs.Public.{none_is, store_lawful, kind_written, block_written}
 use Rattle.su_desk.specs.declared.entries.Entry.{Entry}
 use Rattle.su_desk.specs.History.{Turn, replay}
 use Rattle.su_desk.specs.Applied.{writes_of}

@@ -11,7 +11,7 @@ use Rattle.su_op.specs.declared.operations.Change.{Change}
 use Rattle.su_op.specs.declared.operations.Change.TheVariants.{Do, Undo}
 use Rattle.su_op.specs.Operation.{why, effect}
 use Rattle.su_op.specs.Soundness.{Sound}
-use Rattle.su_op.proofs.StoreLemmas.{store_lawful}
+use Rattle.su_op.proofs.Public.{store_lawful}
 use Rattle.su_desk.specs.declared.entries.Entry.{Entry}
 use Rattle.su_desk.specs.History.{Turn, is_undone, live, replay, tree}
 use Rattle.su_desk.specs.Applied.{writes_of}

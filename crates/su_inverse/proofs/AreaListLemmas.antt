@@ -22,10 +22,7 @@ use Rattle.su_inverse.specs.declared.inverses.Inverse.{Inverse}
 use Rattle.su_inverse.specs.Kept.{return_area, size_area, reset_area, blocks_area, inverse_areas, IsKeptOf, IsPutBack, HoldsReturn, HoldsReset, HoldsNothing, return_edit, reset_edits, nothing_edits}
 use Rattle.su_inverse.specs.Remaining.{widened, left, AgreeOutside, HoldsAll}
 use Rattle.su_inverse.proofs.MixedLemmas.{IsClosed, MixedTree, back_name, back_links, back_gone, back_whole, back_none, back_pointer, back_no_blocks}
-
-or_same : (a b : Bool) → (a || b) ≡ false → (a ≡ false) × (b ≡ false)
-or_same true b e = absurd cc
-or_same false b e = (refl, e)
+use Rattle.std.proofs.lemmas.Bool.{or_parts}
 
 -- ---- one area more
 
@@ -153,7 +150,7 @@ in_wide (InodeArea q (BlocksPart r)) c e = e
 pub has-widened : (w : List Area) (c : Cell) → has (map widened w) c ≡ false → has w c ≡ false
 has-widened [] c e = refl
 has-widened (a ∷ w) c e =
-    let (x, y) = or_same (in_area (widened a) c) (has (map widened w) c) e in
+    let (x, y) = or_parts (in_area (widened a) c) (has (map widened w) c) e in
     ap (λ b. b || has w c) (in_wide a c x) ∙ has-widened w c y
 
 to_mixed : (w : List Area) (F T : Tree) → AgreeOutside w F T → MixedTree (has w) F T

@@ -10,8 +10,7 @@ use Rattle.su_op.specs.Area.{has}
 use Rattle.su_op.specs.Operation.{why, effect, writes}
 use Rattle.su_op.specs.Soundness.{Sound}
 use Rattle.su_op.specs.Store.{Action}
-use Rattle.su_op.proofs.SoundnessLemmas.{kinds_new}
-use Rattle.su_op.proofs.StoreLemmas.{store_lawful}
+use Rattle.su_op.proofs.Public.{kinds_new, store_lawful}
 use Rattle.su_inverse.specs.declared.inverses.Inverse.{Inverse}
 use Rattle.su_inverse.specs.Kept.{CanKeep, inverse_areas, IsKeptOf, IsPutBack}
 

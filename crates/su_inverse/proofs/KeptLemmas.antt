@@ -17,9 +17,7 @@ use Rattle.su_op.specs.declared.areas.BlockRun.{BlockRun}
 use Rattle.su_op.specs.declared.areas.Area.{Area}
 use Rattle.su_op.specs.declared.areas.Area.TheVariants.{Inode as InodeArea, Pointer as PointerArea}
 use Rattle.su_op.specs.Area.{in_part, in_area, has}
-use Rattle.su_op.proofs.KeyLemmas.{place_eq-itself, name_eq-itself}
-use Rattle.su_op.proofs.BlockLemmas.{block_value_same}
-use Rattle.su_op.proofs.InodeChangeLemmas.{inode_same}
+use Rattle.su_op.proofs.Public.{place_eq-itself, name_eq-itself, block_value_same, inode_same}
 use Rattle.su_inverse.specs.declared.returns.Return.{Return}
 use Rattle.su_inverse.specs.declared.returns.Return.TheVariants.{Inode as InodeReturn, Name as NameReturn, Pointer as PointerReturn}
 use Rattle.su_inverse.specs.declared.resets.Reset.{Reset}

@@ -5,3 +5,4 @@ pub mod OverwrittenLemmas
 pub mod SizeLemmas
 pub mod InverseLemmas
 pub mod KeptLemmas
+pub mod Public

@@ -17,10 +17,7 @@ use Rattle.su_op.specs.declared.areas.Part.TheVariants.{Links as LinksPart, Size
 use Rattle.su_op.specs.declared.areas.BlockRun.{BlockRun}
 use Rattle.su_op.specs.declared.areas.Area.TheVariants.{Inode as InodeArea, Pointer as PointerArea}
 use Rattle.su_op.specs.Area.{in_run, in_part, in_area}
-use Rattle.su_op.proofs.KeyLemmas.{place_eq-same, place_eq-itself, name_eq-same, get-set_place, get-set_name}
-use Rattle.su_op.proofs.BlockLemmas.{byte_same, block_same, block_value_same, length-with_size, get_or-with_size, length-with_bytes_at, get_or-written_in, get_or-written_before, get_or-written_after}
-use Rattle.su_op.proofs.InodeChangeLemmas.{number_same}
-use Rattle.su_op.proofs.EditLemmas.{tree_same}
+use Rattle.su_op.proofs.Public.{place_eq-same, place_eq-itself, name_eq-same, get-set_place, get-set_name, byte_same, block_same, block_value_same, length-with_size, get_or-with_size, length-with_bytes_at, get_or-written_in, get_or-written_before, get_or-written_after, number_same, tree_same}
 use Rattle.su_inverse.specs.Remaining.{AgreeOutside}
 
 -- ---- of an inode

@@ -13,8 +13,7 @@ use Rattle.su_table.specs.Tree.{Tree}
 use Rattle.su_table.specs.Cell.{Cell.At, Cell.Pointer, place_value, val}
 use Rattle.su_table.specs.Query.{is_nothing, is_free_at, is_name_free_at, body}
 use Rattle.su_table.specs.Edit.{Edit.Inodes, Edit.Pointers, edit, back, restoring}
-use Rattle.su_op.proofs.KeyLemmas.{get-set_name, name_eq-itself, place_eq-itself}
-use Rattle.su_op.proofs.EditLemmas.{field_after, pointer_is}
+use Rattle.su_op.proofs.Public.{get-set_name, name_eq-itself, place_eq-itself, field_after, pointer_is}
 use Rattle.su_inverse.specs.declared.returns.Return.{Return}
 use Rattle.su_inverse.specs.declared.returns.Return.TheVariants.{Inode as InodeReturn, Name as NameReturn, Pointer as PointerReturn}
 use Rattle.su_inverse.specs.Kept.{return_edit}

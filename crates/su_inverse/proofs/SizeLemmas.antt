@@ -8,20 +8,18 @@ use Rattle.std.specs.FinMap.{FinMap, get}
 use Rattle.su_node.specs.Inode.{Inode, Content, Content.Bytes, Content.Names, bytes_of, within}
 use Rattle.su_node.specs.Field.{Field, Field.KindOf, Field.SizeOf, Value.Nothing, Value.ANumber, field_value}
 use Rattle.su_node.specs.InodeChange.{InodeChange.Resized, InodeChange.Written, inode_after, with_size, set_key}
-use Rattle.su_node.proofs.Maps.{set_key-get, set_key-set_key}
+use Rattle.su_node.proofs.Public.{set_key-get, set_key-set_key}
 use Rattle.su_bytes.specs.Place.{Place, place_cmp, place_eq}
 use Rattle.su_table.specs.Tree.{Tree}
 use Rattle.su_table.specs.Cell.{Cell, Cell.At, val}
 use Rattle.su_table.specs.Query.{value_number, size_at}
 use Rattle.su_table.specs.Edit.{Edit.Inodes, edit}
-use Rattle.su_table.proofs.Places.{place_cmp_total, place_cmp_exact}
+use Rattle.su_table.proofs.Public.{place_cmp_total, place_cmp_exact}
 use Rattle.su_op.specs.declared.areas.Part.TheVariants.{Kind as KindPart, Links as LinksPart, Size as SizePart, Name as NamePart, Blocks as BlocksPart, Whole as WholePart}
 use Rattle.su_op.specs.declared.areas.Area.{Area}
 use Rattle.su_op.specs.declared.areas.Area.TheVariants.{Inode as InodeArea, Pointer as PointerArea}
 use Rattle.su_op.specs.Area.{in_area, has}
-use Rattle.su_op.proofs.KeyLemmas.{place_eq-same, place_eq-itself, get-set_place}
-use Rattle.su_op.proofs.BlockLemmas.{length-with_size, get_or-with_size, resized_same}
-use Rattle.su_op.proofs.InodeChangeLemmas.{number_same}
+use Rattle.su_op.proofs.Public.{place_eq-same, place_eq-itself, get-set_place, length-with_size, get_or-with_size, resized_same, number_same}
 use Rattle.su_inverse.specs.declared.resets.Reset.{Reset}
 use Rattle.su_inverse.specs.declared.resets.Reset.TheVariants.{Nothing as NothingReset, Links as LinksReset}
 use Rattle.su_inverse.specs.declared.contents.KeptSize.{KeptSize}
@@ -31,14 +29,11 @@ use Rattle.su_inverse.specs.Kept.{size_area, reset_area, blocks_area, HoldsReset
 use Rattle.su_inverse.specs.Remaining.{widened, left, left_sizes, left_blocks, AgreeOutside, HoldsAll, IsRoomy}
 use Rattle.su_inverse.proofs.MixedLemmas.{MixedTree, back_size, back_blocks, back_past}
 use Rattle.su_inverse.proofs.AreaListLemmas.{has-append}
+use Rattle.std.proofs.Math.Bool.{and-false}
 
 no_and : (b : Bool) → (b && false) ≡ true → ⊥
 no_and true e = absurd cc
 no_and false e = absurd cc
-
-and_false : (b : Bool) → (b && false) ≡ false
-and_false true = refl
-and_false false = refl
 
 -- ---- which cells are left
 
@@ -49,13 +44,13 @@ module _ {X : Type 0} (area : X → Area) (c : Cell) (none : (x : X) → in_area
   none_has (x ∷ xs) = ap (λ b. b || has (map widened (map area xs)) c) (none x) ∙ none_has xs
 
 size_no_kind : (p : Place) (k : KeptSize) → in_area (widened (size_area k)) (At p KindOf) ≡ false
-size_no_kind p k = and_false (place_eq p k.place)
+size_no_kind p k = and-false (place_eq p k.place)
 
 blocks_no_kind : (p : Place) (k : KeptBlocks) → in_area (widened (blocks_area k)) (At p KindOf) ≡ false
-blocks_no_kind p k = and_false (place_eq p k.place)
+blocks_no_kind p k = and-false (place_eq p k.place)
 
 blocks_no_size : (p : Place) (k : KeptBlocks) → in_area (widened (blocks_area k)) (At p SizeOf) ≡ false
-blocks_no_size p k = and_false (place_eq p k.place)
+blocks_no_size p k = and-false (place_eq p k.place)
 
 -- what is set leaves a kind or a size only where nothing stands
 module _ (T : Tree) (p : Place) where

@@ -12,7 +12,7 @@ use Rattle.su_op.specs.declared.areas.Area.{Area}
 use Rattle.su_op.specs.declared.areas.Area.TheVariants.{Inode as InodeArea, Pointer as PointerArea}
 use Rattle.su_op.specs.Area.{in_part, in_area, has, ShareACell, parts_overlap, overlaps, meet}
 use Rattle.su_op.proofs.KeyLemmas.{place_eq-same, place_eq-itself, name_eq-same, name_eq-itself}
-use Rattle.su_op.proofs.EditLemmas.{neither}
+use Rattle.std.proofs.lemmas.Bool.{or_parts}
 
 -- ---- areas that don't overlap share no cell
 
@@ -90,13 +90,13 @@ area_apart (InodeArea p a) (InodeArea q b) (At r f) out here = go (place_eq p q)
 one_apart : (a : Area) (w : List Area) (c : Cell) → list_any (overlaps a) w ≡ false → in_area a c ≡ true → has w c ≡ false
 one_apart a [] c out here = refl
 one_apart a (b ∷ w) c out here =
-    let (x, y) = neither (overlaps a b) (list_any (overlaps a) w) out in
+    let (x, y) = or_parts (overlaps a b) (list_any (overlaps a) w) out in
     ap (λ z. z || has w c) (area_apart a b c x here) ∙ one_apart a w c y here
 
 pub areas_apart : (u w : List Area) (c : Cell) → meet u w ≡ false → has u c ≡ true → has w c ≡ false
 areas_apart [] w c out here = absurd cc
 areas_apart (a ∷ u) w c out here =
-    let (first, rest) = neither (list_any (overlaps a) w) (meet u w) out in
+    let (first, rest) = or_parts (list_any (overlaps a) w) (meet u w) out in
     go first (areas_apart u w c rest) (in_area a c) refl here
   where
     go : list_any (overlaps a) w ≡ false → (has u c ≡ true → has w c ≡ false) → (b : Bool) → in_area a c ≡ b → (b || has u c) ≡ true → has w c ≡ false

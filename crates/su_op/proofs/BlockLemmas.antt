@@ -5,7 +5,7 @@ use Rattle.std.proofs.lemmas.Bool.{leb-true, leb-false}
 use Rattle.std.proofs.Math.Seq.{drop-nil}
 use Rattle.su_node.specs.Field.{block, block_value}
 use Rattle.su_node.specs.InodeChange.{with_size, with_bytes_at}
-pub use Rattle.su_node.proofs.Contents.{length-block, get_or-block, length-with_size, get_or-with_size, length-with_bytes_at, get_or-written_in, get_or-written_before, get_or-written_after}
+pub use Rattle.su_node.proofs.Public.{length-block, get_or-block, length-with_size, get_or-with_size, length-with_bytes_at, get_or-written_in, get_or-written_before, get_or-written_after}
 
 pub block-nil : (n : ℕ) → block n [] ≡ []
 unfolding block

@@ -20,6 +20,7 @@ use Rattle.su_op.specs.Soundness.{WellLinked, IsBodyOf, Sound}
 use Rattle.su_op.proofs.KeyLemmas.{get-set_place, same_places, place_eq-same, place_eq-itself}
 use Rattle.su_op.proofs.InodeChangeLemmas.{Can, leaves, alike, stays_linked, inode_same}
 use Rattle.su_table.specs.Query.{is_free_at}
+use Rattle.std.proofs.lemmas.Bool.{or_parts}
 
 -- no group file stands at p
 abbrev pub IsFree : Tree → Place → Type 0
@@ -47,10 +48,6 @@ abbrev pub MakesNew : Tree → List Edit → Type 0
 MakesNew T [] = Unit {0}
 MakesNew T (Inodes p (Made h k) ∷ es) = (is_free_at T p ≡ true) × MakesNew T es
 MakesNew T (e ∷ es) = MakesNew T es
-
-pub neither : (a b : Bool) → (a || b) ≡ false → (a ≡ false) × (b ≡ false)
-neither true b e = absurd cc
-neither false b e = (refl, e)
 
 pub has_parts : (p q : Place) (f : Field) (ps : List Part) → list_any (λ a. in_area a (At q f)) (map (InodeArea p) ps) ≡ (place_eq q p && list_any (λ a. in_part a f) ps)
 has_parts p q f [] = go (place_eq q p)
@@ -191,7 +188,7 @@ edit_sound T e can sound = record { linked = edit_linked T e can sound.linked; h
 -- ---- a list of edits
 
 pub has_none : (u w : List Area) (c : Cell) → has (u ++ w) c ≡ false → (has u c ≡ false) × (has w c ≡ false)
-has_none u w c e = neither (has u c) (has w c) (sym (list_any-append (λ a. in_area a c) u w) ∙ e)
+has_none u w c e = or_parts (has u c) (has w c) (sym (list_any-append (λ a. in_area a c) u w) ∙ e)
 
 pub edits_leave : (T : Tree) (es : List Edit) (c : Cell) → CanEdits T es → has (edits_areas es) c ≡ false → val (edits T es) c ≡ val T c
 edits_leave T [] c can out = refl

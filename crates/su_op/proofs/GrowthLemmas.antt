@@ -22,10 +22,9 @@ use Rattle.su_op.specs.Create.{create_plan}
 use Rattle.su_op.specs.declared.unlink.Unlink.{Unlink}
 use Rattle.su_op.specs.Unlink.{unlink_plan, link_goes, fewer_links, file_goes}
 use Rattle.su_op.specs.Growth.{AreFreeFor}
-use Rattle.su_node.proofs.Maps.{get-set_key, get-set_key_here, eq_by_cmp-same}
-use Rattle.su_table.proofs.TakenBack.{edit-back}
-use Rattle.su_node.proofs.NameOrder.{name_cmp_total}
-use Rattle.su_table.proofs.Places.{place_cmp_total, place_cmp_exact}
+use Rattle.su_node.proofs.Public.{get-set_key, get-set_key_here, eq_by_cmp-same, name_cmp_total}
+use Rattle.su_table.proofs.Public.{edit-back, place_cmp_total, place_cmp_exact}
+use Rattle.su_op.proofs.EditLemmas.{pointer_after}
 
 -- ---- values that are nothing
 
@@ -102,15 +101,6 @@ is_free_at-with_name T d x v p = kept_at (λ o. is_nothing (field_value o KindOf
 pub links_at-with_name : (T : Tree) (d : Place) (x : Name) (v : Option FileId) (p : Place) → links_at (edit T (Inodes d (Named x v))) p ≡ links_at T p
 unfolding val
 links_at-with_name T d x v p = kept_at (λ o. value_number (field_value o LinksOf)) T d (Named x v) p (named_keeps_links x v (get T.inodes d))
-
--- inodes and entries don't touch each other
-pub val-pointer_inodes : (T : Tree) (p : Place) (ch : InodeChange) (g : Place) → val (edit T (Inodes p ch)) (Pointer g) ≡ val T (Pointer g)
-unfolding val edit
-val-pointer_inodes T p ch g = refl
-
-pub get-inodes_pointers : (T : Tree) (g : Place) (v : Option Place) (q : Place) → get (edit T (Pointers g v)).inodes q ≡ get T.inodes q
-unfolding edit
-get-inodes_pointers T g v q = refl
 
 -- ---- taking back what was taken away
 
@@ -216,7 +206,7 @@ create_free T a c d name place pointer = (name, (is_free_at-with_name T d c.name
   where
     go : (f : FileId) → is_pointer_free T f ≡ true → AreFreeFor (edit (edit T (Inodes d (Named c.name (Some c.file)))) (Inodes (a, c.body) (Made c.file c.kind))) (pointer_edits f (Some (a, c.body)))
     go (User u i) e = tt
-    go (Group g k) e = (ap is_nothing (val-pointer_inodes (edit T (Inodes d (Named c.name (Some c.file)))) (a, c.body) (Made c.file c.kind) (g, k) ∙ val-pointer_inodes T d (Named c.name (Some c.file)) (g, k)) ∙ e, tt)
+    go (Group g k) e = (ap is_nothing (pointer_after (edit T (Inodes d (Named c.name (Some c.file)))) (a, c.body) (Made c.file c.kind) (g, k) ∙ pointer_after T d (Named c.name (Some c.file)) (g, k)) ∙ e, tt)
 
 -- ---- an unlink
 

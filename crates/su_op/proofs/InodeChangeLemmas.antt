@@ -17,6 +17,7 @@ use Rattle.su_op.specs.Footprint.{overwritten_parts, grown_parts, other_size_par
 use Rattle.su_op.specs.Soundness.{IsA, WellLinked}
 use Rattle.su_op.proofs.BlockLemmas.{block-nil, block_value_same, length-with_bytes_at, length-with_size, block_written_alike, block_resized_alike, outside, block_written_within, block_written_beyond, block_resized_outside, resized_same, bytes_same}
 use Rattle.su_op.proofs.KeyLemmas.{get-set_name, same_names}
+use Rattle.std.proofs.lemmas.Bool.{eqb-true}
 
 abbrev pub HasOneLink : Option Inode → Type 0
 HasOneLink o = IsA Dir o → field_value o LinksOf ≡ ANumber 1
@@ -33,9 +34,6 @@ Can Gone o = Unit {0}
 
 outside_run : (a b n : ℕ) → in_run (run a b) n ≡ false → (n < a) ⊎ (b < n)
 outside_run a b n e = ⊎_elim (λ l. inl l) (λ l. inr (omega arith)) (outside a (a + (b - a)) n e)
-
-number_is : (a b : ℕ) → nat_eq a b ≡ true → a ≡ b
-number_is a b e = grind arith
 
 or_no : (b : Bool) → (b || false) ≡ false → b ≡ false
 or_no true e = e
@@ -96,7 +94,7 @@ resized_leaves : (s t : ℕ) (c : Content) (f : Field) (h : FileId) (l : ℕ) �
 resized_leaves s t (Names m) f h l k size b is out = absurd cc
 resized_leaves s t (Bytes bs) f h l k size true is out =
     let e : length bs ≡ s = cc in
-    let d : s ≡ t = number_is s t is in
+    let d : s ≡ t = eqb-true s t is in
     ap (λ (b : List ℕ). content_value (Bytes b) l h f) (subst (λ z. with_size z bs ≡ bs) (e ∙ d) (resized_same bs))
 resized_leaves s t (Bytes bs) KindOf h l k size false is out = refl
 resized_leaves s t (Bytes bs) LinksOf h l k size false is out = refl

@@ -7,9 +7,8 @@ use Rattle.std.specs.FinMap.{FinMap, get, same_map}
 use Rattle.su_node.specs.Name.{Name, name_cmp, name_eq}
 use Rattle.su_bytes.specs.Place.{Place, place_cmp, place_eq}
 use Rattle.su_node.specs.InodeChange.{set_key}
-use Rattle.su_node.proofs.Maps.{get-set_key, eq_by_cmp-same}
-use Rattle.su_node.proofs.NameOrder.{name_cmp_total, name_cmp_exact}
-use Rattle.su_table.proofs.Places.{place_cmp_total, place_cmp_exact}
+use Rattle.su_node.proofs.Public.{get-set_key, eq_by_cmp-same, name_cmp_total, name_cmp_exact}
+use Rattle.su_table.proofs.Public.{place_cmp_total, place_cmp_exact}
 
 pub place_eq-same : (p q : Place) → place_eq p q ≡ true → p ≡ q
 unfolding place_eq

@@ -14,3 +14,4 @@ pub mod LinkLemmas
 pub mod RenameLemmas
 pub mod StoreLemmas
 pub mod SoundnessLemmas
+pub mod Public

@@ -1,6 +1,5 @@
 -- A link depends on the cells that it reads, and its edits can be made.
-use Rattle.std.proofs.Common.{◌≡◌, ℕ, ◌<◌, true, nat_lt, [], ◌∷◌, ◌++◌, Some, sym, ap, ◌∙◌, subst, arith}
-use Rattle.std.proofs.lemmas.Bool.Decides.{nat_tests}
+use Rattle.std.proofs.Common.{◌≡◌, ℕ, ◌<◌, nat_lt, [], ◌∷◌, ◌++◌, Some, sym, ap, ◌∙◌, subst, arith}
 use Rattle.std.specs.FinMap.{get}
 use Rattle.su_bytes.specs.Membership.{Membership}
 use Rattle.su_bytes.specs.declared.file_ids.Kind.TheVariants.{File, Dir}
@@ -22,9 +21,7 @@ use Rattle.su_op.proofs.RuleLemmas.{Gives, Agrees, left, right, later, kind_same
 use Rattle.su_op.specs.Link.{LinkRow}
 use Rattle.std.proofs.Common.{refl}
 use Rattle.su_op.proofs.RuleLemmas.{OfEachPlan, PlanMakesNew}
-
-less : (n m : ℕ) → nat_lt n m ≡ true → n < m
-less n m e = grind (arith, nat_tests)
+use Rattle.std.proofs.lemmas.Bool.{ltb-true}
 
 module _ (ro : Membership) (a : ℕ) (l : Link) where
   pub link_local : (T T' : Tree) (p : Plan) → Gives (link_rule ro T a l) p → Agrees (plan_reads p) T T' → Gives (link_rule ro T' a l) p
@@ -40,7 +37,7 @@ module _ (ro : Membership) (a : ℕ) (l : Link) where
   pub link_can : (T : Tree) (p : Plan) → Sound T → Gives (link_rule ro T a l) p → CanEdits T p.edits
   link_can T p sound (user, (touch, (touch', (d, at, (f, at_f, (is, (is_f, (holder, (holder', (new, (room, plan))))))))))) =
       let dir! : IsA Dir (get T.inodes d) = IsA_dir T d is in
-      let few : links_at T f < most_links = less (links_at T f) most_links room in
+      let few : links_at T f < most_links = ltb-true (links_at T f) most_links room in
       let file! : IsA File (get (edit T (Inodes d (Named l.name (Some l.file)))).inodes f) = IsA_file (edit T (Inodes d (Named l.name (Some l.file)))) f (ap is_file_kind (kind_after_name T d l.name (Some l.file) f dir!) ∙ is_f) in
       subst (λ (p : Plan). CanEdits T p.edits) plan ((dir!, tt), (((file!, omega arith, omega arith), tt), tt))
 

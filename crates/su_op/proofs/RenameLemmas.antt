@@ -105,10 +105,6 @@ module _ (T : Tree) (a : ℕ) (r : Rename) (m : Option Place) (d t : Place) (dir
   pub accepted_at : is_name_free_at T t r.new_ ≡ true → moves_directory T m ≡ false → refusal (rename_rule_at T a r m d t) ≡ None
   accepted_at new stay = passes _ _ _ dir_d ∙ passes _ _ _ dir_t ∙ passes _ _ _ holder_d ∙ passes _ _ _ holder_t ∙ passes _ _ _ named ∙ passes _ _ _ new ∙ passes _ _ _ (ap not stay)
 
-pub not_false : (b : Bool) → not b ≡ false → b ≡ true
-not_false true e = refl
-not_false false e = absurd cc
-
 pub rename_new : (ro : Membership) (T : Tree) (a : ℕ) (r : Rename) → OfEachPlan (PlanMakesNew T) (rename_rule ro T a r)
 rename_new ro T a r = λ d t. tt
 

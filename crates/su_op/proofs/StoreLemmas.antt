@@ -1,5 +1,5 @@
 -- The store is a lawful system: its operations are local, and keep its trees sound.
-use Rattle.std.proofs.Common.{◌≡◌, ℕ, Bool, true, false, cond, ◌||◌, Option, Some, None, refl, sym, ap, ◌∙◌, subst, arith}
+use Rattle.std.proofs.Common.{◌≡◌, ℕ, Bool, true, false, cond, Option, Some, None, refl, sym, ap, ◌∙◌, subst, arith}
 use Rattle.std.proofs.lemmas.List.Folds.{list_any-append}
 use Rattle.std.specs.Option.{is_none}
 use Rattle.std.specs.FinMap.{get, empty, get-empty}
@@ -39,6 +39,7 @@ use Rattle.su_op.specs.Truncate.{truncate_rule}
 use Rattle.su_op.specs.Take.{take_rule}
 use Rattle.su_op.specs.Link.{link_rule}
 use Rattle.su_op.specs.Rename.{rename_rule}
+use Rattle.std.proofs.lemmas.Bool.{or_right}
 
 -- ---- by cases over the operations
 
@@ -84,12 +85,8 @@ pub none_is : {A : Type 0} (o : Option A) → is_none o ≡ true → o ≡ None
 none_is None e = refl
 none_is (Some x) e = absurd cc
 
-or_true : (a b : Bool) → b ≡ true → (a || b) ≡ true
-or_true true b e = refl
-or_true false b e = e
-
 in_reads : (p : Plan) (c : Cell) → has (plan_writes p) c ≡ true → has (plan_reads p) c ≡ true
-in_reads p c e = list_any-append (λ a. in_area a c) p.reads (plan_writes p) ∙ or_true (has p.reads c) (has (plan_writes p) c) e
+in_reads p c e = list_any-append (λ a. in_area a c) p.reads (plan_writes p) ∙ or_right (has p.reads c) (has (plan_writes p) c) e
 
 module _ (ro : Membership) where
   given : (T : Tree) (x : Action) → is_none (why ro T x.author x.op) ≡ true → Gives (rule_of ro T x.author x.op) (plan_of (rule_of ro T x.author x.op))

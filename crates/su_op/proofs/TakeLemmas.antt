@@ -12,7 +12,7 @@ use Rattle.su_table.specs.Tree.{Tree}
 use Rattle.su_table.specs.Cell.{Cell.At, val}
 use Rattle.su_table.specs.Query.{is_nothing, is_free_at, body}
 use Rattle.su_table.specs.Edit.{Edit.Inodes, edit, back, restoring}
-use Rattle.su_table.proofs.TakenBack.{edit-back}
+use Rattle.su_table.proofs.Public.{edit-back}
 use Rattle.su_op.specs.declared.areas.Part.TheVariants.{Whole as WholePart}
 use Rattle.su_op.specs.declared.areas.Area.TheVariants.{Inode as InodeArea}
 use Rattle.su_op.specs.declared.take.Take.{Take}

@@ -1,13 +1,14 @@
-use Rattle.std.proofs.Common.{◌≡◌, ◌∙◌, sym, ap, refl, subst, length, List, [], ◌∷◌, Result, Ok, Err, OnOk, arith}
+use Rattle.std.proofs.Common.{◌≡◌, ◌∙◌, sym, ap, subst, ◌∷◌, Result, Ok, Err, OnOk}
 use Rattle.std.specs.List.{AllByRecursion}
 use Rattle.su_table.specs.Edit.{edit}
-use Rattle.su_table.proofs.TakenBack.{edit-back}
+use Rattle.su_table.proofs.Public.{edit-back}
 use Rattle.su_inverse.specs.Kept.{HoldsReturn, HoldsSize, return_edit}
 use Rattle.su_inverse.specs.Overwritten.{overwritten_edit}
 use Rattle.su_inverse.specs.Remaining.{left, AgreeOutside, IsRoomy}
 use Rattle.su_inverse.proofs.AreaListLemmas.{returned, all_areas}
 use Rattle.su_inverse.proofs.SizeLemmas.{first_roomy}
 use Rattle.su_inverse.proofs.inverses.+put_back.Goals as goal
+use Rattle.std.proofs.lemmas.List.{nil_from_length}
 
 pub returns-in-Err-clause-err : goal.returns-in-Err-clause-err
 returns-in-Err-clause-err t c =
@@ -27,10 +28,6 @@ returns-in_default-clause-ok t c T held all agree =
 OnOk-map : {X Y P Q : Type 0} (r : Result X Y) → (P → Q) → OnOk r P → OnOk r Q
 OnOk-map (Ok x) f p = f p
 OnOk-map (Err e) f p = tt
-
-nil_from_length : {A : Type 0} (xs : List A) → length xs ≡ 0 → xs ≡ []
-nil_from_length [] e = refl
-nil_from_length (x ∷ xs) e = absurd (omega arith)
 
 pub returns-in-None-clause-ok : goal.returns-in-None-clause-ok
 returns-in-None-clause-ok t c =

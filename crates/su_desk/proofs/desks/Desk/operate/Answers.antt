@@ -15,7 +15,7 @@ use Rattle.su_desk.proofs.Leading.{tree_kept, keeps_do}
 use Rattle.su_desk.proofs.Answering.{answer_done, answer_refused, refusal_of-do}
 use Rattle.std.specs.List.{All}
 use Rattle.su_inverse.specs.Kept.{CanKeep}
-use Rattle.su_inverse.proofs.InverseLemmas.{writes_kept}
+use Rattle.su_inverse.proofs.Public.{writes_kept}
 use Rattle.su_desk.proofs.desks.Desk.operate.Goals as goal
 
 pub invariant_of-self-2 : goal.invariant_of-self-2

@@ -1,6 +1,6 @@
 use Rattle.std.proofs.Common.{◌≡◌, ◌∙◌, ◌||◌, refl, ap, sym, None, true, false, cond, is_some}
 use Rattle.su_table.specs.Query.{body}
-use Rattle.su_table.proofs.Stores.{file_eq-derived}
+use Rattle.su_table.proofs.Public.{file_eq-derived}
 use Rattle.su_op.specs.Rename.{stays}
 use Rattle.su_op.proofs.rename.Rename.moved.Goals as goal
 
