@@ -99,7 +99,8 @@ pub record IsPutBack (i : Inverse) (F : Tree) (T : Tree) : Type 0 where
   pub kept : IsKeptOf i T
   pub others : (c : Cell) → has (inverse_areas i) c ≡ false → val F c ≡ val T c
 
--- T holds what S holds in these cells; and where a block is one of them, in both or in neither a file stands
+-- T holds what S holds in these cells; and where a block is one of them, in both or in neither a
+-- file stands
 pub record HoldsSame (w : Cell → Bool) (S : Tree) (T : Tree) : Type 0 where
   pub cells : (c : Cell) → w c ≡ true → val T c ≡ val S c
   pub files : (p : Place) (n : ℕ) → w (At p (BlockOf n)) ≡ true → is_file_at T p ≡ is_file_at S p

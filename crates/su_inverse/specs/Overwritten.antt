@@ -1,4 +1,5 @@
--- What was overwritten by something that was brought back, so that it can be put back if a later step fails.
+-- What was overwritten by something that was brought back, so that it can be put back if a later
+-- step fails.
 use Rattle.std.specs.Prelude.{◌≡◌, true, false, is_some}
 use Rattle.su_node.specs.InodeChange.{InodeChange.Named}
 use Rattle.su_table.specs.Tree.{Tree}

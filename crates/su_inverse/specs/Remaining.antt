@@ -22,7 +22,8 @@ abbrev pub widened : Area → Area
 widened (InodeArea p KindPart) = InodeArea p WholePart
 widened a = a
 
--- the areas that are left to be put back, last steps first: blocks; links and absences; sizes; what is brought back
+-- the areas that are left to be put back, last steps first: blocks; links and absences; sizes; what
+-- is brought back
 abbrev pub left_blocks : List KeptBlocks → List Area
 left_blocks blocks = map widened (map blocks_area blocks)
 

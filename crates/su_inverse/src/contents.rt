@@ -41,7 +41,8 @@ impl KeptBlocks {
     }
 }
 
-/// Lengthens the file at `place` to `size` bytes, if it has fewer. Fails only with `NoMemory`, and then changes nothing.
+/// Lengthens the file at `place` to `size` bytes, if it has fewer. Fails only with `NoMemory`, and
+/// then changes nothing.
 pub(crate) fn grow(forest: &mut Forest, place: &Place, size: u32) -> Result<(), Refusal>
     ensures grown { OnOk result (size_at forest.old place.now < size
         → forest.new ≡ edit forest.old (size_edit forest.old place.now size)) }

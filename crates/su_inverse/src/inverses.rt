@@ -22,8 +22,9 @@ use su_node::{BLOCK_SIZE, Inode};
 use su_op::{Area, BlockRun, Part};
 use su_table::Forest;
 
-/// The values that the cells of some areas held, in four lists by how they are put back. The lists are private: what they
-/// come to is told by `undo_on` with `undo_after_apply` and `kept_of_trees_alike`, in terms of the cells of trees.
+/// The values that the cells of some areas held, in four lists by how they are put back. The lists
+/// are private: what they come to is told by `undo_on` with `undo_after_apply` and
+/// `kept_of_trees_alike`, in terms of the cells of trees.
 #[derive(Drop)]
 pub struct Inverse {
     returns: Vec<Return>,
@@ -41,11 +42,12 @@ enum Kept {
     Blocks(KeptBlocks),
 }
 
-/// Keeps the value of every cell of the areas. A kind can be kept only of a place where nothing stands. Fails only with
-/// `NoMemory`.
+/// Keeps the value of every cell of the areas. A kind can be kept only of a place where nothing
+/// stands. Fails only with `NoMemory`.
 pub fn build(alloc: Global, forest: &Forest, areas: &[Area]) -> Result<Inverse, Refusal>
     requires { All (CanKeep forest.now) areas.now }
-    ensures areas { IfOk result (λ inverse. (c : Cell) → has (inverse_areas inverse) c ≡ has areas.now c) }
+    ensures areas { IfOk result (λ inverse.
+        (c : Cell) → has (inverse_areas inverse) c ≡ has areas.now c) }
     ensures kept { IfOk result (λ inverse. IsKeptOf inverse forest.now) }
     ensures refused { IfErr result (λ e. e ≡ NoMemory) }
 {
@@ -62,7 +64,8 @@ pub fn build(alloc: Global, forest: &Forest, areas: &[Area]) -> Result<Inverse, 
 }
 
 impl Inverse {
-    /// Puts the kept values back, and leaves all other cells. Fails only with `NoMemory`, and then changes nothing.
+    /// Puts the kept values back, and leaves all other cells. Fails only with `NoMemory`, and then
+    /// changes nothing.
     pub fn undo_on(&self, forest: &mut Forest) -> Result<(), Refusal>
         ensures ok { OnOk result ((T : Tree) → IsPutBack self.now forest.old T → forest.new ≡ T) }
         ensures refused { IfErr result (λ e. e ≡ NoMemory) }
@@ -74,8 +77,10 @@ impl Inverse {
     /// Adds what one area more held. Fails only with `NoMemory`.
     fn add(&mut self, kept: Kept) -> Result<(), Refusal>
         ensures areas { OnOk result ((c : Cell)
-            → has (inverse_areas self.new) c ≡ (has (inverse_areas self.old) c || in_area (kept_area kept) c)) }
-        ensures kept { OnOk result ((T : Tree) → IsKeptOf self.old T → HoldsKept T kept → IsKeptOf self.new T) }
+            → has (inverse_areas self.new) c
+            ≡ (has (inverse_areas self.old) c || in_area (kept_area kept) c)) }
+        ensures kept { OnOk result ((T : Tree) → IsKeptOf self.old T → HoldsKept T kept
+            → IsKeptOf self.new T) }
         ensures refused { IfErr result (λ e. e ≡ NoMemory) }
     {
         match kept {
@@ -87,7 +92,8 @@ impl Inverse {
         Ok(())
     }
 
-    /// Cuts files to their sizes, and restores links, absences and blocks. Takes no memory, once each file is long enough.
+    /// Cuts files to their sizes, and restores links, absences and blocks. Takes no memory, once
+    /// each file is long enough.
     fn finish(&self, forest: &mut Forest)
         ensures { (T : Tree) → HoldsAll self.now T → AgreeOutside (left [] self.now) forest.old T
             → IsRoomy [] forest.old T → forest.new ≡ T }
@@ -101,7 +107,8 @@ impl Inverse {
     /// Restores links and absences, and then blocks. Takes no memory.
     fn set(&self, forest: &mut Forest)
         ensures { (T : Tree) → HoldsAll self.now T
-            → AgreeOutside (left_resets self.now.resets.items self.now.blocks.items) forest.old T → forest.new ≡ T }
+            → AgreeOutside (left_resets self.now.resets.items self.now.blocks.items) forest.old T
+            → forest.new ≡ T }
     {
         for reset in &self.resets {
             reset.set(forest);
@@ -167,7 +174,8 @@ fn nothing(area: &Area) -> Result<Kept, Refusal>
 /// Finds the bytes of a run of blocks. Fails only with `NoMemory`.
 fn keep_blocks(place: Place, inode: &Inode, run: BlockRun) -> Result<Kept, Refusal>
     ensures area { IfOk result (λ kept. kept_area kept ≡ InodeArea place (BlocksPart run)) }
-    ensures holds { IfOk result (λ kept. (T : Tree) → get T.inodes place ≡ Some inode.now → HoldsKept T kept) }
+    ensures holds { IfOk result (λ kept.
+        (T : Tree) → get T.inodes place ≡ Some inode.now → HoldsKept T kept) }
     ensures refused { IfErr result (λ e. e ≡ NoMemory) }
 {
     let first = run.first as u64;
@@ -178,9 +186,11 @@ fn keep_blocks(place: Place, inode: &Inode, run: BlockRun) -> Result<Kept, Refus
     }
 }
 
-/// Restores these, and then the rest. Fails only with `NoMemory`, and then takes back what it restored.
+/// Restores these, and then the rest. Fails only with `NoMemory`, and then takes back what it
+/// restored.
 fn put_back(returns: &[Return], inverse: &Inverse, forest: &mut Forest) -> Result<(), Refusal>
-    ensures ok { OnOk result ((T : Tree) → AllByRecursion (HoldsReturn T) returns.now → HoldsAll inverse.now T
+    ensures ok { OnOk result ((T : Tree) → AllByRecursion (HoldsReturn T) returns.now
+        → HoldsAll inverse.now T
         → AgreeOutside (left returns.now inverse.now) forest.old T → forest.new ≡ T) }
     ensures refused { IfErr result (λ e. e ≡ NoMemory) }
     ensures err { OnErr result (forest.new ≡ forest.old) }
@@ -198,10 +208,13 @@ fn put_back(returns: &[Return], inverse: &Inverse, forest: &mut Forest) -> Resul
     }
 }
 
-/// Lengthens these files to their sizes, and then restores the rest. Fails only with `NoMemory`, and then cuts them again.
+/// Lengthens these files to their sizes, and then restores the rest. Fails only with `NoMemory`,
+/// and then cuts them again.
 fn lengthen(sizes: &[KeptSize], inverse: &Inverse, forest: &mut Forest) -> Result<(), Refusal>
-    ensures ok { OnOk result ((T : Tree) → AllByRecursion (HoldsSize T) sizes.now → HoldsAll inverse.now T
-        → AgreeOutside (left [] inverse.now) forest.old T → IsRoomy sizes.now forest.old T → forest.new ≡ T) }
+    ensures ok { OnOk result ((T : Tree) → AllByRecursion (HoldsSize T) sizes.now
+        → HoldsAll inverse.now T
+        → AgreeOutside (left [] inverse.now) forest.old T → IsRoomy sizes.now forest.old T
+        → forest.new ≡ T) }
     ensures refused { IfErr result (λ e. e ≡ NoMemory) }
     ensures err { OnErr result (forest.new ≡ forest.old) }
 {

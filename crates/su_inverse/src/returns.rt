@@ -1,4 +1,5 @@
-// What is brought back to where it stood. This may take memory, and is rolled back if a later step fails.
+// What is brought back to where it stood. This may take memory, and is rolled back if a later step
+// fails.
 ghost use Rattle.std.specs.Prelude.{◌≡◌, true, false, IfOk, IfErr, OnOk, OnErr};
 ghost use Rattle.std.specs.Option.{is_some};
 ghost use Rattle.su_node.specs.Field.{Field.NameOf, file_value};
@@ -33,11 +34,14 @@ pub(crate) enum Overwritten {
 }
 
 impl Return {
-    /// Brings it back, and returns what that overwrote. Fails only with `NoMemory`, and then changes nothing.
+    /// Brings it back, and returns what that overwrote. Fails only with `NoMemory`, and then
+    /// changes nothing.
     pub(crate) fn bring_back(&self, forest: &mut Forest) -> Result<Overwritten, Refusal>
         ensures ok { OnOk result (forest.new ≡ edit forest.old (return_edit self.now)) }
-        ensures overwritten { IfOk result (λ overwritten. overwritten_edit overwritten ≡ back forest.old (return_edit self.now)) }
-        ensures room { IfOk result (λ overwritten. HasRoom overwritten (edit forest.old (return_edit self.now))) }
+        ensures overwritten { IfOk result (λ overwritten.
+            overwritten_edit overwritten ≡ back forest.old (return_edit self.now)) }
+        ensures room { IfOk result (λ overwritten.
+            HasRoom overwritten (edit forest.old (return_edit self.now))) }
         ensures refused { IfErr result (λ e. e ≡ NoMemory) }
         ensures err { OnErr result (forest.new ≡ forest.old) }
     {

@@ -1,4 +1,5 @@
--- Areas: sets of cells that stand together. Of one inode one cell, a run of blocks, or all; or the pointer of a group file.
+-- Areas: sets of cells that stand together. Of one inode one cell, a run of blocks, or all; or the
+-- pointer of a group file.
 use Rattle.std.specs.Prelude.{◌≡◌, ℕ, ◌+◌, ◌-◌, ◌/◌, Bool, true, false, ◌&&◌, List, nat_le}
 use Rattle.std.specs.List.{list_any}
 use Rattle.su_node.specs.Name.{name_eq}
@@ -15,7 +16,8 @@ use Rattle.su_op.specs.declared.areas.Area.TheVariants.{Inode as InodeArea, Poin
 
 -- ---- areas by their cells
 
--- of what stands at p: its kind with its home, its links, its size, one of its names, or all of its cells
+-- of what stands at p: its kind with its home, its links, its size, one of its names, or all of its
+-- cells
 abbrev pub kind_cell : Place → Area
 kind_cell p = InodeArea p KindPart
 

@@ -1,4 +1,5 @@
--- A create by user a: a new empty file or directory at (a, body), for which a directory gets a name.
+-- A create by user a: a new empty file or directory at (a, body), for which a directory gets a
+-- name.
 use Rattle.std.specs.Prelude.{ℕ, Bool, true, ◌&&◌, List, ◌∷◌, Some, nat_eq}
 use Rattle.su_bytes.specs.declared.file_ids.FileId.{FileId}
 use Rattle.su_bytes.specs.declared.file_ids.FileId.TheVariants.{User, Group}
@@ -54,8 +55,8 @@ added_file_edits x =
 abbrev pub CreateFits : Tree → AcceptedCreate → Type 0
 CreateFits T x = AreFreeFor T (accepted_create_plan x).edits
 
--- reads the directory's kind and pointer; writes the name at the directory, kind, links and size of the new inode, and the
--- new file's pointer
+-- reads the directory's kind and pointer; writes the name at the directory, kind, links and size of
+-- the new inode, and the new file's pointer
 abbrev pub CreateRow : Create → Type 0
 CreateRow c = (a : ℕ) (d : Place) → HasRow (create_plan a c d)
     (kind_cell d ∷ pointer_areas c.dir)

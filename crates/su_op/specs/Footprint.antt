@@ -12,7 +12,8 @@ use Rattle.su_op.specs.Area.{blocks_between}
 abbrev pub overwritten_parts : ℕ → ℕ → List Part
 overwritten_parts off end = BlocksPart (blocks_between off end) ∷ []
 
--- a write by which the file grows: the size, and the blocks from the old end or the offset, whichever is less
+-- a write by which the file grows: the size, and the blocks from the old end or the offset,
+-- whichever is less
 abbrev pub grown_parts : ℕ → ℕ → ℕ → List Part
 grown_parts size off end = SizePart ∷ BlocksPart (blocks_between (min off size) end) ∷ []
 

@@ -13,7 +13,8 @@ use Rattle.su_op.specs.Area.{kind_cell, links_cell, name_cell}
 use Rattle.su_op.specs.Limits.{most_links}
 use Rattle.su_op.specs.Rule.{Plan, HasRow, Rule, Rule.Accept, Rule.Demand, Rule.Find, may_touch, group_of, pointer_areas, file_areas}
 
--- of a file with that many links, at place f: the directory at place d gets the name, and the file has one link more
+-- of a file with that many links, at place f: the directory at place d gets the name, and the file
+-- has one link more
 abbrev pub link_plan : ℕ → Link → Place → Place → Plan
 link_plan links l d f = record {
   reads = file_areas l.dir d ++ file_areas l.file f;
@@ -44,7 +45,8 @@ accepted_link_plan x = link_plan x.links x.link.now x.directory x.place
 abbrev pub LinkFits : Tree → AcceptedLink → Type 0
 LinkFits T x = links_at T x.place ≡ x.links
 
--- reads kind and pointer of the directory and of the file; writes the name at the directory, and the file's links
+-- reads kind and pointer of the directory and of the file; writes the name at the directory, and
+-- the file's links
 abbrev pub LinkRow : Link → Type 0
 LinkRow l = (links : ℕ) (d f : Place) → HasRow (link_plan links l d f)
     (kind_cell d ∷ pointer_areas l.dir ++ kind_cell f ∷ pointer_areas l.file)

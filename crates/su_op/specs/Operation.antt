@@ -48,8 +48,8 @@ StillFits T (accepted.Take x) = TakeFits T x
 StillFits T (accepted.Link x) = LinkFits T x
 StillFits T (accepted.Rename x) = ⊤
 
--- The table of cells, by operations: what each reads besides what it writes, and what it writes. The places are those of the
--- bodies of the files that it names.
+-- The table of cells, by operations: what each reads besides what it writes, and what it writes.
+-- The places are those of the bodies of the files that it names.
 abbrev pub Row : Op → Type 0
 Row (Create c) = CreateRow c
 Row (Unlink u) = UnlinkRow u
@@ -65,8 +65,8 @@ Row (Rename r) = RenameRow r
 unfoldable pub why : Membership → Tree → ℕ → Op → Option Refusal
 why ro T a op = refusal (rule_of ro T a op)
 
--- Of an accepted operation: the tree after it, the cells that it reads, and those that it writes. These say nothing where
--- `why` is a refusal.
+-- Of an accepted operation: the tree after it, the cells that it reads, and those that it writes.
+-- These say nothing where `why` is a refusal.
 unfoldable pub effect : Membership → Tree → ℕ → Op → Tree
 effect ro T a op = edits T (plan_of (rule_of ro T a op)).edits
 

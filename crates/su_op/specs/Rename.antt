@@ -1,4 +1,5 @@
--- A rename by user a: a file gets another name, in the directory that has it or in another one, and loses the old name.
+-- A rename by user a: a file gets another name, in the directory that has it or in another one, and
+-- loses the old name.
 use Rattle.std.specs.Prelude.{ℕ, Bool, false, not, ◌||◌, List, [], ◌∷◌, ◌++◌, Option, Some, None, is_some, nat_eq, if◌then◌else◌}
 use Rattle.su_bytes.specs.declared.file_ids.FileId.{FileId}
 use Rattle.su_bytes.specs.declared.refusals.Refusal.TheVariants.{NoUser, NotMember, NoFile, WrongKind, NotHolder, NoName, Exists, DirMove}
@@ -66,8 +67,9 @@ rename_rule ro T a r =
 abbrev pub accepted_rename_plan : AcceptedRename → Plan
 accepted_rename_plan x = rename_plan x.moved x.rename.now x.source x.target
 
--- reads kind and pointer of both directories, and of the file where it goes from one to the other (then `moved` is its place);
--- writes the new name at the directory that gets it, and the old name at the directory that loses it
+-- reads kind and pointer of both directories, and of the file where it goes from one to the other
+-- (then `moved` is its place); writes the new name at the directory that gets it, and the old name
+-- at the directory that loses it
 abbrev pub RenameRow : Rename → Type 0
 RenameRow r = (moved : Option Place) (d t : Place) → HasRow (rename_plan moved r d t)
     (kind_cell d ∷ pointer_areas r.from_ ++ kind_cell t ∷ pointer_areas r.to_ ++ moved_areas r.file moved)

@@ -1,4 +1,5 @@
--- How an operation is defined: its checks in their order, and the edits that it makes where they all pass.
+-- How an operation is defined: its checks in their order, and the edits that it makes where they
+-- all pass.
 use Rattle.std.specs.Prelude.{◌≡◌, ℕ, Bool, true, false, List, [], ◌∷◌, ◌++◌, Option, Some, None}
 use Rattle.su_bytes.specs.declared.file_ids.FileId.{FileId}
 use Rattle.su_bytes.specs.declared.file_ids.FileId.TheVariants.{User, Group}

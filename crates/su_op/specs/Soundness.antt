@@ -29,7 +29,8 @@ pub record WellLinked (o : Option Inode) : Type 0 where
 abbrev pub IsBodyOf : Tree → Place → Place → Type 0
 IsBodyOf T g p = (k : Kind) × (val T (At p KindOf) ≡ AKind k (Group g.0 g.1))
 
--- links are in their range, and each group's pointer points at an inode that was made for that group file
+-- links are in their range, and each group's pointer points at an inode that was made for that
+-- group file
 pub record Sound (T : Tree) : Type 0 where
   pub linked : (p : Place) → WellLinked (get T.inodes p)
   pub homes : (g p : Place) → val T (Pointer g) ≡ APlace p → IsBodyOf T g p

@@ -1,4 +1,5 @@
--- A take by user a: the inode of a group file that another user holds is copied to (a, body), and the group's pointer points there.
+-- A take by user a: the inode of a group file that another user holds is copied to (a, body), and
+-- the group's pointer points there.
 use Rattle.std.specs.Prelude.{◌≡◌, ℕ, Bool, true, false, not, ◌&&◌, ◌∷◌, Option, Some, None, nat_eq}
 use Rattle.std.specs.FinMap.{get}
 use Rattle.su_bytes.specs.declared.file_ids.FileId.{FileId}
@@ -50,7 +51,8 @@ accepted_take_plan T x = take_plan (get T.inodes x.place) x.author x.take.now x.
 abbrev pub TakeFits : Tree → AcceptedTake → Type 0
 TakeFits T x = is_free_at T (x.author, x.take.now.body) ≡ true
 
--- reads kind and pointer of the file, and all of its old body; writes all of the new body, and the pointer
+-- reads kind and pointer of the file, and all of its old body; writes all of the new body, and the
+-- pointer
 abbrev pub TakeRow : Take → Type 0
 TakeRow t = (o : Option Inode) (a : ℕ) (f : Place) → HasRow (take_plan o a t f)
     (all_cells f ∷ kind_cell f ∷ pointer_areas t.file)

@@ -39,7 +39,8 @@ accepted_truncate_plan x = truncate_plan x.size x.truncate.now x.place
 abbrev pub TruncateFits : Tree → AcceptedTruncate → Type 0
 TruncateFits T x = size_at T x.place ≡ x.size
 
--- reads the file's size, kind and pointer; writes the size, and the blocks between the old end and the new one
+-- reads the file's size, kind and pointer; writes the size, and the blocks between the old end and
+-- the new one
 abbrev pub TruncateRow : Truncate → Type 0
 TruncateRow t = (size : ℕ) (f : Place) → HasRow (truncate_plan size t f)
     (size_cell f ∷ kind_cell f ∷ pointer_areas t.file)

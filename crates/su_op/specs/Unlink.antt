@@ -1,4 +1,5 @@
--- An unlink by user a: the name leaves its directory, and with the last link the inode and a group file's pointer go.
+-- An unlink by user a: the name leaves its directory, and with the last link the inode and a group
+-- file's pointer go.
 use Rattle.std.specs.Prelude.{◌≡◌, ℕ, ◌-◌, List, [], ◌∷◌, ◌++◌, None, nat_eq, nat_le, if◌then◌else◌}
 use Rattle.su_bytes.specs.declared.file_ids.FileId.{FileId}
 use Rattle.su_bytes.specs.declared.refusals.Refusal.TheVariants.{NoUser, NotMember, NoFile, WrongKind, NotHolder, NoName, NotEmpty}
@@ -54,8 +55,8 @@ accepted_unlink_plan x = unlink_plan x.links x.unlink.now x.directory x.place
 abbrev pub UnlinkFits : Tree → AcceptedUnlink → Type 0
 UnlinkFits T x = links_at T x.place ≡ x.links
 
--- reads kind and pointer of the directory and of the file; writes the name at the directory, and of the file the links where
--- there are two or more, else the whole inode and its pointer
+-- reads kind and pointer of the directory and of the file; writes the name at the directory, and of
+-- the file the links where there are two or more, else the whole inode and its pointer
 abbrev pub UnlinkRow : Unlink → Type 0
 UnlinkRow u = (links : ℕ) (d f : Place) → HasRow (unlink_plan links u d f)
     (kind_cell d ∷ pointer_areas u.dir ++ kind_cell f ∷ pointer_areas u.file)

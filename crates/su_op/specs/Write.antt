@@ -1,4 +1,5 @@
--- A write by user a: the bytes of a file from an offset on are these, and a gap before them is zeros.
+-- A write by user a: the bytes of a file from an offset on are these, and a gap before them is
+-- zeros.
 use Rattle.std.specs.Prelude.{◌≡◌, ℕ, ◌+◌, ◌&&◌, [], ◌∷◌, length, min, nat_eq, nat_le, if◌then◌else◌}
 use Rattle.su_bytes.specs.declared.refusals.Refusal.TheVariants.{NoUser, BadNumber, NotMember, NoFile, WrongKind, NotHolder, TooBig}
 use Rattle.su_bytes.specs.Membership.{Membership, has_user}
@@ -40,8 +41,8 @@ accepted_write_plan x = write_plan x.size x.write.now x.place
 abbrev pub WriteFits : Tree → AcceptedWrite → Type 0
 WriteFits T x = size_at T x.place ≡ x.size
 
--- reads the file's size, kind and pointer; writes the blocks that it touches, and where the file grows its size, and the blocks
--- from the old end on
+-- reads the file's size, kind and pointer; writes the blocks that it touches, and where the file
+-- grows its size, and the blocks from the old end on
 abbrev pub WriteRow : Writing → Type 0
 WriteRow w = (size : ℕ) (f : Place) → let end = w.off + length w.bytes in HasRow (write_plan size w f)
     (size_cell f ∷ kind_cell f ∷ pointer_areas w.file)

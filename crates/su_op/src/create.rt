@@ -17,8 +17,9 @@ use su_bytes::{FileId, Inum, Kind, Name, Place, Refusal, Roster, User};
 use su_node::Inode;
 use su_table::Forest;
 
-/// Makes an empty file or directory, and gives it a name. A user's file stands at its own number, which is `body` then; a
-/// group file at any number of the author's that is free, and its group's pointer points there.
+/// Makes an empty file or directory, and gives it a name. A user's file stands at its own number,
+/// which is `body` then; a group file at any number of the author's that is free, and its group's
+/// pointer points there.
 #[derive(Clone, Debug, Drop)]
 pub struct Create {
     /// The directory that gets the name.
@@ -47,10 +48,14 @@ impl Create {
         roster: &Roster,
         author: User,
     ) -> Result<Accepted<'_>, Refusal>
-        ensures accepted { OnOk result (refusal (create_rule roster.now forest.now author self.now) ≡ None) }
-        ensures plan { IfOk result (λ x. plan_of (create_rule roster.now forest.now author self.now) ≡ accepted_plan forest.now x) }
+        ensures accepted { OnOk result
+            (refusal (create_rule roster.now forest.now author self.now) ≡ None) }
+        ensures plan { IfOk result (λ x.
+            plan_of (create_rule roster.now forest.now author self.now)
+            ≡ accepted_plan forest.now x) }
         ensures fits { IfOk result (λ x. StillFits forest.now x) }
-        ensures refused { IfErr result (λ e. refusal (create_rule roster.now forest.now author self.now) ≡ Some e) }
+        ensures refused { IfErr result (λ e.
+            refusal (create_rule roster.now forest.now author self.now) ≡ Some e) }
     {
         if !roster.has_user(author) {
             return Err(Refusal::NoUser(author));
@@ -86,7 +91,7 @@ impl Create {
         }))
     }
 
-    /// Whether the file id is one that the author can make at that number.
+    /// Tells whether the file id is one that the author can make at that number.
     fn has_own_number(&self, author: User) -> bool
         ensures { result ≡ is_own_number author self.now.body self.now.file }
     {
@@ -100,8 +105,10 @@ impl Create {
 impl AcceptedCreate<'_> {
     /// Returns what it reads and writes. Fails only with `NoMemory`.
     pub(crate) fn footprint(&self, alloc: Global) -> Result<Footprint, Refusal>
-        ensures reads { IfOk result (λ f. f.reads.items ≡ plan_reads (accepted_create_plan self.now)) }
-        ensures writes { IfOk result (λ f. f.writes.items ≡ plan_writes (accepted_create_plan self.now)) }
+        ensures reads { IfOk result (λ f.
+            f.reads.items ≡ plan_reads (accepted_create_plan self.now)) }
+        ensures writes { IfOk result (λ f.
+            f.writes.items ≡ plan_writes (accepted_create_plan self.now)) }
         ensures refused { IfErr result (λ e. e ≡ NoMemory) }
     {
         let create = self.create;
@@ -116,10 +123,12 @@ impl AcceptedCreate<'_> {
         Footprint::new(besides, writes)
     }
 
-    /// Gives the directory the name, and adds the file. Fails only with `NoMemory`, and then changes nothing.
+    /// Gives the directory the name, and adds the file. Fails only with `NoMemory`, and then
+    /// changes nothing.
     pub(crate) fn perform(&self, alloc: Global, forest: &mut Forest) -> Result<(), Refusal>
         requires { CreateFits forest.old self.now }
-        ensures ok { OnOk result (forest.new ≡ edits forest.old (accepted_create_plan self.now).edits) }
+        ensures ok { OnOk result
+            (forest.new ≡ edits forest.old (accepted_create_plan self.now).edits) }
         ensures refused { IfErr result (λ e. e ≡ NoMemory) }
         ensures err { OnErr result (forest.new ≡ forest.old) }
     {
@@ -132,7 +141,8 @@ impl AcceptedCreate<'_> {
         Ok(())
     }
 
-    /// Adds the new inode, and a group file's pointer that points at it. Fails only with `NoMemory`, and then changes nothing.
+    /// Adds the new inode, and a group file's pointer that points at it. Fails only with
+    /// `NoMemory`, and then changes nothing.
     fn add_file(&self, alloc: Global, forest: &mut Forest) -> Result<(), Refusal>
         requires { is_free_at forest.old (self.now.author, self.now.create.now.body) ≡ true }
         ensures ok { OnOk result (forest.new ≡ edits forest.old (added_file_edits self.now)) }

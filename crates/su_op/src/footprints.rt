@@ -9,7 +9,8 @@ use std::alloc::Global;
 use su_bytes::{FileId, Place, Refusal};
 use su_node::BLOCK_SIZE;
 
-/// The cells that an accepted operation reads, and those that it writes. What is written is also read.
+/// The cells that an accepted operation reads, and those that it writes. What is written is also
+/// read.
 #[derive(Debug, Drop)]
 pub struct Footprint {
     pub reads: Vec<Area>,
@@ -19,7 +20,8 @@ pub struct Footprint {
 impl Footprint {
     /// Makes one of what is read besides, and what is written. Fails only with `NoMemory`.
     pub(crate) fn new(besides: Vec<Area>, writes: Vec<Area>) -> Result<Footprint, Refusal>
-        ensures reads { IfOk result (λ footprint. footprint.reads.items ≡ besides.items ++ writes.items) }
+        ensures reads { IfOk result (λ footprint.
+            footprint.reads.items ≡ besides.items ++ writes.items) }
         ensures writes { IfOk result (λ footprint. footprint.writes.items ≡ writes.items) }
         ensures refused { IfErr result (λ e. e ≡ NoMemory) }
     {

@@ -1,4 +1,4 @@
-// What holds of the definitions themselves.
+// Laws: what holds of the definitions themselves.
 ghost use Rattle.std.specs.Prelude.{◌≡◌, ℕ, true};
 ghost use Rattle.std.specs.Option.{is_none};
 ghost use Rattle.std.specs.List.{All};
@@ -14,20 +14,28 @@ ghost use Rattle.su_op.specs.System.{Lawful};
 ghost use Rattle.su_op.specs.Store.{Action, store};
 ghost use Rattle.su_op.specs.declared.operations.Op.{Op};
 
-/// An operation depends on the cells that it reads alone, leaves the cells that it doesn't write, and keeps a tree sound.
+/// An operation depends on the cells that it reads alone, leaves the cells that it doesn't write,
+/// and keeps a tree sound.
 pub fn operations_are_local()
     ensures { (ro : Membership) → Lawful (store ro) }
 {}
 
-/// An operation that writes the kind of an inode writes all of it, or makes it; one that writes a block writes the kind too,
-/// or writes into a file that stands there. (So while nobody writes the kind of a file, it stays a file.)
+/// An operation that writes the kind of an inode writes all of it, or makes it; one that writes the
+/// kind by itself makes the inode, where nothing stood before; one that writes a block writes the
+/// kind too, or writes into a file that stands there. (So while nobody writes the kind of a file, it
+/// stays a file.)
 pub fn kinds_change_whole()
-    ensures kind { (ro : Membership) (T : Tree) (x : Action) (p : Place) → Sound T → is_none (why ro T x.author x.op) ≡ true
-        → has (writes ro T x.author x.op) (At p KindOf) ≡ true → WholeOrNew T p (has (writes ro T x.author x.op)) }
-    ensures new { (ro : Membership) (T : Tree) (x : Action) → is_none (why ro T x.author x.op) ≡ true
+    ensures kind { (ro : Membership) (T : Tree) (x : Action) (p : Place) → Sound T
+        → is_none (why ro T x.author x.op) ≡ true
+        → has (writes ro T x.author x.op) (At p KindOf) ≡ true
+        → WholeOrNew T p (has (writes ro T x.author x.op)) }
+    ensures new { (ro : Membership) (T : Tree) (x : Action)
+        → is_none (why ro T x.author x.op) ≡ true
         → All (KindIsNew T) (writes ro T x.author x.op) }
-    ensures block { (ro : Membership) (T : Tree) (x : Action) (p : Place) (n : ℕ) → Sound T → is_none (why ro T x.author x.op) ≡ true
-        → has (writes ro T x.author x.op) (At p (BlockOf n)) ≡ true → KindOrFile T p (has (writes ro T x.author x.op)) }
+    ensures block { (ro : Membership) (T : Tree) (x : Action) (p : Place) (n : ℕ) → Sound T
+        → is_none (why ro T x.author x.op) ≡ true
+        → has (writes ro T x.author x.op) (At p (BlockOf n)) ≡ true
+        → KindOrFile T p (has (writes ro T x.author x.op)) }
 {}
 
 /// The table of cells: what each operation reads and writes.

@@ -45,10 +45,14 @@ impl Link {
         roster: &Roster,
         author: User,
     ) -> Result<Accepted<'_>, Refusal>
-        ensures accepted { OnOk result (refusal (link_rule roster.now forest.now author self.now) ≡ None) }
-        ensures plan { IfOk result (λ x. plan_of (link_rule roster.now forest.now author self.now) ≡ accepted_plan forest.now x) }
+        ensures accepted { OnOk result
+            (refusal (link_rule roster.now forest.now author self.now) ≡ None) }
+        ensures plan { IfOk result (λ x.
+            plan_of (link_rule roster.now forest.now author self.now)
+            ≡ accepted_plan forest.now x) }
         ensures fits { IfOk result (λ x. StillFits forest.now x) }
-        ensures refused { IfErr result (λ e. refusal (link_rule roster.now forest.now author self.now) ≡ Some e) }
+        ensures refused { IfErr result (λ e.
+            refusal (link_rule roster.now forest.now author self.now) ≡ Some e) }
     {
         if !roster.has_user(author) {
             return Err(Refusal::NoUser(author));
@@ -100,8 +104,10 @@ impl AcceptedLink<'_> {
 
     /// Returns what it reads and writes. Fails only with `NoMemory`.
     pub(crate) fn footprint(&self, alloc: Global) -> Result<Footprint, Refusal>
-        ensures reads { IfOk result (λ f. f.reads.items ≡ plan_reads (accepted_link_plan self.now)) }
-        ensures writes { IfOk result (λ f. f.writes.items ≡ plan_writes (accepted_link_plan self.now)) }
+        ensures reads { IfOk result (λ f.
+            f.reads.items ≡ plan_reads (accepted_link_plan self.now)) }
+        ensures writes { IfOk result (λ f.
+            f.writes.items ≡ plan_writes (accepted_link_plan self.now)) }
         ensures refused { IfErr result (λ e. e ≡ NoMemory) }
     {
         let link = self.link;
@@ -114,10 +120,12 @@ impl AcceptedLink<'_> {
         Footprint::new(besides, writes)
     }
 
-    /// Gives the directory the name, and the file a link more. Fails only with `NoMemory`, and then changes nothing.
+    /// Gives the directory the name, and the file a link more. Fails only with `NoMemory`, and then
+    /// changes nothing.
     pub(crate) fn perform(&self, forest: &mut Forest) -> Result<(), Refusal>
         requires { LinkFits forest.old self.now }
-        ensures ok { OnOk result (forest.new ≡ edits forest.old (accepted_link_plan self.now).edits) }
+        ensures ok { OnOk result
+            (forest.new ≡ edits forest.old (accepted_link_plan self.now).edits) }
         ensures refused { IfErr result (λ e. e ≡ NoMemory) }
         ensures err { OnErr result (forest.new ≡ forest.old) }
     {

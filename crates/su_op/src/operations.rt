@@ -30,7 +30,8 @@ pub enum Op {
     Rename(Rename),
 }
 
-/// An operation that its check accepted, with what the check found, so that nothing is looked up again.
+/// An operation that its check accepted, with what the check found, so that nothing is looked up
+/// again.
 #[derive(Clone, Copy)]
 pub enum Accepted<'a> {
     Create(AcceptedCreate<'a>),
@@ -51,7 +52,8 @@ pub enum Change {
 
 impl Op {
     #[tactic(auto, unfolding(crate::specs::Operation::why, crate::specs::Operation::effect, crate::specs::Operation::reads, crate::specs::Operation::writes))]
-    /// Checks whether the operation by that author is accepted. The error is the first refusal. Takes no memory.
+    /// Checks whether the operation by that author is accepted. The error is the first refusal.
+    /// Takes no memory.
     pub fn check(
         &self,
         forest: &Forest,
@@ -62,9 +64,14 @@ impl Op {
         ensures fits { IfOk result (λ x. StillFits forest.now x) }
 
         // What the accepted operation does is what the operation does.
-        ensures effect { IfOk result (λ x. effect roster.now forest.now author self.now ≡ edits forest.now (accepted_plan forest.now x).edits) }
-        ensures reads { IfOk result (λ x. reads roster.now forest.now author self.now ≡ plan_reads (accepted_plan forest.now x)) }
-        ensures writes { IfOk result (λ x. writes roster.now forest.now author self.now ≡ plan_writes (accepted_plan forest.now x)) }
+        ensures effect { IfOk result (λ x.
+            effect roster.now forest.now author self.now
+            ≡ edits forest.now (accepted_plan forest.now x).edits) }
+        ensures reads { IfOk result (λ x.
+            reads roster.now forest.now author self.now ≡ plan_reads (accepted_plan forest.now x)) }
+        ensures writes { IfOk result (λ x.
+            writes roster.now forest.now author self.now
+            ≡ plan_writes (accepted_plan forest.now x)) }
         ensures refused { IfErr result (λ e. why roster.now forest.now author self.now ≡ Some e) }
     {
         match self {
@@ -82,8 +89,10 @@ impl Op {
 impl Accepted<'_> {
     /// Returns the cells that it reads, and those that it writes. Fails only with `NoMemory`.
     pub fn footprint(&self, alloc: Global) -> Result<Footprint, Refusal>
-        ensures reads { IfOk result (λ f. (T : Tree) → f.reads.items ≡ plan_reads (accepted_plan T self.now)) }
-        ensures writes { IfOk result (λ f. (T : Tree) → f.writes.items ≡ plan_writes (accepted_plan T self.now)) }
+        ensures reads { IfOk result (λ f.
+            (T : Tree) → f.reads.items ≡ plan_reads (accepted_plan T self.now)) }
+        ensures writes { IfOk result (λ f.
+            (T : Tree) → f.writes.items ≡ plan_writes (accepted_plan T self.now)) }
         ensures refused { IfErr result (λ e. e ≡ NoMemory) }
     {
         match self {
@@ -97,10 +106,12 @@ impl Accepted<'_> {
         }
     }
 
-    /// Does it. The forest is the one that was checked, or holds the same. Fails only with `NoMemory`, and then changes nothing.
+    /// Does it. The forest is the one that was checked, or holds the same. Fails only with
+    /// `NoMemory`, and then changes nothing.
     pub fn perform(&self, alloc: Global, forest: &mut Forest) -> Result<(), Refusal>
         requires { StillFits forest.old self.now }
-        ensures ok { OnOk result (forest.new ≡ edits forest.old (accepted_plan forest.old self.now).edits) }
+        ensures ok { OnOk result
+            (forest.new ≡ edits forest.old (accepted_plan forest.old self.now).edits) }
         ensures refused { IfErr result (λ e. e ≡ NoMemory) }
         ensures err { OnErr result (forest.new ≡ forest.old) }
     {
@@ -129,7 +140,8 @@ pub fn apply(
 ) -> Result<(), Refusal>
     ensures accepted { OnOk result (why roster.now forest.old author op.now ≡ None) }
     ensures done { OnOk result (forest.new ≡ effect roster.now forest.old author op.now) }
-    ensures refused { IfErr result (λ e. (e ≡ NoMemory) ⊎ (why roster.now forest.old author op.now ≡ Some e)) }
+    ensures refused { IfErr result (λ e.
+        (e ≡ NoMemory) ⊎ (why roster.now forest.old author op.now ≡ Some e)) }
     ensures err { OnErr result (forest.new ≡ forest.old) }
 {
     match op.check(forest, roster, author) {
@@ -138,7 +150,8 @@ pub fn apply(
     }
 }
 
-/// Returns the cells that an operation of that author reads, and those that it writes. Refused as `apply` is.
+/// Returns the cells that an operation of that author reads, and those that it writes. Refused as
+/// `apply` is.
 pub fn footprint(
     alloc: Global,
     forest: &Forest,
@@ -147,9 +160,12 @@ pub fn footprint(
     op: &Op,
 ) -> Result<Footprint, Refusal>
     ensures accepted { OnOk result (why roster.now forest.now author op.now ≡ None) }
-    ensures reads { IfOk result (λ footprint. footprint.reads.items ≡ reads roster.now forest.now author op.now) }
-    ensures writes { IfOk result (λ footprint. footprint.writes.items ≡ writes roster.now forest.now author op.now) }
-    ensures refused { IfErr result (λ e. (e ≡ NoMemory) ⊎ (why roster.now forest.now author op.now ≡ Some e)) }
+    ensures reads { IfOk result (λ footprint.
+        footprint.reads.items ≡ reads roster.now forest.now author op.now) }
+    ensures writes { IfOk result (λ footprint.
+        footprint.writes.items ≡ writes roster.now forest.now author op.now) }
+    ensures refused { IfErr result (λ e.
+        (e ≡ NoMemory) ⊎ (why roster.now forest.now author op.now ≡ Some e)) }
 {
     match op.check(forest, roster, author) {
         Ok(accepted) => accepted.footprint(alloc),

@@ -14,7 +14,8 @@ use std::alloc::Global;
 use su_bytes::{FileId, Name, Place, Refusal, Roster, User};
 use su_table::Forest;
 
-/// Gives a file another name, in the directory that has it or in another one. A directory stays in its directory.
+/// Gives a file another name, in the directory that has it or in another one. A directory stays in
+/// its directory.
 #[derive(Clone, Debug, Drop)]
 pub struct Rename {
     /// The directory that has the old name.
@@ -27,7 +28,8 @@ pub struct Rename {
     pub file: FileId,
 }
 
-/// A rename that is accepted, and where the directories stand, and the file if it goes from one to the other.
+/// A rename that is accepted, and where the directories stand, and the file if it goes from one to
+/// the other.
 #[derive(Clone, Copy)]
 pub struct AcceptedRename<'a> {
     pub(crate) rename: &'a Rename,
@@ -44,9 +46,13 @@ impl Rename {
         roster: &Roster,
         author: User,
     ) -> Result<Accepted<'_>, Refusal>
-        ensures accepted { OnOk result (refusal (rename_rule roster.now forest.now author self.now) ≡ None) }
-        ensures plan { IfOk result (λ x. plan_of (rename_rule roster.now forest.now author self.now) ≡ accepted_plan forest.now x) }
-        ensures refused { IfErr result (λ e. refusal (rename_rule roster.now forest.now author self.now) ≡ Some e) }
+        ensures accepted { OnOk result
+            (refusal (rename_rule roster.now forest.now author self.now) ≡ None) }
+        ensures plan { IfOk result (λ x.
+            plan_of (rename_rule roster.now forest.now author self.now)
+            ≡ accepted_plan forest.now x) }
+        ensures refused { IfErr result (λ e.
+            refusal (rename_rule roster.now forest.now author self.now) ≡ Some e) }
     {
         let (source, target, moved) = self.places(forest, roster, author)?;
         if !forest.is_directory(source) {
@@ -78,17 +84,22 @@ impl Rename {
         }))
     }
 
-    /// Finds where the directories stand, and the file if it goes from one to the other. The error is the first refusal of the
-    /// checks for users, groups and bodies.
+    /// Finds where the directories stand, and the file if it goes from one to the other. The error
+    /// is the first refusal of the checks for users, groups and bodies.
     fn places(
         &self,
         forest: &Forest,
         roster: &Roster,
         author: User,
     ) -> Result<(Place, Place, Option<Place>), Refusal>
-        ensures refusal { IfOk result (λ p. refusal (rename_rule roster.now forest.now author self.now) ≡ refusal (rename_rule_at forest.now author self.now p.2 p.0 p.1)) }
-        ensures plan { IfOk result (λ p. plan_of (rename_rule roster.now forest.now author self.now) ≡ plan_of (rename_rule_at forest.now author self.now p.2 p.0 p.1)) }
-        ensures refused { IfErr result (λ e. refusal (rename_rule roster.now forest.now author self.now) ≡ Some e) }
+        ensures refusal { IfOk result (λ p.
+            refusal (rename_rule roster.now forest.now author self.now)
+            ≡ refusal (rename_rule_at forest.now author self.now p.2 p.0 p.1)) }
+        ensures plan { IfOk result (λ p.
+            plan_of (rename_rule roster.now forest.now author self.now)
+            ≡ plan_of (rename_rule_at forest.now author self.now p.2 p.0 p.1)) }
+        ensures refused { IfErr result (λ e.
+            refusal (rename_rule roster.now forest.now author self.now) ≡ Some e) }
     {
         if !roster.has_user(author) {
             return Err(Refusal::NoUser(author));
@@ -109,11 +120,15 @@ impl Rename {
         Ok((source, target, moved))
     }
 
-    /// Finds where the file stands, if it goes from one directory to another. Fails with `NoFile` where it has no body.
+    /// Finds where the file stands, if it goes from one directory to another. Fails with `NoFile`
+    /// where it has no body.
     fn moved(&self, forest: &Forest) -> Result<Option<Place>, Refusal>
         ensures value { IfOk result (λ place. place ≡ moved forest.now self.now) }
-        ensures found { OnOk result ((stays self.now || is_some (moved forest.now self.now)) ≡ true) }
-        ensures refused { IfErr result (λ e. (e ≡ NoFile self.now.file) × ((stays self.now || is_some (moved forest.now self.now)) ≡ false)) }
+        ensures found { OnOk result
+            ((stays self.now || is_some (moved forest.now self.now)) ≡ true) }
+        ensures refused { IfErr result (λ e.
+            (e ≡ NoFile self.now.file) × ((stays self.now || is_some (moved forest.now self.now))
+            ≡ false)) }
     {
         if self.from_ == self.to_ {
             return Ok(None);
@@ -128,8 +143,10 @@ impl Rename {
 impl AcceptedRename<'_> {
     /// Returns what it reads and writes. Fails only with `NoMemory`.
     pub(crate) fn footprint(&self, alloc: Global) -> Result<Footprint, Refusal>
-        ensures reads { IfOk result (λ f. f.reads.items ≡ plan_reads (accepted_rename_plan self.now)) }
-        ensures writes { IfOk result (λ f. f.writes.items ≡ plan_writes (accepted_rename_plan self.now)) }
+        ensures reads { IfOk result (λ f.
+            f.reads.items ≡ plan_reads (accepted_rename_plan self.now)) }
+        ensures writes { IfOk result (λ f.
+            f.writes.items ≡ plan_writes (accepted_rename_plan self.now)) }
         ensures refused { IfErr result (λ e. e ≡ NoMemory) }
     {
         let rename = self.rename;
@@ -145,9 +162,11 @@ impl AcceptedRename<'_> {
         Footprint::new(besides, writes)
     }
 
-    /// Adds the new name, and removes the old one. Fails only with `NoMemory`, and then changes nothing.
+    /// Adds the new name, and removes the old one. Fails only with `NoMemory`, and then changes
+    /// nothing.
     pub(crate) fn perform(&self, forest: &mut Forest) -> Result<(), Refusal>
-        ensures ok { OnOk result (forest.new ≡ edits forest.old (accepted_rename_plan self.now).edits) }
+        ensures ok { OnOk result
+            (forest.new ≡ edits forest.old (accepted_rename_plan self.now).edits) }
         ensures refused { IfErr result (λ e. e ≡ NoMemory) }
         ensures err { OnErr result (forest.new ≡ forest.old) }
     {
@@ -158,7 +177,7 @@ impl AcceptedRename<'_> {
     }
 }
 
-/// Whether what goes to another directory is a directory.
+/// Tells whether what goes to another directory is a directory.
 fn moves_directory(forest: &Forest, moved: &Option<Place>) -> bool
     ensures { result ≡ moves_directory forest.now moved.now }
 {

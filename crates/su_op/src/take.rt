@@ -17,8 +17,8 @@ use std::alloc::Global;
 use su_bytes::{FileId, Inum, Place, Refusal, Roster, User};
 use su_table::Forest;
 
-/// Takes a group file over: its whole inode is copied into the author's i-table, and the group's pointer points there. The old
-/// inode stays where it stood, and no file id leads to it any more.
+/// Takes a group file over: its whole inode is copied into the author's i-table, and the group's
+/// pointer points there. The old inode stays where it stood, and no file id leads to it any more.
 #[derive(Clone, Debug, Drop)]
 pub struct Take {
     /// The group file that is taken over.
@@ -43,10 +43,14 @@ impl Take {
         roster: &Roster,
         author: User,
     ) -> Result<Accepted<'_>, Refusal>
-        ensures accepted { OnOk result (refusal (take_rule roster.now forest.now author self.now) ≡ None) }
-        ensures plan { IfOk result (λ x. plan_of (take_rule roster.now forest.now author self.now) ≡ accepted_plan forest.now x) }
+        ensures accepted { OnOk result
+            (refusal (take_rule roster.now forest.now author self.now) ≡ None) }
+        ensures plan { IfOk result (λ x.
+            plan_of (take_rule roster.now forest.now author self.now)
+            ≡ accepted_plan forest.now x) }
         ensures fits { IfOk result (λ x. StillFits forest.now x) }
-        ensures refused { IfErr result (λ e. refusal (take_rule roster.now forest.now author self.now) ≡ Some e) }
+        ensures refused { IfErr result (λ e.
+            refusal (take_rule roster.now forest.now author self.now) ≡ Some e) }
     {
         if !roster.has_user(author) {
             return Err(Refusal::NoUser(author));
@@ -72,10 +76,13 @@ impl Take {
 }
 
 impl AcceptedTake<'_> {
-    /// Returns what it reads and writes, which doesn't depend on the inode. Fails only with `NoMemory`.
+    /// Returns what it reads and writes, which doesn't depend on the inode. Fails only with
+    /// `NoMemory`.
     pub(crate) fn footprint(&self, alloc: Global) -> Result<Footprint, Refusal>
-        ensures reads { IfOk result (λ f. (T : Tree) → f.reads.items ≡ plan_reads (accepted_take_plan T self.now)) }
-        ensures writes { IfOk result (λ f. (T : Tree) → f.writes.items ≡ plan_writes (accepted_take_plan T self.now)) }
+        ensures reads { IfOk result (λ f.
+            (T : Tree) → f.reads.items ≡ plan_reads (accepted_take_plan T self.now)) }
+        ensures writes { IfOk result (λ f.
+            (T : Tree) → f.writes.items ≡ plan_writes (accepted_take_plan T self.now)) }
         ensures refused { IfErr result (λ e. e ≡ NoMemory) }
     {
         let take = self.take;
@@ -88,10 +95,12 @@ impl AcceptedTake<'_> {
         Footprint::new(besides, writes)
     }
 
-    /// Copies the inode, and lets the group's pointer point at the copy. Fails only with `NoMemory`, and then changes nothing.
+    /// Copies the inode, and lets the group's pointer point at the copy. Fails only with
+    /// `NoMemory`, and then changes nothing.
     pub(crate) fn perform(&self, forest: &mut Forest) -> Result<(), Refusal>
         requires { TakeFits forest.old self.now }
-        ensures ok { OnOk result (forest.new ≡ edits forest.old (accepted_take_plan forest.old self.now).edits) }
+        ensures ok { OnOk result
+            (forest.new ≡ edits forest.old (accepted_take_plan forest.old self.now).edits) }
         ensures refused { IfErr result (λ e. e ≡ NoMemory) }
         ensures err { OnErr result (forest.new ≡ forest.old) }
     {
@@ -107,7 +116,8 @@ impl AcceptedTake<'_> {
 
 /// Copies the inode at `place` to `other`. Fails only with `NoMemory`, and then changes nothing.
 fn copy_inode(forest: &mut Forest, place: &Place, other: Place) -> Result<(), Refusal>
-    ensures ok { OnOk result (forest.new ≡ edit forest.old (Inodes other (copy_of (get forest.old.inodes place.now)))) }
+    ensures ok { OnOk result
+        (forest.new ≡ edit forest.old (Inodes other (copy_of (get forest.old.inodes place.now)))) }
     ensures refused { IfErr result (λ e. e ≡ NoMemory) }
     ensures err { OnErr result (forest.new ≡ forest.old) }
 {

@@ -14,7 +14,8 @@ use std::alloc::Global;
 use su_bytes::{FileId, Name, Place, Refusal, Roster, User};
 use su_table::Forest;
 
-/// Takes a name out of a directory; with the last name the file goes, and a directory only if it is empty.
+/// Takes a name out of a directory; with the last name the file goes, and a directory only if it is
+/// empty.
 #[derive(Clone, Debug, Drop)]
 pub struct Unlink {
     /// The directory that has the name.
@@ -42,10 +43,14 @@ impl Unlink {
         roster: &Roster,
         author: User,
     ) -> Result<Accepted<'_>, Refusal>
-        ensures accepted { OnOk result (refusal (unlink_rule roster.now forest.now author self.now) ≡ None) }
-        ensures plan { IfOk result (λ x. plan_of (unlink_rule roster.now forest.now author self.now) ≡ accepted_plan forest.now x) }
+        ensures accepted { OnOk result
+            (refusal (unlink_rule roster.now forest.now author self.now) ≡ None) }
+        ensures plan { IfOk result (λ x.
+            plan_of (unlink_rule roster.now forest.now author self.now)
+            ≡ accepted_plan forest.now x) }
         ensures fits { IfOk result (λ x. StillFits forest.now x) }
-        ensures refused { IfErr result (λ e. refusal (unlink_rule roster.now forest.now author self.now) ≡ Some e) }
+        ensures refused { IfErr result (λ e.
+            refusal (unlink_rule roster.now forest.now author self.now) ≡ Some e) }
     {
         if !roster.has_user(author) {
             return Err(Refusal::NoUser(author));
@@ -89,8 +94,10 @@ impl Unlink {
 impl AcceptedUnlink<'_> {
     /// Returns what it reads and writes. Fails only with `NoMemory`.
     pub(crate) fn footprint(&self, alloc: Global) -> Result<Footprint, Refusal>
-        ensures reads { IfOk result (λ f. f.reads.items ≡ plan_reads (accepted_unlink_plan self.now)) }
-        ensures writes { IfOk result (λ f. f.writes.items ≡ plan_writes (accepted_unlink_plan self.now)) }
+        ensures reads { IfOk result (λ f.
+            f.reads.items ≡ plan_reads (accepted_unlink_plan self.now)) }
+        ensures writes { IfOk result (λ f.
+            f.writes.items ≡ plan_writes (accepted_unlink_plan self.now)) }
         ensures refused { IfErr result (λ e. e ≡ NoMemory) }
     {
         let unlink = self.unlink;
@@ -123,7 +130,8 @@ impl AcceptedUnlink<'_> {
 
     /// Removes the inode, and a group file's pointer.
     fn remove_file(&self, forest: &mut Forest)
-        ensures { forest.new ≡ edits forest.old (file_goes self.now.unlink.now.file self.now.place) }
+        ensures { forest.new
+            ≡ edits forest.old (file_goes self.now.unlink.now.file self.now.place) }
     {
         if let FileId::Group(group, number) = self.unlink.file {
             forest.remove_pointer((group, number));

@@ -66,10 +66,14 @@ impl Write {
         roster: &Roster,
         author: User,
     ) -> Result<Accepted<'_>, Refusal>
-        ensures accepted { OnOk result (refusal (write_rule roster.now forest.now author self.now) ≡ None) }
-        ensures plan { IfOk result (λ x. plan_of (write_rule roster.now forest.now author self.now) ≡ accepted_plan forest.now x) }
+        ensures accepted { OnOk result
+            (refusal (write_rule roster.now forest.now author self.now) ≡ None) }
+        ensures plan { IfOk result (λ x.
+            plan_of (write_rule roster.now forest.now author self.now)
+            ≡ accepted_plan forest.now x) }
         ensures fits { IfOk result (λ x. StillFits forest.now x) }
-        ensures refused { IfErr result (λ e. refusal (write_rule roster.now forest.now author self.now) ≡ Some e) }
+        ensures refused { IfErr result (λ e.
+            refusal (write_rule roster.now forest.now author self.now) ≡ Some e) }
     {
         if !roster.has_user(author) {
             return Err(Refusal::NoUser(author));
@@ -108,8 +112,10 @@ impl AcceptedWrite<'_> {
 
     /// Returns what it reads and writes. Fails only with `NoMemory`.
     pub(crate) fn footprint(&self, alloc: Global) -> Result<Footprint, Refusal>
-        ensures reads { IfOk result (λ f. f.reads.items ≡ plan_reads (accepted_write_plan self.now)) }
-        ensures writes { IfOk result (λ f. f.writes.items ≡ plan_writes (accepted_write_plan self.now)) }
+        ensures reads { IfOk result (λ f.
+            f.reads.items ≡ plan_reads (accepted_write_plan self.now)) }
+        ensures writes { IfOk result (λ f.
+            f.writes.items ≡ plan_writes (accepted_write_plan self.now)) }
         ensures refused { IfErr result (λ e. e ≡ NoMemory) }
     {
         let write = self.write;
@@ -131,7 +137,8 @@ impl AcceptedWrite<'_> {
     /// Writes the bytes. Fails only with `NoMemory`, and then changes nothing.
     pub(crate) fn perform(&self, forest: &mut Forest) -> Result<(), Refusal>
         requires { WriteFits forest.old self.now }
-        ensures ok { OnOk result (forest.new ≡ edits forest.old (accepted_write_plan self.now).edits) }
+        ensures ok { OnOk result
+            (forest.new ≡ edits forest.old (accepted_write_plan self.now).edits) }
         ensures refused { IfErr result (λ e. e ≡ NoMemory) }
         ensures err { OnErr result (forest.new ≡ forest.old) }
     {
