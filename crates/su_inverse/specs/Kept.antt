@@ -12,6 +12,7 @@ use Rattle.su_table.specs.Cell.{Cell, Cell.At, Cell.Pointer, val}
 use Rattle.su_table.specs.Query.{is_file_at, size_at}
 use Rattle.su_table.specs.Edit.{Edit, Edit.Inodes, Edit.Pointers}
 use Rattle.su_op.specs.declared.areas.Part.TheVariants.{Kind as KindPart, Links as LinksPart, Size as SizePart, Name as NamePart, Blocks as BlocksPart, Whole as WholePart}
+use Rattle.su_op.specs.declared.areas.BlockRun.{BlockRun}
 use Rattle.su_op.specs.declared.areas.Area.{Area}
 use Rattle.su_op.specs.declared.areas.Area.TheVariants.{Inode as InodeArea, Pointer as PointerArea}
 use Rattle.su_op.specs.Area.{has}
@@ -54,7 +55,11 @@ kept_area (ResetKept r) = reset_area r
 kept_area (BlocksKept k) = blocks_area k
 
 abbrev pub inverse_areas : Inverse → List Area
-inverse_areas i = map return_area i.returns.items ++ (map size_area i.sizes.items ++ (map reset_area i.resets.items ++ map blocks_area i.blocks.items))
+inverse_areas i =
+    map return_area i.returns.items
+    ++ (map size_area i.sizes.items
+    ++ (map reset_area i.resets.items
+    ++ map blocks_area i.blocks.items))
 
 -- ---- their values: the tree holds what is kept
 
@@ -77,9 +82,12 @@ HoldsReset T (LinksReset p n) = val T (At p LinksOf) ≡ ANumber n
 abbrev pub HoldsSize : Tree → KeptSize → Type 0
 HoldsSize T k = val T (At k.place SizeOf) ≡ ANumber k.size
 
--- the bytes from the first block on, as many as the blocks have
+-- of a file's bytes those in a run of blocks
+abbrev pub bytes_in : BlockRun → List ℕ → List ℕ
+bytes_in r = within (BLOCK_SIZE * r.first) (BLOCK_SIZE * (r.more + 1))
+
 abbrev pub HoldsBlocks : Tree → KeptBlocks → Type 0
-HoldsBlocks T k = option_map (within (BLOCK_SIZE * k.run.first) (BLOCK_SIZE * (k.run.more + 1))) (bytes_of (get T.inodes k.place)) ≡ Some k.bytes.items
+HoldsBlocks T k = option_map (bytes_in k.run) (bytes_of (get T.inodes k.place)) ≡ Some k.bytes.items
 
 abbrev pub HoldsKept : Tree → Kept → Type 0
 HoldsKept T (ReturnKept r) = HoldsReturn T r
@@ -113,7 +121,8 @@ size_edit F p n = Inodes p (Resized (size_at F p) n)
 
 -- the kept bytes are written into the file of F
 abbrev pub blocks_edit : Tree → KeptBlocks → Edit
-blocks_edit F k = Inodes k.place (Written (size_at F k.place) (BLOCK_SIZE * k.run.first) k.bytes.items)
+blocks_edit F k =
+    Inodes k.place (Written (size_at F k.place) (BLOCK_SIZE * k.run.first) k.bytes.items)
 
 -- the file of F is long enough for them
 abbrev pub HasLengthFor : Tree → KeptBlocks → Type 0

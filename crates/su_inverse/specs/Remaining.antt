@@ -31,11 +31,17 @@ abbrev pub left_resets : List Reset → List KeptBlocks → List Area
 left_resets resets blocks = map widened (map reset_area resets ++ map blocks_area blocks)
 
 abbrev pub left_sizes : List KeptSize → Inverse → List Area
-left_sizes sizes i = map widened (map size_area sizes ++ (map reset_area i.resets.items ++ map blocks_area i.blocks.items))
+left_sizes sizes i =
+    map widened (map size_area sizes
+    ++ (map reset_area i.resets.items
+    ++ map blocks_area i.blocks.items))
 
 abbrev pub left : List Return → Inverse → List Area
 left returns i =
-    map widened (map return_area returns ++ (map size_area i.sizes.items ++ (map reset_area i.resets.items ++ map blocks_area i.blocks.items)))
+    map widened (map return_area returns
+    ++ (map size_area i.sizes.items
+    ++ (map reset_area i.resets.items
+    ++ map blocks_area i.blocks.items)))
 
 -- the trees have the same values in all cells outside the areas
 pub record AgreeOutside (w : List Area) (F : Tree) (T : Tree) : Type 0 where
@@ -49,4 +55,5 @@ pub record HoldsAll (i : Inverse) (T : Tree) : Type 0 where
 
 -- but for these sizes, each file of F is as long as that of T
 pub record IsRoomy (sizes : List KeptSize) (F : Tree) (T : Tree) : Type 0 where
-  pub each : (p : Place) → has (map size_area sizes) (At p SizeOf) ≡ false → size_at T p ≤ size_at F p
+  pub each : (p : Place) → has (map size_area sizes) (At p SizeOf) ≡ false
+      → size_at T p ≤ size_at F p

@@ -24,7 +24,9 @@ is_own_number a n (Group g k) = true
 abbrev pub create_plan : ℕ → Create → Place → Plan
 create_plan a c d = record {
   reads = file_areas c.dir d;
-  edits = Inodes d (Named c.name (Some c.file)) ∷ Inodes (a, c.body) (Made c.file c.kind) ∷ pointer_edits c.file (Some (a, c.body));
+  edits = Inodes d (Named c.name (Some c.file))
+      ∷ Inodes (a, c.body) (Made c.file c.kind)
+      ∷ pointer_edits c.file (Some (a, c.body));
 }
 
 abbrev pub create_rule : Membership → Tree → ℕ → Create → Rule
@@ -49,7 +51,8 @@ accepted_create_plan x = create_plan x.author x.create.now x.directory
 abbrev pub added_file_edits : AcceptedCreate → List Edit
 added_file_edits x =
     let place : Place = (x.author, x.create.now.body) in
-    Inodes place (Made x.create.now.file x.create.now.kind) ∷ pointer_edits x.create.now.file (Some place)
+    Inodes place (Made x.create.now.file x.create.now.kind)
+    ∷ pointer_edits x.create.now.file (Some place)
 
 -- in T what it adds still stands nowhere
 abbrev pub CreateFits : Tree → AcceptedCreate → Type 0
@@ -60,4 +63,6 @@ CreateFits T x = AreFreeFor T (accepted_create_plan x).edits
 abbrev pub CreateRow : Create → Type 0
 CreateRow c = (a : ℕ) (d : Place) → HasRow (create_plan a c d)
     (kind_cell d ∷ pointer_areas c.dir)
-    (name_cell c.name d ∷ kind_cell (a, c.body) ∷ links_cell (a, c.body) ∷ size_cell (a, c.body) ∷ pointer_areas c.file)
+    (name_cell c.name d
+    ∷ kind_cell (a, c.body) ∷ links_cell (a, c.body) ∷ size_cell (a, c.body)
+    ∷ pointer_areas c.file)

@@ -19,11 +19,13 @@ grown_parts size off end = SizePart ∷ BlocksPart (blocks_between (min off size
 
 -- a write from `off` up to `end` into a file of that size
 abbrev pub written_parts : ℕ → ℕ → ℕ → List Part
-written_parts size off end = if nat_le end size then overwritten_parts off end else grown_parts size off end
+written_parts size off end =
+    if nat_le end size then overwritten_parts off end else grown_parts size off end
 
 -- another size: the size, and the blocks between the old end and the new one
 abbrev pub other_size_parts : ℕ → ℕ → List Part
-other_size_parts size new_size = SizePart ∷ BlocksPart (blocks_between (min size new_size) (max size new_size)) ∷ []
+other_size_parts size new_size =
+    SizePart ∷ BlocksPart (blocks_between (min size new_size) (max size new_size)) ∷ []
 
 -- a change of size; to the same size nothing is written
 abbrev pub resized_parts : ℕ → ℕ → List Part

@@ -72,5 +72,7 @@ accepted_rename_plan x = rename_plan x.moved x.rename.now x.source x.target
 -- at the directory that loses it
 abbrev pub RenameRow : Rename → Type 0
 RenameRow r = (moved : Option Place) (d t : Place) → HasRow (rename_plan moved r d t)
-    (kind_cell d ∷ pointer_areas r.from_ ++ kind_cell t ∷ pointer_areas r.to_ ++ moved_areas r.file moved)
+    (kind_cell d ∷ pointer_areas r.from_
+    ++ kind_cell t ∷ pointer_areas r.to_
+    ++ moved_areas r.file moved)
     (name_cell r.new_ t ∷ name_cell r.old_ d ∷ [])

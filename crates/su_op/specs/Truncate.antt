@@ -44,4 +44,5 @@ TruncateFits T x = size_at T x.place ≡ x.size
 abbrev pub TruncateRow : Truncate → Type 0
 TruncateRow t = (size : ℕ) (f : Place) → HasRow (truncate_plan size t f)
     (size_cell f ∷ kind_cell f ∷ pointer_areas t.file)
-    (if nat_eq size t.size then [] else size_cell f ∷ block_cells (blocks_between (min size t.size) (max size t.size)) f ∷ [])
+    (if nat_eq size t.size then []
+    else size_cell f ∷ block_cells (blocks_between (min size t.size) (max size t.size)) f ∷ [])

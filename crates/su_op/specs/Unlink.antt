@@ -60,4 +60,5 @@ UnlinkFits T x = links_at T x.place ≡ x.links
 abbrev pub UnlinkRow : Unlink → Type 0
 UnlinkRow u = (links : ℕ) (d f : Place) → HasRow (unlink_plan links u d f)
     (kind_cell d ∷ pointer_areas u.dir ++ kind_cell f ∷ pointer_areas u.file)
-    (name_cell u.name d ∷ (if nat_le 2 links then links_cell f ∷ [] else pointer_areas u.file ++ all_cells f ∷ []))
+    (name_cell u.name d
+    ∷ (if nat_le 2 links then links_cell f ∷ [] else pointer_areas u.file ++ all_cells f ∷ []))

@@ -44,7 +44,8 @@ WriteFits T x = size_at T x.place ≡ x.size
 -- reads the file's size, kind and pointer; writes the blocks that it touches, and where the file
 -- grows its size, and the blocks from the old end on
 abbrev pub WriteRow : Writing → Type 0
-WriteRow w = (size : ℕ) (f : Place) → let end = w.off + length w.bytes in HasRow (write_plan size w f)
+WriteRow w = (size : ℕ) (f : Place) → let end = w.off + length w.bytes in
+    HasRow (write_plan size w f)
     (size_cell f ∷ kind_cell f ∷ pointer_areas w.file)
     (if nat_le end size then block_cells (blocks_between w.off end) f ∷ []
     else size_cell f ∷ block_cells (blocks_between (min w.off size) end) f ∷ [])
