@@ -155,7 +155,7 @@ impl Desk {
     fn operate(&mut self, author: User, op: Op) -> Result<u64, Refusal>
         ensures { Answers self.old author (Do op) result self.new }
     {
-        // not `?`: the kit's borrow checker doesn't cover it for a value that holds a reference
+        // no `?`, for the prover (docs/ARCHITECTURE.md, "Forms the kit wants")
         let accepted = match op.check(&self.forest, &self.roster, author) {
             Ok(accepted) => accepted,
             Err(refusal) => return Err(refusal),

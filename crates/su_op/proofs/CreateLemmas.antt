@@ -19,7 +19,7 @@ use Rattle.su_op.specs.Rule.{Plan, plan_reads, pointer_edits, file_areas}
 use Rattle.su_op.specs.Create.{create_rule, create_plan}
 use Rattle.su_op.specs.Soundness.{IsA, Sound}
 use Rattle.su_op.proofs.EditLemmas.{CanEdits, field_after}
-use Rattle.su_op.proofs.RuleLemmas.{Gives, Agrees, left, right, later, kind_same, name_same, body_same, is_pointer_free_same, IsA_dir, nothing_is, no_inode, kind_after_name, can_pointer_some, nothing_free, free_after_name}
+use Rattle.su_op.proofs.RuleLemmas.{Gives, AgreeOn, left, right, later, kind_same, name_same, body_same, is_pointer_free_same, IsA_dir, nothing_is, no_inode, kind_after_name, can_pointer_some, nothing_free, free_after_name}
 use Rattle.su_op.specs.Create.{CreateRow}
 use Rattle.su_op.specs.Area.{kind_cell, links_cell, size_cell, name_cell}
 use Rattle.su_op.proofs.RuleLemmas.{pointer_written}
@@ -27,11 +27,11 @@ use Rattle.su_op.proofs.RuleLemmas.{pointers_make_none}
 use Rattle.su_op.proofs.RuleLemmas.{PlanMakesNew}
 
 module _ (ro : Membership) (a : ℕ) (c : Create) where
-  pub create_local : (T T' : Tree) (p : Plan) → Gives (create_rule ro T a c) p → Agrees (plan_reads p) T T' → Gives (create_rule ro T' a c) p
+  pub create_local : (T T' : Tree) (p : Plan) → Gives (create_rule ro T a c) p → AgreeOn (plan_reads p) T T' → Gives (create_rule ro T' a c) p
   create_local T T' p (user, (own, (touch, (touch', (d, at, (is, (holder, (free, (new, plan))))))))) agree =
-      let all : Agrees (plan_reads (create_plan a c d)) T T' = subst (λ p. Agrees (plan_reads p) T T') (sym plan) agree in
-      let reads : Agrees (file_areas c.dir d) T T' = left (file_areas c.dir d) _ all in
-      let w1 : Agrees (InodeArea d (NamePart c.name) ∷ InodeArea (a, c.body) KindPart ∷ InodeArea (a, c.body) LinksPart ∷ InodeArea (a, c.body) SizePart ∷ edits_areas (pointer_edits c.file (Some (a, c.body)))) T T' = right (file_areas c.dir d) _ all in
+      let all : AgreeOn (plan_reads (create_plan a c d)) T T' = subst (λ p. AgreeOn (plan_reads p) T T') (sym plan) agree in
+      let reads : AgreeOn (file_areas c.dir d) T T' = left (file_areas c.dir d) _ all in
+      let w1 : AgreeOn (InodeArea d (NamePart c.name) ∷ InodeArea (a, c.body) KindPart ∷ InodeArea (a, c.body) LinksPart ∷ InodeArea (a, c.body) SizePart ∷ edits_areas (pointer_edits c.file (Some (a, c.body)))) T T' = right (file_areas c.dir d) _ all in
       let w2 = later w1 in
       let free' = ap (λ b. b && is_nothing (val T' (At (a, c.body) KindOf))) (is_pointer_free_same c.file (Some (a, c.body)) (later (later (later w2)))) ∙ ap (λ v. is_pointer_free T c.file && is_nothing v) (kind_same w2) ∙ free in
       (user, (own, (touch, (touch', (d, body_same c.dir d at reads, (ap is_dir_kind (kind_same reads) ∙ is, (holder, (free', (ap is_nothing (name_same w1) ∙ new, plan)))))))))

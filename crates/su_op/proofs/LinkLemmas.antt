@@ -17,20 +17,20 @@ use Rattle.su_op.specs.Link.{link_rule, link_plan}
 use Rattle.su_op.specs.Rule.{Plan, plan_reads, file_areas}
 use Rattle.su_op.specs.Soundness.{IsA, Sound}
 use Rattle.su_op.proofs.EditLemmas.{CanEdits}
-use Rattle.su_op.proofs.RuleLemmas.{Gives, Agrees, left, right, later, kind_same, links_same, name_same, body_same, IsA_dir, IsA_file, kind_after_name}
+use Rattle.su_op.proofs.RuleLemmas.{Gives, AgreeOn, left, right, later, kind_same, links_same, name_same, body_same, IsA_dir, IsA_file, kind_after_name}
 use Rattle.su_op.specs.Link.{LinkRow}
 use Rattle.std.proofs.Common.{refl}
 use Rattle.su_op.proofs.RuleLemmas.{OfEachPlan, PlanMakesNew}
 use Rattle.std.proofs.lemmas.Bool.{ltb-true}
 
 module _ (ro : Membership) (a : ℕ) (l : Link) where
-  pub link_local : (T T' : Tree) (p : Plan) → Gives (link_rule ro T a l) p → Agrees (plan_reads p) T T' → Gives (link_rule ro T' a l) p
+  pub link_local : (T T' : Tree) (p : Plan) → Gives (link_rule ro T a l) p → AgreeOn (plan_reads p) T T' → Gives (link_rule ro T' a l) p
   link_local T T' p (user, (touch, (touch', (d, at, (f, at_f, (is, (is_f, (holder, (holder', (new, (room, plan))))))))))) agree =
-      let all : Agrees (plan_reads (link_plan (links_at T f) l d f)) T T' = subst (λ p. Agrees (plan_reads p) T T') (sym plan) agree in
+      let all : AgreeOn (plan_reads (link_plan (links_at T f) l d f)) T T' = subst (λ p. AgreeOn (plan_reads p) T T') (sym plan) agree in
       let reads = left (file_areas l.dir d ++ file_areas l.file f) _ all in
-      let reads_d : Agrees (file_areas l.dir d) T T' = left (file_areas l.dir d) _ reads in
-      let reads_f : Agrees (file_areas l.file f) T T' = right (file_areas l.dir d) _ reads in
-      let w : Agrees (InodeArea d (NamePart l.name) ∷ InodeArea f LinksPart ∷ []) T T' = right (file_areas l.dir d ++ file_areas l.file f) _ all in
+      let reads_d : AgreeOn (file_areas l.dir d) T T' = left (file_areas l.dir d) _ reads in
+      let reads_f : AgreeOn (file_areas l.file f) T T' = right (file_areas l.dir d) _ reads in
+      let w : AgreeOn (InodeArea d (NamePart l.name) ∷ InodeArea f LinksPart ∷ []) T T' = right (file_areas l.dir d ++ file_areas l.file f) _ all in
       let links : val T' (At f LinksOf) ≡ val T (At f LinksOf) = links_same (later w) in
       (user, (touch, (touch', (d, body_same l.dir d at reads_d, (f, body_same l.file f at_f reads_f, (ap is_dir_kind (kind_same reads_d) ∙ is, (ap is_file_kind (kind_same reads_f) ∙ is_f, (holder, (holder', (ap is_nothing (name_same w) ∙ new, (ap (λ v. nat_lt (value_number v) most_links) links ∙ room, ap (λ v. link_plan (value_number v) l d f) links ∙ plan)))))))))))
 

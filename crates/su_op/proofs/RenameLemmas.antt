@@ -18,7 +18,7 @@ use Rattle.su_bytes.specs.declared.refusals.Refusal.{Refusal}
 use Rattle.su_bytes.specs.declared.refusals.Refusal.TheVariants.{Exists}
 use Rattle.su_op.specs.Soundness.{IsA}
 use Rattle.su_op.proofs.EditLemmas.{CanEdits}
-use Rattle.su_op.proofs.RuleLemmas.{Gives, Agrees, left, right, later, kind_same, name_same, body_same, IsA_dir, kind_after_name}
+use Rattle.su_op.proofs.RuleLemmas.{Gives, AgreeOn, left, right, later, kind_same, name_same, body_same, IsA_dir, kind_after_name}
 use Rattle.su_op.specs.Rename.{RenameRow}
 use Rattle.su_op.proofs.RuleLemmas.{OfEachPlan, PlanMakesNew}
 
@@ -28,27 +28,27 @@ there_is (Some x) e = (x, refl)
 
 module _ (T T' : Tree) (file : FileId) where
   -- the file is found again where it was looked for
-  found_same : (within : Bool) → (within || is_some (cond within None (body T file))) ≡ true → Agrees (moved_areas file (cond within None (body T file))) T T' → cond within None (body T' file) ≡ cond within None (body T file)
+  found_same : (within : Bool) → (within || is_some (cond within None (body T file))) ≡ true → AgreeOn (moved_areas file (cond within None (body T file))) T T' → cond within None (body T' file) ≡ cond within None (body T file)
   found_same true found agree = refl
   found_same false found agree =
       let (f, is) = there_is (body T file) found in
-      body_same file f is (subst (λ o. Agrees (moved_areas file o) T T') is agree) ∙ sym is
+      body_same file f is (subst (λ o. AgreeOn (moved_areas file o) T T') is agree) ∙ sym is
 
-  moves_same : (m : Option Place) → Agrees (moved_areas file m) T T' → moves_directory T' m ≡ moves_directory T m
+  moves_same : (m : Option Place) → AgreeOn (moved_areas file m) T T' → moves_directory T' m ≡ moves_directory T m
   moves_same None agree = refl
   moves_same (Some f) agree = ap is_dir_kind (kind_same agree)
 
 module _ (ro : Membership) (a : ℕ) (r : Rename) where
-  pub rename_local : (T T' : Tree) (p : Plan) → Gives (rename_rule ro T a r) p → Agrees (plan_reads p) T T' → Gives (rename_rule ro T' a r) p
+  pub rename_local : (T T' : Tree) (p : Plan) → Gives (rename_rule ro T a r) p → AgreeOn (plan_reads p) T T' → Gives (rename_rule ro T' a r) p
   rename_local T T' p (user, (touch, (touch', (d, at_d, (t, at_t, (found, (dir_d, (dir_t, (holder_d, (holder_t, (named, (new, (stay, plan))))))))))))) agree =
       let m : Option Place = moved T r in
-      let all : Agrees (plan_reads (rename_plan m r d t)) T T' = subst (λ p. Agrees (plan_reads p) T T') (sym plan) agree in
-      let reads : Agrees (file_areas r.from_ d ++ file_areas r.to_ t ++ moved_areas r.file m) T T' = left (file_areas r.from_ d ++ file_areas r.to_ t ++ moved_areas r.file m) _ all in
-      let reads_both : Agrees (file_areas r.from_ d ++ file_areas r.to_ t) T T' = left (file_areas r.from_ d ++ file_areas r.to_ t) _ reads in
-      let reads_d : Agrees (file_areas r.from_ d) T T' = left (file_areas r.from_ d) _ reads_both in
-      let reads_t : Agrees (file_areas r.to_ t) T T' = right (file_areas r.from_ d) _ reads_both in
-      let reads_m : Agrees (moved_areas r.file m) T T' = right (file_areas r.from_ d ++ file_areas r.to_ t) _ reads in
-      let w : Agrees (InodeArea t (NamePart r.new_) ∷ InodeArea d (NamePart r.old_) ∷ []) T T' = right (file_areas r.from_ d ++ file_areas r.to_ t ++ moved_areas r.file m) _ all in
+      let all : AgreeOn (plan_reads (rename_plan m r d t)) T T' = subst (λ p. AgreeOn (plan_reads p) T T') (sym plan) agree in
+      let reads : AgreeOn (file_areas r.from_ d ++ file_areas r.to_ t ++ moved_areas r.file m) T T' = left (file_areas r.from_ d ++ file_areas r.to_ t ++ moved_areas r.file m) _ all in
+      let reads_both : AgreeOn (file_areas r.from_ d ++ file_areas r.to_ t) T T' = left (file_areas r.from_ d ++ file_areas r.to_ t) _ reads in
+      let reads_d : AgreeOn (file_areas r.from_ d) T T' = left (file_areas r.from_ d) _ reads_both in
+      let reads_t : AgreeOn (file_areas r.to_ t) T T' = right (file_areas r.from_ d) _ reads_both in
+      let reads_m : AgreeOn (moved_areas r.file m) T T' = right (file_areas r.from_ d ++ file_areas r.to_ t) _ reads in
+      let w : AgreeOn (InodeArea t (NamePart r.new_) ∷ InodeArea d (NamePart r.old_) ∷ []) T T' = right (file_areas r.from_ d ++ file_areas r.to_ t ++ moved_areas r.file m) _ all in
       let same : moved T' r ≡ m = found_same T T' r.file (stays r) found reads_m in (
         user,
         (

@@ -64,7 +64,7 @@ of_given P (Find o r k) p each (x, found, given) = of_given P (k x) p (each x) g
 
 -- ---- two trees that agree on areas
 
-pub record Agrees (w : List Area) (T T' : Tree) : Type 0 where
+pub record AgreeOn (w : List Area) (T T' : Tree) : Type 0 where
   pub each : (c : Cell) → has w c ≡ true → val T' c ≡ val T c
 
 home_body_is : (v : Value) (f : FileId) (q p : Place) → home_body v f q ≡ Some p → q ≡ p
@@ -80,42 +80,42 @@ home_body_is (AFile f) g q p e = absurd cc
 home_body_is (APlace r) g q p e = absurd cc
 
 module _ {T T' : Tree} where
-  pub at_first : (a : Area) (w : List Area) (c : Cell) → Agrees (a ∷ w) T T' → in_area a c ≡ true → val T' c ≡ val T c
+  pub at_first : (a : Area) (w : List Area) (c : Cell) → AgreeOn (a ∷ w) T T' → in_area a c ≡ true → val T' c ≡ val T c
   at_first a w c agree here = agree.each c (or_left (in_area a c) (has w c) here)
 
-  pub later : {a : Area} {w : List Area} → Agrees (a ∷ w) T T' → Agrees w T T'
+  pub later : {a : Area} {w : List Area} → AgreeOn (a ∷ w) T T' → AgreeOn w T T'
   later {a} {w} agree = record { each = λ c here. agree.each c (or_right (in_area a c) (has w c) here) }
 
-  pub left : (u w : List Area) → Agrees (u ++ w) T T' → Agrees u T T'
+  pub left : (u w : List Area) → AgreeOn (u ++ w) T T' → AgreeOn u T T'
   left u w agree = record { each = λ c here. agree.each c (list_any-append (λ a. in_area a c) u w ∙ or_left (has u c) (has w c) here) }
 
-  pub right : (u w : List Area) → Agrees (u ++ w) T T' → Agrees w T T'
+  pub right : (u w : List Area) → AgreeOn (u ++ w) T T' → AgreeOn w T T'
   right u w agree = record { each = λ c here. agree.each c (list_any-append (λ a. in_area a c) u w ∙ or_right (has u c) (has w c) here) }
 
-  pub kind_same : {p : Place} {w : List Area} → Agrees (InodeArea p KindPart ∷ w) T T' → val T' (At p KindOf) ≡ val T (At p KindOf)
+  pub kind_same : {p : Place} {w : List Area} → AgreeOn (InodeArea p KindPart ∷ w) T T' → val T' (At p KindOf) ≡ val T (At p KindOf)
   kind_same {p} {w} agree = at_first (InodeArea p KindPart) w (At p KindOf) agree (and_from _ true (place_eq-itself p) refl)
 
-  pub links_same : {p : Place} {w : List Area} → Agrees (InodeArea p LinksPart ∷ w) T T' → val T' (At p LinksOf) ≡ val T (At p LinksOf)
+  pub links_same : {p : Place} {w : List Area} → AgreeOn (InodeArea p LinksPart ∷ w) T T' → val T' (At p LinksOf) ≡ val T (At p LinksOf)
   links_same {p} {w} agree = at_first (InodeArea p LinksPart) w (At p LinksOf) agree (and_from _ true (place_eq-itself p) refl)
 
-  pub size_same : {p : Place} {w : List Area} → Agrees (InodeArea p SizePart ∷ w) T T' → val T' (At p SizeOf) ≡ val T (At p SizeOf)
+  pub size_same : {p : Place} {w : List Area} → AgreeOn (InodeArea p SizePart ∷ w) T T' → val T' (At p SizeOf) ≡ val T (At p SizeOf)
   size_same {p} {w} agree = at_first (InodeArea p SizePart) w (At p SizeOf) agree (and_from _ true (place_eq-itself p) refl)
 
-  pub name_same : {p : Place} {x : Name} {w : List Area} → Agrees (InodeArea p (NamePart x) ∷ w) T T' → val T' (At p (NameOf x)) ≡ val T (At p (NameOf x))
+  pub name_same : {p : Place} {x : Name} {w : List Area} → AgreeOn (InodeArea p (NamePart x) ∷ w) T T' → val T' (At p (NameOf x)) ≡ val T (At p (NameOf x))
   name_same {p} {x} {w} agree = at_first (InodeArea p (NamePart x)) w (At p (NameOf x)) agree (and_from _ _ (place_eq-itself p) (name_eq-itself x))
 
-  pub pointer_same : {g : Place} {w : List Area} → Agrees (PointerArea g ∷ w) T T' → val T' (Pointer g) ≡ val T (Pointer g)
+  pub pointer_same : {g : Place} {w : List Area} → AgreeOn (PointerArea g ∷ w) T T' → val T' (Pointer g) ≡ val T (Pointer g)
   pointer_same {g} {w} agree = at_first (PointerArea g) w (Pointer g) agree (place_eq-itself g)
 
-  pub field_same : {p : Place} (f : Field) {w : List Area} → Agrees (InodeArea p WholePart ∷ w) T T' → val T' (At p f) ≡ val T (At p f)
+  pub field_same : {p : Place} (f : Field) {w : List Area} → AgreeOn (InodeArea p WholePart ∷ w) T T' → val T' (At p f) ≡ val T (At p f)
   field_same {p} f {w} agree = at_first (InodeArea p WholePart) w (At p f) agree (and_from _ true (place_eq-itself p) refl)
 
-  pub whole_same : {p : Place} {w : List Area} → Agrees (InodeArea p WholePart ∷ w) T T' → get T'.inodes p ≡ get T.inodes p
+  pub whole_same : {p : Place} {w : List Area} → AgreeOn (InodeArea p WholePart ∷ w) T T' → get T'.inodes p ≡ get T.inodes p
   unfolding val
   whole_same {p} {w} agree = inode_same (get T'.inodes p) (get T.inodes p) (λ f. field_same f agree)
 
   -- a body stays where its file's areas agree
-  pub body_same : (f : FileId) (p : Place) → body T f ≡ Some p → Agrees (file_areas f p) T T' → body T' f ≡ Some p
+  pub body_same : (f : FileId) (p : Place) → body T f ≡ Some p → AgreeOn (file_areas f p) T T' → body T' f ≡ Some p
   unfolding body
   body_same (User u i) p is agree =
       let at : (u, i) ≡ p = home_body_is (val T (At (u, i) KindOf)) (User u i) (u, i) p is in
@@ -123,7 +123,7 @@ module _ {T T' : Tree} where
       ap (λ v. home_body v (User u i) (u, i)) e ∙ is
   body_same (Group g k) p is agree = ap pointer_body (pointer_same (later agree)) ∙ is
 
-  pub is_pointer_free_same : (f : FileId) (v : Option Place) → Agrees (edits_areas (pointer_edits f v)) T T' → is_pointer_free T' f ≡ is_pointer_free T f
+  pub is_pointer_free_same : (f : FileId) (v : Option Place) → AgreeOn (edits_areas (pointer_edits f v)) T T' → is_pointer_free T' f ≡ is_pointer_free T f
   is_pointer_free_same (User u i) v agree = refl
   is_pointer_free_same (Group g k) v agree = ap is_nothing (pointer_same agree)
 

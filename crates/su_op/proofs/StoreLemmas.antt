@@ -24,7 +24,7 @@ use Rattle.su_op.proofs.KeyLemmas.{get-set_place, place_eq-itself, place_eq-same
 use Rattle.su_op.proofs.InodeChangeLemmas.{number_same}
 use Rattle.su_op.proofs.EditLemmas.{CanEdits, edits_leave, edits_alike, edits_sound, tree_same, place_same_value}
 use Rattle.su_op.proofs.AreaLemmas.{areas_apart}
-use Rattle.su_op.proofs.RuleLemmas.{Gives, Agrees, gives_of, of_gives}
+use Rattle.su_op.proofs.RuleLemmas.{Gives, AgreeOn, gives_of, of_gives}
 use Rattle.su_op.proofs.CreateLemmas.{create_local, create_can, create_new, create_row}
 use Rattle.su_op.proofs.UnlinkLemmas.{unlink_local, unlink_can, unlink_new, unlink_row}
 use Rattle.su_op.proofs.WriteLemmas.{write_local, write_can, write_new, write_row}
@@ -43,7 +43,7 @@ use Rattle.std.proofs.lemmas.Bool.{or_right}
 
 -- ---- by cases over the operations
 
-local_of : (ro : Membership) (a : ℕ) (x : Op) (T T' : Tree) (p : Plan) → Sound T → Gives (rule_of ro T a x) p → Agrees (plan_reads p) T T' → Gives (rule_of ro T' a x) p
+local_of : (ro : Membership) (a : ℕ) (x : Op) (T T' : Tree) (p : Plan) → Sound T → Gives (rule_of ro T a x) p → AgreeOn (plan_reads p) T T' → Gives (rule_of ro T' a x) p
 local_of ro a (Create c) T T' p sound g agree = create_local ro a c T T' p g agree
 local_of ro a (Unlink u) T T' p sound g agree = unlink_local ro a u T T' p sound g agree
 local_of ro a (Write w) T T' p sound g agree = write_local ro a w T T' p g agree

@@ -22,7 +22,7 @@ use Rattle.su_op.specs.Take.{copy_of, take_rule, take_plan}
 use Rattle.su_op.specs.Soundness.{WellLinked, IsBodyOf, Sound}
 use Rattle.su_op.proofs.GrowthLemmas.{no_inode, back_gone, copied_gone}
 use Rattle.su_op.proofs.EditLemmas.{IsFree, CanEdit, MakesNew, CanEdits, field_after}
-use Rattle.su_op.proofs.RuleLemmas.{Gives, Agrees, left, right, later, field_same, whole_same, body_same, nothing_is, nothing_free, can_pointer_some, pointer_of_body}
+use Rattle.su_op.proofs.RuleLemmas.{Gives, AgreeOn, left, right, later, field_same, whole_same, body_same, nothing_is, nothing_free, can_pointer_some, pointer_of_body}
 use Rattle.su_op.specs.Take.{TakeRow}
 use Rattle.su_op.proofs.RuleLemmas.{pointer_written}
 use Rattle.su_op.proofs.RuleLemmas.{pointers_make_none}
@@ -56,13 +56,13 @@ unfolding val
 copied_body T p f g (k, home) = (k, field_after T p (copy_of (get T.inodes f)) KindOf ∙ ap (λ o. field_value o KindOf) (copied_is (get T.inodes f) (get T.inodes p)) ∙ home)
 
 module _ (ro : Membership) (a : ℕ) (t : Take) where
-  pub take_local : (T T' : Tree) (p : Plan) → Gives (take_rule ro T a t) p → Agrees (plan_reads p) T T' → Gives (take_rule ro T' a t) p
+  pub take_local : (T T' : Tree) (p : Plan) → Gives (take_rule ro T a t) p → AgreeOn (plan_reads p) T T' → Gives (take_rule ro T' a t) p
   take_local T T' p (user, (group, (touch, (f, at, (free, plan))))) agree =
       let o : Option Inode = get T.inodes f in
-      let all : Agrees (plan_reads (take_plan o a t f)) T T' = subst (λ p. Agrees (plan_reads p) T T') (sym plan) agree in
-      let reads : Agrees (InodeArea f WholePart ∷ file_areas t.file f) T T' = left (InodeArea f WholePart ∷ file_areas t.file f) _ all in
-      let w : Agrees (plan_writes (take_plan o a t f)) T T' = right (InodeArea f WholePart ∷ file_areas t.file f) _ all in
-      let new : Agrees (InodeArea (a, t.body) WholePart ∷ pointer_areas t.file) T T' = subst (λ w. Agrees w T T') (take_writes o a t f) w in
+      let all : AgreeOn (plan_reads (take_plan o a t f)) T T' = subst (λ p. AgreeOn (plan_reads p) T T') (sym plan) agree in
+      let reads : AgreeOn (InodeArea f WholePart ∷ file_areas t.file f) T T' = left (InodeArea f WholePart ∷ file_areas t.file f) _ all in
+      let w : AgreeOn (plan_writes (take_plan o a t f)) T T' = right (InodeArea f WholePart ∷ file_areas t.file f) _ all in
+      let new : AgreeOn (InodeArea (a, t.body) WholePart ∷ pointer_areas t.file) T T' = subst (λ w. AgreeOn w T T') (take_writes o a t f) w in
       let free' = ap (λ v. not (nat_eq f.0 a) && is_nothing v) (field_same KindOf new) ∙ free in
       (user, (group, (touch, (f, body_same t.file f at (later reads), (free', ap (λ o. take_plan o a t f) (whole_same reads) ∙ plan)))))
 

@@ -11,7 +11,7 @@ use Rattle.su_op.specs.declared.truncate.Truncate.{Truncate}
 use Rattle.su_op.specs.Rule.{Plan, plan_reads, file_areas}
 use Rattle.su_op.specs.Truncate.{truncate_rule, truncate_plan}
 use Rattle.su_op.proofs.EditLemmas.{CanEdits}
-use Rattle.su_op.proofs.RuleLemmas.{Gives, Agrees, left, later, kind_same, size_same, body_same, IsA_file, size_is}
+use Rattle.su_op.proofs.RuleLemmas.{Gives, AgreeOn, left, later, kind_same, size_same, body_same, IsA_file, size_is}
 use Rattle.std.proofs.Common.{Bool, true, false, [], ◌++◌, map, min, refl, ◌≡◌}
 use Rattle.std.specs.Bool.{if◌then◌else◌}
 use Rattle.su_op.specs.Area.{blocks_between, size_cell, block_cells}
@@ -21,11 +21,11 @@ use Rattle.std.proofs.Common.{max, nat_eq}
 use Rattle.su_op.proofs.RuleLemmas.{OfEachPlan, PlanMakesNew}
 
 module _ (ro : Membership) (a : ℕ) (t : Truncate) where
-  pub truncate_local : (T T' : Tree) (p : Plan) → Gives (truncate_rule ro T a t) p → Agrees (plan_reads p) T T' → Gives (truncate_rule ro T' a t) p
+  pub truncate_local : (T T' : Tree) (p : Plan) → Gives (truncate_rule ro T a t) p → AgreeOn (plan_reads p) T T' → Gives (truncate_rule ro T' a t) p
   truncate_local T T' p (user, (touch, (f, at, (is, (holder, (fits, plan)))))) agree =
-      let all : Agrees (plan_reads (truncate_plan (value_number (val T (At f SizeOf))) t f)) T T' = subst (λ p. Agrees (plan_reads p) T T') (sym plan) agree in
-      let reads : Agrees (InodeArea f SizePart ∷ file_areas t.file f) T T' = left (InodeArea f SizePart ∷ file_areas t.file f) _ all in
-      let reads_f : Agrees (file_areas t.file f) T T' = later reads in
+      let all : AgreeOn (plan_reads (truncate_plan (value_number (val T (At f SizeOf))) t f)) T T' = subst (λ p. AgreeOn (plan_reads p) T T') (sym plan) agree in
+      let reads : AgreeOn (InodeArea f SizePart ∷ file_areas t.file f) T T' = left (InodeArea f SizePart ∷ file_areas t.file f) _ all in
+      let reads_f : AgreeOn (file_areas t.file f) T T' = later reads in
       (user, (touch, (f, body_same t.file f at reads_f, (ap is_file_kind (kind_same reads_f) ∙ is, (holder, (fits, ap (λ v. truncate_plan (value_number v) t f) (size_same reads) ∙ plan))))))
 
   pub truncate_can : (T : Tree) (p : Plan) → Gives (truncate_rule ro T a t) p → CanEdits T p.edits

@@ -23,31 +23,31 @@ use Rattle.su_op.specs.Unlink.{unlink_rule, unlink_plan, link_goes, fewer_links,
 use Rattle.su_op.specs.Soundness.{IsA, Sound}
 use Rattle.su_op.proofs.KeyLemmas.{place_eq-itself}
 use Rattle.su_op.proofs.EditLemmas.{CanEdits, MakesNew, pointer_after, pointer_is}
-use Rattle.su_op.proofs.RuleLemmas.{Gives, Agrees, left, right, later, kind_same, links_same, name_same, field_same, whole_same, body_same, IsA_dir, IsA_file, many_links, bare_file, bare_same, kind_after_name, few_links, user_home, one_group, pointer_of_body}
+use Rattle.su_op.proofs.RuleLemmas.{Gives, AgreeOn, left, right, later, kind_same, links_same, name_same, field_same, whole_same, body_same, IsA_dir, IsA_file, many_links, bare_file, bare_same, kind_after_name, few_links, user_home, one_group, pointer_of_body}
 use Rattle.su_op.specs.Unlink.{UnlinkRow}
 use Rattle.su_op.specs.Area.{links_cell, name_cell, all_cells}
 use Rattle.su_op.specs.Rule.{pointer_areas}
 use Rattle.su_op.proofs.RuleLemmas.{OfEachPlan, PlanMakesNew}
 use Rattle.su_table.specs.Query.{links_at}
 
-whole_of : (T T' : Tree) (f : Place) (file : FileId) → Agrees (edits_areas (file_goes file f)) T T' → Agrees (InodeArea f WholePart ∷ []) T T'
+whole_of : (T T' : Tree) (f : Place) (file : FileId) → AgreeOn (edits_areas (file_goes file f)) T T' → AgreeOn (InodeArea f WholePart ∷ []) T T'
 whole_of T T' f (User u i) agree = agree
 whole_of T T' f (Group g k) agree = later agree
 
 module _ (ro : Membership) (a : ℕ) (u : Unlink) where
-  pub unlink_local : (T T' : Tree) (p : Plan) → Sound T → Gives (unlink_rule ro T a u) p → Agrees (plan_reads p) T T' → Gives (unlink_rule ro T' a u) p
+  pub unlink_local : (T T' : Tree) (p : Plan) → Sound T → Gives (unlink_rule ro T a u) p → AgreeOn (plan_reads p) T T' → Gives (unlink_rule ro T' a u) p
   unlink_local T T' p sound (user, (touch, (touch', (d, at, (f, at_f, (is, (holder, (holder', (named, (empty, plan)))))))))) agree =
       let l : ℕ = value_number (val T (At f LinksOf)) in
-      let all : Agrees (plan_reads (unlink_plan l u d f)) T T' = subst (λ p. Agrees (plan_reads p) T T') (sym plan) agree in
+      let all : AgreeOn (plan_reads (unlink_plan l u d f)) T T' = subst (λ p. AgreeOn (plan_reads p) T T') (sym plan) agree in
       let reads = left (file_areas u.dir d ++ file_areas u.file f) _ all in
-      let reads_d : Agrees (file_areas u.dir d) T T' = left (file_areas u.dir d) _ reads in
-      let reads_f : Agrees (file_areas u.file f) T T' = right (file_areas u.dir d) _ reads in
-      let w : Agrees (InodeArea d (NamePart u.name) ∷ edits_areas (link_goes l u.file f)) T T' = right (file_areas u.dir d ++ file_areas u.file f) _ all in
+      let reads_d : AgreeOn (file_areas u.dir d) T T' = left (file_areas u.dir d) _ reads in
+      let reads_f : AgreeOn (file_areas u.file f) T T' = right (file_areas u.dir d) _ reads in
+      let w : AgreeOn (InodeArea d (NamePart u.name) ∷ edits_areas (link_goes l u.file f)) T T' = right (file_areas u.dir d ++ file_areas u.file f) _ all in
       let (links, empty') = go f empty (nat_le 2 l) refl (kind_same reads_f) (later w) in
       (user, (touch, (touch', (d, body_same u.dir d at reads_d, (f, body_same u.file f at_f reads_f, (ap is_dir_kind (kind_same reads_d) ∙ is, (holder, (holder', (ap (λ v. is_link_to v u.file) (name_same w) ∙ named, (empty', ap (λ v. unlink_plan (value_number v) u d f) links ∙ plan))))))))))
     where
       go : (f : Place) → is_bare_at T f ≡ true → (b : Bool) → nat_le 2 (value_number (val T (At f LinksOf))) ≡ b → val T' (At f KindOf) ≡ val T (At f KindOf)
-          → Agrees (edits_areas (if b then fewer_links (value_number (val T (At f LinksOf))) f else file_goes u.file f)) T T' → (val T' (At f LinksOf) ≡ val T (At f LinksOf)) × (is_bare_at T' f ≡ true)
+          → AgreeOn (edits_areas (if b then fewer_links (value_number (val T (At f LinksOf))) f else file_goes u.file f)) T T' → (val T' (At f LinksOf) ≡ val T (At f LinksOf)) × (is_bare_at T' f ≡ true)
       go f empty true many kind agree = (links_same agree, bare_file T' f (ap is_file_kind kind ∙ many_links T f ((sound.linked f).one) many))
       go f empty false last kind agree = let w = whole_of T T' f u.file agree in (field_same LinksOf w, bare_same T T' f (whole_same w) ∙ empty)
 

@@ -12,7 +12,7 @@ use Rattle.su_op.specs.Rule.{Plan, plan_reads, file_areas}
 use Rattle.su_op.specs.Write.{write_rule, write_plan}
 use Rattle.su_op.specs.Writing.{Writing}
 use Rattle.su_op.proofs.EditLemmas.{CanEdits}
-use Rattle.su_op.proofs.RuleLemmas.{Gives, Agrees, left, later, kind_same, size_same, body_same, IsA_file, size_is}
+use Rattle.su_op.proofs.RuleLemmas.{Gives, AgreeOn, left, later, kind_same, size_same, body_same, IsA_file, size_is}
 use Rattle.std.proofs.Common.{Bool, true, false, [], ◌++◌, map, min, refl, ◌+◌, ◌≡◌}
 use Rattle.std.specs.Bool.{if◌then◌else◌}
 use Rattle.su_op.specs.Area.{blocks_between, size_cell, block_cells}
@@ -21,11 +21,11 @@ use Rattle.su_op.specs.Write.{WriteRow}
 use Rattle.su_op.proofs.RuleLemmas.{OfEachPlan, PlanMakesNew}
 
 module _ (ro : Membership) (a : ℕ) (w : Writing) where
-  pub write_local : (T T' : Tree) (p : Plan) → Gives (write_rule ro T a w) p → Agrees (plan_reads p) T T' → Gives (write_rule ro T' a w) p
+  pub write_local : (T T' : Tree) (p : Plan) → Gives (write_rule ro T a w) p → AgreeOn (plan_reads p) T T' → Gives (write_rule ro T' a w) p
   write_local T T' p (user, (some, (touch, (f, at, (is, (holder, (fits, plan))))))) agree =
-      let all : Agrees (plan_reads (write_plan (value_number (val T (At f SizeOf))) w f)) T T' = subst (λ p. Agrees (plan_reads p) T T') (sym plan) agree in
-      let reads : Agrees (InodeArea f SizePart ∷ file_areas w.file f) T T' = left (InodeArea f SizePart ∷ file_areas w.file f) _ all in
-      let reads_f : Agrees (file_areas w.file f) T T' = later reads in
+      let all : AgreeOn (plan_reads (write_plan (value_number (val T (At f SizeOf))) w f)) T T' = subst (λ p. AgreeOn (plan_reads p) T T') (sym plan) agree in
+      let reads : AgreeOn (InodeArea f SizePart ∷ file_areas w.file f) T T' = left (InodeArea f SizePart ∷ file_areas w.file f) _ all in
+      let reads_f : AgreeOn (file_areas w.file f) T T' = later reads in
       (user, (some, (touch, (f, body_same w.file f at reads_f, (ap is_file_kind (kind_same reads_f) ∙ is, (holder, (fits, ap (λ v. write_plan (value_number v) w f) (size_same reads) ∙ plan)))))))
 
   pub write_can : (T : Tree) (p : Plan) → Gives (write_rule ro T a w) p → CanEdits T p.edits

@@ -106,7 +106,7 @@ impl Accepted<'_> {
         }
     }
 
-    /// Does it. The forest is the one that was checked, or holds the same. Fails only with
+    /// Performs the operation, on a forest where what its check found still holds. Fails only with
     /// `NoMemory`, and then changes nothing.
     pub fn perform(&self, alloc: Global, forest: &mut Forest) -> Result<(), Refusal>
         requires { StillFits forest.old self.now }
@@ -130,7 +130,8 @@ impl Accepted<'_> {
     }
 }
 
-/// Does an operation of that author. A refusal, the first in order or `NoMemory`, changes nothing.
+/// Performs an operation of that author. A refusal, the first in order or `NoMemory`, changes
+/// nothing.
 pub fn apply(
     alloc: Global,
     forest: &mut Forest,
@@ -144,6 +145,7 @@ pub fn apply(
         (e ≡ NoMemory) ⊎ (why roster.now forest.old author op.now ≡ Some e)) }
     ensures err { OnErr result (forest.new ≡ forest.old) }
 {
+    // no `?`, for the prover (docs/ARCHITECTURE.md, "Forms the kit wants")
     match op.check(forest, roster, author) {
         Ok(accepted) => accepted.perform(alloc, forest),
         Err(refusal) => Err(refusal),
@@ -167,6 +169,7 @@ pub fn footprint(
     ensures refused { IfErr result (λ e.
         (e ≡ NoMemory) ⊎ (why roster.now forest.now author op.now ≡ Some e)) }
 {
+    // no `?`, for the prover (docs/ARCHITECTURE.md, "Forms the kit wants")
     match op.check(forest, roster, author) {
         Ok(accepted) => accepted.footprint(alloc),
         Err(refusal) => Err(refusal),
