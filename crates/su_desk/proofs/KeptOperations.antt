@@ -14,10 +14,10 @@ use Rattle.su_op.specs.Area.{has}
 use Rattle.su_op.specs.Operation.{why}
 use Rattle.su_op.specs.Soundness.{Sound, KindOrFile}
 use Rattle.su_op.specs.Store.{Action, store}
-use Rattle.su_op.proofs.Storing.{none_is, store_lawful}
-use Rattle.su_op.proofs.Standing.{block_written}
-use Rattle.su_inverse.specs.Kept.{areas_of, IsPutBack}
-use Rattle.su_inverse.proofs.Again.{kept_again}
+use Rattle.su_op.proofs.StoreLemmas.{none_is, store_lawful}
+use Rattle.su_op.proofs.SoundnessLemmas.{block_written}
+use Rattle.su_inverse.specs.Kept.{inverse_areas, IsPutBack}
+use Rattle.su_inverse.proofs.KeptLemmas.{kept_again}
 use Rattle.su_undo.specs.System.{Agree}
 use Rattle.su_undo.proofs.TakingOut.{Beside, AllBeside, led_to, replay-cons, replayed_to, agree_read, leaves_others, past_it, stay_inside, same_outside}
 use Rattle.su_desk.specs.declared.entries.Entry.{Entry}
@@ -149,7 +149,7 @@ module _ (ro : Membership) where
   fits_beside : (w : List Area) (S S' : Tree) (t : NumberedAction) (k : KeptOperation) → Beside (store ro) w S S' t.action → Fits ro S t k → Fits ro S' t k
   fits_beside w S S' t k b fits =
       let x = t.action in
-      let wrote : (c : Cell) → has (areas_of k.inverse) c ≡ true → has ((store ro).writes S x) c ≡ true = λ c is. ap (λ a. has a c) (sym fits.writes) ∙ sym (fits.areas c) ∙ is in
+      let wrote : (c : Cell) → has (inverse_areas k.inverse) c ≡ true → has ((store ro).writes S x) c ≡ true = λ c is. ap (λ a. has a c) (sym fits.writes) ∙ sym (fits.areas c) ∙ is in
       record {
         accepted = none_is (why ro S' x.author x.op) b.goes.ok;
         number = fits.number;
@@ -185,7 +185,7 @@ module _ (ro : Membership) where
       let after = (store ro).act S x in
       let w = (store ro).writes S x in
       let replayed = replay_reached ro h after T ts in_replay in
-      let same : (c : Cell) → has (areas_of k.inverse) c ≡ has w c = λ c. fits.areas c ∙ ap (λ a. has a c) fits.writes in
+      let same : (c : Cell) → has (inverse_areas k.inverse) c ≡ has w c = λ c. fits.areas c ∙ ap (λ a. has a c) fits.writes in
       let b = past_it (store ro) (store_lawful ro) S T x (actions ts) sound s.goes.alike.ok replayed
       (none_reads ro h w after T ts in_replay (subst (λ a. UnreadBy ro h a ts) (sym s.goes.alike.writes) unread)) in
       let inside = stay_inside (store ro) (store_lawful ro) w after S (actions ts) b in

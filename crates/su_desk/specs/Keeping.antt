@@ -8,7 +8,7 @@ use Rattle.su_op.specs.declared.areas.Area.{Area}
 use Rattle.su_op.specs.Area.{has, meet}
 use Rattle.su_op.specs.Operation.{why, reads, writes}
 use Rattle.su_op.specs.Store.{store}
-use Rattle.su_inverse.specs.Kept.{areas_of, IsKeptOf}
+use Rattle.su_inverse.specs.Kept.{inverse_areas, IsKeptOf}
 use Rattle.su_desk.specs.declared.entries.Entry.{Entry}
 use Rattle.su_desk.specs.declared.kept.KeptOperation.{KeptOperation}
 use Rattle.su_desk.specs.History.{NumberedAction, live}
@@ -21,7 +21,7 @@ pub record Fits (ro : Membership) (T : Tree) (t : NumberedAction) (k : KeptOpera
   pub number : k.number ≡ t.number
   pub reads : k.footprint.reads.items ≡ reads ro T t.action.author t.action.op
   pub writes : k.footprint.writes.items ≡ writes ro T t.action.author t.action.op
-  pub areas : (c : Cell) → has (areas_of k.inverse) c ≡ has k.footprint.writes.items c
+  pub areas : (c : Cell) → has (inverse_areas k.inverse) c ≡ has k.footprint.writes.items c
   pub kept : IsKeptOf k.inverse T
 
 -- from S the operations lead to T, and what is kept of each fits the tree where it is applied

@@ -16,7 +16,7 @@ use std::alloc::Global;
 use std::marker::Model;
 use su_bytes::{Principal, Refusal, Roster, User};
 use su_inverse::build;
-use su_op::{Change, Op, apply, footprint};
+use su_op::{Change, Op};
 use su_table::Forest;
 
 /// A history of changes, and the tree of its live operations. It is seen as its roster and its
@@ -158,11 +158,16 @@ impl Desk {
     fn operate(&mut self, author: User, op: Op) -> Result<u64, Refusal>
         ensures { Answers self.old author (Do op) result self.new }
     {
-        let footprint = footprint(self.alloc, &self.forest, &self.roster, author, &op)?;
+        // no `?`, for the prover (docs/ARCHITECTURE.md, "Forms the kit wants")
+        let accepted = match op.check(&self.forest, &self.roster, author) {
+            Ok(accepted) => accepted,
+            Err(refusal) => return Err(refusal),
+        };
+        let footprint = accepted.footprint(self.alloc)?;
         let inverse = build(self.alloc, &self.forest, footprint.writes.as_slice())?;
         self.entries.reserve(1)?;
         self.kept.reserve(1)?;
-        apply(self.alloc, &mut self.forest, &self.roster, author, &op)?;
+        accepted.perform(self.alloc, &mut self.forest)?;
         raise(&mut self.counters, author, footprint.writes.as_slice());
         let change = Change::Do(op);
         self.entries.push_reserved(Entry { author, change });

@@ -1,7 +1,8 @@
-pub mod Restored
-pub mod Sets
-pub mod Holding
-pub mod Displacing
-pub mod Lengths
-pub mod Writing
-pub mod Again
+pub mod MixedLemmas
+pub mod AreaListLemmas
+pub mod HeldLemmas
+pub mod OverwrittenLemmas
+pub mod SizeLemmas
+pub mod InverseLemmas
+pub mod KeptLemmas
+pub mod Public

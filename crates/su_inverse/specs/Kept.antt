@@ -1,19 +1,22 @@
 -- What an inverse keeps: the values that the cells of some areas hold in a tree.
-use Rattle.std.specs.Prelude.{◌≡◌, ℕ, ◌+◌, ◌*◌, Bool, true, false, List, [], ◌∷◌, ◌++◌, map, Some, None, option_map}
+use Rattle.std.specs.Prelude.{◌≡◌, ℕ, ◌+◌, ◌*◌, ◌≤◌, Bool, true, false, List, [], ◌∷◌, ◌++◌, map, Some, None, option_map, length}
 use Rattle.std.specs.List.{AllByRecursion}
 use Rattle.std.specs.FinMap.{get}
 use Rattle.su_node.specs.Inode.{bytes_of, within}
+use Rattle.su_node.specs.declared.blocks.TheConstants.{BLOCK_SIZE}
 use Rattle.su_node.specs.Field.{Field.KindOf, Field.LinksOf, Field.SizeOf, Field.BlockOf, Field.NameOf, Value.Nothing, Value.ANumber, Value.AFile, Value.APlace}
-use Rattle.su_node.specs.InodeChange.{InodeChange.Named, InodeChange.Linked, InodeChange.Copied, InodeChange.Gone}
+use Rattle.su_node.specs.InodeChange.{InodeChange.Named, InodeChange.Linked, InodeChange.Written, InodeChange.Resized, InodeChange.Copied, InodeChange.Gone}
 use Rattle.su_bytes.specs.Place.{Place}
 use Rattle.su_table.specs.Tree.{Tree}
 use Rattle.su_table.specs.Cell.{Cell, Cell.At, Cell.Pointer, val}
-use Rattle.su_table.specs.Query.{is_free_at, is_file_at}
+use Rattle.su_table.specs.Query.{is_file_at, size_at}
 use Rattle.su_table.specs.Edit.{Edit, Edit.Inodes, Edit.Pointers}
 use Rattle.su_op.specs.declared.areas.Part.TheVariants.{Kind as KindPart, Links as LinksPart, Size as SizePart, Name as NamePart, Blocks as BlocksPart, Whole as WholePart}
+use Rattle.su_op.specs.declared.areas.BlockRun.{BlockRun}
 use Rattle.su_op.specs.declared.areas.Area.{Area}
 use Rattle.su_op.specs.declared.areas.Area.TheVariants.{Inode as InodeArea, Pointer as PointerArea}
 use Rattle.su_op.specs.Area.{has}
+use Rattle.su_op.specs.Soundness.{KindIsNew}
 use Rattle.su_inverse.specs.declared.returns.Return.{Return}
 use Rattle.su_inverse.specs.declared.returns.Return.TheVariants.{Inode as InodeReturn, Name as NameReturn, Pointer as PointerReturn}
 use Rattle.su_inverse.specs.declared.resets.Reset.{Reset}
@@ -26,8 +29,7 @@ use Rattle.su_inverse.specs.declared.inverses.Inverse.{Inverse}
 
 -- of a place where nothing stands the kind can be kept, which is that there is none
 abbrev pub CanKeep : Tree → Area → Type 0
-CanKeep T (InodeArea p KindPart) = is_free_at T p ≡ true
-CanKeep T a = Unit {0}
+CanKeep T a = KindIsNew T a
 
 -- ---- the areas
 
@@ -52,8 +54,12 @@ kept_area (SizeKept k) = size_area k
 kept_area (ResetKept r) = reset_area r
 kept_area (BlocksKept k) = blocks_area k
 
-abbrev pub areas_of : Inverse → List Area
-areas_of i = map return_area i.returns.items ++ (map size_area i.sizes.items ++ (map reset_area i.resets.items ++ map blocks_area i.blocks.items))
+abbrev pub inverse_areas : Inverse → List Area
+inverse_areas i =
+    map return_area i.returns.items
+    ++ (map size_area i.sizes.items
+    ++ (map reset_area i.resets.items
+    ++ map blocks_area i.blocks.items))
 
 -- ---- their values: the tree holds what is kept
 
@@ -76,9 +82,12 @@ HoldsReset T (LinksReset p n) = val T (At p LinksOf) ≡ ANumber n
 abbrev pub HoldsSize : Tree → KeptSize → Type 0
 HoldsSize T k = val T (At k.place SizeOf) ≡ ANumber k.size
 
--- the bytes from the first block on, as many as the blocks have
+-- of a file's bytes those in a run of blocks
+abbrev pub bytes_in : BlockRun → List ℕ → List ℕ
+bytes_in r = within (BLOCK_SIZE * r.first) (BLOCK_SIZE * (r.more + 1))
+
 abbrev pub HoldsBlocks : Tree → KeptBlocks → Type 0
-HoldsBlocks T k = option_map (within (4096 * k.run.first) (4096 * (k.run.more + 1))) (bytes_of (get T.inodes k.place)) ≡ Some k.bytes.items
+HoldsBlocks T k = option_map (bytes_in k.run) (bytes_of (get T.inodes k.place)) ≡ Some k.bytes.items
 
 abbrev pub HoldsKept : Tree → Kept → Type 0
 HoldsKept T (ReturnKept r) = HoldsReturn T r
@@ -96,14 +105,28 @@ pub record IsKeptOf (i : Inverse) (T : Tree) : Type 0 where
 -- T has the kept values in the areas, and those of F in all other cells
 pub record IsPutBack (i : Inverse) (F : Tree) (T : Tree) : Type 0 where
   pub kept : IsKeptOf i T
-  pub others : (c : Cell) → has (areas_of i) c ≡ false → val F c ≡ val T c
+  pub others : (c : Cell) → has (inverse_areas i) c ≡ false → val F c ≡ val T c
 
--- T holds what S holds in these cells; and where a block is one of them, in both or in neither a file stands
+-- T holds what S holds in these cells; and where a block is one of them, in both or in neither a
+-- file stands
 pub record HoldsSame (w : Cell → Bool) (S : Tree) (T : Tree) : Type 0 where
   pub cells : (c : Cell) → w c ≡ true → val T c ≡ val S c
   pub files : (p : Place) (n : ℕ) → w (At p (BlockOf n)) ≡ true → is_file_at T p ≡ is_file_at S p
 
 -- ---- the edits that put them back
+
+-- the file at p of F gets n bytes
+abbrev pub size_edit : Tree → Place → ℕ → Edit
+size_edit F p n = Inodes p (Resized (size_at F p) n)
+
+-- the kept bytes are written into the file of F
+abbrev pub blocks_edit : Tree → KeptBlocks → Edit
+blocks_edit F k =
+    Inodes k.place (Written (size_at F k.place) (BLOCK_SIZE * k.run.first) k.bytes.items)
+
+-- the file of F is long enough for them
+abbrev pub HasLengthFor : Tree → KeptBlocks → Type 0
+HasLengthFor F k = BLOCK_SIZE * k.run.first + length k.bytes.items ≤ size_at F k.place
 
 abbrev pub return_edit : Return → Edit
 return_edit (InodeReturn p i) = Inodes p (Copied i)

@@ -1,3 +1,3 @@
 pub mod Kept
-pub mod Displaced
-pub mod Putting
+pub mod Overwritten
+pub mod Remaining

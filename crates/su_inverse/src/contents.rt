@@ -1,11 +1,12 @@
 // The sizes and the bytes of files.
-ghost use Rattle.std.specs.Prelude.{◌≡◌, ◌+◌, ◌*◌, ◌<◌, ◌≤◌, [], length, IfErr, OnOk, OnErr};
-ghost use Rattle.su_node.specs.InodeChange.{InodeChange.Resized, InodeChange.Written};
+ghost use Rattle.std.specs.Prelude.{◌≡◌, ◌<◌, ◌≤◌, [], length, IfErr, OnOk, OnErr};
 ghost use Rattle.su_table.specs.Query.{size_at};
-ghost use Rattle.su_table.specs.Edit.{Edit.Inodes, edit};
+ghost use Rattle.su_table.specs.Edit.{edit};
+ghost use Rattle.su_inverse.specs.Kept.{size_edit, blocks_edit, HasLengthFor};
 ghost use Rattle.su_bytes.specs.declared.refusals.Refusal.TheVariants.{NoMemory};
 
-use su_bytes::{FileId, Place, Refusal, User};
+use su_bytes::{Place, Refusal};
+use su_node::BLOCK_SIZE;
 use su_op::BlockRun;
 use su_table::Forest;
 
@@ -25,12 +26,13 @@ pub(crate) struct KeptBlocks {
 }
 
 impl KeptBlocks {
-    /// Writes them again, into a file that is long enough. That takes no memory.
+    /// Writes the bytes into the file, if it is long enough. Takes no memory.
     pub(crate) fn write(&self, forest: &mut Forest)
-        ensures written { 0 < length self.now.bytes.items → 4096 * self.now.run.first + length self.now.bytes.items ≤ size_at forest.old self.now.place → forest.new ≡ edit forest.old (Inodes self.now.place (Written (size_at forest.old self.now.place) (4096 * self.now.run.first) self.now.bytes.items)) }
+        ensures written { 0 < length self.now.bytes.items → HasLengthFor forest.old self.now
+            → forest.new ≡ edit forest.old (blocks_edit forest.old self.now) }
         ensures none { self.now.bytes.items ≡ [] → forest.new ≡ forest.old }
     {
-        let off = 4096 * self.run.first as u64;
+        let off = BLOCK_SIZE as u64 * self.run.first as u64;
         let end_ = off + self.bytes.len() as u64;
         let size = forest.size(self.place);
         if !self.bytes.is_empty() && end_ <= size as u64 {
@@ -39,28 +41,29 @@ impl KeptBlocks {
     }
 }
 
-/// Makes a file that has fewer bytes as long as that.
-pub(crate) fn grow(forest: &mut Forest, place: Place, size: u32) -> Result<(), Refusal>
-    ensures grown { OnOk result (size_at forest.old place < size → forest.new ≡ edit forest.old (Inodes place (Resized (size_at forest.old place) size))) }
-    ensures same { OnOk result (size ≤ size_at forest.old place → forest.new ≡ forest.old) }
+/// Lengthens the file at `place` to `size` bytes, if it has fewer. Fails only with `NoMemory`, and
+/// then changes nothing.
+pub(crate) fn grow(forest: &mut Forest, place: &Place, size: u32) -> Result<(), Refusal>
+    ensures grown { OnOk result (size_at forest.old place.now < size
+        → forest.new ≡ edit forest.old (size_edit forest.old place.now size)) }
+    ensures same { OnOk result (size ≤ size_at forest.old place.now → forest.new ≡ forest.old) }
     ensures refused { IfErr result (λ e. e ≡ NoMemory) }
     ensures err { OnErr result (forest.new ≡ forest.old) }
 {
-    let (user, number) = place;
-    let _file: FileId = FileId::User(user, number);
-    if forest.size((user, number)) < size {
-        forest.resize((user, number), size)?;
+    if forest.size(*place) < size {
+        forest.resize(*place, size)
+    } else {
+        Ok(())
     }
-    Ok(())
 }
 
-/// Cuts a file that has more bytes. That takes no memory.
-pub(crate) fn cut(forest: &mut Forest, place: Place, size: u32)
-    ensures cut { size < size_at forest.old place → forest.new ≡ edit forest.old (Inodes place (Resized (size_at forest.old place) size)) }
-    ensures same { size_at forest.old place ≤ size → forest.new ≡ forest.old }
+/// Cuts the file at `place` to `size` bytes, if it has more. Takes no memory.
+pub(crate) fn cut(forest: &mut Forest, place: &Place, size: u32)
+    ensures cut { size < size_at forest.old place.now
+        → forest.new ≡ edit forest.old (size_edit forest.old place.now size) }
+    ensures same { size_at forest.old place.now ≤ size → forest.new ≡ forest.old }
 {
-    let (user, number) = place;
-    if size < forest.size((user, number)) {
-        let _done = forest.resize((user, number), size);
+    if size < forest.size(*place) {
+        let _done = forest.resize(*place, size);
     }
 }

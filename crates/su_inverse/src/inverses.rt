@@ -7,10 +7,10 @@ ghost use Rattle.su_op.specs.declared.areas.Area.TheVariants.{Inode as InodeArea
 ghost use Rattle.su_op.specs.Area.{in_area, has};
 ghost use Rattle.su_table.specs.Cell.{Cell};
 ghost use Rattle.su_table.specs.Tree.{Tree};
-ghost use Rattle.su_inverse.specs.Kept.{CanKeep, kept_area, areas_of, HoldsReturn, HoldsSize, HoldsKept, IsKeptOf, IsPutBack};
+ghost use Rattle.su_inverse.specs.Kept.{CanKeep, kept_area, inverse_areas, HoldsReturn, HoldsSize, HoldsKept, IsKeptOf, IsPutBack};
 ghost use Rattle.su_inverse.specs.declared.inverses.Kept.TheVariants.{Reset as ResetKept};
 ghost use Rattle.su_inverse.specs.declared.resets.Reset.TheVariants.{Nothing as NothingReset};
-ghost use Rattle.su_inverse.specs.Putting.{left, left_resets, left_blocks, AgreeBut, IsRoomy, HoldsAll};
+ghost use Rattle.su_inverse.specs.Remaining.{left, left_resets, left_blocks, AgreeOutside, IsRoomy, HoldsAll};
 ghost use Rattle.su_bytes.specs.declared.refusals.Refusal.TheVariants.{NoMemory};
 
 use crate::contents::{KeptBlocks, KeptSize, cut, grow};
@@ -18,11 +18,13 @@ use crate::resets::Reset;
 use crate::returns::Return;
 use std::alloc::Global;
 use su_bytes::{FileId, Place, Refusal};
-use su_node::Inode;
+use su_node::{BLOCK_SIZE, Inode};
 use su_op::{Area, BlockRun, Part};
 use su_table::Forest;
 
-/// The values that the cells of some areas held.
+/// The values that the cells of some areas held, in four lists by how they are put back. The lists
+/// are private: what they come to is told by `undo_on` with `undo_after_apply` and
+/// `kept_of_trees_alike`, in terms of the cells of trees.
 #[derive(Drop)]
 pub struct Inverse {
     returns: Vec<Return>,
@@ -40,11 +42,12 @@ enum Kept {
     Blocks(KeptBlocks),
 }
 
-/// Keeps the value of every cell of the areas. A kind can be kept only of a place where nothing stands. Only
-/// `NoMemory` can come.
+/// Keeps the value of every cell of the areas. A kind can be kept only of a place where nothing
+/// stands. Fails only with `NoMemory`.
 pub fn build(alloc: Global, forest: &Forest, areas: &[Area]) -> Result<Inverse, Refusal>
     requires { All (CanKeep forest.now) areas.now }
-    ensures areas { IfOk result (λ inverse. (c : Cell) → has (areas_of inverse) c ≡ has areas.now c) }
+    ensures areas { IfOk result (λ inverse.
+        (c : Cell) → has (inverse_areas inverse) c ≡ has areas.now c) }
     ensures kept { IfOk result (λ inverse. IsKeptOf inverse forest.now) }
     ensures refused { IfErr result (λ e. e ≡ NoMemory) }
 {
@@ -61,7 +64,8 @@ pub fn build(alloc: Global, forest: &Forest, areas: &[Area]) -> Result<Inverse, 
 }
 
 impl Inverse {
-    /// Puts the kept values back. On `NoMemory`, which alone can come, nothing changes.
+    /// Puts the kept values back, and leaves all other cells. Fails only with `NoMemory`, and then
+    /// changes nothing.
     pub fn undo_on(&self, forest: &mut Forest) -> Result<(), Refusal>
         ensures ok { OnOk result ((T : Tree) → IsPutBack self.now forest.old T → forest.new ≡ T) }
         ensures refused { IfErr result (λ e. e ≡ NoMemory) }
@@ -70,10 +74,13 @@ impl Inverse {
         put_back(self.returns.as_slice(), self, forest)
     }
 
-    /// Keeps what one area more held.
+    /// Adds what one area more held. Fails only with `NoMemory`.
     fn add(&mut self, kept: Kept) -> Result<(), Refusal>
-        ensures areas { OnOk result ((c : Cell) → has (areas_of self.new) c ≡ (has (areas_of self.old) c || in_area (kept_area kept) c)) }
-        ensures kept { OnOk result ((T : Tree) → IsKeptOf self.old T → HoldsKept T kept → IsKeptOf self.new T) }
+        ensures areas { OnOk result ((c : Cell)
+            → has (inverse_areas self.new) c
+            ≡ (has (inverse_areas self.old) c || in_area (kept_area kept) c)) }
+        ensures kept { OnOk result ((T : Tree) → IsKeptOf self.old T → HoldsKept T kept
+            → IsKeptOf self.new T) }
         ensures refused { IfErr result (λ e. e ≡ NoMemory) }
     {
         match kept {
@@ -85,19 +92,23 @@ impl Inverse {
         Ok(())
     }
 
-    /// What takes no memory once each file is as long as it was: the sizes, what is set, the blocks.
+    /// Cuts files to their sizes, and restores links, absences and blocks. Takes no memory, once
+    /// each file is long enough.
     fn finish(&self, forest: &mut Forest)
-        ensures { (T : Tree) → HoldsAll self.now T → AgreeBut (left [] self.now) forest.old T → IsRoomy [] forest.old T → forest.new ≡ T }
+        ensures { (T : Tree) → HoldsAll self.now T → AgreeOutside (left [] self.now) forest.old T
+            → IsRoomy [] forest.old T → forest.new ≡ T }
     {
         for kept in &self.sizes {
-            cut(forest, kept.place, kept.size);
+            cut(forest, &kept.place, kept.size);
         }
         self.set(forest);
     }
 
-    /// What is set, and the blocks.
+    /// Restores links and absences, and then blocks. Takes no memory.
     fn set(&self, forest: &mut Forest)
-        ensures { (T : Tree) → HoldsAll self.now T → AgreeBut (left_resets self.now.resets.items self.now.blocks.items) forest.old T → forest.new ≡ T }
+        ensures { (T : Tree) → HoldsAll self.now T
+            → AgreeOutside (left_resets self.now.resets.items self.now.blocks.items) forest.old T
+            → forest.new ≡ T }
     {
         for reset in &self.resets {
             reset.set(forest);
@@ -105,9 +116,10 @@ impl Inverse {
         self.write(forest);
     }
 
-    /// The blocks.
+    /// Restores blocks. Takes no memory.
     fn write(&self, forest: &mut Forest)
-        ensures { (T : Tree) → HoldsAll self.now T → AgreeBut (left_blocks self.now.blocks.items) forest.old T → forest.new ≡ T }
+        ensures { (T : Tree) → HoldsAll self.now T
+            → AgreeOutside (left_blocks self.now.blocks.items) forest.old T → forest.new ≡ T }
     {
         for kept in &self.blocks {
             kept.write(forest);
@@ -115,7 +127,7 @@ impl Inverse {
     }
 }
 
-/// What the area holds.
+/// Finds what the area holds. Fails only with `NoMemory`.
 fn keep(forest: &Forest, area: &Area) -> Result<Kept, Refusal>
     requires { CanKeep forest.now area.now }
     ensures area { IfOk result (λ kept. kept_area kept ≡ area.now) }
@@ -124,8 +136,7 @@ fn keep(forest: &Forest, area: &Area) -> Result<Kept, Refusal>
 {
     match area {
         Area::Inode(place, part) => {
-            let (user, number) = *place;
-            match forest.inode(user, number) {
+            match forest.inode(place.0, place.1) {
                 Some(inode) => match part {
                     Part::Whole => Ok(Kept::Return(Return::Inode(*place, inode.copy()?))),
                     Part::Links => Ok(Kept::Reset(Reset::Links(*place, inode.links()))),
@@ -144,8 +155,7 @@ fn keep(forest: &Forest, area: &Area) -> Result<Kept, Refusal>
             }
         }
         Area::Pointer(file) => {
-            let (group, number) = *file;
-            match forest.body(FileId::Group(group, number)) {
+            match forest.body(FileId::Group(file.0, file.1)) {
                 Some(place) => Ok(Kept::Return(Return::Pointer(*file, place))),
                 None => nothing(area),
             }
@@ -153,7 +163,7 @@ fn keep(forest: &Forest, area: &Area) -> Result<Kept, Refusal>
     }
 }
 
-/// That nothing is in the area.
+/// Makes the value of an area in which nothing is. Fails only with `NoMemory`.
 fn nothing(area: &Area) -> Result<Kept, Refusal>
     ensures value { IfOk result (λ kept. kept ≡ ResetKept (NothingReset area.now)) }
     ensures refused { IfErr result (λ e. e ≡ NoMemory) }
@@ -161,32 +171,36 @@ fn nothing(area: &Area) -> Result<Kept, Refusal>
     Ok(Kept::Reset(Reset::Nothing(area.clone()?)))
 }
 
-/// The bytes of a run of blocks, of a file.
+/// Finds the bytes of a run of blocks. Fails only with `NoMemory`.
 fn keep_blocks(place: Place, inode: &Inode, run: BlockRun) -> Result<Kept, Refusal>
     ensures area { IfOk result (λ kept. kept_area kept ≡ InodeArea place (BlocksPart run)) }
-    ensures holds { IfOk result (λ kept. (T : Tree) → get T.inodes place ≡ Some inode.now → HoldsKept T kept) }
+    ensures holds { IfOk result (λ kept.
+        (T : Tree) → get T.inodes place ≡ Some inode.now → HoldsKept T kept) }
     ensures refused { IfErr result (λ e. e ≡ NoMemory) }
 {
     let first = run.first as u64;
     let count = run.more as u64 + 1;
-    match inode.read_at(4096 * first, 4096 * count)? {
+    match inode.read_at(BLOCK_SIZE as u64 * first, BLOCK_SIZE as u64 * count)? {
         Some(bytes) => Ok(Kept::Blocks(KeptBlocks { place, run, bytes })),
         None => Ok(Kept::Reset(Reset::Nothing(Area::Inode(place, Part::Blocks(run))))),
     }
 }
 
-/// Brings back, and then puts back the rest; or, without memory, takes back what was brought.
+/// Restores these, and then the rest. Fails only with `NoMemory`, and then takes back what it
+/// restored.
 fn put_back(returns: &[Return], inverse: &Inverse, forest: &mut Forest) -> Result<(), Refusal>
-    ensures ok { OnOk result ((T : Tree) → AllByRecursion (HoldsReturn T) returns.now → HoldsAll inverse.now T → AgreeBut (left returns.now inverse.now) forest.old T → forest.new ≡ T) }
+    ensures ok { OnOk result ((T : Tree) → AllByRecursion (HoldsReturn T) returns.now
+        → HoldsAll inverse.now T
+        → AgreeOutside (left returns.now inverse.now) forest.old T → forest.new ≡ T) }
     ensures refused { IfErr result (λ e. e ≡ NoMemory) }
     ensures err { OnErr result (forest.new ≡ forest.old) }
 {
     match returns.split_first() {
         None => lengthen(inverse.sizes.as_slice(), inverse, forest),
         Some((first, rest)) => {
-            let displaced = first.bring_back(forest)?;
+            let overwritten = first.bring_back(forest)?;
             if let Err(refusal) = put_back(rest, inverse, forest) {
-                displaced.take_back(forest);
+                overwritten.take_back(forest);
                 return Err(refusal);
             }
             Ok(())
@@ -194,9 +208,13 @@ fn put_back(returns: &[Return], inverse: &Inverse, forest: &mut Forest) -> Resul
     }
 }
 
-/// Makes files as long as they were, and then puts back the rest; or, without memory, cuts them again.
+/// Lengthens these files to their sizes, and then restores the rest. Fails only with `NoMemory`,
+/// and then cuts them again.
 fn lengthen(sizes: &[KeptSize], inverse: &Inverse, forest: &mut Forest) -> Result<(), Refusal>
-    ensures ok { OnOk result ((T : Tree) → AllByRecursion (HoldsSize T) sizes.now → HoldsAll inverse.now T → AgreeBut (left [] inverse.now) forest.old T → IsRoomy sizes.now forest.old T → forest.new ≡ T) }
+    ensures ok { OnOk result ((T : Tree) → AllByRecursion (HoldsSize T) sizes.now
+        → HoldsAll inverse.now T
+        → AgreeOutside (left [] inverse.now) forest.old T → IsRoomy sizes.now forest.old T
+        → forest.new ≡ T) }
     ensures refused { IfErr result (λ e. e ≡ NoMemory) }
     ensures err { OnErr result (forest.new ≡ forest.old) }
 {
@@ -207,9 +225,9 @@ fn lengthen(sizes: &[KeptSize], inverse: &Inverse, forest: &mut Forest) -> Resul
         }
         Some((first, rest)) => {
             let was = forest.size(first.place);
-            grow(forest, first.place, first.size)?;
+            grow(forest, &first.place, first.size)?;
             if let Err(refusal) = lengthen(rest, inverse, forest) {
-                cut(forest, first.place, was);
+                cut(forest, &first.place, was);
                 return Err(refusal);
             }
             Ok(())

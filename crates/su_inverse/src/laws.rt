@@ -1,4 +1,4 @@
-// What holds of the definitions themselves.
+// Laws: what holds of the definitions themselves.
 ghost use Rattle.std.specs.Prelude.{◌≡◌, ℕ, None};
 ghost use Rattle.std.specs.List.{All};
 ghost use Rattle.su_bytes.specs.Membership.{Membership};
@@ -9,20 +9,26 @@ ghost use Rattle.su_op.specs.Area.{has};
 ghost use Rattle.su_op.specs.Operation.{why, effect, writes};
 ghost use Rattle.su_op.specs.Soundness.{Sound};
 ghost use Rattle.su_inverse.specs.declared.inverses.Inverse.{Inverse};
-ghost use Rattle.su_inverse.specs.Kept.{CanKeep, areas_of, IsKeptOf, IsPutBack, HoldsSame};
+ghost use Rattle.su_inverse.specs.Kept.{CanKeep, inverse_areas, IsKeptOf, IsPutBack, HoldsSame};
 
 /// What an accepted operation writes can be kept.
 pub fn writes_can_be_kept()
-    ensures { (ro : Membership) (T : Tree) (a : ℕ) (op : Op) → why ro T a op ≡ None → All (CanKeep T) (writes ro T a op) }
+    ensures { (ro : Membership) (T : Tree) (a : ℕ) (op : Op) → why ro T a op ≡ None
+        → All (CanKeep T) (writes ro T a op) }
 {}
 
-/// What is kept of a tree is kept of every tree that holds the same in its areas, and has files where that has files.
+/// What is kept of a tree is kept of every tree that holds the same in its areas, and has files
+/// where that has files.
 pub fn kept_of_trees_alike()
-    ensures { (i : Inverse) (S T : Tree) → HoldsSame (has (areas_of i)) S T → IsKeptOf i S → IsKeptOf i T }
+    ensures { (i : Inverse) (S T : Tree) → HoldsSame (has (inverse_areas i)) S T → IsKeptOf i S
+        → IsKeptOf i T }
 {}
 
-/// Right after an operation, what was kept of the areas that it writes puts back the tree before it.
+/// Right after an operation, what was kept of the areas that it writes puts back the tree before
+/// it.
 pub fn undo_after_apply()
-    ensures { (ro : Membership) (T : Tree) (a : ℕ) (op : Op) (i : Inverse) → Sound T → why ro T a op ≡ None
-        → ((c : Cell) → has (areas_of i) c ≡ has (writes ro T a op) c) → IsKeptOf i T → IsPutBack i (effect ro T a op) T }
+    ensures { (ro : Membership) (T : Tree) (a : ℕ) (op : Op) (i : Inverse) → Sound T
+        → why ro T a op ≡ None
+        → ((c : Cell) → has (inverse_areas i) c ≡ has (writes ro T a op) c) → IsKeptOf i T
+        → IsPutBack i (effect ro T a op) T }
 {}

@@ -9,6 +9,3 @@ mod returns;
 
 pub use inverses::{Inverse, build};
 pub use laws::{kept_of_trees_alike, undo_after_apply, writes_can_be_kept};
-
-#[cfg(test)]
-mod tests;

@@ -1,13 +1,13 @@
-// What is set or taken away again, which takes no memory.
+// What is restored without memory.
 ghost use Rattle.std.specs.Prelude.{◌≡◌};
 ghost use Rattle.su_table.specs.Edit.{edits};
 ghost use Rattle.su_inverse.specs.Kept.{reset_edits, nothing_edits};
 
-use su_bytes::{Place};
+use su_bytes::Place;
 use su_op::{Area, Part};
 use su_table::Forest;
 
-/// What an area held that wasn't anything to be brought back.
+/// What an area held that is restored without memory: nothing, or a number of links.
 #[derive(Drop)]
 pub(crate) enum Reset {
     /// Nothing was in the area.
@@ -16,7 +16,7 @@ pub(crate) enum Reset {
 }
 
 impl Reset {
-    /// Sets it again.
+    /// Restores it. Takes no memory.
     pub(crate) fn set(&self, forest: &mut Forest)
         ensures { forest.new ≡ edits forest.old (reset_edits self.now) }
     {
@@ -27,7 +27,7 @@ impl Reset {
     }
 }
 
-/// Nothing is in the area. Links, a size and blocks go with their inode.
+/// Removes what is in the area. Links, a size and blocks go with their inode. Takes no memory.
 fn clear(area: &Area, forest: &mut Forest)
     ensures { forest.new ≡ edits forest.old (nothing_edits area.now) }
 {

@@ -3,3 +3,4 @@ pub mod NameOrder
 pub mod Names
 pub mod Contents
 pub mod Numbered
+pub mod Public

@@ -1,8 +1,11 @@
--- Areas: sets of cells that stand together. Of one inode one cell, a run of blocks, or all; or the pointer of a group file.
-use Rattle.std.specs.Prelude.{◌≡◌, ℕ, ◌+◌, Bool, true, false, ◌&&◌, List, nat_le}
+-- Areas: sets of cells that stand together. Of one inode one cell, a run of blocks, or all; or the
+-- pointer of a group file.
+use Rattle.std.specs.Prelude.{◌≡◌, ℕ, ◌+◌, ◌-◌, ◌/◌, Bool, true, false, ◌&&◌, List, nat_le}
 use Rattle.std.specs.List.{list_any}
 use Rattle.su_node.specs.Name.{name_eq}
-use Rattle.su_bytes.specs.Place.{place_eq}
+use Rattle.su_node.specs.Name.{Name}
+use Rattle.su_node.specs.declared.blocks.TheConstants.{BLOCK_SIZE}
+use Rattle.su_bytes.specs.Place.{Place, place_eq}
 use Rattle.su_node.specs.Field.{Field, Field.KindOf, Field.LinksOf, Field.SizeOf, Field.BlockOf, Field.NameOf}
 use Rattle.su_table.specs.Cell.{Cell, Cell.At, Cell.Pointer}
 use Rattle.su_op.specs.declared.areas.BlockRun.{BlockRun}
@@ -11,7 +14,39 @@ use Rattle.su_op.specs.declared.areas.Part.TheVariants.{Kind as KindPart, Links 
 use Rattle.su_op.specs.declared.areas.Area.{Area}
 use Rattle.su_op.specs.declared.areas.Area.TheVariants.{Inode as InodeArea, Pointer as PointerArea}
 
+-- ---- areas by their cells
+
+-- of what stands at p: its kind with its home, its links, its size, one of its names, or all of its
+-- cells
+abbrev pub kind_cell : Place → Area
+kind_cell p = InodeArea p KindPart
+
+abbrev pub links_cell : Place → Area
+links_cell p = InodeArea p LinksPart
+
+abbrev pub size_cell : Place → Area
+size_cell p = InodeArea p SizePart
+
+abbrev pub name_cell : Name → Place → Area
+name_cell x p = InodeArea p (NamePart x)
+
+abbrev pub all_cells : Place → Area
+all_cells p = InodeArea p WholePart
+
 -- the blocks from the first to the last, both in it
+abbrev pub run : ℕ → ℕ → BlockRun
+run first last = record { first = first; more = last - first }
+
+-- the blocks that have the bytes from an offset up to an end
+abbrev pub blocks_between : ℕ → ℕ → BlockRun
+blocks_between off end = run (off / BLOCK_SIZE) ((end - 1) / BLOCK_SIZE)
+
+abbrev pub block_cells : BlockRun → Place → Area
+block_cells r p = InodeArea p (BlocksPart r)
+
+-- ---- the cells of an area
+
+-- the blocks of a run
 abbrev pub in_run : BlockRun → ℕ → Bool
 in_run r n = nat_le r.first n && nat_le n (r.first + r.more)
 

@@ -1,5 +1,5 @@
 -- The operations by cases: whether one is accepted, and what it then makes of the tree.
-use Rattle.std.specs.Prelude.{ℕ, List, Option}
+use Rattle.std.specs.Prelude.{ℕ, List, Option, ⊤}
 use Rattle.su_bytes.specs.declared.refusals.Refusal.{Refusal}
 use Rattle.su_bytes.specs.Membership.{Membership}
 use Rattle.su_table.specs.Tree.{Tree}
@@ -7,14 +7,16 @@ use Rattle.su_table.specs.Edit.{edits}
 use Rattle.su_op.specs.declared.areas.Area.{Area}
 use Rattle.su_op.specs.declared.operations.Op.{Op}
 use Rattle.su_op.specs.declared.operations.Op.TheVariants.{Create, Unlink, Write, Truncate, Take, Link, Rename}
-use Rattle.su_op.specs.Rule.{Rule, refusal, plan_of, reads_of, writes_of}
-use Rattle.su_op.specs.Creation.{create_rule}
-use Rattle.su_op.specs.Unlinking.{unlink_rule}
-use Rattle.su_op.specs.Writing.{write_rule}
-use Rattle.su_op.specs.Truncation.{truncate_rule}
-use Rattle.su_op.specs.Taking.{take_rule}
-use Rattle.su_op.specs.Linking.{link_rule}
-use Rattle.su_op.specs.Renaming.{rename_rule}
+use Rattle.su_op.specs.declared.operations.Accepted.{Accepted}
+use Rattle.su_op.specs.declared.operations.Accepted.TheVariants as accepted
+use Rattle.su_op.specs.Rule.{Plan, Rule, refusal, plan_of, plan_reads, plan_writes}
+use Rattle.su_op.specs.Create.{create_rule, accepted_create_plan, CreateFits, CreateRow}
+use Rattle.su_op.specs.Unlink.{unlink_rule, accepted_unlink_plan, UnlinkFits, UnlinkRow}
+use Rattle.su_op.specs.Write.{write_rule, accepted_write_plan, WriteFits, WriteRow}
+use Rattle.su_op.specs.Truncate.{truncate_rule, accepted_truncate_plan, TruncateFits, TruncateRow}
+use Rattle.su_op.specs.Take.{take_rule, accepted_take_plan, TakeFits, TakeRow}
+use Rattle.su_op.specs.Link.{link_rule, accepted_link_plan, LinkFits, LinkRow}
+use Rattle.su_op.specs.Rename.{rename_rule, accepted_rename_plan, RenameRow}
 
 -- the rule of each operation
 abbrev pub rule_of : Membership → Tree → ℕ → Op → Rule
@@ -26,17 +28,50 @@ rule_of ro T a (Take t) = take_rule ro T a t
 rule_of ro T a (Link l) = link_rule ro T a l
 rule_of ro T a (Rename r) = rename_rule ro T a r
 
--- why an operation by user a is not accepted: the first refusal, or none
+-- what an accepted operation does in T
+abbrev pub accepted_plan : Tree → Accepted → Plan
+accepted_plan T (accepted.Create x) = accepted_create_plan x
+accepted_plan T (accepted.Unlink x) = accepted_unlink_plan x
+accepted_plan T (accepted.Write x) = accepted_write_plan x
+accepted_plan T (accepted.Truncate x) = accepted_truncate_plan x
+accepted_plan T (accepted.Take x) = accepted_take_plan T x
+accepted_plan T (accepted.Link x) = accepted_link_plan x
+accepted_plan T (accepted.Rename x) = accepted_rename_plan x
+
+-- what its check found, as far as it matters, holds in T
+abbrev pub StillFits : Tree → Accepted → Type 0
+StillFits T (accepted.Create x) = CreateFits T x
+StillFits T (accepted.Unlink x) = UnlinkFits T x
+StillFits T (accepted.Write x) = WriteFits T x
+StillFits T (accepted.Truncate x) = TruncateFits T x
+StillFits T (accepted.Take x) = TakeFits T x
+StillFits T (accepted.Link x) = LinkFits T x
+StillFits T (accepted.Rename x) = ⊤
+
+-- The table of cells, by operations: what each reads besides what it writes, and what it writes.
+-- The places are those of the bodies of the files that it names.
+abbrev pub Row : Op → Type 0
+Row (Create c) = CreateRow c
+Row (Unlink u) = UnlinkRow u
+Row (Write w) = WriteRow w
+Row (Truncate t) = TruncateRow t
+Row (Take t) = TakeRow t
+Row (Link l) = LinkRow l
+Row (Rename r) = RenameRow r
+
+-- ---- what an operation by user a is and does in T
+
+-- why it is not accepted: the first refusal, or none
 unfoldable pub why : Membership → Tree → ℕ → Op → Option Refusal
 why ro T a op = refusal (rule_of ro T a op)
 
--- the tree after an accepted operation by user a
+-- Of an accepted operation: the tree after it, the cells that it reads, and those that it writes.
+-- These say nothing where `why` is a refusal.
 unfoldable pub effect : Membership → Tree → ℕ → Op → Tree
 effect ro T a op = edits T (plan_of (rule_of ro T a op)).edits
 
--- the cells that an accepted operation by user a reads, and those that it writes
 unfoldable pub reads : Membership → Tree → ℕ → Op → List Area
-reads ro T a op = reads_of (plan_of (rule_of ro T a op))
+reads ro T a op = plan_reads (plan_of (rule_of ro T a op))
 
 unfoldable pub writes : Membership → Tree → ℕ → Op → List Area
-writes ro T a op = writes_of (plan_of (rule_of ro T a op))
+writes ro T a op = plan_writes (plan_of (rule_of ro T a op))

@@ -1,15 +1,16 @@
--- How an operation is defined: its checks in their order, and the edits that it makes where they all pass.
-use Rattle.std.specs.Prelude.{ℕ, Bool, true, false, List, [], ◌∷◌, ◌++◌, Option, Some, None}
+-- How an operation is defined: its checks in their order, and the edits that it makes where they
+-- all pass.
+use Rattle.std.specs.Prelude.{◌≡◌, ℕ, Bool, true, false, List, [], ◌∷◌, ◌++◌, Option, Some, None}
 use Rattle.su_bytes.specs.declared.file_ids.FileId.{FileId}
 use Rattle.su_bytes.specs.declared.file_ids.FileId.TheVariants.{User, Group}
 use Rattle.su_bytes.specs.declared.refusals.Refusal.{Refusal}
 use Rattle.su_bytes.specs.Membership.{Membership, is_member}
 use Rattle.su_bytes.specs.Place.{Place}
 use Rattle.su_table.specs.Edit.{Edit, Edit.Pointers}
-use Rattle.su_op.specs.declared.areas.Part.TheVariants.{Kind as KindPart}
 use Rattle.su_op.specs.declared.areas.Area.{Area}
-use Rattle.su_op.specs.declared.areas.Area.TheVariants.{Inode as InodeArea, Pointer as PointerArea}
-use Rattle.su_op.specs.Footprint.{areas_of}
+use Rattle.su_op.specs.declared.areas.Area.TheVariants.{Pointer as PointerArea}
+use Rattle.su_op.specs.Area.{kind_cell}
+use Rattle.su_op.specs.Footprint.{edits_areas}
 
 -- what an accepted operation does, and the areas that it reads besides those that it writes
 pub record Plan : Type 0 where
@@ -32,7 +33,7 @@ refusal (Demand false r k) = Some r
 refusal (Find None r k) = Some r
 refusal (Find (Some p) r k) = refusal (k p)
 
--- the plan, where no check refuses
+-- The plan behind all checks. Where one refuses this says nothing, since it is not asked.
 abbrev pub plan_of : Rule → Plan
 plan_of (Accept p) = p
 plan_of (Demand b r k) = plan_of k
@@ -40,11 +41,16 @@ plan_of (Find None r k) = record { reads = []; edits = [] }
 plan_of (Find (Some p) r k) = plan_of (k p)
 
 -- what the plan writes, and what it reads: what is written is also read
-abbrev pub writes_of : Plan → List Area
-writes_of p = areas_of p.edits
+abbrev pub plan_writes : Plan → List Area
+plan_writes p = edits_areas p.edits
 
-abbrev pub reads_of : Plan → List Area
-reads_of p = p.reads ++ writes_of p
+abbrev pub plan_reads : Plan → List Area
+plan_reads p = p.reads ++ plan_writes p
+
+-- a row of the table of cells: what a plan reads besides what it writes, and what it writes
+pub record HasRow (p : Plan) (besides : List Area) (written : List Area) : Type 0 where
+  pub reads : p.reads ≡ besides
+  pub writes : plan_writes p ≡ written
 
 -- ---- words of the rules
 
@@ -68,4 +74,4 @@ pointer_areas (Group g k) = PointerArea (g, k) ∷ []
 
 -- the cells that show that the body of a file is at p, and of which kind it is
 abbrev pub file_areas : FileId → Place → List Area
-file_areas f p = InodeArea p KindPart ∷ pointer_areas f
+file_areas f p = kind_cell p ∷ pointer_areas f

@@ -4,7 +4,8 @@ ghost use Rattle.su_op.specs.Area.{overlaps, parts_overlap, runs_overlap, ShareA
 
 use su_bytes::{GroupFile, Name, Place};
 
-/// A run of a file's blocks of 4,096 bytes: the first one, and how many follow it. So no run is empty.
+/// A run of a file's blocks of 4,096 bytes: the first one, and how many follow it. So no run is
+/// empty.
 #[derive(Clone, Copy, Debug, PartialEq, Eq)]
 pub struct BlockRun {
     pub first: u32,
@@ -35,14 +36,14 @@ pub enum Area {
 }
 
 impl BlockRun {
-    /// The last block.
+    /// Returns the last block.
     pub fn last(self) -> u64
         ensures { result ≡ self.first + self.more }
     {
         self.first as u64 + self.more as u64
     }
 
-    /// Whether a block is in both.
+    /// Tells whether a block is in both.
     fn overlaps(self, other: BlockRun) -> bool
         ensures { result ≡ runs_overlap self other }
     {
@@ -51,7 +52,7 @@ impl BlockRun {
 }
 
 impl Part {
-    /// Whether the two share a cell, where they are parts of one inode.
+    /// Tells whether the two share a cell, where they are parts of one inode.
     fn overlaps(&self, other: &Part) -> bool
         ensures { result ≡ parts_overlap self.now other.now }
     {
@@ -68,7 +69,7 @@ impl Part {
 }
 
 impl Area {
-    /// Whether the two share a cell. Takes no memory.
+    /// Tells whether the two share a cell. Takes no memory.
     pub fn overlaps(&self, other: &Area) -> bool
         ensures value { result ≡ overlaps self.now other.now }
         ensures exact { (result ≡ true) ↔ ShareACell self.now other.now }

@@ -1,17 +1,16 @@
 // What an operation reads and writes.
-ghost use Rattle.std.specs.Prelude.{◌≡◌, ◌-◌, ◌/◌, ◌++◌, ◌∷◌, [], IfOk, IfErr, OnOk};
-ghost use Rattle.su_op.specs.Footprint.{run};
+ghost use Rattle.std.specs.Prelude.{◌≡◌, ◌++◌, IfOk, IfErr, OnOk};
+ghost use Rattle.su_op.specs.Area.{blocks_between};
 ghost use Rattle.su_op.specs.Rule.{pointer_areas, file_areas};
 ghost use Rattle.su_bytes.specs.declared.refusals.Refusal.TheVariants.{NoMemory};
 
 use crate::areas::{Area, BlockRun, Part};
 use std::alloc::Global;
-use su_bytes::{FileId, Place, Refusal, User};
+use su_bytes::{FileId, Place, Refusal};
+use su_node::BLOCK_SIZE;
 
-/// The size in bytes of each block of a file but the last.
-const BLOCK_SIZE: u32 = 4096;
-
-/// The cells that an accepted operation reads, and those that it writes. What is written is also read.
+/// The cells that an accepted operation reads, and those that it writes. What is written is also
+/// read.
 #[derive(Debug, Drop)]
 pub struct Footprint {
     pub reads: Vec<Area>,
@@ -19,9 +18,10 @@ pub struct Footprint {
 }
 
 impl Footprint {
-    /// Of what is read besides, and what is written. Only `NoMemory` can come.
+    /// Makes one of what is read besides, and what is written. Fails only with `NoMemory`.
     pub(crate) fn new(besides: Vec<Area>, writes: Vec<Area>) -> Result<Footprint, Refusal>
-        ensures reads { IfOk result (λ footprint. footprint.reads.items ≡ besides.items ++ writes.items) }
+        ensures reads { IfOk result (λ footprint.
+            footprint.reads.items ≡ besides.items ++ writes.items) }
         ensures writes { IfOk result (λ footprint. footprint.writes.items ≡ writes.items) }
         ensures refused { IfErr result (λ e. e ≡ NoMemory) }
     {
@@ -32,7 +32,7 @@ impl Footprint {
     }
 }
 
-/// The pointer of a group file; a user's file has none.
+/// Adds the pointer of a group file; a user's file has none.
 pub(crate) fn push_pointer(areas: &mut Vec<Area>, file: FileId) -> Result<(), Refusal>
     ensures ok { OnOk result (areas.new.items ≡ areas.old.items ++ pointer_areas file) }
     ensures refused { IfErr result (λ e. e ≡ NoMemory) }
@@ -46,12 +46,8 @@ pub(crate) fn push_pointer(areas: &mut Vec<Area>, file: FileId) -> Result<(), Re
     }
 }
 
-/// The cells that show that the file's body stands there.
-pub(crate) fn push_file(
-    areas: &mut Vec<Area>,
-    file: FileId,
-    place: Place,
-) -> Result<(), Refusal>
+/// Adds the cells that show that the file's body stands at `place`.
+pub(crate) fn push_file(areas: &mut Vec<Area>, file: FileId, place: Place) -> Result<(), Refusal>
     ensures ok { OnOk result (areas.new.items ≡ areas.old.items ++ file_areas file place) }
     ensures refused { IfErr result (λ e. e ≡ NoMemory) }
 {
@@ -59,12 +55,12 @@ pub(crate) fn push_file(
     push_pointer(areas, file)
 }
 
-/// The blocks of the bytes from an offset up to an end.
-pub(crate) fn run(off: u32, end_: u32) -> BlockRun
-    ensures { result ≡ run (off / 4096) ((end_ - 1) / 4096) }
+/// Returns the blocks that have the bytes from an offset up to an end.
+pub(crate) fn blocks_between(off: u32, end_: u32) -> BlockRun
+    ensures { result ≡ blocks_between off end_ }
 {
-    let first = off / BLOCK_SIZE;
-    let last = end_.saturating_sub(1) / BLOCK_SIZE;
+    let first = off / BLOCK_SIZE as u32;
+    let last = end_.saturating_sub(1) / BLOCK_SIZE as u32;
     BlockRun {
         first,
         more: last.saturating_sub(first),

@@ -1,39 +1,44 @@
-// What holds of the definitions themselves.
+// Laws: what holds of the definitions themselves.
 ghost use Rattle.std.specs.Prelude.{◌≡◌, ℕ, true};
 ghost use Rattle.std.specs.Option.{is_none};
+ghost use Rattle.std.specs.List.{All};
 ghost use Rattle.su_bytes.specs.Membership.{Membership};
 ghost use Rattle.su_node.specs.Field.{Field.KindOf, Field.BlockOf};
 ghost use Rattle.su_bytes.specs.Place.{Place};
 ghost use Rattle.su_table.specs.Tree.{Tree};
 ghost use Rattle.su_table.specs.Cell.{Cell.At};
 ghost use Rattle.su_op.specs.Area.{has};
-ghost use Rattle.su_op.specs.Operation.{why, writes};
-ghost use Rattle.su_op.specs.Soundness.{Sound, WholeOrNew, KindOrFile};
+ghost use Rattle.su_op.specs.Operation.{why, writes, Row};
+ghost use Rattle.su_op.specs.Soundness.{Sound, WholeOrNew, KindIsNew, KindOrFile};
 ghost use Rattle.su_undo.specs.System.{Lawful};
 ghost use Rattle.su_op.specs.Store.{Action, store};
-ghost use Rattle.su_op.specs.Table.{CreateRow, UnlinkRow, WriteRow, TruncateRow, TakeRow, LinkRow, RenameRow};
+ghost use Rattle.su_op.specs.declared.operations.Op.{Op};
 
-/// An operation depends on the cells that it reads alone, leaves the cells that it doesn't write, and keeps a tree sound.
+/// An operation depends on the cells that it reads alone, leaves the cells that it doesn't write,
+/// and keeps a tree sound.
 pub fn operations_are_local()
     ensures { (ro : Membership) → Lawful (store ro) }
 {}
 
-/// An operation that writes the kind of an inode writes all of it, or makes it; one that writes a block writes the kind too,
-/// or writes into a file that stands there. (So while nobody writes the kind of a file, it stays a file.)
+/// An operation that writes the kind of an inode writes all of it, or makes it; one that writes the
+/// kind by itself makes the inode, where nothing stood before; one that writes a block writes the
+/// kind too, or writes into a file that stands there. (So while nobody writes the kind of a file, it
+/// stays a file.)
 pub fn kinds_change_whole()
-    ensures kind { (ro : Membership) (T : Tree) (x : Action) (p : Place) → Sound T → is_none (why ro T x.author x.op) ≡ true
-        → has (writes ro T x.author x.op) (At p KindOf) ≡ true → WholeOrNew T p (has (writes ro T x.author x.op)) }
-    ensures block { (ro : Membership) (T : Tree) (x : Action) (p : Place) (n : ℕ) → Sound T → is_none (why ro T x.author x.op) ≡ true
-        → has (writes ro T x.author x.op) (At p (BlockOf n)) ≡ true → KindOrFile T p (has (writes ro T x.author x.op)) }
+    ensures kind { (ro : Membership) (T : Tree) (x : Action) (p : Place) → Sound T
+        → is_none (why ro T x.author x.op) ≡ true
+        → has (writes ro T x.author x.op) (At p KindOf) ≡ true
+        → WholeOrNew T p (has (writes ro T x.author x.op)) }
+    ensures new { (ro : Membership) (T : Tree) (x : Action)
+        → is_none (why ro T x.author x.op) ≡ true
+        → All (KindIsNew T) (writes ro T x.author x.op) }
+    ensures block { (ro : Membership) (T : Tree) (x : Action) (p : Place) (n : ℕ) → Sound T
+        → is_none (why ro T x.author x.op) ≡ true
+        → has (writes ro T x.author x.op) (At p (BlockOf n)) ≡ true
+        → KindOrFile T p (has (writes ro T x.author x.op)) }
 {}
 
 /// The table of cells: what each operation reads and writes.
 pub fn table_of_cells()
-    ensures create { CreateRow }
-    ensures unlink { UnlinkRow }
-    ensures write { WriteRow }
-    ensures truncate { TruncateRow }
-    ensures take { TakeRow }
-    ensures link { LinkRow }
-    ensures rename { RenameRow }
+    ensures { (op : Op) → Row op }
 {}

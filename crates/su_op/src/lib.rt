@@ -3,30 +3,28 @@
 
 mod access;
 mod areas;
-mod creation;
-mod pointers;
+mod create;
 mod footprints;
 mod laws;
 mod limits;
-mod linking;
+mod link;
 mod operations;
-mod renaming;
-mod taking;
-#[cfg(test)]
-mod tests;
-mod truncation;
-mod unlinking;
-mod writing;
+mod pointers;
+mod rename;
+mod take;
+mod truncate;
+mod unlink;
+mod write;
 
 pub use areas::{Area, BlockRun, Part};
-pub use creation::Create;
+pub use create::Create;
 pub use footprints::Footprint;
 pub use laws::{kinds_change_whole, operations_are_local, table_of_cells};
 pub use limits::{LARGEST_FILE, LARGEST_WRITE, MOST_LINKS};
-pub use linking::Link;
-pub use operations::{Change, Op, apply, footprint};
-pub use renaming::Rename;
-pub use taking::Take;
-pub use truncation::Truncate;
-pub use unlinking::Unlink;
-pub use writing::Write;
+pub use link::Link;
+pub use operations::{Accepted, Change, Op, apply, footprint};
+pub use rename::Rename;
+pub use take::Take;
+pub use truncate::Truncate;
+pub use unlink::Unlink;
+pub use write::Write;

@@ -1,18 +1,21 @@
 // The operations by cases.
 ghost use Rattle.std.specs.Prelude.{◌≡◌, ◌⊎◌, Some, None, IfOk, IfErr, OnOk, OnErr};
-ghost use Rattle.su_op.specs.Operation.{why, effect, reads, writes};
+ghost use Rattle.su_table.specs.Tree.{Tree};
+ghost use Rattle.su_table.specs.Edit.{edits};
+ghost use Rattle.su_op.specs.Rule.{plan_reads, plan_writes};
+ghost use Rattle.su_op.specs.Operation.{why, effect, reads, writes, accepted_plan, StillFits};
 ghost use Rattle.su_bytes.specs.declared.refusals.Refusal.TheVariants.{NoMemory};
 
-use crate::creation::Create;
+use crate::create::{AcceptedCreate, Create};
 use crate::footprints::Footprint;
-use crate::linking::Link;
-use crate::renaming::Rename;
-use crate::taking::Take;
-use crate::truncation::Truncate;
-use crate::unlinking::Unlink;
-use crate::writing::Write;
+use crate::link::{AcceptedLink, Link};
+use crate::rename::{AcceptedRename, Rename};
+use crate::take::{AcceptedTake, Take};
+use crate::truncate::{AcceptedTruncate, Truncate};
+use crate::unlink::{AcceptedUnlink, Unlink};
+use crate::write::{AcceptedWrite, Write};
 use std::alloc::Global;
-use su_bytes::{FileId, Place, Refusal, Roster, User};
+use su_bytes::{Refusal, Roster, User};
 use su_table::Forest;
 
 /// An operation on the tree.
@@ -27,6 +30,19 @@ pub enum Op {
     Rename(Rename),
 }
 
+/// An operation that its check accepted, with what the check found, so that nothing is looked up
+/// again.
+#[derive(Clone, Copy)]
+pub enum Accepted<'a> {
+    Create(AcceptedCreate<'a>),
+    Unlink(AcceptedUnlink<'a>),
+    Write(AcceptedWrite<'a>),
+    Truncate(AcceptedTruncate<'a>),
+    Take(AcceptedTake<'a>),
+    Link(AcceptedLink<'a>),
+    Rename(AcceptedRename<'a>),
+}
+
 /// What an entry of the history does: an operation, or the undo of the operation with that number.
 #[derive(Clone, Debug, Drop)]
 pub enum Change {
@@ -35,43 +51,87 @@ pub enum Change {
 }
 
 impl Op {
-    #[tactic(auto, unfolding(crate::specs::Operation::why))]
-    /// Whether the operation by that author is accepted; else the first refusal. Takes no memory.
-    pub fn check(&self, forest: &Forest, roster: &Roster, author: User) -> Result<(), Refusal>
+    #[tactic(auto, unfolding(crate::specs::Operation::why, crate::specs::Operation::effect, crate::specs::Operation::reads, crate::specs::Operation::writes))]
+    /// Checks whether the operation by that author is accepted. The error is the first refusal.
+    /// Takes no memory.
+    pub fn check(
+        &self,
+        forest: &Forest,
+        roster: &Roster,
+        author: User,
+    ) -> Result<Accepted<'_>, Refusal>
         ensures accepted { OnOk result (why roster.now forest.now author self.now ≡ None) }
+        ensures fits { IfOk result (λ x. StillFits forest.now x) }
+
+        // What the accepted operation does is what the operation does.
+        ensures effect { IfOk result (λ x.
+            effect roster.now forest.now author self.now
+            ≡ edits forest.now (accepted_plan forest.now x).edits) }
+        ensures reads { IfOk result (λ x.
+            reads roster.now forest.now author self.now ≡ plan_reads (accepted_plan forest.now x)) }
+        ensures writes { IfOk result (λ x.
+            writes roster.now forest.now author self.now
+            ≡ plan_writes (accepted_plan forest.now x)) }
         ensures refused { IfErr result (λ e. why roster.now forest.now author self.now ≡ Some e) }
     {
         match self {
-            Op::Create(create) => {
-                let _dir: FileId = create.dir;
-                create.check(forest, roster, author)?;
-            }
-            Op::Unlink(unlink) => {
-                unlink.check(forest, roster, author)?;
-            }
-            Op::Write(write) => {
-                write.check(forest, roster, author)?;
-            }
-            Op::Truncate(truncate) => {
-                truncate.check(forest, roster, author)?;
-            }
-            Op::Take(take) => {
-                take.check(forest, roster, author)?;
-            }
-            Op::Link(link) => {
-                link.check(forest, roster, author)?;
-            }
-            Op::Rename(rename) => {
-                let places = rename.check(forest, roster, author)?;
-                let _moved: Option<Place> = places.moved;
-            }
+            Op::Create(create) => create.check(forest, roster, author),
+            Op::Unlink(unlink) => unlink.check(forest, roster, author),
+            Op::Write(write) => write.check(forest, roster, author),
+            Op::Truncate(truncate) => truncate.check(forest, roster, author),
+            Op::Take(take) => take.check(forest, roster, author),
+            Op::Link(link) => link.check(forest, roster, author),
+            Op::Rename(rename) => rename.check(forest, roster, author),
         }
-        Ok(())
     }
 }
 
-#[tactic(auto, unfolding(crate::specs::Operation::why, crate::specs::Operation::effect))]
-/// Does an operation of that author. A refusal, the first in order or `NoMemory`, changes nothing.
+impl Accepted<'_> {
+    /// Returns the cells that it reads, and those that it writes. Fails only with `NoMemory`.
+    pub fn footprint(&self, alloc: Global) -> Result<Footprint, Refusal>
+        ensures reads { IfOk result (λ f.
+            (T : Tree) → f.reads.items ≡ plan_reads (accepted_plan T self.now)) }
+        ensures writes { IfOk result (λ f.
+            (T : Tree) → f.writes.items ≡ plan_writes (accepted_plan T self.now)) }
+        ensures refused { IfErr result (λ e. e ≡ NoMemory) }
+    {
+        match self {
+            Accepted::Create(create) => create.footprint(alloc),
+            Accepted::Unlink(unlink) => unlink.footprint(alloc),
+            Accepted::Write(write) => write.footprint(alloc),
+            Accepted::Truncate(truncate) => truncate.footprint(alloc),
+            Accepted::Take(take) => take.footprint(alloc),
+            Accepted::Link(link) => link.footprint(alloc),
+            Accepted::Rename(rename) => rename.footprint(alloc),
+        }
+    }
+
+    /// Performs the operation, on a forest where what its check found still holds. Fails only with
+    /// `NoMemory`, and then changes nothing.
+    pub fn perform(&self, alloc: Global, forest: &mut Forest) -> Result<(), Refusal>
+        requires { StillFits forest.old self.now }
+        ensures ok { OnOk result
+            (forest.new ≡ edits forest.old (accepted_plan forest.old self.now).edits) }
+        ensures refused { IfErr result (λ e. e ≡ NoMemory) }
+        ensures err { OnErr result (forest.new ≡ forest.old) }
+    {
+        match self {
+            Accepted::Create(create) => create.perform(alloc, forest),
+            Accepted::Unlink(unlink) => {
+                unlink.perform(forest);
+                Ok(())
+            }
+            Accepted::Write(write) => write.perform(forest),
+            Accepted::Truncate(truncate) => truncate.perform(forest),
+            Accepted::Take(take) => take.perform(forest),
+            Accepted::Link(link) => link.perform(forest),
+            Accepted::Rename(rename) => rename.perform(forest),
+        }
+    }
+}
+
+/// Performs an operation of that author. A refusal, the first in order or `NoMemory`, changes
+/// nothing.
 pub fn apply(
     alloc: Global,
     forest: &mut Forest,
@@ -81,46 +141,19 @@ pub fn apply(
 ) -> Result<(), Refusal>
     ensures accepted { OnOk result (why roster.now forest.old author op.now ≡ None) }
     ensures done { OnOk result (forest.new ≡ effect roster.now forest.old author op.now) }
-    ensures refused { IfErr result (λ e. (e ≡ NoMemory) ⊎ (why roster.now forest.old author op.now ≡ Some e)) }
+    ensures refused { IfErr result (λ e.
+        (e ≡ NoMemory) ⊎ (why roster.now forest.old author op.now ≡ Some e)) }
     ensures err { OnErr result (forest.new ≡ forest.old) }
 {
-    match op {
-        Op::Create(create) => {
-            let _dir: FileId = create.dir;
-            let directory = create.check(forest, roster, author)?;
-            create.perform(alloc, forest, author, directory)
-        }
-        Op::Unlink(unlink) => {
-            let (directory, place) = unlink.check(forest, roster, author)?;
-            unlink.perform(forest, directory, place);
-            Ok(())
-        }
-        Op::Write(write) => {
-            let place = write.check(forest, roster, author)?;
-            write.perform(forest, place)
-        }
-        Op::Truncate(truncate) => {
-            let place = truncate.check(forest, roster, author)?;
-            truncate.perform(forest, place)
-        }
-        Op::Take(take) => {
-            let place = take.check(forest, roster, author)?;
-            take.perform(forest, author, place)
-        }
-        Op::Link(link) => {
-            let (directory, place) = link.check(forest, roster, author)?;
-            link.perform(forest, directory, place)
-        }
-        Op::Rename(rename) => {
-            let places = rename.check(forest, roster, author)?;
-            let _moved: Option<Place> = places.moved;
-            rename.perform(forest, &places)
-        }
+    // no `?`, for the prover (docs/ARCHITECTURE.md, "Forms the kit wants")
+    match op.check(forest, roster, author) {
+        Ok(accepted) => accepted.perform(alloc, forest),
+        Err(refusal) => Err(refusal),
     }
 }
 
-#[tactic(auto, unfolding(crate::specs::Operation::why, crate::specs::Operation::reads, crate::specs::Operation::writes))]
-/// The cells that an operation of that author reads, and those that it writes. Refused as `apply` is, and with `NoMemory`.
+/// Returns the cells that an operation of that author reads, and those that it writes. Refused as
+/// `apply` is.
 pub fn footprint(
     alloc: Global,
     forest: &Forest,
@@ -129,46 +162,16 @@ pub fn footprint(
     op: &Op,
 ) -> Result<Footprint, Refusal>
     ensures accepted { OnOk result (why roster.now forest.now author op.now ≡ None) }
-    ensures reads { IfOk result (λ footprint. footprint.reads.items ≡ reads roster.now forest.now author op.now) }
-    ensures writes { IfOk result (λ footprint. footprint.writes.items ≡ writes roster.now forest.now author op.now) }
-    ensures refused { IfErr result (λ e. (e ≡ NoMemory) ⊎ (why roster.now forest.now author op.now ≡ Some e)) }
+    ensures reads { IfOk result (λ footprint.
+        footprint.reads.items ≡ reads roster.now forest.now author op.now) }
+    ensures writes { IfOk result (λ footprint.
+        footprint.writes.items ≡ writes roster.now forest.now author op.now) }
+    ensures refused { IfErr result (λ e.
+        (e ≡ NoMemory) ⊎ (why roster.now forest.now author op.now ≡ Some e)) }
 {
-    match op {
-        Op::Create(create) => {
-            let _dir: FileId = create.dir;
-            let directory = create.check(forest, roster, author)?;
-            create.footprint(alloc, author, directory)
-        }
-        Op::Unlink(unlink) => {
-            let (directory, place) = unlink.check(forest, roster, author)?;
-            let (user, number) = place;
-            let links = forest.links((user, number));
-            unlink.footprint(alloc, links, directory, (user, number))
-        }
-        Op::Write(write) => {
-            let (user, number) = write.check(forest, roster, author)?;
-            let size = forest.size((user, number));
-            write.footprint(alloc, size, (user, number))
-        }
-        Op::Truncate(truncate) => {
-            let (user, number) = truncate.check(forest, roster, author)?;
-            let size = forest.size((user, number));
-            truncate.footprint(alloc, size, (user, number))
-        }
-        Op::Take(take) => {
-            let place = take.check(forest, roster, author)?;
-            take.footprint(alloc, author, place)
-        }
-        Op::Link(link) => {
-            let (directory, place) = link.check(forest, roster, author)?;
-            let (user, number) = place;
-            let links = forest.links((user, number));
-            link.footprint(alloc, links, directory, (user, number))
-        }
-        Op::Rename(rename) => {
-            let places = rename.check(forest, roster, author)?;
-            let _moved: Option<Place> = places.moved;
-            rename.footprint(alloc, &places)
-        }
+    // no `?`, for the prover (docs/ARCHITECTURE.md, "Forms the kit wants")
+    match op.check(forest, roster, author) {
+        Ok(accepted) => accepted.footprint(alloc),
+        Err(refusal) => Err(refusal),
     }
 }

@@ -4,15 +4,12 @@ ghost use Rattle.su_table.specs.Edit.{edits};
 ghost use Rattle.su_op.specs.Rule.{pointer_edits};
 ghost use Rattle.su_bytes.specs.declared.refusals.Refusal.TheVariants.{NoMemory};
 
-use su_bytes::{FileId, Place, Refusal, User};
+use su_bytes::{FileId, Place, Refusal};
 use su_table::Forest;
 
-/// A group file's pointer points there; a user's file has none. On `NoMemory`, which alone can come, nothing is changed.
-pub(crate) fn set_pointer(
-    forest: &mut Forest,
-    file: FileId,
-    place: Place,
-) -> Result<(), Refusal>
+/// Sets a group file's pointer to `place`; a user's file has none. Fails only with `NoMemory`, and
+/// then changes nothing.
+pub(crate) fn set_pointer(forest: &mut Forest, file: FileId, place: Place) -> Result<(), Refusal>
     ensures ok { OnOk result (forest.new ≡ edits forest.old (pointer_edits file (Some place))) }
     ensures refused { IfErr result (λ e. e ≡ NoMemory) }
     ensures err { OnErr result (forest.new ≡ forest.old) }

@@ -2,3 +2,4 @@ pub mod Places
 pub mod Stores
 pub mod TakenBack
 pub mod Tables
+pub mod Public

@@ -4,8 +4,8 @@ use Rattle.su_node.specs.InodeChange.{InodeChange.Resized}
 use Rattle.su_table.specs.Query.{size_at}
 use Rattle.su_table.specs.Edit.{Edit.Inodes, edit}
 use Rattle.su_inverse.specs.Kept.{HoldsSize}
-use Rattle.su_inverse.specs.Putting.{IsRoomy}
-use Rattle.su_inverse.proofs.Lengths.{cut_again, size_grown}
+use Rattle.su_inverse.specs.Remaining.{IsRoomy}
+use Rattle.su_inverse.proofs.SizeLemmas.{cut_again, size_grown}
 use Rattle.su_inverse.proofs.inverses.+lengthen.Goals as goal
 
 pub returns-in-Err-clause-err : goal.returns-in-Err-clause-err

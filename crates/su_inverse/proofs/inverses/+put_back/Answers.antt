@@ -1,36 +1,33 @@
-use Rattle.std.proofs.Common.{◌≡◌, ◌∙◌, sym, ap, refl, subst, length, List, [], ◌∷◌, Result, Ok, Err, OnOk, arith}
+use Rattle.std.proofs.Common.{◌≡◌, ◌∙◌, sym, ap, subst, ◌∷◌, Result, Ok, Err, OnOk}
 use Rattle.std.specs.List.{AllByRecursion}
 use Rattle.su_table.specs.Edit.{edit}
-use Rattle.su_table.proofs.TakenBack.{edit-back}
+use Rattle.su_table.proofs.Public.{edit-back}
 use Rattle.su_inverse.specs.Kept.{HoldsReturn, HoldsSize, return_edit}
-use Rattle.su_inverse.specs.Displaced.{displaced_edit}
-use Rattle.su_inverse.specs.Putting.{left, AgreeBut, IsRoomy}
-use Rattle.su_inverse.proofs.Sets.{returned, all_areas}
-use Rattle.su_inverse.proofs.Lengths.{first_roomy}
+use Rattle.su_inverse.specs.Overwritten.{overwritten_edit}
+use Rattle.su_inverse.specs.Remaining.{left, AgreeOutside, IsRoomy}
+use Rattle.su_inverse.proofs.AreaListLemmas.{returned, all_areas}
+use Rattle.su_inverse.proofs.SizeLemmas.{first_roomy}
 use Rattle.su_inverse.proofs.inverses.+put_back.Goals as goal
+use Rattle.std.proofs.lemmas.List.{nil_from_length}
 
 pub returns-in-Err-clause-err : goal.returns-in-Err-clause-err
 returns-in-Err-clause-err t c =
-    c.take_back.ensures ∙ ap (λ F. edit F (displaced_edit c.in_ok-displaced-in-Some.displaced)) (c.in-Err.ensures.err ∙ c.in_ok-displaced-in-Some.ensures.ok)
-    ∙ ap (edit (edit c.args.forest.now (return_edit c.in-Some.first.now))) c.in_ok-displaced-in-Some.ensures.displaced
+    c.take_back.ensures ∙ ap (λ F. edit F (overwritten_edit c.in_ok-overwritten-in-Some.overwritten)) (c.in-Err.ensures.err ∙ c.in_ok-overwritten-in-Some.ensures.ok)
+    ∙ ap (edit (edit c.args.forest.now (return_edit c.in-Some.first.now))) c.in_ok-overwritten-in-Some.ensures.overwritten
     ∙ edit-back c.args.forest.now (return_edit c.in-Some.first.now)
 
 pub returns-in_default-clause-ok : goal.returns-in_default-clause-ok
 returns-in_default-clause-ok t c T held all agree =
     let cut : c.args.returns.now ≡ c.in-Some.first.now ∷ c.in-Some.rest.now = c.in-Some.ensures.cases.0 in
     let held' = subst (AllByRecursion (HoldsReturn T)) cut held in
-    let agree' = subst (λ rs. AgreeBut (left rs c.args.inverse.now) c.args.forest.now T) cut agree in
+    let agree' = subst (λ rs. AgreeOutside (left rs c.args.inverse.now) c.args.forest.now T) cut agree in
     c.in_default.ensures.ok T held'.1 all
-    (subst (λ F. AgreeBut (left c.in-Some.rest.now c.args.inverse.now) F T) (sym c.in_ok-displaced-in-Some.ensures.ok)
+    (subst (λ F. AgreeOutside (left c.in-Some.rest.now c.args.inverse.now) F T) (sym c.in_ok-overwritten-in-Some.ensures.ok)
     (returned c.in-Some.first.now (all_areas c.in-Some.rest.now c.args.inverse.now.sizes.items c.args.inverse.now.resets.items c.args.inverse.now.blocks.items) c.args.forest.now T held'.0 agree'))
 
 OnOk-map : {X Y P Q : Type 0} (r : Result X Y) → (P → Q) → OnOk r P → OnOk r Q
 OnOk-map (Ok x) f p = f p
 OnOk-map (Err e) f p = tt
-
-nil_from_length : {A : Type 0} (xs : List A) → length xs ≡ 0 → xs ≡ []
-nil_from_length [] e = refl
-nil_from_length (x ∷ xs) e = absurd (omega arith)
 
 pub returns-in-None-clause-ok : goal.returns-in-None-clause-ok
 returns-in-None-clause-ok t c =
@@ -39,6 +36,6 @@ returns-in-None-clause-ok t c =
     let none = nil_from_length c.args.returns.now c.in-None.ensures.cases in
     OnOk-map c.lengthen.result
     (λ back T held all agree.
-    let agree' = subst (λ rs. AgreeBut (left rs i) c.args.forest.now T) none agree in
+    let agree' = subst (λ rs. AgreeOutside (left rs i) c.args.forest.now T) none agree in
     back T (subst (AllByRecursion (HoldsSize T)) whole all.sizes) all agree' (subst (λ zs. IsRoomy zs c.args.forest.now T) whole (first_roomy i c.args.forest.now T all agree')))
     c.lengthen.ensures.ok

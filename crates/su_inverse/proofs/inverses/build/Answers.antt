@@ -2,7 +2,7 @@ use Rattle.std.proofs.Common.{◌∙◌, ◌||◌, sym, ap, take, ◌++◌, ◌�
 use Rattle.std.proofs.lemmas.List.{take_more}
 use Rattle.su_op.specs.Area.{has, in_area}
 use Rattle.su_inverse.specs.Kept.{kept_area}
-use Rattle.su_inverse.proofs.Sets.{has-push}
+use Rattle.su_inverse.proofs.AreaListLemmas.{has-push}
 use Rattle.su_inverse.proofs.inverses.build.Goals as goal
 
 pub loop-area-preserved : goal.loop-area-preserved

@@ -9,7 +9,7 @@ use Rattle.su_inverse.specs.declared.inverses.Kept.{Kept}
 use Rattle.su_inverse.specs.declared.inverses.Kept.TheVariants.{Reset as ResetKept}
 use Rattle.su_inverse.specs.declared.resets.Reset.TheVariants.{Nothing as NothingReset}
 use Rattle.su_inverse.specs.Kept.{CanKeep, HoldsNothing, HoldsKept}
-use Rattle.su_inverse.proofs.Holding.{field_at, no_inode_held, pointer_at}
+use Rattle.su_inverse.proofs.HeldLemmas.{field_at, no_inode_held, pointer_at}
 use Rattle.su_inverse.proofs.inverses.keep.Goals as goal
 
 -- that nothing is kept is right where nothing is

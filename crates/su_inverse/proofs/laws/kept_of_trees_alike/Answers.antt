@@ -1,4 +1,4 @@
-use Rattle.su_inverse.proofs.Again.{kept_again}
+use Rattle.su_inverse.proofs.KeptLemmas.{kept_again}
 use Rattle.su_inverse.proofs.laws.kept_of_trees_alike.Goals as goal
 
 pub returns : goal.returns

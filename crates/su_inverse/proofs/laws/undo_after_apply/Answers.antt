@@ -1,4 +1,4 @@
-use Rattle.su_inverse.proofs.Writing.{put_back_after}
+use Rattle.su_inverse.proofs.InverseLemmas.{put_back_after}
 use Rattle.su_inverse.proofs.laws.undo_after_apply.Goals as goal
 
 pub returns : goal.returns

@@ -1,4 +1,4 @@
-use Rattle.su_inverse.proofs.Writing.{writes_kept}
+use Rattle.su_inverse.proofs.InverseLemmas.{writes_kept}
 use Rattle.su_inverse.proofs.laws.writes_can_be_kept.Goals as goal
 
 pub returns : goal.returns

@@ -1,4 +1,4 @@
-use Rattle.su_op.proofs.Storing.{store_lawful}
+use Rattle.su_op.proofs.StoreLemmas.{store_lawful}
 use Rattle.su_op.proofs.laws.operations_are_local.Goals as goal
 
 pub returns : goal.returns

@@ -1,8 +1,8 @@
 use Rattle.std.proofs.Common.{sym, subst, Result, Ok, Err, OnOk}
 use Rattle.std.specs.List.{AllByRecursion}
 use Rattle.su_inverse.specs.Kept.{HoldsReturn}
-use Rattle.su_inverse.specs.Putting.{left, AgreeBut}
-use Rattle.su_inverse.proofs.Sets.{left_over, held_all}
+use Rattle.su_inverse.specs.Remaining.{left, AgreeOutside}
+use Rattle.su_inverse.proofs.AreaListLemmas.{left_over, held_all}
 use Rattle.su_inverse.proofs.inverses.Inverse.undo_on.Goals as goal
 
 OnOk-map : {X Y P Q : Type 0} (r : Result X Y) → (P → Q) → OnOk r P → OnOk r Q
@@ -14,5 +14,5 @@ returns-clause-ok c =
     let returns = sym c.as_slice.ensures.value in
     OnOk-map c.put_back.result
     (λ back T put. back T (subst (AllByRecursion (HoldsReturn T)) returns put.kept.returns) (held_all c.args.self.now T put.kept)
-    (subst (λ rs. AgreeBut (left rs c.args.self.now) c.args.forest.now T) returns (left_over c.args.self.now c.args.forest.now T put)))
+    (subst (λ rs. AgreeOutside (left rs c.args.self.now) c.args.forest.now T) returns (left_over c.args.self.now c.args.forest.now T put)))
     c.put_back.ensures.ok

@@ -1,8 +1,8 @@
 use Rattle.std.proofs.Common.{◌≡◌, ◌↔◌, Bool, true, ◌&&◌, ◌∙◌, sym, ap, subst}
 use Rattle.su_op.specs.declared.areas.Area.{Area}
 use Rattle.su_op.specs.Area.{parts_overlap, overlaps, ShareACell}
-use Rattle.su_op.proofs.Orders.{place_eq-derived}
-use Rattle.su_op.proofs.Overlapping.{overlaps_exact}
+use Rattle.su_op.proofs.KeyLemmas.{place_eq-derived}
+use Rattle.su_op.proofs.AreaLemmas.{overlaps_exact}
 use Rattle.su_op.proofs.areas.Area.overlaps.Goals as goal
 
 between : (a b x y : Area) → a ≡ x → b ≡ y → overlaps x y ≡ overlaps a b

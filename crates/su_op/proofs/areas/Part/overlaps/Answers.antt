@@ -1,7 +1,7 @@
 use Rattle.std.proofs.Common.{◌∙◌, sym, ap}
 use Rattle.su_op.specs.declared.areas.Part.TheVariants.{Name as NamePart}
 use Rattle.su_op.specs.Area.{parts_overlap}
-use Rattle.su_op.proofs.Orders.{name_eq-derived}
+use Rattle.su_op.proofs.KeyLemmas.{name_eq-derived}
 use Rattle.su_op.proofs.areas.Part.overlaps.Goals as goal
 
 pub returns-in-Name-Name : goal.returns-in-Name-Name

@@ -1,8 +1,0 @@
-use Rattle.std.proofs.Common.{◌∙◌, sym}
-use Rattle.su_op.proofs.Backs.{create_free}
-use Rattle.su_op.proofs.creation.Create.check.Goals as goal
-
-pub returns-clause-free : goal.returns-clause-free
-returns-clause-free c =
-    create_free c.args.forest.now c.args.author c.args.self.now _
-    (sym c.is_name_free.ensures ∙ c.if-not-is_name_free.false) (sym c.is_free.ensures ∙ c.if-not-is_free.false) (sym c.is_pointer_free.ensures ∙ c.if-not-is_pointer_free.false)
