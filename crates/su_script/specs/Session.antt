@@ -7,7 +7,7 @@ use Rattle.su_bytes.specs.Membership.{Membership}
 use Rattle.su_bytes.specs.Principal.{principals}
 use Rattle.su_bytes.specs.declared.file_ids.FileId.{FileId}
 use Rattle.su_bytes.specs.declared.refusals.Refusal.{Refusal}
-use Rattle.su_bytes.specs.declared.refusals.Refusal.TheVariants.{NoMemory, NoFile}
+use Rattle.su_bytes.specs.declared.refusals.Refusal.TheVariants.{NoMemory, NoFile, WrongKind}
 use Rattle.su_node.specs.Inode.{Inode}
 use Rattle.su_bytes.specs.Place.{Place}
 use Rattle.su_table.specs.Tree.{Tree, genesis}
@@ -17,10 +17,10 @@ use Rattle.su_op.specs.declared.operations.Change.TheVariants.{Undo}
 use Rattle.su_desk.specs.History.{tree, last_live}
 use Rattle.su_desk.specs.Version.{versions}
 use Rattle.su_desk.specs.Desk.{DeskState, Answers}
-use Rattle.su_script.specs.declared.commands.Command.{Command}
-use Rattle.su_script.specs.declared.commands.Command.TheVariants.{Apply, UndoLast, Ask, Versions, Mark, Same}
-use Rattle.su_script.specs.declared.commands.Question.{Question}
-use Rattle.su_script.specs.declared.commands.Question.TheVariants.{List as Listing, Read, Describe, Handle}
+use Rattle.su_script.specs.declared.ranges.Command.{Command}
+use Rattle.su_script.specs.declared.ranges.Command.TheVariants.{Apply, UndoLast, Ask, Versions, Mark, Same}
+use Rattle.su_script.specs.declared.ranges.Question.{Question}
+use Rattle.su_script.specs.declared.ranges.Question.TheVariants.{List as Listing, Read, Describe, Handle}
 use Rattle.su_script.specs.Answer.{answer_text, refused_text, listing_text, bytes_text, description_text, digest_line, versions_text}
 
 -- a desk, and the digests that were kept to compare with
@@ -37,7 +37,7 @@ desk_tree d = unwrap_or (tree d.roster d.history) genesis
 -- what stands at the body of a file, and where
 abbrev pub description_at : Tree → FileId → Option Place → Result (Place × Inode) Refusal
 description_at T f None = Err (NoFile f)
-description_at T f (Some p) = ok_or (option_map (λ i. (p, i)) (get T.inodes p)) (NoFile f)
+description_at T f (Some p) = ok_or (option_map (λ i. (p, i)) (get T.inodes p)) (WrongKind f)
 
 abbrev pub description : Tree → FileId → Result (Place × Inode) Refusal
 description T f = description_at T f (body T f)

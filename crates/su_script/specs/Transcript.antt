@@ -6,7 +6,7 @@ use Rattle.su_bytes.specs.declared.refusals.Refusal.{Refusal}
 use Rattle.su_bytes.specs.declared.rosters.RosterUser.{RosterUser}
 use Rattle.su_bytes.specs.declared.refusals.Refusal.TheVariants.{NoMemory}
 use Rattle.su_desk.specs.Desk.{DeskState}
-use Rattle.su_script.specs.declared.commands.Command.{Command}
+use Rattle.su_script.specs.declared.ranges.Command.{Command}
 use Rattle.su_script.specs.declared.desk.Status.{Status}
 use Rattle.su_script.specs.declared.desk.Status.TheVariants.{Finished, Fault, BadLine}
 use Rattle.su_script.specs.Script.{lines_of, line_command}
@@ -25,7 +25,7 @@ abbrev pub Says : SessionState → Command → Option Refusal → List ℕ → S
 Says d command None out d' = Does d command out d'
 Says d command (Some r) out d' = ((out ≡ refused_text r) ⊎ (out ≡ refused_text NoMemory)) × (d' ≡ d)
 
--- what a line prints that is not empty, and what the desk is then; want of memory changes nothing
+-- what a non-empty line prints, and what the desk is then; want of memory changes nothing
 abbrev pub LineSays : SessionState → List ℕ → List ℕ → SessionState → Type 0
 LineSays d line out d' =
     ((out ≡ refused_text NoMemory) × (d' ≡ d)) ⊎ ((command : Command) × (line_command line ≡ Some command) × Says d command (word_refusal d.desk.roster command) out d')

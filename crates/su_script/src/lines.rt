@@ -1,8 +1,9 @@
 // Reading lines from any reader, as they come.
-ghost use Rattle.std.specs.Prelude.{◌≡◌, ℕ, ◌<◌, ◌≤◌, [], drop, length, vec_len, Some, true, false, IfOk, OnOk, MatchOption, slice_get, take};
+ghost use Rattle.std.specs.Prelude.{◌≡◌, ◌<◌, ◌≤◌, [], drop, vec_len, Some, true, IfOk, OnOk, MatchOption, nat_eq, slice_get, take};
+ghost use Rattle.std.specs.List.{position};
 ghost use Rattle.std.specs.Bool.{OnFalse};
 ghost use Rattle.std.specs.Io.KnownBytes.{prepend_known};
-ghost use Rattle.su_script.specs.Lines.{lacks, Takes, Refills, Reads};
+ghost use Rattle.su_script.specs.Lines.{is_unbroken, Takes, Refills, Reads};
 
 use std::alloc::Global;
 use std::io::{ErrorKind, Read};
@@ -11,17 +12,17 @@ use std::io::{ErrorKind, Read};
 pub const LONGEST_LINE: usize = 140_000;
 
 /// How often a reader is read at most.
-pub const MOST_READS: u32 = 10_000_000;
+const MOST_READS: u32 = 10_000_000;
 
 /// Bytes asked for in one read.
 const CHUNK: usize = 4096;
 
-/// The lines could not be read: the reader failed, or never ended, or there was no memory for a line.
+/// The lines can't be read: the reader failed or never ended, or there was no memory for a line.
 #[derive(Clone, Copy, Debug, PartialEq, Eq)]
 pub struct ReadFault;
 
 /// What comes next in a script.
-#[derive(Debug, Drop)]
+#[derive(Drop)]
 pub enum NextLine {
     /// A line, without its end.
     Line(Vec<u8>),
@@ -31,9 +32,9 @@ pub enum NextLine {
     End,
 }
 
-/// A reader's lines. What was read beyond a line is kept for the next.
+/// Takes a reader's bytes line by line. What was read beyond a line is kept for the next.
 #[derive(Drop)]
-pub struct LineReader<R: Read + Drop> {
+pub struct LineReader<R> {
     reader: R,
     filled: Vec<u8>,
     start: usize,
@@ -43,8 +44,11 @@ pub struct LineReader<R: Read + Drop> {
 }
 
 impl<R: Read + Drop> LineReader<R> {
+    ghost use Rattle.su_script.specs.Unread.{unread};
+
+    /// Wraps a reader, of which nothing is read yet.
     pub fn new(alloc: Global, reader: R) -> LineReader<R>
-        ensures { prepend_known (drop result.start result.filled.items) (R.remaining result.reader) ≡ R.remaining reader }
+        ensures { unread R.remaining result ≡ R.remaining reader }
     {
         LineReader {
             reader,
@@ -55,9 +59,10 @@ impl<R: Read + Drop> LineReader<R> {
         }
     }
 
-    /// The next line. Waits for no more than is needed for it.
+    /// Reads the next line. Waits for no more bytes than the line needs.
     pub fn next_line(&mut self) -> Result<NextLine, ReadFault>
-        ensures { IfOk result (λ next. Reads next (prepend_known (drop self.old.start self.old.filled.items) (R.remaining self.old.reader)) (prepend_known (drop self.new.start self.new.filled.items) (R.remaining self.new.reader))) }
+        ensures { IfOk result (λ next.
+            Reads next (unread R.remaining self.old) (unread R.remaining self.new)) }
     {
         let mut line = Vec::new(self.alloc);
         loop {
@@ -77,15 +82,17 @@ impl<R: Read + Drop> LineReader<R> {
         }
     }
 
-    /// Moves what was read to the line, up to the end of the line, and takes that end. Whether the line has ended.
+    /// Moves the bytes that were read to `line`, through the next line feed, which is dropped. Whether it met one.
     fn take(&mut self, line: &mut Vec<u8>) -> Result<bool, ReadFault>
-        ensures taken { IfOk result (λ ended. Takes ended line.old.items line.new.items (drop self.old.start self.old.filled.items) (drop self.new.start self.new.filled.items)) }
+        ensures taken { IfOk result (λ ended. Takes ended line.old.items line.new.items
+            (drop self.old.start self.old.filled.items) (drop self.new.start self.new.filled.items)) }
         ensures reader { R.remaining self.new.reader ≡ R.remaining self.old.reader }
         ensures reads { self.new.reads_left ≡ self.old.reads_left }
-        ensures empty { IfOk result (λ ended. OnFalse ended (drop self.new.start self.new.filled.items ≡ [])) }
+        ensures empty { IfOk result (λ ended.
+            OnFalse ended (drop self.new.start self.new.filled.items ≡ [])) }
     {
         let rest = &self.filled[self.start..];
-        match first_place(rest, b'\n') {
+        match line_end(rest) {
             Some(end) => {
                 line.extend_from_slice(&rest[..end]).map_err(|_| ReadFault)?;
                 self.start += end + 1;
@@ -99,10 +106,11 @@ impl<R: Read + Drop> LineReader<R> {
         }
     }
 
-    /// Reads once, where all that was read is taken. Whether there may be more.
+    /// Reads once, where all that was read is taken. False at the end of the input.
     fn refill(&mut self) -> Result<bool, ReadFault>
         requires { drop self.old.start self.old.filled.items ≡ [] }
-        ensures bytes { IfOk result (λ more. Refills more (R.remaining self.old.reader) (prepend_known (drop self.new.start self.new.filled.items) (R.remaining self.new.reader))) }
+        ensures bytes { IfOk result (λ more.
+            Refills more (R.remaining self.old.reader) (unread R.remaining self.new)) }
         ensures reads { OnOk result (self.new.reads_left < self.old.reads_left) }
     {
         if self.reads_left == 0 {
@@ -130,16 +138,17 @@ impl<R: Read + Drop> LineReader<R> {
     }
 }
 
-/// Where a byte stands first.
-fn first_place(bytes: &[u8], byte: u8) -> Option<usize>
-    ensures { MatchOption result
-        (lacks byte bytes.now ≡ true)
-        (λ place. (slice_get bytes.now place ≡ Some byte) × (lacks byte (take place bytes.now) ≡ true)) }
+/// The place of the first line feed, if there is one.
+fn line_end(bytes: &[u8]) -> Option<usize>
+    ensures { MatchOption result (is_unbroken bytes.now ≡ true) (λ end.
+        (slice_get bytes.now end ≡ Some 10) × (is_unbroken (take end bytes.now) ≡ true)) }
 {
-    for (index, other) in bytes.iter().enumerate() {
-        if *other == byte {
-            return Some(index);
-        }
-    }
-    None
+    place_of(bytes, b'\n')
+}
+
+/// The place of the first such byte, if there is one.
+pub fn place_of(bytes: &[u8], byte: u8) -> Option<usize>
+    ensures { result ≡ position (λ other. nat_eq other byte) bytes.now }
+{
+    bytes.iter().position(|other| *other == byte)
 }

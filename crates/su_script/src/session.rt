@@ -3,11 +3,11 @@ ghost use Rattle.std.specs.Prelude.{◌≡◌, ◌⊎◌, None, Some, IfOk, IfEr
 ghost use Rattle.su_bytes.specs.declared.refusals.Refusal.TheVariants.{NoMemory};
 ghost use Rattle.su_table.specs.Handle.{handle};
 ghost use Rattle.su_script.specs.Answer.{refused_text, description_text};
-ghost use Rattle.su_script.specs.declared.commands.Command.TheVariants.{Mark, Same};
+ghost use Rattle.su_script.specs.declared.ranges.Command.TheVariants.{Mark, Same};
 ghost use Rattle.su_script.specs.Session.{desk_tree, handles, question_text, same_text, description, Does};
 
 use crate::answers::{answered, described, digest_shown, in_hex, listed, refused, versions_shown};
-use crate::commands::{Command, Question};
+use crate::ranges::{Command, Question};
 use std::alloc::{AllocError, Global};
 use std::marker::Model;
 use su_bytes::{Digest, FileId, Principal, Refusal, Roster};
@@ -134,7 +134,7 @@ fn describe(alloc: Global, forest: &Forest, file: &FileId) -> Result<Vec<u8>, Al
     };
     match forest.inode(user, number) {
         Some(inode) => described(alloc, user, number, inode),
-        None => refused(alloc, Refusal::NoFile(*file)),
+        None => refused(alloc, Refusal::WrongKind(*file)),
     }
 }
 
