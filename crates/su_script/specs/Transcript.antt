@@ -1,9 +1,8 @@
 -- What a desk prints for a script: line by line the stated text of each answer.
 use Rattle.std.specs.Prelude.{◌≡◌, ℕ, ◌+◌, ◌⊎◌, List, [], ◌∷◌, ◌++◌, Option, None, Some, map, replicate}
-use Rattle.std.specs.List.{range_with_len}
-use Rattle.su_bytes.specs.Membership.{Membership}
+use Rattle.su_bytes.specs.Membership.{Membership, membership_of_keys}
 use Rattle.su_bytes.specs.declared.refusals.Refusal.{Refusal}
-use Rattle.su_bytes.specs.declared.rosters.RosterUser.{RosterUser}
+use Rattle.su_bytes.specs.declared.rosters.TheConstants.{KEY_LENGTH}
 use Rattle.su_bytes.specs.declared.refusals.Refusal.TheVariants.{NoMemory}
 use Rattle.su_desk.specs.Desk.{DeskState}
 use Rattle.su_script.specs.declared.ranges.Command.{Command}
@@ -39,20 +38,9 @@ Transcript d k ((b ∷ bs) ∷ lines) out status =
     ((line_command (b ∷ bs) ≡ None) × (out ≡ bad_text k) × (status ≡ BadLine))
     ⊎ ((first : List ℕ) × (rest : List ℕ) × (d' : SessionState) × LineSays d (b ∷ bs) first d' × (out ≡ first ++ rest) × Transcript d' (k + 1) lines rest status)
 
--- a user with the key a roster gives him
-abbrev pub user_and_key : RosterUser → ℕ × List ℕ
-user_and_key u = (u.user, u.key)
-
--- a user whose key is zero bytes
-abbrev pub keyless_user : ℕ → ℕ × List ℕ
-keyless_user u = (u, replicate 56 0)
-
--- a desk of that many users, who are all in group 0; user 0 is in group 1; the keys are zero bytes
+-- n users, whose keys are zero bytes; group 0 has all of them, and group 1 has user 0
 abbrev pub desk_members : ℕ → Membership
-desk_members n = record {
-  users = map keyless_user (range_with_len 0 n);
-  groups = (0, range_with_len 0 n) ∷ (1, 0 ∷ []) ∷ [];
-}
+desk_members n = membership_of_keys (replicate n (replicate KEY_LENGTH 0))
 
 -- a desk of n users with an empty history
 abbrev pub new_desk : ℕ → DeskState

@@ -1,10 +1,9 @@
 // Running a script on a desk.
-ghost use Rattle.std.specs.Prelude.{◌≡◌, ◌≤◌, ◌⊎◌, ℕ, List, None, Some, IfOk, OnOk, MatchOption, map};
-ghost use Rattle.std.specs.List.{range_with_len};
+ghost use Rattle.std.specs.Prelude.{◌≡◌, ◌≤◌, ◌⊎◌, ℕ, List, None, Some, IfOk, OnOk, MatchOption, replicate};
 ghost use Rattle.std.specs.Io.KnownBytes.{Appends};
 ghost use Rattle.su_script.specs.Script.{line_command};
 ghost use Rattle.su_script.specs.Step.{EndsBadly, LineSteps, Steps};
-ghost use Rattle.su_script.specs.Transcript.{LineSays, Prints, PrintsFrom, keyless_user, new_desk, status_code, user_and_key};
+ghost use Rattle.su_script.specs.Transcript.{LineSays, Prints, PrintsFrom, new_desk, status_code};
 ghost use Rattle.su_script.specs.Unread.{unread};
 
 use crate::answers::{bad, refused};
@@ -14,7 +13,7 @@ use crate::ranges::check_ranges;
 use crate::session::Session;
 use std::alloc::{AllocError, Global};
 use std::io::{Read, Write};
-use su_bytes::{Group, Refusal, Roster, RosterGroup, RosterUser, User};
+use su_bytes::{KEY_LENGTH, Refusal, Roster};
 use su_desk::Desk;
 
 /// How a run of a program ended.
@@ -75,48 +74,24 @@ pub fn run_desk<R: Read + Drop, W: Write>(
     )
 }
 
-/// Makes a desk of that many users.
+/// Makes a desk of that many users, whose keys are zero bytes.
 fn new_desk(alloc: Global, users: u8) -> Result<Desk, Refusal>
     requires { (1 ≤ users) × (users ≤ 64) }
     ensures { IfOk result (λ desk. desk ≡ new_desk users) }
 {
-    let users = first_users(alloc, users)?;
-    let entries = keyless(alloc, users.as_slice())?;
-    let first = first_users(alloc, 1)?;
-    let mut groups = Vec::with_capacity(alloc, 2)?;
-    groups.push(RosterGroup {
-        group: Group::new(0)?,
-        members: users,
-    })?;
-    groups.push(RosterGroup {
-        group: Group::new(1)?,
-        members: first,
-    })?;
-    Desk::new(alloc, Roster::new(entries, groups)?)
+    let keys = zero_keys(alloc, users)?;
+    Desk::new(alloc, Roster::of_keys(alloc, keys.as_slice())?)
 }
 
-/// Users with keys of zero bytes.
-fn keyless(alloc: Global, users: &[User]) -> Result<Vec<RosterUser>, AllocError>
-    ensures { IfOk result (λ entries. map user_and_key entries.items ≡ map keyless_user users.now) }
+/// Makes `count` keys of zero bytes.
+fn zero_keys(alloc: Global, count: u8) -> Result<Vec<[u8; KEY_LENGTH]>, AllocError>
+    ensures { IfOk result (λ keys. keys.items ≡ replicate count (replicate KEY_LENGTH 0)) }
 {
-    let mut entries = Vec::with_capacity(alloc, users.len())?;
-    for user in users {
-        let user = *user;
-        entries.push(RosterUser { user, key: [0; 56] })?;
+    let mut keys = Vec::with_capacity(alloc, usize::from(count))?;
+    for _number in 0..count {
+        keys.push([0; KEY_LENGTH])?;
     }
-    Ok(entries)
-}
-
-/// The users 0 to `count` - 1.
-fn first_users(alloc: Global, count: u8) -> Result<Vec<User>, Refusal>
-    requires { count ≤ 64 }
-    ensures { IfOk result (λ users. users.items ≡ range_with_len 0 count) }
-{
-    let mut users = Vec::with_capacity(alloc, usize::from(count))?;
-    for number in 0..count {
-        users.push(User::new(u64::from(number))?)?;
-    }
-    Ok(users)
+    Ok(keys)
 }
 
 /// Carries out the lines that are left of a reader, the first of which is line 1, and prints their answers.
