@@ -28,12 +28,15 @@ all_pass true false x y n m a b c d e = cc
 all_pass false w x y n m a b c d e = cc
 
 pub read_number-no_digits : (word : List ℕ) → list_all is_ascii_digit word ≡ false → read_number word ≡ None
+unfolding read_number
 read_number-no_digits word e = third_fails (nat_lt 0 (length word)) (nat_le (length word) 20) _ _ _ e
 
 pub read_number-too_large : (word : List ℕ) → 2 ^ 64 ≤ digits_value 10 word → read_number word ≡ None
+unfolding read_number
 read_number-too_large word h = last_fails (nat_lt 0 (length word) && nat_le (length word) 20 && list_all is_ascii_digit word) _ _ (grind (arith, nat_tests))
 
 pub read_number-digits : (word : List ℕ) (n : ℕ) → 0 < length word → length word ≤ 20 → list_all is_ascii_digit word ≡ true → digits_value 10 word ≡ n → n < 2 ^ 64 → read_number word ≡ Some n
+unfolding read_number
 read_number-digits word n some short digits value fits = all_pass (nat_lt 0 (length word)) (nat_le (length word) 20) _ _ _ _ (grind (arith, nat_tests)) (grind (arith, nat_tests)) digits (grind (arith, nat_tests)) value
 
 -- further digits make no number less

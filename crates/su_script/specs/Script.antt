@@ -47,11 +47,11 @@ is_word word text = pointwise nat_eq word text
 abbrev pub is_number : List ℕ → Bool
 is_number word = nat_lt 0 (length word) && nat_le (length word) 20 && list_all is_ascii_digit word && nat_lt (digits_value 10 word) (2 ^ 64)
 
-abbrev pub read_number : List ℕ → Option ℕ
+unfoldable pub read_number : List ℕ → Option ℕ
 read_number word = cond (is_number word) (Some (digits_value 10 word)) None
 
 -- `U2` is a user, `G2` a group
-abbrev pub read_principal : List ℕ → Option Principal
+unfoldable pub read_principal : List ℕ → Option Principal
 read_principal [] = None
 read_principal (b ∷ digits) =
     cond (nat_eq b 85) (option_map (λ u. principal.User u) (read_number digits))
@@ -63,7 +63,7 @@ numbered_file (principal.User u) i = User u i
 numbered_file (principal.Group g) k = Group g k
 
 -- `U2:3` is a user's file, `G2:3` a group's
-abbrev pub read_file : List ℕ → Option FileId
+unfoldable pub read_file : List ℕ → Option FileId
 read_file word =
     option_and_then (λ colon.
     option_and_then (λ owner.
@@ -71,7 +71,7 @@ read_file word =
     (read_number (drop (colon + 1) word))) (read_principal (take colon word))) (position (λ b. nat_eq b 58) word)
 
 -- the bytes that hex digits of either case write, two digits a byte
-abbrev pub read_bytes : List ℕ → Option (List ℕ)
+unfoldable pub read_bytes : List ℕ → Option (List ℕ)
 read_bytes word = result_ok (decode_of word)
 
 -- ---- changes

@@ -463,6 +463,7 @@ fn read_single<'a>(arguments: &[&[u8]], command: RawCommand<'a>) -> Option<RawCo
 }
 
 /// Reads a number of 1 to 20 decimal digits. `None` where the word is none, or the number doesn't fit.
+#[tactic(auto, unfolding(crate::specs::Script::read_number))]
 fn read_number(word: &[u8]) -> Option<u64>
     ensures { result ≡ read_number word.now }
 {
@@ -480,6 +481,7 @@ fn read_number(word: &[u8]) -> Option<u64>
 }
 
 /// Reads a user as `U0` or a group as `G0`.
+#[tactic(auto, unfolding(crate::specs::Script::read_principal))]
 fn read_principal(word: &[u8]) -> Option<RawPrincipal>
     ensures { option_map principal_of result ≡ read_principal word.now }
 {
@@ -494,6 +496,7 @@ fn read_principal(word: &[u8]) -> Option<RawPrincipal>
 }
 
 /// Reads a file id as `U0:2` or `G0:1`.
+#[tactic(auto, unfolding(crate::specs::Script::read_file))]
 fn read_file(word: &[u8]) -> Option<RawFile>
     ensures { option_map file_of result ≡ read_file word.now }
 {
@@ -504,6 +507,7 @@ fn read_file(word: &[u8]) -> Option<RawFile>
 }
 
 /// Reads bytes from their hex digits, of either case, two a byte.
+#[tactic(auto, unfolding(crate::specs::Script::read_bytes))]
 fn read_bytes(alloc: Global, word: &[u8]) -> Result<Option<Vec<u8>>, AllocError>
     ensures { IfOk result (λ bytes. option_map (λ v. v.items) bytes ≡ read_bytes word.now) }
 {

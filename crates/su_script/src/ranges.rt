@@ -80,10 +80,13 @@ fn check_listed(roster: &Roster, number: u64) -> Result<(), Refusal>
     ensures stranger { IfErr result (λ e.
         (e ≡ NoUser number) × (is_stranger roster.now number ≡ true)) }
 {
-    match User::new(number) {
-        Ok(user) if !roster.has_user(user) => Err(Refusal::NoUser(user)),
-        _ => Ok(()),
+    let Ok(user) = User::new(number) else {
+        return Ok(());
+    };
+    if roster.has_user(user) {
+        return Ok(());
     }
+    Err(Refusal::NoUser(user))
 }
 
 /// Checks the words of a change, as `check_ranges`.
