@@ -5,6 +5,7 @@ ghost use Rattle.std.specs.Bool.{OnFalse};
 ghost use Rattle.std.specs.Io.KnownBytes.{prepend_known};
 ghost use Rattle.su_script.specs.Lines.{is_unbroken, Takes, Refills, Reads};
 
+use memchr::memchr;
 use std::alloc::Global;
 use std::io::{ErrorKind, Read};
 
@@ -150,5 +151,5 @@ fn line_end(bytes: &[u8]) -> Option<usize>
 pub fn place_of(bytes: &[u8], byte: u8) -> Option<usize>
     ensures { result ≡ position (λ other. nat_eq other byte) bytes.now }
 {
-    bytes.iter().position(|other| *other == byte)
+    memchr(byte, bytes)
 }
