@@ -1,7 +1,7 @@
 pub mod Numbers
 pub mod EmptyWords
 pub mod Renames
-pub mod LineEnds
+pub mod Bytes
 pub mod Broken
 pub mod Stepping
 pub mod Refusing

@@ -1,6 +1,5 @@
 // Reading lines from any reader, as they come.
-ghost use Rattle.std.specs.Prelude.{◌≡◌, ◌<◌, ◌≤◌, [], drop, vec_len, Some, true, IfOk, OnOk, MatchOption, nat_eq, slice_get, take};
-ghost use Rattle.std.specs.List.{position};
+ghost use Rattle.std.specs.Prelude.{◌≡◌, ◌<◌, ◌≤◌, [], drop, vec_len, Some, true, IfOk, OnOk, MatchOption, slice_get, take};
 ghost use Rattle.std.specs.Bool.{OnFalse};
 ghost use Rattle.std.specs.Io.KnownBytes.{prepend_known};
 ghost use Rattle.su_script.specs.Lines.{is_unbroken, Takes, Refills, Reads};
@@ -144,12 +143,5 @@ fn line_end(bytes: &[u8]) -> Option<usize>
     ensures { MatchOption result (is_unbroken bytes.now ≡ true) (λ end.
         (slice_get bytes.now end ≡ Some 10) × (is_unbroken (take end bytes.now) ≡ true)) }
 {
-    place_of(bytes, b'\n')
-}
-
-/// The place of the first such byte, if there is one.
-pub fn place_of(bytes: &[u8], byte: u8) -> Option<usize>
-    ensures { result ≡ position (λ other. nat_eq other byte) bytes.now }
-{
-    memchr(byte, bytes)
+    memchr(b'\n', bytes)
 }

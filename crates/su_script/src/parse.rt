@@ -1,11 +1,12 @@
 // From the bytes of a line to a raw command: its numbers may still be outside their ranges, and its names no names.
 ghost use Rattle.std.specs.Prelude.{◌≡◌, IfOk, length, nat_eq, option_map};
-ghost use Rattle.std.specs.List.{list_any};
+ghost use Rattle.std.specs.List.{list_any, position};
 ghost use Rattle.su_script.specs.Script.{line_command, own_body, read_body, read_bytes, read_cat, read_change, read_create, read_file, read_handle, read_link, read_list, read_number, read_other, read_principal, read_rename, read_single, read_stat, read_take, read_truncate, read_undo, read_undo_last, read_unlink, read_user, read_words, read_write, words_of};
 ghost use Rattle.su_script.specs.Raw.{change_of, command_of, file_of, principal_of, texts};
 
-use crate::lines::{LONGEST_LINE, place_of};
+use crate::lines::LONGEST_LINE;
 use hex::FromHexError;
+use memchr::memchr;
 use std::alloc::{AllocError, Global};
 use su_bytes::Kind;
 
@@ -500,10 +501,17 @@ fn read_principal(word: &[u8]) -> Option<RawPrincipal>
 fn read_file(word: &[u8]) -> Option<RawFile>
     ensures { option_map file_of result ≡ read_file word.now }
 {
-    let colon = place_of(word, b':')?;
+    let colon = first_colon(word)?;
     let owner = read_principal(&word[..colon])?;
     let number = read_number(&word[colon + 1..])?;
     Some(RawFile { owner, number })
+}
+
+/// The place of the first colon, if there is one.
+fn first_colon(word: &[u8]) -> Option<usize>
+    ensures { result ≡ position (λ b. nat_eq b 58) word.now }
+{
+    memchr(b':', word)
 }
 
 /// Reads bytes from their hex digits, of either case, two a byte.
