@@ -48,36 +48,42 @@ const BEFORE: [(&str, &str); 2] = [
 
 #[test]
 fn a_link_is_refused_for_users_groups_and_bodies(rt: HostRuntime) -> Result<(), Fail> {
-    let cases = [
-        ("5 link G0:1 g U0:2", "no 12 NoUser 5"),
-        ("5 link G1:9 g U0:2", "no 12 NoUser 5"),
-        ("1 link G1:9 g U0:2", "no 13 NotMember 1"),
-        ("1 link G1:9 g G2:9", "no 13 NotMember 1"),
-        ("1 link G0:1 g G2:9", "no 13 NotMember 2"),
-        ("1 link U0:9 g G2:9", "no 13 NotMember 2"),
-        ("0 link U0:9 g U0:2", "no 14 NoFile U0:9"),
-        ("0 link U0:9 g U0:8", "no 14 NoFile U0:9"),
-        ("0 link G0:1 g U0:8", "no 14 NoFile U0:8"),
-        ("0 link U0:2 g U0:8", "no 14 NoFile U0:8"),
-    ];
-    expect_after(&rt, &BEFORE, &cases)
+    expect_after(
+        &rt,
+        &BEFORE,
+        &[
+            ("5 link G0:1 g U0:2", "no 12 NoUser 5"),
+            ("5 link G1:9 g U0:2", "no 12 NoUser 5"),
+            ("1 link G1:9 g U0:2", "no 13 NotMember 1"),
+            ("1 link G1:9 g G2:9", "no 13 NotMember 1"),
+            ("1 link G0:1 g G2:9", "no 13 NotMember 2"),
+            ("1 link U0:9 g G2:9", "no 13 NotMember 2"),
+            ("0 link U0:9 g U0:2", "no 14 NoFile U0:9"),
+            ("0 link U0:9 g U0:8", "no 14 NoFile U0:9"),
+            ("0 link G0:1 g U0:8", "no 14 NoFile U0:8"),
+            ("0 link U0:2 g U0:8", "no 14 NoFile U0:8"),
+        ],
+    )
 }
 
 #[test]
 fn a_link_is_refused_for_kinds_holders_and_names(rt: HostRuntime) -> Result<(), Fail> {
-    let cases = [
-        ("0 link U0:2 g U0:2", "no 15 WrongKind U0:2"),
-        ("0 link U0:2 g U0:3", "no 15 WrongKind U0:2"),
-        ("0 link G0:1 g U0:3", "no 15 WrongKind U0:3"),
-        ("1 link G0:1 g U0:3", "no 15 WrongKind U0:3"),
-        ("1 link G0:1 g U0:2", "no 16 NotHolder 0"),
-        ("1 link G0:1 f U0:2", "no 16 NotHolder 0"),
-        ("0 link G0:1 f U0:2", "no 19 Exists"),
-        ("1 take G0:1 1", "ok 3"),
-        ("1 link G0:1 f U0:2", "no 16 NotHolder 0"),
-        ("0 link G0:1 f U0:2", "no 16 NotHolder 1"),
-    ];
-    expect_after(&rt, &BEFORE, &cases)
+    expect_after(
+        &rt,
+        &BEFORE,
+        &[
+            ("0 link U0:2 g U0:2", "no 15 WrongKind U0:2"),
+            ("0 link U0:2 g U0:3", "no 15 WrongKind U0:2"),
+            ("0 link G0:1 g U0:3", "no 15 WrongKind U0:3"),
+            ("1 link G0:1 g U0:3", "no 15 WrongKind U0:3"),
+            ("1 link G0:1 g U0:2", "no 16 NotHolder 0"),
+            ("1 link G0:1 f U0:2", "no 16 NotHolder 0"),
+            ("0 link G0:1 f U0:2", "no 19 Exists"),
+            ("1 take G0:1 1", "ok 3"),
+            ("1 link G0:1 f U0:2", "no 16 NotHolder 0"),
+            ("0 link G0:1 f U0:2", "no 16 NotHolder 1"),
+        ],
+    )
 }
 
 #[test]

@@ -105,56 +105,65 @@ const BEFORE: [(&str, &str); 4] = [
 
 #[test]
 fn a_rename_is_refused_for_users_and_groups(rt: HostRuntime) -> Result<(), Fail> {
-    let cases = [
-        ("5 rename G0:1 f G0:1 g U0:2", "no 12 NoUser 5"),
-        ("5 rename G1:9 f G0:1 g U0:2", "no 12 NoUser 5"),
-        ("1 rename G1:9 f G0:1 g U0:2", "no 13 NotMember 1"),
-        ("1 rename G1:9 f G2:9 g U0:2", "no 13 NotMember 1"),
-        ("1 rename G0:1 f G2:9 g U0:2", "no 13 NotMember 2"),
-        ("1 rename U0:9 f G2:9 g U0:2", "no 13 NotMember 2"),
-    ];
-    expect_after(&rt, &BEFORE, &cases)
+    expect_after(
+        &rt,
+        &BEFORE,
+        &[
+            ("5 rename G0:1 f G0:1 g U0:2", "no 12 NoUser 5"),
+            ("5 rename G1:9 f G0:1 g U0:2", "no 12 NoUser 5"),
+            ("1 rename G1:9 f G0:1 g U0:2", "no 13 NotMember 1"),
+            ("1 rename G1:9 f G2:9 g U0:2", "no 13 NotMember 1"),
+            ("1 rename G0:1 f G2:9 g U0:2", "no 13 NotMember 2"),
+            ("1 rename U0:9 f G2:9 g U0:2", "no 13 NotMember 2"),
+        ],
+    )
 }
 
 #[test]
 fn a_rename_is_refused_for_bodies_and_kinds(rt: HostRuntime) -> Result<(), Fail> {
-    let cases = [
-        ("0 rename U0:9 f G0:1 g U0:2", "no 14 NoFile U0:9"),
-        ("0 rename U0:9 f U0:8 g U0:2", "no 14 NoFile U0:9"),
-        ("0 rename G0:1 f U0:8 g U0:2", "no 14 NoFile U0:8"),
-        ("0 rename G0:1 f U0:8 g U0:7", "no 14 NoFile U0:8"),
-        ("0 rename G0:1 f U0:3 g U0:7", "no 14 NoFile U0:7"),
-        ("0 rename G0:1 f U0:3 g G2:7", "no 14 NoFile G2:7"),
-        ("0 rename U0:2 f U0:3 g U0:7", "no 14 NoFile U0:7"),
-        ("0 rename U0:2 f G0:1 g U0:2", "no 15 WrongKind U0:2"),
-        ("0 rename U0:2 f U0:4 g U0:2", "no 15 WrongKind U0:2"),
-        ("0 rename G0:1 f U0:4 g U0:2", "no 15 WrongKind U0:4"),
-        ("1 rename G0:1 f U0:4 g U0:2", "no 15 WrongKind U0:4"),
-    ];
-    expect_after(&rt, &BEFORE, &cases)
+    expect_after(
+        &rt,
+        &BEFORE,
+        &[
+            ("0 rename U0:9 f G0:1 g U0:2", "no 14 NoFile U0:9"),
+            ("0 rename U0:9 f U0:8 g U0:2", "no 14 NoFile U0:9"),
+            ("0 rename G0:1 f U0:8 g U0:2", "no 14 NoFile U0:8"),
+            ("0 rename G0:1 f U0:8 g U0:7", "no 14 NoFile U0:8"),
+            ("0 rename G0:1 f U0:3 g U0:7", "no 14 NoFile U0:7"),
+            ("0 rename G0:1 f U0:3 g G2:7", "no 14 NoFile G2:7"),
+            ("0 rename U0:2 f U0:3 g U0:7", "no 14 NoFile U0:7"),
+            ("0 rename U0:2 f G0:1 g U0:2", "no 15 WrongKind U0:2"),
+            ("0 rename U0:2 f U0:4 g U0:2", "no 15 WrongKind U0:2"),
+            ("0 rename G0:1 f U0:4 g U0:2", "no 15 WrongKind U0:4"),
+            ("1 rename G0:1 f U0:4 g U0:2", "no 15 WrongKind U0:4"),
+        ],
+    )
 }
 
 #[test]
 fn a_rename_is_refused_for_holders_and_names(rt: HostRuntime) -> Result<(), Fail> {
-    let cases = [
-        ("1 rename G0:1 f U0:3 g U0:2", "no 16 NotHolder 0"),
-        ("1 rename G0:1 x U0:3 g U0:2", "no 16 NotHolder 0"),
-        ("0 rename G0:1 x U0:3 g U0:2", "no 18 NoName"),
-        ("0 rename G0:1 d U0:3 g U0:2", "no 18 NoName"),
-        ("0 rename G0:1 x G0:1 g U0:7", "no 18 NoName"),
-        ("0 rename G0:1 x U0:3 f U0:2", "no 18 NoName"),
-        ("0 rename G0:1 f U0:3 f U0:2", "no 19 Exists"),
-        ("0 rename G0:1 f G0:1 f U0:2", "no 19 Exists"),
-        ("0 rename G0:1 e U0:3 f U0:5", "no 19 Exists"),
-        ("0 rename G0:1 e U0:3 g U0:5", "no 21 DirMove"),
-        ("0 rename G0:1 e U0:5 g U0:5", "no 21 DirMove"),
-        ("0 rename G0:1 e G0:1 g U0:5", "ok 5"),
-        ("1 take G0:1 1", "ok 6"),
-        ("1 rename G0:1 f U0:3 g U0:2", "no 16 NotHolder 0"),
-        ("1 rename U0:3 f G0:1 g U0:4", "no 16 NotHolder 0"),
-        ("0 rename G0:1 f U0:3 g U0:2", "no 16 NotHolder 1"),
-    ];
-    expect_after(&rt, &BEFORE, &cases)
+    expect_after(
+        &rt,
+        &BEFORE,
+        &[
+            ("1 rename G0:1 f U0:3 g U0:2", "no 16 NotHolder 0"),
+            ("1 rename G0:1 x U0:3 g U0:2", "no 16 NotHolder 0"),
+            ("0 rename G0:1 x U0:3 g U0:2", "no 18 NoName"),
+            ("0 rename G0:1 d U0:3 g U0:2", "no 18 NoName"),
+            ("0 rename G0:1 x G0:1 g U0:7", "no 18 NoName"),
+            ("0 rename G0:1 x U0:3 f U0:2", "no 18 NoName"),
+            ("0 rename G0:1 f U0:3 f U0:2", "no 19 Exists"),
+            ("0 rename G0:1 f G0:1 f U0:2", "no 19 Exists"),
+            ("0 rename G0:1 e U0:3 f U0:5", "no 19 Exists"),
+            ("0 rename G0:1 e U0:3 g U0:5", "no 21 DirMove"),
+            ("0 rename G0:1 e U0:5 g U0:5", "no 21 DirMove"),
+            ("0 rename G0:1 e G0:1 g U0:5", "ok 5"),
+            ("1 take G0:1 1", "ok 6"),
+            ("1 rename G0:1 f U0:3 g U0:2", "no 16 NotHolder 0"),
+            ("1 rename U0:3 f G0:1 g U0:4", "no 16 NotHolder 0"),
+            ("0 rename G0:1 f U0:3 g U0:2", "no 16 NotHolder 1"),
+        ],
+    )
 }
 
 #[test]

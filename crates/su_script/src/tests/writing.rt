@@ -12,36 +12,42 @@ const BEFORE: [(&str, &str); 2] = [
 
 #[test]
 fn a_write_is_refused_for_the_first_reason(rt: HostRuntime) -> Result<(), Fail> {
-    let cases = [
-        ("5 write U0:2 0 41", "no 12 NoUser 5"),
-        ("5 write G1:9 0 41", "no 12 NoUser 5"),
-        ("1 write G1:9 0 41", "no 13 NotMember 1"),
-        ("0 write U0:9 1048576 41", "no 14 NoFile U0:9"),
-        ("0 write U0:3 0 41", "no 15 WrongKind U0:3"),
-        ("1 write U0:3 0 41", "no 15 WrongKind U0:3"),
-        ("1 write U0:2 0 41", "no 16 NotHolder 0"),
-        ("1 write U0:2 1048576 41", "no 16 NotHolder 0"),
-        ("0 write U0:2 1048576 41", "no 22 TooBig"),
-        ("0 write U0:2 1048575 41", "ok 3"),
-    ];
-    expect_after(&rt, &BEFORE, &cases)
+    expect_after(
+        &rt,
+        &BEFORE,
+        &[
+            ("5 write U0:2 0 41", "no 12 NoUser 5"),
+            ("5 write G1:9 0 41", "no 12 NoUser 5"),
+            ("1 write G1:9 0 41", "no 13 NotMember 1"),
+            ("0 write U0:9 1048576 41", "no 14 NoFile U0:9"),
+            ("0 write U0:3 0 41", "no 15 WrongKind U0:3"),
+            ("1 write U0:3 0 41", "no 15 WrongKind U0:3"),
+            ("1 write U0:2 0 41", "no 16 NotHolder 0"),
+            ("1 write U0:2 1048576 41", "no 16 NotHolder 0"),
+            ("0 write U0:2 1048576 41", "no 22 TooBig"),
+            ("0 write U0:2 1048575 41", "ok 3"),
+        ],
+    )
 }
 
 #[test]
 fn a_truncate_is_refused_for_the_first_reason(rt: HostRuntime) -> Result<(), Fail> {
-    let cases = [
-        ("5 truncate U0:2 0", "no 12 NoUser 5"),
-        ("5 truncate G1:9 0", "no 12 NoUser 5"),
-        ("1 truncate G1:9 0", "no 13 NotMember 1"),
-        ("0 truncate U0:9 1048577", "no 14 NoFile U0:9"),
-        ("0 truncate U0:3 0", "no 15 WrongKind U0:3"),
-        ("1 truncate U0:3 0", "no 15 WrongKind U0:3"),
-        ("1 truncate U0:2 0", "no 16 NotHolder 0"),
-        ("1 truncate U0:2 1048577", "no 16 NotHolder 0"),
-        ("0 truncate U0:2 1048577", "no 22 TooBig"),
-        ("0 truncate U0:2 1048576", "ok 3"),
-    ];
-    expect_after(&rt, &BEFORE, &cases)
+    expect_after(
+        &rt,
+        &BEFORE,
+        &[
+            ("5 truncate U0:2 0", "no 12 NoUser 5"),
+            ("5 truncate G1:9 0", "no 12 NoUser 5"),
+            ("1 truncate G1:9 0", "no 13 NotMember 1"),
+            ("0 truncate U0:9 1048577", "no 14 NoFile U0:9"),
+            ("0 truncate U0:3 0", "no 15 WrongKind U0:3"),
+            ("1 truncate U0:3 0", "no 15 WrongKind U0:3"),
+            ("1 truncate U0:2 0", "no 16 NotHolder 0"),
+            ("1 truncate U0:2 1048577", "no 16 NotHolder 0"),
+            ("0 truncate U0:2 1048577", "no 22 TooBig"),
+            ("0 truncate U0:2 1048576", "ok 3"),
+        ],
+    )
 }
 
 #[test]
