@@ -61,10 +61,11 @@ IsRefused c e = (e ≡ NoMemory) ⊎ (range_refusal (has_good_name c) (has_good_
 
 -- of the words of a command by user a
 abbrev pub user_refusal : Membership → ℕ → Bool → Bool → Option Refusal
-user_refusal ro a name numbers = cond (is_stranger ro a) (Some (NoUser a)) (range_refusal name (is_user a && numbers))
+user_refusal ro a name numbers =
+    cond (is_stranger ro a) (Some (NoUser a)) (range_refusal name (is_user a && numbers))
 
--- How a command is refused for its words alone: a user of 0 to 63 who isn't in the roster is NoUser; then a bad name is
--- BadName; then any other word outside its range is BadNumber.
+-- How a command is refused for its words alone: a user of 0 to 63 who isn't in the roster is NoUser;
+-- then a bad name is BadName; then any other word outside its range is BadNumber.
 abbrev pub word_refusal : Membership → Command → Option Refusal
 word_refusal ro (Apply a c) = user_refusal ro a (has_good_name c) (has_good_numbers c)
 word_refusal ro (UndoLast a) = user_refusal ro a true true

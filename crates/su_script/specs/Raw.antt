@@ -1,4 +1,4 @@
--- Commands as a line says them, and what they stand for: the same words, which may be outside their ranges.
+-- Commands as a line says them, and what they stand for: the same words, which may be out of range.
 use Rattle.std.specs.Prelude.{ℕ, List, map}
 use Rattle.std.specs.Borrow.{Bor}
 use Rattle.su_bytes.specs.declared.file_ids.FileId.{FileId}
@@ -36,7 +36,8 @@ change_of (Write f off bytes) = write_change (file_of f) off bytes.items
 change_of (Truncate f size) = truncate_change (file_of f) size
 change_of (Take f body) = take_change (file_of f) body
 change_of (Link dir name f) = link_change (file_of dir) name.now (file_of f)
-change_of (Rename r) = rename_change (file_of r.from_) r.old_.now (file_of r.to_) r.new_.now (file_of r.file)
+change_of (Rename r) =
+    rename_change (file_of r.from_) r.old_.now (file_of r.to_) r.new_.now (file_of r.file)
 change_of (Undo number) = change.Undo number
 
 abbrev pub command_of : RawCommand → Command

@@ -43,9 +43,15 @@ is_word word text = pointwise nat_eq word text
 
 -- ---- single words
 
+-- what the first gives is read on; nothing where it gives nothing
+abbrev pub given : {A B : Type 0} → Option A → (A → Option B) → Option B
+given first next = option_and_then next first
+
 -- 1 to 20 decimal digits, whose value fits 64 bits
 abbrev pub is_number : List ℕ → Bool
-is_number word = nat_lt 0 (length word) && nat_le (length word) 20 && list_all is_ascii_digit word && nat_lt (digits_value 10 word) (2 ^ 64)
+is_number word =
+    nat_lt 0 (length word) && nat_le (length word) 20 && list_all is_ascii_digit word
+    && nat_lt (digits_value 10 word) (2 ^ 64)
 
 unfoldable pub read_number : List ℕ → Option ℕ
 read_number word = cond (is_number word) (Some (digits_value 10 word)) None
@@ -65,10 +71,9 @@ numbered_file (principal.Group g) k = Group g k
 -- `U2:3` is a user's file, `G2:3` a group's
 unfoldable pub read_file : List ℕ → Option FileId
 read_file word =
-    option_and_then (λ colon.
-    option_and_then (λ owner.
-    option_map (λ number. numbered_file owner number)
-    (read_number (drop (colon + 1) word))) (read_principal (take colon word))) (position (λ b. nat_eq b 58) word)
+    given (position (λ b. nat_eq b 58) word) (λ colon.
+    given (read_principal (take colon word)) (λ owner.
+    option_map (λ number. numbered_file owner number) (read_number (drop (colon + 1) word))))
 
 -- the bytes that hex digits of either case write, two digits a byte
 unfoldable pub read_bytes : List ℕ → Option (List ℕ)
@@ -88,12 +93,15 @@ read_body file (b ∷ []) = read_number b
 read_body file _ = None
 
 abbrev pub create_change : Kind → FileId → List ℕ → FileId → ℕ → Change
-create_change kind dir name file body = Do (Create (record { dir = dir; name = name; file = file; body = body; kind = kind }))
+create_change kind dir name file body =
+    Do (Create (record { dir = dir; name = name; file = file; body = body; kind = kind }))
 
 -- `DIR NAME FILE [BODY]`
 abbrev pub read_create : Kind → List (List ℕ) → Option Change
 read_create kind (d ∷ name ∷ f ∷ b) =
-    option_and_then (λ dir. option_and_then (λ file. option_map (λ body. create_change kind dir name file body) (read_body file b)) (read_file f)) (read_file d)
+    given (read_file d) (λ dir.
+    given (read_file f) (λ file.
+    option_map (λ body. create_change kind dir name file body) (read_body file b)))
 read_create kind _ = None
 
 abbrev pub unlink_change : FileId → List ℕ → FileId → Change
@@ -101,7 +109,8 @@ unlink_change dir name file = Do (Unlink (record { dir = dir; name = name; file 
 
 -- `DIR NAME FILE`
 abbrev pub read_unlink : List (List ℕ) → Option Change
-read_unlink (d ∷ name ∷ f ∷ []) = option_and_then (λ dir. option_map (λ file. unlink_change dir name file) (read_file f)) (read_file d)
+read_unlink (d ∷ name ∷ f ∷ []) =
+    given (read_file d) (λ dir. option_map (λ file. unlink_change dir name file) (read_file f))
 read_unlink _ = None
 
 abbrev pub write_change : FileId → ℕ → List ℕ → Change
@@ -109,7 +118,10 @@ write_change file off bytes = Do (Write (record { file = file; off = off; bytes 
 
 -- `FILE OFF HEX`
 abbrev pub read_write : List (List ℕ) → Option Change
-read_write (f ∷ o ∷ h ∷ []) = option_and_then (λ file. option_and_then (λ off. option_map (λ bytes. write_change file off bytes) (read_bytes h)) (read_number o)) (read_file f)
+read_write (f ∷ o ∷ h ∷ []) =
+    given (read_file f) (λ file.
+    given (read_number o) (λ off.
+    option_map (λ bytes. write_change file off bytes) (read_bytes h)))
 read_write _ = None
 
 abbrev pub truncate_change : FileId → ℕ → Change
@@ -117,7 +129,8 @@ truncate_change file size = Do (Truncate (record { file = file; size = size }))
 
 -- `FILE SIZE`
 abbrev pub read_truncate : List (List ℕ) → Option Change
-read_truncate (f ∷ s ∷ []) = option_and_then (λ file. option_map (λ size. truncate_change file size) (read_number s)) (read_file f)
+read_truncate (f ∷ s ∷ []) =
+    given (read_file f) (λ file. option_map (λ size. truncate_change file size) (read_number s))
 read_truncate _ = None
 
 abbrev pub take_change : FileId → ℕ → Change
@@ -125,7 +138,8 @@ take_change file body = Do (Take (record { file = file; body = body }))
 
 -- `FILE BODY`
 abbrev pub read_take : List (List ℕ) → Option Change
-read_take (f ∷ b ∷ []) = option_and_then (λ file. option_map (λ body. take_change file body) (read_number b)) (read_file f)
+read_take (f ∷ b ∷ []) =
+    given (read_file f) (λ file. option_map (λ body. take_change file body) (read_number b))
 read_take _ = None
 
 abbrev pub link_change : FileId → List ℕ → FileId → Change
@@ -133,16 +147,20 @@ link_change dir name file = Do (Link (record { dir = dir; name = name; file = fi
 
 -- `DIR NAME FILE`
 abbrev pub read_link : List (List ℕ) → Option Change
-read_link (d ∷ name ∷ f ∷ []) = option_and_then (λ dir. option_map (λ file. link_change dir name file) (read_file f)) (read_file d)
+read_link (d ∷ name ∷ f ∷ []) =
+    given (read_file d) (λ dir. option_map (λ file. link_change dir name file) (read_file f))
 read_link _ = None
 
 abbrev pub rename_change : FileId → List ℕ → FileId → List ℕ → FileId → Change
-rename_change from old to new file = Do (Rename (record { from_ = from; old_ = old; to_ = to; new_ = new; file = file }))
+rename_change from old to new file =
+    Do (Rename (record { from_ = from; old_ = old; to_ = to; new_ = new; file = file }))
 
 -- `FROM OLD TO NEW FILE`
 abbrev pub read_rename : List (List ℕ) → Option Change
 read_rename (s ∷ old ∷ t ∷ new ∷ f ∷ []) =
-    option_and_then (λ from. option_and_then (λ to. option_map (λ file. rename_change from old to new file) (read_file f)) (read_file t)) (read_file s)
+    given (read_file s) (λ from.
+    given (read_file t) (λ to.
+    option_map (λ file. rename_change from old to new file) (read_file f)))
 read_rename _ = None
 
 -- `N`
@@ -177,7 +195,8 @@ read_undo_last user arguments = read_single arguments (UndoLast user)
 -- a user's command, by its word
 abbrev pub read_user_word : ℕ → List ℕ → List (List ℕ) → Option Command
 read_user_word user word arguments =
-    cond (is_word word (codes "undo_last")) (read_undo_last user arguments) (option_map (λ c. Apply user c) (read_change word arguments))
+    cond (is_word word (codes "undo_last")) (read_undo_last user arguments)
+    (option_map (λ c. Apply user c) (read_change word arguments))
 
 -- a user's command, after the user's number
 abbrev pub read_user : ℕ → List (List ℕ) → Option Command
@@ -191,7 +210,10 @@ read_list _ = None
 
 -- `FILE OFF LEN`
 abbrev pub read_cat : List (List ℕ) → Option Command
-read_cat (f ∷ o ∷ l ∷ []) = option_and_then (λ file. option_and_then (λ off. option_map (λ len. Ask (Read file off len)) (read_number l)) (read_number o)) (read_file f)
+read_cat (f ∷ o ∷ l ∷ []) =
+    given (read_file f) (λ file.
+    given (read_number o) (λ off.
+    option_map (λ len. Ask (Read file off len)) (read_number l)))
 read_cat _ = None
 
 -- `FILE`
@@ -226,7 +248,7 @@ abbrev pub read_words : List (List ℕ) → Option Command
 read_words [] = None
 read_words (first ∷ others) = read_after (read_number first) first others
 
--- What the words of a line say, with each number as it stands there. An empty word is none of a command.
+-- What the words of a line say, with each number as it stands there. A line with an empty word is no command.
 abbrev pub words_command : List (List ℕ) → Option Command
 words_command words = cond (has_empty_word words) None (read_words words)
 

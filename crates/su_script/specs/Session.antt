@@ -58,16 +58,29 @@ handles ro T = map (handle T) (principals ro)
 -- whether the digests are those that were kept
 abbrev pub same_text : Option (List (List ℕ)) → List (List ℕ) → List ℕ
 same_text None now = codes "no mark\n"
-same_text (Some kept) now = cond (pointwise (pointwise nat_eq) now kept) (codes "same\n") (codes "differs\n")
+same_text (Some kept) now =
+    cond (pointwise (pointwise nat_eq) now kept) (codes "same\n") (codes "differs\n")
 
 -- ---- commands
 
--- what a command prints, whose words are all within their ranges, and what the desk and the mark are then; a question and
--- a mark may be refused for want of memory
+-- a text, or the refusal for want of memory
+abbrev pub IsText : List ℕ → List ℕ → Type 0
+IsText text out = (out ≡ text) ⊎ (out ≡ refused_text NoMemory)
+
+-- What a command prints, whose words are all within their ranges, and what the desk and the mark are
+-- then. A question and a mark may be refused for want of memory.
 abbrev pub Does : SessionState → Command → List ℕ → SessionState → Type 0
-Does s (Apply a c) out s' = (r : Result ℕ Refusal) × Answers s.desk a c r s'.desk × (s'.mark ≡ s.mark) × (out ≡ answer_text r)
-Does s (UndoLast a) out s' = (r : Result ℕ Refusal) × Answers s.desk a (Undo (last_live s.desk.history)) r s'.desk × (s'.mark ≡ s.mark) × (out ≡ answer_text r)
-Does s (Ask q) out s' = ((out ≡ question_text (desk_tree s.desk) q) ⊎ (out ≡ refused_text NoMemory)) × (s' ≡ s)
-Does s Versions out s' = (out ≡ versions_text (versions s.desk.roster s.desk.history)) × (s' ≡ s)
-Does s Mark out s' = ((out ≡ []) × (s' ≡ record s { mark = Some (handles s.desk.roster (desk_tree s.desk)) })) ⊎ ((out ≡ refused_text NoMemory) × (s' ≡ s))
-Does s Same out s' = ((out ≡ same_text s.mark (handles s.desk.roster (desk_tree s.desk))) ⊎ (out ≡ refused_text NoMemory)) × (s' ≡ s)
+Does s (Apply a c) out s' =
+    (r : Result ℕ Refusal) × Answers s.desk a c r s'.desk
+    × (s'.mark ≡ s.mark) × (out ≡ answer_text r)
+Does s (UndoLast a) out s' =
+    (r : Result ℕ Refusal) × Answers s.desk a (Undo (last_live s.desk.history)) r s'.desk
+    × (s'.mark ≡ s.mark) × (out ≡ answer_text r)
+Does s (Ask q) out s' = IsText (question_text (desk_tree s.desk) q) out × (s' ≡ s)
+Does s Versions out s' =
+    (out ≡ versions_text (versions s.desk.roster s.desk.history)) × (s' ≡ s)
+Does s Mark out s' =
+    ((out ≡ []) × (s' ≡ record s { mark = Some (handles s.desk.roster (desk_tree s.desk)) }))
+    ⊎ ((out ≡ refused_text NoMemory) × (s' ≡ s))
+Does s Same out s' =
+    IsText (same_text s.mark (handles s.desk.roster (desk_tree s.desk))) out × (s' ≡ s)

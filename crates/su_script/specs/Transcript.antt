@@ -27,16 +27,19 @@ Says d command (Some r) out d' = ((out ≡ refused_text r) ⊎ (out ≡ refused_
 -- what a non-empty line prints, and what the desk is then; want of memory changes nothing
 abbrev pub LineSays : SessionState → List ℕ → List ℕ → SessionState → Type 0
 LineSays d line out d' =
-    ((out ≡ refused_text NoMemory) × (d' ≡ d)) ⊎ ((command : Command) × (line_command line ≡ Some command) × Says d command (word_refusal d.desk.roster command) out d')
+    ((out ≡ refused_text NoMemory) × (d' ≡ d))
+    ⊎ ((command : Command) × (line_command line ≡ Some command)
+    × Says d command (word_refusal d.desk.roster command) out d')
 
--- What is printed for the lines from number k on, and how the run ends: empty lines print nothing, the first line that is
--- no command ends the run.
+-- What is printed for the lines from number k on, and how the run ends: empty lines print nothing, the
+-- first line that is no command ends the run.
 abbrev pub Transcript : SessionState → ℕ → List (List ℕ) → List ℕ → Status → Type 0
 Transcript d k [] out status = (out ≡ []) × (status ≡ Finished)
 Transcript d k ([] ∷ lines) out status = Transcript d (k + 1) lines out status
 Transcript d k ((b ∷ bs) ∷ lines) out status =
     ((line_command (b ∷ bs) ≡ None) × (out ≡ bad_text k) × (status ≡ BadLine))
-    ⊎ ((first : List ℕ) × (rest : List ℕ) × (d' : SessionState) × LineSays d (b ∷ bs) first d' × (out ≡ first ++ rest) × Transcript d' (k + 1) lines rest status)
+    ⊎ ((first : List ℕ) × (rest : List ℕ) × (d' : SessionState) × LineSays d (b ∷ bs) first d'
+    × (out ≡ first ++ rest) × Transcript d' (k + 1) lines rest status)
 
 -- n users, whose keys are zero bytes; group 0 has all of them, and group 1 has user 0
 abbrev pub desk_members : ℕ → Membership
@@ -50,10 +53,12 @@ new_desk n = record { roster = desk_members n; history = [] }
 abbrev pub start : ℕ → SessionState
 start n = record { desk = new_desk n; mark = None }
 
--- Unless a fault ended the run, the writer holds what it held, and then the transcript of the bytes from line k on.
+-- Unless a fault ended the run, the writer holds what it held, and then the transcript of the bytes
+-- from line k on.
 abbrev pub PrintsFrom : SessionState → ℕ → List ℕ → List ℕ → Option (List ℕ) → Status → Type 0
 PrintsFrom d k input before after Fault = Unit {0}
-PrintsFrom d k input before after status = (out : List ℕ) × (after ≡ Some (before ++ out)) × Transcript d k (lines_of input) out status
+PrintsFrom d k input before after status =
+    (out : List ℕ) × (after ≡ Some (before ++ out)) × Transcript d k (lines_of input) out status
 
 -- the same of a whole script, on a new desk of n users
 abbrev pub Prints : ℕ → List ℕ → List ℕ → Option (List ℕ) → Status → Type 0

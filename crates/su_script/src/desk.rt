@@ -94,7 +94,7 @@ fn zero_keys(alloc: Global, count: u8) -> Result<Vec<[u8; KEY_LENGTH]>, AllocErr
     Ok(keys)
 }
 
-/// Carries out the lines that are left of a reader, the first of which is line 1, and prints their answers.
+/// Carries out the lines of a reader, and prints their answers.
 fn run<R: Read + Drop, W: Write>(
     alloc: Global,
     mut session: Session,

@@ -82,10 +82,12 @@ impl<R: Read + Drop> LineReader<R> {
         }
     }
 
-    /// Moves the bytes that were read to `line`, through the next line feed, which is dropped. Whether it met one.
+    /// Moves the bytes that were read to `line`, through the next line feed, which is dropped.
+    /// Whether it met one.
     fn take(&mut self, line: &mut Vec<u8>) -> Result<bool, ReadFault>
         ensures taken { IfOk result (λ ended. Takes ended line.old.items line.new.items
-            (drop self.old.start self.old.filled.items) (drop self.new.start self.new.filled.items)) }
+            (drop self.old.start self.old.filled.items)
+            (drop self.new.start self.new.filled.items)) }
         ensures reader { R.remaining self.new.reader ≡ R.remaining self.old.reader }
         ensures reads { self.new.reads_left ≡ self.old.reads_left }
         ensures empty { IfOk result (λ ended.

@@ -1,4 +1,5 @@
-// From the bytes of a line to a raw command: its numbers may still be outside their ranges, and its names no names.
+// From the bytes of a line to a raw command, whose numbers and names may still be outside their
+// ranges.
 ghost use Rattle.std.specs.Prelude.{◌≡◌, IfOk, length, nat_eq, option_map};
 ghost use Rattle.std.specs.List.{list_any, position};
 ghost use Rattle.su_script.specs.Script.{line_command, own_body, read_body, read_bytes, read_cat, read_change, read_create, read_file, read_handle, read_link, read_list, read_number, read_other, read_principal, read_rename, read_single, read_stat, read_take, read_truncate, read_undo, read_undo_last, read_unlink, read_user, read_words, read_write, words_of};
@@ -163,7 +164,8 @@ fn has_empty_word(words: &[&[u8]]) -> bool
     words.iter().any(|word| word.is_empty())
 }
 
-/// Reads words of which none is empty. The first is the number of a user, or a command that is no user's.
+/// Reads words of which none is empty. The first is the number of a user, or the word of a command
+/// that is no user's.
 fn read_words<'a>(alloc: Global, words: &[&'a [u8]]) -> Result<Option<RawCommand<'a>>, AllocError>
     ensures { IfOk result (λ raw. option_map command_of raw ≡ read_words (texts words.now)) }
 {
@@ -263,7 +265,7 @@ fn read_other<'a>(word: &[u8], arguments: &[&'a [u8]]) -> Option<RawCommand<'a>>
     None
 }
 
-/// `DIR NAME FILE [BODY]`
+/// Reads `DIR NAME FILE [BODY]`.
 fn read_create<'a>(kind: Kind, arguments: &[&'a [u8]]) -> Option<RawChange<'a>>
     ensures { option_map change_of result ≡ read_create kind (texts arguments.now) }
 {
@@ -282,7 +284,7 @@ fn read_create<'a>(kind: Kind, arguments: &[&'a [u8]]) -> Option<RawChange<'a>>
     }))
 }
 
-/// `[BODY]`: where none is named, a user's file has its own number.
+/// Reads `[BODY]`. Where none is named, a user's file has its own number.
 fn read_body(file: RawFile, arguments: &[&[u8]]) -> Option<u64>
     ensures { result ≡ read_body (file_of file) (texts arguments.now) }
 {
@@ -303,7 +305,7 @@ fn own_body(file: RawFile) -> Option<u64>
     }
 }
 
-/// `FILE OFF HEX`
+/// Reads `FILE OFF HEX`.
 fn read_write<'a>(
     alloc: Global,
     arguments: &[&'a [u8]],
@@ -322,7 +324,7 @@ fn read_write<'a>(
     }
 }
 
-/// `FILE SIZE`
+/// Reads `FILE SIZE`.
 fn read_truncate<'a>(arguments: &[&'a [u8]]) -> Option<RawChange<'a>>
     ensures { option_map change_of result ≡ read_truncate (texts arguments.now) }
 {
@@ -334,7 +336,7 @@ fn read_truncate<'a>(arguments: &[&'a [u8]]) -> Option<RawChange<'a>>
     Some(RawChange::Truncate { file, size })
 }
 
-/// `DIR NAME FILE`
+/// Reads `DIR NAME FILE`.
 fn read_unlink<'a>(arguments: &[&'a [u8]]) -> Option<RawChange<'a>>
     ensures { option_map change_of result ≡ read_unlink (texts arguments.now) }
 {
@@ -346,7 +348,7 @@ fn read_unlink<'a>(arguments: &[&'a [u8]]) -> Option<RawChange<'a>>
     Some(RawChange::Unlink { dir, name, file })
 }
 
-/// `N`
+/// Reads `N`.
 fn read_undo<'a>(arguments: &[&'a [u8]]) -> Option<RawChange<'a>>
     ensures { option_map change_of result ≡ read_undo (texts arguments.now) }
 {
@@ -357,7 +359,7 @@ fn read_undo<'a>(arguments: &[&'a [u8]]) -> Option<RawChange<'a>>
     Some(RawChange::Undo { number })
 }
 
-/// `FILE BODY`
+/// Reads `FILE BODY`.
 fn read_take<'a>(arguments: &[&'a [u8]]) -> Option<RawChange<'a>>
     ensures { option_map change_of result ≡ read_take (texts arguments.now) }
 {
@@ -369,7 +371,7 @@ fn read_take<'a>(arguments: &[&'a [u8]]) -> Option<RawChange<'a>>
     Some(RawChange::Take { file, body })
 }
 
-/// `DIR NAME FILE`
+/// Reads `DIR NAME FILE`.
 fn read_link<'a>(arguments: &[&'a [u8]]) -> Option<RawChange<'a>>
     ensures { option_map change_of result ≡ read_link (texts arguments.now) }
 {
@@ -381,7 +383,7 @@ fn read_link<'a>(arguments: &[&'a [u8]]) -> Option<RawChange<'a>>
     Some(RawChange::Link { dir, name, file })
 }
 
-/// `FROM OLD TO NEW FILE`
+/// Reads `FROM OLD TO NEW FILE`.
 fn read_rename<'a>(arguments: &[&'a [u8]]) -> Option<RawChange<'a>>
     ensures { option_map change_of result ≡ read_rename (texts arguments.now) }
 {
@@ -400,14 +402,14 @@ fn read_rename<'a>(arguments: &[&'a [u8]]) -> Option<RawChange<'a>>
     }))
 }
 
-/// Nothing more.
+/// Reads no further word.
 fn read_undo_last<'a>(user: u64, arguments: &[&'a [u8]]) -> Option<RawCommand<'a>>
     ensures { option_map command_of result ≡ read_undo_last user (texts arguments.now) }
 {
     read_single(arguments, RawCommand::UndoLast { user })
 }
 
-/// `DIR`
+/// Reads `DIR`.
 fn read_list<'a>(arguments: &[&'a [u8]]) -> Option<RawCommand<'a>>
     ensures { option_map command_of result ≡ read_list (texts arguments.now) }
 {
@@ -418,7 +420,7 @@ fn read_list<'a>(arguments: &[&'a [u8]]) -> Option<RawCommand<'a>>
     Some(RawCommand::List { dir })
 }
 
-/// `FILE OFF LEN`
+/// Reads `FILE OFF LEN`.
 fn read_cat<'a>(arguments: &[&'a [u8]]) -> Option<RawCommand<'a>>
     ensures { option_map command_of result ≡ read_cat (texts arguments.now) }
 {
@@ -431,7 +433,7 @@ fn read_cat<'a>(arguments: &[&'a [u8]]) -> Option<RawCommand<'a>>
     Some(RawCommand::Read { file, off, len })
 }
 
-/// `FILE`
+/// Reads `FILE`.
 fn read_stat<'a>(arguments: &[&'a [u8]]) -> Option<RawCommand<'a>>
     ensures { option_map command_of result ≡ read_stat (texts arguments.now) }
 {
@@ -442,7 +444,7 @@ fn read_stat<'a>(arguments: &[&'a [u8]]) -> Option<RawCommand<'a>>
     Some(RawCommand::Describe { file })
 }
 
-/// `U0` or `G0`
+/// Reads `U0` or `G0`.
 fn read_handle<'a>(arguments: &[&'a [u8]]) -> Option<RawCommand<'a>>
     ensures { option_map command_of result ≡ read_handle (texts arguments.now) }
 {
@@ -455,7 +457,8 @@ fn read_handle<'a>(arguments: &[&'a [u8]]) -> Option<RawCommand<'a>>
 
 /// A command after which no word is left.
 fn read_single<'a>(arguments: &[&[u8]], command: RawCommand<'a>) -> Option<RawCommand<'a>>
-    ensures { option_map command_of result ≡ read_single (texts arguments.now) (command_of command.entry) }
+    ensures { option_map command_of result
+        ≡ read_single (texts arguments.now) (command_of command.entry) }
 {
     match arguments {
         [] => Some(command),
@@ -463,7 +466,7 @@ fn read_single<'a>(arguments: &[&[u8]], command: RawCommand<'a>) -> Option<RawCo
     }
 }
 
-/// Reads a number of 1 to 20 decimal digits. `None` where the word is none, or the number doesn't fit.
+/// Reads a number of 1 to 20 decimal digits. `None` where it doesn't fit 64 bits.
 #[tactic(auto, unfolding(crate::specs::Script::read_number))]
 fn read_number(word: &[u8]) -> Option<u64>
     ensures { result ≡ read_number word.now }
