@@ -12,6 +12,7 @@ use crate::parse::parse_line;
 use crate::ranges::check_ranges;
 use crate::session::Session;
 use std::alloc::{AllocError, Global};
+use std::io;
 use std::io::{Read, Write};
 use su_bytes::{KEY_LENGTH, Refusal, Roster};
 use su_desk::Desk;
@@ -46,10 +47,6 @@ enum Step {
     GoesOn,
     Ends(Status),
 }
-
-/// A text could not be written.
-#[derive(Clone, Copy, Debug)]
-struct PrintFault;
 
 /// Runs a script on a new desk of `users` users, 1 to 64, and prints what it answers.
 pub fn run_desk<R: Read + Drop, W: Write>(
@@ -153,7 +150,7 @@ fn line_step<W: Write>(
     match answer_line(alloc, session, line) {
         Ok(Some(text)) => match print(writer, text.as_slice()) {
             Ok(()) => Step::GoesOn,
-            Err(PrintFault) => Step::Ends(Status::Fault),
+            Err(_) => Step::Ends(Status::Fault),
         },
         Ok(None) => Step::Ends(end_badly(alloc, writer, number)),
         Err(_) => Step::Ends(Status::Fault),
@@ -193,15 +190,14 @@ fn end_badly<W: Write>(alloc: Global, writer: &mut W, number: u64) -> Status
     };
     match print(writer, text.as_slice()) {
         Ok(()) => Status::BadLine,
-        Err(PrintFault) => Status::Fault,
+        Err(_) => Status::Fault,
     }
 }
 
 /// Writes a text, and flushes it.
-fn print<W: Write>(writer: &mut W, text: &[u8]) -> Result<(), PrintFault>
+fn print<W: Write>(writer: &mut W, text: &[u8]) -> io::Result<()>
     ensures { OnOk result (Appends (W.contents writer.old) (W.contents writer.new) text.now) }
 {
-    writer.write_all(text).map_err(|_| PrintFault)?;
-    writer.flush().map_err(|_| PrintFault)?;
-    Ok(())
+    writer.write_all(text)?;
+    writer.flush()
 }

@@ -5,7 +5,8 @@ ghost use Rattle.std.specs.Io.KnownBytes.{prepend_known};
 ghost use Rattle.su_script.specs.Lines.{is_unbroken, Takes, Refills, Reads};
 
 use memchr::memchr;
-use std::alloc::Global;
+use std::alloc::{AllocError, Global};
+use std::io;
 use std::io::{ErrorKind, Read};
 
 /// Bytes of the longest line, its end not counted.
@@ -16,10 +17,6 @@ const MOST_READS: u32 = 10_000_000;
 
 /// Bytes asked for in one read.
 const CHUNK: usize = 4096;
-
-/// The lines can't be read: the reader failed or never ended, or there was no memory for a line.
-#[derive(Clone, Copy, Debug, PartialEq, Eq)]
-pub struct ReadFault;
 
 /// What comes next in a script.
 #[derive(Drop)]
@@ -59,8 +56,9 @@ impl<R: Read + Drop> LineReader<R> {
         }
     }
 
-    /// Reads the next line. Waits for no more bytes than the line needs.
-    pub fn next_line(&mut self) -> Result<NextLine, ReadFault>
+    /// Reads the next line, and waits for no more bytes than it needs. Fails where the reader fails or
+    /// never ends, or where there is no memory for the line.
+    pub fn next_line(&mut self) -> io::Result<NextLine>
         ensures { IfOk result (λ next.
             Reads next (unread R.remaining self.old) (unread R.remaining self.new)) }
     {
@@ -84,7 +82,7 @@ impl<R: Read + Drop> LineReader<R> {
 
     /// Moves the bytes that were read to `line`, through the next line feed, which is dropped.
     /// Whether it met one.
-    fn take(&mut self, line: &mut Vec<u8>) -> Result<bool, ReadFault>
+    fn take(&mut self, line: &mut Vec<u8>) -> Result<bool, AllocError>
         ensures taken { IfOk result (λ ended. Takes ended line.old.items line.new.items
             (drop self.old.start self.old.filled.items)
             (drop self.new.start self.new.filled.items)) }
@@ -96,12 +94,12 @@ impl<R: Read + Drop> LineReader<R> {
         let rest = &self.filled[self.start..];
         match line_end(rest) {
             Some(end) => {
-                line.extend_from_slice(&rest[..end]).map_err(|_| ReadFault)?;
+                line.extend_from_slice(&rest[..end])?;
                 self.start += end + 1;
                 Ok(true)
             }
             None => {
-                line.extend_from_slice(rest).map_err(|_| ReadFault)?;
+                line.extend_from_slice(rest)?;
                 self.start = self.filled.len();
                 Ok(false)
             }
@@ -109,14 +107,14 @@ impl<R: Read + Drop> LineReader<R> {
     }
 
     /// Reads once, where all that was read is taken. False at the end of the input.
-    fn refill(&mut self) -> Result<bool, ReadFault>
+    fn refill(&mut self) -> io::Result<bool>
         requires { drop self.old.start self.old.filled.items ≡ [] }
         ensures bytes { IfOk result (λ more.
             Refills more (R.remaining self.old.reader) (unread R.remaining self.new)) }
         ensures reads { OnOk result (self.new.reads_left < self.old.reads_left) }
     {
         if self.reads_left == 0 {
-            return Err(ReadFault);
+            return Err(io::Error::from(ErrorKind::Other));
         }
         self.reads_left -= 1;
         let mut chunk = [0u8; CHUNK];
@@ -124,18 +122,11 @@ impl<R: Read + Drop> LineReader<R> {
             Ok(count) => {
                 self.start = 0;
                 self.filled.clear();
-                self.filled
-                    .extend_from_slice(&chunk[..count])
-                    .map_err(|_| ReadFault)?;
+                self.filled.extend_from_slice(&chunk[..count])?;
                 Ok(0 < count)
             }
-            Err(error) => {
-                if error.kind() == ErrorKind::Interrupted {
-                    Ok(true)
-                } else {
-                    Err(ReadFault)
-                }
-            }
+            Err(error) if error.kind() == ErrorKind::Interrupted => Ok(true),
+            Err(error) => Err(error),
         }
     }
 }

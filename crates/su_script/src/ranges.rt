@@ -106,12 +106,16 @@ fn check_change(alloc: Global, raw: RawChange<'_>) -> Result<Change, Refusal>
         }
         RawChange::Write { file, off, bytes } => {
             let file = file_id(file)?;
-            let off = u32::try_from(off).map_err(|_| Refusal::BadNumber)?;
+            let Ok(off) = u32::try_from(off) else {
+                return Err(Refusal::BadNumber);
+            };
             Ok(Change::Do(Op::Write(Write { file, off, bytes })))
         }
         RawChange::Truncate { file, size } => {
             let file = file_id(file)?;
-            let size = u32::try_from(size).map_err(|_| Refusal::BadNumber)?;
+            let Ok(size) = u32::try_from(size) else {
+                return Err(Refusal::BadNumber);
+            };
             Ok(Change::Do(Op::Truncate(Truncate { file, size })))
         }
         RawChange::Undo { number } => Ok(Change::Undo(number)),
