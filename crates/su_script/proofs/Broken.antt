@@ -8,7 +8,7 @@ use Rattle.std.specs.Io.KnownBytes.{prepend_known}
 use Rattle.std.proofs.lemmas.List.Folds.{list_all-append}
 use Rattle.su_script.specs.declared.lines.NextLine.{NextLine}
 use Rattle.su_script.specs.declared.lines.NextLine.TheVariants.{Line, TooLong}
-use Rattle.su_script.specs.Script.{lines_of}
+use Rattle.su_script.specs.Script.{lines_of, longest_line}
 use Rattle.su_script.specs.Lines.{is_unbroken, Takes, Refills, Reads, ReadsOf, Partly}
 
 both : (a b : Bool) → (a && b) ≡ true → (a ≡ true) × (b ≡ true)
@@ -83,7 +83,7 @@ after_taken (Some input) (Some xs) false line grown ready left (u, rest, is, who
       whole ∙ ap (λ z. line ++ z) (sym same) ∙ sym (append_assoc line ready xs) ∙ ap (λ z. z ++ xs) (sym g),
     )
 
-pub reads_too_long : (ended : Bool) (line : List ℕ) (known new : Option (List ℕ)) → After ended line known new → 140000 < length line → Reads TooLong known new
+pub reads_too_long : (ended : Bool) (line : List ℕ) (known new : Option (List ℕ)) → After ended line known new → longest_line < length line → Reads TooLong known new
 reads_too_long ended line None new a long = tt
 reads_too_long true [] (Some input) new a long = absurd (omega arith)
 reads_too_long true (b ∷ bs) (Some input) new (u, rest, is, whole) long = (b ∷ bs, lines_of rest, ap lines_of whole ∙ lines_of-ended (b ∷ bs) rest u, long)

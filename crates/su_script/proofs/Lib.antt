@@ -1,5 +1,7 @@
 pub mod Numbers
-pub mod Spelling
+pub mod EmptyWords
+pub mod Renames
+pub mod Bytes
 pub mod Broken
-pub mod Turning
-pub mod Ranges
+pub mod Stepping
+pub mod Refusing

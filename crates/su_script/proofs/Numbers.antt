@@ -7,7 +7,7 @@ use Rattle.std.specs.List.{list_all}
 use Rattle.std.specs.Char.{is_ascii_digit, digit_value}
 use Rattle.std.specs.Str.Parse.{digits_value, digits_value_after}
 use Rattle.std.proofs.lemmas.Bool.Decides.{nat_tests}
-use Rattle.su_script.specs.Script.{number_of}
+use Rattle.su_script.specs.Script.{read_number}
 
 third_fails : (a b c d : Bool) (n : ℕ) → c ≡ false → cond (a && b && c && d) (Some n) None ≡ None
 third_fails true true true d n e = cc
@@ -27,14 +27,17 @@ all_pass true true false y n m a b c d e = cc
 all_pass true false x y n m a b c d e = cc
 all_pass false w x y n m a b c d e = cc
 
-pub number_of-no_digits : (word : List ℕ) → list_all is_ascii_digit word ≡ false → number_of word ≡ None
-number_of-no_digits word e = third_fails (nat_lt 0 (length word)) (nat_le (length word) 20) _ _ _ e
+pub read_number-no_digits : (word : List ℕ) → list_all is_ascii_digit word ≡ false → read_number word ≡ None
+unfolding read_number
+read_number-no_digits word e = third_fails (nat_lt 0 (length word)) (nat_le (length word) 20) _ _ _ e
 
-pub number_of-too_large : (word : List ℕ) → 2 ^ 64 ≤ digits_value 10 word → number_of word ≡ None
-number_of-too_large word h = last_fails (nat_lt 0 (length word) && nat_le (length word) 20 && list_all is_ascii_digit word) _ _ (grind (arith, nat_tests))
+pub read_number-too_large : (word : List ℕ) → 2 ^ 64 ≤ digits_value 10 word → read_number word ≡ None
+unfolding read_number
+read_number-too_large word h = last_fails (nat_lt 0 (length word) && nat_le (length word) 20 && list_all is_ascii_digit word) _ _ (grind (arith, nat_tests))
 
-pub number_of-digits : (word : List ℕ) (n : ℕ) → 0 < length word → length word ≤ 20 → list_all is_ascii_digit word ≡ true → digits_value 10 word ≡ n → n < 2 ^ 64 → number_of word ≡ Some n
-number_of-digits word n some short digits value fits = all_pass (nat_lt 0 (length word)) (nat_le (length word) 20) _ _ _ _ (grind (arith, nat_tests)) (grind (arith, nat_tests)) digits (grind (arith, nat_tests)) value
+pub read_number-digits : (word : List ℕ) (n : ℕ) → 0 < length word → length word ≤ 20 → list_all is_ascii_digit word ≡ true → digits_value 10 word ≡ n → n < 2 ^ 64 → read_number word ≡ Some n
+unfolding read_number
+read_number-digits word n some short digits value fits = all_pass (nat_lt 0 (length word)) (nat_le (length word) 20) _ _ _ _ (grind (arith, nat_tests)) (grind (arith, nat_tests)) digits (grind (arith, nat_tests)) value
 
 -- further digits make no number less
 pub digits_value_after-grows : (n : ℕ) (ds : List ℕ) → n ≤ digits_value_after 10 n ds
@@ -46,11 +49,11 @@ pub digits_value_after-next : (n i : ℕ) (word : List ℕ) → i < length word 
 digits_value_after-next n i word within = rw (add-one, drop-cons word i 0) refl
 
 -- where the value so far has no room for one digit more, the word is no number
-pub number_of-no_room : (word : List ℕ) (n i d : ℕ) → i < length word → digits_value_after 10 n (drop i word) ≡ digits_value 10 word → digit_value (get_or word i 0) ≡ d → 2 ^ 64 ≤ n * 10 + d → number_of word ≡ None
-number_of-no_room word n i d within value digit large =
+pub read_number-no_room : (word : List ℕ) (n i d : ℕ) → i < length word → digits_value_after 10 n (drop i word) ≡ digits_value 10 word → digit_value (get_or word i 0) ≡ d → 2 ^ 64 ≤ n * 10 + d → read_number word ≡ None
+read_number-no_room word n i d within value digit large =
     let grows = digits_value_after-grows (n * 10 + digit_value (get_or word i 0)) (drop (i + 1) word) in
     let next = digits_value_after-next n i word within in
-    number_of-too_large word (omega (arith, grows, next))
+    read_number-too_large word (omega (arith, grows, next))
 
 pub digit_value-digit : (b : ℕ) → 48 ≤ b → b ≤ 57 → digit_value b ≡ b - 48
 digit_value-digit b from to = grind (arith, nat_tests)

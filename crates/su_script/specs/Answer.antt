@@ -50,7 +50,11 @@ kind_text Dir = codes "dir"
 
 -- `file size 5 links 1 at U0:3`: what stands at a place
 abbrev pub inode_text : Place → Inode → List ℕ
-inode_text p i = kind_text (kind_of i.content) ++ (codes " size " ++ (decimal (size_of i.content) ++ (codes " links " ++ (decimal i.links ++ (codes " at " ++ (file_id_text (User p.0 p.1) ++ 10 ∷ []))))))
+inode_text p i =
+    kind_text (kind_of i.content)
+    ++ (codes " size " ++ (decimal (size_of i.content)
+    ++ (codes " links " ++ (decimal i.links
+    ++ (codes " at " ++ (file_id_text (User p.0 p.1) ++ 10 ∷ []))))))
 
 -- the same, or the refusal
 abbrev pub description_text : Result (Place × Inode) Refusal → List ℕ

@@ -1,10 +1,9 @@
 pub mod Script
+pub mod Raw
 pub mod Range
-pub mod Fault
-pub mod Spoken
-pub mod SpokenFile
 pub mod Lines
+pub mod Unread
 pub mod Answer
 pub mod Session
 pub mod Transcript
-pub mod Turn
+pub mod Step

@@ -1,12 +1,11 @@
 -- What a desk prints for a script: line by line the stated text of each answer.
 use Rattle.std.specs.Prelude.{◌≡◌, ℕ, ◌+◌, ◌⊎◌, List, [], ◌∷◌, ◌++◌, Option, None, Some, map, replicate}
-use Rattle.std.specs.List.{range_with_len}
-use Rattle.su_bytes.specs.Membership.{Membership}
+use Rattle.su_bytes.specs.Membership.{Membership, membership_of_keys}
 use Rattle.su_bytes.specs.declared.refusals.Refusal.{Refusal}
-use Rattle.su_bytes.specs.declared.rosters.RosterUser.{RosterUser}
+use Rattle.su_bytes.specs.declared.rosters.TheConstants.{KEY_LENGTH}
 use Rattle.su_bytes.specs.declared.refusals.Refusal.TheVariants.{NoMemory}
 use Rattle.su_desk.specs.Desk.{DeskState}
-use Rattle.su_script.specs.declared.commands.Command.{Command}
+use Rattle.su_script.specs.declared.ranges.Command.{Command}
 use Rattle.su_script.specs.declared.desk.Status.{Status}
 use Rattle.su_script.specs.declared.desk.Status.TheVariants.{Finished, Fault, BadLine}
 use Rattle.su_script.specs.Script.{lines_of, line_command}
@@ -25,34 +24,26 @@ abbrev pub Says : SessionState → Command → Option Refusal → List ℕ → S
 Says d command None out d' = Does d command out d'
 Says d command (Some r) out d' = ((out ≡ refused_text r) ⊎ (out ≡ refused_text NoMemory)) × (d' ≡ d)
 
--- what a line prints that is not empty, and what the desk is then; want of memory changes nothing
+-- what a non-empty line prints, and what the desk is then; want of memory changes nothing
 abbrev pub LineSays : SessionState → List ℕ → List ℕ → SessionState → Type 0
 LineSays d line out d' =
-    ((out ≡ refused_text NoMemory) × (d' ≡ d)) ⊎ ((command : Command) × (line_command line ≡ Some command) × Says d command (word_refusal d.desk.roster command) out d')
+    ((out ≡ refused_text NoMemory) × (d' ≡ d))
+    ⊎ ((command : Command) × (line_command line ≡ Some command)
+    × Says d command (word_refusal d.desk.roster command) out d')
 
--- What is printed for the lines from number k on, and how the run ends: empty lines print nothing, the first line that is
--- no command ends the run.
+-- What is printed for the lines from number k on, and how the run ends: empty lines print nothing, the
+-- first line that is no command ends the run.
 abbrev pub Transcript : SessionState → ℕ → List (List ℕ) → List ℕ → Status → Type 0
 Transcript d k [] out status = (out ≡ []) × (status ≡ Finished)
 Transcript d k ([] ∷ lines) out status = Transcript d (k + 1) lines out status
 Transcript d k ((b ∷ bs) ∷ lines) out status =
     ((line_command (b ∷ bs) ≡ None) × (out ≡ bad_text k) × (status ≡ BadLine))
-    ⊎ ((first : List ℕ) × (rest : List ℕ) × (d' : SessionState) × LineSays d (b ∷ bs) first d' × (out ≡ first ++ rest) × Transcript d' (k + 1) lines rest status)
+    ⊎ ((first : List ℕ) × (rest : List ℕ) × (d' : SessionState) × LineSays d (b ∷ bs) first d'
+    × (out ≡ first ++ rest) × Transcript d' (k + 1) lines rest status)
 
--- a user with the key a roster gives him
-abbrev pub user_and_key : RosterUser → ℕ × List ℕ
-user_and_key u = (u.user, u.key)
-
--- a user whose key is zero bytes
-abbrev pub keyless_user : ℕ → ℕ × List ℕ
-keyless_user u = (u, replicate 56 0)
-
--- a desk of that many users, who are all in group 0; user 0 is in group 1; the keys are zero bytes
+-- n users, whose keys are zero bytes; group 0 has all of them, and group 1 has user 0
 abbrev pub desk_members : ℕ → Membership
-desk_members n = record {
-  users = map keyless_user (range_with_len 0 n);
-  groups = (0, range_with_len 0 n) ∷ (1, 0 ∷ []) ∷ [];
-}
+desk_members n = membership_of_keys (replicate n (replicate KEY_LENGTH 0))
 
 -- a desk of n users with an empty history
 abbrev pub new_desk : ℕ → DeskState
@@ -62,10 +53,12 @@ new_desk n = record { roster = desk_members n; history = [] }
 abbrev pub start : ℕ → SessionState
 start n = record { desk = new_desk n; mark = None }
 
--- Unless a fault ended the run, the writer holds what it held, and then the transcript of the bytes from line k on.
+-- Unless a fault ended the run, the writer holds what it held, and then the transcript of the bytes
+-- from line k on.
 abbrev pub PrintsFrom : SessionState → ℕ → List ℕ → List ℕ → Option (List ℕ) → Status → Type 0
 PrintsFrom d k input before after Fault = Unit {0}
-PrintsFrom d k input before after status = (out : List ℕ) × (after ≡ Some (before ++ out)) × Transcript d k (lines_of input) out status
+PrintsFrom d k input before after status =
+    (out : List ℕ) × (after ≡ Some (before ++ out)) × Transcript d k (lines_of input) out status
 
 -- the same of a whole script, on a new desk of n users
 abbrev pub Prints : ℕ → List ℕ → List ℕ → Option (List ℕ) → Status → Type 0

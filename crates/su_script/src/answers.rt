@@ -6,7 +6,7 @@ use std::alloc::{AllocError, Global};
 use su_bytes::{Digest, FileId, Inum, Kind, Name, Principal, Refusal, User};
 use su_node::Inode;
 
-/// `ok N`, or the refusal.
+/// Writes `ok N`, or the refusal.
 pub fn answered(alloc: Global, answer: Result<u64, Refusal>) -> Result<Vec<u8>, AllocError>
     ensures { IfOk result (λ text. text.items ≡ answer_text answer) }
 {
@@ -18,7 +18,8 @@ pub fn answered(alloc: Global, answer: Result<u64, Refusal>) -> Result<Vec<u8>, 
         Err(refusal) => refused(alloc, refusal),
     }
 }
-/// `no NUMBER NAME ARGS`.
+
+/// Writes `no NUMBER NAME ARGS`.
 pub fn refused(alloc: Global, refusal: Refusal) -> Result<Vec<u8>, AllocError>
     ensures { IfOk result (λ text. text.items ≡ refused_text refusal) }
 {
@@ -26,7 +27,7 @@ pub fn refused(alloc: Global, refusal: Refusal) -> Result<Vec<u8>, AllocError>
     Vec::from_slice(alloc, text.as_bytes())
 }
 
-/// A line for each name.
+/// Writes a line for each name.
 pub fn listed(alloc: Global, names: &[(Name, FileId)]) -> Result<Vec<u8>, AllocError>
     ensures { IfOk result (λ text. text.items ≡ listing_text (Ok names.now)) }
 {
@@ -37,7 +38,7 @@ pub fn listed(alloc: Global, names: &[(Name, FileId)]) -> Result<Vec<u8>, AllocE
     Ok(text)
 }
 
-/// `NAME FILE`.
+/// Appends `NAME FILE`.
 fn push_name(alloc: Global, text: &mut Vec<u8>, entry: &(Name, FileId)) -> Result<(), AllocError>
     ensures { OnOk result (text.new.items ≡ text.old.items ++ name_text entry.now) }
 {
@@ -48,7 +49,7 @@ fn push_name(alloc: Global, text: &mut Vec<u8>, entry: &(Name, FileId)) -> Resul
     Ok(())
 }
 
-/// `line N: bad`.
+/// Writes `line N: bad`.
 pub fn bad(alloc: Global, number: u64) -> Result<Vec<u8>, AllocError>
     ensures { IfOk result (λ text. text.items ≡ bad_text number) }
 {
@@ -56,7 +57,7 @@ pub fn bad(alloc: Global, number: u64) -> Result<Vec<u8>, AllocError>
     Vec::from_slice(alloc, text.as_bytes())
 }
 
-/// The bytes in hex.
+/// Writes bytes in hex.
 pub fn in_hex(alloc: Global, bytes: &[u8]) -> Result<Vec<u8>, AllocError>
     ensures { IfOk result (λ text. text.items ≡ bytes_text (Ok bytes.now)) }
 {
@@ -66,7 +67,7 @@ pub fn in_hex(alloc: Global, bytes: &[u8]) -> Result<Vec<u8>, AllocError>
     Ok(text)
 }
 
-/// `file size 5 links 1 at U0:3`, of what stands at that number of the user's i-table.
+/// Writes `file size 5 links 1 at U0:3`, of the inode at that number of the user's i-table.
 pub fn described(
     alloc: Global,
     user: User,
@@ -92,7 +93,7 @@ fn kind_word(kind: Kind) -> &'static str
     }
 }
 
-/// The digest, 64 hex digits.
+/// Writes a digest, 64 hex digits.
 pub fn digest_shown(alloc: Global, digest: Digest) -> Result<Vec<u8>, AllocError>
     ensures { IfOk result (λ text. text.items ≡ digest_line digest) }
 {
@@ -100,7 +101,7 @@ pub fn digest_shown(alloc: Global, digest: Digest) -> Result<Vec<u8>, AllocError
     Vec::from_slice(alloc, text.as_bytes())
 }
 
-/// `U0=2 U1=0 G0=0 G1=0`.
+/// Writes `U0=2 U1=0 G0=0 G1=0`.
 pub fn versions_shown(alloc: Global, versions: &[(Principal, u64)]) -> Result<Vec<u8>, AllocError>
     ensures { IfOk result (λ text. text.items ≡ versions_text versions.now) }
 {
@@ -117,7 +118,7 @@ pub fn versions_shown(alloc: Global, versions: &[(Principal, u64)]) -> Result<Ve
     Ok(text)
 }
 
-/// `U0=2`.
+/// Appends `U0=2`.
 fn push_version(
     alloc: Global,
     text: &mut Vec<u8>,

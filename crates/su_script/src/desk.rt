@@ -1,23 +1,21 @@
 // Running a script on a desk.
-ghost use Rattle.std.specs.Prelude.{◌≡◌, ◌≤◌, ℕ, ◌++◌, ◌⊎◌, List, [], ◌∷◌, Some, None, Ok, IfOk, OnOk, IfErr, MatchOption, drop, map};
-ghost use Rattle.std.specs.Io.KnownBytes.{Appends, prepend_known};
+ghost use Rattle.std.specs.Prelude.{◌≡◌, ◌≤◌, ◌⊎◌, ℕ, List, None, Some, IfOk, OnOk, MatchOption, replicate};
+ghost use Rattle.std.specs.Io.KnownBytes.{Appends};
 ghost use Rattle.su_script.specs.Script.{line_command};
-ghost use Rattle.su_script.specs.Transcript.{LineSays, Prints, PrintsFrom, keyless_user, new_desk, status_code, user_and_key};
-ghost use Rattle.std.specs.List.{range_with_len};
-ghost use Rattle.su_script.specs.Turn.{EndsBadly, LineTurns, Turns};
+ghost use Rattle.su_script.specs.Step.{EndsBadly, LineSteps, Steps};
+ghost use Rattle.su_script.specs.Transcript.{LineSays, Prints, PrintsFrom, new_desk, status_code};
+ghost use Rattle.su_script.specs.Unread.{unread};
 
 use crate::answers::{bad, refused};
 use crate::lines::{LineReader, NextLine};
-use crate::parsing::{LineError, read_command};
+use crate::parse::parse_line;
+use crate::ranges::check_ranges;
 use crate::session::Session;
 use std::alloc::{AllocError, Global};
+use std::io;
 use std::io::{Read, Write};
-use su_bytes::{Group, Refusal, Roster, RosterGroup, RosterUser, User};
+use su_bytes::{KEY_LENGTH, Refusal, Roster};
 use su_desk::Desk;
-
-/// A text could not be written.
-#[derive(Clone, Copy, Debug)]
-struct PrintFault;
 
 /// How a run of a program ended.
 #[derive(Clone, Copy, Debug, PartialEq, Eq)]
@@ -31,7 +29,7 @@ pub enum Status {
 }
 
 impl Status {
-    /// The exit status: 0, 1 or 2.
+    /// Returns the exit status: 0, 1 or 2.
     pub fn code(self) -> u8
         ensures { result ≡ status_code self }
     {
@@ -43,112 +41,11 @@ impl Status {
     }
 }
 
-/// What a line prints; nothing where it is no command.
-fn answer_line(
-    alloc: Global,
-    session: &mut Session,
-    line: &[u8],
-) -> Result<Option<Vec<u8>>, AllocError>
-    ensures said { IfOk result (λ o. MatchOption o (line_command line.now ≡ None) (λ text. LineSays session.old line.now text.items session.new)) }
-    ensures kept { IfOk result (λ o. MatchOption o (session.new ≡ session.old) (λ text. Unit {0})) }
-{
-    let text = match read_command(alloc, session.roster(), line) {
-        Ok(command) => session.carry_out(alloc, command)?,
-        Err(LineError::Refused(refusal)) => refused(alloc, refusal)?,
-        Err(LineError::Bad) => return Ok(None),
-    };
-    Ok(Some(text))
-}
-
 /// Whether a run goes on after a line.
-#[derive(Clone, Copy, Debug, PartialEq, Eq)]
-enum Turn {
-    Goes,
+#[derive(Clone, Copy)]
+enum Step {
+    GoesOn,
     Ends(Status),
-}
-
-/// Writes a text, and sees that it leaves.
-fn print<W: Write>(writer: &mut W, text: &[u8]) -> Result<(), PrintFault>
-    ensures { OnOk result (Appends (W.contents writer.old) (W.contents writer.new) text.now) }
-{
-    writer.write_all(text).map_err(|_| PrintFault)?;
-    writer.flush().map_err(|_| PrintFault)?;
-    Ok(())
-}
-
-/// Prints that the line is bad.
-fn end_badly<W: Write>(alloc: Global, writer: &mut W, number: u64) -> Status
-    ensures { (before : List ℕ) → W.contents writer.old ≡ Some before → EndsBadly number before (W.contents writer.new) result }
-{
-    let Ok(text) = bad(alloc, number) else {
-        return Status::Fault;
-    };
-    match print(writer, text.as_slice()) {
-        Ok(()) => Status::BadLine,
-        Err(PrintFault) => Status::Fault,
-    }
-}
-
-/// Carries out a line that is not empty, and prints what it says.
-fn line_turn<W: Write>(
-    alloc: Global,
-    session: &mut Session,
-    line: &[u8],
-    writer: &mut W,
-    number: u64,
-) -> Turn
-    ensures { (before : List ℕ) → W.contents writer.old ≡ Some before → LineTurns session.old number line.now before session.new (W.contents writer.new) result }
-{
-    match answer_line(alloc, session, line) {
-        Ok(Some(text)) => match print(writer, text.as_slice()) {
-            Ok(()) => Turn::Goes,
-            Err(PrintFault) => Turn::Ends(Status::Fault),
-        },
-        Ok(None) => Turn::Ends(end_badly(alloc, writer, number)),
-        Err(_) => Turn::Ends(Status::Fault),
-    }
-}
-
-/// The next line, carried out.
-fn next_turn<R: Read + Drop, W: Write>(
-    alloc: Global,
-    session: &mut Session,
-    lines: &mut LineReader<R>,
-    writer: &mut W,
-    number: u64,
-) -> Turn
-    ensures { (input before : List ℕ) → prepend_known (drop lines.old.start lines.old.filled.items) (R.remaining lines.old.reader) ≡ Some input → W.contents writer.old ≡ Some before
-        → Turns session.old number input before session.new (prepend_known (drop lines.new.start lines.new.filled.items) (R.remaining lines.new.reader)) (W.contents writer.new) result }
-{
-    match lines.next_line() {
-        Ok(NextLine::Line(line)) => {
-            if line.is_empty() {
-                return Turn::Goes;
-            }
-            line_turn(alloc, session, line.as_slice(), writer, number)
-        }
-        Ok(NextLine::TooLong) => Turn::Ends(end_badly(alloc, writer, number)),
-        Ok(NextLine::End) => Turn::Ends(Status::Finished),
-        Err(_) => Turn::Ends(Status::Fault),
-    }
-}
-
-/// Runs the lines of a reader on a desk, the first of which has that number.
-fn run<R: Read + Drop, W: Write>(
-    alloc: Global,
-    mut session: Session,
-    mut lines: LineReader<R>,
-    writer: &mut W,
-) -> Status
-    ensures { (input before : List ℕ) → prepend_known (drop lines.start lines.filled.items) (R.remaining lines.reader) ≡ Some input → W.contents writer.old ≡ Some before
-        → PrintsFrom session 1 input before (W.contents writer.new) result }
-{
-    for number in 1..u64::MAX {
-        if let Turn::Ends(status) = next_turn(alloc, &mut session, &mut lines, writer, number) {
-            return status;
-        }
-    }
-    Status::Fault
 }
 
 /// Runs a script on a new desk of `users` users, 1 to 64, and prints what it answers.
@@ -159,7 +56,9 @@ pub fn run_desk<R: Read + Drop, W: Write>(
     users: u8,
 ) -> Status
     requires { (1 ≤ users) × (users ≤ 64) }
-    ensures { (input before : List ℕ) → R.remaining reader ≡ Some input → W.contents writer.old ≡ Some before → Prints users input before (W.contents writer.new) result }
+    ensures { (input before : List ℕ) →
+        R.remaining reader ≡ Some input → W.contents writer.old ≡ Some before →
+        Prints users input before (W.contents writer.new) result }
 {
     let Ok(desk) = new_desk(alloc, users) else {
         return Status::Fault;
@@ -172,46 +71,133 @@ pub fn run_desk<R: Read + Drop, W: Write>(
     )
 }
 
-/// A desk of that many users.
+/// Makes a desk of that many users, whose keys are zero bytes.
 fn new_desk(alloc: Global, users: u8) -> Result<Desk, Refusal>
     requires { (1 ≤ users) × (users ≤ 64) }
     ensures { IfOk result (λ desk. desk ≡ new_desk users) }
 {
-    let users = first_users(alloc, users)?;
-    let entries = keyless(alloc, users.as_slice())?;
-    let first = first_users(alloc, 1)?;
-    let mut groups = Vec::with_capacity(alloc, 2)?;
-    groups.push(RosterGroup {
-        group: Group::new(0)?,
-        members: users,
-    })?;
-    groups.push(RosterGroup {
-        group: Group::new(1)?,
-        members: first,
-    })?;
-    Desk::new(alloc, Roster::new(entries, groups)?)
+    let keys = zero_keys(alloc, users)?;
+    Desk::new(alloc, Roster::of_keys(alloc, keys.as_slice())?)
 }
 
-/// Users with keys of zero bytes.
-fn keyless(alloc: Global, users: &[User]) -> Result<Vec<RosterUser>, AllocError>
-    ensures { IfOk result (λ entries. map user_and_key entries.items ≡ map keyless_user users.now) }
+/// Makes `count` keys of zero bytes.
+fn zero_keys(alloc: Global, count: u8) -> Result<Vec<[u8; KEY_LENGTH]>, AllocError>
+    ensures { IfOk result (λ keys. keys.items ≡ replicate count (replicate KEY_LENGTH 0)) }
 {
-    let mut entries = Vec::with_capacity(alloc, users.len())?;
-    for user in users {
-        let user = *user;
-        entries.push(RosterUser { user, key: [0; 56] })?;
+    let mut keys = Vec::with_capacity(alloc, usize::from(count))?;
+    for _number in 0..count {
+        keys.push([0; KEY_LENGTH])?;
     }
-    Ok(entries)
+    Ok(keys)
 }
 
-/// The users 0 to `count` - 1.
-fn first_users(alloc: Global, count: u8) -> Result<Vec<User>, Refusal>
-    requires { count ≤ 64 }
-    ensures { IfOk result (λ users. users.items ≡ range_with_len 0 count) }
+/// Carries out the lines of a reader, and prints their answers.
+fn run<R: Read + Drop, W: Write>(
+    alloc: Global,
+    mut session: Session,
+    mut lines: LineReader<R>,
+    writer: &mut W,
+) -> Status
+    ensures { (input before : List ℕ) →
+        unread R.remaining lines ≡ Some input → W.contents writer.old ≡ Some before →
+        PrintsFrom session 1 input before (W.contents writer.new) result }
 {
-    let mut users = Vec::with_capacity(alloc, usize::from(count))?;
-    for number in 0..count {
-        users.push(User::new(u64::from(number))?)?;
+    for number in 1..u64::MAX {
+        if let Step::Ends(status) = next_step(alloc, &mut session, &mut lines, writer, number) {
+            return status;
+        }
     }
-    Ok(users)
+    Status::Fault
+}
+
+/// Carries out the next line, which has that number, and prints its answer.
+fn next_step<R: Read + Drop, W: Write>(
+    alloc: Global,
+    session: &mut Session,
+    lines: &mut LineReader<R>,
+    writer: &mut W,
+    number: u64,
+) -> Step
+    ensures { (input before : List ℕ) →
+        unread R.remaining lines.old ≡ Some input → W.contents writer.old ≡ Some before →
+        Steps session.old number input before
+        session.new (unread R.remaining lines.new) (W.contents writer.new) result }
+{
+    match lines.next_line() {
+        Ok(NextLine::Line(line)) => {
+            if line.is_empty() {
+                return Step::GoesOn;
+            }
+            line_step(alloc, session, line.as_slice(), writer, number)
+        }
+        Ok(NextLine::TooLong) => Step::Ends(end_badly(alloc, writer, number)),
+        Ok(NextLine::End) => Step::Ends(Status::Finished),
+        Err(_) => Step::Ends(Status::Fault),
+    }
+}
+
+/// Carries out a line that is not empty, and prints its answer.
+fn line_step<W: Write>(
+    alloc: Global,
+    session: &mut Session,
+    line: &[u8],
+    writer: &mut W,
+    number: u64,
+) -> Step
+    ensures { (before : List ℕ) → W.contents writer.old ≡ Some before →
+        LineSteps session.old number line.now before session.new (W.contents writer.new) result }
+{
+    match answer_line(alloc, session, line) {
+        Ok(Some(text)) => match print(writer, text.as_slice()) {
+            Ok(()) => Step::GoesOn,
+            Err(_) => Step::Ends(Status::Fault),
+        },
+        Ok(None) => Step::Ends(end_badly(alloc, writer, number)),
+        Err(_) => Step::Ends(Status::Fault),
+    }
+}
+
+/// Carries out a line that is not empty. Returns what it prints; `None` where it is no command.
+fn answer_line(
+    alloc: Global,
+    session: &mut Session,
+    line: &[u8],
+) -> Result<Option<Vec<u8>>, AllocError>
+    ensures said { IfOk result (λ answer. MatchOption answer (line_command line.now ≡ None)
+        (λ text. LineSays session.old line.now text.items session.new)) }
+    ensures kept { IfOk result (λ answer. MatchOption answer (session.new ≡ session.old)
+        (λ text. Unit {0})) }
+{
+    let command = match parse_line(alloc, line) {
+        Ok(Some(raw)) => check_ranges(alloc, session.roster(), raw),
+        Ok(None) => return Ok(None),
+        Err(_) => Err(Refusal::NoMemory),
+    };
+    let text = match command {
+        Ok(command) => session.carry_out(alloc, command)?,
+        Err(refusal) => refused(alloc, refusal)?,
+    };
+    Ok(Some(text))
+}
+
+/// Prints that the line is bad, which ends the run.
+fn end_badly<W: Write>(alloc: Global, writer: &mut W, number: u64) -> Status
+    ensures { (before : List ℕ) → W.contents writer.old ≡ Some before →
+        EndsBadly number before (W.contents writer.new) result }
+{
+    let Ok(text) = bad(alloc, number) else {
+        return Status::Fault;
+    };
+    match print(writer, text.as_slice()) {
+        Ok(()) => Status::BadLine,
+        Err(_) => Status::Fault,
+    }
+}
+
+/// Writes a text, and flushes it.
+fn print<W: Write>(writer: &mut W, text: &[u8]) -> io::Result<()>
+    ensures { OnOk result (Appends (W.contents writer.old) (W.contents writer.new) text.now) }
+{
+    writer.write_all(text)?;
+    writer.flush()
 }

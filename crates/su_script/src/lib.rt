@@ -1,16 +1,14 @@
-//! A desk script: its lines, the words and commands of a line, and what a desk answers to them.
+//! A desk script: its lines, the command that each says, and what a desk answers.
 #![tactic(auto)]
 
 mod answers;
-mod commands;
 mod desk;
 mod lines;
-mod meaning;
-mod parsing;
-mod script;
+mod parse;
+mod ranges;
 mod session;
 #[cfg(test)]
 mod tests;
-mod words;
 
 pub use desk::{Status, run_desk};
+pub use parse::DESK_WORDS;

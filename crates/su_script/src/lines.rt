@@ -1,27 +1,25 @@
 // Reading lines from any reader, as they come.
-ghost use Rattle.std.specs.Prelude.{◌≡◌, ℕ, ◌<◌, ◌≤◌, [], drop, length, vec_len, Some, true, false, IfOk, OnOk, MatchOption, slice_get, take};
+ghost use Rattle.std.specs.Prelude.{◌≡◌, ◌<◌, ◌≤◌, [], drop, vec_len, Some, true, IfOk, OnOk, MatchOption, slice_get, take};
 ghost use Rattle.std.specs.Bool.{OnFalse};
 ghost use Rattle.std.specs.Io.KnownBytes.{prepend_known};
-ghost use Rattle.su_script.specs.Lines.{lacks, Takes, Refills, Reads};
+ghost use Rattle.su_script.specs.Lines.{is_unbroken, Takes, Refills, Reads};
 
-use std::alloc::Global;
+use memchr::memchr;
+use std::alloc::{AllocError, Global};
+use std::io;
 use std::io::{ErrorKind, Read};
 
 /// Bytes of the longest line, its end not counted.
 pub const LONGEST_LINE: usize = 140_000;
 
 /// How often a reader is read at most.
-pub const MOST_READS: u32 = 10_000_000;
+const MOST_READS: u32 = 10_000_000;
 
 /// Bytes asked for in one read.
 const CHUNK: usize = 4096;
 
-/// The lines could not be read: the reader failed, or never ended, or there was no memory for a line.
-#[derive(Clone, Copy, Debug, PartialEq, Eq)]
-pub struct ReadFault;
-
 /// What comes next in a script.
-#[derive(Debug, Drop)]
+#[derive(Drop)]
 pub enum NextLine {
     /// A line, without its end.
     Line(Vec<u8>),
@@ -31,9 +29,9 @@ pub enum NextLine {
     End,
 }
 
-/// A reader's lines. What was read beyond a line is kept for the next.
+/// Takes a reader's bytes line by line. What was read beyond a line is kept for the next.
 #[derive(Drop)]
-pub struct LineReader<R: Read + Drop> {
+pub struct LineReader<R> {
     reader: R,
     filled: Vec<u8>,
     start: usize,
@@ -43,8 +41,11 @@ pub struct LineReader<R: Read + Drop> {
 }
 
 impl<R: Read + Drop> LineReader<R> {
+    ghost use Rattle.su_script.specs.Unread.{unread};
+
+    /// Wraps a reader, of which nothing is read yet.
     pub fn new(alloc: Global, reader: R) -> LineReader<R>
-        ensures { prepend_known (drop result.start result.filled.items) (R.remaining result.reader) ≡ R.remaining reader }
+        ensures { unread R.remaining result ≡ R.remaining reader }
     {
         LineReader {
             reader,
@@ -55,9 +56,11 @@ impl<R: Read + Drop> LineReader<R> {
         }
     }
 
-    /// The next line. Waits for no more than is needed for it.
-    pub fn next_line(&mut self) -> Result<NextLine, ReadFault>
-        ensures { IfOk result (λ next. Reads next (prepend_known (drop self.old.start self.old.filled.items) (R.remaining self.old.reader)) (prepend_known (drop self.new.start self.new.filled.items) (R.remaining self.new.reader))) }
+    /// Reads the next line, and waits for no more bytes than it needs. Fails where the reader fails or
+    /// never ends, or where there is no memory for the line.
+    pub fn next_line(&mut self) -> io::Result<NextLine>
+        ensures { IfOk result (λ next.
+            Reads next (unread R.remaining self.old) (unread R.remaining self.new)) }
     {
         let mut line = Vec::new(self.alloc);
         loop {
@@ -77,36 +80,41 @@ impl<R: Read + Drop> LineReader<R> {
         }
     }
 
-    /// Moves what was read to the line, up to the end of the line, and takes that end. Whether the line has ended.
-    fn take(&mut self, line: &mut Vec<u8>) -> Result<bool, ReadFault>
-        ensures taken { IfOk result (λ ended. Takes ended line.old.items line.new.items (drop self.old.start self.old.filled.items) (drop self.new.start self.new.filled.items)) }
+    /// Moves the bytes that were read to `line`, through the next line feed, which is dropped.
+    /// Whether it met one.
+    fn take(&mut self, line: &mut Vec<u8>) -> Result<bool, AllocError>
+        ensures taken { IfOk result (λ ended. Takes ended line.old.items line.new.items
+            (drop self.old.start self.old.filled.items)
+            (drop self.new.start self.new.filled.items)) }
         ensures reader { R.remaining self.new.reader ≡ R.remaining self.old.reader }
         ensures reads { self.new.reads_left ≡ self.old.reads_left }
-        ensures empty { IfOk result (λ ended. OnFalse ended (drop self.new.start self.new.filled.items ≡ [])) }
+        ensures empty { IfOk result (λ ended.
+            OnFalse ended (drop self.new.start self.new.filled.items ≡ [])) }
     {
         let rest = &self.filled[self.start..];
-        match first_place(rest, b'\n') {
+        match line_end(rest) {
             Some(end) => {
-                line.extend_from_slice(&rest[..end]).map_err(|_| ReadFault)?;
+                line.extend_from_slice(&rest[..end])?;
                 self.start += end + 1;
                 Ok(true)
             }
             None => {
-                line.extend_from_slice(rest).map_err(|_| ReadFault)?;
+                line.extend_from_slice(rest)?;
                 self.start = self.filled.len();
                 Ok(false)
             }
         }
     }
 
-    /// Reads once, where all that was read is taken. Whether there may be more.
-    fn refill(&mut self) -> Result<bool, ReadFault>
+    /// Reads once, where all that was read is taken. False at the end of the input.
+    fn refill(&mut self) -> io::Result<bool>
         requires { drop self.old.start self.old.filled.items ≡ [] }
-        ensures bytes { IfOk result (λ more. Refills more (R.remaining self.old.reader) (prepend_known (drop self.new.start self.new.filled.items) (R.remaining self.new.reader))) }
+        ensures bytes { IfOk result (λ more.
+            Refills more (R.remaining self.old.reader) (unread R.remaining self.new)) }
         ensures reads { OnOk result (self.new.reads_left < self.old.reads_left) }
     {
         if self.reads_left == 0 {
-            return Err(ReadFault);
+            return Err(io::Error::from(ErrorKind::Other));
         }
         self.reads_left -= 1;
         let mut chunk = [0u8; CHUNK];
@@ -114,32 +122,19 @@ impl<R: Read + Drop> LineReader<R> {
             Ok(count) => {
                 self.start = 0;
                 self.filled.clear();
-                self.filled
-                    .extend_from_slice(&chunk[..count])
-                    .map_err(|_| ReadFault)?;
+                self.filled.extend_from_slice(&chunk[..count])?;
                 Ok(0 < count)
             }
-            Err(error) => {
-                if error.kind() == ErrorKind::Interrupted {
-                    Ok(true)
-                } else {
-                    Err(ReadFault)
-                }
-            }
+            Err(error) if error.kind() == ErrorKind::Interrupted => Ok(true),
+            Err(error) => Err(error),
         }
     }
 }
 
-/// Where a byte stands first.
-fn first_place(bytes: &[u8], byte: u8) -> Option<usize>
-    ensures { MatchOption result
-        (lacks byte bytes.now ≡ true)
-        (λ place. (slice_get bytes.now place ≡ Some byte) × (lacks byte (take place bytes.now) ≡ true)) }
+/// The place of the first line feed, if there is one.
+fn line_end(bytes: &[u8]) -> Option<usize>
+    ensures { MatchOption result (is_unbroken bytes.now ≡ true) (λ end.
+        (slice_get bytes.now end ≡ Some 10) × (is_unbroken (take end bytes.now) ≡ true)) }
 {
-    for (index, other) in bytes.iter().enumerate() {
-        if *other == byte {
-            return Some(index);
-        }
-    }
-    None
+    memchr(b'\n', bytes)
 }

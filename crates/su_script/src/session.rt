@@ -3,11 +3,11 @@ ghost use Rattle.std.specs.Prelude.{◌≡◌, ◌⊎◌, None, Some, IfOk, IfEr
 ghost use Rattle.su_bytes.specs.declared.refusals.Refusal.TheVariants.{NoMemory};
 ghost use Rattle.su_table.specs.Handle.{handle};
 ghost use Rattle.su_script.specs.Answer.{refused_text, description_text};
-ghost use Rattle.su_script.specs.declared.commands.Command.TheVariants.{Mark, Same};
-ghost use Rattle.su_script.specs.Session.{desk_tree, handles, question_text, same_text, description, Does};
+ghost use Rattle.su_script.specs.declared.ranges.Command.TheVariants.{Mark, Same};
+ghost use Rattle.su_script.specs.Session.{desk_tree, handles, question_text, same_text, description, Does, IsText};
 
 use crate::answers::{answered, described, digest_shown, in_hex, listed, refused, versions_shown};
-use crate::commands::{Command, Question};
+use crate::ranges::{Command, Question};
 use std::alloc::{AllocError, Global};
 use std::marker::Model;
 use su_bytes::{Digest, FileId, Principal, Refusal, Roster};
@@ -31,21 +31,21 @@ impl Model for Session {
 }
 
 impl Session {
-    /// A desk, with nothing kept.
+    /// Wraps a desk, with nothing kept.
     pub fn new(desk: Desk) -> Session
         ensures { result ≡ record { desk = desk; mark = None } }
     {
         Session { desk, mark: None }
     }
 
-    /// Who belongs to the store.
+    /// Returns the roster of the desk.
     pub fn roster(&self) -> &Roster
         ensures { result.now ≡ self.now.desk.roster }
     {
         self.desk.roster()
     }
 
-    /// Carries out a command whose words are within their ranges, and tells what it prints.
+    /// Carries out a command whose words are within their ranges. Returns what it prints.
     pub fn carry_out(&mut self, alloc: Global, command: Command) -> Result<Vec<u8>, AllocError>
         ensures { IfOk result (λ text. Does self.old command text.items self.new) }
     {
@@ -59,7 +59,7 @@ impl Session {
         }
     }
 
-    /// Keeps the digests of all i-tables, and prints nothing; `NoMemory` where there is no room for them.
+    /// Keeps the digests of all i-tables, and prints nothing, or `NoMemory` where there is no room.
     fn keep_mark(&mut self, alloc: Global) -> Result<Vec<u8>, AllocError>
         ensures { IfOk result (λ text. Does self.old Mark text.items self.new) }
     {
@@ -72,7 +72,7 @@ impl Session {
         }
     }
 
-    /// Whether the digests of all i-tables are those that were kept.
+    /// Returns `same` or `differs`, by the digests that were kept, or `no mark`.
     fn compare(&self, alloc: Global) -> Result<Vec<u8>, AllocError>
         ensures { IfOk result (λ text. Does self.now Same text.items self.now) }
     {
@@ -86,7 +86,7 @@ impl Session {
     }
 }
 
-/// Whether these digests are those that were kept.
+/// Returns `same` where these digests are those that were kept, and else `differs`.
 fn compared(alloc: Global, kept: &[Digest], now: &[Digest]) -> Result<Vec<u8>, AllocError>
     ensures { IfOk result (λ text. text.items ≡ same_text (Some kept.now) now.now) }
 {
@@ -104,9 +104,9 @@ fn line(alloc: Global, text: &str) -> Result<Vec<u8>, AllocError>
     Vec::from_slice(alloc, text.as_bytes())
 }
 
-/// The answer to a question.
+/// Answers a question; its text, or that of `NoMemory`.
 fn answer(alloc: Global, forest: &Forest, question: Question) -> Result<Vec<u8>, AllocError>
-    ensures { IfOk result (λ text. (text.items ≡ question_text forest.now question) ⊎ (text.items ≡ refused_text NoMemory)) }
+    ensures { IfOk result (λ text. IsText (question_text forest.now question) text.items) }
 {
     match question {
         Question::List(directory) => match forest.list(directory) {
@@ -125,20 +125,21 @@ fn answer(alloc: Global, forest: &Forest, question: Question) -> Result<Vec<u8>,
     }
 }
 
-/// What a file is.
+/// Tells what a file is.
 fn describe(alloc: Global, forest: &Forest, file: &FileId) -> Result<Vec<u8>, AllocError>
-    ensures { IfOk result (λ text. text.items ≡ description_text (description forest.now file.now)) }
+    ensures { IfOk result (λ text.
+        text.items ≡ description_text (description forest.now file.now)) }
 {
     let Some((user, number)) = forest.body(*file) else {
         return refused(alloc, Refusal::NoFile(*file));
     };
     match forest.inode(user, number) {
         Some(inode) => described(alloc, user, number, inode),
-        None => refused(alloc, Refusal::NoFile(*file)),
+        None => refused(alloc, Refusal::WrongKind(*file)),
     }
 }
 
-/// The digest of an i-table. Only `NoMemory` can come.
+/// Returns the digest of an i-table. Fails only with `NoMemory`.
 fn handle(forest: &Forest, principal: Principal) -> Result<Digest, Refusal>
     ensures value { IfOk result (λ digest. digest ≡ handle forest.now principal) }
     ensures refused { IfErr result (λ e. e ≡ NoMemory) }
@@ -149,9 +150,11 @@ fn handle(forest: &Forest, principal: Principal) -> Result<Digest, Refusal>
     }
 }
 
-/// The digests of the i-tables of all users, and then of all groups. Only `NoMemory` can come.
+/// Returns the digests of the i-tables of all users, and then of all groups. Fails only with
+/// `NoMemory`.
 fn all_handles(alloc: Global, desk: &Desk) -> Result<Vec<Digest>, Refusal>
-    ensures value { IfOk result (λ digests. digests.items ≡ handles desk.now.roster (desk_tree desk.now)) }
+    ensures value { IfOk result (λ digests.
+        digests.items ≡ handles desk.now.roster (desk_tree desk.now)) }
     ensures refused { IfErr result (λ e. e ≡ NoMemory) }
 {
     let principals = desk.roster().principals()?;

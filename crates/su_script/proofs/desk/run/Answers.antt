@@ -1,4 +1,4 @@
-use Rattle.su_script.proofs.Turning.{continues_none, continues_further, continues_end}
+use Rattle.su_script.proofs.Stepping.{continues_none, continues_further, continues_end}
 use Rattle.su_script.proofs.desk.run.Goals as goal
 
 pub loop-number-init : goal.loop-number-init

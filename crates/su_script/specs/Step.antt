@@ -1,0 +1,39 @@
+-- One step of a run: a line, and what it does to the desk, the reader and the writer.
+use Rattle.std.specs.Prelude.{◌≡◌, ℕ, ◌+◌, List, ◌++◌, Option, None, Some}
+use Rattle.su_script.specs.Session.{SessionState}
+use Rattle.su_script.specs.declared.desk.Status.{Status}
+use Rattle.su_script.specs.declared.desk.Status.TheVariants.{Fault, BadLine}
+use Rattle.su_script.specs.declared.desk.Step.{Step}
+use Rattle.su_script.specs.declared.desk.Step.TheVariants.{GoesOn, Ends}
+use Rattle.su_script.specs.Script.{lines_of, line_command}
+use Rattle.su_script.specs.Transcript.{LineSays, Transcript, PrintsFrom}
+use Rattle.su_script.specs.Answer.{bad_text}
+
+-- Some of the input was carried out and its text written; what the rest prints comes after it.
+abbrev pub Continues : SessionState → ℕ → List ℕ → List ℕ
+    → SessionState → ℕ → Option (List ℕ) → Option (List ℕ) → Type 0
+Continues d k input before d' k' known contents =
+    (first : List ℕ) × (rest : List ℕ) × (known ≡ Some rest) × (contents ≡ Some (before ++ first))
+    × ((out : List ℕ) (status : Status) → Transcript d' k' (lines_of rest) out status
+    → Transcript d k (lines_of input) (first ++ out) status)
+
+-- a step ends the run, or it continues with the next line
+abbrev pub Steps : SessionState → ℕ → List ℕ → List ℕ
+    → SessionState → Option (List ℕ) → Option (List ℕ) → Step → Type 0
+Steps d k input before d' known contents (Ends status) = PrintsFrom d k input before contents status
+Steps d k input before d' known contents GoesOn =
+    Continues d k input before d' (k + 1) known contents
+
+-- what a line that is not empty does
+abbrev pub LineSteps : SessionState → ℕ → List ℕ → List ℕ
+    → SessionState → Option (List ℕ) → Step → Type 0
+LineSteps d k line before d' contents (Ends Fault) = Unit {0}
+LineSteps d k line before d' contents (Ends status) =
+    (line_command line ≡ None) × (contents ≡ Some (before ++ bad_text k)) × (status ≡ BadLine)
+LineSteps d k line before d' contents GoesOn =
+    (first : List ℕ) × LineSays d line first d' × (contents ≡ Some (before ++ first))
+
+-- a run ends after the text of a bad line, unless a fault comes first
+abbrev pub EndsBadly : ℕ → List ℕ → Option (List ℕ) → Status → Type 0
+EndsBadly k before contents Fault = Unit {0}
+EndsBadly k before contents status = (contents ≡ Some (before ++ bad_text k)) × (status ≡ BadLine)
