@@ -203,7 +203,7 @@ impl Inode {
         requires { off + length bytes.now < 2 ^ 32 }
         ensures ok { OnOk result
             (inode_after (Written (size_of self.old.content) off bytes.now) (Some self.old)
-                ≡ Some self.new) }
+            ≡ Some self.new) }
         ensures refused { IfErr result (λ e. e ≡ NoMemory) }
         ensures succeeds { off + length bytes.now ≤ size_of self.old.content → IsOk result }
         ensures err { OnErr result (self.new ≡ self.old) }

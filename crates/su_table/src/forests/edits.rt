@@ -88,11 +88,7 @@ impl Forest {
     }
 
     /// Puts an inode at `place`, and returns the one that stood there, if any. Takes memory only where none did.
-    pub fn exchange_inode(
-        &mut self,
-        place: Place,
-        inode: Inode,
-    ) -> Result<Option<Inode>, Refusal>
+    pub fn exchange_inode(&mut self, place: Place, inode: Inode) -> Result<Option<Inode>, Refusal>
         ensures ok { OnOk result (self.new ≡ edit self.old (Inodes place (Copied inode))) }
         ensures was { IfOk result (λ was. was ≡ get self.old.inodes place) }
         ensures refused { IfErr result (λ e. e ≡ NoMemory) }

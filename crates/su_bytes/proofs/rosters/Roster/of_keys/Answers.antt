@@ -1,6 +1,5 @@
-use Rattle.std.proofs.Common.{◌≡◌, ap, sym, subst, map, ◌∙◌}
-use Rattle.su_bytes.specs.Membership.{IsRoster, membership_of_keys}
-use Rattle.su_bytes.specs.Roster.{membership_of}
+use Rattle.std.proofs.Common.{ap, sym, subst, map, ◌∙◌}
+use Rattle.su_bytes.specs.Membership.{IsRoster}
 use Rattle.su_bytes.specs.declared.rosters.RosterUser.{RosterUser}
 use Rattle.su_bytes.proofs.KeyMemberships.{membership_of-of_keys, IsRoster-some_keys}
 use Rattle.su_bytes.proofs.rosters.Roster.of_keys.Goals as goal

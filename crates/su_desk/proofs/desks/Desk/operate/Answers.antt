@@ -63,9 +63,11 @@ build-requires c =
 
 pub returns-in-Err : goal.returns-in-Err
 returns-in-Err c =
-    let s = c.self.inside in
-    (inr (subst (λ d. answer d.roster d.history c.args.author (Do c.args.op) ≡ Err c.in-Err.refusal) c.self.view_is
-    (answer_refused _ _ _ _ _ (refusal_of-do s.roster s.entries.items s.forest c.args.author c.args.op (tree_kept _ _ _ _ c.self.invariant.0) ∙ c.in-Err.ensures.refused))), refl)
+    let s = c.self.inside in (
+      inr (subst (λ d. answer d.roster d.history c.args.author (Do c.args.op) ≡ Err c.in-Err.refusal) c.self.view_is
+          (answer_refused _ _ _ _ _ (refusal_of-do s.roster s.entries.items s.forest c.args.author c.args.op (tree_kept _ _ _ _ c.self.invariant.0) ∙ c.in-Err.ensures.refused))),
+      refl,
+    )
 
 pub raise-requires : goal.raise-requires
 raise-requires c =

@@ -1,5 +1,4 @@
 use Rattle.std.proofs.Common.{◌≡◌, List, ℕ, sym, ap, ◌∙◌, subst, IfOk}
-use Rattle.std.specs.FinMap.{from_entries, entries}
 use Rattle.su_tree.specs.Digest.{digest}
 use Rattle.su_tree.specs.Name.{names}
 use Rattle.su_tree.specs.Value.{file_id_bytes}

@@ -1,4 +1,4 @@
-use Rattle.std.proofs.Common.{◌≡◌, ◌∙◌, ap, sym, Some, None, Option, Result, Ok, Err, OnErr}
+use Rattle.std.proofs.Common.{◌∙◌, ap, sym, Some, Option, Result, Ok, Err, OnErr}
 use Rattle.su_node.specs.Field.{Field.NameOf, file_value, content_value, field_value}
 use Rattle.su_node.proofs.Maps.{get-from_entries_lookup}
 use Rattle.su_node.proofs.NameOrder.{name_cmp_total}

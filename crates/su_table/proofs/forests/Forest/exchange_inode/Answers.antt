@@ -1,4 +1,4 @@
-use Rattle.std.proofs.Common.{◌∙◌, ap, sym, refl, Result, Ok, Err, OnErr}
+use Rattle.std.proofs.Common.{ap, sym, refl}
 use Rattle.su_node.specs.InodeChange.{InodeChange.Copied}
 use Rattle.su_node.specs.Field.{Field.KindOf}
 use Rattle.su_table.specs.Query.{is_nothing}

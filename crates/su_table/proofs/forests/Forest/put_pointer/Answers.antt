@@ -1,4 +1,4 @@
-use Rattle.std.proofs.Common.{ap, sym, Some, Result, Ok, Err, OnErr}
+use Rattle.std.proofs.Common.{ap, sym, Some}
 use Rattle.su_table.specs.Query.{is_nothing}
 use Rattle.su_table.proofs.Stores.{edit-Pointers, val-Pointer, OnErr-always}
 use Rattle.su_table.proofs.forests.Forest.put_pointer.Goals as goal
