@@ -14,6 +14,7 @@ use Rattle.su_table.specs.Edit.{name_in}
 use Rattle.su_op.specs.declared.areas.Part.{Part}
 use Rattle.su_op.specs.declared.areas.Part.TheVariants.{Kind as KindPart, Links as LinksPart, Size as SizePart, Name as NamePart, Blocks as BlocksPart, Whole as WholePart}
 use Rattle.su_op.specs.declared.areas.Area.TheVariants.{Inode as InodeArea}
+use Rattle.su_op.proofs.Public.{file_value_same, place_value_same}
 use Rattle.su_inverse.specs.Kept.{CanKeep, HoldsNothing}
 
 pub field_at : (T : Tree) (p : Place) (o : Option Inode) (f : Field) → o ≡ get T.inodes p → field_value o f ≡ val T (At p f)
@@ -46,21 +47,9 @@ pub pointer_at : (T : Tree) (g k : ℕ) (o : Option Place) → o ≡ body T (Gro
 unfolding val body
 pointer_at T g k o is = pointer_is (place_value (get T.pointers (g, k))) o is (place_value_back (get T.pointers (g, k)))
 
-place_value_is : (o q : Option Place) → place_value o ≡ place_value q → o ≡ q
-place_value_is None None e = refl
-place_value_is None (Some q) e = absurd cc
-place_value_is (Some p) None e = absurd cc
-place_value_is (Some p) (Some q) e = cc
-
 pub pointer_in : (T : Tree) (g k : ℕ) (o : Option Place) → o ≡ body T (Group g k) → o ≡ get T.pointers (g, k)
 unfolding val
-pointer_in T g k o is = place_value_is o (get T.pointers (g, k)) (sym (pointer_at T g k o is))
-
-file_value_is : (o q : Option FileId) → file_value o ≡ file_value q → o ≡ q
-file_value_is None None e = refl
-file_value_is None (Some q) e = absurd cc
-file_value_is (Some p) None e = absurd cc
-file_value_is (Some p) (Some q) e = cc
+pointer_in T g k o is = place_value_same o (get T.pointers (g, k)) (sym (pointer_at T g k o is))
 
 name_in-value : (o : Option Inode) (x : Name) → field_value o (NameOf x) ≡ file_value (name_in o x)
 name_in-value None x = refl
@@ -72,4 +61,4 @@ name_in-value (Some i) x = go i.content
 
 pub name_there : (T : Tree) (p : Place) (x : Name) (o : Option FileId) → file_value o ≡ val T (At p (NameOf x)) → o ≡ name_in (get T.inodes p) x
 unfolding val
-name_there T p x o is = file_value_is o (name_in (get T.inodes p) x) (is ∙ name_in-value (get T.inodes p) x)
+name_there T p x o is = file_value_same o (name_in (get T.inodes p) x) (is ∙ name_in-value (get T.inodes p) x)
