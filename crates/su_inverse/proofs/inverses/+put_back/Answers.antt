@@ -19,12 +19,13 @@ returns-in-Err-clause-err t c =
 
 pub returns-in_default-clause-ok : goal.returns-in_default-clause-ok
 returns-in_default-clause-ok t c T held all agree =
+    let i = c.args.inverse.now in
     let cut : c.args.returns.now ≡ c.in-Some.first.now ∷ c.in-Some.rest.now = c.in-Some.ensures.cases.0 in
     let held' = subst (AllByRecursion (HoldsReturn T)) cut held in
     let agree' = subst (λ rs. AgreeOutside (left rs c.args.inverse.now) c.args.forest.now T) cut agree in
     c.in_default.ensures.ok T held'.1 all
     (subst (λ F. AgreeOutside (left c.in-Some.rest.now c.args.inverse.now) F T) (sym c.in_ok-overwritten-in-Some.ensures.ok)
-    (returned c.in-Some.first.now (all_areas c.in-Some.rest.now c.args.inverse.now.sizes.items c.args.inverse.now.resets.items c.args.inverse.now.blocks.items) c.args.forest.now T held'.0 agree'))
+    (returned c.in-Some.first.now (all_areas c.in-Some.rest.now i.sizes.items i.resets.items i.blocks.items) c.args.forest.now T held'.0 agree'))
 
 pub returns-in-None-clause-ok : goal.returns-in-None-clause-ok
 returns-in-None-clause-ok t c =
