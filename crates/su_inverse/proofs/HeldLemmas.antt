@@ -1,5 +1,5 @@
 -- What a tree holds in an area, seen by its inodes and pointers.
-use Rattle.std.proofs.Common.{◌≡◌, ℕ, true, Option, Some, None, refl, sym, ap, ◌∙◌}
+use Rattle.std.proofs.Common.{◌≡◌, ℕ, Option, Some, None, refl, sym, ap, ◌∙◌}
 use Rattle.std.specs.FinMap.{get}
 use Rattle.su_bytes.specs.declared.file_ids.FileId.{FileId}
 use Rattle.su_bytes.specs.declared.file_ids.FileId.TheVariants.{Group}
@@ -9,7 +9,7 @@ use Rattle.su_node.specs.Field.{Field, Field.KindOf, Field.NameOf, Value, file_v
 use Rattle.su_bytes.specs.Place.{Place}
 use Rattle.su_table.specs.Tree.{Tree}
 use Rattle.su_table.specs.Cell.{Cell.At, Cell.Pointer, place_value, val}
-use Rattle.su_table.specs.Query.{is_free_at, pointer_body, body}
+use Rattle.su_table.specs.Query.{pointer_body, body}
 use Rattle.su_table.specs.Edit.{name_in}
 use Rattle.su_op.specs.declared.areas.Part.{Part}
 use Rattle.su_op.specs.declared.areas.Part.TheVariants.{Kind as KindPart, Links as LinksPart, Size as SizePart, Name as NamePart, Blocks as BlocksPart, Whole as WholePart}
@@ -29,11 +29,6 @@ no_inode_held T p SizePart is can = sym (field_at T p None KindOf is)
 no_inode_held T p WholePart is can = sym (field_at T p None KindOf is)
 no_inode_held T p (NamePart x) is can = sym (field_at T p None (NameOf x) is)
 no_inode_held T p (BlocksPart r) is can = ap bytes_of (sym is)
-
--- an inode stands there, so these parts can't be kept
-pub occupied : {P : Type 0} (T : Tree) (p : Place) (i : Inode) → Some i ≡ get T.inodes p → is_free_at T p ≡ true → P
-unfolding val
-occupied T p i is free = absurd (let e = ap (λ o. field_value o KindOf) is in cc)
 
 pointer_is : (v : Value) (o : Option Place) → o ≡ pointer_body v → v ≡ place_value (pointer_body v) → v ≡ place_value o
 pointer_is v o e d = d ∙ ap place_value (sym e)
