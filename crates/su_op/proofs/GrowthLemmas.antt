@@ -1,4 +1,4 @@
--- What takes single edits back, where they add to what is free, and what an edit leaves as it was.
+-- What takes single edits back where they add to what is free.
 use Rattle.std.proofs.Common.{◌≡◌, ◌∙◌, sym, refl, ap, ℕ, Bool, true, false, cond, Option, Some, None}
 use Rattle.std.specs.Ordering.{eq_by_cmp}
 use Rattle.std.specs.FinMap.{get}
@@ -6,12 +6,12 @@ use Rattle.su_bytes.specs.declared.file_ids.FileId.{FileId}
 use Rattle.su_bytes.specs.declared.file_ids.FileId.TheVariants.{User, Group}
 use Rattle.su_bytes.specs.declared.file_ids.Kind.{Kind}
 use Rattle.su_node.specs.Name.{Name}
-use Rattle.su_bytes.specs.Place.{Place, place_cmp, place_eq, file_eq}
+use Rattle.su_bytes.specs.Place.{Place, place_cmp}
 use Rattle.su_node.specs.Inode.{Inode, Content, Content.Bytes, Content.Names, new_inode}
 use Rattle.su_table.specs.Tree.{Tree}
 use Rattle.su_node.specs.Field.{Field.KindOf, Field.NameOf, file_value, field_value}
 use Rattle.su_table.specs.Cell.{Cell.Pointer, place_value, val}
-use Rattle.su_table.specs.Query.{is_nothing, is_link_to, is_free_at, is_name_free_at, is_pointer_free}
+use Rattle.su_table.specs.Query.{is_nothing, is_free_at, is_name_free_at, is_pointer_free}
 use Rattle.su_node.specs.InodeChange.{InodeChange, InodeChange.Named, InodeChange.Made, InodeChange.Copied, InodeChange.Gone, inode_after}
 use Rattle.su_table.specs.Edit.{Edit.Inodes, Edit.Pointers, edit, back, name_in, restoring}
 use Rattle.su_op.specs.declared.create.Create.{Create}
@@ -77,29 +77,14 @@ kept_at prop T p ch q same = ap prop (get-edit T p ch q) ∙ go (eq_by_cmp place
     go true is = same ∙ ap (λ r. prop (get T.inodes r)) (sym (eq_by_cmp-same place_cmp_exact q p is))
     go false is = refl
 
--- a name changes no kind and no links
+-- a name changes no kind
 pub is_free_at-with_name : (T : Tree) (d : Place) (x : Name) (v : Option FileId) (p : Place) → is_free_at (edit T (Inodes d (Named x v))) p ≡ is_free_at T p
 unfolding val
 is_free_at-with_name T d x v p = kept_at (λ o. is_nothing (field_value o KindOf)) T d (Named x v) p (named_keeps_kind x v (get T.inodes d))
 
--- ---- taking back what was taken away
-
-pub file_eq-same : (f g : FileId) → file_eq f g ≡ true → f ≡ g
-unfolding place_eq
-file_eq-same (User u i) (User v j) e = let same : (u, i) ≡ (v, j) = eq_by_cmp-same place_cmp_exact (u, i) (v, j) e in ap (λ (p : Place). User p.0 p.1) same
-file_eq-same (Group g k) (Group h l) e = let same : (g, k) ≡ (h, l) = eq_by_cmp-same place_cmp_exact (g, k) (h, l) e in ap (λ (p : Place). Group p.0 p.1) same
-file_eq-same (User u i) (Group h l) e = absurd cc
-file_eq-same (Group g k) (User v j) e = absurd cc
-
-led_to : (o : Option FileId) (f : FileId) → is_link_to (file_value o) f ≡ true → o ≡ Some f
-led_to None f e = absurd cc
-led_to (Some g) f e = ap Some (file_eq-same g f e)
-
 pub back_gone : (T : Tree) (p : Place) → back T (Inodes p Gone) ≡ Inodes p (restoring (get T.inodes p))
 unfolding back
 back_gone T p = refl
-
--- ---- what was taken away can be added again
 
 -- ---- a create
 
@@ -110,8 +95,6 @@ create_free T a c d name place pointer = (name, (is_free_at-with_name T d c.name
     go : (f : FileId) → is_pointer_free T f ≡ true → AreFreeFor (edit (edit T (Inodes d (Named c.name (Some c.file)))) (Inodes (a, c.body) (Made c.file c.kind))) (pointer_edits f (Some (a, c.body)))
     go (User u i) e = tt
     go (Group g k) e = (ap is_nothing (pointer_after (edit T (Inodes d (Named c.name (Some c.file)))) (a, c.body) (Made c.file c.kind) (g, k) ∙ pointer_after T d (Named c.name (Some c.file)) (g, k)) ∙ e, tt)
-
--- ---- an unlink
 
 -- ---- what was added is taken away again
 
