@@ -2,7 +2,6 @@
 use Rattle.std.proofs.Common.{◌≡◌, Bool, true, false, ◌||◌, ◌&&◌, List, [], ◌∷◌, ◌++◌, map, Some, None, refl, sym, ap, ◌∙◌}
 use Rattle.std.proofs.lemmas.List.{map-append}
 use Rattle.std.proofs.lemmas.List.Folds.{list_any-append}
-use Rattle.std.specs.List.{AllByRecursion}
 use Rattle.su_node.specs.Field.{Field, Field.KindOf}
 use Rattle.su_bytes.specs.Place.{Place, place_eq}
 use Rattle.su_table.specs.Tree.{Tree}
@@ -83,10 +82,6 @@ module _ (rs : List Return) (zs : List KeptSize) (ss : List Reset) (bs : List Ke
 
   pub push_blocks : (k : KeptBlocks) → has (all_areas rs zs ss (bs ++ k ∷ [])) c ≡ (has (all_areas rs zs ss bs) c || in_area (blocks_area k) c)
   push_blocks k = push_behind (map return_area rs) _ _ (blocks_area k) c (push_behind (map size_area zs) _ _ (blocks_area k) c (push_behind (map reset_area ss) _ _ (blocks_area k) c (push_last blocks_area bs k c)))
-
-pub all-push : {X : Type 0} (P : X → Type 0) (xs : List X) (x : X) → AllByRecursion P xs → P x → AllByRecursion P (xs ++ x ∷ [])
-all-push P [] x all p = (p, tt)
-all-push P (y ∷ ys) x (q, all) p = (q, all-push P ys x all p)
 
 -- ---- what is left
 

@@ -1,5 +1,5 @@
 -- What a tree holds in an area, seen by its inodes and pointers.
-use Rattle.std.proofs.Common.{◌≡◌, ℕ, true, Option, Some, None, refl, sym, ap, ◌∙◌}
+use Rattle.std.proofs.Common.{◌≡◌, ℕ, Option, Some, None, refl, sym, ap, ◌∙◌}
 use Rattle.std.specs.FinMap.{get}
 use Rattle.su_bytes.specs.declared.file_ids.FileId.{FileId}
 use Rattle.su_bytes.specs.declared.file_ids.FileId.TheVariants.{Group}
@@ -9,11 +9,12 @@ use Rattle.su_node.specs.Field.{Field, Field.KindOf, Field.NameOf, Value, file_v
 use Rattle.su_bytes.specs.Place.{Place}
 use Rattle.su_table.specs.Tree.{Tree}
 use Rattle.su_table.specs.Cell.{Cell.At, Cell.Pointer, place_value, val}
-use Rattle.su_table.specs.Query.{is_free_at, pointer_body, body}
+use Rattle.su_table.specs.Query.{pointer_body, body}
 use Rattle.su_table.specs.Edit.{name_in}
 use Rattle.su_op.specs.declared.areas.Part.{Part}
 use Rattle.su_op.specs.declared.areas.Part.TheVariants.{Kind as KindPart, Links as LinksPart, Size as SizePart, Name as NamePart, Blocks as BlocksPart, Whole as WholePart}
 use Rattle.su_op.specs.declared.areas.Area.TheVariants.{Inode as InodeArea}
+use Rattle.su_op.proofs.Public.{file_value_same, place_value_same}
 use Rattle.su_inverse.specs.Kept.{CanKeep, HoldsNothing}
 
 pub field_at : (T : Tree) (p : Place) (o : Option Inode) (f : Field) → o ≡ get T.inodes p → field_value o f ≡ val T (At p f)
@@ -29,11 +30,6 @@ no_inode_held T p WholePart is can = sym (field_at T p None KindOf is)
 no_inode_held T p (NamePart x) is can = sym (field_at T p None (NameOf x) is)
 no_inode_held T p (BlocksPart r) is can = ap bytes_of (sym is)
 
--- an inode stands there, so these parts can't be kept
-pub occupied : {P : Type 0} (T : Tree) (p : Place) (i : Inode) → Some i ≡ get T.inodes p → is_free_at T p ≡ true → P
-unfolding val
-occupied T p i is free = absurd (let e = ap (λ o. field_value o KindOf) is in cc)
-
 pointer_is : (v : Value) (o : Option Place) → o ≡ pointer_body v → v ≡ place_value (pointer_body v) → v ≡ place_value o
 pointer_is v o e d = d ∙ ap place_value (sym e)
 
@@ -46,21 +42,9 @@ pub pointer_at : (T : Tree) (g k : ℕ) (o : Option Place) → o ≡ body T (Gro
 unfolding val body
 pointer_at T g k o is = pointer_is (place_value (get T.pointers (g, k))) o is (place_value_back (get T.pointers (g, k)))
 
-place_value_is : (o q : Option Place) → place_value o ≡ place_value q → o ≡ q
-place_value_is None None e = refl
-place_value_is None (Some q) e = absurd cc
-place_value_is (Some p) None e = absurd cc
-place_value_is (Some p) (Some q) e = cc
-
 pub pointer_in : (T : Tree) (g k : ℕ) (o : Option Place) → o ≡ body T (Group g k) → o ≡ get T.pointers (g, k)
 unfolding val
-pointer_in T g k o is = place_value_is o (get T.pointers (g, k)) (sym (pointer_at T g k o is))
-
-file_value_is : (o q : Option FileId) → file_value o ≡ file_value q → o ≡ q
-file_value_is None None e = refl
-file_value_is None (Some q) e = absurd cc
-file_value_is (Some p) None e = absurd cc
-file_value_is (Some p) (Some q) e = cc
+pointer_in T g k o is = place_value_same o (get T.pointers (g, k)) (sym (pointer_at T g k o is))
 
 name_in-value : (o : Option Inode) (x : Name) → field_value o (NameOf x) ≡ file_value (name_in o x)
 name_in-value None x = refl
@@ -72,4 +56,4 @@ name_in-value (Some i) x = go i.content
 
 pub name_there : (T : Tree) (p : Place) (x : Name) (o : Option FileId) → file_value o ≡ val T (At p (NameOf x)) → o ≡ name_in (get T.inodes p) x
 unfolding val
-name_there T p x o is = file_value_is o (name_in (get T.inodes p) x) (is ∙ name_in-value (get T.inodes p) x)
+name_there T p x o is = file_value_same o (name_in (get T.inodes p) x) (is ∙ name_in-value (get T.inodes p) x)

@@ -1,3 +1,4 @@
+pub mod ResultLemmas
 pub mod MixedLemmas
 pub mod AreaListLemmas
 pub mod HeldLemmas

@@ -398,10 +398,6 @@ fits off n xs (Some j) e some = go j.content e
         let c : length (within off n bs) ≡ length xs = ap length same in
         omega (arith, a, b, c)
 
-nil_or_more : (xs : List ℕ) → (xs ≡ [] → ⊥) → 0 < length xs
-nil_or_more [] none = absurd (none refl)
-nil_or_more (x ∷ xs) none = omega arith
-
 pub blocks_back : (ks : List KeptBlocks) (k : KeptBlocks) (F G T : Tree) → HoldsBlocks T k
     → (0 < length k.bytes.items → 4096 * k.run.first + length k.bytes.items ≤ size_at F k.place → G ≡ edit F (Inodes k.place (Written (size_at F k.place) (4096 * k.run.first) k.bytes.items)))
     → (k.bytes.items ≡ [] → G ≡ F) → AgreeOutside (left_blocks (k ∷ ks)) F T → AgreeOutside (left_blocks ks) G T

@@ -33,27 +33,33 @@ CanKeep T a = KindIsNew T a
 
 -- ---- the areas
 
+-- where something is brought back
 abbrev pub return_area : Return → Area
 return_area (InodeReturn p i) = InodeArea p WholePart
 return_area (NameReturn p x f) = InodeArea p (NamePart x)
 return_area (PointerReturn g p) = PointerArea g
 
+-- where links or an absence are restored
 abbrev pub reset_area : Reset → Area
 reset_area (NothingReset a) = a
 reset_area (LinksReset p n) = InodeArea p LinksPart
 
+-- the size of the file
 abbrev pub size_area : KeptSize → Area
 size_area k = InodeArea k.place SizePart
 
+-- the blocks of the file
 abbrev pub blocks_area : KeptBlocks → Area
 blocks_area k = InodeArea k.place (BlocksPart k.run)
 
+-- where what is kept stood
 abbrev pub kept_area : Kept → Area
 kept_area (ReturnKept r) = return_area r
 kept_area (SizeKept k) = size_area k
 kept_area (ResetKept r) = reset_area r
 kept_area (BlocksKept k) = blocks_area k
 
+-- all areas of which an inverse keeps something
 abbrev pub inverse_areas : Inverse → List Area
 inverse_areas i =
     map return_area i.returns.items
@@ -63,6 +69,7 @@ inverse_areas i =
 
 -- ---- their values: the tree holds what is kept
 
+-- what is brought back stands in T
 abbrev pub HoldsReturn : Tree → Return → Type 0
 HoldsReturn T (InodeReturn p i) = get T.inodes p ≡ Some i
 HoldsReturn T (NameReturn p x f) = val T (At p (NameOf x)) ≡ AFile f
@@ -75,10 +82,12 @@ HoldsNothing T (InodeArea p (BlocksPart r)) = bytes_of (get T.inodes p) ≡ None
 HoldsNothing T (InodeArea p a) = val T (At p KindOf) ≡ Nothing
 HoldsNothing T (PointerArea g) = val T (Pointer g) ≡ Nothing
 
+-- the links or the absence are those of T
 abbrev pub HoldsReset : Tree → Reset → Type 0
 HoldsReset T (NothingReset a) = HoldsNothing T a
 HoldsReset T (LinksReset p n) = val T (At p LinksOf) ≡ ANumber n
 
+-- the file of T has that size
 abbrev pub HoldsSize : Tree → KeptSize → Type 0
 HoldsSize T k = val T (At k.place SizeOf) ≡ ANumber k.size
 
@@ -86,9 +95,11 @@ HoldsSize T k = val T (At k.place SizeOf) ≡ ANumber k.size
 abbrev pub bytes_in : BlockRun → List ℕ → List ℕ
 bytes_in r = within (BLOCK_SIZE * r.first) (BLOCK_SIZE * (r.more + 1))
 
+-- the file of T has these bytes in the blocks
 abbrev pub HoldsBlocks : Tree → KeptBlocks → Type 0
 HoldsBlocks T k = option_map (bytes_in k.run) (bytes_of (get T.inodes k.place)) ≡ Some k.bytes.items
 
+-- T holds what is kept of one area
 abbrev pub HoldsKept : Tree → Kept → Type 0
 HoldsKept T (ReturnKept r) = HoldsReturn T r
 HoldsKept T (SizeKept k) = HoldsSize T k
@@ -128,6 +139,7 @@ blocks_edit F k =
 abbrev pub HasLengthFor : Tree → KeptBlocks → Type 0
 HasLengthFor F k = BLOCK_SIZE * k.run.first + length k.bytes.items ≤ size_at F k.place
 
+-- the edit that brings it back
 abbrev pub return_edit : Return → Edit
 return_edit (InodeReturn p i) = Inodes p (Copied i)
 return_edit (NameReturn p x f) = Inodes p (Named x (Some f))
@@ -141,6 +153,7 @@ nothing_edits (InodeArea p (NamePart x)) = Inodes p (Named x None) ∷ []
 nothing_edits (InodeArea p a) = []
 nothing_edits (PointerArea g) = Pointers g None ∷ []
 
+-- the edits that restore it
 abbrev pub reset_edits : Reset → List Edit
 reset_edits (NothingReset a) = nothing_edits a
 reset_edits (LinksReset p n) = Inodes p (Linked n) ∷ []

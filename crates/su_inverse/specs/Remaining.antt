@@ -27,15 +27,18 @@ widened a = a
 abbrev pub left_blocks : List KeptBlocks → List Area
 left_blocks blocks = map widened (map blocks_area blocks)
 
+-- links and absences, and then blocks
 abbrev pub left_resets : List Reset → List KeptBlocks → List Area
 left_resets resets blocks = map widened (map reset_area resets ++ map blocks_area blocks)
 
+-- sizes, and then those
 abbrev pub left_sizes : List KeptSize → Inverse → List Area
 left_sizes sizes i =
     map widened (map size_area sizes
     ++ (map reset_area i.resets.items
     ++ map blocks_area i.blocks.items))
 
+-- what is brought back, and then those
 abbrev pub left : List Return → Inverse → List Area
 left returns i =
     map widened (map return_area returns

@@ -36,6 +36,7 @@ impl KeptBlocks {
         let end_ = off + self.bytes.len() as u64;
         let size = forest.size(self.place);
         if !self.bytes.is_empty() && end_ <= size as u64 {
+            // within the size, so without memory
             let _done = forest.write_at(self.place, off as u32, self.bytes.as_slice());
         }
     }
@@ -64,6 +65,7 @@ pub(crate) fn cut(forest: &mut Forest, place: &Place, size: u32)
     ensures same { size_at forest.old place.now ≤ size → forest.new ≡ forest.old }
 {
     if size < forest.size(*place) {
+        // shorter, so without memory
         let _done = forest.resize(*place, size);
     }
 }

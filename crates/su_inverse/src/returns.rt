@@ -86,6 +86,7 @@ fn give_back_inode(forest: &mut Forest, place: Place, was: Option<Inode>)
 {
     match was {
         Some(inode) => {
+            // an inode stands there, so without memory
             let _done = forest.exchange_inode(place, inode);
         }
         None => forest.remove_inode(place),
@@ -99,6 +100,7 @@ fn give_back_name(forest: &mut Forest, place: Place, name: Name, was: Option<Fil
 {
     match was {
         Some(file) => {
+            // the name is there, so without memory
             let _done = forest.add_name(place, name, file);
         }
         None => forest.remove_name(place, &name),
@@ -112,6 +114,7 @@ fn give_back_pointer(forest: &mut Forest, file: GroupFile, was: Option<Place>)
 {
     match was {
         Some(place) => {
+            // the pointer is there, so without memory
             let _done = forest.put_pointer(file, place);
         }
         None => forest.remove_pointer(file),

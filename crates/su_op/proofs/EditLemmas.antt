@@ -206,15 +206,15 @@ edits_sound T (e ∷ es) (can, more) sound = edits_sound (edit T e) es more (edi
 
 -- ---- trees are equal where each cell has one value in both
 
+pub place_value_same : (o p : Option Place) → place_value o ≡ place_value p → o ≡ p
+place_value_same None None e = refl
+place_value_same None (Some x) e = absurd cc
+place_value_same (Some x) None e = absurd cc
+place_value_same (Some x) (Some y) e = cc
+
 pub tree_same : (T T' : Tree) → ((c : Cell) → val T c ≡ val T' c) → T ≡ T'
 unfolding val
 tree_same T T' each =
     let a : T.inodes ≡ T'.inodes = same_places T.inodes T'.inodes (λ p. inode_same (get T.inodes p) (get T'.inodes p) (λ f. each (At p f))) in
     let b : T.pointers ≡ T'.pointers = same_places T.pointers T'.pointers (λ g. place_value_same (get T.pointers g) (get T'.pointers g) (each (Pointer g))) in
     λ i. record { inodes = a i; pointers = b i }
-  where
-    place_value_same : (o p : Option Place) → place_value o ≡ place_value p → o ≡ p
-    place_value_same None None e = refl
-    place_value_same None (Some x) e = absurd cc
-    place_value_same (Some x) None e = absurd cc
-    place_value_same (Some x) (Some y) e = cc

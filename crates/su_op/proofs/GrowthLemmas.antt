@@ -1,28 +1,24 @@
--- What takes single edits back, where they add to what is free, and what an edit leaves as it was.
-use Rattle.std.proofs.Common.{◌≡◌, ◌∙◌, sym, refl, ap, ℕ, Bool, true, false, cond, [], ◌∷◌, ◌++◌, ◌-◌, nat_le, Option, Some, None, arith}
+-- What takes single edits back where they add to what is free.
+use Rattle.std.proofs.Common.{◌≡◌, ◌∙◌, sym, refl, ap, ℕ, Bool, true, false, cond, Option, Some, None}
 use Rattle.std.specs.Ordering.{eq_by_cmp}
-use Rattle.std.specs.Bool.{if◌then◌else◌}
-use Rattle.std.specs.FinMap.{get, len, empty_of_len, get-empty}
+use Rattle.std.specs.FinMap.{get}
 use Rattle.su_bytes.specs.declared.file_ids.FileId.{FileId}
 use Rattle.su_bytes.specs.declared.file_ids.FileId.TheVariants.{User, Group}
 use Rattle.su_bytes.specs.declared.file_ids.Kind.{Kind}
-use Rattle.su_node.specs.Name.{Name, name_cmp}
-use Rattle.su_bytes.specs.Place.{Place, place_cmp, place_eq, file_eq}
+use Rattle.su_node.specs.Name.{Name}
+use Rattle.su_bytes.specs.Place.{Place, place_cmp}
 use Rattle.su_node.specs.Inode.{Inode, Content, Content.Bytes, Content.Names, new_inode}
 use Rattle.su_table.specs.Tree.{Tree}
-use Rattle.su_node.specs.Field.{Field.KindOf, Field.LinksOf, Field.NameOf, file_value, field_value}
+use Rattle.su_node.specs.Field.{Field.KindOf, Field.NameOf, file_value, field_value}
 use Rattle.su_table.specs.Cell.{Cell.Pointer, place_value, val}
-use Rattle.su_node.specs.Inode.{has_no_names}
-use Rattle.su_table.specs.Query.{is_nothing, value_number, is_link_to, is_free_at, is_name_free_at, is_pointer_free, leads_to_at, links_at, is_bare_at, body, pointer_body}
-use Rattle.su_node.specs.InodeChange.{InodeChange, InodeChange.Named, InodeChange.Made, InodeChange.Linked, InodeChange.Copied, InodeChange.Gone, inode_after, with_name}
-use Rattle.su_table.specs.Edit.{Edit.Inodes, Edit.Pointers, edit, edits, back, name_in, links_in, restoring}
+use Rattle.su_table.specs.Query.{is_nothing, is_free_at, is_name_free_at, is_pointer_free}
+use Rattle.su_node.specs.InodeChange.{InodeChange, InodeChange.Named, InodeChange.Made, InodeChange.Copied, InodeChange.Gone, inode_after}
+use Rattle.su_table.specs.Edit.{Edit.Inodes, Edit.Pointers, edit, back, name_in, restoring}
 use Rattle.su_op.specs.declared.create.Create.{Create}
 use Rattle.su_op.specs.Rule.{pointer_edits}
 use Rattle.su_op.specs.Create.{create_plan}
-use Rattle.su_op.specs.declared.unlink.Unlink.{Unlink}
-use Rattle.su_op.specs.Unlink.{unlink_plan, link_goes, fewer_links, file_goes}
 use Rattle.su_op.specs.Growth.{AreFreeFor}
-use Rattle.su_node.proofs.Public.{get-set_key, get-set_key_here, eq_by_cmp-same, name_cmp_total}
+use Rattle.su_node.proofs.Public.{get-set_key, eq_by_cmp-same}
 use Rattle.su_table.proofs.Public.{edit-back, place_cmp_total, place_cmp_exact}
 use Rattle.su_op.proofs.EditLemmas.{pointer_after}
 
@@ -54,10 +50,6 @@ pub back_name : (T : Tree) (d : Place) (x : Name) (f : FileId) → is_name_free_
 unfolding back val
 back_name T d x f free = ap (λ o. Inodes d (Named x o)) (no_name (get T.inodes d) x free)
 
-pub back_made : (T : Tree) (p : Place) (home : FileId) (kind : Kind) → is_free_at T p ≡ true → back T (Inodes p (Made home kind)) ≡ Inodes p Gone
-unfolding back val
-back_made T p home kind free = ap (λ o. Inodes p (restoring o)) (no_inode (get T.inodes p) free)
-
 pub back_copied : (T : Tree) (p : Place) (i : Inode) → is_free_at T p ≡ true → back T (Inodes p (Copied i)) ≡ Inodes p Gone
 unfolding back val
 back_copied T p i free = ap (λ o. Inodes p (restoring o)) (no_inode (get T.inodes p) free)
@@ -73,17 +65,9 @@ pub get-edit : (T : Tree) (p : Place) (ch : InodeChange) (q : Place) → get (ed
 unfolding edit
 get-edit T p ch q = get-set_key place_cmp_total T.inodes p (inode_after ch (get T.inodes p)) q
 
-pub get-edit_here : (T : Tree) (p : Place) (ch : InodeChange) → get (edit T (Inodes p ch)).inodes p ≡ inode_after ch (get T.inodes p)
-unfolding edit
-get-edit_here T p ch = get-set_key_here place_cmp_total T.inodes p (inode_after ch (get T.inodes p))
-
 named_keeps_kind : (x : Name) (v : Option FileId) (o : Option Inode) → is_nothing (field_value (inode_after (Named x v) o) KindOf) ≡ is_nothing (field_value o KindOf)
 named_keeps_kind x v None = refl
 named_keeps_kind x v (Some i) = refl
-
-named_keeps_links : (x : Name) (v : Option FileId) (o : Option Inode) → value_number (field_value (inode_after (Named x v) o) LinksOf) ≡ value_number (field_value o LinksOf)
-named_keeps_links x v None = refl
-named_keeps_links x v (Some i) = refl
 
 -- of a property of the inode at q that the change of p keeps
 kept_at : {A : Type 0} (prop : Option Inode → A) (T : Tree) (p : Place) (ch : InodeChange) (q : Place) → prop (inode_after ch (get T.inodes p)) ≡ prop (get T.inodes p) → prop (get (edit T (Inodes p ch)).inodes q) ≡ prop (get T.inodes q)
@@ -93,110 +77,14 @@ kept_at prop T p ch q same = ap prop (get-edit T p ch q) ∙ go (eq_by_cmp place
     go true is = same ∙ ap (λ r. prop (get T.inodes r)) (sym (eq_by_cmp-same place_cmp_exact q p is))
     go false is = refl
 
--- a name changes no kind and no links
+-- a name changes no kind
 pub is_free_at-with_name : (T : Tree) (d : Place) (x : Name) (v : Option FileId) (p : Place) → is_free_at (edit T (Inodes d (Named x v))) p ≡ is_free_at T p
 unfolding val
 is_free_at-with_name T d x v p = kept_at (λ o. is_nothing (field_value o KindOf)) T d (Named x v) p (named_keeps_kind x v (get T.inodes d))
 
-pub links_at-with_name : (T : Tree) (d : Place) (x : Name) (v : Option FileId) (p : Place) → links_at (edit T (Inodes d (Named x v))) p ≡ links_at T p
-unfolding val
-links_at-with_name T d x v p = kept_at (λ o. value_number (field_value o LinksOf)) T d (Named x v) p (named_keeps_links x v (get T.inodes d))
-
--- ---- taking back what was taken away
-
-pub file_eq-same : (f g : FileId) → file_eq f g ≡ true → f ≡ g
-unfolding place_eq
-file_eq-same (User u i) (User v j) e = let same : (u, i) ≡ (v, j) = eq_by_cmp-same place_cmp_exact (u, i) (v, j) e in ap (λ (p : Place). User p.0 p.1) same
-file_eq-same (Group g k) (Group h l) e = let same : (g, k) ≡ (h, l) = eq_by_cmp-same place_cmp_exact (g, k) (h, l) e in ap (λ (p : Place). Group p.0 p.1) same
-file_eq-same (User u i) (Group h l) e = absurd cc
-file_eq-same (Group g k) (User v j) e = absurd cc
-
-led_to : (o : Option FileId) (f : FileId) → is_link_to (file_value o) f ≡ true → o ≡ Some f
-led_to None f e = absurd cc
-led_to (Some g) f e = ap Some (file_eq-same g f e)
-
-name_led : (o : Option Inode) (x : Name) (f : FileId) → is_link_to (field_value o (NameOf x)) f ≡ true → name_in o x ≡ Some f
-name_led None x f e = absurd cc
-name_led (Some i) x f e = go i.content e
-  where
-    go : (c : Content) → is_link_to (field_value (Some (record i { content = c })) (NameOf x)) f ≡ true → name_in (Some (record i { content = c })) x ≡ Some f
-    go (Bytes bs) e = absurd cc
-    go (Names m) e = led_to (get m x) f e
-
-pub back_unnamed : (T : Tree) (d : Place) (x : Name) (f : FileId) → leads_to_at T d x f ≡ true → back T (Inodes d (Named x None)) ≡ Inodes d (Named x (Some f))
-unfolding back val
-back_unnamed T d x f leads = ap (λ o. Inodes d (Named x o)) (name_led (get T.inodes d) x f leads)
-
-links_in-value : (o : Option Inode) → links_in o ≡ value_number (field_value o LinksOf)
-links_in-value None = refl
-links_in-value (Some i) = refl
-
-pub back_linked : (T : Tree) (p : Place) (n : ℕ) → back T (Inodes p (Linked n)) ≡ Inodes p (Linked (links_at T p))
-unfolding back val
-back_linked T p n = ap (λ l. Inodes p (Linked l)) (links_in-value (get T.inodes p))
-
 pub back_gone : (T : Tree) (p : Place) → back T (Inodes p Gone) ≡ Inodes p (restoring (get T.inodes p))
 unfolding back
 back_gone T p = refl
-
-pub back_unentered : (T : Tree) (g : Place) (v : Option Place) → get T.pointers g ≡ v → back T (Pointers g None) ≡ Pointers g v
-unfolding back
-back_unentered T g v e = ap (Pointers g) e
-
-pointer_led : (o : Option Place) (p : Place) → pointer_body (place_value o) ≡ Some p → o ≡ Some p
-pointer_led None p e = absurd cc
-pointer_led (Some q) p e = e
-
--- a group file's pointer points at its body
-pub pointer_from_body : (T : Tree) (g k : ℕ) (p : Place) → body T (Group g k) ≡ Some p → get T.pointers (g, k) ≡ Some p
-unfolding body val
-pointer_from_body T g k p e = pointer_led (get T.pointers (g, k)) p e
-
-bare_has_no_name : (o : Option Inode) (x : Name) → has_no_names o ≡ true → name_in o x ≡ None
-bare_has_no_name None x e = refl
-bare_has_no_name (Some i) x e = go i.content e
-  where
-    go : (c : Content) → has_no_names (Some (record i { content = c })) ≡ true → name_in (Some (record i { content = c })) x ≡ None
-    go (Bytes bs) e = refl
-    go (Names m) e = let none : len m ≡ 0 = grind arith in ap (λ m. get m x) (empty_of_len m none) ∙ get-empty name_cmp x
-
--- what has no names is not the directory that has one
-pub apart_from_directory : (T : Tree) (d f : Place) (x : Name) (file : FileId) → leads_to_at T d x file ≡ true → is_bare_at T f ≡ true → eq_by_cmp place_cmp f d ≡ false
-unfolding val is_bare_at
-apart_from_directory T d f x file leads bare = go (eq_by_cmp place_cmp f d) refl
-  where
-    go : (b : Bool) → eq_by_cmp place_cmp f d ≡ b → b ≡ false
-    go true is =
-        let same : f ≡ d = eq_by_cmp-same place_cmp_exact f d is in
-        let none : name_in (get T.inodes d) x ≡ None = ap (λ p. name_in (get T.inodes p) x) (sym same) ∙ bare_has_no_name (get T.inodes f) x bare in
-        let some : name_in (get T.inodes d) x ≡ Some file = name_led (get T.inodes d) x file leads in
-        absurd cc
-    go false is = refl
-
-pub get-edit_apart : (T : Tree) (p : Place) (ch : InodeChange) (q : Place) → eq_by_cmp place_cmp q p ≡ false → get (edit T (Inodes p ch)).inodes q ≡ get T.inodes q
-get-edit_apart T p ch q apart = get-edit T p ch q ∙ ap (λ b. cond b (inode_after ch (get T.inodes p)) (get T.inodes q)) apart
-
--- ---- what was taken away can be added again
-
-named_none : (o : Option Inode) (x : Name) → is_nothing (field_value (inode_after (Named x None) o) (NameOf x)) ≡ true
-named_none None x = refl
-named_none (Some i) x = go i.content
-  where
-    go : (c : Content) → is_nothing (field_value (Some (record i { content = with_name x None c })) (NameOf x)) ≡ true
-    go (Bytes bs) = refl
-    go (Names m) = ap (λ o. is_nothing (file_value o)) (get-set_key_here name_cmp_total m x None)
-
-pub is_name_free_at-unnamed : (T : Tree) (d : Place) (x : Name) → is_name_free_at (edit T (Inodes d (Named x None))) d x ≡ true
-unfolding val
-is_name_free_at-unnamed T d x = ap (λ o. is_nothing (field_value o (NameOf x))) (get-edit_here T d (Named x None)) ∙ named_none (get T.inodes d) x
-
-pub is_free_at-gone : (T : Tree) (p : Place) → is_free_at (edit T (Inodes p Gone)) p ≡ true
-unfolding val
-is_free_at-gone T p = ap (λ o. is_nothing (field_value o KindOf)) (get-edit_here T p Gone)
-
-pub pointer_free-unentered : (T : Tree) (g : Place) → is_nothing (val (edit T (Pointers g None)) (Pointer g)) ≡ true
-unfolding val edit
-pointer_free-unentered T g = ap (λ o. is_nothing (place_value o)) (get-set_key_here place_cmp_total T.pointers g None)
 
 -- ---- a create
 
@@ -207,24 +95,6 @@ create_free T a c d name place pointer = (name, (is_free_at-with_name T d c.name
     go : (f : FileId) → is_pointer_free T f ≡ true → AreFreeFor (edit (edit T (Inodes d (Named c.name (Some c.file)))) (Inodes (a, c.body) (Made c.file c.kind))) (pointer_edits f (Some (a, c.body)))
     go (User u i) e = tt
     go (Group g k) e = (ap is_nothing (pointer_after (edit T (Inodes d (Named c.name (Some c.file)))) (a, c.body) (Made c.file c.kind) (g, k) ∙ pointer_after T d (Named c.name (Some c.file)) (g, k)) ∙ e, tt)
-
--- ---- an unlink
-
--- of more links than one: the name goes, and one link
-pub unlink_some : (T : Tree) (d f : Place) (u : Unlink) (l : ℕ) → l ≡ links_at (edit T (Inodes d (Named u.name None))) f → nat_le 2 l ≡ true
-    → edit (edit T (Inodes d (Named u.name None))) (Inodes f (Linked (l - 1))) ≡ edits T (unlink_plan (links_at T f) u d f).edits
-unlink_some T d f u l is more =
-    let same : l ≡ links_at T f = is ∙ links_at-with_name T d u.name None f in
-    ap (λ b. edits (edit T (Inodes d (Named u.name None))) (if b then fewer_links l f else file_goes u.file f)) (sym more)
-    ∙ ap (λ n. edits (edit T (Inodes d (Named u.name None))) (link_goes n u.file f)) same
-
--- of the last link: the name goes, and the file
-pub unlink_last : (T : Tree) (d f : Place) (u : Unlink) (l : ℕ) → l ≡ links_at (edit T (Inodes d (Named u.name None))) f → nat_le 2 l ≡ false
-    → edits (edit T (Inodes d (Named u.name None))) (pointer_edits u.file None ++ Inodes f Gone ∷ []) ≡ edits T (unlink_plan (links_at T f) u d f).edits
-unlink_last T d f u l is more =
-    let same : l ≡ links_at T f = is ∙ links_at-with_name T d u.name None f in
-    ap (λ b. edits (edit T (Inodes d (Named u.name None))) (if b then fewer_links l f else file_goes u.file f)) (sym more)
-    ∙ ap (λ n. edits (edit T (Inodes d (Named u.name None))) (link_goes n u.file f)) same
 
 -- ---- what was added is taken away again
 

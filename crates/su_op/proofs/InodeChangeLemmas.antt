@@ -232,15 +232,15 @@ stays_linked ch o can linked = record { one = keeps_one_link ch o can linked.one
 
 -- ---- an inode is known by its cells
 
+pub file_value_same : (o p : Option FileId) → file_value o ≡ file_value p → o ≡ p
+file_value_same None None e = refl
+file_value_same None (Some x) e = absurd cc
+file_value_same (Some x) None e = absurd cc
+file_value_same (Some x) (Some y) e = cc
+
 content_same : (c d : Content) (h g : FileId) (l m : ℕ) → ((f : Field) → content_value c l h f ≡ content_value d m g f) → c ≡ d
 content_same (Bytes a) (Bytes b) h g l m each = ap Bytes (bytes_same a b (let e = each SizeOf in cc) (λ n. block_value_same _ _ (each (BlockOf n))))
 content_same (Names a) (Names b) h g l m each = ap Names (same_names a b (λ x. file_value_same _ _ (each (NameOf x))))
-  where
-    file_value_same : (o p : Option FileId) → file_value o ≡ file_value p → o ≡ p
-    file_value_same None None e = refl
-    file_value_same None (Some x) e = absurd cc
-    file_value_same (Some x) None e = absurd cc
-    file_value_same (Some x) (Some y) e = cc
 content_same (Bytes a) (Names b) h g l m each = absurd (let e = each KindOf in cc)
 content_same (Names a) (Bytes b) h g l m each = absurd (let e = each KindOf in cc)
 

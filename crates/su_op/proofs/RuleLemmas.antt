@@ -175,10 +175,6 @@ and_false false = refl
 pub kind_after_name : (T : Tree) (d : Place) (x : Name) (v : Option FileId) (q : Place) → IsA Dir (get T.inodes d) → val (edit T (Inodes d (Named x v))) (At q KindOf) ≡ val T (At q KindOf)
 kind_after_name T d x v q is = edit_leaves T (Inodes d (Named x v)) (At q KindOf) (is, tt) (and_false (place_eq q d))
 
-pub can_pointer_none : (T : Tree) (f : FileId) → CanEdits T (pointer_edits f None)
-can_pointer_none T (User u i) = tt
-can_pointer_none T (Group g k) = (tt, tt)
-
 pub can_pointer_some : (T : Tree) (f : FileId) (p : Place) → ((g : Place) → f ≡ Group g.0 g.1 → IsBodyOf T g p) → CanEdits T (pointer_edits f (Some p))
 can_pointer_some T (User u i) p home = tt
 can_pointer_some T (Group g k) p home = (home (g, k) refl, tt)
@@ -247,9 +243,6 @@ unfolding val
 few_links T p sound many = ((sound.linked p).few (value_number (val T (At p LinksOf))) (links_is (val T (At p LinksOf)) many)).1
 
 -- ---- an inode's links, size and names
-
-not_none_file : (v : Value) → v ≡ Nothing → is_file_kind v ≡ true → ⊥
-not_none_file v e f = absurd (subst (λ v. is_file_kind v ≡ true → ⊥) (sym e) (λ d. absurd cc) f)
 
 many_links_at : (o : Option Inode) → HasOneLink o → nat_le 2 (value_number (field_value o LinksOf)) ≡ true → is_file_kind (field_value o KindOf) ≡ true
 many_links_at None one many = absurd cc

@@ -16,20 +16,23 @@ use Rattle.su_op.specs.declared.areas.Area.TheVariants.{Inode as InodeArea, Poin
 
 -- ---- areas by their cells
 
--- of what stands at p: its kind with its home, its links, its size, one of its names, or all of its
--- cells
+-- of what stands at p: its kind and its home
 abbrev pub kind_cell : Place → Area
 kind_cell p = InodeArea p KindPart
 
+-- its number of links
 abbrev pub links_cell : Place → Area
 links_cell p = InodeArea p LinksPart
 
+-- its size
 abbrev pub size_cell : Place → Area
 size_cell p = InodeArea p SizePart
 
+-- where one of its names leads
 abbrev pub name_cell : Name → Place → Area
 name_cell x p = InodeArea p (NamePart x)
 
+-- all of its cells
 abbrev pub all_cells : Place → Area
 all_cells p = InodeArea p WholePart
 
@@ -41,6 +44,7 @@ run first last = record { first = first; more = last - first }
 abbrev pub blocks_between : ℕ → ℕ → BlockRun
 blocks_between off end = run (off / BLOCK_SIZE) ((end - 1) / BLOCK_SIZE)
 
+-- some of its blocks
 abbrev pub block_cells : BlockRun → Place → Area
 block_cells r p = InodeArea p (BlocksPart r)
 
@@ -82,6 +86,7 @@ pub record ShareACell (a : Area) (b : Area) : Type 0 where
 abbrev pub runs_overlap : BlockRun → BlockRun → Bool
 runs_overlap r s = nat_le r.first (s.first + s.more) && nat_le s.first (r.first + r.more)
 
+-- of one inode: the parts share a cell
 abbrev pub parts_overlap : Part → Part → Bool
 parts_overlap WholePart b = true
 parts_overlap a WholePart = true
@@ -92,6 +97,7 @@ parts_overlap (NamePart x) (NamePart y) = name_eq x y
 parts_overlap (BlocksPart r) (BlocksPart s) = runs_overlap r s
 parts_overlap _ _ = false
 
+-- the areas share a cell
 abbrev pub overlaps : Area → Area → Bool
 overlaps (InodeArea p a) (InodeArea q b) = place_eq p q && parts_overlap a b
 overlaps (PointerArea g) (PointerArea k) = place_eq g k

@@ -21,6 +21,7 @@ abbrev pub is_own_number : ℕ → ℕ → FileId → Bool
 is_own_number a n (User u i) = nat_eq u a && nat_eq i n
 is_own_number a n (Group g k) = true
 
+-- for a directory at place d
 abbrev pub create_plan : ℕ → Create → Place → Plan
 create_plan a c d = record {
   reads = file_areas c.dir d;
@@ -29,6 +30,7 @@ create_plan a c d = record {
       ∷ pointer_edits c.file (Some (a, c.body));
 }
 
+-- the checks in their order
 abbrev pub create_rule : Membership → Tree → ℕ → Create → Rule
 create_rule ro T a c =
     Demand (has_user ro a) (NoUser a)
@@ -44,6 +46,7 @@ create_rule ro T a c =
 
 -- ---- what it does once it is accepted
 
+-- its plan
 abbrev pub accepted_create_plan : AcceptedCreate → Plan
 accepted_create_plan x = create_plan x.author x.create.now x.directory
 

@@ -41,10 +41,12 @@ parts (Resized size new_size) = resized_parts size new_size
 parts (Copied i) = WholePart ∷ []
 parts Gone = WholePart ∷ []
 
+-- the cells that one edit writes
 abbrev pub edit_areas : Edit → List Area
 edit_areas (Inodes p ch) = map (InodeArea p) (parts ch)
 edit_areas (Pointers g v) = PointerArea g ∷ []
 
+-- the cells that some edits write, in their order
 abbrev pub edits_areas : List Edit → List Area
 edits_areas [] = []
 edits_areas (e ∷ es) = edit_areas e ++ edits_areas es

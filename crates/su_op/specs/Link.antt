@@ -21,6 +21,7 @@ link_plan links l d f = record {
   edits = Inodes d (Named l.name (Some l.file)) ∷ Inodes f (Linked (links + 1)) ∷ [];
 }
 
+-- the checks in their order
 abbrev pub link_rule : Membership → Tree → ℕ → Link → Rule
 link_rule ro T a l =
     Demand (has_user ro a) (NoUser a)
@@ -38,6 +39,7 @@ link_rule ro T a l =
 
 -- ---- what it does once it is accepted
 
+-- its plan
 abbrev pub accepted_link_plan : AcceptedLink → Plan
 accepted_link_plan x = link_plan x.links x.link.now x.directory x.place
 

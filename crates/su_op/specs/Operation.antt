@@ -65,13 +65,16 @@ Row (Rename r) = RenameRow r
 unfoldable pub why : Membership → Tree → ℕ → Op → Option Refusal
 why ro T a op = refusal (rule_of ro T a op)
 
--- Of an accepted operation: the tree after it, the cells that it reads, and those that it writes.
--- These say nothing where `why` is a refusal.
+-- ---- of an accepted operation; where `why` is a refusal these say nothing
+
+-- the tree after it
 unfoldable pub effect : Membership → Tree → ℕ → Op → Tree
 effect ro T a op = edits T (plan_of (rule_of ro T a op)).edits
 
+-- the cells that it reads
 unfoldable pub reads : Membership → Tree → ℕ → Op → List Area
 reads ro T a op = plan_reads (plan_of (rule_of ro T a op))
 
+-- the cells that it writes
 unfoldable pub writes : Membership → Tree → ℕ → Op → List Area
 writes ro T a op = plan_writes (plan_of (rule_of ro T a op))

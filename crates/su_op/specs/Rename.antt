@@ -52,6 +52,7 @@ rename_rule_at T a r moved d t =
     (Demand (not (moves_directory T moved)) DirMove
     (Accept (rename_plan moved r d t))))))))
 
+-- the checks in their order
 abbrev pub rename_rule : Membership → Tree → ℕ → Rename → Rule
 rename_rule ro T a r =
     Demand (has_user ro a) (NoUser a)
@@ -64,6 +65,7 @@ rename_rule ro T a r =
 
 -- ---- what it does once it is accepted
 
+-- its plan
 abbrev pub accepted_rename_plan : AcceptedRename → Plan
 accepted_rename_plan x = rename_plan x.moved x.rename.now x.source x.target
 

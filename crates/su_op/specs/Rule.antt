@@ -40,10 +40,11 @@ plan_of (Demand b r k) = plan_of k
 plan_of (Find None r k) = record { reads = []; edits = [] }
 plan_of (Find (Some p) r k) = plan_of (k p)
 
--- what the plan writes, and what it reads: what is written is also read
+-- the cells that a plan writes
 abbrev pub plan_writes : Plan → List Area
 plan_writes p = edits_areas p.edits
 
+-- the cells that a plan reads: those besides, and those that it writes
 abbrev pub plan_reads : Plan → List Area
 plan_reads p = p.reads ++ plan_writes p
 
@@ -59,6 +60,7 @@ abbrev pub may_touch : Membership → ℕ → FileId → Bool
 may_touch ro a (User u i) = true
 may_touch ro a (Group g k) = is_member ro a g
 
+-- the group of a group file
 abbrev pub group_of : FileId → ℕ
 group_of (User u i) = 0
 group_of (Group g k) = g
@@ -68,6 +70,7 @@ abbrev pub pointer_edits : FileId → Option Place → List Edit
 pointer_edits (User u i) v = []
 pointer_edits (Group g k) v = Pointers (g, k) v ∷ []
 
+-- the pointer of a group file; a user's file has none
 abbrev pub pointer_areas : FileId → List Area
 pointer_areas (User u i) = []
 pointer_areas (Group g k) = PointerArea (g, k) ∷ []

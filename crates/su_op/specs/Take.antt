@@ -17,6 +17,7 @@ use Rattle.su_op.specs.Area.{kind_cell, all_cells}
 use Rattle.su_op.specs.declared.take.Take.{Take}
 use Rattle.su_op.specs.Rule.{Plan, HasRow, Rule, Rule.Accept, Rule.Demand, Rule.Find, may_touch, group_of, pointer_edits, pointer_areas, file_areas}
 
+-- the file is a group's
 abbrev pub is_group_file : FileId → Bool
 is_group_file (User u i) = false
 is_group_file (Group g k) = true
@@ -33,6 +34,7 @@ take_plan o a t f = record {
   edits = Inodes (a, t.body) (copy_of o) ∷ pointer_edits t.file (Some (a, t.body));
 }
 
+-- the checks in their order
 abbrev pub take_rule : Membership → Tree → ℕ → Take → Rule
 take_rule ro T a t =
     Demand (has_user ro a) (NoUser a)
@@ -44,6 +46,7 @@ take_rule ro T a t =
 
 -- ---- what it does once it is accepted
 
+-- its plan in T, whose inode is copied
 abbrev pub accepted_take_plan : Tree → AcceptedTake → Plan
 accepted_take_plan T x = take_plan (get T.inodes x.place) x.author x.take.now x.place
 

@@ -20,6 +20,7 @@ truncate_plan size t f = record {
   edits = Inodes f (Resized size t.size) ∷ [];
 }
 
+-- the checks in their order
 abbrev pub truncate_rule : Membership → Tree → ℕ → Truncate → Rule
 truncate_rule ro T a t =
     Demand (has_user ro a) (NoUser a)
@@ -32,6 +33,7 @@ truncate_rule ro T a t =
 
 -- ---- what it does once it is accepted
 
+-- its plan
 abbrev pub accepted_truncate_plan : AcceptedTruncate → Plan
 accepted_truncate_plan x = truncate_plan x.size x.truncate.now x.place
 

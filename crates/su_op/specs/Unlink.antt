@@ -26,12 +26,14 @@ file_goes file f = pointer_edits file None ++ Inodes f Gone ∷ []
 abbrev pub link_goes : ℕ → FileId → Place → List Edit
 link_goes links file f = if nat_le 2 links then fewer_links links f else file_goes file f
 
+-- for a directory at place d, and a file with that many links at place f
 abbrev pub unlink_plan : ℕ → Unlink → Place → Place → Plan
 unlink_plan links u d f = record {
   reads = file_areas u.dir d ++ file_areas u.file f;
   edits = Inodes d (Named u.name None) ∷ link_goes links u.file f;
 }
 
+-- the checks in their order
 abbrev pub unlink_rule : Membership → Tree → ℕ → Unlink → Rule
 unlink_rule ro T a u =
     Demand (has_user ro a) (NoUser a)
@@ -48,6 +50,7 @@ unlink_rule ro T a u =
 
 -- ---- what it does once it is accepted
 
+-- its plan
 abbrev pub accepted_unlink_plan : AcceptedUnlink → Plan
 accepted_unlink_plan x = unlink_plan x.links x.unlink.now x.directory x.place
 

@@ -21,6 +21,7 @@ write_plan size w f = record {
   edits = Inodes f (Written size w.off w.bytes) ∷ [];
 }
 
+-- the checks in their order
 abbrev pub write_rule : Membership → Tree → ℕ → Writing → Rule
 write_rule ro T a w =
     Demand (has_user ro a) (NoUser a)
@@ -34,6 +35,7 @@ write_rule ro T a w =
 
 -- ---- what it does once it is accepted
 
+-- its plan
 abbrev pub accepted_write_plan : AcceptedWrite → Plan
 accepted_write_plan x = write_plan x.size x.write.now x.place
 

@@ -1,4 +1,4 @@
-use Rattle.std.proofs.Common.{◌≡◌, ◌∙◌, sym, ap, subst, ◌∷◌, Result, Ok, Err, OnOk}
+use Rattle.std.proofs.Common.{◌≡◌, ◌∙◌, sym, ap, subst, ◌∷◌}
 use Rattle.std.specs.List.{AllByRecursion}
 use Rattle.su_table.specs.Edit.{edit}
 use Rattle.su_table.proofs.Public.{edit-back}
@@ -8,6 +8,7 @@ use Rattle.su_inverse.specs.Remaining.{left, AgreeOutside, IsRoomy}
 use Rattle.su_inverse.proofs.AreaListLemmas.{returned, all_areas}
 use Rattle.su_inverse.proofs.SizeLemmas.{first_roomy}
 use Rattle.su_inverse.proofs.inverses.+put_back.Goals as goal
+use Rattle.su_inverse.proofs.ResultLemmas.{OnOk-map}
 use Rattle.std.proofs.lemmas.List.{nil_from_length}
 
 pub returns-in-Err-clause-err : goal.returns-in-Err-clause-err
@@ -18,16 +19,13 @@ returns-in-Err-clause-err t c =
 
 pub returns-in_default-clause-ok : goal.returns-in_default-clause-ok
 returns-in_default-clause-ok t c T held all agree =
+    let i = c.args.inverse.now in
     let cut : c.args.returns.now ≡ c.in-Some.first.now ∷ c.in-Some.rest.now = c.in-Some.ensures.cases.0 in
     let held' = subst (AllByRecursion (HoldsReturn T)) cut held in
     let agree' = subst (λ rs. AgreeOutside (left rs c.args.inverse.now) c.args.forest.now T) cut agree in
     c.in_default.ensures.ok T held'.1 all
     (subst (λ F. AgreeOutside (left c.in-Some.rest.now c.args.inverse.now) F T) (sym c.in_ok-overwritten-in-Some.ensures.ok)
-    (returned c.in-Some.first.now (all_areas c.in-Some.rest.now c.args.inverse.now.sizes.items c.args.inverse.now.resets.items c.args.inverse.now.blocks.items) c.args.forest.now T held'.0 agree'))
-
-OnOk-map : {X Y P Q : Type 0} (r : Result X Y) → (P → Q) → OnOk r P → OnOk r Q
-OnOk-map (Ok x) f p = f p
-OnOk-map (Err e) f p = tt
+    (returned c.in-Some.first.now (all_areas c.in-Some.rest.now i.sizes.items i.resets.items i.blocks.items) c.args.forest.now T held'.0 agree'))
 
 pub returns-in-None-clause-ok : goal.returns-in-None-clause-ok
 returns-in-None-clause-ok t c =

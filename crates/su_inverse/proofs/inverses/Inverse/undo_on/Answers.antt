@@ -1,13 +1,10 @@
-use Rattle.std.proofs.Common.{sym, subst, Result, Ok, Err, OnOk}
+use Rattle.std.proofs.Common.{sym, subst}
 use Rattle.std.specs.List.{AllByRecursion}
 use Rattle.su_inverse.specs.Kept.{HoldsReturn}
 use Rattle.su_inverse.specs.Remaining.{left, AgreeOutside}
 use Rattle.su_inverse.proofs.AreaListLemmas.{left_over, held_all}
+use Rattle.su_inverse.proofs.ResultLemmas.{OnOk-map}
 use Rattle.su_inverse.proofs.inverses.Inverse.undo_on.Goals as goal
-
-OnOk-map : {X Y P Q : Type 0} (r : Result X Y) → (P → Q) → OnOk r P → OnOk r Q
-OnOk-map (Ok x) f p = f p
-OnOk-map (Err e) f p = tt
 
 pub returns-clause-ok : goal.returns-clause-ok
 returns-clause-ok c =
