@@ -10,7 +10,7 @@ use Rattle.su_bytes.specs.Membership.{Membership}
 use Rattle.su_table.specs.Cell.{Cell}
 use Rattle.su_op.specs.declared.areas.Area.{Area}
 use Rattle.su_op.specs.Area.{in_area, has, overlaps, meet}
-use Rattle.su_op.proofs.AreaLemmas.{areas_apart, overlap_shares}
+use Rattle.su_op.proofs.Public.{areas_apart, overlap_shares}
 use Rattle.su_desk.specs.declared.entries.Entry.{Entry}
 use Rattle.su_desk.specs.History.{NumberedAction, live, last_number, last_live}
 use Rattle.su_desk.specs.Applied.{reads_where_applied, written_by}

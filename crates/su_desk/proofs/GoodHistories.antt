@@ -9,8 +9,7 @@ use Rattle.su_op.specs.declared.operations.Op.{Op}
 use Rattle.su_op.specs.declared.operations.Op.TheVariants.{Create, Unlink, Write, Truncate, Take, Link, Rename}
 use Rattle.su_op.specs.Rule.{Plan}
 use Rattle.su_op.specs.Operation.{rule_of, why}
-use Rattle.su_op.proofs.RuleLemmas.{Gives, gives_of}
-use Rattle.su_op.proofs.StoreLemmas.{none_is}
+use Rattle.su_op.proofs.Public.{Gives, gives_of, none_is}
 use Rattle.su_desk.specs.declared.entries.Entry.{Entry}
 use Rattle.su_desk.specs.History.{NumberedAction, undo_by, undos, live, replay, tree, entry_at, last_number, last_live}
 use Rattle.su_desk.specs.Applied.{tree_after}

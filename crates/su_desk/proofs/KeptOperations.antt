@@ -14,10 +14,9 @@ use Rattle.su_op.specs.Area.{has}
 use Rattle.su_op.specs.Operation.{why}
 use Rattle.su_op.specs.Soundness.{Sound, KindOrFile}
 use Rattle.su_op.specs.Store.{Action, store}
-use Rattle.su_op.proofs.StoreLemmas.{none_is, store_lawful}
-use Rattle.su_op.proofs.SoundnessLemmas.{block_written}
+use Rattle.su_op.proofs.Public.{block_written, none_is, store_lawful}
 use Rattle.su_inverse.specs.Kept.{inverse_areas, IsPutBack}
-use Rattle.su_inverse.proofs.KeptLemmas.{kept_again}
+use Rattle.su_inverse.proofs.Public.{kept_again}
 use Rattle.su_undo.specs.System.{Agree}
 use Rattle.su_undo.proofs.TakingOut.{Beside, AllBeside, led_to, replay-cons, replayed_to, agree_read, leaves_others, past_it, stay_inside, same_outside}
 use Rattle.su_desk.specs.declared.entries.Entry.{Entry}

@@ -14,7 +14,7 @@ use Rattle.su_op.specs.Area.{meet}
 use Rattle.su_op.specs.Operation.{why}
 use Rattle.su_op.specs.Soundness.{Sound}
 use Rattle.su_op.specs.Store.{Action, store}
-use Rattle.su_op.proofs.StoreLemmas.{store_lawful}
+use Rattle.su_op.proofs.Public.{store_lawful}
 use Rattle.su_undo.specs.Replay.{replay as replay_actions, NoneReads, CanBeTakenOut}
 use Rattle.su_undo.proofs.TakingOut.{AllBeside, led_to, agree_read, past_it, undo_is_safe}
 use Rattle.su_desk.specs.declared.entries.Entry.{Entry}

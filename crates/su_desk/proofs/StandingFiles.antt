@@ -12,8 +12,7 @@ use Rattle.su_op.specs.declared.areas.Area.{Area}
 use Rattle.su_op.specs.Area.{has, meet}
 use Rattle.su_op.specs.Soundness.{Sound, WholeOrNew, KindOrFile}
 use Rattle.su_op.specs.Store.{Action, store}
-use Rattle.su_op.proofs.StoreLemmas.{store_lawful}
-use Rattle.su_op.proofs.SoundnessLemmas.{kind_written, block_written}
+use Rattle.su_op.proofs.Public.{block_written, kind_written, store_lawful}
 use Rattle.su_undo.proofs.TakingOut.{Beside, AllBeside, led_to, unwritten, agree_read, clear_beside}
 
 -- where a file with one of these blocks stood, it stands

@@ -20,7 +20,7 @@ use Rattle.su_table.specs.Cell.{Cell.At, Cell.Pointer, place_value, val}
 use Rattle.su_table.specs.Query.{is_nothing, is_link_to, pointer_body, body, standing_at, standing, part}
 use Rattle.su_node.specs.InodeChange.{InodeChange, inode_after, set_key}
 use Rattle.su_table.specs.Edit.{Edit.Inodes, Edit.Pointers, edit}
-use Rattle.su_node.proofs.Maps.{get-from_entries_lookup, from_entries-updates, set_key-get}
+use Rattle.su_node.proofs.Public.{from_entries-updates, get-from_entries_lookup, set_key-get}
 use Rattle.su_table.proofs.Places.{place_cmp_total, place_cmp_exact}
 
 -- what std finds among the pointers

@@ -8,8 +8,7 @@ use Rattle.su_node.specs.Inode.{Inode, Content, Content.Bytes, Content.Names}
 use Rattle.su_table.specs.Tree.{Tree}
 use Rattle.su_node.specs.InodeChange.{InodeChange, InodeChange.Made, InodeChange.Named, InodeChange.Linked, InodeChange.Written, InodeChange.Resized, InodeChange.Copied, InodeChange.Gone, inode_after, set_key}
 use Rattle.su_table.specs.Edit.{restoring, change_back, Edit, Edit.Inodes, Edit.Pointers, edit, edits, back, edits_back, EditsCanBeTakenBack}
-use Rattle.su_node.proofs.Maps.{get-set_key_here, set_key_back}
-use Rattle.su_node.proofs.NameOrder.{name_cmp_total, name_cmp_exact}
+use Rattle.su_node.proofs.Public.{get-set_key_here, name_cmp_exact, name_cmp_total, set_key_back}
 use Rattle.su_table.proofs.Places.{place_cmp_total, place_cmp_exact}
 
 inode_after-restoring : (o p : Option Inode) → inode_after (restoring o) p ≡ o

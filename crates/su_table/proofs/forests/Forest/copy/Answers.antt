@@ -1,7 +1,7 @@
 use Rattle.std.proofs.Common.{◌∙◌, ap, sym, ◌++◌}
 use Rattle.std.specs.BTreeMap.{insert_entry}
 use Rattle.su_bytes.specs.Place.{place_cmp}
-use Rattle.su_node.proofs.Maps.{copied_more}
+use Rattle.su_node.proofs.Public.{copied_more}
 use Rattle.su_table.proofs.Places.{place_cmp_total}
 use Rattle.su_table.proofs.forests.Forest.copy.Goals as goal
 

@@ -5,7 +5,7 @@ use Rattle.std.proofs.lemmas.List.Elements.{All-push}
 use Rattle.su_tree.specs.Digest.{digest}
 use Rattle.su_tree.specs.Number.{numbers, is_number}
 use Rattle.su_tree.specs.Value.{place_bytes}
-use Rattle.su_node.proofs.Maps.{entries-from_entries}
+use Rattle.su_node.proofs.Public.{entries-from_entries}
 use Rattle.su_bytes.specs.Place.{Place}
 use Rattle.su_table.specs.Tree.{Tree}
 use Rattle.su_table.specs.Handle.{pairs_of, group_table}

@@ -6,7 +6,7 @@ use Rattle.su_tree.specs.Digest.{digest}
 use Rattle.su_tree.specs.Number.{numbers, is_number}
 use Rattle.su_node.specs.Inode.{Inode}
 use Rattle.su_node.specs.Digest.{inode_digest}
-use Rattle.su_node.proofs.Maps.{entries-from_entries}
+use Rattle.su_node.proofs.Public.{entries-from_entries}
 use Rattle.su_bytes.specs.Place.{Place}
 use Rattle.su_table.specs.Tree.{Tree}
 use Rattle.su_table.specs.Handle.{pairs_of, user_table}
