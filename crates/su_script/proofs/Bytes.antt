@@ -1,13 +1,14 @@
 -- Where a byte stands first, and what stands before it.
-use Rattle.std.proofs.Common.{◌≡◌, ◌∙◌, ℕ, zero, suc, ◌+◌, ◌<◌, ◌≤◌, Bool, true, false, not, cond, ◌&&◌, List, [], ◌∷◌, length, take, nat_eq, nat_lt, Option, Some, None, subst, sym, refl, ap, arith}
+use Rattle.std.proofs.Common.{◌≡◌, ◌∙◌, ℕ, zero, suc, ◌+◌, ◌<◌, ◌≤◌, Bool, true, false, not, cond, ◌&&◌, List, [], ◌∷◌, ◌++◌, length, take, drop, get_or, add-one, nat_eq, nat_lt, Option, Some, None, subst, sym, refl, ap, arith}
 use Rattle.std.specs.Prelude.{MatchOption, slice_get}
 use Rattle.std.specs.List.{list_all, position, position_or_len, prefix_len}
 use Rattle.std.proofs.lemmas.Bool.Decides.{nat_tests}
-use Rattle.std.proofs.lemmas.List.{take_all}
+use Rattle.std.proofs.lemmas.List.{take_all, take-append-drop, drop-drop}
+use Rattle.std.proofs.Math.Seq.{drop-cons}
 use Rattle.std.proofs.lemmas.List.Sums.{position_or_len_is}
-use Rattle.std.proofs.lemmas.Option.{slice_get-get_or}
+use Rattle.std.proofs.lemmas.Option.{slice_get-get_or, slice_get_within, get_or_from_slice_get}
 use Rattle.memchr.specs.Find.{IsFirstByte, is_byte}
-use Rattle.su_script.specs.Lines.{is_unbroken}
+use Rattle.su_script.specs.Lines.{is_unbroken, Takes}
 
 fails : (b : Bool) → (b ≡ true → ⊥) → b ≡ false
 fails true h = absurd (h refl)
@@ -57,3 +58,13 @@ first_line_feed bytes None none =
 first_line_feed bytes (Some k) first =
     let at = before_first 10 bytes k first in
     (slice_get-get_or bytes k 0 first.0.high ∙ ap Some (is_ten _ first.1), list_all-prefix (λ b. not (nat_eq b 10)) bytes k (omega arith))
+
+-- a part up to the end of a line was taken, and that end
+pub taken_part : (ready line grown : List ℕ) (start end : ℕ) (rest : List ℕ) → rest ≡ drop start ready → slice_get rest end ≡ Some 10 → is_unbroken (take end rest) ≡ true → grown ≡ line ++ take end rest
+    → Takes true line grown (drop start ready) (drop (start + (end + 1)) ready)
+taken_part ready line grown start end rest is here unbroken grows =
+    let within = slice_get_within rest end 10 here in
+    let byte : get_or rest end 0 ≡ 10 = get_or_from_slice_get rest end 10 0 here in
+    let next : drop end rest ≡ 10 ∷ drop (end + 1) rest = rw add-one (drop-cons rest end 0 within ∙ ap (λ b. b ∷ drop (suc end) rest) byte) in
+    let left : drop (end + 1) rest ≡ drop (start + (end + 1)) ready = ap (drop (end + 1)) is ∙ drop-drop (end + 1) start ready in
+    (take end rest, unbroken, grows, sym is ∙ sym (take-append-drop end rest) ∙ ap (λ xs. take end rest ++ xs) (next ∙ ap (λ xs. 10 ∷ xs) left))

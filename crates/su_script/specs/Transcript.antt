@@ -1,5 +1,5 @@
 -- What a desk prints for a script: line by line the stated text of each answer.
-use Rattle.std.specs.Prelude.{◌≡◌, ℕ, ◌+◌, ◌⊎◌, List, [], ◌∷◌, ◌++◌, Option, None, Some, map, replicate}
+use Rattle.std.specs.Prelude.{◌≡◌, ℕ, ◌+◌, ◌⊎◌, List, [], ◌∷◌, ◌++◌, Option, None, Some, replicate}
 use Rattle.su_bytes.specs.Membership.{Membership, membership_of_keys}
 use Rattle.su_bytes.specs.declared.refusals.Refusal.{Refusal}
 use Rattle.su_bytes.specs.declared.rosters.TheConstants.{KEY_LENGTH}

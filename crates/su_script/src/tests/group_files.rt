@@ -311,3 +311,25 @@ fn strangers_and_others_of_no_group_are_refused(rt: HostRuntime) -> Result<(), F
         ],
     )
 }
+
+#[test]
+fn a_group_file_is_unlinked_by_who_took_it_over(rt: HostRuntime) -> Result<(), Fail> {
+    expect_each(
+        &rt,
+        &[
+            ("0 create G0:1 a G0:2 5", "ok 1"),
+            ("stat G0:2", "file size 0 links 1 at U0:5"),
+            ("0 write G0:2 0 070707", "ok 2"),
+            ("1 take G0:2 7", "ok 3"),
+            ("stat G0:2", "file size 3 links 1 at U1:7"),
+            ("cat G0:2 0 3", "070707"),
+            ("0 create G0:1 b U0:5", "no 17 Held"),
+            ("1 unlink G0:1 a G0:2", "no 16 NotHolder 0"),
+            ("0 unlink G0:1 a G0:2", "no 16 NotHolder 1"),
+            ("1 take G0:1 1", "ok 4"),
+            ("1 unlink G0:1 a G0:2", "ok 5"),
+            ("stat G0:2", "no 14 NoFile G0:2"),
+            ("versions", "U0=2 U1=3 G0=4 G1=0"),
+        ],
+    )
+}

@@ -94,6 +94,23 @@ fn a_directory_stays_in_its_directory(rt: HostRuntime) -> Result<(), Fail> {
     )
 }
 
+#[test]
+fn a_file_gets_another_name_in_its_new_directory(rt: HostRuntime) -> Result<(), Fail> {
+    expect_each(
+        &rt,
+        &[
+            ("0 create G0:1 f U0:2", "ok 1"),
+            ("0 mkdir G0:1 d U0:7", "ok 2"),
+            ("0 rename G0:1 f U0:7 g U0:2", "ok 3"),
+            ("ls U0:7", "g U0:2"),
+            ("ls G0:1", "d U0:7"),
+            ("0 rename U0:7 g U0:7 g U0:2", "no 19 Exists"),
+            ("0 rename U0:7 g U0:7 h U0:2", "ok 4"),
+            ("ls U0:7", "h U0:2"),
+        ],
+    )
+}
+
 /// A file with number 2 named `f`; a directory with number 3 named `d`, which has a file 4 named `f`; and an empty directory
 /// with number 5 named `e`.
 const BEFORE: [(&str, &str); 4] = [

@@ -404,3 +404,26 @@ fn undos_of_two_users_are_answered_in_turn(rt: HostRuntime) -> Result<(), Fail> 
         ],
     )
 }
+
+#[test]
+fn who_reads_what_was_written_stands_in_the_way(rt: HostRuntime) -> Result<(), Fail> {
+    expect_each(
+        &rt,
+        &[
+            ("0 create G0:1 a U0:2", "ok 1"),
+            ("0 create G0:1 b U0:3", "ok 2"),
+            ("0 undo 1", "ok 3"),
+            ("0 create G0:1 c G0:2 5", "ok 4"),
+            ("0 write G0:2 0 07", "ok 5"),
+            ("0 undo 4", "no 28 Blocked 5"),
+            ("0 truncate U0:3 5", "ok 6"),
+            ("0 write U0:3 1 07", "ok 7"),
+            ("0 undo 6", "no 28 Blocked 7"),
+            ("0 undo 7", "ok 8"),
+            ("0 link G0:1 d U0:3", "ok 9"),
+            ("0 undo 2", "no 28 Blocked 9"),
+            ("0 rename G0:1 d G0:1 e U0:3", "ok 10"),
+            ("0 undo 9", "no 28 Blocked 10"),
+        ],
+    )
+}

@@ -196,6 +196,7 @@ fn files_have_their_limits(rt: HostRuntime) -> Result<(), Fail> {
             ("0 write U0:2 4294967296 41", "no 3 BadNumber"),
             ("0 write U0:2 1048575 41", "ok 3"),
             ("cat U0:2 1048574 9", "0041"),
+            ("0 write U0:2 1048575 4142", "no 22 TooBig"),
         ],
     )
 }
