@@ -119,7 +119,7 @@ all_as_applied ro h S T T' (t ∷ ts) [] s leads = absurd leads
 pub applied : (ro : Membership) (h : List Entry) (ks : List KeptOperation) (T : Tree) → Keeps ro h ks T → AreAsApplied ro h (live h) ks
 applied ro h ks T keeps = all_as_applied ro h genesis T T (live h) ks (replayed_kept ro h ks T keeps).in_replay keeps.leads
 
--- an operation with those before and after it, where what is kept of it stands at that place
+-- an operation with those before and after it, where what is kept of it stands at that index
 pub record Parted (ro : Membership) (h : List Entry) (ts : List NumberedAction) (front : List KeptOperation) (k : KeptOperation) (rest : List KeptOperation) : Type 0 where
   pub before : List NumberedAction
   pub operation : NumberedAction

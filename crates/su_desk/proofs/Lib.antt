@@ -7,7 +7,7 @@ pub mod StandingFiles
 pub mod Replays
 pub mod GoodHistories
 pub mod KeptOperations
-pub mod KeptPlaces
+pub mod KeptIndexes
 pub mod NumberSearch
 pub mod Replies
 pub mod Runs

@@ -63,9 +63,9 @@ operation_there m zero (x ∷ h) a op e =
     ap (λ (y : Entry). list_any (λ (t : NumberedAction). nat_eq t.number (m + zero)) (operation_of m y.author y.change ++ operations_from (m + 1) h)) same
     ∙ or_left (nat_eq m (m + zero)) (list_any (λ (t : NumberedAction). nat_eq t.number (m + zero)) (operations_from (m + 1) h)) (grind arith)
 operation_there m (suc i) (x ∷ h) a op e =
-    let place : m + 1 + i ≡ m + suc i = omega arith in
+    let index : m + 1 + i ≡ m + suc i = omega arith in
     let later : list_any (λ (t : NumberedAction). nat_eq t.number (m + suc i)) (operations_from (m + 1) h) ≡ true
-    = ap (λ n. list_any (λ (t : NumberedAction). nat_eq t.number n) (operations_from (m + 1) h)) (sym place) ∙ operation_there (m + 1) i h a op e in
+    = ap (λ n. list_any (λ (t : NumberedAction). nat_eq t.number n) (operations_from (m + 1) h)) (sym index) ∙ operation_there (m + 1) i h a op e in
     list_any-append (λ (t : NumberedAction). nat_eq t.number (m + suc i)) (operation_of m x.author x.change) (operations_from (m + 1) h)
     ∙ or_right (list_any (λ (t : NumberedAction). nat_eq t.number (m + suc i)) (operation_of m x.author x.change)) (list_any (λ (t : NumberedAction). nat_eq t.number (m + suc i)) (operations_from (m + 1) h)) later
 
@@ -93,7 +93,7 @@ live_number h n e =
 
     there : {a : ℕ} {op : Op} → (b : Bool) → nat_eq n 0 ≡ b → cond b None (slice_get h (n - 1)) ≡ Some (entry_by a (Do op)) → list_any (λ (t : NumberedAction). nat_eq t.number n) (operations_from 1 h) ≡ true
     there {a} {op} true is e = absurd (let bad : None ≡ Some (entry_by a (Do op)) = e in cc)
-    there {a} {op} false is e = let place : 1 + (n - 1) ≡ n = grind arith in ap (λ m. list_any (λ (t : NumberedAction). nat_eq t.number m) (operations_from 1 h)) (sym place) ∙ operation_there 1 (n - 1) h a op e
+    there {a} {op} false is e = let index : 1 + (n - 1) ≡ n = grind arith in ap (λ m. list_any (λ (t : NumberedAction). nat_eq t.number m) (operations_from 1 h)) (sym index) ∙ operation_there 1 (n - 1) h a op e
 
 -- with those before and after it
 pub record LiveOperation (ts : List NumberedAction) (n : ℕ) : Type 0 where

@@ -9,7 +9,7 @@ use Rattle.std.specs.declared.cmp.Ordering.TheVariants.{Less, Greater}
 use Rattle.std.proofs.lemmas.Cmp.{ranked}
 use Rattle.std.proofs.lemmas.Bool.Decides.{nat_tests}
 use Rattle.su_desk.specs.declared.kept.KeptOperation.{KeptOperation}
-use Rattle.su_desk.specs.Keeping.{IsPlaceOf}
+use Rattle.su_desk.specs.Keeping.{IsIndexOf}
 
 none_has : (n : ℕ) (ks : List KeptOperation) → ((j : ℕ) (d : KeptOperation) → j < length ks → nat_eq (get_or ks j d).number n ≡ false) → list_any (λ (k : KeptOperation). nat_eq k.number n) ks ≡ false
 none_has n [] all = refl
@@ -28,7 +28,7 @@ other_above a n l = grind arith
 
 -- what a search tells
 pub record Searched (n : ℕ) (ks : List KeptOperation) (o : Option ℕ) : Type 0 where
-  pub found : IfSome o (λ place. IsPlaceOf n ks place)
+  pub found : IfSome o (λ index. IsIndexOf n ks index)
   pub missing : o ≡ None → list_any (λ (k : KeptOperation). nat_eq k.number n) ks ≡ false
 
 pub searched : (n : ℕ) (ks : List KeptOperation) (r : Result ℕ ℕ) → IsNonDecreasingBy (λ (k : KeptOperation). k.number) ks → IsSearchInRange r (length ks) → IsBinarySearchResult (λ (k : KeptOperation). nat_cmp k.number n) ks r → Searched n ks (result_ok r)

@@ -16,9 +16,9 @@ use Rattle.su_desk.specs.History.{undo_by, tree, last_live}
 use Rattle.su_desk.specs.declared.kept.KeptOperation.{KeptOperation}
 use Rattle.su_desk.specs.Desk.{DeskState, Answers}
 use Rattle.su_desk.specs.Applied.{written_by}
-use Rattle.su_desk.specs.Keeping.{Keeps, IsPlaceOf}
+use Rattle.su_desk.specs.Keeping.{Keeps, IsIndexOf}
 use Rattle.su_desk.proofs.KeptOperations.{keeps_undo, written_there, last_kept, none_kept}
-use Rattle.su_desk.proofs.KeptPlaces.{split_at}
+use Rattle.su_desk.proofs.KeptIndexes.{split_at}
 use Rattle.su_desk.specs.Answer.{undo_refusal, refusal_of, reply, answer}
 
 pub answer_done : (ro : Membership) (h : List Entry) (a : ℕ) (c : Change) → refusal_of ro h a c ≡ None → answer ro h a c ≡ Ok (length h + 1)
@@ -68,10 +68,10 @@ pub record Found (ro : Membership) (h : List Entry) (ks : List KeptOperation) (k
   pub whole : Keeps ro h (take i ks ++ k ∷ drop (i + 1) ks) T
   pub number : k.number ≡ n
 
-pub found : (ro : Membership) (h : List Entry) (ks : List KeptOperation) (k : KeptOperation) (i n : ℕ) (T : Tree) → Keeps ro h ks T → IsPlaceOf n ks i → get_or ks i k ≡ k → Found ro h ks k i n T
-found ro h ks k i n T keeps place here = record {
-  whole = subst (λ xs. Keeps ro h xs T) (split_at ks i k place.within here) keeps;
-  number = ap (λ (x : KeptOperation). x.number) (sym here) ∙ place.number k;
+pub found : (ro : Membership) (h : List Entry) (ks : List KeptOperation) (k : KeptOperation) (i n : ℕ) (T : Tree) → Keeps ro h ks T → IsIndexOf n ks i → get_or ks i k ≡ k → Found ro h ks k i n T
+found ro h ks k i n T keeps index here = record {
+  whole = subst (λ xs. Keeps ro h xs T) (split_at ks i k index.within here) keeps;
+  number = ap (λ (x : KeptOperation). x.number) (sym here) ∙ index.number k;
 }
 
 pub undone_there : (ro : Membership) (h : List Entry) (ks : List KeptOperation) (k : KeptOperation) (i : ℕ) (T T' : Tree) (a n : ℕ) → Found ro h ks k i n T → undo_refusal ro h a n ≡ None

@@ -111,7 +111,7 @@ set_at xs ys y z i is = ap (λ n. set (xs ++ y ∷ ys) n z) (sym is) ∙ set-app
 get_at : {A : Type 0} (xs ys : List A) (y d : A) (i : ℕ) → length xs ≡ i → get_or (xs ++ y ∷ ys) i d ≡ y
 get_at xs ys y d i is = ap (λ n. get_or (xs ++ y ∷ ys) n d) (sym is) ∙ get_or-append_seam xs y ys d
 
--- those before place i are changed, and the one at i is next
+-- those before index i are changed, and the one at i is next
 pub next_changed : {A : Type 0} (f : A → A) (xs now : List A) (i : ℕ) (x y : A) → i < length now → length now ≡ length xs → now ≡ map f (take i xs) ++ drop i xs → x ≡ get_or now i x → y ≡ f x
     → set now i y ≡ map f (take (i + 1) xs) ++ drop (i + 1) xs
 next_changed f xs now i x y within long is here changed =

@@ -35,8 +35,8 @@ entry_further h e n x is = go (nat_eq n 0) is
 entry_last : (h : List Entry) (e : Entry) → entry_at (h ++ e ∷ []) (length h + 1) ≡ Some e
 entry_last h e =
     let some : nat_eq (length h + 1) 0 ≡ false = grind arith in
-    let place : length h + 1 - 1 ≡ length h = omega arith in
-    ap (λ b. cond b None (slice_get (h ++ e ∷ []) (length h + 1 - 1))) some ∙ ap (slice_get (h ++ e ∷ [])) place ∙ slice_get_last h e
+    let index : length h + 1 - 1 ≡ length h = omega arith in
+    ap (λ b. cond b None (slice_get (h ++ e ∷ []) (length h + 1 - 1))) some ∙ ap (slice_get (h ++ e ∷ [])) index ∙ slice_get_last h e
 
 -- an entry's number is 1 to the number of entries
 pub entry_within : (h : List Entry) (n : ℕ) (e : Entry) → entry_at h n ≡ Some e → n ≤ length h
@@ -53,8 +53,8 @@ tree_before-append ro h e n within = ap (tree_after ro) (take-append-le (n - 1) 
 
 tree_before_next : (ro : Membership) (h : List Entry) (T : Tree) → tree ro h ≡ Some T → tree_before ro h (length h + 1) ≡ T
 tree_before_next ro h T is =
-    let place : length h + 1 - 1 ≡ length h = omega arith in
-    ap (λ n. tree_after ro (take n h)) place ∙ ap (tree_after ro) (take-length h) ∙ ap (λ o. unwrap_or o genesis) is
+    let index : length h + 1 - 1 ≡ length h = omega arith in
+    ap (λ n. tree_after ro (take n h)) index ∙ ap (tree_after ro) (take-length h) ∙ ap (λ o. unwrap_or o genesis) is
 
 -- ---- operations in the replay
 

@@ -44,10 +44,10 @@ AreKept ro h ks = (T : Tree) × Keeps ro h ks T
 
 -- ---- what is looked up among what is kept
 
--- the operation of that number is kept at that place
-pub record IsPlaceOf (n : ℕ) (ks : List KeptOperation) (place : ℕ) : Type 0 where
-  pub within : place < length ks
-  pub number : (k : KeptOperation) → (get_or ks place k).number ≡ n
+-- the operation of that number is kept at that index
+pub record IsIndexOf (n : ℕ) (ks : List KeptOperation) (index : ℕ) : Type 0 where
+  pub within : index < length ks
+  pub number : (k : KeptOperation) → (get_or ks index k).number ≡ n
 
 -- the number of the last operation that read a cell of the areas
 abbrev pub last_kept_reader : List Area → List KeptOperation → Option ℕ
@@ -55,7 +55,7 @@ last_kept_reader w [] = None
 last_kept_reader w (k ∷ ks) =
     option_or (last_kept_reader w ks) (cond (meet k.footprint.reads.items w) (Some k.number) None)
 
--- of the operation that is kept at that place: the number of the last one behind it that read a
+-- of the operation that is kept at that index: the number of the last one behind it that read a
 -- cell that it wrote
 abbrev pub kept_blocker : List KeptOperation → ℕ → Option ℕ
 kept_blocker [] i = None

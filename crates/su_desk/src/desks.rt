@@ -10,7 +10,7 @@ ghost use Rattle.su_desk.specs.Answer.{live_refusal, undo_refusal, Good};
 ghost use Rattle.su_desk.specs.Desk.{Answers, Runs, result_of};
 
 use crate::entries::{DeskReply, Entry};
-use crate::kept::{KeptOperation, blocker_at, live_place, undo_place};
+use crate::kept::{KeptOperation, blocker_at, live_index, undo_index};
 use crate::versions::{first_versions, raise};
 use std::alloc::Global;
 use std::marker::Model;
@@ -105,8 +105,8 @@ impl Desk {
         ensures live { OnOk result (live_refusal self.now.history number ≡ None) }
         ensures refused { IfErr result (λ e. live_refusal self.now.history number ≡ Some e) }
     {
-        let place = live_place(&self.entries, &self.kept, number)?;
-        Ok(blocker_at(&self.kept, place))
+        let index = live_index(&self.entries, &self.kept, number)?;
+        Ok(blocker_at(&self.kept, index))
     }
 
     /// Makes a change, and returns the number of its entry. A refusal, the first in order or
@@ -184,10 +184,10 @@ impl Desk {
     fn undo(&mut self, author: User, number: u64) -> Result<u64, Refusal>
         ensures { Answers self.old author (Undo number) result self.new }
     {
-        let place = undo_place(&self.roster, &self.entries, &self.kept, author, number)?;
+        let index = undo_index(&self.roster, &self.entries, &self.kept, author, number)?;
         self.entries.reserve(1)?;
-        self.kept[place].inverse.undo_on(&mut self.forest)?;
-        let undone = self.kept.remove(place);
+        self.kept[index].inverse.undo_on(&mut self.forest)?;
+        let undone = self.kept.remove(index);
         raise(&mut self.counters, author, &undone.footprint.writes);
         let change = Change::Undo(number);
         self.entries.push_reserved(Entry { author, change });

@@ -5,7 +5,7 @@ ghost use Rattle.std.specs.List.Sorted.{IsNonDecreasingBy};
 ghost use Rattle.su_bytes.specs.Membership.{Membership};
 ghost use Rattle.su_op.specs.Area.{meet, overlaps};
 ghost use Rattle.su_desk.specs.Answer.{live_refusal, undo_refusal};
-ghost use Rattle.su_desk.specs.Keeping.{AreKept, IsPlaceOf, last_kept_reader, kept_blocker};
+ghost use Rattle.su_desk.specs.Keeping.{AreKept, IsIndexOf, last_kept_reader, kept_blocker};
 
 use crate::entries::{Entry, entry_at, undoer_in};
 use su_bytes::{Refusal, Roster, User};
@@ -23,7 +23,7 @@ pub(crate) struct KeptOperation {
 
 /// Finds where the author's operation of that number is kept, if he may undo it; else tells the
 /// first refusal.
-pub(crate) fn undo_place(
+pub(crate) fn undo_index(
     roster: &Roster,
     entries: &[Entry],
     kept: &[KeptOperation],
@@ -31,7 +31,7 @@ pub(crate) fn undo_place(
     number: u64,
 ) -> Result<usize, Refusal>
     requires { AreKept roster.now entries.now kept.now }
-    ensures found { IfOk result (λ place. IsPlaceOf number kept.now place) }
+    ensures found { IfOk result (λ index. IsIndexOf number kept.now index) }
     ensures accepted { OnOk result (undo_refusal roster.now entries.now author number ≡ None) }
     ensures refused { IfErr result (λ e.
         undo_refusal roster.now entries.now author number ≡ Some e) }
@@ -39,33 +39,33 @@ pub(crate) fn undo_place(
     if !roster.has_user(author) {
         return Err(Refusal::NoUser(author));
     }
-    let place = live_place(entries, kept, number)?;
+    let index = live_index(entries, kept, number)?;
     let Some(entry) = entry_at(entries, number) else {
         unreachable!()
     };
     if author != entry.author {
         return Err(Refusal::NotAuthor(entry.author));
     }
-    match blocker_at(kept, place) {
+    match blocker_at(kept, index) {
         Some(blocker) => Err(Refusal::Blocked(blocker)),
-        None => Ok(place),
+        None => Ok(index),
     }
 }
 
 /// Finds where the live operation of that number is kept; else tells why it is none. Only then the
 /// history is searched.
-pub(crate) fn live_place(
+pub(crate) fn live_index(
     entries: &[Entry],
     kept: &[KeptOperation],
     number: u64,
 ) -> Result<usize, Refusal>
     requires { (ro : Membership) × AreKept ro entries.now kept.now }
-    ensures found { IfOk result (λ place. IsPlaceOf number kept.now place) }
+    ensures found { IfOk result (λ index. IsIndexOf number kept.now index) }
     ensures live { OnOk result (live_refusal entries.now number ≡ None) }
     ensures refused { IfErr result (λ e. live_refusal entries.now number ≡ Some e) }
 {
-    if let Some(place) = place_of(kept, number) {
-        return Ok(place);
+    if let Some(index) = index_of(kept, number) {
+        return Ok(index);
     }
     let Some(entry) = entry_at(entries, number) else {
         return Err(Refusal::NoOperation(number));
@@ -80,22 +80,22 @@ pub(crate) fn live_place(
 }
 
 /// Finds where the operation of that number is among these, whose numbers ascend.
-fn place_of(kept: &[KeptOperation], number: u64) -> Option<usize>
+fn index_of(kept: &[KeptOperation], number: u64) -> Option<usize>
     requires { IsNonDecreasingBy (λ k. k.number) kept.now }
-    ensures found { IfSome result (λ place. IsPlaceOf number kept.now place) }
+    ensures found { IfSome result (λ index. IsIndexOf number kept.now index) }
     ensures missing { result ≡ None → list_any (λ k. nat_eq k.number number) kept.now ≡ false }
 {
     kept.binary_search_by_key(&number, |operation| operation.number)
         .ok()
 }
 
-/// Returns the number of the last operation behind that place that read a cell that the one there
+/// Returns the number of the last operation behind that index that read a cell that the one there
 /// wrote, if one did.
-pub(crate) fn blocker_at(kept: &[KeptOperation], place: usize) -> Option<u64>
-    requires { place < length kept.now }
-    ensures { result ≡ kept_blocker kept.now place }
+pub(crate) fn blocker_at(kept: &[KeptOperation], index: usize) -> Option<u64>
+    requires { index < length kept.now }
+    ensures { result ≡ kept_blocker kept.now index }
 {
-    last_reader(&kept[place + 1..], &kept[place].footprint.writes)
+    last_reader(&kept[index + 1..], &kept[index].footprint.writes)
 }
 
 /// Returns the number of the last of these operations that read a cell of the areas, if one did.

@@ -6,7 +6,7 @@ use Rattle.std.proofs.lemmas.Bool.{false≢true, cases_lt}
 use Rattle.std.proofs.Math.ListN.{get_or-append}
 use Rattle.std.proofs.Math.Seq.{take-append_seam, drop-append_seam}
 use Rattle.su_tree.specs.Bits.{bit_at, DifferFirstAt}
-use Rattle.su_tree.proofs.Places.{get_after}
+use Rattle.su_tree.proofs.Positions.{get_after}
 use Rattle.su_tree.proofs.Splits.{Turns, IsSplit, IsTree, none, one, parted, turns_bit}
 
 each_at : {X : Type 0} (P : X → Type 0) (xs : List X) (i : ℕ) (d : X) → Each P xs → i < length xs → P (get_or xs i d)
@@ -35,7 +35,7 @@ one_place q a b w h x y =
       ]
     ]
 
--- the two halves at a place
+-- the two halves at a position
 pub record Halves {K V : Type 0} (bits : K → List Bool) (q at : ℕ) (es : List (K × V)) : Type 0 where
   pub parts : IsSplit bits q (take at es) (drop at es)
   pub left : IsTree bits (take at es)
@@ -44,7 +44,7 @@ pub record Halves {K V : Type 0} (bits : K → List Bool) (q at : ℕ) (es : Lis
   pub is : take at es ++ drop at es ≡ es
 
 module _ {K V : Type 0} (bits : K → List Bool) where
-  -- the test by which the place of the split is found
+  -- the test by which the position of the split is found
   abbrev pub is_left : ℕ → K × V → Bool
   is_left q e = not (bit_at (bits e.0) q)
 
@@ -59,7 +59,7 @@ module _ {K V : Type 0} (bits : K → List Bool) where
       let turn : Turns s.word true (bits (get_or (l ++ r) i d).0) = rw (get_after l r i j d (omega arith)) (each_at (λ e. Turns s.word true (bits e.0)) r j d s.ones (omega arith)) in
       ap not (turns_bit q turn (s.at ∙ sym same))
 
-  -- the place of the split is that at which the first key and the last differ
+  -- the position of the split is that at which the first key and the last differ
   place_of : (q : ℕ) (es : List (K × V)) (p : ℕ) (l r : List (K × V)) (s : IsSplit bits p l r) → es ≡ l ++ r → (a b : K × V) → a ≡ get_or es 0 a → b ≡ get_or es (length es - 1) b → DifferFirstAt q (bits a.0) (bits b.0) → q ≡ p
   place_of q es p l r s is a b ea eb h =
       let first : Turns s.word false (bits a.0) = rw (ea, is, get_or-append l r a 0 s.some_left) (each_at (λ e. Turns s.word false (bits e.0)) l 0 a s.zeros s.some_left) in
@@ -86,7 +86,7 @@ module _ {K V : Type 0} (bits : K → List Bool) where
   halves q at es (parted p l r s tl tr is) more a b ea eb h within point =
       let same = place_of q es p l r s is a b ea eb h in
       let len : length es ≡ length l + length r = ap length is ∙ length-append l r in
-      let place : at ≡ length l = elim (cases_lt at (length l)) [
+      let position : at ≡ length l = elim (cases_lt at (length l)) [
         | inl less ↦
             let pass : is_left q (get_or es at a) ≡ true = rw is (left_passes q p l r s same at a less) in
             absurd (false≢true (sym (point.1 at a (omega arith) (omega (arith, s.some_right))) ∙ pass))
@@ -97,13 +97,13 @@ module _ {K V : Type 0} (bits : K → List Bool) where
           | inr less ↦ omega arith
         ]
       ] in
-      let lt : take at es ≡ l = rw (place, is) (take-append_seam l r) in
-      let rt : drop at es ≡ r = rw (place, is) (drop-append_seam l r) in
+      let lt : take at es ≡ l = rw (position, is) (take-append_seam l r) in
+      let rt : drop at es ≡ r = rw (position, is) (drop-append_seam l r) in
       record {
         parts = rw (lt, rt, same) s;
         left = rw lt tl;
         right = rw rt tr;
-        inside = (omega (arith, place, s.some_left), omega (arith, place, s.some_right));
+        inside = (omega (arith, position, s.some_left), omega (arith, position, s.some_right));
         is = rw (lt, rt) (sym is);
       }
 

@@ -11,11 +11,11 @@ pub record Turns (w : List Bool) (c : Bool) (k : List Bool) : Type 0 where
   pub rest : List Bool
   pub is : k ≡ w ++ c ∷ rest
 
--- l and r are the two sides of a split at a place: the keys of both begin with one word as long, then those of l have a
+-- l and r are the two sides of a split at a position: the keys of both begin with one word as long, then those of l have a
 -- 0 and those of r a 1, and neither side is empty
-pub record IsSplit {K V : Type 0} (bits : K → List Bool) (place : ℕ) (l r : List (K × V)) : Type 0 where
+pub record IsSplit {K V : Type 0} (bits : K → List Bool) (position : ℕ) (l r : List (K × V)) : Type 0 where
   pub word : List Bool
-  pub at : length word ≡ place
+  pub at : length word ≡ position
   pub zeros : Each (λ e. Turns word false (bits e.0)) l
   pub ones : Each (λ e. Turns word true (bits e.0)) r
   pub some_left : 0 < length l
@@ -25,7 +25,7 @@ pub record IsSplit {K V : Type 0} (bits : K → List Bool) (place : ℕ) (l r : 
 pub data IsTree {K V : Type 0} (bits : K → List Bool) : List (K × V) → Type 0 where
   none : IsTree bits []
   one : {e : K × V} → IsTree bits (e ∷ [])
-  parted : {es : List (K × V)} (place : ℕ) (l r : List (K × V)) → IsSplit bits place l r → IsTree bits l → IsTree bits r → es ≡ l ++ r → IsTree bits es
+  parted : {es : List (K × V)} (position : ℕ) (l r : List (K × V)) → IsSplit bits position l r → IsTree bits l → IsTree bits r → es ≡ l ++ r → IsTree bits es
 
 pub each_append : {X : Type 0} (P : X → Type 0) (xs ys : List X) → Each P xs → Each P ys → Each P (xs ++ ys)
 each_append P [] ys a b = b

@@ -5,8 +5,6 @@ mod items;
 mod keys;
 mod laws;
 mod maps;
-#[cfg(test)]
-mod tests;
 mod values;
 
 pub use keys::TreeKey;

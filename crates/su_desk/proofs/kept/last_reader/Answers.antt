@@ -2,7 +2,7 @@ use Rattle.std.proofs.Common.{◌≡◌, ◌∙◌, sym, ap, drop, arith}
 use Rattle.std.proofs.Math.Seq.{drop-length}
 use Rattle.su_op.specs.Area.{meet}
 use Rattle.su_desk.specs.Keeping.{last_kept_reader}
-use Rattle.su_desk.proofs.KeptPlaces.{reader_found, reader_not_yet}
+use Rattle.su_desk.proofs.KeptIndexes.{reader_found, reader_not_yet}
 use Rattle.su_desk.proofs.kept.last_reader.Goals as goal
 
 pub loop-later-init : goal.loop-later-init

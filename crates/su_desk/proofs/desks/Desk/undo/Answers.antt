@@ -7,36 +7,36 @@ use Rattle.su_desk.specs.declared.kept.KeptOperation.{KeptOperation}
 use Rattle.su_desk.specs.History.{undo_by}
 use Rattle.su_desk.specs.Answer.{answer, undo_refusal}
 use Rattle.su_desk.specs.Desk.{DeskState, with_entry}
-use Rattle.su_desk.specs.Keeping.{Keeps, IsPlaceOf}
+use Rattle.su_desk.specs.Keeping.{Keeps, IsIndexOf}
 use Rattle.su_desk.specs.Version.{cells_of, versions}
 use Rattle.su_desk.proofs.VersionNumbers.{counters_next, versions_within}
-use Rattle.su_desk.proofs.KeptPlaces.{are_kept, same_there}
+use Rattle.su_desk.proofs.KeptIndexes.{are_kept, same_there}
 use Rattle.su_desk.proofs.Replies.{passed_on, Found, found, undone_there, undone_written, answer_done, answer_refused}
 use Rattle.su_desk.proofs.desks.Desk.undo.Goals as goal
 
-pub undo_place-requires : goal.undo_place-requires
-undo_place-requires c = are_kept _ _ _ _ _ _ c.deref.ensures.value c.deref-2.ensures.value c.self.invariant.0
+pub undo_index-requires : goal.undo_index-requires
+undo_index-requires c = are_kept _ _ _ _ _ _ c.deref.ensures.value c.deref-2.ensures.value c.self.invariant.0
 
-pub returns-in_err-place : goal.returns-in_err-place
-returns-in_err-place c =
+pub returns-in_err-index : goal.returns-in_err-index
+returns-in_err-index c =
     let s = c.self.inside in
-    let refused : undo_refusal s.roster s.entries.items c.args.author c.args.number ≡ Some c.in_err-place.field-0.0
-    = ap (λ h. undo_refusal s.roster h c.args.author c.args.number) (sym c.deref.ensures.value) ∙ c.in_err-place.ensures.refused in
-    passed_on c.args.self.now c.args.author (Undo c.args.number) c.from_residual.result c.in_err-place.field-0.0 c.from_residual.ensures.1
-    (inr (subst (λ d. answer d.roster d.history c.args.author (Undo c.args.number) ≡ Err c.in_err-place.field-0.0) c.self.view_is (answer_refused s.roster s.entries.items c.args.author (Undo c.args.number) c.in_err-place.field-0.0 refused)))
+    let refused : undo_refusal s.roster s.entries.items c.args.author c.args.number ≡ Some c.in_err-index.field-0.0
+    = ap (λ h. undo_refusal s.roster h c.args.author c.args.number) (sym c.deref.ensures.value) ∙ c.in_err-index.ensures.refused in
+    passed_on c.args.self.now c.args.author (Undo c.args.number) c.from_residual.result c.in_err-index.field-0.0 c.from_residual.ensures.1
+    (inr (subst (λ d. answer d.roster d.history c.args.author (Undo c.args.number) ≡ Err c.in_err-index.field-0.0) c.self.view_is (answer_refused s.roster s.entries.items c.args.author (Undo c.args.number) c.in_err-index.field-0.0 refused)))
 
 pub invariant_of-self-2 : goal.invariant_of-self-2
 invariant_of-self-2 c =
     let s = c.self.inside in
     let e : Entry = undo_by c.args.author c.args.number in
     let entries = c.push_reserved.ensures.items ∙ ap (λ h. h ++ undo_by c.args.author c.args.number ∷ []) c.in_ok-reserve.ensures.items in
-    let accepted = ap (λ h. undo_refusal s.roster h c.args.author c.args.number) (sym c.deref.ensures.value) ∙ c.in_ok-place.ensures.accepted in
+    let accepted = ap (λ h. undo_refusal s.roster h c.args.author c.args.number) (sym c.deref.ensures.value) ∙ c.in_ok-index.ensures.accepted in
     let k = c.index.result.now in
-    let i = c.in_ok-place.place in
+    let i = c.in_ok-index.index in
     let there : Found s.roster s.entries.items s.kept.items k i c.args.number s.forest
-    = found s.roster s.entries.items s.kept.items k i c.args.number s.forest c.self.invariant.0 (subst (λ ks. IsPlaceOf c.args.number ks i) c.deref-2.ensures.value c.in_ok-place.ensures.found) (sym c.index.ensures) in
+    = found s.roster s.entries.items s.kept.items k i c.args.number s.forest c.self.invariant.0 (subst (λ ks. IsIndexOf c.args.number ks i) c.deref-2.ensures.value c.in_ok-index.ensures.found) (sym c.index.ensures) in
     let written : c.deref-3.result.now ≡ cells_of s.roster s.entries.items c.args.author (Undo c.args.number)
-    = c.deref-3.ensures.value ∙ ap (λ (x : KeptOperation). x.footprint.writes.items) (same_there s.kept.items i c.remove-undone.result k (subst (λ ks. IsPlaceOf c.args.number ks i) c.deref-2.ensures.value c.in_ok-place.ensures.found).within c.remove-undone.ensures.value (sym c.index.ensures)) ∙ undone_written s.roster s.entries.items s.kept.items k i c.args.number s.forest there in (
+    = c.deref-3.ensures.value ∙ ap (λ (x : KeptOperation). x.footprint.writes.items) (same_there s.kept.items i c.remove-undone.result k (subst (λ ks. IsIndexOf c.args.number ks i) c.deref-2.ensures.value c.in_ok-index.ensures.found).within c.remove-undone.ensures.value (sym c.index.ensures)) ∙ undone_written s.roster s.entries.items s.kept.items k i c.args.number s.forest there in (
       subst (λ h. Keeps s.roster h c.remove-undone.new.self.items c.undo_on.new.forest) (sym entries)
           (subst (λ ks. Keeps s.roster (s.entries.items ++ e ∷ []) ks c.undo_on.new.forest) (sym c.remove-undone.ensures.by_index.2)
           (undone_there s.roster s.entries.items s.kept.items k i s.forest c.undo_on.new.forest c.args.author c.args.number there accepted c.in_ok-undo_on.ensures.ok)),
@@ -49,7 +49,7 @@ returns c =
     let s = c.self.inside in
     let entries = c.push_reserved.ensures.items ∙ ap (λ h. h ++ undo_by c.args.author c.args.number ∷ []) c.in_ok-reserve.ensures.items in
     let number : length s.entries.items + 1 ≡ c.len.result = omega (arith, c.len.ensures, c.push_reserved.new.self.ok.0, ap length entries, length-append s.entries.items (undo_by c.args.author c.args.number ∷ [])) in
-    let accepted = ap (λ h. undo_refusal s.roster h c.args.author c.args.number) (sym c.deref.ensures.value) ∙ c.in_ok-place.ensures.accepted in
+    let accepted = ap (λ h. undo_refusal s.roster h c.args.author c.args.number) (sym c.deref.ensures.value) ∙ c.in_ok-index.ensures.accepted in
     let seen : List Entry → DeskState = λ h. record { roster = s.roster; history = h } in (
       subst (λ d. answer d.roster d.history c.args.author (Undo c.args.number) ≡ Ok c.len.result) c.self.view_is
           (answer_done s.roster s.entries.items c.args.author (Undo c.args.number) accepted ∙ ap Ok number),

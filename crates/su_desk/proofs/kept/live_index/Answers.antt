@@ -1,13 +1,13 @@
 use Rattle.std.proofs.Common.{◌≡◌, None, refl, rules}
 use Rattle.su_desk.specs.Answer.{live_refusal}
-use Rattle.su_desk.proofs.KeptPlaces.{kept_ascend, place_live, none_kept_live}
-use Rattle.su_desk.proofs.kept.live_place.Goals as goal
+use Rattle.su_desk.proofs.KeptIndexes.{kept_ascend, index_live, none_kept_live}
+use Rattle.su_desk.proofs.kept.live_index.Goals as goal
 
-pub place_of-requires : goal.place_of-requires
-place_of-requires c = kept_ascend _ _ _ _ c.requires.1.1
+pub index_of-requires : goal.index_of-requires
+index_of-requires c = kept_ascend _ _ _ _ c.requires.1.1
 
 pub returns-in-Some-clause-live : goal.returns-in-Some-clause-live
-returns-in-Some-clause-live c = place_live _ _ _ _ c.args.number c.in-Some.place c.requires.1.1 c.in-Some.ensures.found
+returns-in-Some-clause-live c = index_live _ _ _ _ c.args.number c.in-Some.index c.requires.1.1 c.in-Some.ensures.found
 
 pub unreachable-requires : goal.unreachable-requires
 unreachable-requires c =

@@ -16,7 +16,7 @@ use Rattle.su_desk.specs.History.{NumberedAction, last_number, live}
 use Rattle.su_desk.specs.Applied.{reads_where_applied, written_by}
 use Rattle.su_desk.specs.Blocker.{reads_after, blocker}
 use Rattle.su_desk.specs.Answer.{live_refusal}
-use Rattle.su_desk.specs.Keeping.{Keeps, AreKept, IsPlaceOf, last_kept_reader, kept_blocker}
+use Rattle.su_desk.specs.Keeping.{Keeps, AreKept, IsIndexOf, last_kept_reader, kept_blocker}
 use Rattle.su_desk.proofs.Operations.{Rising, rising_live, rising_after}
 use Rattle.su_desk.proofs.LiveNumbers.{live_number, live_alone}
 use Rattle.su_desk.proofs.Blockers.{front_dropped}
@@ -43,7 +43,7 @@ ascending ro h low (t ∷ ts) [] r a i j d le l = absurd a
 pub kept_ascend : (ro : Membership) (h : List Entry) (ks : List KeptOperation) (T : Tree) → Keeps ro h ks T → IsNonDecreasingBy (λ (k : KeptOperation). k.number) ks
 kept_ascend ro h ks T keeps = ascending ro h 0 (live h) ks (rising_live h) (applied ro h ks T keeps)
 
--- what is kept falls apart at a place
+-- what is kept falls apart at a index
 pub split_at : (ks : List KeptOperation) (i : ℕ) (k : KeptOperation) → i < length ks → get_or ks i k ≡ k → ks ≡ take i ks ++ k ∷ drop (i + 1) ks
 split_at ks i k within here =
     sym (take-append-drop i ks)
@@ -118,8 +118,8 @@ reader_append w (x ∷ xs) ys =
 one_earlier : (w : List Area) (ks : List KeptOperation) (later : ℕ) (k : KeptOperation) → 0 < later → later ≤ length ks → get_or ks (later - 1) k ≡ k → last_kept_reader w (drop later ks) ≡ None
     → last_kept_reader w (drop (later - 1) ks) ≡ cond (meet k.footprint.reads.items w) (Some k.number) None
 one_earlier w ks later k some within here none =
-    let place : suc (later - 1) ≡ later = omega arith in
-    ap (last_kept_reader w) (drop-cons ks (later - 1) k (omega arith) ∙ ap (λ z. z ∷ drop (suc (later - 1)) ks) here ∙ ap (λ j. k ∷ drop j ks) place)
+    let index : suc (later - 1) ≡ later = omega arith in
+    ap (last_kept_reader w) (drop-cons ks (later - 1) k (omega arith) ∙ ap (λ z. z ∷ drop (suc (later - 1)) ks) here ∙ ap (λ j. k ∷ drop j ks) index)
     ∙ ap (λ o. option_or o (cond (meet k.footprint.reads.items w) (Some k.number) None)) none
 
 -- the one before those that don't read it does
@@ -144,28 +144,28 @@ are_kept ro h seen ks kept T e k keeps = (T, subst (λ xs. Keeps ro seen xs T) (
 pub none_kept_live : {P : Type 0} (ro : Membership) (h : List Entry) (ks : List KeptOperation) (T : Tree) (n : ℕ) → Keeps ro h ks T → live_refusal h n ≡ None → list_any (λ (k : KeptOperation). nat_eq k.number n) ks ≡ false → P
 none_kept_live ro h ks T n keeps stands none = absurd (both_ways (list_any (λ (k : KeptOperation). nat_eq k.number n) ks) none (kept_there ro h ks T n keeps stands))
 
--- what is kept at a place, with what is kept before and behind it
+-- what is kept at a index, with what is kept before and behind it
 record KeptAt (ro : Membership) (h : List Entry) (ks : List KeptOperation) (T : Tree) (n i : ℕ) : Type 0 where
   operation : KeptOperation
   here : get_or ks i operation ≡ operation
   number : operation.number ≡ n
   whole : Keeps ro h (take i ks ++ operation ∷ drop (i + 1) ks) T
 
-kept_at : (ro : Membership) (h : List Entry) (ks : List KeptOperation) (T : Tree) (n i : ℕ) → Keeps ro h ks T → IsPlaceOf n ks i → KeptAt ro h ks T n i
-kept_at ro h [] T n i keeps place = let within = place.within in absurd (omega arith)
-kept_at ro h (l ∷ ks) T n i keeps place =
+kept_at : (ro : Membership) (h : List Entry) (ks : List KeptOperation) (T : Tree) (n i : ℕ) → Keeps ro h ks T → IsIndexOf n ks i → KeptAt ro h ks T n i
+kept_at ro h [] T n i keeps index = let within = index.within in absurd (omega arith)
+kept_at ro h (l ∷ ks) T n i keeps index =
     let k : KeptOperation = get_or (l ∷ ks) i l in
-    let here : get_or (l ∷ ks) i k ≡ k = get_or_default (l ∷ ks) i k l place.within in
-    record { operation = k; here = here; number = place.number l; whole = subst (λ xs. Keeps ro h xs T) (split_at (l ∷ ks) i k place.within here) keeps }
+    let here : get_or (l ∷ ks) i k ≡ k = get_or_default (l ∷ ks) i k l index.within in
+    record { operation = k; here = here; number = index.number l; whole = subst (λ xs. Keeps ro h xs T) (split_at (l ∷ ks) i k index.within here) keeps }
 
--- one operation is kept at a place
+-- one operation is kept at a index
 pub same_there : (ks : List KeptOperation) (i : ℕ) (k l : KeptOperation) → i < length ks → k ≡ get_or ks i k → get_or ks i l ≡ l → k ≡ l
 same_there ks i k l within here there = here ∙ get_or_default ks i k l within ∙ there
 
 -- what is found is live
-pub place_live : (ro : Membership) (h : List Entry) (ks : List KeptOperation) (T : Tree) (n i : ℕ) → Keeps ro h ks T → IsPlaceOf n ks i → live_refusal h n ≡ None
-place_live ro h ks T n i keeps place =
-    let k = kept_at ro h ks T n i keeps place in live_there ro h (take i ks) (drop (i + 1) ks) k.operation T n k.whole k.number
+pub index_live : (ro : Membership) (h : List Entry) (ks : List KeptOperation) (T : Tree) (n i : ℕ) → Keeps ro h ks T → IsIndexOf n ks i → live_refusal h n ≡ None
+index_live ro h ks T n i keeps index =
+    let k = kept_at ro h ks T n i keeps index in live_there ro h (take i ks) (drop (i + 1) ks) k.operation T n k.whole k.number
 
 kept_blocker_at : (ks : List KeptOperation) (i : ℕ) (k : KeptOperation) → i < length ks → get_or ks i k ≡ k → kept_blocker ks i ≡ last_kept_reader k.footprint.writes.items (drop (i + 1) ks)
 kept_blocker_at [] i k within here = absurd (omega arith)
@@ -181,7 +181,7 @@ behind_it ks i k w within here writes =
     ap (last_kept_reader w) (take_rest ks (i + 1)) ∙ ap (λ a. last_kept_reader a (drop (i + 1) ks)) (writes ∙ ap (λ (x : KeptOperation). x.footprint.writes.items) (sym here)) ∙ sym (kept_blocker_at ks i k within (sym here))
 
 -- is its blocker
-pub blocker_kept : (ro : Membership) (h : List Entry) (ks : List KeptOperation) (T : Tree) (n i : ℕ) → Keeps ro h ks T → IsPlaceOf n ks i → kept_blocker ks i ≡ blocker ro h n
-blocker_kept ro h ks T n i keeps place =
-    let k = kept_at ro h ks T n i keeps place in
-    kept_blocker_at ks i k.operation place.within k.here ∙ blocker_there ro h (take i ks) (drop (i + 1) ks) k.operation T n k.whole k.number
+pub blocker_kept : (ro : Membership) (h : List Entry) (ks : List KeptOperation) (T : Tree) (n i : ℕ) → Keeps ro h ks T → IsIndexOf n ks i → kept_blocker ks i ≡ blocker ro h n
+blocker_kept ro h ks T n i keeps index =
+    let k = kept_at ro h ks T n i keeps index in
+    kept_blocker_at ks i k.operation index.within k.here ∙ blocker_there ro h (take i ks) (drop (i + 1) ks) k.operation T n k.whole k.number

@@ -2,16 +2,16 @@ use Rattle.std.proofs.Common.{◌∙◌, sym, subst, rules, Option, ℕ}
 use Rattle.std.specs.Prelude.{IfSome}
 use Rattle.std.proofs.lemmas.List.Sorted.{answers_always}
 use Rattle.su_desk.specs.declared.kept.KeptOperation.{KeptOperation}
-use Rattle.su_desk.specs.Keeping.{IsPlaceOf}
+use Rattle.su_desk.specs.Keeping.{IsIndexOf}
 use Rattle.su_desk.proofs.NumberSearch.{searched}
-use Rattle.su_desk.proofs.kept.place_of.Goals as goal
+use Rattle.su_desk.proofs.kept.index_of.Goals as goal
 
 pub returns-clause-found : goal.returns-clause-found
 returns-clause-found c =
     let facts = c.binary_search_by_key.ensures in
     let by_key = facts.position (λ (k : KeptOperation). k.number) (answers_always _ _ _ (λ f a r g called. search rules)) in
     let s = searched c.args.number c.args.kept.now c.binary_search_by_key.result c.requires facts.bound by_key in
-    subst (λ (o : Option ℕ). IfSome o (λ place. IsPlaceOf c.args.number c.args.kept.now place)) (sym c.ok.ensures.value) s.found
+    subst (λ (o : Option ℕ). IfSome o (λ index. IsIndexOf c.args.number c.args.kept.now index)) (sym c.ok.ensures.value) s.found
 
 pub returns-clause-missing : goal.returns-clause-missing
 returns-clause-missing c =
