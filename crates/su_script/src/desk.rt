@@ -6,11 +6,10 @@ ghost use Rattle.su_script.specs.Step.{EndsBadly, LineSteps, Steps};
 ghost use Rattle.su_script.specs.Transcript.{LineSays, Prints, PrintsFrom, new_desk, status_code};
 ghost use Rattle.su_script.specs.Unread.{unread};
 
-use crate::answers::{bad, refused};
 use crate::lines::{LineReader, NextLine};
 use crate::parse::parse_line;
 use crate::ranges::check_ranges;
-use crate::session::Session;
+use crate::session::{Session, bad, refused};
 use std::alloc::{AllocError, Global};
 use std::io;
 use std::io::{Read, Write};

@@ -1,7 +1,6 @@
 //! A desk script: its lines, the command that each says, and what a desk answers.
 #![tactic(auto)]
 
-mod answers;
 mod desk;
 mod lines;
 mod parse;
