@@ -8,15 +8,15 @@ use Rattle.std.specs.List.Sorted.{IsStrictlySortedBy}
 use Rattle.std.specs.Map.{keys_of}
 use Rattle.std.proofs.lemmas.List.Elements.{All-nil, All-cons}
 use Rattle.std.proofs.lemmas.Bool.{lt-ltb}
-use Rattle.su_tree.specs.Number.{is_number}
+use Rattle.su_tree.specs.Number.{is_u32}
 
 module _ {X : Type 0} (f : ℕ → X) where
   abbrev pub numbered : ℕ → ℕ → List (ℕ × X)
   numbered a n = map (λ k. (k, f k)) (range_with_len a n)
 
-  pub numbered-keys : (a n : ℕ) → a + n ≤ 2 ^ 32 → All (λ p. IsTrue (is_number p.0)) (numbered a n)
-  numbered-keys a zero h = All-nil (λ p. IsTrue (is_number p.0))
-  numbered-keys a (suc n) h = All-cons (λ p. IsTrue (is_number p.0)) (a, f a) (numbered (a + 1) n) (lt-ltb a (2 ^ 32) (omega arith)) (numbered-keys (a + 1) n (omega arith))
+  pub numbered-keys : (a n : ℕ) → a + n ≤ 2 ^ 32 → All (λ p. IsTrue (is_u32 p.0)) (numbered a n)
+  numbered-keys a zero h = All-nil (λ p. IsTrue (is_u32 p.0))
+  numbered-keys a (suc n) h = All-cons (λ p. IsTrue (is_u32 p.0)) (a, f a) (numbered (a + 1) n) (lt-ltb a (2 ^ 32) (omega arith)) (numbered-keys (a + 1) n (omega arith))
 
   above : (a b n : ℕ) → a < b → AllByRecursion (λ k. nat_cmp a k ≡ Less) (keys_of (numbered b n))
   above a b zero h = tt

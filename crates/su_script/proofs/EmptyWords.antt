@@ -4,7 +4,7 @@ use Rattle.std.specs.Prelude.{None}
 use Rattle.std.specs.List.{list_any}
 use Rattle.std.specs.Borrow.{Bor}
 use Rattle.std.proofs.lemmas.Bool.Decides.{nat_tests}
-use Rattle.su_bytes.proofs.Lists.{list_any-map}
+use Rattle.su_bytes.proofs.Public.{list_any-map}
 use Rattle.su_script.specs.Raw.{texts}
 use Rattle.su_script.specs.Script.{has_empty_word, line_command, longest_line, read_words, words_command, words_of}
 

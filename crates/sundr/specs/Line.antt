@@ -9,10 +9,10 @@ use Rattle.sundr.specs.declared.line.LineFault.{LineFault}
 use Rattle.sundr.specs.declared.line.LineFault.TheVariants.{Usage, NoMemory}
 
 -- each number is in its range: a desk has 1 to 64 users, and a key is of a kind that can be made
-abbrev pub IsInRange : Line → Type 0
-IsInRange (Desk users) = (1 ≤ users) × (users ≤ 64)
-IsInRange (Keygen entropy out params) = CanBeMade params.lms params.ots
-IsInRange (Text text) = ⊤
+abbrev pub HasGoodNumbers : Line → Type 0
+HasGoodNumbers (Desk users) = (1 ≤ users) × (users ≤ 64)
+HasGoodNumbers (Keygen entropy out params) = CanBeMade params.lms params.ots
+HasGoodNumbers (Text text) = ⊤
 
 -- a wrong command line ends the program as a line that is no command does, want of memory as a fault
 abbrev pub refused_status : LineFault → Status

@@ -1,7 +1,7 @@
 // The command line.
 ghost use Rattle.std.specs.Prelude.{◌≡◌, IfOk};
 ghost use Rattle.sundr.specs.declared.line.LineFault.TheVariants.{NoMemory};
-ghost use Rattle.sundr.specs.Line.{IsInRange};
+ghost use Rattle.sundr.specs.Line.{HasGoodNumbers};
 
 use clap::{Arg, ArgMatches, Command};
 use std::alloc::{AllocError, Global};
@@ -46,7 +46,7 @@ impl From<AllocError> for LineFault {
 
 /// What these words ask for, the first of which is the program's own name. `Usage` where they make no command line.
 pub fn line_of<'a>(alloc: Global, words: &'a [&'a str]) -> Result<Line, LineFault>
-    ensures { IfOk result IsInRange }
+    ensures { IfOk result HasGoodNumbers }
 {
     let matches = match program(alloc)?.try_get_matches_from(words) {
         Ok(matches) => matches,
@@ -119,7 +119,7 @@ const WIDTHS: [&str; 2] = ["4", "8"];
 
 /// Help and the version are texts to be shown, and anything else is a fault.
 fn shown(alloc: Global, error: &clap::Error) -> Result<Line, LineFault>
-    ensures { IfOk result IsInRange }
+    ensures { IfOk result HasGoodNumbers }
 {
     let text = format!(in alloc; "{error}")?;
     if !error.use_stderr() {
@@ -133,7 +133,7 @@ fn shown(alloc: Global, error: &clap::Error) -> Result<Line, LineFault>
 
 /// `desk [--users N]`
 fn desk(alloc: Global, values: &ArgMatches<'_>) -> Result<Line, LineFault>
-    ensures { IfOk result IsInRange }
+    ensures { IfOk result HasGoodNumbers }
 {
     match values.get_one::<u8>("users") {
         Some(users) if 1 <= users && users <= 64 => Ok(Line::Desk { users }),
@@ -143,7 +143,7 @@ fn desk(alloc: Global, values: &ArgMatches<'_>) -> Result<Line, LineFault>
 
 /// `keygen --entropy FILE --out FILE --height 5|10 --width 4|8`
 fn keygen(alloc: Global, values: &ArgMatches<'_>) -> Result<Line, LineFault>
-    ensures { IfOk result IsInRange }
+    ensures { IfOk result HasGoodNumbers }
 {
     let (Some(entropy), Some(out), Some(height), Some(width)) = (
         values.get_str("entropy"),

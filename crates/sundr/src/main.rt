@@ -5,7 +5,7 @@
 ghost use Rattle.std.specs.Prelude.{◌≡◌, ℕ, List, Some, IfOk, ◌≤◌, string_bytes};
 ghost use Rattle.su_script.specs.Transcript.{Prints};
 ghost use Rattle.sundr.specs.Key.{IsPublicLine};
-ghost use Rattle.sundr.specs.Line.{IsInRange, refused_status};
+ghost use Rattle.sundr.specs.Line.{HasGoodNumbers, refused_status};
 ghost use Rattle.sundr.specs.Run.{CarriesOut, PrintsUnlessFault};
 
 mod keygen;
@@ -29,7 +29,7 @@ fn main(rt: HostRuntime) -> ExitCode {
 
 /// Reads what the arguments ask for. Arguments that are no text are a wrong command line.
 fn command_line(rt: &HostRuntime) -> Result<Line, LineFault>
-    ensures { IfOk result IsInRange }
+    ensures { IfOk result HasGoodNumbers }
 {
     let alloc = rt.alloc();
     let Ok(arguments) = env::args(rt) else {
@@ -47,7 +47,7 @@ fn carry_out<R: Read + Drop, W: Write>(
     reader: R,
     writer: &mut W,
 ) -> Status
-    requires { IsInRange line }
+    requires { HasGoodNumbers line }
     ensures { (input before : List ℕ)
         → R.remaining reader ≡ Some input → W.contents writer.old ≡ Some before
         → CarriesOut line input before (W.contents writer.new) result }

@@ -3,7 +3,7 @@ use Rattle.std.specs.FinMap.{entries}
 use Rattle.std.proofs.lemmas.Bool.{lt-ltb}
 use Rattle.std.proofs.lemmas.List.Elements.{All-push}
 use Rattle.su_tree.specs.Digest.{digest}
-use Rattle.su_tree.specs.Number.{numbers, is_number}
+use Rattle.su_tree.specs.Number.{numbers, is_u32}
 use Rattle.su_tree.specs.Value.{place_bytes}
 use Rattle.su_node.proofs.Public.{entries-from_entries}
 use Rattle.su_bytes.specs.Place.{Place}
@@ -24,7 +24,7 @@ loop-place-preserved-in-Continue-1 c =
     record {
       listed = ap (λ (ps : List (ℕ × Place)). ps ++ pairs_of f g c.next.new.self) pushed
           ∙ listed_more f g c.loop-place.pairs.items c.in-Some.place.now c.in-Some.body.now c.next.new.self c.loop-place.place-iterator _ (sym c.eq.ensures ∙ c.if-eq.true) c.in-Some.ensures.steps c.loop-place.invariant.listed;
-      keys = rw c.in_ok-push.ensures.items (All-push (λ (p : ℕ × Place). IsTrue (is_number p.0)) c.loop-place.pairs.items (c.number.result, c.in-Some.body.now) c.loop-place.invariant.keys (lt-ltb c.number.result (2 ^ 32) small));
+      keys = rw c.in_ok-push.ensures.items (All-push (λ (p : ℕ × Place). IsTrue (is_u32 p.0)) c.loop-place.pairs.items (c.number.result, c.in-Some.body.now) c.loop-place.invariant.keys (lt-ltb c.number.result (2 ^ 32) small));
     }
 
 pub digest_of-requires-clause-ascending : goal.digest_of-requires-clause-ascending
