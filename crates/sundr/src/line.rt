@@ -1,5 +1,7 @@
 // The command line.
-ghost use Rattle.std.specs.Prelude.{◌≡◌, IfOk};
+ghost use Rattle.std.specs.Prelude.{◌≡◌, IfOk, IfSome};
+ghost use Rattle.std.specs.Str.Parse.{digits_value};
+ghost use Rattle.su_lms.specs.ParameterSets.{height_of, width_of};
 ghost use Rattle.sundr.specs.declared.line.LineFault.TheVariants.{NoMemory};
 ghost use Rattle.sundr.specs.Line.{HasGoodNumbers};
 
@@ -168,7 +170,10 @@ fn keygen(alloc: Global, values: &ArgMatches<'_>) -> Result<Line, LineFault>
 
 /// The parameter set of a tree of that height and coefficients of that width, by the type numbers of RFC 8554,
 /// Sections 4.1 and 5.1.
-fn params_of(height: &str, width: &str) -> Option<Params> {
+fn params_of(height: &str, width: &str) -> Option<Params>
+    ensures height { IfSome result (λ p. digits_value 10 height.now ≡ height_of p.lms) }
+    ensures width { IfSome result (λ p. digits_value 10 width.now ≡ width_of p.ots) }
+{
     match (height, width) {
         ("5", "4") => Some(Params { lms: 5, ots: 3 }),
         ("5", "8") => Some(Params { lms: 5, ots: 4 }),
