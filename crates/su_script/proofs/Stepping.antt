@@ -6,9 +6,9 @@ use Rattle.su_script.specs.declared.desk.Status.{Status}
 use Rattle.su_script.specs.declared.desk.Status.TheVariants.{Finished, Fault, BadLine}
 use Rattle.su_script.specs.declared.desk.Step.{Step}
 use Rattle.su_script.specs.declared.desk.Step.TheVariants.{GoesOn, Ends}
-use Rattle.su_script.specs.declared.lines.NextLine.{NextLine}
-use Rattle.su_script.specs.Script.{lines_of, words_of, longest_line, words_command, line_command}
-use Rattle.su_script.specs.Lines.{Reads, ReadsOf}
+use Rattle.su_command.specs.declared.lines.NextLine.{NextLine}
+use Rattle.su_command.specs.Script.{lines_of, words_of, longest_line, words_command, line_command}
+use Rattle.su_command.specs.Lines.{Reads, ReadsOf}
 use Rattle.su_script.specs.Transcript.{Transcript, PrintsFrom}
 use Rattle.su_script.specs.Answer.{bad_text}
 use Rattle.su_script.specs.Step.{Continues, Steps, LineSteps, EndsBadly}

@@ -5,7 +5,7 @@ use Rattle.su_script.specs.declared.desk.Status.{Status}
 use Rattle.su_script.specs.declared.desk.Status.TheVariants.{Fault, BadLine}
 use Rattle.su_script.specs.declared.desk.Step.{Step}
 use Rattle.su_script.specs.declared.desk.Step.TheVariants.{GoesOn, Ends}
-use Rattle.su_script.specs.Script.{lines_of, line_command}
+use Rattle.su_command.specs.Script.{lines_of, line_command}
 use Rattle.su_script.specs.Transcript.{LineSays, Transcript, PrintsFrom}
 use Rattle.su_script.specs.Answer.{bad_text}
 

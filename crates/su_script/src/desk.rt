@@ -1,19 +1,17 @@
 // Running a script on a desk.
 ghost use Rattle.std.specs.Prelude.{◌≡◌, ◌≤◌, ◌⊎◌, ℕ, List, None, Some, IfOk, OnOk, MatchOption, replicate};
 ghost use Rattle.std.specs.Io.KnownBytes.{Appends};
-ghost use Rattle.su_script.specs.Script.{line_command};
+ghost use Rattle.su_command.specs.Script.{line_command};
 ghost use Rattle.su_script.specs.Step.{EndsBadly, LineSteps, Steps};
 ghost use Rattle.su_script.specs.Transcript.{LineSays, Prints, PrintsFrom, new_desk, status_code};
-ghost use Rattle.su_script.specs.Unread.{unread};
+ghost use Rattle.su_command.specs.Unread.{unread};
 
-use crate::lines::{LineReader, NextLine};
-use crate::parse::parse_line;
-use crate::ranges::check_ranges;
 use crate::session::{Session, bad, refused};
 use std::alloc::{AllocError, Global};
 use std::io;
 use std::io::{Read, Write};
 use su_bytes::{KEY_LENGTH, Refusal, Roster};
+use su_command::{LineReader, NextLine, check_ranges, parse_line};
 use su_desk::Desk;
 
 /// How a run of a program ended.
@@ -123,12 +121,10 @@ fn next_step<R: Read + Drop, W: Write>(
         session.new (unread R.remaining lines.new) (W.contents writer.new) result }
 {
     match lines.next_line() {
-        Ok(NextLine::Line(line)) => {
-            if line.is_empty() {
-                return Step::GoesOn;
-            }
-            line_step(alloc, session, line.as_slice(), writer, number)
-        }
+        Ok(NextLine::Line(line)) => match line.as_slice() {
+            [] => Step::GoesOn,
+            line => line_step(alloc, session, line, writer, number),
+        },
         Ok(NextLine::TooLong) => Step::Ends(end_badly(alloc, writer, number)),
         Ok(NextLine::End) => Step::Ends(Status::Finished),
         Err(_) => Step::Ends(Status::Fault),

@@ -21,7 +21,7 @@ type Case<'a> = (&'a str, &'a str);
 /// Of a line that prints nothing, as `mark`. (An empty text is an empty line.)
 const NOTHING: &str = "nothing";
 
-/// A script on a desk of so many users prints this and ends so.
+/// Runs a script on a desk of `users` users: it prints `text` and ends as `wanted`.
 fn run(rt: &(impl Abort + AllocGlobal), users: u8, script: &[u8], text: &str, wanted: Status)
     requires { (1 ≤ users) × (users ≤ 64) }
 {
@@ -71,7 +71,7 @@ impl Script {
     }
 }
 
-/// Each line on a desk of so many users is answered so.
+/// Runs the lines of the cases on a desk of `users` users: each is answered by its text.
 fn expect_of(rt: &(impl Abort + AllocGlobal), users: u8, cases: &[Case<'_>]) -> Result<(), Fail>
     requires { (1 ≤ users) × (users ≤ 64) }
 {
@@ -81,7 +81,7 @@ fn expect_of(rt: &(impl Abort + AllocGlobal), users: u8, cases: &[Case<'_>]) -> 
     Ok(())
 }
 
-/// Each line on a desk of two users is answered so.
+/// Runs the lines of the cases on a desk of two users: each is answered by its text.
 fn expect_each(rt: &(impl Abort + AllocGlobal), cases: &[Case<'_>]) -> Result<(), Fail> {
     expect_of(rt, 2, cases)
 }
