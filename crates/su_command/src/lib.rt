@@ -3,10 +3,12 @@
 #![tactic(auto)]
 
 mod lines;
+mod mistakes;
 mod parse;
 mod ranges;
 
 pub use lines::{LONGEST_LINE, LineReader, NextLine};
+pub use mistakes::{Mistake, WordKind, mistake_in};
 pub use parse::{
     DESK_WORDS, RawChange, RawCommand, RawCreate, RawFile, RawPrincipal, RawRename, parse_line,
 };

@@ -114,7 +114,7 @@ impl<R: Read + Drop> LineReader<R> {
         ensures reads { OnOk result (self.new.reads_left < self.old.reads_left) }
     {
         if self.reads_left == 0 {
-            return Err(io::Error::from(ErrorKind::Other));
+            return Err(io::Error::other("it has no end"));
         }
         self.reads_left -= 1;
         let mut chunk = [0u8; CHUNK];

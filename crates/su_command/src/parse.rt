@@ -151,14 +151,14 @@ pub fn parse_line<'a>(alloc: Global, line: &'a [u8]) -> Result<Option<RawCommand
 }
 
 /// Splits a line at single spaces.
-fn split_words<'a>(alloc: Global, line: &'a [u8]) -> Result<Vec<&'a [u8]>, AllocError>
+pub(crate) fn split_words<'a>(alloc: Global, line: &'a [u8]) -> Result<Vec<&'a [u8]>, AllocError>
     ensures { IfOk result (λ words. texts words.items ≡ words_of line.now) }
 {
     line.split(|byte| *byte == b' ').collect(alloc)
 }
 
 /// Whether one of the words is empty.
-fn has_empty_word(words: &[&[u8]]) -> bool
+pub(crate) fn has_empty_word(words: &[&[u8]]) -> bool
     ensures { result ≡ list_any (λ word. nat_eq (length word.now) 0) words.now }
 {
     words.iter().any(|word| word.is_empty())
@@ -468,7 +468,7 @@ fn read_single<'a>(arguments: &[&[u8]], command: RawCommand<'a>) -> Option<RawCo
 
 /// Reads a number of 1 to 20 decimal digits. `None` where it doesn't fit 64 bits.
 #[tactic(auto, unfolding(crate::specs::Script::read_number))]
-fn read_number(word: &[u8]) -> Option<u64>
+pub(crate) fn read_number(word: &[u8]) -> Option<u64>
     ensures { result ≡ read_number word.now }
 {
     if word.is_empty() || MOST_DIGITS < word.len() {
@@ -486,7 +486,7 @@ fn read_number(word: &[u8]) -> Option<u64>
 
 /// Reads a user as `U0` or a group as `G0`.
 #[tactic(auto, unfolding(crate::specs::Script::read_principal))]
-fn read_principal(word: &[u8]) -> Option<RawPrincipal>
+pub(crate) fn read_principal(word: &[u8]) -> Option<RawPrincipal>
     ensures { option_map principal_of result ≡ read_principal word.now }
 {
     let [letter, digits @ ..] = word else {
@@ -501,7 +501,7 @@ fn read_principal(word: &[u8]) -> Option<RawPrincipal>
 
 /// Reads a file id as `U0:2` or `G0:1`.
 #[tactic(auto, unfolding(crate::specs::Script::read_file))]
-fn read_file(word: &[u8]) -> Option<RawFile>
+pub(crate) fn read_file(word: &[u8]) -> Option<RawFile>
     ensures { option_map file_of result ≡ read_file word.now }
 {
     let colon = first_colon(word)?;

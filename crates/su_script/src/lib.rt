@@ -6,5 +6,5 @@ mod session;
 #[cfg(test)]
 mod tests;
 
-pub use desk::{Status, run_desk};
-pub use su_command::DESK_WORDS;
+pub use desk::{Ending, Fault, Status, run_desk};
+pub use su_command::{DESK_WORDS, Mistake};

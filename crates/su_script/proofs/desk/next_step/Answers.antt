@@ -14,4 +14,4 @@ returns-in-Ok-Line g c = λ input before known contents.
 pub returns-in-Ok-TooLong : goal.returns-in-Ok-TooLong
 returns-in-Ok-TooLong g c = λ input before known contents.
     let (line, lines, is, long) = reads_at TooLong _ _ input (rw c.in-Ok-TooLong.field-0-is at c.in-Ok-TooLong.ensures) known in
-    steps_too_long c.args.session.now c.args.number input before line lines _ c.end_badly.result is long (c.end_badly.ensures before contents)
+    steps_too_long c.args.session.now c.args.number input before line lines _ _ is long (c.end_badly.ensures before contents)
