@@ -1,7 +1,9 @@
 // Why a line is no command, in words for whoever wrote it. What a script does never rests on it.
 use crate::lines::LONGEST_LINE;
 use crate::mistakes::WordKind::{File, Hex, Name, Number, Principal};
-use crate::parse::{has_empty_word, read_file, read_number, read_principal, split_words};
+use crate::parse::{
+    CHANGES, QUESTIONS, has_empty_word, read_file, read_number, read_principal, split_words,
+};
 use std::alloc::{AllocError, Global};
 use std::fmt;
 
@@ -35,104 +37,11 @@ pub enum WordKind {
 }
 
 /// A command's own word, and what the words after it are; the last `optional` may be left out.
-struct Form<'a> {
-    command: &'a str,
-    words: &'a [WordKind],
-    optional: usize,
+pub struct Form<'a> {
+    pub command: &'a str,
+    pub words: &'a [WordKind],
+    pub optional: usize,
 }
-
-/// The commands of a user, after the user's number.
-const CHANGES: [Form<'_>; 10] = [
-    Form {
-        command: "mkdir",
-        words: &[File, Name, File, Number],
-        optional: 1,
-    },
-    Form {
-        command: "create",
-        words: &[File, Name, File, Number],
-        optional: 1,
-    },
-    Form {
-        command: "write",
-        words: &[File, Number, Hex],
-        optional: 0,
-    },
-    Form {
-        command: "truncate",
-        words: &[File, Number],
-        optional: 0,
-    },
-    Form {
-        command: "unlink",
-        words: &[File, Name, File],
-        optional: 0,
-    },
-    Form {
-        command: "take",
-        words: &[File, Number],
-        optional: 0,
-    },
-    Form {
-        command: "link",
-        words: &[File, Name, File],
-        optional: 0,
-    },
-    Form {
-        command: "rename",
-        words: &[File, Name, File, Name, File],
-        optional: 0,
-    },
-    Form {
-        command: "undo",
-        words: &[Number],
-        optional: 0,
-    },
-    Form {
-        command: "undo_last",
-        words: &[],
-        optional: 0,
-    },
-];
-
-/// The commands that are no user's.
-const QUESTIONS: [Form<'_>; 7] = [
-    Form {
-        command: "ls",
-        words: &[File],
-        optional: 0,
-    },
-    Form {
-        command: "cat",
-        words: &[File, Number, Number],
-        optional: 0,
-    },
-    Form {
-        command: "stat",
-        words: &[File],
-        optional: 0,
-    },
-    Form {
-        command: "ihandle",
-        words: &[Principal],
-        optional: 0,
-    },
-    Form {
-        command: "versions",
-        words: &[],
-        optional: 0,
-    },
-    Form {
-        command: "mark",
-        words: &[],
-        optional: 0,
-    },
-    Form {
-        command: "same",
-        words: &[],
-        optional: 0,
-    },
-];
 
 /// Tells the first mistake in a line that is no command.
 pub fn mistake_in(alloc: Global, line: &[u8]) -> Result<Mistake, AllocError> {

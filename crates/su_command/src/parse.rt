@@ -6,6 +6,8 @@ ghost use Rattle.su_command.specs.Script.{line_command, own_body, read_body, rea
 ghost use Rattle.su_command.specs.Raw.{change_of, command_of, file_of, principal_of, texts};
 
 use crate::lines::LONGEST_LINE;
+use crate::mistakes::Form;
+use crate::mistakes::WordKind::{File, Hex, Name, Number, Principal};
 use hex::FromHexError;
 use memchr::memchr;
 use std::alloc::{AllocError, Global};
@@ -34,6 +36,99 @@ pub const DESK_WORDS: &str = "Commands:
 U is the number of a user. DIR, FROM, TO and FILE are file ids: U0:2 is number 2 of user 0, G0:1 number 1 of group 0,
 which is the root directory. BODY is the number of the user at which the file stands then; a file of a user has its own
 number. PRINCIPAL is a user as U0 or a group as G0.";
+
+/// The commands of a user, after the user's number.
+pub(crate) const CHANGES: [Form<'_>; 10] = [
+    Form {
+        command: "mkdir",
+        words: &[File, Name, File, Number],
+        optional: 1,
+    },
+    Form {
+        command: "create",
+        words: &[File, Name, File, Number],
+        optional: 1,
+    },
+    Form {
+        command: "write",
+        words: &[File, Number, Hex],
+        optional: 0,
+    },
+    Form {
+        command: "truncate",
+        words: &[File, Number],
+        optional: 0,
+    },
+    Form {
+        command: "unlink",
+        words: &[File, Name, File],
+        optional: 0,
+    },
+    Form {
+        command: "take",
+        words: &[File, Number],
+        optional: 0,
+    },
+    Form {
+        command: "link",
+        words: &[File, Name, File],
+        optional: 0,
+    },
+    Form {
+        command: "rename",
+        words: &[File, Name, File, Name, File],
+        optional: 0,
+    },
+    Form {
+        command: "undo",
+        words: &[Number],
+        optional: 0,
+    },
+    Form {
+        command: "undo_last",
+        words: &[],
+        optional: 0,
+    },
+];
+
+/// The commands that are no user's.
+pub(crate) const QUESTIONS: [Form<'_>; 7] = [
+    Form {
+        command: "ls",
+        words: &[File],
+        optional: 0,
+    },
+    Form {
+        command: "cat",
+        words: &[File, Number, Number],
+        optional: 0,
+    },
+    Form {
+        command: "stat",
+        words: &[File],
+        optional: 0,
+    },
+    Form {
+        command: "ihandle",
+        words: &[Principal],
+        optional: 0,
+    },
+    Form {
+        command: "versions",
+        words: &[],
+        optional: 0,
+    },
+    Form {
+        command: "mark",
+        words: &[],
+        optional: 0,
+    },
+    Form {
+        command: "same",
+        words: &[],
+        optional: 0,
+    },
+];
 
 /// Digits of the longest number.
 const MOST_DIGITS: usize = 20;
