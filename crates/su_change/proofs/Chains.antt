@@ -1,9 +1,11 @@
 -- Parts one after another, where each was taken, and where one is refused.
-use Rattle.std.proofs.Common.{◌≡◌}
+use Rattle.std.proofs.Common.{◌≡◌, ◌≢◌, ◌∙◌, sym, inl, inr, []}
 use Rattle.std.specs.Prelude.{Ok, Err}
 use Rattle.su_bytes.specs.declared.refusals.Refusal.{Refusal}
 use Rattle.su_format.specs.Format.{Format, ◌>>=◌}
-use Rattle.su_format.specs.Reading.{Reading, Took, Takes}
+use Rattle.su_bytes.specs.declared.refusals.Refusal.TheVariants.{Malformed, NoMemory}
+use Rattle.su_format.specs.Part.{end_part}
+use Rattle.su_format.specs.Reading.{Reading, Refuses, Took, Takes}
 use Rattle.su_format.proofs.Public.{goes_on, stops}
 
 module _ {A B : Type 0} (f : Format A) (g : A → Format B) (old middle : Reading) where
@@ -15,3 +17,9 @@ module _ {A B : Type 0} (f : Format A) (g : A → Format B) (old middle : Readin
 
   pub refused_first : (e : Refusal) → Takes f old (Err e) middle → Takes (f >>= g) old (Err e) middle
   refused_first e first = stops f g old middle middle e first
+
+-- where bytes don't end, some are left
+pub some_left : (r : Reading) (e : Refusal) → e ≡ Malformed r.place → Refuses end_part r e → r.left ≢ []
+unfolding end_part
+some_left r e is (inl none) = absurd (let bad : Malformed r.place ≡ NoMemory = sym is ∙ none in cc)
+some_left r e is (inr (place, _, at)) = at.fails.1

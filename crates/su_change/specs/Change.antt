@@ -1,15 +1,5 @@
 -- The fields of changes, in order.
-use Rattle.std.specs.Prelude.{◌≡◌, ℕ, ◌≤◌, List, [], ◌∷◌, length}
-use Rattle.su_bytes.specs.declared.file_ids.FileId.{FileId}
-use Rattle.su_bytes.specs.declared.file_ids.Kind.{Kind}
-use Rattle.su_op.specs.declared.create.Create.{Create}
-use Rattle.su_op.specs.declared.link.Link.{Link}
-use Rattle.su_op.specs.declared.rename.Rename.{Rename}
-use Rattle.su_op.specs.declared.take.Take.{Take}
-use Rattle.su_op.specs.declared.truncate.Truncate.{Truncate}
-use Rattle.su_op.specs.declared.unlink.Unlink.{Unlink}
-use Rattle.su_op.specs.declared.write.Write.{Write}
-use Rattle.su_op.specs.declared.operations.Op.{Op}
+use Rattle.std.specs.Prelude.{ℕ, ◌≤◌}
 use Rattle.su_op.specs.declared.operations.Op.TheVariants as op
 use Rattle.su_op.specs.declared.operations.Change.{Change}
 use Rattle.su_op.specs.declared.operations.Change.TheVariants.{Do, Undo}

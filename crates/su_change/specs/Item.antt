@@ -1,8 +1,8 @@
 -- The bytes of a change, by which it is stored and whose digest names it.
 use Rattle.std.specs.Prelude.{ℕ, List, [], ◌∷◌}
 use Rattle.su_op.specs.declared.operations.Change.{Change}
-use Rattle.su_format.specs.Format.{Format, part, making, ◌>>=◌}
-use Rattle.su_format.specs.Part.{mark_part, end_part, u8_bytes}
+use Rattle.su_format.specs.Format.{Format, part, ◌>>=◌}
+use Rattle.su_format.specs.Part.{mark_part, u8_bytes}
 use Rattle.su_change.specs.Change.{undo_fields, create_fields, write_fields, truncate_fields, link_fields, rename_fields, unlink_fields, take_fields}
 use Rattle.su_change.specs.declared.tags.Tag.{Tag}
 use Rattle.su_change.specs.declared.tags.Tag.TheVariants.{Undo, Create, Write, Truncate, Link, Rename, Unlink, Take}
@@ -43,8 +43,6 @@ fields Take = take_fields
 abbrev pub first_byte : List ℕ
 first_byte = 5 ∷ []
 
--- A change's item: the first byte, the tag, its fields, and nothing behind them.
+-- a change's item: the first byte, the tag, and its fields
 unfoldable pub item : Format Change
-item =
-    mark_part first_byte >>= λ _. tag_part >>= λ tag. fields tag >>= λ change.
-    end_part >>= λ _. making change
+item = mark_part first_byte >>= λ _. tag_part >>= λ tag. fields tag

@@ -1,6 +1,6 @@
 // Reading the item of a change.
-ghost use Rattle.std.specs.Prelude.{◌≡◌, [], ◌≤◌, ◌↔◌, Ok, Err, IfErr, IfOk, IfNone, IfSome, IsTrue};
-ghost use Rattle.su_format.specs.Reading.{Takes, unread};
+ghost use Rattle.std.specs.Prelude.{◌≡◌, ◌≤◌, ◌↔◌, Ok, Err, IfErr, IfOk, IfNone, IfSome, IsTrue};
+ghost use Rattle.su_format.specs.Reading.{Decodes, Takes};
 ghost use Rattle.su_op.specs.Limits.{largest_write};
 ghost use Rattle.su_change.specs.Change.{undo_fields, create_fields, write_fields, truncate_fields, link_fields, rename_fields, unlink_fields, take_fields, length_part};
 ghost use Rattle.su_change.specs.Item.{fields, item, tag_number, tag_part};
@@ -13,14 +13,14 @@ use su_format::Reader;
 use su_op::{Change, Create, LARGEST_WRITE, Link, Op, Rename, Take, Truncate, Unlink, Write};
 
 /// The first byte of the item of a change.
-const FIRST_BYTE: &[u8] = &[5];
+pub(crate) const FIRST_BYTE: &[u8] = &[5];
 
 /// Reads the item of a change: accepts exactly the bytes that spell one. `Malformed` with the place
 /// of the first byte of the field that is refused, which is that of a field that is cut, out of its
 /// range, or of the first byte that is left over; `NoMemory` where there is no room for the change.
 pub fn decode(alloc: Global, bytes: &[u8]) -> Result<Change, Refusal>
-    ensures accepted { IfOk result (λ change. item.Begins bytes.now change []) }
-    ensures refused { IfErr result (λ e. Takes item (unread bytes.now) (Err e) (unread bytes.now)) }
+    ensures accepted { IfOk result (λ change. Decodes item bytes.now (Ok change)) }
+    ensures refused { IfErr result (λ e. Decodes item bytes.now (Err e)) }
 {
     let mut reader = Reader::new(bytes);
     reader.take_mark(FIRST_BYTE)?;

@@ -2,6 +2,10 @@
 #![tactic(auto)]
 
 mod decoder;
+mod encoder;
+mod laws;
 mod tags;
 
 pub use decoder::decode;
+pub use encoder::encode;
+pub use laws::items_are_lawful;

@@ -1,5 +1,6 @@
 // What kind of change an item is of.
-ghost use Rattle.std.specs.Prelude.{◌≡◌, ℕ, List, ◌∷◌, []};
+ghost use Rattle.std.specs.Prelude.{◌≡◌, ◌<◌};
+ghost use Rattle.su_change.specs.Item.{tag_number};
 
 /// What kind of change an item is of, told by the byte behind the first.
 #[derive(Clone, Copy, Debug, PartialEq, Eq)]
@@ -12,4 +13,22 @@ pub enum Tag {
     Rename,
     Unlink,
     Take,
+}
+
+impl Tag {
+    /// Returns the number that stands for the tag, 0 to 7.
+    pub fn number(self) -> u8
+        ensures { result ≡ tag_number self }
+    {
+        match self {
+            Tag::Undo => 0,
+            Tag::Create => 1,
+            Tag::Write => 2,
+            Tag::Truncate => 3,
+            Tag::Link => 4,
+            Tag::Rename => 5,
+            Tag::Unlink => 6,
+            Tag::Take => 7,
+        }
+    }
 }

@@ -9,10 +9,6 @@ pub record Reading : Type 0 where
   pub place : ℕ
   pub left : List ℕ
 
--- bytes of which none was taken
-abbrev pub unread : List ℕ → Reading
-unread bytes = record { place = 0; left = bytes }
-
 -- where a part that begins these bytes begins, counted from the first byte of all
 abbrev pub IsPlaceOf : Reading → ℕ → List ℕ → Type 0
 IsPlaceOf r place bytes = place + length bytes ≡ r.place + length r.left

@@ -1,4 +1,4 @@
-use Rattle.std.proofs.Common.{◌≡◌, ◌<◌, ◌≤◌, ◌^◌, ap, sym, ◌∙◌, refl, false, IsTrue}
+use Rattle.std.proofs.Common.{◌<◌, ◌≤◌, ◌^◌, ap, refl, false, IsTrue}
 use Rattle.su_bytes.specs.declared.refusals.Refusal.TheVariants.{Malformed}
 use Rattle.std.proofs.lemmas.Result.{err_from_is_err_and}
 use Rattle.su_op.specs.Limits.{largest_write}

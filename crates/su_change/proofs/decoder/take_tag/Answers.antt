@@ -1,4 +1,4 @@
-use Rattle.std.proofs.Common.{◌≡◌, ◌<◌, ap}
+use Rattle.std.proofs.Common.{◌<◌, ap}
 use Rattle.su_bytes.specs.declared.refusals.Refusal.TheVariants.{Malformed}
 use Rattle.std.proofs.lemmas.Result.{err_from_is_err_and}
 use Rattle.su_format.specs.Part.{u8_part, u8_bytes}

@@ -1,4 +1,3 @@
-use Rattle.std.proofs.Common.{◌≡◌}
 use Rattle.std.proofs.lemmas.Result.{err_from_is_err_and}
 use Rattle.su_format.proofs.Public.{made}
 use Rattle.su_change.specs.Change.{truncate_fields}

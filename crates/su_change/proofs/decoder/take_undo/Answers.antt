@@ -1,8 +1,7 @@
-use Rattle.std.proofs.Common.{◌≡◌}
 use Rattle.std.proofs.lemmas.Result.{err_from_is_err_and}
 use Rattle.su_format.proofs.Public.{made}
 use Rattle.su_change.specs.Change.{undo_fields}
-use Rattle.su_change.proofs.Chains.{took_both, refused_second, refused_first}
+use Rattle.su_change.proofs.Chains.{took_both, refused_first}
 use Rattle.su_change.proofs.decoder.take_undo.Goals as goal
 
 pub returns-in_err-number-clause-refused : goal.returns-in_err-number-clause-refused
