@@ -1,83 +1,76 @@
-// Making a key: the entropy that it is made of, the files that it is kept in.
-ghost use Rattle.std.specs.Prelude.{◌≡◌, IfOk, IfErr};
+// Making a key of entropy.
+ghost use Rattle.std.specs.Prelude.{◌≡◌, ◌≢◌, ◌↔◌, ◌++◌, ℕ, List, Some, length, take, IfOk, IfSome, IsNone};
 ghost use Rattle.su_lms.specs.PrivateKey.{key_of};
-ghost use Rattle.su_lms.specs.KeyFile.{made_key, private_key_of};
+ghost use Rattle.su_lms.specs.KeyFile.{key_file_bytes, made_key};
 ghost use Rattle.sundr.specs.Key.{IsKeyOf};
-ghost use Rattle.sundr.specs.declared.keygen.KeygenFault.TheVariants.{NoMemory};
 
+use crate::faults::KeygenFault;
+use crate::pairs::keep_pair;
 use std::alloc::{AllocError, Global};
-use std::fs::{File, OpenFile, OpenOptions};
-use std::io::{ErrorKind, Read, Write};
-use std::os::unix::fs::OpenOptionsExt;
-use std::rt::Files;
-use std::{fs, io};
-use su_bytes::Refusal;
+use std::fs::File;
+use std::io;
+use std::io::Read;
 use su_lms::{KeyFile, NoStore, Params, PublicKey, Signer};
-use thiserror::Error;
 
-/// Only the owner may read or write.
-const PRIVATE: u32 = 0o600;
+/// Bytes of entropy.
+const LENGTH: usize = 48;
 
-/// All may read, and the owner may write.
-const PUBLIC: u32 = 0o644;
-
-/// Why no key was made. Each is told by one line.
-#[derive(Clone, Copy, Debug, PartialEq, Eq, Error)]
-pub enum KeygenFault {
-    #[error("the entropy file can't be read")]
-    Unread,
-    #[error("the entropy file hasn't just 48 bytes")]
-    WrongLength,
-    #[error("the key file or the file of the public key can't be written")]
-    Unwritten,
-    #[error("out of memory")]
-    NoMemory,
-}
-
-impl From<AllocError> for KeygenFault {
-    ghost from_gives = { λ _ e. e ≡ NoMemory };
-
-    fn from(_refused: AllocError) -> KeygenFault {
-        KeygenFault::NoMemory
-    }
-}
-
-/// What a key is made of: 16 bytes of I, by which keys are told apart, and the 32 bytes of SEED, which is secret
-/// (RFC 8554, Section 5.3 and Appendix A).
+/// What a key is made of: I, by which keys are told apart, and SEED, which is secret (RFC 8554,
+/// Section 5.3 and Appendix A).
 #[derive(Clone, Copy)]
 pub struct Entropy {
     pub id: [u8; 16],
     pub seed: [u8; 32],
 }
 
-/// Makes the key of a file of 48 bytes of entropy. Writes it to the file `out`, and its public key to `out.pub`, over what
-/// stood there. The entropy is read before anything is written. `Unread` and `WrongLength` come for the entropy, `Unwritten`
-/// for the two files.
-pub fn make_key<R: Files>(
-    alloc: Global,
-    files: &R,
+impl Entropy {
+    /// Takes 48 bytes apart: 16 of I, and then SEED. `None` where there are fewer or more.
+    fn of_bytes(bytes: &[u8]) -> Option<Entropy>
+        ensures parts { IfSome result (λ entropy. entropy.id ++ entropy.seed ≡ bytes.now) }
+        ensures refused { IsNone result ↔ (length bytes.now ≢ LENGTH) }
+    {
+        if bytes.len() != LENGTH {
+            return None;
+        }
+        let mut entropy = Entropy {
+            id: [0; 16],
+            seed: [0; 32],
+        };
+        entropy.id.copy_from_slice(&bytes[..16]);
+        entropy.seed.copy_from_slice(&bytes[16..]);
+        Some(entropy)
+    }
+}
+
+/// What is kept of a new key: the bytes of its file, and its public key.
+#[derive(Drop)]
+struct NewKey {
+    file: [u8; 64],
+    public: PublicKey,
+}
+
+/// Makes the key of a file of 48 bytes of entropy. Writes it to the file `out`, and its public key
+/// to `out.pub`, over plain files that stood there. The faults of the entropy come first, and then
+/// nothing was written.
+pub fn make_key(
+    rt: &HostRuntime,
     entropy: &str,
     out: &str,
     params: Params,
 ) -> Result<PublicKey, KeygenFault>
     ensures { IfOk result (IsKeyOf params) }
 {
-    let (file, public) = key_from(alloc, params, read_entropy(files, entropy)?)?;
-    let public_out = format!(in alloc; "{out}.pub")?;
-    write_whole(alloc, files, out, &file.encode(), PRIVATE)?;
-    write_whole(alloc, files, public_out.as_str(), public.as_bytes(), PUBLIC)?;
-    Ok(public)
+    let made = new_key(rt.alloc(), params, read_entropy(rt, entropy)?)?;
+    keep_pair(rt, out, &made.file, made.public.as_bytes())?;
+    Ok(made.public)
 }
 
-/// The key of that entropy, with its first leaf to sign next. Only `NoMemory` can come.
-fn key_from(
-    alloc: Global,
-    params: Params,
-    entropy: Entropy,
-) -> Result<(KeyFile, PublicKey), AllocError>
-    ensures file { IfOk result (λ made. private_key_of made.0 ≡ made_key params entropy.id entropy.seed) }
-    ensures next { IfOk result (λ made. made.0.next ≡ 0) }
-    ensures public { IfOk result (λ made. made.1 ≡ key_of (made_key params entropy.id entropy.seed)) }
+/// Makes the key of that entropy, with its first leaf to sign next. Only `NoMemory` can come.
+fn new_key(alloc: Global, params: Params, entropy: Entropy) -> Result<NewKey, AllocError>
+    ensures file { IfOk result (λ made.
+        made.file ≡ key_file_bytes (made_key params entropy.id entropy.seed) 0) }
+    ensures public { IfOk result (λ made.
+        made.public ≡ key_of (made_key params entropy.id entropy.seed)) }
 {
     let Entropy { id, seed } = entropy;
     let Ok(signer) = Signer::generate(alloc, params, id, seed, NoStore) else {
@@ -89,64 +82,38 @@ fn key_from(
         seed,
         next: 0,
     };
-    Ok((file, signer.public()))
+    Ok(NewKey {
+        file: file.encode(),
+        public: signer.public(),
+    })
 }
 
-/// The entropy in a file. No more than 49 bytes are read, so a file without an end is of a wrong length.
-fn read_entropy<R: Files>(files: &R, path: &str) -> Result<Entropy, KeygenFault> {
-    let Ok(mut file) = File::open(files, path) else {
-        return Err(KeygenFault::Unread);
+/// Reads the entropy in a file. No more than 49 bytes are read, so a file may have no end.
+fn read_entropy(rt: &HostRuntime, path: &str) -> Result<Entropy, KeygenFault> {
+    let alloc = rt.alloc();
+    let bytes = match File::open(rt, path).and_then(|file| first_bytes(alloc, file)) {
+        Ok(bytes) => bytes,
+        Err(reason) => return Err(KeygenFault::unread(alloc, path, reason)),
     };
-    let mut id = [0u8; 16];
-    let mut seed = [0u8; 32];
-    fill(&mut file, &mut id)?;
-    fill(&mut file, &mut seed)?;
-    match fill(&mut file, &mut [0u8; 1]) {
-        Ok(()) => Err(KeygenFault::WrongLength),
-        Err(KeygenFault::WrongLength) => Ok(Entropy { id, seed }),
-        Err(fault) => Err(fault),
+    if let Some(entropy) = Entropy::of_bytes(bytes.as_slice()) {
+        return Ok(entropy);
     }
-}
-
-/// Fills the bytes from a reader. `WrongLength` where it ends before.
-fn fill<F: Read>(reader: &mut F, bytes: &mut [u8]) -> Result<(), KeygenFault> {
-    match reader.read_exact(bytes) {
-        Ok(()) => Ok(()),
-        Err(error) if error.kind() == ErrorKind::UnexpectedEof => Err(KeygenFault::WrongLength),
-        Err(_) => Err(KeygenFault::Unread),
+    let path = String::from_str(alloc, path)?;
+    if LENGTH < bytes.len() {
+        return Err(KeygenFault::TooLong { path });
     }
-}
-
-/// Writes a file whole: a reader of `path` finds what stood there before or these bytes, and never a part of them.
-fn write_whole<R: Files>(
-    alloc: Global,
-    files: &R,
-    path: &str,
-    bytes: &[u8],
-    mode: u32,
-) -> Result<(), KeygenFault> {
-    let part = format!(in alloc; "{path}.part")?;
-    // What an earlier run left behind may have other permissions.
-    let _ = fs::remove_file(files, part.as_str());
-    let written = write_new(files, part.as_str(), bytes, mode).and_then(|()| fs::rename(
-        files,
-        part.as_str(),
+    Err(KeygenFault::TooShort {
         path,
-    ));
-    if written.is_err() {
-        let _ = fs::remove_file(files, part.as_str());
-        return Err(KeygenFault::Unwritten);
-    }
-    Ok(())
+        length: bytes.len(),
+    })
 }
 
-/// Writes a file that isn't there yet, and waits until the disk has it.
-fn write_new<R: Files>(files: &R, path: &str, bytes: &[u8], mode: u32) -> io::Result<()> {
-    let mut file = OpenOptions::new()
-        .write(true)
-        .create_new(true)
-        .mode(mode)
-        .open(files, path)?;
-    file.write_all(bytes)?;
-    file.sync_all()
+/// Reads to the end, or 49 bytes.
+fn first_bytes<F: Read + Drop>(alloc: Global, reader: F) -> io::Result<Vec<u8>>
+    ensures { IfOk result (λ bytes. (input : List ℕ) → F.remaining reader ≡ Some input →
+        bytes.items ≡ take 49 input) }
+{
+    let mut bytes = Vec::new(alloc);
+    reader.take(49).read_to_end(&mut bytes)?;
+    Ok(bytes)
 }
