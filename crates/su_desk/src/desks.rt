@@ -19,7 +19,7 @@ use su_inverse::build;
 use su_op::{Change, Op};
 use su_table::Forest;
 
-/// A history of changes, and the tree of its live operations. It is seen as its roster and its
+/// A history of changes, and the tree of its live operations. Its model is its roster and its
 /// history.
 #[derive(Drop)]
 pub struct Desk {

@@ -1,4 +1,4 @@
-// A name goes.
+// Taking a name away, and the file with its last one.
 ghost use Rattle.std.specs.Prelude.{◌≡◌, Some, None, IfOk, OnOk, IfErr};
 ghost use Rattle.su_table.specs.Edit.{edits};
 ghost use Rattle.su_op.specs.Unlink.{unlink_rule, file_goes, accepted_unlink_plan, UnlinkFits};

@@ -1,7 +1,1 @@
-pub mod Numbers
-pub mod EmptyWords
-pub mod Renames
-pub mod Bytes
-pub mod Broken
 pub mod Stepping
-pub mod Refusing

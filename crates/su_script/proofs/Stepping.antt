@@ -4,11 +4,12 @@ use Rattle.std.proofs.lemmas.Bool.Decides.{nat_tests}
 use Rattle.su_script.specs.Session.{SessionState}
 use Rattle.su_script.specs.declared.desk.Status.{Status}
 use Rattle.su_script.specs.declared.desk.Status.TheVariants.{Finished, Fault, BadLine}
+use Rattle.su_script.specs.declared.desk.Ending.TheVariants as ending
 use Rattle.su_script.specs.declared.desk.Step.{Step}
 use Rattle.su_script.specs.declared.desk.Step.TheVariants.{GoesOn, Ends}
-use Rattle.su_script.specs.declared.lines.NextLine.{NextLine}
-use Rattle.su_script.specs.Script.{lines_of, words_of, longest_line, words_command, line_command}
-use Rattle.su_script.specs.Lines.{Reads, ReadsOf}
+use Rattle.su_command.specs.declared.lines.NextLine.{NextLine}
+use Rattle.su_command.specs.Script.{lines_of, words_of, longest_line, words_command, line_command}
+use Rattle.su_command.specs.Lines.{Reads, ReadsOf}
 use Rattle.su_script.specs.Transcript.{Transcript, PrintsFrom}
 use Rattle.su_script.specs.Answer.{bad_text}
 use Rattle.su_script.specs.Step.{Continues, Steps, LineSteps, EndsBadly}
@@ -22,9 +23,9 @@ reads_at next (Some bytes) new input r e = let same : bytes ≡ input = cc in su
 pub steps_line : (d : SessionState) (k : ℕ) (input before : List ℕ) (d' : SessionState) (line rest : List ℕ) (known contents : Option (List ℕ)) (t : Step) → lines_of input ≡ line ∷ lines_of rest → known ≡ Some rest → (line ≡ [] → ⊥)
     → LineSteps d k line before d' contents t → Steps d k input before d' known contents t
 steps_line d k input before d' [] rest known contents t is left some step = absurd (some refl)
-steps_line d k input before d' (b ∷ bs) rest known contents (Ends Fault) is left some step = tt
-steps_line d k input before d' (b ∷ bs) rest known contents (Ends Finished) is left some step = absurd (let bad : Finished ≡ BadLine = step.2 in cc)
-steps_line d k input before d' (b ∷ bs) rest known contents (Ends BadLine) is left some step =
+steps_line d k input before d' (b ∷ bs) rest known contents (Ends (ending.Failed fault)) is left some step = tt
+steps_line d k input before d' (b ∷ bs) rest known contents (Ends ending.Finished) is left some step = absurd (let bad : Finished ≡ BadLine = step.2 in cc)
+steps_line d k input before d' (b ∷ bs) rest known contents (Ends (ending.BadLine n m)) is left some step =
     (bad_text k, step.1, subst (λ ls. Transcript d k ls (bad_text k) BadLine) (sym is) (inl (step.0, refl, refl)))
 steps_line d k input before d' (b ∷ bs) rest known contents GoesOn is left some (first, says, written) =
     (first, rest, left, written, λ out status more. subst (λ ls. Transcript d k ls (first ++ out) status) (sym is) (inr (first, out, d', says, refl, more)))

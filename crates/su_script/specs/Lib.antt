@@ -1,8 +1,3 @@
-pub mod Script
-pub mod Raw
-pub mod Range
-pub mod Lines
-pub mod Unread
 pub mod Answer
 pub mod Session
 pub mod Transcript

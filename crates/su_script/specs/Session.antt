@@ -17,10 +17,10 @@ use Rattle.su_op.specs.declared.operations.Change.TheVariants.{Undo}
 use Rattle.su_desk.specs.History.{tree, last_live}
 use Rattle.su_desk.specs.Version.{versions}
 use Rattle.su_desk.specs.Desk.{DeskState, Answers}
-use Rattle.su_script.specs.declared.ranges.Command.{Command}
-use Rattle.su_script.specs.declared.ranges.Command.TheVariants.{Apply, UndoLast, Ask, Versions, Mark, Same}
-use Rattle.su_script.specs.declared.ranges.Question.{Question}
-use Rattle.su_script.specs.declared.ranges.Question.TheVariants.{List as Listing, Read, Describe, Handle}
+use Rattle.su_command.specs.declared.ranges.Command.{Command}
+use Rattle.su_command.specs.declared.ranges.Command.TheVariants.{Apply, UndoLast, Ask, Versions, Mark, Same}
+use Rattle.su_command.specs.declared.ranges.Question.{Question}
+use Rattle.su_command.specs.declared.ranges.Question.TheVariants.{List as Listing, Read, Describe, Handle}
 use Rattle.su_script.specs.Answer.{answer_text, refused_text, listing_text, bytes_text, description_text, digest_line, versions_text}
 
 -- a desk, and the digests that were kept to compare with

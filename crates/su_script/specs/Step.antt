@@ -5,8 +5,8 @@ use Rattle.su_script.specs.declared.desk.Status.{Status}
 use Rattle.su_script.specs.declared.desk.Status.TheVariants.{Fault, BadLine}
 use Rattle.su_script.specs.declared.desk.Step.{Step}
 use Rattle.su_script.specs.declared.desk.Step.TheVariants.{GoesOn, Ends}
-use Rattle.su_script.specs.Script.{lines_of, line_command}
-use Rattle.su_script.specs.Transcript.{LineSays, Transcript, PrintsFrom}
+use Rattle.su_command.specs.Script.{lines_of, line_command}
+use Rattle.su_script.specs.Transcript.{LineSays, Transcript, PrintsFrom, status_of}
 use Rattle.su_script.specs.Answer.{bad_text}
 
 -- Some of the input was carried out and its text written; what the rest prints comes after it.
@@ -20,16 +20,22 @@ Continues d k input before d' k' known contents =
 -- a step ends the run, or it continues with the next line
 abbrev pub Steps : SessionState → ℕ → List ℕ → List ℕ
     → SessionState → Option (List ℕ) → Option (List ℕ) → Step → Type 0
-Steps d k input before d' known contents (Ends status) = PrintsFrom d k input before contents status
+Steps d k input before d' known contents (Ends ending) =
+    PrintsFrom d k input before contents (status_of ending)
 Steps d k input before d' known contents GoesOn =
     Continues d k input before d' (k + 1) known contents
+
+-- a line ends a run where it is no command, unless a fault comes first
+abbrev pub LineEnds : ℕ → List ℕ → List ℕ → Option (List ℕ) → Status → Type 0
+LineEnds k line before contents Fault = Unit {0}
+LineEnds k line before contents status =
+    (line_command line ≡ None) × (contents ≡ Some (before ++ bad_text k)) × (status ≡ BadLine)
 
 -- what a line that is not empty does
 abbrev pub LineSteps : SessionState → ℕ → List ℕ → List ℕ
     → SessionState → Option (List ℕ) → Step → Type 0
-LineSteps d k line before d' contents (Ends Fault) = Unit {0}
-LineSteps d k line before d' contents (Ends status) =
-    (line_command line ≡ None) × (contents ≡ Some (before ++ bad_text k)) × (status ≡ BadLine)
+LineSteps d k line before d' contents (Ends ending) =
+    LineEnds k line before contents (status_of ending)
 LineSteps d k line before d' contents GoesOn =
     (first : List ℕ) × LineSays d line first d' × (contents ≡ Some (before ++ first))
 

@@ -5,13 +5,21 @@ use Rattle.su_bytes.specs.declared.refusals.Refusal.{Refusal}
 use Rattle.su_bytes.specs.declared.rosters.TheConstants.{KEY_LENGTH}
 use Rattle.su_bytes.specs.declared.refusals.Refusal.TheVariants.{NoMemory}
 use Rattle.su_desk.specs.Desk.{DeskState}
-use Rattle.su_script.specs.declared.ranges.Command.{Command}
+use Rattle.su_command.specs.declared.ranges.Command.{Command}
+use Rattle.su_script.specs.declared.desk.Ending.{Ending}
+use Rattle.su_script.specs.declared.desk.Ending.TheVariants as ending
 use Rattle.su_script.specs.declared.desk.Status.{Status}
 use Rattle.su_script.specs.declared.desk.Status.TheVariants.{Finished, Fault, BadLine}
-use Rattle.su_script.specs.Script.{lines_of, line_command}
-use Rattle.su_script.specs.Range.{word_refusal}
+use Rattle.su_command.specs.Script.{lines_of, line_command}
+use Rattle.su_command.specs.Range.{word_refusal}
 use Rattle.su_script.specs.Answer.{refused_text, bad_text}
 use Rattle.su_script.specs.Session.{SessionState, Does}
+
+-- the status of a program whose run ended so
+abbrev pub status_of : Ending → Status
+status_of ending.Finished = Finished
+status_of (ending.BadLine number mistake) = BadLine
+status_of (ending.Failed fault) = Fault
 
 -- the exit status
 abbrev pub status_code : Status → ℕ

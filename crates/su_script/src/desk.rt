@@ -1,22 +1,20 @@
 // Running a script on a desk.
 ghost use Rattle.std.specs.Prelude.{◌≡◌, ◌≤◌, ◌⊎◌, ℕ, List, None, Some, IfOk, OnOk, MatchOption, replicate};
 ghost use Rattle.std.specs.Io.KnownBytes.{Appends};
-ghost use Rattle.su_script.specs.Script.{line_command};
+ghost use Rattle.su_command.specs.Script.{line_command};
 ghost use Rattle.su_script.specs.Step.{EndsBadly, LineSteps, Steps};
-ghost use Rattle.su_script.specs.Transcript.{LineSays, Prints, PrintsFrom, new_desk, status_code};
-ghost use Rattle.su_script.specs.Unread.{unread};
+ghost use Rattle.su_script.specs.Transcript.{LineSays, Prints, PrintsFrom, new_desk, status_code, status_of};
+ghost use Rattle.su_command.specs.Unread.{unread};
 
-use crate::lines::{LineReader, NextLine};
-use crate::parse::parse_line;
-use crate::ranges::check_ranges;
 use crate::session::{Session, bad, refused};
 use std::alloc::{AllocError, Global};
-use std::io;
 use std::io::{Read, Write};
+use std::{fmt, io};
 use su_bytes::{KEY_LENGTH, Refusal, Roster};
+use su_command::{LineReader, Mistake, NextLine, check_ranges, mistake_in, parse_line};
 use su_desk::Desk;
 
-/// How a run of a program ended.
+/// The status that a program ends with.
 #[derive(Clone, Copy, Debug, PartialEq, Eq)]
 pub enum Status {
     /// The input was carried out, refusals among the answers: 0.
@@ -40,11 +38,59 @@ impl Status {
     }
 }
 
+/// How a run ended, and why.
+#[derive(Debug, Drop)]
+pub enum Ending {
+    /// All lines were carried out.
+    Finished,
+    /// The line with that number, from 1, is no command; its first mistake, where there was memory
+    /// to look for it.
+    BadLine {
+        number: u64,
+        mistake: Option<Mistake>,
+    },
+    /// Something failed.
+    Failed(Fault),
+}
+
+impl Ending {
+    /// Returns the status of a program whose run ended so.
+    pub fn status(&self) -> Status
+        ensures { result ≡ status_of self.now }
+    {
+        match self {
+            Ending::Finished => Status::Finished,
+            Ending::BadLine { .. } => Status::BadLine,
+            Ending::Failed(_) => Status::Fault,
+        }
+    }
+}
+
+/// What failed in a run.
+#[derive(Debug, Drop)]
+pub enum Fault {
+    /// Reading the script.
+    Reading(io::Error),
+    /// Writing an answer.
+    Writing(io::Error),
+    NoMemory,
+}
+
+impl fmt::Display for Fault {
+    fn fmt<W: fmt::Write>(&self, f: &mut fmt::Formatter<W>) -> fmt::Result {
+        match self {
+            Fault::Reading(error) => write!(f, "reading the script: {error}"),
+            Fault::Writing(error) => write!(f, "writing an answer: {error}"),
+            Fault::NoMemory => write!(f, "out of memory"),
+        }
+    }
+}
+
 /// Whether a run goes on after a line.
-#[derive(Clone, Copy)]
+#[derive(Drop)]
 enum Step {
     GoesOn,
-    Ends(Status),
+    Ends(Ending),
 }
 
 /// Runs a script on a new desk of `users` users, 1 to 64, and prints what it answers.
@@ -53,14 +99,14 @@ pub fn run_desk<R: Read + Drop, W: Write>(
     reader: R,
     writer: &mut W,
     users: u8,
-) -> Status
+) -> Ending
     requires { (1 ≤ users) × (users ≤ 64) }
     ensures { (input before : List ℕ) →
         R.remaining reader ≡ Some input → W.contents writer.old ≡ Some before →
-        Prints users input before (W.contents writer.new) result }
+        Prints users input before (W.contents writer.new) (status_of result) }
 {
     let Ok(desk) = new_desk(alloc, users) else {
-        return Status::Fault;
+        return Ending::Failed(Fault::NoMemory);
     };
     run(
         alloc,
@@ -96,17 +142,17 @@ fn run<R: Read + Drop, W: Write>(
     mut session: Session,
     mut lines: LineReader<R>,
     writer: &mut W,
-) -> Status
+) -> Ending
     ensures { (input before : List ℕ) →
         unread R.remaining lines ≡ Some input → W.contents writer.old ≡ Some before →
-        PrintsFrom session 1 input before (W.contents writer.new) result }
+        PrintsFrom session 1 input before (W.contents writer.new) (status_of result) }
 {
     for number in 1..u64::MAX {
-        if let Step::Ends(status) = next_step(alloc, &mut session, &mut lines, writer, number) {
-            return status;
+        if let Step::Ends(ending) = next_step(alloc, &mut session, &mut lines, writer, number) {
+            return ending;
         }
     }
-    Status::Fault
+    Ending::Failed(Fault::Reading(io::Error::other("it has too many lines")))
 }
 
 /// Carries out the next line, which has that number, and prints its answer.
@@ -123,15 +169,15 @@ fn next_step<R: Read + Drop, W: Write>(
         session.new (unread R.remaining lines.new) (W.contents writer.new) result }
 {
     match lines.next_line() {
-        Ok(NextLine::Line(line)) => {
-            if line.is_empty() {
-                return Step::GoesOn;
-            }
-            line_step(alloc, session, line.as_slice(), writer, number)
+        Ok(NextLine::Line(line)) => match line.as_slice() {
+            [] => Step::GoesOn,
+            line => line_step(alloc, session, line, writer, number),
+        },
+        Ok(NextLine::TooLong) => {
+            Step::Ends(end_badly(alloc, writer, number, Some(Mistake::LongLine)))
         }
-        Ok(NextLine::TooLong) => Step::Ends(end_badly(alloc, writer, number)),
-        Ok(NextLine::End) => Step::Ends(Status::Finished),
-        Err(_) => Step::Ends(Status::Fault),
+        Ok(NextLine::End) => Step::Ends(Ending::Finished),
+        Err(error) => Step::Ends(Ending::Failed(Fault::Reading(error))),
     }
 }
 
@@ -149,10 +195,13 @@ fn line_step<W: Write>(
     match answer_line(alloc, session, line) {
         Ok(Some(text)) => match print(writer, text.as_slice()) {
             Ok(()) => Step::GoesOn,
-            Err(_) => Step::Ends(Status::Fault),
+            Err(error) => Step::Ends(Ending::Failed(Fault::Writing(error))),
         },
-        Ok(None) => Step::Ends(end_badly(alloc, writer, number)),
-        Err(_) => Step::Ends(Status::Fault),
+        Ok(None) => {
+            let mistake = mistake_in(alloc, line).ok();
+            Step::Ends(end_badly(alloc, writer, number, mistake))
+        }
+        Err(_) => Step::Ends(Ending::Failed(Fault::NoMemory)),
     }
 }
 
@@ -180,16 +229,21 @@ fn answer_line(
 }
 
 /// Prints that the line is bad, which ends the run.
-fn end_badly<W: Write>(alloc: Global, writer: &mut W, number: u64) -> Status
+fn end_badly<W: Write>(
+    alloc: Global,
+    writer: &mut W,
+    number: u64,
+    mistake: Option<Mistake>,
+) -> Ending
     ensures { (before : List ℕ) → W.contents writer.old ≡ Some before →
-        EndsBadly number before (W.contents writer.new) result }
+        EndsBadly number before (W.contents writer.new) (status_of result) }
 {
     let Ok(text) = bad(alloc, number) else {
-        return Status::Fault;
+        return Ending::Failed(Fault::NoMemory);
     };
     match print(writer, text.as_slice()) {
-        Ok(()) => Status::BadLine,
-        Err(_) => Status::Fault,
+        Ok(()) => Ending::BadLine { number, mistake },
+        Err(error) => Ending::Failed(Fault::Writing(error)),
     }
 }
 

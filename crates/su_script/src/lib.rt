@@ -1,13 +1,10 @@
-//! A desk script: its lines, the command that each says, and what a desk answers.
+//! A desk script: what a desk answers to each line.
 #![tactic(auto)]
 
 mod desk;
-mod lines;
-mod parse;
-mod ranges;
 mod session;
 #[cfg(test)]
 mod tests;
 
-pub use desk::{Status, run_desk};
-pub use parse::DESK_WORDS;
+pub use desk::{Ending, Fault, Status, run_desk};
+pub use su_command::{DESK_WORDS, Mistake};

@@ -3,13 +3,13 @@ ghost use Rattle.std.specs.Prelude.{◌≡◌, ◌⊎◌, ◌++◌, None, Some, 
 ghost use Rattle.su_bytes.specs.declared.refusals.Refusal.TheVariants.{NoMemory};
 ghost use Rattle.su_table.specs.Handle.{handle};
 ghost use Rattle.su_script.specs.Answer.{answer_text, refused_text, name_text, listing_text, bytes_text, inode_text, digest_line, kind_text, bad_text, version_text, versions_text, description_text};
-ghost use Rattle.su_script.specs.declared.ranges.Command.TheVariants.{Mark, Same};
+ghost use Rattle.su_command.specs.declared.ranges.Command.TheVariants.{Mark, Same};
 ghost use Rattle.su_script.specs.Session.{desk_tree, handles, question_text, same_text, description, Does, IsText};
 
-use crate::ranges::{Command, Question};
 use std::alloc::{AllocError, Global};
 use std::marker::Model;
 use su_bytes::{Digest, FileId, Inum, Kind, Name, Principal, Refusal, Roster, User};
+use su_command::{Command, Question};
 use su_desk::Desk;
 use su_node::Inode;
 use su_table::Forest;

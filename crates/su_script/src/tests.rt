@@ -1,6 +1,7 @@
 // Scripts with their answers, bad lines of each kind, failing readers and writers.
 mod group_files;
 mod linking;
+mod mistakes;
 mod renaming;
 mod trees;
 mod undo;
@@ -21,12 +22,12 @@ type Case<'a> = (&'a str, &'a str);
 /// Of a line that prints nothing, as `mark`. (An empty text is an empty line.)
 const NOTHING: &str = "nothing";
 
-/// A script on a desk of so many users prints this and ends so.
+/// Runs a script on a desk of `users` users: it prints `text` and ends as `wanted`.
 fn run(rt: &(impl Abort + AllocGlobal), users: u8, script: &[u8], text: &str, wanted: Status)
     requires { (1 ≤ users) × (users ≤ 64) }
 {
     let mut out = Vec::new(rt.alloc());
-    let status = run_desk(rt.alloc(), script, &mut out, users);
+    let status = run_desk(rt.alloc(), script, &mut out, users).status();
     assert!(rt; out.as_slice() == text.as_bytes(), "{text}");
     assert!(rt; status == wanted, "{text}");
 }
@@ -71,7 +72,7 @@ impl Script {
     }
 }
 
-/// Each line on a desk of so many users is answered so.
+/// Runs the lines of the cases on a desk of `users` users: each is answered by its text.
 fn expect_of(rt: &(impl Abort + AllocGlobal), users: u8, cases: &[Case<'_>]) -> Result<(), Fail>
     requires { (1 ≤ users) × (users ≤ 64) }
 {
@@ -81,7 +82,7 @@ fn expect_of(rt: &(impl Abort + AllocGlobal), users: u8, cases: &[Case<'_>]) -> 
     Ok(())
 }
 
-/// Each line on a desk of two users is answered so.
+/// Runs the lines of the cases on a desk of two users: each is answered by its text.
 fn expect_each(rt: &(impl Abort + AllocGlobal), cases: &[Case<'_>]) -> Result<(), Fail> {
     expect_of(rt, 2, cases)
 }
@@ -303,7 +304,7 @@ fn a_reader_may_give_a_byte_at_a_time(rt: HostRuntime) {
         bytes: SCRIPT,
         reads: 1000,
     };
-    assert!(rt; run_desk(rt.alloc(), reader, &mut out, 2) == Status::Finished);
+    assert!(rt; run_desk(rt.alloc(), reader, &mut out, 2).status() == Status::Finished);
     assert!(rt; out.as_slice() == ANSWERS);
 }
 
@@ -315,7 +316,7 @@ fn a_reader_that_fails_is_a_fault(rt: HostRuntime) {
             bytes: SCRIPT,
             reads,
         };
-        assert!(rt; run_desk(rt.alloc(), reader, &mut out, 2) == Status::Fault);
+        assert!(rt; run_desk(rt.alloc(), reader, &mut out, 2).status() == Status::Fault);
         assert!(rt; ANSWERS.starts_with(out.as_slice()), "{reads}");
     }
 }
@@ -327,7 +328,7 @@ fn a_writer_that_fails_is_a_fault(rt: HostRuntime) {
             taken: Vec::new(rt.alloc()),
             writes,
         };
-        assert!(rt; run_desk(rt.alloc(), SCRIPT, &mut out, 2) == Status::Fault);
+        assert!(rt; run_desk(rt.alloc(), SCRIPT, &mut out, 2).status() == Status::Fault);
         assert!(rt; ANSWERS.starts_with(out.taken.as_slice()), "{writes}");
     }
 }

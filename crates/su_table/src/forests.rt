@@ -16,7 +16,7 @@ use std::marker::Model;
 use su_bytes::{FileId, Group, GroupFile, Inum, Kind, Name, Place, Refusal, Roster, User};
 use su_node::Inode;
 
-/// All i-tables of a store. It is seen as the plain tree that they make.
+/// All i-tables of a store. Its model is the plain tree that they make.
 #[derive(Drop)]
 pub struct Forest {
     inodes: BTreeMap<Place, Inode>,

@@ -1,5 +1,5 @@
-//! All i-tables of a store in memory: inodes by user and i-number, and the bodies of group files. They are seen as the
-//! plain tree.
+//! All i-tables of a store in memory: inodes by user and i-number, and the bodies of group files.
+//! Their model is the plain tree.
 #![tactic(auto)]
 
 mod forests;

@@ -21,7 +21,7 @@ use std::io::{ErrorKind, Read, Write};
 use std::process::ExitCode;
 use std::{env, io};
 use su_lms::Params;
-use su_script::{Status, run_desk};
+use su_script::{Ending, Fault, Status, run_desk};
 
 fn main(rt: HostRuntime) -> ExitCode {
     let status = match command_line(&rt) {
@@ -71,7 +71,7 @@ fn carry_out<R: Read + Drop, W: Write>(
     }
 }
 
-/// Runs a script on a new desk of so many users, 1 to 64.
+/// Runs a script on a new desk of `users` users, 1 to 64.
 fn run_script<R: Read + Drop, W: Write>(
     rt: &HostRuntime,
     users: u8,
@@ -83,13 +83,23 @@ fn run_script<R: Read + Drop, W: Write>(
         → R.remaining reader ≡ Some input → W.contents writer.old ≡ Some before
         → Prints users input before (W.contents writer.new) result }
 {
-    let status = run_desk(rt.alloc(), reader, writer, users);
-    if status == Status::Fault {
-        let _ = eprintln!(rt;
-            "reading the script or writing an answer failed, or there was no memory"
-        );
-    }
-    status
+    let ending = run_desk(rt.alloc(), reader, writer, users);
+    tell_ending(rt, &ending);
+    ending.status()
+}
+
+/// Tells on standard error why a run ended before its input did; nothing where nobody reads the
+/// answers any more.
+fn tell_ending(rt: &HostRuntime, ending: &Ending) {
+    let _ = match ending {
+        Ending::BadLine {
+            number,
+            mistake: Some(mistake),
+        } => eprintln!(rt; "sundr: line {number}: {mistake}"),
+        Ending::Failed(Fault::Writing(error)) if error.kind() == ErrorKind::BrokenPipe => Ok(()),
+        Ending::Failed(fault) => eprintln!(rt; "sundr: {fault}"),
+        _ => Ok(()),
+    };
 }
 
 /// Makes a key, and prints its public key.

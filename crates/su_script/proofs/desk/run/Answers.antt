@@ -1,3 +1,4 @@
+use Rattle.su_script.specs.Transcript.{status_of}
 use Rattle.su_script.proofs.Stepping.{continues_none, continues_further, continues_end}
 use Rattle.su_script.proofs.desk.run.Goals as goal
 
@@ -6,7 +7,7 @@ loop-number-init g c = λ input before known contents. continues_none c.args.ses
 
 pub returns-in-Ends : goal.returns-in-Ends
 returns-in-Ends g c = λ input before known contents.
-    continues_end c.args.session c.loop-number.session 1 c.loop-number.number input before _ _ _ c.in-Ends.status (c.loop-number.invariant input before known contents) c.in-Ends.ensures
+    continues_end c.args.session c.loop-number.session 1 c.loop-number.number input before _ _ _ (status_of c.in-Ends.ending) (c.loop-number.invariant input before known contents) c.in-Ends.ensures
 
 pub loop-number-preserved : goal.loop-number-preserved
 loop-number-preserved g c = λ input before known contents.

@@ -1,5 +1,5 @@
 use Rattle.std.proofs.Common.{◌≡◌, ℕ, List, Some}
-use Rattle.su_script.specs.Unread.{unread}
+use Rattle.su_command.specs.Unread.{unread}
 use Rattle.su_script.specs.Step.{Continues}
 use Rattle.su_script.proofs.desk.run.Given as goal
 

@@ -1,0 +1,5 @@
+pub mod Script
+pub mod Raw
+pub mod Range
+pub mod Lines
+pub mod Unread

@@ -1,0 +1,135 @@
+// Why a line is no command, in words for whoever wrote it. What a script does never rests on it.
+use crate::lines::LONGEST_LINE;
+use crate::mistakes::WordKind::{File, Hex, Name, Number, Principal};
+use crate::parse::{
+    CHANGES, QUESTIONS, has_empty_word, read_file, read_number, read_principal, split_words,
+};
+use std::alloc::{AllocError, Global};
+use std::fmt;
+
+/// Why a line is no command: the first mistake in it.
+#[derive(Clone, Copy, Debug, PartialEq, Eq)]
+pub enum Mistake {
+    /// It has more than `LONGEST_LINE` bytes.
+    LongLine,
+    /// It ends in a carriage return.
+    CarriageReturn,
+    /// It has two spaces in a row, or a space at an end.
+    EmptyWord,
+    /// Its word is that of no command.
+    UnknownCommand,
+    /// The word with that number, from 1, isn't what stands there in this command.
+    WrongWord(usize, WordKind),
+    FewWords,
+    ManyWords,
+    /// It makes a file of a group, and doesn't say where the body stands.
+    NoBody,
+}
+
+/// What a word of a command is.
+#[derive(Clone, Copy, Debug, PartialEq, Eq)]
+pub enum WordKind {
+    Number,
+    Name,
+    File,
+    Principal,
+    Hex,
+}
+
+/// A command's own word, and what the words after it are; the last `optional` may be left out.
+pub struct Form<'a> {
+    pub command: &'a str,
+    pub words: &'a [WordKind],
+    pub optional: usize,
+}
+
+/// Tells the first mistake in a line that is no command.
+pub fn mistake_in(alloc: Global, line: &[u8]) -> Result<Mistake, AllocError> {
+    if LONGEST_LINE < line.len() {
+        return Ok(Mistake::LongLine);
+    }
+    if line.last() == Some(&b'\r') {
+        return Ok(Mistake::CarriageReturn);
+    }
+    let words = split_words(alloc, line)?;
+    if has_empty_word(words.as_slice()) {
+        return Ok(Mistake::EmptyWord);
+    }
+    Ok(mistake_in_words(words.as_slice()))
+}
+
+/// Tells the first mistake in words of which none is empty.
+fn mistake_in_words(words: &[&[u8]]) -> Mistake {
+    match words {
+        [] => Mistake::FewWords,
+        [user] if read_number(user).is_some() => Mistake::FewWords,
+        [user, command, arguments @ ..] if read_number(user).is_some() => {
+            mistake_in_command(&CHANGES, command, arguments, 3)
+        }
+        [command, arguments @ ..] => mistake_in_command(&QUESTIONS, command, arguments, 2),
+    }
+}
+
+/// Tells the first mistake in a command and the words after it, of which the first has that number.
+fn mistake_in_command(
+    forms: &[Form<'_>],
+    command: &[u8],
+    arguments: &[&[u8]],
+    first: usize,
+) -> Mistake {
+    let Some(form) = forms.iter().find(|form| form.command.as_bytes() == command) else {
+        return Mistake::UnknownCommand;
+    };
+    let pairs = arguments.iter().zip(form.words);
+    for (place, (word, kind)) in pairs.enumerate() {
+        if !is_of_kind(word, *kind) {
+            return Mistake::WrongWord(first.saturating_add(place), *kind);
+        }
+    }
+    if arguments.len() > form.words.len() {
+        return Mistake::ManyWords;
+    }
+    if form.words.len() - arguments.len() > form.optional {
+        return Mistake::FewWords;
+    }
+    Mistake::NoBody
+}
+
+/// Whether a word is of that kind. Any word is a name, as far as the line goes.
+fn is_of_kind(word: &[u8], kind: WordKind) -> bool {
+    match kind {
+        Number => read_number(word).is_some(),
+        Name => true,
+        File => read_file(word).is_some(),
+        Principal => read_principal(word).is_some(),
+        Hex => word.len() % 2 == 0 && word.iter().all(|digit| digit.is_ascii_hexdigit()),
+    }
+}
+
+impl fmt::Display for Mistake {
+    fn fmt<W: fmt::Write>(&self, f: &mut fmt::Formatter<W>) -> fmt::Result {
+        match self {
+            Mistake::LongLine => write!(f, "more than {LONGEST_LINE} bytes"),
+            Mistake::CarriageReturn => write!(f, "a carriage return at its end"),
+            Mistake::EmptyWord => write!(f, "two spaces in a row, or a space at an end"),
+            Mistake::UnknownCommand => write!(f, "an unknown command"),
+            Mistake::WrongWord(number, kind) => write!(f, "word {number} is not {kind}"),
+            Mistake::FewWords => write!(f, "too few words"),
+            Mistake::ManyWords => write!(f, "too many words"),
+            Mistake::NoBody => write!(f, "a file of a group needs a BODY"),
+        }
+    }
+}
+
+impl fmt::Display for WordKind {
+    fn fmt<W: fmt::Write>(&self, f: &mut fmt::Formatter<W>) -> fmt::Result {
+        let text = match self {
+            Number => "a number of at most 20 digits that fits 64 bits",
+            Name => "a name",
+            File => "a file id, as U0:2 or G0:1",
+            Principal => "a user or a group, as U0 or G0",
+            Hex => "bytes in hex, two digits each",
+        };
+        f.write_str(text)
+    }
+}

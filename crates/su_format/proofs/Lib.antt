@@ -1,0 +1,3 @@
+mod Formats
+mod Parts
+pub mod Public
