@@ -47,7 +47,8 @@ impl From<AllocError> for LineFault {
     }
 }
 
-/// What these words ask for, the first of which is the program's own name. `Usage` where they make no command line.
+/// Reads what these words ask for, the first of which is the program's own name. `Usage` where they
+/// make no command line.
 pub fn line_of<'a>(alloc: Global, words: &'a [&'a str]) -> Result<Line, LineFault>
     ensures { IfOk result HasGoodNumbers }
 {
@@ -63,7 +64,7 @@ pub fn line_of<'a>(alloc: Global, words: &'a [&'a str]) -> Result<Line, LineFaul
     }
 }
 
-/// The whole command line, with a help text of the desk.
+/// Builds the whole command line, with a help text of the desk.
 fn program<'a>(alloc: Global, desk_help: &'a str) -> Result<Command<'a>, AllocError> {
     Command::new(alloc, "sundr")
         .long_about(ABOUT)
@@ -108,7 +109,7 @@ fn keygen_command<'a>(alloc: Global) -> Result<Command<'a>, AllocError> {
         .arg(width)
 }
 
-/// An option that has to be given.
+/// Builds an option that has to be given.
 fn needed<'a>(alloc: Global, name: &'a str, value: &'a str) -> Arg<'a> {
     Arg::new(alloc, name)
         .long(name)
@@ -120,7 +121,7 @@ const HEIGHTS: [&str; 2] = ["5", "10"];
 
 const WIDTHS: [&str; 2] = ["4", "8"];
 
-/// Help and the version are texts to be shown, and anything else is a fault.
+/// Takes help and the version as texts to be shown, and anything else as a fault.
 fn shown(alloc: Global, error: &clap::Error) -> Result<Line, LineFault>
     ensures { IfOk result HasGoodNumbers }
 {
@@ -172,8 +173,8 @@ fn keygen(alloc: Global, values: &ArgMatches<'_>) -> Result<Line, LineFault>
     })
 }
 
-/// The parameter set of a tree of that height and coefficients of that width, by the type numbers of RFC 8554,
-/// Sections 4.1 and 5.1.
+/// Returns the parameter set of a tree of that height and coefficients of that width, by the type
+/// numbers of RFC 8554, Sections 4.1 and 5.1.
 fn params_of(height: &str, width: &str) -> Option<Params>
     ensures height { IfSome result (λ p. digits_value 10 height.now ≡ height_of p.lms) }
     ensures width { IfSome result (λ p. digits_value 10 width.now ≡ width_of p.ots) }

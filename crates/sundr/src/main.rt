@@ -1,5 +1,5 @@
-//! `sundr desk` reads a script on standard input, a command a line, and prints an answer for each. `sundr keygen` makes a
-//! key for signatures.
+//! `sundr desk` reads a script on standard input, a command a line, and prints an answer for each.
+//! `sundr keygen` makes a key for signatures.
 #![tactic(auto)]
 
 ghost use Rattle.std.specs.Prelude.{◌≡◌, ℕ, List, Some, IfOk, ◌≤◌, string_bytes};
@@ -13,10 +13,12 @@ mod help;
 mod keygen;
 mod line;
 mod pairs;
+mod prompts;
 
 use faults::KeygenFault;
 use keygen::make_key;
 use line::{Line, LineFault, line_of};
+use prompts::Prompting;
 use std::io::{ErrorKind, Read, Write};
 use std::process::ExitCode;
 use std::{env, io};
@@ -25,7 +27,10 @@ use su_script::{Ending, Fault, Status, run_desk};
 
 fn main(rt: HostRuntime) -> ExitCode {
     let status = match command_line(&rt) {
-        Ok(line) => carry_out(&rt, line, rt.reader(), &mut io::writer(&rt)),
+        Ok(line) => {
+            let reader = Prompting::new(&rt, rt.reader());
+            carry_out(&rt, line, reader, &mut io::writer(&rt))
+        }
         Err(fault) => refuse(&rt, &fault),
     };
     ExitCode::from(status.code())
