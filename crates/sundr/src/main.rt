@@ -4,26 +4,20 @@
 
 ghost use Rattle.std.specs.Prelude.{◌≡◌, ℕ, List, Some, IfOk, ◌≤◌, string_bytes};
 ghost use Rattle.su_script.specs.Transcript.{Prints};
+ghost use Rattle.su_arguments.specs.Line.{HasGoodNumbers};
 ghost use Rattle.sundr.specs.Key.{IsPublicLine};
-ghost use Rattle.sundr.specs.Line.{HasGoodNumbers, refused_status};
-ghost use Rattle.sundr.specs.Run.{CarriesOut, PrintsUnlessFault};
+ghost use Rattle.sundr.specs.Run.{CarriesOut, PrintsUnlessFault, refused_status};
 
-mod faults;
-mod help;
-mod keygen;
-mod line;
-mod pairs;
 mod prompts;
 
-use faults::KeygenFault;
-use keygen::make_key;
-use line::{Line, LineFault, line_of};
 use prompts::Prompting;
 use std::io::{ErrorKind, Read, Write};
 use std::process::ExitCode;
 use std::{env, io};
+use su_arguments::{Line, LineFault, line_of};
+use su_keygen::{KeygenFault, make_key};
 use su_lms::Params;
-use su_script::{Ending, Fault, Status, run_desk};
+use su_script::{DESK_WORDS, Ending, Fault, Status, run_desk};
 
 fn main(rt: HostRuntime) -> ExitCode {
     let status = match command_line(&rt) {
@@ -50,7 +44,7 @@ fn command_line(rt: &HostRuntime) -> Result<Line, LineFault>
     };
     let texts: Vec<String> = arguments.collect(alloc)?;
     let words: Vec<&str> = texts.iter().map(|text| text.as_str()).collect(alloc)?;
-    line_of(alloc, words.as_slice())
+    line_of(alloc, DESK_WORDS, words.as_slice())
 }
 
 /// Carries out a command line with this input and output. A fault is told on standard error.

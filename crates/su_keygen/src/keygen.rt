@@ -2,7 +2,7 @@
 ghost use Rattle.std.specs.Prelude.{◌≡◌, ◌≢◌, ◌↔◌, ◌++◌, ℕ, List, Some, length, take, IfOk, IfSome, IsNone};
 ghost use Rattle.su_lms.specs.PrivateKey.{key_of};
 ghost use Rattle.su_lms.specs.KeyFile.{key_file_bytes, made_key};
-ghost use Rattle.sundr.specs.Key.{IsKeyOf};
+ghost use Rattle.su_keygen.specs.Key.{IsKeyOf};
 
 use crate::faults::KeygenFault;
 use crate::pairs::keep_pair;

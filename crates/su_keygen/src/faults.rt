@@ -1,6 +1,6 @@
 // Why no key was made.
 ghost use Rattle.std.specs.Prelude.{◌≡◌};
-ghost use Rattle.sundr.specs.declared.faults.KeygenFault.TheVariants.{NoMemory};
+ghost use Rattle.su_keygen.specs.declared.faults.KeygenFault.TheVariants.{NoMemory};
 
 use std::alloc::{AllocError, Global};
 use std::io;

@@ -2,14 +2,13 @@
 ghost use Rattle.std.specs.Prelude.{◌≡◌, IfOk, IfSome};
 ghost use Rattle.std.specs.Str.Parse.{digits_value};
 ghost use Rattle.su_lms.specs.ParameterSets.{height_of, width_of};
-ghost use Rattle.sundr.specs.declared.line.LineFault.TheVariants.{NoMemory};
-ghost use Rattle.sundr.specs.Line.{HasGoodNumbers};
+ghost use Rattle.su_arguments.specs.declared.line.LineFault.TheVariants.{NoMemory};
+ghost use Rattle.su_arguments.specs.Line.{HasGoodNumbers};
 
 use crate::help::{ABOUT, DESK_ABOUT, DESK_ANSWERS, KEYGEN_ABOUT, LONG_VERSION};
 use clap::{Arg, ArgMatches, Command};
 use std::alloc::{AllocError, Global};
 use su_lms::Params;
-use su_script::DESK_WORDS;
 use thiserror::Error;
 
 /// What a command line asks for.
@@ -48,11 +47,11 @@ impl From<AllocError> for LineFault {
 }
 
 /// Reads what these words ask for, the first of which is the program's own name. `Usage` where they
-/// make no command line.
-pub fn line_of<'a>(alloc: Global, words: &'a [&'a str]) -> Result<Line, LineFault>
+/// make no command line. `commands` is the text on a script's commands in the help of `desk`.
+pub fn line_of<'a>(alloc: Global, commands: &str, words: &'a [&'a str]) -> Result<Line, LineFault>
     ensures { IfOk result HasGoodNumbers }
 {
-    let desk_help = format!(in alloc; "{DESK_WORDS}\n\n{DESK_ANSWERS}")?;
+    let desk_help = format!(in alloc; "{commands}\n\n{DESK_ANSWERS}")?;
     let matches = match program(alloc, desk_help.as_str())?.try_get_matches_from(words) {
         Ok(matches) => matches,
         Err(error) => return shown(alloc, &error),
