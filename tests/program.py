@@ -5,6 +5,7 @@ on keys that other implementations know, and on scripts by chance against the se
 Prints a line for each case that isn't as it should be, and last 'N passed, M failed'.
 """
 import os
+import pty
 import re
 import subprocess
 import sys
@@ -138,6 +139,24 @@ def faults(room):
     yield "an_argument_that_is_no_text", no_text.returncode == 2 and b"no text" in no_text.stderr
 
 
+def at_a_keyboard(room):
+    """A prompt where somebody types, on a terminal."""
+    terminal, end = pty.openpty()
+    started = subprocess.Popen([PROGRAM, "desk"], cwd=room, stdin=end, stdout=end, stderr=end)
+    os.close(end)
+    os.write(terminal, b"versions\n\x04")
+    seen = b""
+    try:
+        while more := os.read(terminal, 4096):
+            seen += more
+    except OSError:  # the program has closed its end
+        pass
+    os.close(terminal)
+    yield "a_prompt_for_each_line", seen.count(b"> ") == 2 and b"U0=0 U1=0 G0=0 G1=0" in seen and started.wait() == 0
+    told = run(["desk"], "versions\nhello\n")[1]
+    yield "why_a_line_is_bad", told == "sundr: line 2: an unknown command\n"
+
+
 def by_chance(room):
     """Scripts by chance, against the second desk."""
     model = [sys.executable, "-B", f"{HERE}/desk_model.py", room, str(CHANCE_SCRIPTS), str(CHANCE_LINES)]
@@ -154,7 +173,7 @@ def main():
         return 1
     with tempfile.TemporaryDirectory() as room:
         results = dict(examples())
-        for part in (cases, keys, help_texts, faults, by_chance):
+        for part in (cases, keys, help_texts, faults, at_a_keyboard, by_chance):
             results.update(part(room))
     for name, right in results.items():
         if not right:

@@ -56,16 +56,16 @@ const SEED: [u8; 32] = [9; 32];
 /// The blocks of an input of 4,096 bytes, and how often a run hashes it.
 const LONG_BLOCKS: f64 = 65.0;
 
-const LONG_HASHES: u32 = 4_000;
+const LONG_HASHES: u32 = 1_000;
 
 fn now(rt: &impl CpuClock) -> io::Result<f64> {
     Ok(rt.thread_cpu_time()?.as_secs_f64())
 }
 
-/// How many blocks the hash function takes in a second at most, in the best of five runs.
+/// How many blocks the hash function takes in a second at most, in the best of twenty runs.
 fn blocks_per_second(rt: &impl CpuClock) -> io::Result<f64> {
     let mut best = 0.0f64;
-    for _ in 0..5 {
+    for _ in 0..20 {
         let rate = rate_of_a_run(rt)?;
         best = if rate > best { rate } else { best };
     }
