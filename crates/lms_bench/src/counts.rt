@@ -1,34 +1,40 @@
-// How many SHA-256 calls each operation makes.
+// How many blocks of 64 bytes SHA-256 takes in at each operation. An input of n bytes has
+// (n + 8) / 64 + 1: a step of a chain, a private value, a randomizer and a leaf have one, an inner
+// node and the hash of a short message have two.
 use sha2::{Digest, Sha256};
 
 /// I of the measured keys.
 pub const ID: [u8; 16] = [7; 16];
 
-/// The chains of a one-time key, and the steps of a whole chain.
-pub fn chains(ots: u32) -> (f64, f64) {
+/// Returns the chains of a one-time key, the steps of a whole chain, and the blocks of K, which is
+/// hashed over 22 bytes and 32 for each chain.
+pub fn chains(ots: u32) -> (f64, f64, f64) {
     if ots == 3 {
-        (67.0, 15.0)
+        (67.0, 15.0, 34.0)
     } else {
-        (34.0, 255.0)
+        (34.0, 255.0, 18.0)
     }
 }
 
-/// The calls of `generate`: a private value and the steps of each chain, K, the leaf, and the inner nodes.
-pub fn generate_calls(ots: u32, leaves: f64) -> f64 {
-    let (count, last) = chains(ots);
-    leaves * (count * (1.0 + last) + 2.0) + leaves - 1.0
+/// The blocks of `generate`: a private value and the steps of each chain, K, the leaf, and the inner
+/// nodes.
+pub fn generate_blocks(ots: u32, leaves: f64) -> f64 {
+    let (count, last, of_key) = chains(ots);
+    leaves * (count * (1.0 + last) + of_key + 1.0) + 2.0 * (leaves - 1.0)
 }
 
-/// The calls of `sign`: the randomizer, the hash of the message, a private value for each chain, and the steps signed.
-pub fn sign_calls(ots: u32, steps: f64) -> f64 {
-    let (count, _) = chains(ots);
-    2.0 + count + steps
+/// The blocks of `sign`: the randomizer, the hash of the message, a private value for each chain, and
+/// the steps signed.
+pub fn sign_blocks(ots: u32, steps: f64) -> f64 {
+    let (count, _, _) = chains(ots);
+    1.0 + 2.0 + count + steps
 }
 
-/// The calls of `verify`: the hash of the message, the steps that are left, K, the leaf, and the path.
-pub fn verify_calls(ots: u32, steps: f64, height: f64) -> f64 {
-    let (count, last) = chains(ots);
-    3.0 + count * last - steps + height
+/// The blocks of `verify`: the hash of the message, the steps that are left, K, the leaf, and the
+/// path.
+pub fn verify_blocks(ots: u32, steps: f64, height: f64) -> f64 {
+    let (count, last, of_key) = chains(ots);
+    2.0 + count * last - steps + of_key + 1.0 + 2.0 * height
 }
 
 /// How many steps of the chains a signature has gone, by the hash of its message and the checksum.

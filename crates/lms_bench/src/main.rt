@@ -1,5 +1,6 @@
-//! Measures key generation, signing and verification of `su_lms` on one core, beside what the hash function allows.
-//! It measures where it is given the argument `run`, and else says so: what it measures is another thing each time.
+//! Measures key generation, signing and verification of `su_lms` on one core, beside what the hash
+//! function allows. It measures where it is given the argument `run`, and else says so: what it
+//! measures is another thing each time.
 #![tactic(auto)]
 
 mod counts;

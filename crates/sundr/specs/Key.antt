@@ -1,14 +1,10 @@
--- What a key maker hands out.
+-- What a key maker prints.
 use Rattle.std.specs.Prelude.{◌≡◌, ℕ, List, [], ◌∷◌, ◌++◌}
 use Rattle.hex.specs.Hex.{encode_lower}
+use Rattle.su_keygen.specs.Key.{IsKeyOf}
 use Rattle.su_lms.specs.declared.parameters.Params.{Params}
-use Rattle.su_lms.specs.PrivateKey.{key_of}
-use Rattle.su_lms.specs.KeyFile.{made_key}
-
--- the public key of a key of that kind (RFC 8554, Section 5.3)
-abbrev pub IsKeyOf : Params → List ℕ → Type 0
-IsKeyOf params public = (id : List ℕ) × (seed : List ℕ) × (public ≡ key_of (made_key params id seed))
 
 -- a public key in hex digits, and the end of the line
 abbrev pub IsPublicLine : Params → List ℕ → Type 0
-IsPublicLine params text = (public : List ℕ) × IsKeyOf params public × (text ≡ encode_lower public ++ 10 ∷ [])
+IsPublicLine params text =
+    (public : List ℕ) × IsKeyOf params public × (text ≡ encode_lower public ++ 10 ∷ [])

@@ -1,20 +1,33 @@
 -- What the program prints for a command line, and how it ends.
 use Rattle.std.specs.Prelude.{◌≡◌, ℕ, List, ◌++◌, Option, Some, string_bytes}
+use Rattle.su_arguments.specs.declared.line.Line.{Line}
+use Rattle.su_arguments.specs.declared.line.Line.TheVariants.{Desk, Keygen, Text}
+use Rattle.su_arguments.specs.declared.line.LineFault.{LineFault}
+use Rattle.su_arguments.specs.declared.line.LineFault.TheVariants.{Usage, NoMemory}
 use Rattle.su_script.specs.declared.desk.Status.{Status}
 use Rattle.su_script.specs.declared.desk.Status.TheVariants.{Finished, Fault, BadLine}
 use Rattle.su_script.specs.Transcript.{Prints}
-use Rattle.sundr.specs.declared.line.Line.{Line}
-use Rattle.sundr.specs.declared.line.Line.TheVariants.{Desk, Keygen, Text}
 use Rattle.sundr.specs.Key.{IsPublicLine}
 
+-- a wrong command line ends the program as a line that is no command does, want of memory as a
+-- fault
+abbrev pub refused_status : LineFault → Status
+refused_status (Usage text) = BadLine
+refused_status NoMemory = Fault
+
 -- unless a fault ended the run, the writer holds what it held, and then such a text
-abbrev pub PrintsUnlessFault : (List ℕ → Type 0) → List ℕ → Option (List ℕ) → Status → Type 0
-PrintsUnlessFault P before after Finished = (text : List ℕ) × P text × (after ≡ Some (before ++ text))
+abbrev pub PrintsUnlessFault :
+    (List ℕ → Type 0) → List ℕ → Option (List ℕ) → Status → Type 0
+PrintsUnlessFault P before after Finished =
+    (text : List ℕ) × P text × (after ≡ Some (before ++ text))
 PrintsUnlessFault P before after Fault = Unit {0}
 PrintsUnlessFault P before after BadLine = ⊥
 
--- a desk prints the transcript of its script, a key maker the line of a public key, and a text itself
+-- a desk prints the transcript of its script, a key maker the line of a public key, and a text
+-- itself
 abbrev pub CarriesOut : Line → List ℕ → List ℕ → Option (List ℕ) → Status → Type 0
 CarriesOut (Desk users) input before after status = Prints users input before after status
-CarriesOut (Keygen entropy out params) input before after status = PrintsUnlessFault (IsPublicLine params) before after status
-CarriesOut (Text text) input before after status = PrintsUnlessFault (λ t. t ≡ string_bytes text) before after status
+CarriesOut (Keygen entropy out params) input before after status =
+    PrintsUnlessFault (IsPublicLine params) before after status
+CarriesOut (Text text) input before after status =
+    PrintsUnlessFault (λ t. t ≡ string_bytes text) before after status

@@ -1,27 +1,30 @@
-//! `sundr desk` reads a script on standard input, a command a line, and prints an answer for each. `sundr keygen` makes a
-//! key for signatures.
+//! `sundr desk` reads a script on standard input, a command a line, and prints an answer for each.
+//! `sundr keygen` makes a key for signatures.
 #![tactic(auto)]
 
 ghost use Rattle.std.specs.Prelude.{◌≡◌, ℕ, List, Some, IfOk, ◌≤◌, string_bytes};
 ghost use Rattle.su_script.specs.Transcript.{Prints};
+ghost use Rattle.su_arguments.specs.Line.{HasGoodNumbers};
 ghost use Rattle.sundr.specs.Key.{IsPublicLine};
-ghost use Rattle.sundr.specs.Line.{HasGoodNumbers, refused_status};
-ghost use Rattle.sundr.specs.Run.{CarriesOut, PrintsUnlessFault};
+ghost use Rattle.sundr.specs.Run.{CarriesOut, PrintsUnlessFault, refused_status};
 
-mod keygen;
-mod line;
+mod prompts;
 
-use keygen::{KeygenFault, make_key};
-use line::{Line, LineFault, line_of};
+use prompts::Prompting;
 use std::io::{ErrorKind, Read, Write};
 use std::process::ExitCode;
 use std::{env, io};
+use su_arguments::{Line, LineFault, line_of};
+use su_keygen::{KeygenFault, make_key};
 use su_lms::Params;
-use su_script::{Ending, Fault, Status, run_desk};
+use su_script::{DESK_WORDS, Ending, Fault, Status, run_desk};
 
 fn main(rt: HostRuntime) -> ExitCode {
     let status = match command_line(&rt) {
-        Ok(line) => carry_out(&rt, line, rt.reader(), &mut io::writer(&rt)),
+        Ok(line) => {
+            let reader = Prompting::new(&rt, rt.reader());
+            carry_out(&rt, line, reader, &mut io::writer(&rt))
+        }
         Err(fault) => refuse(&rt, &fault),
     };
     ExitCode::from(status.code())
@@ -32,12 +35,16 @@ fn command_line(rt: &HostRuntime) -> Result<Line, LineFault>
     ensures { IfOk result HasGoodNumbers }
 {
     let alloc = rt.alloc();
-    let Ok(arguments) = env::args(rt) else {
-        return Err(LineFault::Usage(String::from_str(alloc, "an argument is no text")?));
+    let arguments = match env::args(rt) {
+        Ok(arguments) => arguments,
+        Err(reason) if reason.kind() == ErrorKind::InvalidData => {
+            return Err(LineFault::Usage(String::from_str(alloc, "error: an argument is no text")?));
+        }
+        Err(_) => return Err(LineFault::NoMemory),
     };
     let texts: Vec<String> = arguments.collect(alloc)?;
     let words: Vec<&str> = texts.iter().map(|text| text.as_str()).collect(alloc)?;
-    line_of(alloc, words.as_slice())
+    line_of(alloc, DESK_WORDS, words.as_slice())
 }
 
 /// Carries out a command line with this input and output. A fault is told on standard error.
@@ -108,7 +115,7 @@ fn new_key<W: Write>(
     match public_line(rt, entropy, out, params) {
         Ok(text) => print(rt, text.as_str(), writer),
         Err(fault) => {
-            let _ = eprintln!(rt; "{fault}");
+            let _ = eprintln!(rt; "sundr: {fault}");
             Status::Fault
         }
     }
@@ -124,20 +131,22 @@ fn public_line(
     ensures { IfOk result (λ text. IsPublicLine params (string_bytes text)) }
 {
     let alloc = rt.alloc();
-    let public = make_key(alloc, rt, entropy, out, params)?;
+    let public = make_key(rt, entropy, out, params)?;
     let digits = hex::encode(alloc, public.as_bytes())?;
     Ok(format!(in alloc; "{digits}\n")?)
 }
 
-/// Prints a text.
+/// Prints a text. That it isn't read to its end is no fault to be told.
 fn print<W: Write>(rt: &HostRuntime, text: &str, writer: &mut W) -> Status
     ensures { (before : List ℕ) → W.contents writer.old ≡ Some before
         → PrintsUnlessFault (λ t. t ≡ text.now) before (W.contents writer.new) result }
 {
     match writer.write_all(text.as_bytes()) {
         Ok(()) => Status::Finished,
-        Err(_) => {
-            let _ = eprintln!(rt; "writing to standard output failed");
+        Err(reason) => {
+            if reason.kind() != ErrorKind::BrokenPipe {
+                let _ = eprintln!(rt; "sundr: writing to standard output: {reason}");
+            }
             Status::Fault
         }
     }
@@ -147,9 +156,14 @@ fn print<W: Write>(rt: &HostRuntime, text: &str, writer: &mut W) -> Status
 fn refuse(rt: &HostRuntime, fault: &LineFault) -> Status
     ensures { result ≡ refused_status fault.now }
 {
-    let _ = eprintln!(rt; "{fault}");
     match fault {
-        LineFault::Usage(_) => Status::BadLine,
-        LineFault::NoMemory => Status::Fault,
+        LineFault::Usage(text) => {
+            let _ = eprintln!(rt; "{}", text.as_str().trim_end());
+            Status::BadLine
+        }
+        LineFault::NoMemory => {
+            let _ = eprintln!(rt; "sundr: {fault}");
+            Status::Fault
+        }
     }
 }

@@ -2,13 +2,13 @@
 ghost use Rattle.std.specs.Prelude.{◌≡◌, IfOk, IfSome};
 ghost use Rattle.std.specs.Str.Parse.{digits_value};
 ghost use Rattle.su_lms.specs.ParameterSets.{height_of, width_of};
-ghost use Rattle.sundr.specs.declared.line.LineFault.TheVariants.{NoMemory};
-ghost use Rattle.sundr.specs.Line.{HasGoodNumbers};
+ghost use Rattle.su_arguments.specs.declared.line.LineFault.TheVariants.{NoMemory};
+ghost use Rattle.su_arguments.specs.Line.{HasGoodNumbers};
 
+use crate::help::{ABOUT, DESK_ABOUT, DESK_ANSWERS, KEYGEN_ABOUT, LONG_VERSION};
 use clap::{Arg, ArgMatches, Command};
 use std::alloc::{AllocError, Global};
 use su_lms::Params;
-use su_script::DESK_WORDS;
 use thiserror::Error;
 
 /// What a command line asks for.
@@ -46,68 +46,69 @@ impl From<AllocError> for LineFault {
     }
 }
 
-/// What these words ask for, the first of which is the program's own name. `Usage` where they make no command line.
-pub fn line_of<'a>(alloc: Global, words: &'a [&'a str]) -> Result<Line, LineFault>
+/// Reads what these words ask for, the first of which is the program's own name. `Usage` where they
+/// make no command line. `commands` is the text on a script's commands in the help of `desk`.
+pub fn line_of<'a>(alloc: Global, commands: &str, words: &'a [&'a str]) -> Result<Line, LineFault>
     ensures { IfOk result HasGoodNumbers }
 {
-    let matches = match program(alloc)?.try_get_matches_from(words) {
+    let desk_help = format!(in alloc; "{commands}\n\n{DESK_ANSWERS}")?;
+    let matches = match program(alloc, desk_help.as_str())?.try_get_matches_from(words) {
         Ok(matches) => matches,
         Err(error) => return shown(alloc, &error),
     };
     match matches.subcommand() {
         Some(("desk", values)) => desk(alloc, values),
         Some(("keygen", values)) => keygen(alloc, values),
-        _ => Err(LineFault::Usage(String::from_str(alloc, "no such subcommand")?)),
+        _ => Err(LineFault::Usage(String::from_str(alloc, "error: no such subcommand")?)),
     }
 }
 
-/// The whole command line.
-fn program<'a>(alloc: Global) -> Result<Command<'a>, AllocError> {
+/// Builds the whole command line, with a help text of the desk.
+fn program<'a>(alloc: Global, desk_help: &'a str) -> Result<Command<'a>, AllocError> {
     Command::new(alloc, "sundr")
-        .about("A shared file store whose every operation can be undone")
+        .long_about(ABOUT)
         .version("0.1.0")
+        .long_version(LONG_VERSION)
         .subcommand_required(true)
-        .subcommand(desk_command(alloc)?)?
+        .subcommand(desk_command(alloc, desk_help)?)?
         .subcommand(keygen_command(alloc)?)
 }
 
-fn desk_command<'a>(alloc: Global) -> Result<Command<'a>, AllocError> {
+fn desk_command<'a>(alloc: Global, help: &'a str) -> Result<Command<'a>, AllocError> {
     let users = Arg::new(alloc, "users")
         .long("users")
         .value_name("N")
         .value_parser(clap::value_parser!(u8).range(1..65))
         .default_value("2")
-        .help("How many users there are, 1 to 64. Group 0 has all of them, group 1 has user 0");
+        .help("How many users, 1 to 64: group 0 has all, group 1 user 0");
     Command::new(alloc, "desk")
-        .about(
-            "Reads a script from standard input, a command a line, and answers each on standard output",
-        )
-        .after_help(DESK_WORDS)
+        .about("Runs a script from standard input")
+        .long_about(DESK_ABOUT)
+        .after_help(help)
         .arg(users)
 }
 
 fn keygen_command<'a>(alloc: Global) -> Result<Command<'a>, AllocError> {
-    let entropy = needed(alloc, "entropy", "FILE").help(
-        "48 random bytes: 16 by which the key is told apart, and 32 that stay secret",
-    );
-    let out = needed(alloc, "out", "FILE").help(
-        "The key file that is written, for its owner alone; FILE.pub gets the public key",
-    );
+    let entropy = needed(alloc, "entropy", "FILE").help("48 random bytes, read once");
+    let out = needed(alloc, "out", "FILE").help("The key file; FILE.pub gets the public key");
     let height = needed(alloc, "height", "5|10")
         .value_parser(HEIGHTS.as_slice())
-        .help("The height of the tree: a key signs 32 or 1,024 times");
+        .hide_possible_values(true)
+        .help("Of the tree: a key signs 32 or 1,024 times");
     let width = needed(alloc, "width", "4|8")
         .value_parser(WIDTHS.as_slice())
-        .help("Bits of a coefficient: with 8 signatures are shorter, and take more hashes");
+        .hide_possible_values(true)
+        .help("Of a coefficient: 8 bits sign shorter and slower");
     Command::new(alloc, "keygen")
-        .about("Makes a key, and prints the public key in hex")
+        .about("Makes a key, and prints its public key in hex")
+        .long_about(KEYGEN_ABOUT)
         .arg(entropy)?
         .arg(out)?
         .arg(height)?
         .arg(width)
 }
 
-/// An option that has to be given.
+/// Builds an option that has to be given.
 fn needed<'a>(alloc: Global, name: &'a str, value: &'a str) -> Arg<'a> {
     Arg::new(alloc, name)
         .long(name)
@@ -119,7 +120,7 @@ const HEIGHTS: [&str; 2] = ["5", "10"];
 
 const WIDTHS: [&str; 2] = ["4", "8"];
 
-/// Help and the version are texts to be shown, and anything else is a fault.
+/// Takes help and the version as texts to be shown, and anything else as a fault.
 fn shown(alloc: Global, error: &clap::Error) -> Result<Line, LineFault>
     ensures { IfOk result HasGoodNumbers }
 {
@@ -139,7 +140,10 @@ fn desk(alloc: Global, values: &ArgMatches<'_>) -> Result<Line, LineFault>
 {
     match values.get_one::<u8>("users") {
         Some(users) if 1 <= users && users <= 64 => Ok(Line::Desk { users }),
-        _ => Err(LineFault::Usage(String::from_str(alloc, "the number of users is 1 to 64")?)),
+        _ => Err(LineFault::Usage(String::from_str(
+            alloc,
+            "error: the number of users is 1 to 64",
+        )?)),
     }
 }
 
@@ -153,12 +157,12 @@ fn keygen(alloc: Global, values: &ArgMatches<'_>) -> Result<Line, LineFault>
         values.get_str("height"),
         values.get_str("width"),
     ) else {
-        return Err(LineFault::Usage(String::from_str(alloc, "an option is missing")?));
+        return Err(LineFault::Usage(String::from_str(alloc, "error: an option is missing")?));
     };
     let Some(params) = params_of(height, width) else {
         return Err(LineFault::Usage(String::from_str(
             alloc,
-            "the height is 5 or 10, the width 4 or 8",
+            "error: the height is 5 or 10, the width 4 or 8",
         )?));
     };
     Ok(Line::Keygen {
@@ -168,8 +172,8 @@ fn keygen(alloc: Global, values: &ArgMatches<'_>) -> Result<Line, LineFault>
     })
 }
 
-/// The parameter set of a tree of that height and coefficients of that width, by the type numbers of RFC 8554,
-/// Sections 4.1 and 5.1.
+/// Returns the parameter set of a tree of that height and coefficients of that width, by the type
+/// numbers of RFC 8554, Sections 4.1 and 5.1.
 fn params_of(height: &str, width: &str) -> Option<Params>
     ensures height { IfSome result (λ p. digits_value 10 height.now ≡ height_of p.lms) }
     ensures width { IfSome result (λ p. digits_value 10 width.now ≡ width_of p.ots) }

@@ -1,7 +1,7 @@
 use Rattle.std.proofs.Common.{ap}
 use Rattle.std.specs.Str.Parse.{digits_value}
 use Rattle.su_lms.specs.ParameterSets.{width_of}
-use Rattle.sundr.proofs.line.params_of.Goals as goal
+use Rattle.su_arguments.proofs.line.params_of.Goals as goal
 
 pub returns-in-text-text-clause-height : goal.returns-in-text-text-clause-height
 returns-in-text-text-clause-height c = ap (digits_value 10) c.in-text-text.is-text-0

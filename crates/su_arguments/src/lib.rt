@@ -1,0 +1,7 @@
+//! The command line of `sundr`: what its words ask for, and the texts of its help.
+#![tactic(auto)]
+
+mod help;
+mod line;
+
+pub use line::{Line, LineFault, line_of};

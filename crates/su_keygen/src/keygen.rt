@@ -1,0 +1,119 @@
+// Making a key of entropy.
+ghost use Rattle.std.specs.Prelude.{◌≡◌, ◌≢◌, ◌↔◌, ◌++◌, ℕ, List, Some, length, take, IfOk, IfSome, IsNone};
+ghost use Rattle.su_lms.specs.PrivateKey.{key_of};
+ghost use Rattle.su_lms.specs.KeyFile.{key_file_bytes, made_key};
+ghost use Rattle.su_keygen.specs.Key.{IsKeyOf};
+
+use crate::faults::KeygenFault;
+use crate::pairs::keep_pair;
+use std::alloc::{AllocError, Global};
+use std::fs::File;
+use std::io;
+use std::io::Read;
+use su_lms::{KeyFile, NoStore, Params, PublicKey, Signer};
+
+/// Bytes of entropy.
+const LENGTH: usize = 48;
+
+/// What a key is made of: I, by which keys are told apart, and SEED, which is secret (RFC 8554,
+/// Section 5.3 and Appendix A).
+#[derive(Clone, Copy)]
+pub struct Entropy {
+    pub id: [u8; 16],
+    pub seed: [u8; 32],
+}
+
+impl Entropy {
+    /// Takes 48 bytes apart: 16 of I, and then SEED. `None` where there are fewer or more.
+    fn of_bytes(bytes: &[u8]) -> Option<Entropy>
+        ensures parts { IfSome result (λ entropy. entropy.id ++ entropy.seed ≡ bytes.now) }
+        ensures refused { IsNone result ↔ (length bytes.now ≢ LENGTH) }
+    {
+        if bytes.len() != LENGTH {
+            return None;
+        }
+        let mut entropy = Entropy {
+            id: [0; 16],
+            seed: [0; 32],
+        };
+        entropy.id.copy_from_slice(&bytes[..16]);
+        entropy.seed.copy_from_slice(&bytes[16..]);
+        Some(entropy)
+    }
+}
+
+/// What is kept of a new key: the bytes of its file, and its public key.
+#[derive(Drop)]
+struct NewKey {
+    file: [u8; 64],
+    public: PublicKey,
+}
+
+/// Makes the key of a file of 48 bytes of entropy. Writes it to the file `out`, and its public key
+/// to `out.pub`, over plain files that stood there. The faults of the entropy come first, and then
+/// nothing was written.
+pub fn make_key(
+    rt: &HostRuntime,
+    entropy: &str,
+    out: &str,
+    params: Params,
+) -> Result<PublicKey, KeygenFault>
+    ensures { IfOk result (IsKeyOf params) }
+{
+    let made = new_key(rt.alloc(), params, read_entropy(rt, entropy)?)?;
+    keep_pair(rt, out, &made.file, made.public.as_bytes())?;
+    Ok(made.public)
+}
+
+/// Makes the key of that entropy, with its first leaf to sign next. Only `NoMemory` can come.
+fn new_key(alloc: Global, params: Params, entropy: Entropy) -> Result<NewKey, AllocError>
+    ensures file { IfOk result (λ made.
+        made.file ≡ key_file_bytes (made_key params entropy.id entropy.seed) 0) }
+    ensures public { IfOk result (λ made.
+        made.public ≡ key_of (made_key params entropy.id entropy.seed)) }
+{
+    let Entropy { id, seed } = entropy;
+    let Ok(signer) = Signer::generate(alloc, params, id, seed, NoStore) else {
+        return Err(AllocError);
+    };
+    let file = KeyFile {
+        params,
+        id,
+        seed,
+        next: 0,
+    };
+    Ok(NewKey {
+        file: file.encode(),
+        public: signer.public(),
+    })
+}
+
+/// Reads the entropy in a file. No more than 49 bytes are read, so a file may have no end.
+fn read_entropy(rt: &HostRuntime, path: &str) -> Result<Entropy, KeygenFault> {
+    let alloc = rt.alloc();
+    let bytes = match File::open(rt, path).and_then(|file| first_bytes(alloc, file)) {
+        Ok(bytes) => bytes,
+        Err(reason) => return Err(KeygenFault::unread(alloc, path, reason)),
+    };
+    if let Some(entropy) = Entropy::of_bytes(bytes.as_slice()) {
+        return Ok(entropy);
+    }
+    let path = String::from_str(alloc, path)?;
+    if LENGTH < bytes.len() {
+        return Err(KeygenFault::TooLong { path });
+    }
+    Err(KeygenFault::TooShort {
+        path,
+        length: bytes.len(),
+    })
+}
+
+/// Reads to the end, or 49 bytes.
+fn first_bytes<F: Read + Drop>(alloc: Global, reader: F) -> io::Result<Vec<u8>>
+    ensures { IfOk result (λ bytes. (input : List ℕ) → F.remaining reader ≡ Some input →
+        bytes.items ≡ take 49 input) }
+{
+    let mut bytes = Vec::new(alloc);
+    reader.take(49).read_to_end(&mut bytes)?;
+    Ok(bytes)
+}

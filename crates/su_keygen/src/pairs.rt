@@ -1,0 +1,194 @@
+// The two files of a key: FILE, and FILE.pub with its public key. A run that is stopped at any time
+// leaves no public key beside a key that isn't its own, and no file half written:
+//
+// 1. The folder is locked, so that key makers take turns in it, and synced, so that one that can't
+//    be is met before anything is changed.
+// 2. Where something else than a plain file stands at FILE or FILE.pub, all is left as it is.
+// 3. What a run that was stopped left is removed, and standard error tells of it.
+// 4. Both are written whole under names of this run: the old pair stands, and perhaps these.
+// 5. The old public key is removed: the old key stands alone.
+// 6. The new key takes its name: the new key stands alone.
+// 7. The new public key takes its name: the new pair stands.
+//
+// After each step the disk has it. Wherever a key stands alone, files of step 4 stand there too, by
+// which the next run knows that one was stopped.
+
+ghost use Rattle.std.specs.Prelude.{OnOk};
+ghost use Rattle.std.specs.Io.KnownBytes.{Appends};
+
+use crate::faults::KeygenFault;
+use std::alloc::{AllocError, Global};
+use std::fs::{DirEntry, File, OpenFile, OpenOptions, TryLockError};
+use std::io::{ErrorKind, Write};
+use std::os::unix::fs::OpenOptionsExt;
+use std::{fs, io, process};
+
+/// Only the owner may read or write.
+const PRIVATE: u32 = 0o600;
+
+/// All may read, and the owner may write.
+const PUBLIC: u32 = 0o644;
+
+/// The paths of a key's two files, and of those in which this run writes them first.
+#[derive(Drop)]
+struct Places {
+    key: String,
+    public: String,
+    new_key: String,
+    new_public: String,
+}
+
+impl Places {
+    /// Returns the places of a run, whose own number is part of its names.
+    fn of_run(alloc: Global, out: &str, run: u32) -> Result<Places, AllocError> {
+        Ok(Places {
+            key: String::from_str(alloc, out)?,
+            public: format!(in alloc; "{out}.pub")?,
+            new_key: format!(in alloc; "{out}.part.{run}")?,
+            new_public: format!(in alloc; "{out}.pub.part.{run}")?,
+        })
+    }
+}
+
+/// Writes a key to the file `out`, and its public key to `out.pub`, over what stood there. A fault
+/// before the old public key is removed leaves the old pair.
+pub fn keep_pair(
+    rt: &HostRuntime,
+    out: &str,
+    key: &[u8],
+    public: &[u8],
+) -> Result<(), KeygenFault> {
+    let alloc = rt.alloc();
+    let Some((folder, name)) = folder_and_name(out) else {
+        return Err(KeygenFault::NoName {
+            path: String::from_str(alloc, out)?,
+        });
+    };
+    let places = Places::of_run(alloc, out, process::id(rt.process()))?;
+    let in_folder = |reason| KeygenFault::folder(alloc, folder, reason);
+    let locked = lock_folder(rt, folder).map_err(in_folder)?;
+    leave_others(rt, places.key.as_str())?;
+    leave_others(rt, places.public.as_str())?;
+    remove_left(rt, folder, name).map_err(in_folder)?;
+    let kept = write_new(rt, places.new_key.as_str(), key, PRIVATE)
+        .and_then(|()| write_new(rt, places.new_public.as_str(), public, PUBLIC))
+        .and_then(|()| take_names(rt, &locked, &places));
+    if kept.is_err() {
+        let _ = fs::remove_file(rt, places.new_key.as_str());
+        let _ = fs::remove_file(rt, places.new_public.as_str());
+    }
+    kept
+}
+
+/// Splits a path before its last name. `None` where it ends in none.
+fn folder_and_name(path: &str) -> Option<(&str, &str)> {
+    match path.rsplit_once('/') {
+        _ if path.ends_with('/') || path.is_empty() => None,
+        None => Some((".", path)),
+        Some(("", name)) => Some(("/", name)),
+        Some((folder, name)) => Some((folder, name)),
+    }
+}
+
+/// Opens a folder, and waits until no other key maker works in it. None does as long as the file
+/// that is returned is open.
+fn lock_folder(rt: &HostRuntime, path: &str) -> io::Result<File> {
+    let folder = File::open(rt, path)?;
+    if let Err(TryLockError::WouldBlock) = folder.try_lock() {
+        let _ = eprintln!(rt;
+            "sundr: another key is being made in {path}: this one comes after it"
+        );
+    }
+    folder.lock()?;
+    folder.sync_all()?;
+    Ok(folder)
+}
+
+/// Refuses what stands at a path and is no plain file.
+fn leave_others(rt: &HostRuntime, path: &str) -> Result<(), KeygenFault> {
+    match fs::symlink_metadata(rt, path) {
+        Ok(found) if found.is_file() => Ok(()),
+        Ok(_) => Err(KeygenFault::InTheWay {
+            path: String::from_str(rt.alloc(), path)?,
+        }),
+        Err(reason) if reason.kind() == ErrorKind::NotFound => Ok(()),
+        Err(reason) => Err(KeygenFault::unwritten(rt.alloc(), path, reason)),
+    }
+}
+
+/// Removes what key makers of that file left when they were stopped, in a folder that is locked.
+fn remove_left(rt: &HostRuntime, folder: &str, name: &str) -> io::Result<()> {
+    for entry in fs::read_dir(rt, folder)? {
+        match entry {
+            Ok(entry) if is_left(entry.file_name(), name) => remove_entry(rt, &entry)?,
+            Ok(_) => {}
+            Err(reason) if reason.kind() == ErrorKind::InvalidFilename => {}
+            Err(reason) => return Err(reason),
+        }
+    }
+    Ok(())
+}
+
+/// Removes a file that a key maker left, and tells of it.
+fn remove_entry(rt: &HostRuntime, entry: &DirEntry<HostRuntime, Global>) -> io::Result<()> {
+    let path = entry.path().as_str();
+    fs::remove_file(rt, path)?;
+    let _ = eprintln!(rt;
+        "sundr: an earlier run was stopped before its pair stood: removed its {path}"
+    );
+    Ok(())
+}
+
+/// Whether a key maker of the file of that name writes under this one first.
+fn is_left(entry: &str, name: &str) -> bool {
+    let Some(rest) = entry.strip_prefix(name) else {
+        return false;
+    };
+    let rest = rest.strip_prefix(".pub").unwrap_or(rest);
+    match rest.strip_prefix(".part.") {
+        Some(run) => !run.is_empty() && run.bytes().all(|byte| byte.is_ascii_digit()),
+        None => false,
+    }
+}
+
+/// Writes a file that isn't there yet, and waits until the disk has it.
+fn write_new(rt: &HostRuntime, path: &str, bytes: &[u8], mode: u32) -> Result<(), KeygenFault> {
+    let written = OpenOptions::new()
+        .write(true)
+        .create_new(true)
+        .mode(mode)
+        .open(rt, path)
+        .and_then(|mut file| write_synced(&mut file, bytes));
+    written.map_err(|reason| KeygenFault::unwritten(rt.alloc(), path, reason))
+}
+
+/// Writes these bytes, and waits until the disk has them.
+fn write_synced<F: Write + OpenFile>(file: &mut F, bytes: &[u8]) -> io::Result<()>
+    ensures { OnOk result (Appends (F.contents file.old) (F.contents file.new) bytes.now) }
+{
+    file.write_all(bytes)?;
+    file.sync_all()
+}
+
+/// Puts the new pair in the place of the old one.
+fn take_names(rt: &HostRuntime, folder: &File, places: &Places) -> Result<(), KeygenFault> {
+    let alloc = rt.alloc();
+    let (key, public) = (places.key.as_str(), places.public.as_str());
+    remove_old(rt, public)
+        .and_then(|()| folder.sync_all())
+        .map_err(|reason| KeygenFault::unwritten(alloc, public, reason))?;
+    fs::rename(rt, places.new_key.as_str(), key)
+        .and_then(|()| folder.sync_all())
+        .map_err(|reason| KeygenFault::unwritten(alloc, key, reason))?;
+    fs::rename(rt, places.new_public.as_str(), public)
+        .and_then(|()| folder.sync_all())
+        .map_err(|reason| KeygenFault::unwritten(alloc, public, reason))
+}
+
+/// Removes a file, if it is there.
+fn remove_old(rt: &HostRuntime, path: &str) -> io::Result<()> {
+    match fs::remove_file(rt, path) {
+        Err(reason) if reason.kind() == ErrorKind::NotFound => Ok(()),
+        removed => removed,
+    }
+}

@@ -1,0 +1,223 @@
+#!/usr/bin/env python3
+"""Tries what `sundr keygen` leaves on the disk: whole pairs over what stood there, nothing where something else is in the way,
+two key makers at once, and a key maker that is killed at each of its system calls (by strace; without it these are skipped).
+
+Prints a line for each case that isn't as it should be, and last 'N passed, M failed'.
+"""
+import os
+import random
+import re
+import shutil
+import stat
+import subprocess
+import sys
+import tempfile
+
+TOP = os.path.dirname(os.path.dirname(os.path.abspath(__file__)))
+PROGRAM = f"{TOP}/crates/sundr/out/sundr"
+PAIRS_AT_ONCE = 200
+
+
+class Room:
+    """A folder for keys, and entropy beside it."""
+
+    def __init__(self, at):
+        self.at, self.made = at, {}
+        os.mkdir(f"{at}/keys")
+
+    def path(self, name):
+        return f"{self.at}/keys/{name}"
+
+    def clear(self):
+        shutil.rmtree(self.path(""))
+        os.mkdir(self.path(""))
+
+    def entropy(self, seed):
+        path = f"{self.at}/entropy_{seed}"
+        with open(path, "wb") as file:
+            file.write(random.Random(seed).randbytes(48))
+        return path
+
+    def words(self, seed, out="key"):
+        return [PROGRAM, "keygen", "--entropy", self.entropy(seed), "--out", self.path(out), "--height", "5", "--width", "4"]
+
+    def keygen(self, seed, out="key", **how):
+        return subprocess.run(self.words(seed, out), stdin=subprocess.DEVNULL, capture_output=True, text=True, **how)
+
+    def pair(self, seed):
+        """Returns both files of the key of that entropy, as a lone run makes them in a folder of its own."""
+        if seed not in self.made:
+            with tempfile.TemporaryDirectory() as alone:
+                other = Room(alone)
+                other.keygen(seed)
+                self.made[seed] = (other.read("key"), other.read("key.pub"))
+        return self.made[seed]
+
+    def read(self, name):
+        try:
+            with open(self.path(name), "rb") as file:
+                return file.read()
+        except FileNotFoundError:
+            return None
+
+    def standing(self):
+        return self.read("key"), self.read("key.pub")
+
+    def names(self):
+        return sorted(os.listdir(self.path("")))
+
+    def write(self, name, data):
+        with open(self.path(name), "wb") as file:
+            file.write(data)
+
+
+def modes(room):
+    for mask in (0o000, 0o022, 0o077, 0o777):
+        room.clear()
+        made = room.keygen(1, umask=mask)
+        key, public = (os.stat(room.path(name)).st_mode & 0o777 for name in ("key", "key.pub"))
+        right = (made.returncode, key, public) == (0, 0o600 & ~mask, 0o644 & ~mask)
+        yield f"modes_under_umask_{mask:03o}", right and room.standing() == room.pair(1)
+    room.clear()
+    room.write("key", b"old")
+    room.write("key.pub", b"old")
+    os.chmod(room.path("key"), 0o666)
+    printed = room.keygen(1).stdout
+    yield "over_an_old_pair", room.standing() == room.pair(1) and room.names() == ["key", "key.pub"]
+    yield "for_its_owner_over_an_open_file", os.stat(room.path("key")).st_mode & 0o777 == 0o600
+    yield "prints_the_public_key", printed == room.pair(1)[1].hex() + "\n"
+
+
+def in_the_way(room):
+    """What is no plain file is refused, and left with all else."""
+    makers = {
+        "a_folder": os.mkdir, "a_pipe": os.mkfifo, "a_link": lambda path: os.symlink("/etc/hostname", path),
+        "a_link_to_nothing": lambda path: os.symlink(room.path("nothing"), path),
+        "a_folder_with_files": lambda path: shutil.copytree(f"{TOP}/tests", path),
+    }
+    if os.geteuid() == 0:
+        makers["a_device"] = lambda path: os.mknod(path, 0o600 | stat.S_IFCHR, os.makedev(1, 3))
+    for what, make in makers.items():
+        for name, other in (("key", "key.pub"), ("key.pub", "key")):
+            room.clear()
+            room.write(other, b"old")
+            make(room.path(name))
+            before = os.lstat(room.path(name))
+            made = room.keygen(1)
+            after = os.lstat(room.path(name))
+            is_left = (before.st_ino, before.st_mode) == (after.st_ino, after.st_mode)
+            is_told = f"sundr: {room.path(name)} is no plain file" in made.stderr and made.stdout == ""
+            is_right = made.returncode == 1 and is_left and is_told and room.names() == ["key", "key.pub"]
+            yield f"{what}_at_{name}", is_right and room.read(other) == b"old"
+
+
+def faults(room):
+    """Each says which file, and why; the old pair stays."""
+    room.write("key", b"old")
+    room.write("key.pub", b"old")
+    made = room.keygen(1, "nowhere/key")
+    yield "no_folder", made.returncode == 1 and f"the folder {room.path('nowhere')}: No such file or directory" in made.stderr
+    made = room.keygen(1, "key/key")
+    yield "a_file_as_folder", made.returncode == 1 and "Not a directory" in made.stderr
+    made = room.keygen(1, "")
+    yield "no_name", made.returncode == 1 and "names no file" in made.stderr
+    os.remove(room.entropy(2))
+    shorter = room.words(2)
+    for length, text in ((0, "has 0 bytes"), (47, "has 47 bytes"), (49, "has more than 48 bytes")):
+        with open(shorter[3], "wb") as file:
+            file.write(bytes(length))
+        made = subprocess.run(shorter, capture_output=True, text=True)
+        yield f"entropy_of_{length}", made.returncode == 1 and f"sundr: {shorter[3]} {text}" in made.stderr
+    for path, text in (("/nowhere", "No such file or directory"), ("/", "Is a directory"), ("/dev/zero", "more than 48")):
+        made = subprocess.run([*shorter[:3], path, *shorter[4:]], capture_output=True, text=True)
+        yield f"entropy_in_{path}", made.returncode == 1 and path in made.stderr and text in made.stderr
+    limited = ["bash", "-c", 'trap "" XFSZ; ulimit -f 0; exec "$@"', "", *room.words(1)]
+    full = subprocess.run(limited, stdout=subprocess.PIPE, stderr=subprocess.PIPE, text=True)
+    yield "no_room", full.returncode == 1 and f"writing {room.path('key')}.part." in full.stderr
+    yield "faults_leave_the_pair", room.standing() == (b"old", b"old") and room.names() == ["key", "key.pub"]
+    by_pipe = subprocess.run(
+        ["bash", "-c", '"$1" keygen --entropy <(cat "$2") --out "$3" --height 5 --width 4', "", PROGRAM, room.entropy(1),
+         room.path("key")], capture_output=True, text=True)
+    yield "entropy_by_a_pipe", by_pipe.returncode == 0 and room.standing() == room.pair(1)
+
+
+def at_once(room):
+    """Two key makers on one file, many times over: one whole pair stands, and both tell the key that they made."""
+    pairs = {room.pair(seed) for seed in range(4)}
+    mixed, left, untold = 0, 0, 0
+    for n in range(PAIRS_AT_ONCE):
+        if n % 10 == 0:
+            room.clear()
+        seeds = (n % 2, 2 + n % 2)
+        both = [subprocess.Popen(room.words(seed), stdout=subprocess.PIPE, stderr=subprocess.PIPE) for seed in seeds]
+        printed = [it.communicate()[0] for it in both]
+        mixed += room.standing() not in pairs
+        left += room.names() != ["key", "key.pub"]
+        told = [room.pair(seed)[1].hex().encode() + b"\n" for seed in seeds]
+        untold += printed != told or [it.returncode for it in both] != [0, 0]
+    yield f"at_once_{mixed}_of_{PAIRS_AT_ONCE}_mixed", mixed == 0
+    yield f"at_once_{left}_left_files", left == 0
+    yield f"at_once_{untold}_of_{PAIRS_AT_ONCE}_ended_otherwise", untold == 0
+
+
+def traced(words, *how):
+    return subprocess.run(
+        ["strace", "-f", "-qq", *how, *words], stdin=subprocess.DEVNULL, capture_output=True, text=True)
+
+
+def kills(room):
+    """A kill at each system call leaves the old pair, the new one, or a key alone, and then the next run tells of it and
+    makes its pair."""
+    log = f"{room.at}/trace"
+    traced(room.words(1), "-o", log)
+    calls = [line.split("(")[0].split()[-1] for line in open(log, encoding="utf-8") if re.match(r"(\d+ +)?\w+\(", line)]
+    counts, states = {}, set()
+    for call in calls:
+        counts[call] = counts.get(call, 0) + 1
+        name = f"killed_at_{call}_{counts[call]}"
+        if call in ("execve", "exit_group"):
+            continue
+        room.clear()
+        room.keygen(1)
+        killed = traced(room.words(2), "-o", "/dev/null", "-e", f"inject={call}:signal=KILL:when={counts[call]}")
+        key, public = room.standing()
+        left = [it for it in room.names() if it not in ("key", "key.pub")]
+        state = {room.pair(1): "old", room.pair(2): "new", (room.pair(1)[0], None): "old alone",
+                 (room.pair(2)[0], None): "new alone"}.get((key, public), "mixed")
+        states.add(state)
+        is_kept = state in ("old", "new") or (state != "mixed" and left)
+        mode = all(os.stat(room.path(it)).st_mode & 0o77 == 0 for it in left if ".pub" not in it)
+        after = room.keygen(3)
+        is_mended = after.returncode == 0 and room.standing() == room.pair(3) and room.names() == ["key", "key.pub"]
+        is_told = all(f"removed its {room.path(it)}" in after.stderr for it in left)
+        right = killed.returncode in (-9, 137) and is_kept and mode and is_mended and is_told
+        if not right:
+            name += f" ({state}, {left}, ended with {killed.returncode}, then {after.returncode}: {after.stderr})"
+        yield name, right
+    yield f"killed_leaves_each_state: {sorted(states)}", states == {"old", "old alone", "new alone", "new"}
+
+
+def main():
+    results = {}
+    if not os.path.exists(PROGRAM):
+        print("keys: the program isn't built: run ./sundr first")
+        print("0 passed, 1 failed")
+        return 1
+    parts = [modes, in_the_way, faults, at_once]
+    if shutil.which("strace"):
+        parts.append(kills)
+    else:
+        print("keys: there is no strace, so no key maker is killed at each of its calls")
+    for part in parts:
+        with tempfile.TemporaryDirectory() as at:
+            results.update(part(Room(at)))
+    for name, right in results.items():
+        if not right:
+            print(f"keys: {name}")
+    passed = sum(results.values())
+    print(f"{passed} passed, {len(results) - passed} failed")
+    return 0 if passed == len(results) else 1
+
+
+if __name__ == "__main__":
+    sys.exit(main())

@@ -1,0 +1,187 @@
+#!/usr/bin/env python3
+"""Tries the built program: what it prints and its exit status, on the examples, on command lines and faults of each kind,
+on keys that other implementations know, and on scripts by chance against the second desk of desk_model.py.
+
+Prints a line for each case that isn't as it should be, and last 'N passed, M failed'.
+"""
+import os
+import pty
+import re
+import subprocess
+import sys
+import tempfile
+
+HERE = os.path.dirname(os.path.abspath(__file__))
+TOP = os.path.dirname(HERE)
+PROGRAM = f"{TOP}/crates/sundr/out/sundr"
+CHANCE_SCRIPTS, CHANCE_LINES = 60, 120
+
+
+def known_key(name):
+    """A public key of the bytes 00 01 .. 2f, by an independent implementation (Bouncy Castle 1.72)."""
+    text = open(f"{TOP}/crates/su_lms/src/tests/vectors.rt", encoding="utf-8").read()
+    return re.search(name + r': &str =\s*"([0-9a-f]+)"', text)[1]
+
+
+def keygen(height, width, entropy="entropy", out="key"):
+    return ["keygen", "--entropy", entropy, "--out", out, "--height", str(height), "--width", str(width)]
+
+
+# name: (arguments, standard input, what is printed or a tuple of parts of it, exit status)
+CASES = {
+    "no_lines": (["desk"], "", "", 0),
+    "three_users": (
+        ["desk", "--users", "3"], "1 take G0:1 1\n2 take G0:1 1\n3 take G0:1 1\nversions\n",
+        "ok 1\nok 2\nno 12 NoUser 3\nU0=0 U1=1 U2=1 G0=2 G1=0\n", 0),
+    "two_users_without_a_word": (["desk"], "versions\n", "U0=0 U1=0 G0=0 G1=0\n", 0),
+    "one_user": (["desk", "--users=1"], "versions", "U0=0 G0=0 G1=0\n", 0),
+    "most_users": (["desk", "--users=64"], "63 take G0:1 1\n", "ok 1\n", 0),
+    "a_bad_line": (["desk"], "ls G0:1\n\nhello\nls G0:1\n", "line 3: bad\n", 2),
+    "no_command": ([], "", "", 2),
+    "another_command": (["chair"], "", "", 2),
+    "a_word_too_many": (["desk", "more"], "", "", 2),
+    "no_users": (["desk", "--users", "0"], "", "", 2),
+    "too_many_users": (["desk", "--users", "65"], "", "", 2),
+    "users_that_are_no_number": (["desk", "--users", "x"], "", "", 2),
+    "users_without_a_number": (["desk", "--users"], "", "", 2),
+    "another_height": (keygen(6, 8), "", "", 2),
+    "another_width": (keygen(5, 2), "", "", 2),
+    "a_key_of_no_words": (["keygen"], "", "", 2),
+    "a_key_without_a_width": (keygen(5, 8)[:-2], "", "", 2),
+    "a_key_of_no_entropy": (keygen(5, 4, entropy="nothing"), "", "", 1),
+    "a_key_in_no_folder": (keygen(5, 4, out="nowhere/key"), "", "", 1),
+    "help": (["--help"], "", ("desk", "keygen"), 0),
+    "help_of_the_desk": (["desk", "--help"], "", ("undo_last", "--users"), 0),
+    "help_of_keys": (["keygen", "--help"], "", ("--entropy <FILE>",), 0),
+    "version": (["-V"], "", "sundr 0.1.0\n", 0),
+}
+
+# entropy of other lengths than 48 bytes makes no key
+WRONG_LENGTHS = (0, 15, 16, 47, 49, 200)
+
+# the key file of the bytes 00 01 .. 2f: its mark, the types of height 5 and width 4, the bytes, and the next leaf
+KEY_FILE = b"SK01" + bytes([0, 0, 0, 5, 0, 0, 0, 3]) + bytes(range(48)) + bytes(4)
+
+
+def run(arguments, given="", folder="/", **how):
+    """Returns what the program prints, what it tells, and its status."""
+    streams = {"stdout": subprocess.PIPE, **how}
+    if "stdin" not in how:
+        streams["input"] = given
+    ended = subprocess.run(
+        [PROGRAM, *arguments], cwd=folder, stderr=subprocess.PIPE, text=True, errors="replace", timeout=60, **streams)
+    return ended.stdout, ended.stderr, ended.returncode
+
+
+def cases(room):
+    """Each case by its name, and whether the program does what it should."""
+    for name, length in [("entropy", 48)] + [(f"bytes_{length}", length) for length in WRONG_LENGTHS]:
+        with open(f"{room}/{name}", "wb") as file:
+            file.write(bytes(n % 256 for n in range(length)))
+    for name, (arguments, script, wanted, wanted_status) in CASES.items():
+        printed, told, status = run(arguments, script, room)
+        is_printed = printed == wanted if isinstance(wanted, str) else all(part in printed for part in wanted)
+        is_told = (told != "") == (wanted_status != 0) and not told.endswith("\n\n")
+        yield name, is_printed and is_told and status == wanted_status
+    for length in WRONG_LENGTHS:
+        _, told, status = run(keygen(5, 4, entropy=f"bytes_{length}", out="none"), folder=room)
+        yield f"a_key_of_{length}_bytes", status == 1 and "48" in told and not os.path.exists(f"{room}/none")
+
+
+def examples():
+    for file in sorted(os.listdir(f"{TOP}/examples")):
+        if file.endswith(".desk"):
+            name = file.removesuffix(".desk")
+            script, printed = (open(f"{TOP}/examples/{name}.{end}").read() for end in ("desk", "out"))
+            yield f"example_{name}", run(["desk"], script) == (printed, "", 0)
+
+
+def keys(room):
+    for height, width in ((5, 4), (5, 8), (10, 4), (10, 8)):
+        known = known_key(f"W{width}_H{height}_KEY")
+        yield f"a_key_of_{height}_{width}", run(keygen(height, width), folder=room) == (known + "\n", "", 0)
+        yield f"its_public_key_of_{height}_{width}", open(f"{room}/key.pub", "rb").read().hex() == known
+    run(keygen(5, 4), folder=room)
+    yield "the_key_file_is_whole", open(f"{room}/key", "rb").read() == KEY_FILE
+
+
+def help_texts(room):
+    """Lines of at most 80 columns, each refusal that a desk can answer, and the kit that is there."""
+    texts = {" ".join(words): run([*words, "--help"])[0] for words in ([], ["desk"], ["keygen"])}
+    for words, text in texts.items():
+        wide = [line for line in text.split("\n") if len(line) > 80]
+        yield f"help_of_{words or 'sundr'}_fits: {wide}", wide == []
+    source = open(f"{TOP}/crates/su_bytes/src/refusals.rt", encoding="utf-8").read()
+    numbers = {int(number): name for name, number in re.findall(r"Refusal::(\w+)(?:\(\.\.\))? => (\d+),", source)}
+    listed = dict(re.findall(r"(?m)^ {2,3}(\d+) (\w+)", texts["desk"]))
+    wanted = [2, 3, *range(12, 29), 30]
+    yield "help_lists_the_refusals", {int(number): name for number, name in listed.items()} == {n: numbers[n] for n in wanted}
+    kit = subprocess.run(["rt", "version"], capture_output=True, text=True).stdout
+    yield "version_tells_the_kit", run(["--version"])[0] == f"sundr 0.1.0\nproved with {kit}"
+
+
+def faults(room):
+    """Streams that fail: status 1 and a line that says which, but nothing where the reader has gone."""
+    with open("/dev/full", "w") as full:
+        for name, arguments in (("help", ["--help"]), ("desk", ["desk"]), ("key", keygen(5, 4))):
+            _, told, status = run(arguments, "versions\n", room, stdout=full)
+            yield f"a_full_disk_for_{name}", status == 1 and told.startswith("sundr: writing") and "No space left" in told
+    for name, arguments in (("help", ["--help"]), ("desk", ["desk"])):
+        reader, writer = os.pipe()
+        os.close(reader)
+        yield f"a_reader_gone_from_{name}", run(arguments, "versions\n", stdout=writer)[1:] == ("", 1)
+        os.close(writer)
+    folder = os.open("/", os.O_RDONLY)
+    printed, told, status = run(["desk"], stdin=folder)
+    os.close(folder)
+    yield "a_folder_as_script", (printed, status) == ("", 1) and "sundr: reading the script: Is a directory" in told
+    no_text = subprocess.run([PROGRAM, b"\xff"], capture_output=True)
+    yield "an_argument_that_is_no_text", no_text.returncode == 2 and b"no text" in no_text.stderr
+
+
+def at_a_keyboard(room):
+    """A prompt where somebody types, on a terminal."""
+    terminal, end = pty.openpty()
+    started = subprocess.Popen([PROGRAM, "desk"], cwd=room, stdin=end, stdout=end, stderr=end)
+    os.close(end)
+    os.write(terminal, b"versions\n\x04")
+    seen = b""
+    try:
+        while more := os.read(terminal, 4096):
+            seen += more
+    except OSError:  # the program has closed its end
+        pass
+    os.close(terminal)
+    yield "a_prompt_for_each_line", seen.count(b"> ") == 2 and b"U0=0 U1=0 G0=0 G1=0" in seen and started.wait() == 0
+    told = run(["desk"], "versions\nhello\n")[1]
+    yield "why_a_line_is_bad", told == "sundr: line 2: an unknown command\n"
+
+
+def by_chance(room):
+    """Scripts by chance, against the second desk."""
+    model = [sys.executable, "-B", f"{HERE}/desk_model.py", room, str(CHANCE_SCRIPTS), str(CHANCE_LINES)]
+    subprocess.run(model, check=True)
+    for n in range(CHANCE_SCRIPTS):
+        script, arguments, wanted = (open(f"{room}/chance_{n}{end}").read() for end in ("", ".args", ".stdout"))
+        yield f"chance_{n}", run(arguments.split(), script) == (wanted, "", 0)
+
+
+def main():
+    if not os.path.exists(PROGRAM):
+        print("program: it isn't built: run ./sundr first")
+        print("0 passed, 1 failed")
+        return 1
+    with tempfile.TemporaryDirectory() as room:
+        results = dict(examples())
+        for part in (cases, keys, help_texts, faults, at_a_keyboard, by_chance):
+            results.update(part(room))
+    for name, right in results.items():
+        if not right:
+            print(f"program: {name}")
+    passed = sum(results.values())
+    print(f"{passed} passed, {len(results) - passed} failed")
+    return 0 if passed == len(results) else 1
+
+
+if __name__ == "__main__":
+    sys.exit(main())
