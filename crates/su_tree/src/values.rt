@@ -16,9 +16,10 @@ pub trait TreeValue {
 
     ghost bytes: { Self → List ℕ };
 
-    /// Gives its bytes to a hasher.
+    /// Gives its bytes to a hasher. What is passed is a value that is meant.
     fn feed(&self, hasher: &mut Sha256)
-        ensures { (m : List ℕ) → Holds256 hasher.old m → Holds256 hasher.new (m ++ bytes self.now) };
+        ensures fed { (m : List ℕ) → Holds256 hasher.old m → Holds256 hasher.new (m ++ bytes self.now) }
+        ensures value { IsTrue (is_value self.now) };
 
     // the bytes tell the value
     ghost told: { (x y : Self) → IsTrue (is_value x) → IsTrue (is_value y) → bytes x ≡ bytes y → x ≡ y };
@@ -32,7 +33,8 @@ impl TreeValue for Digest {
     ghost told = { λ x y _ _ e. e };
 
     fn feed(&self, hasher: &mut Sha256) {
-        hasher.update(self.as_bytes());
+        let bytes: &[u8] = self.as_bytes();
+        hasher.update(bytes);
     }
 }
 
