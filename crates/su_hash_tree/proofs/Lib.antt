@@ -1,0 +1,11 @@
+pub mod Sorts
+pub mod Orders
+pub mod Sides
+pub mod Places
+pub mod Partings
+pub mod Removals
+pub mod Standing
+pub mod Changing
+pub mod Wholes
+pub mod Compared
+pub mod Maps
