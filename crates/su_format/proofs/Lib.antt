@@ -1,3 +1,5 @@
 mod Formats
 mod Parts
+mod Repeats
+mod Wholes
 pub mod Public

@@ -1,8 +1,8 @@
 -- Reading values one after another.
-use Rattle.std.specs.Prelude.{◌≡◌, ℕ, ◌+◌, ◌⊎◌, List, Result, Ok, Err, length}
+use Rattle.std.specs.Prelude.{◌≡◌, ℕ, ◌+◌, ◌⊎◌, List, Result, Ok, Err, length, []}
 use Rattle.su_bytes.specs.declared.refusals.Refusal.{Refusal}
 use Rattle.su_bytes.specs.declared.refusals.Refusal.TheVariants.{Malformed, NoMemory}
-use Rattle.su_format.specs.Format.{Format}
+use Rattle.su_format.specs.Format.{Format, whole}
 
 -- how many bytes were taken, and those that are left
 pub record Reading : Type 0 where
@@ -24,7 +24,20 @@ pub record IsRefusedAt {A : Type 0} (f : Format A) (old : Reading) (place : ℕ)
   pub fails : f.Fails old.left behind
   pub place_is : IsPlaceOf old place behind
 
+-- a value of the format is refused so; or there is no room for it
+abbrev pub Refuses : {A : Type 0} → Format A → Reading → Refusal → Type 0
+Refuses f old e = (e ≡ NoMemory) ⊎ ((place : ℕ) × (e ≡ Malformed place) × IsRefusedAt f old place)
+
 -- what comes of taking a value of the format
 abbrev pub Takes : {A : Type 0} → Format A → Reading → Result A Refusal → Reading → Type 0
 Takes f old (Ok a) new = Took f old a new
-Takes f old (Err e) new = (e ≡ NoMemory) ⊎ ((place : ℕ) × (e ≡ Malformed place) × IsRefusedAt f old place)
+Takes f old (Err e) new = Refuses f old e
+
+-- a reader of these bytes, of which none was taken
+abbrev pub start : List ℕ → Reading
+start bytes = record { place = 0; left = bytes }
+
+-- what comes of reading bytes as one value
+abbrev pub Decodes : {A : Type 0} → Format A → List ℕ → Result A Refusal → Type 0
+Decodes f bytes (Ok a) = f.Begins bytes a []
+Decodes f bytes (Err e) = Refuses (whole f) (start bytes) e

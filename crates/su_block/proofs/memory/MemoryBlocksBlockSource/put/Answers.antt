@@ -1,0 +1,45 @@
+use Rattle.std.proofs.Common.{◌≡◌, sym, ap, ◌∙◌, subst, inl, inr}
+use Rattle.std.specs.Prelude.{Contains, None}
+use Rattle.std.specs.Ordering.{nat_cmp}
+use Rattle.std.specs.Cmp.Lexicographic.{slice_cmp}
+use Rattle.std.specs.BTreeMap.{is_at}
+use Rattle.std.specs.Map.{values_of, lookup}
+use Rattle.sha2.specs.Sha256.{sha256}
+use Rattle.su_block.proofs.Holding.{found_has_digest, same_digest, equal_digest, under-insert, held-insert, kept-insert, more-insert, some_found, none_found}
+use Rattle.su_block.proofs.memory.MemoryBlocksBlockSource.put.Goals as goal
+
+pub returns-then-contains_key-clause-held : goal.returns-then-contains_key-clause-held
+returns-then-contains_key-clause-held c =
+    let key = c.as_bytes.result.now in
+    let some = some_found (lookup (is_at (slice_cmp nat_cmp key)) c.self.inside.blocks.entries) (sym c.contains_key.ensures ∙ c.if-contains_key.true) in
+    let found = found_has_digest (is_at (slice_cmp nat_cmp key)) key (same_digest key) c.self.inside.blocks.entries c.self.invariant some.0 some.1 in
+    (some.0, subst (λ m. Contains m.items some.0) c.self.view_is found.0, found.1 ∙ c.as_bytes.ensures)
+
+pub invariant_of-self-2 : goal.invariant_of-self-2
+invariant_of-self-2 c =
+    let key = c.as_bytes-2.result.now in
+    let same = c.new.ensures ∙ c.in_ok-copy.ensures.items in
+    rw c.in_ok-insert.ensures.entries (under-insert (slice_cmp nat_cmp) key c.new.result (equal_digest key) (ap sha256 same ∙ sym c.digest_of-digest.ensures ∙ sym c.as_bytes-2.ensures) c.self.inside.blocks.entries c.self.invariant)
+
+pub returns-clause-held : goal.returns-clause-held
+returns-clause-held c =
+    let key = c.as_bytes-2.result.now in
+    let same = c.new.ensures ∙ c.in_ok-copy.ensures.items in
+    (c.new.result, rw c.in_ok-insert.ensures.entries (held-insert (slice_cmp nat_cmp) key c.new.result c.self.inside.blocks.entries), ap sha256 same ∙ sym c.digest_of-digest.ensures)
+
+pub returns-clause-kept : goal.returns-clause-kept
+returns-clause-kept c = λ s there.
+    let key = c.as_bytes-2.result.now in
+    let absent = none_found (lookup (is_at (slice_cmp nat_cmp c.as_bytes.result.now)) c.self.inside.blocks.entries) (sym c.contains_key.ensures ∙ c.if-contains_key.false) in
+    let none = subst (λ k. lookup (is_at (slice_cmp nat_cmp k)) c.self.inside.blocks.entries ≡ None) (c.as_bytes.ensures ∙ sym c.as_bytes-2.ensures) absent in
+    let was = subst (λ m. Contains m.items s) (sym c.self.view_is) there in
+    rw c.in_ok-insert.ensures.entries (kept-insert (slice_cmp nat_cmp) key c.new.result c.self.inside.blocks.entries none s was)
+
+pub returns-clause-more : goal.returns-clause-more
+returns-clause-more c = λ s there.
+    let key = c.as_bytes-2.result.now in
+    let same = c.new.ensures ∙ c.in_ok-copy.ensures.items in
+    elim (more-insert (slice_cmp nat_cmp) key c.new.result c.self.inside.blocks.entries s (subst (λ es. Contains (values_of es) s) c.in_ok-insert.ensures.entries there)) [
+      | inl old ↦ inl (subst (λ m. Contains m.items s) c.self.view_is old)
+      | inr new ↦ inr (new ∙ same)
+    ]

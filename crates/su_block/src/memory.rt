@@ -1,0 +1,135 @@
+// Items in memory.
+ghost use Rattle.std.specs.Prelude.{◌≡◌, ◌⊎◌, ◌↔◌, ℕ, List, [], false, IfOk, IfErr, OnErr, Err, None, Contains};
+ghost use Rattle.sha2.specs.Sha256.{sha256};
+ghost use Rattle.su_block.specs.Item.{is_item};
+ghost use Rattle.su_block.specs.Failure.{failures_after};
+ghost use Rattle.su_bytes.specs.declared.refusals.Refusal.TheVariants.{MissingBlock, TooBig, NoMemory};
+
+use crate::failures::Failures;
+use crate::items::{digest_of, is_item};
+use crate::sources::BlockSource;
+use std::alloc::Global;
+use std::collections::BTreeMap;
+use std::marker::Model;
+use su_bytes::{Digest, Refusal};
+
+/// The bytes of an item that is held.
+#[derive(Drop)]
+struct Item {
+    bytes: Vec<u8>,
+}
+
+impl Model for Item {
+    ghost use Rattle.std.specs.Prelude.{ℕ, List};
+
+    ghost Value = { List ℕ };
+
+    ghost view = { λ item. item.bytes.items };
+}
+
+impl Item {
+    fn new(bytes: Vec<u8>) -> Item
+        ensures { result ≡ bytes.items }
+    {
+        Item { bytes }
+    }
+
+    fn copy(&self, alloc: Global) -> Result<Vec<u8>, Refusal>
+        ensures value { IfOk result (λ copy. copy.items ≡ self.now) }
+        ensures refused { IfErr result (λ e. e ≡ NoMemory) }
+    {
+        Ok(Vec::from_slice(alloc, self.bytes.as_slice())?)
+    }
+}
+
+/// A source that holds its items in memory. It is seen as these, and its failures.
+#[derive(Drop)]
+pub struct MemoryBlocks {
+    blocks: BTreeMap<[u8; 32], Item>,
+    failures: Failures,
+}
+
+impl Model for MemoryBlocks {
+    ghost use Rattle.su_block.specs.Memory.{Memory};
+
+    ghost Value = { Memory };
+
+    ghost use Rattle.su_block.specs.Memory.{AreUnderTheirDigests};
+    ghost use Rattle.std.specs.Map.{values_of};
+
+    ghost view = { λ m. record { items = values_of m.blocks.entries; failed = m.failures } };
+
+    ghost invariant = { λ m. AreUnderTheirDigests m.blocks.entries };
+}
+
+impl MemoryBlocks {
+    /// Makes a source without items.
+    pub fn new(alloc: Global) -> MemoryBlocks
+        ensures { result ≡ record { items = []; failed = record { count = 0; last = None } } }
+    {
+        MemoryBlocks {
+            blocks: BTreeMap::new(alloc),
+            failures: Failures::none(),
+        }
+    }
+}
+
+/// It is checked, and refuses an item only where it holds none of that digest.
+impl BlockSource for MemoryBlocks {
+    ghost use Rattle.std.specs.Prelude.{true, Contains};
+    ghost use Rattle.su_block.specs.Memory.{HasItemOf};
+
+    ghost may_give = { λ m item. Contains m.items item };
+
+    ghost is_checked = { true };
+
+    ghost failed = { λ m. m.failed };
+
+    fn get(&mut self, alloc: Global, digest: Digest) -> Result<Vec<u8>, Refusal>
+        ensures given { IfOk result (λ item. Contains self.old.items item.items) }
+        ensures checked { IfOk result (λ item. sha256 item.items ≡ digest) }
+        // It is refused only where nothing is held under the digest, or there is no room.
+        ensures missing { result ≡ Err MissingBlock → ¬ HasItemOf self.old.items digest }
+        ensures refused { IfErr result (λ e. (e ≡ MissingBlock) ⊎ (e ≡ NoMemory)) }
+        ensures kept { self.new.items ≡ self.old.items }
+        ensures counted { self.new.failed ≡ failures_after result digest self.old.failed }
+    {
+        let Some(item) = self.blocks.get(digest.as_bytes()) else {
+            self.failures.add(digest);
+            return Err(Refusal::MissingBlock);
+        };
+        item.copy(alloc)
+    }
+
+    fn put(&mut self, alloc: Global, item: &[u8]) -> Result<Digest, Refusal>
+        ensures digest { IfOk result (λ digest. digest ≡ sha256 item.now) }
+        // From then on an item is held under the digest: this one, unless another one was.
+        ensures held { IfOk result (λ digest. HasItemOf self.new.items digest) }
+        ensures kept { (s : List ℕ) → Contains self.old.items s → Contains self.new.items s }
+        ensures more { (s : List ℕ) → Contains self.new.items s
+            → Contains self.old.items s ⊎ (s ≡ item.now) }
+        ensures too_big { (result ≡ Err TooBig) ↔ (is_item item.now ≡ false) }
+        ensures refused { IfErr result (λ e. (e ≡ TooBig) ⊎ (e ≡ NoMemory)) }
+        ensures err { OnErr result (self.new ≡ self.old) }
+        ensures counted { self.new.failed ≡ self.old.failed }
+    {
+        if !is_item(item) {
+            return Err(Refusal::TooBig);
+        }
+        let digest = digest_of(item);
+        if self.blocks.contains_key(digest.as_bytes()) {
+            return Ok(digest);
+        }
+        let copy = Vec::from_slice(alloc, item)?;
+        self.blocks.insert(*digest.as_bytes(), Item::new(copy))?;
+        Ok(digest)
+    }
+
+    fn failures(&self) -> u64 {
+        self.failures.count
+    }
+
+    fn failed_at(&self) -> Option<Digest> {
+        self.failures.last
+    }
+}
