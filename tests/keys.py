@@ -165,36 +165,58 @@ def traced(words, *how):
         ["strace", "-f", "-qq", *how, *words], stdin=subprocess.DEVNULL, capture_output=True, text=True)
 
 
-def kills(room):
-    """A kill at each system call leaves the old pair, the new one, or a key alone, and then the next run tells of it and
-    makes its pair."""
-    log = f"{room.at}/trace"
+def calls_of(room):
+    """Returns the system calls of a key maker, each with which one of its name it is."""
+    log, counts = f"{room.at}/trace", {}
     traced(room.words(1), "-o", log)
-    calls = [line.split("(")[0].split()[-1] for line in open(log, encoding="utf-8") if re.match(r"(\d+ +)?\w+\(", line)]
-    counts, states = {}, set()
-    for call in calls:
-        counts[call] = counts.get(call, 0) + 1
-        name = f"killed_at_{call}_{counts[call]}"
-        if call in ("execve", "exit_group"):
+    with open(log, encoding="utf-8") as file:
+        for line in file:
+            call = re.match(r"(?:\d+ +)?(\w+)\(", line)
+            if call and call[1] not in ("execve", "exit_group"):
+                counts[call[1]] = counts.get(call[1], 0) + 1
+                yield call[1], counts[call[1]]
+
+
+def disturbed(room, call, which, how):
+    """A run over an old pair with one of its calls disturbed. Returns how it ended, which keys stand then, what it left beside
+    them, and whether the next run told of that and made its own pair, and nothing else."""
+    room.clear()
+    room.keygen(1)
+    ended = traced(room.words(2), "-o", "/dev/null", "-e", f"inject={call}:{how}:when={which}")
+    old, new = room.pair(1), room.pair(2)
+    states = {old: "old", new: "new", (old[0], None): "old alone", (new[0], None): "new alone"}
+    state = states.get(room.standing(), "mixed")
+    left = [it for it in room.names() if it not in ("key", "key.pub")]
+    is_secret = all(os.stat(room.path(it)).st_mode & 0o77 == 0 for it in left if ".pub" not in it)
+    after = room.keygen(3)
+    is_told = all(f"removed its {room.path(it)}" in after.stderr for it in left)
+    is_mended = after.returncode == 0 and room.standing() == room.pair(3) and room.names() == ["key", "key.pub"]
+    return ended, state, left, is_secret and is_told and is_mended
+
+
+def kills(room):
+    """A kill at each system call leaves the old pair, the new one, or a key alone and the files that tell of it."""
+    seen = set()
+    for call, which in list(calls_of(room)):
+        ended, state, left, is_mended = disturbed(room, call, which, "signal=KILL")
+        seen.add(state)
+        is_kept = state in ("old", "new") or (state != "mixed" and left != [])
+        yield f"killed_at_{call}_{which}: {state}, {left}", ended.returncode in (-9, 137) and is_kept and is_mended
+    yield f"killed_leaves_each_state: {sorted(seen)}", seen == {"old", "old alone", "new alone", "new"}
+
+
+def failures(room):
+    """A call that fails is told with the system's reason. The old pair stays, and nothing beside it, up to the removal of the old
+    public key (the first `unlink`); from there on it is as after a kill."""
+    is_late = False
+    for call, which in list(calls_of(room)):
+        if call not in ("fsync", "statx", "getdents64", "write", "unlink", "rename") and (call, which) != ("flock", 2):
             continue
-        room.clear()
-        room.keygen(1)
-        killed = traced(room.words(2), "-o", "/dev/null", "-e", f"inject={call}:signal=KILL:when={counts[call]}")
-        key, public = room.standing()
-        left = [it for it in room.names() if it not in ("key", "key.pub")]
-        state = {room.pair(1): "old", room.pair(2): "new", (room.pair(1)[0], None): "old alone",
-                 (room.pair(2)[0], None): "new alone"}.get((key, public), "mixed")
-        states.add(state)
-        is_kept = state in ("old", "new") or (state != "mixed" and left)
-        mode = all(os.stat(room.path(it)).st_mode & 0o77 == 0 for it in left if ".pub" not in it)
-        after = room.keygen(3)
-        is_mended = after.returncode == 0 and room.standing() == room.pair(3) and room.names() == ["key", "key.pub"]
-        is_told = all(f"removed its {room.path(it)}" in after.stderr for it in left)
-        right = killed.returncode in (-9, 137) and is_kept and mode and is_mended and is_told
-        if not right:
-            name += f" ({state}, {left}, ended with {killed.returncode}, then {after.returncode}: {after.stderr})"
-        yield name, right
-    yield f"killed_leaves_each_state: {sorted(states)}", states == {"old", "old alone", "new alone", "new"}
+        ended, state, left, is_mended = disturbed(room, call, which, "error=EIO")
+        is_told = ended.returncode == 1 and "Input/output error" in ended.stderr
+        is_kept = state in ("old alone", "new alone", "new") if is_late else (state, left) == ("old", [])
+        is_late = is_late or call == "unlink"
+        yield f"failed_at_{call}_{which}: {state}, {left}, {ended.stderr}", is_told and is_kept and is_mended
 
 
 def main():
@@ -205,9 +227,9 @@ def main():
         return 1
     parts = [modes, in_the_way, faults, at_once]
     if shutil.which("strace"):
-        parts.append(kills)
+        parts += [kills, failures]
     else:
-        print("keys: there is no strace, so no key maker is killed at each of its calls")
+        print("keys: there is no strace, so no key maker is killed, or fails, at each of its calls")
     for part in parts:
         with tempfile.TemporaryDirectory() as at:
             results.update(part(Room(at)))

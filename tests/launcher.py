@@ -34,7 +34,7 @@ class Tree:
     def __init__(self, room, name):
         self.top, self.calls_file = f"{room}/{name}", f"{room}/{name} calls"
         shutil.rmtree(self.top, ignore_errors=True)
-        for crate in ("low", "aside", "middle", "sundr"):
+        for crate in ("low", "aside", "middle", "sundr"):  # aside isn't below sundr
             os.makedirs(f"{self.top}/crates/{crate}/src")
         shutil.copy(f"{TOP}/sundr", self.top)
         self.write("crates.txt", CRATES)
@@ -102,7 +102,9 @@ def changes(tree):
     yield "runs_no_program_of_others", tree.run()[0] == "third!: \n" and tree.calls() == ALL
     tree.write("README.md", "")
     tree.run()
-    yield "builds_nothing_for_a_text", tree.calls() == []
+    tree.write("crates/aside/src/lib.rt", "")
+    tree.run()
+    yield "builds_nothing_for_what_is_aside", tree.calls() == []
     tree.write("crates/sundr/src/main.rt", "fourth")
     tree.write("edit", "")
     yield "builds_again_after_an_edit_meanwhile", tree.run()[0] == "edited: \n" and tree.calls() == ALL + ALL

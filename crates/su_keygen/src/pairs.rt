@@ -51,7 +51,8 @@ impl Places {
 }
 
 /// Writes a key to the file `out`, and its public key to `out.pub`, over what stood there. A fault
-/// before the old public key is removed leaves the old pair.
+/// before the old public key is removed leaves the old pair and nothing else; a later one leaves
+/// what a run does that is stopped there.
 pub fn keep_pair(
     rt: &HostRuntime,
     out: &str,
@@ -70,14 +71,15 @@ pub fn keep_pair(
     leave_others(rt, places.key.as_str())?;
     leave_others(rt, places.public.as_str())?;
     remove_left(rt, folder, name).map_err(in_folder)?;
-    let kept = write_new(rt, places.new_key.as_str(), key, PRIVATE)
+    let prepared = write_new(rt, places.new_key.as_str(), key, PRIVATE)
         .and_then(|()| write_new(rt, places.new_public.as_str(), public, PUBLIC))
-        .and_then(|()| take_names(rt, &locked, &places));
-    if kept.is_err() {
+        .and_then(|()| remove_old(rt, places.public.as_str()));
+    if prepared.is_err() {
         let _ = fs::remove_file(rt, places.new_key.as_str());
         let _ = fs::remove_file(rt, places.new_public.as_str());
     }
-    kept
+    prepared?;
+    take_names(rt, &locked, &places)
 }
 
 /// Splits a path before its last name. `None` where it ends in none.
@@ -170,25 +172,26 @@ fn write_synced<F: Write + OpenFile>(file: &mut F, bytes: &[u8]) -> io::Result<(
     file.sync_all()
 }
 
-/// Puts the new pair in the place of the old one.
+/// Removes a file, if it is there.
+fn remove_old(rt: &HostRuntime, path: &str) -> Result<(), KeygenFault> {
+    match fs::remove_file(rt, path) {
+        Err(reason) if reason.kind() != ErrorKind::NotFound => {
+            Err(KeygenFault::unwritten(rt.alloc(), path, reason))
+        }
+        _ => Ok(()),
+    }
+}
+
+/// Gives the new pair its names, once the old public key is removed.
 fn take_names(rt: &HostRuntime, folder: &File, places: &Places) -> Result<(), KeygenFault> {
     let alloc = rt.alloc();
     let (key, public) = (places.key.as_str(), places.public.as_str());
-    remove_old(rt, public)
-        .and_then(|()| folder.sync_all())
-        .map_err(|reason| KeygenFault::unwritten(alloc, public, reason))?;
-    fs::rename(rt, places.new_key.as_str(), key)
+    folder
+        .sync_all()
+        .and_then(|()| fs::rename(rt, places.new_key.as_str(), key))
         .and_then(|()| folder.sync_all())
         .map_err(|reason| KeygenFault::unwritten(alloc, key, reason))?;
     fs::rename(rt, places.new_public.as_str(), public)
         .and_then(|()| folder.sync_all())
         .map_err(|reason| KeygenFault::unwritten(alloc, public, reason))
-}
-
-/// Removes a file, if it is there.
-fn remove_old(rt: &HostRuntime, path: &str) -> io::Result<()> {
-    match fs::remove_file(rt, path) {
-        Err(reason) if reason.kind() == ErrorKind::NotFound => Ok(()),
-        removed => removed,
-    }
 }
