@@ -13,8 +13,11 @@
 // After each step the disk has it. Wherever a key stands alone, files of step 4 stand there too, by
 // which the next run knows that one was stopped.
 
-ghost use Rattle.std.specs.Prelude.{OnOk};
+ghost use Rattle.std.specs.Prelude.{◌≡◌, ◌++◌, true, IfSome, OnOk};
+ghost use Rattle.std.specs.Char.{is_ascii_digit};
 ghost use Rattle.std.specs.Io.KnownBytes.{Appends};
+ghost use Rattle.std.specs.List.{list_all};
+ghost use Rattle.su_keygen.specs.Unfinished.{IsPart, IsUnfinished};
 
 use crate::faults::KeygenFault;
 use std::alloc::{AllocError, Global};
@@ -122,7 +125,9 @@ fn leave_others(rt: &HostRuntime, path: &str) -> Result<(), KeygenFault> {
 fn remove_left(rt: &HostRuntime, folder: &str, name: &str) -> io::Result<()> {
     for entry in fs::read_dir(rt, folder)? {
         match entry {
-            Ok(entry) if is_left(entry.file_name(), name) => remove_entry(rt, &entry)?,
+            Ok(entry) if is_left(entry.file_name().as_bytes(), name.as_bytes()) => remove_entry(
+                rt, &entry,
+            )?,
             Ok(_) => {}
             Err(reason) if reason.kind() == ErrorKind::InvalidFilename => {}
             Err(reason) => return Err(reason),
@@ -142,15 +147,44 @@ fn remove_entry(rt: &HostRuntime, entry: &DirEntry<HostRuntime, Global>) -> io::
 }
 
 /// Whether a key maker of the file of that name writes under this one first.
-fn is_left(entry: &str, name: &str) -> bool {
-    let Some(rest) = entry.strip_prefix(name) else {
+fn is_left(entry: &[u8], name: &[u8]) -> bool
+    ensures { result ≡ true → IsUnfinished name.now entry.now }
+{
+    let Some(rest) = behind(entry, name) else {
         return false;
     };
-    let rest = rest.strip_prefix(".pub").unwrap_or(rest);
-    match rest.strip_prefix(".part.") {
-        Some(run) => !run.is_empty() && run.bytes().all(|byte| byte.is_ascii_digit()),
+    match behind(rest, b".pub") {
+        Some(part) => is_part(part),
+        None => is_part(rest),
+    }
+}
+
+/// Whether it is `.part.` and the number of a run.
+fn is_part(text: &[u8]) -> bool
+    ensures { result ≡ true → IsPart text.now }
+{
+    match behind(text, b".part.") {
+        Some(run) => !run.is_empty() && are_digits(run),
         None => false,
     }
+}
+
+/// Whether each byte is a decimal digit.
+fn are_digits(text: &[u8]) -> bool
+    ensures { result ≡ list_all is_ascii_digit text.now }
+{
+    text.iter().all(|byte| byte.is_ascii_digit())
+}
+
+/// What stands in a text behind its front. `None` where it begins otherwise.
+fn behind<'a>(text: &'a [u8], front: &[u8]) -> Option<&'a [u8]>
+    ensures { IfSome result (λ rest. text.now ≡ front.now ++ rest.now) }
+{
+    if text.len() < front.len() {
+        return None;
+    }
+    let (head, rest) = text.split_at(front.len());
+    if head == front { Some(rest) } else { None }
 }
 
 /// Writes a file that isn't there yet, and waits until the disk has it.
