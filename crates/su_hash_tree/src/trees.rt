@@ -42,7 +42,8 @@ impl<K: TreeKey, V: TreeValue> Model for HashTree<K, V> {
 
     ghost view = { λ a. record { entries = pairs a.root; hashes = a.made.count } };
 
-    ghost invariant = { λ a. IsWhole a.root × Stands (sort K.bits K.bytes K.is_key V.bytes V.is_value) a.root (pairs a.root) };
+    ghost invariant = { λ a. let t = sort K.bits K.bytes K.is_key V.bytes V.is_value in
+        IsWhole a.root × Stands t a.root (pairs a.root) };
 }
 
 impl<K: TreeKey + Drop, V: TreeValue + Drop> Drop for HashTree<K, V> {
@@ -123,7 +124,7 @@ impl<K: TreeKey + Drop, V: TreeValue + Drop> HashTree<K, V> {
             None => Ok(self.root.replace(&key, value, &mut self.made)),
             Some(bit) => {
                 let before = self.made.count;
-                match self.root.place(self.alloc, bit, key, value, &mut self.made) {
+                match self.root.add(self.alloc, bit, key, value, &mut self.made) {
                     Ok(()) => Ok(None),
                     Err(refused) => {
                         self.made.count = before;
