@@ -1,7 +1,8 @@
 pub mod Sorts
+pub mod Forks
 pub mod Orders
 pub mod Sides
-pub mod Places
+pub mod Insertions
 pub mod Partings
 pub mod Removals
 pub mod Standing

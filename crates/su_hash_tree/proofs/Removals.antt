@@ -6,10 +6,10 @@ use Rattle.std.proofs.lemmas.List.Elements.{filter-append}
 use Rattle.std.proofs.lemmas.Bool.{cases_Bool}
 use Rattle.std.specs.List.{AllByRecursion as Each}
 use Rattle.su_tree.specs.Parting.{Begins, Turns, IsSplit, IsTree}
-use Rattle.su_hash_tree.specs.Edits.{PartAt}
 use Rattle.su_tree.specs.Bits.{bit_at}
 use Rattle.su_tree.proofs.Public.{turns_bit, each_map}
-use Rattle.su_hash_tree.specs.Edits.{key_cmp, value_at, with_value, without_key, HasKey, CostsPath, Parts, IsLooseFork}
+use Rattle.su_hash_tree.proofs.Forks.{IsLooseFork, PartAt}
+use Rattle.su_hash_tree.specs.Edits.{key_cmp, value_at, with_value, without_key, HasKey, CostsPath, Parts}
 use Rattle.su_hash_tree.proofs.Orders.{cmp_itself, not_tied, tied_bits, find_absent}
 use Rattle.su_hash_tree.proofs.Sides.{AtSplit, value_left, value_right, key_turns, cost_on}
 

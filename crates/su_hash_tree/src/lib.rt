@@ -1,4 +1,4 @@
-//! Maps that keep their digests, and of which subtrees may be left on a store that isn't trusted.
+//! Finite maps that keep their digests: a change hashes the path of one key, and the digest is at hand.
 #![tactic(auto)]
 
 mod counts;
@@ -7,6 +7,4 @@ mod nodes;
 mod tests;
 mod trees;
 
-pub use counts::Hashes;
-pub use nodes::Node;
 pub use trees::HashTree;

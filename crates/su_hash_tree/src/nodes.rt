@@ -19,9 +19,8 @@ use su_tree::{TreeKey, TreeValue, first_difference};
 /// keeps the digest of its part of the map. (A call goes down a path by calling itself, so what isn't needed on the way
 /// stands in functions of its own, which aren't inlined: a path can have 2,296 nodes.)
 #[derive(Drop)]
-pub enum Node<K: TreeKey, V: TreeValue> {
-    /// A part of which only the digest is known. (None stands in a tree that is all in memory: it fills the place of a node
-    /// while that is changed.)
+pub(crate) enum Node<K: TreeKey, V: TreeValue> {
+    /// A part of which only the digest is known. (No tree has one yet: it stands in for a node that is being changed.)
     Stub(Digest),
     Empty(Digest),
     Leaf(K, V, Digest),
@@ -179,7 +178,8 @@ impl<K: TreeKey + Drop, V: TreeValue + Drop> Node<K, V> {
         ensures ok { let t = sort K.bits K.bytes K.is_key V.bytes V.is_value in
             (m : List (K × V)) → Stands t self.old m → IsAbove K.bits bit key m
             → OnOk result (Stands t self.new (with_value K.bits key value m)) }
-        ensures reached { (k : K) → IsTrue (reached K.bits k self.old) → IsTrue (reached K.bits k self.new) }
+        ensures reached { (k : K) → IsTrue (reached K.bits k self.old)
+            → IsTrue (reached K.bits k self.new) }
         ensures whole { IsWhole self.old → IsWhole self.new }
         ensures err { OnErr result (self.new ≡ self.old) }
         ensures at_most_two { hashes.new.count ≤ hashes.old.count + 2 }
@@ -211,7 +211,7 @@ impl<K: TreeKey + Drop, V: TreeValue + Drop> Node<K, V> {
 
     /// Puts a pair whose key parts at `bit` from the keys that are there. The key's path has no stub. Fails where memory is
     /// wanting, and then changes nothing.
-    pub fn place(
+    pub fn add(
         &mut self,
         alloc: Global,
         bit: u16,
@@ -226,7 +226,8 @@ impl<K: TreeKey + Drop, V: TreeValue + Drop> Node<K, V> {
         ensures cost { let t = sort K.bits K.bytes K.is_key V.bytes V.is_value in
             (m : List (K × V)) → Stands t self.old m → Parts K.bits bit key m
             → OnOk result (CostsPath K.bits key m hashes.old.count hashes.new.count) }
-        ensures reached { (k : K) → IsTrue (reached K.bits k self.old) → IsTrue (reached K.bits k self.new) }
+        ensures reached { (k : K) → IsTrue (reached K.bits k self.old)
+            → IsTrue (reached K.bits k self.new) }
         ensures whole { IsWhole self.old → IsWhole self.new }
         ensures err { OnErr result (self.new ≡ self.old) }
     {
@@ -238,11 +239,11 @@ impl<K: TreeKey + Drop, V: TreeValue + Drop> Node<K, V> {
                 if *at >= bit {
                     self.fork(alloc, bit, key, value, hashes)
                 } else if key.bit(*at) {
-                    r.place(alloc, bit, key, value, hashes)?;
+                    r.add(alloc, bit, key, value, hashes)?;
                     self.refresh(hashes);
                     Ok(())
                 } else {
-                    l.place(alloc, bit, key, value, hashes)?;
+                    l.add(alloc, bit, key, value, hashes)?;
                     self.refresh(hashes);
                     Ok(())
                 }
@@ -314,7 +315,8 @@ impl<K: TreeKey + Drop, V: TreeValue + Drop> Node<K, V> {
             → Stands t self.new (without_key K.bits key.now m) }
         ensures some { let t = sort K.bits K.bytes K.is_key V.bytes V.is_value in
             (m : List (K × V)) → Stands t self.old m → Known K.bits key.now self.old m
-            → IfSome result (λ _. IsEmpty self.new ⊎ (0 < length (without_key K.bits key.now m))) }
+            → IfSome result (λ _.
+            IsEmpty self.new ⊎ (0 < length (without_key K.bits key.now m))) }
         ensures whole { IsWhole self.old → IsWhole self.new }
         ensures cost { let t = sort K.bits K.bytes K.is_key V.bytes V.is_value in
             (m : List (K × V)) → Stands t self.old m → Known K.bits key.now self.old m

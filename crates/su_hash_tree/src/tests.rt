@@ -70,8 +70,8 @@ fn deepest_tree(alloc: Global) -> Result<HashTree<Name, FileId>, Refusal> {
     for before in 0..255usize {
         let last = 254 - before;
         let mut bytes = [255; 255];
-        for place in [1u8, 2, 4, 8, 16, 32, 64, 128] {
-            bytes[last] = 255 - place;
+        for flip in [1u8, 2, 4, 8, 16, 32, 64, 128] {
+            bytes[last] = 255 - flip;
             tree.insert(Name::new(alloc, &bytes[..=last])?, file)?;
         }
         if last > 0 {

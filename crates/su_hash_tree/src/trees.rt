@@ -26,7 +26,6 @@ use su_tree::{TreeKey, TreeValue};
 ///
 /// A pair takes two boxes of 72 bytes each, with numbers and digests and with names and file ids alike; the bytes of a name
 /// come on top.
-#[derive(Drop)]
 pub struct HashTree<K: TreeKey, V: TreeValue> {
     root: Node<K, V>,
     made: Hashes,
@@ -43,7 +42,19 @@ impl<K: TreeKey, V: TreeValue> Model for HashTree<K, V> {
 
     ghost view = { λ a. record { entries = pairs a.root; hashes = a.made.count } };
 
-    ghost invariant = { λ a. IsWhole a.root × Stands (sort K.bits K.bytes K.is_key V.bytes V.is_value) a.root (pairs a.root) };
+    ghost invariant = { λ a. let t = sort K.bits K.bytes K.is_key V.bytes V.is_value in
+        IsWhole a.root × Stands t a.root (pairs a.root) };
+}
+
+impl<K: TreeKey + Drop, V: TreeValue + Drop> Drop for HashTree<K, V> {
+    // (By hand, so that a caller's proof needs no case for each kind of root.)
+    fn drop(self) {
+        let HashTree {
+            root: _root,
+            made: _made,
+            alloc: _,
+        } = self;
+    }
 }
 
 impl<K: TreeKey + Drop, V: TreeValue + Drop> HashTree<K, V> {
@@ -113,7 +124,7 @@ impl<K: TreeKey + Drop, V: TreeValue + Drop> HashTree<K, V> {
             None => Ok(self.root.replace(&key, value, &mut self.made)),
             Some(bit) => {
                 let before = self.made.count;
-                match self.root.place(self.alloc, bit, key, value, &mut self.made) {
+                match self.root.add(self.alloc, bit, key, value, &mut self.made) {
                     Ok(()) => Ok(None),
                     Err(refused) => {
                         self.made.count = before;

@@ -28,8 +28,8 @@ parting-requires g c = whole_reached (sort_of g.K.TreeKey g.V.TreeValue) c.args.
 pub replace-requires : goal.replace-requires
 replace-requires g c = record { reached = whole_reached (sort_of g.K.TreeKey g.V.TreeValue) c.args.key c.self.inside.root c.self.invariant.0 }
 
-pub place-requires : goal.place-requires
-place-requires g c = record { reached = whole_reached (sort_of g.K.TreeKey g.V.TreeValue) c.args.key c.self.inside.root c.self.invariant.0 }
+pub add-requires : goal.add-requires
+add-requires g c = record { reached = whole_reached (sort_of g.K.TreeKey g.V.TreeValue) c.args.key c.self.inside.root c.self.invariant.0 }
 
 pub invariant_of-self-in-None-1 : goal.invariant_of-self-in-None-1
 invariant_of-self-in-None-1 g c =
@@ -68,7 +68,7 @@ invariant_of-self-in-Ok g c =
     let s = sort_of g.K.TreeKey g.V.TreeValue in
     let root = c.self.inside.root in
     let some = some_pairs s root (λ x. false≢true (sym c.if-is_empty.false ∙ c.is_empty.ensures.1 x)) c.self.invariant.0 c.self.invariant.1 in
-    after s _ _ (c.place.ensures.whole c.self.invariant.0) (c.in-Ok.ensures.ok (pairs root) c.self.invariant.1 (c.in-Some.ensures (pairs root) c.self.invariant.1 some))
+    after s _ _ (c.add.ensures.whole c.self.invariant.0) (c.in-Ok.ensures.ok (pairs root) c.self.invariant.1 (c.in-Some.ensures (pairs root) c.self.invariant.1 some))
 
 pub returns-in-Ok-clause-old : goal.returns-in-Ok-clause-old
 returns-in-Ok-clause-old g c =
@@ -84,7 +84,7 @@ returns-in-Ok-clause-new g c =
     let s = sort_of g.K.TreeKey g.V.TreeValue in
     let root = c.self.inside.root in
     let some = some_pairs s root (λ x. false≢true (sym c.if-is_empty.false ∙ c.is_empty.ensures.1 x)) c.self.invariant.0 c.self.invariant.1 in
-    sym (whole_is s _ _ (c.place.ensures.whole c.self.invariant.0) (c.in-Ok.ensures.ok (pairs root) c.self.invariant.1 (c.in-Some.ensures (pairs root) c.self.invariant.1 some)))
+    sym (whole_is s _ _ (c.add.ensures.whole c.self.invariant.0) (c.in-Ok.ensures.ok (pairs root) c.self.invariant.1 (c.in-Some.ensures (pairs root) c.self.invariant.1 some)))
     ∙ put_in g.K.TreeKey g.V.TreeValue g.K.Ord.cmp g.met.K.TreeKey.ordered root _ c.self.invariant.1 c.args.key c.args.value c.byte_count-bytes.ensures.key
     ∙ ap (λ x. put g.K.Ord.cmp c.args.key c.args.value x.entries) c.self.view_is
 
