@@ -1,0 +1,4 @@
+pub mod Vector
+pub mod Version
+pub mod Commit
+pub mod Order

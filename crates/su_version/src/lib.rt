@@ -1,0 +1,11 @@
+//! Version vectors, version structures and commits: what they are, how they are spelled, and how
+//! they follow one another.
+#![tactic(auto)]
+
+mod commits;
+mod vectors;
+mod versions;
+
+pub use commits::{Commit, LONGEST_SIGNATURE};
+pub use vectors::Vector;
+pub use versions::VersionStructure;
