@@ -61,7 +61,9 @@ impl VersionStructure {
 
     /// Returns the author.
     pub fn author(&self) -> User
-        ensures { result ≡ self.now.author }
+        ensures value { result ≡ self.now.author }
+        // What holds of each version structure.
+        ensures version { IsVersion self.now }
     {
         self.author
     }
@@ -112,10 +114,10 @@ impl VersionStructure {
     }
 
     // How many bytes it is spelled in.
-    fn encoded_length(&self) -> usize {
-        let groups = self.groups.len() & 0xff;
-        let numbers = self.vector.numbers().len() & 0xff;
-        103 + 33 * groups + 8 * numbers
+    pub(crate) fn encoded_length(&self) -> usize
+        ensures { result ≤ 9158 }
+    {
+        103 + 33 * self.groups.len() + 8 * self.vector.numbers().len()
     }
 
     /// Writes the bytes.
