@@ -1,2 +1,3 @@
 mod Spelling
 mod CommitSpelling
+mod Chaining

@@ -2,10 +2,12 @@
 //! they follow one another.
 #![tactic(auto)]
 
+mod chains;
 mod commits;
 mod vectors;
 mod versions;
 
+pub use chains::Tip;
 pub use commits::{Commit, LONGEST_SIGNATURE};
 pub use vectors::Vector;
 pub use versions::VersionStructure;
