@@ -1,3 +1,4 @@
 mod Spelling
 mod CommitSpelling
 mod Chaining
+mod Leaves
