@@ -2,3 +2,4 @@ mod Spelling
 mod CommitSpelling
 mod Chaining
 mod Leaves
+mod Ordering
