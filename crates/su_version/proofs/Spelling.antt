@@ -1,11 +1,15 @@
 -- Version structures are spelled part by part.
-use Rattle.std.proofs.Common.{◌≡◌, ◌<◌, ◌≤◌, ◌+◌, ◌^◌, ℕ, true, List, [], ◌∷◌, ◌++◌, length, refl, sym, ap, subst, ◌∙◌, arith, append_assoc}
+use Rattle.std.proofs.Common.{◌≡◌, ◌<◌, ◌≤◌, ◌+◌, ◌^◌, ◌⊎◌, ℕ, true, List, [], ◌∷◌, ◌++◌, length, refl, sym, ap, subst, ◌∙◌, arith, append_assoc, append-nil}
 use Rattle.std.specs.Prelude.{codes}
 use Rattle.std.specs.List.{flat_map, AllByRecursion}
 use Rattle.su_bytes.specs.Principal.{is_group}
+use Rattle.std.specs.Prelude.{Result, Ok, Err}
+use Rattle.su_bytes.specs.declared.refusals.Refusal.{Refusal}
+use Rattle.su_bytes.specs.declared.refusals.Refusal.TheVariants.{NoMemory}
+use Rattle.su_format.specs.Reading.{Decodes}
 use Rattle.su_format.specs.Format.{Format, part, making, ◌>>=◌, repeated, IsLawful, EachFrom, IsFormatOf}
 use Rattle.su_format.specs.Part.{u8_bytes, u64_bytes, u8_part, u64_part, bytes_part, mark_part, user_part, digest_part}
-use Rattle.su_format.proofs.Public.{part_of, repeated_of, repeated_lawful, in_order, making_lawful, part_lawful, u8_lawful, u64_lawful, mark_lawful, user_lawful, digest_lawful}
+use Rattle.su_format.proofs.Public.{read_as_spelled, part_of, repeated_of, repeated_lawful, in_order, making_lawful, part_lawful, u8_lawful, u64_lawful, mark_lawful, user_lawful, digest_lawful}
 use Rattle.su_version.specs.Version.{Version, made_version, IsCarried, AreCarried, IsVersion, group_bytes, version_bytes, group_above, carried_format, groups_format, vector_size_part, number_format, vector_format, version_format}
 
 -- ---- groups
@@ -150,3 +154,11 @@ unfolding version_format
 version_lawful =
     in_order _ _ (mark_lawful (codes "SV01")) (λ _. in_order _ _ user_lawful (λ author. in_order _ _ digest_lawful (λ prev. in_order _ _ digest_lawful (λ change. in_order _ _ digest_lawful (λ handle.
     in_order _ _ groups_lawful (λ groups. in_order _ _ vector_lawful (λ vector. making_lawful (made_version author prev change handle groups vector))))))))
+
+-- ---- what is decoded
+
+pub found : (bytes : List ℕ) (v : Version) → Decodes version_format bytes (Ok v) → IsVersion v × (bytes ≡ version_bytes v)
+found bytes v read = let is = version_of.spelled bytes v [] read in (is.0, is.1 ∙ append-nil (version_bytes v))
+
+pub only : (bytes : List ℕ) (r : Result Version Refusal) → Decodes version_format bytes r → (v : Version) → IsVersion v → bytes ≡ version_bytes v → (r ≡ Ok v) ⊎ (r ≡ Err NoMemory)
+only bytes r read v is spelled = read_as_spelled version_format version_lawful bytes v r (version_of.begins bytes v [] is (spelled ∙ sym (append-nil (version_bytes v)))) read

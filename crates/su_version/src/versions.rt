@@ -1,9 +1,9 @@
 // Version structures.
-ghost use Rattle.std.specs.Prelude.{◌≡◌, ◌≤◌, ◌<◌, ◌↔◌, IsTrue, ◌++◌, ◌∷◌, [], ℕ, length, true, Ok, Err, IfOk, IfErr, OnOk, OnErr};
+ghost use Rattle.std.specs.Prelude.{◌≡◌, ◌≤◌, ◌<◌, ◌↔◌, ◌⊎◌, IsTrue, ◌++◌, ◌∷◌, [], ℕ, length, true, Ok, Err, IfOk, IfErr, OnOk, OnErr};
 ghost use Rattle.std.specs.List.{flat_map};
-ghost use Rattle.su_format.specs.Reading.{Took, Refuses, Takes};
+ghost use Rattle.su_format.specs.Reading.{Took, Refuses, Takes, Decodes};
 ghost use Rattle.su_format.specs.Part.{u8_bytes, u64_bytes};
-ghost use Rattle.su_version.specs.Version.{IsVersion, made_version, version_bytes, group_bytes, group_above, carried_format, groups_format, vector_size_part, vector_format, version_format};
+ghost use Rattle.su_version.specs.Version.{Version as VersionParts, IsVersion, made_version, version_bytes, group_bytes, group_above, carried_format, groups_format, vector_size_part, vector_format, version_format};
 ghost use Rattle.su_bytes.specs.declared.refusals.Refusal.TheVariants.{NoMemory};
 
 use crate::vectors::Vector;
@@ -131,6 +131,24 @@ impl VersionStructure {
         writer.put_digest(&self.handle)?;
         write_groups(writer, self.groups.as_slice())?;
         write_vector(writer, self.vector.numbers())
+    }
+
+    /// Returns the version structure that the bytes spell. `Malformed` where they are none's, with
+    /// the place of the first byte of the part that isn't there, or of the first byte that is left
+    /// over; `NoMemory` where there is no room for it.
+    pub fn decode(alloc: Global, bytes: &[u8]) -> Result<VersionStructure, Refusal>
+        // What is read is spelled so.
+        ensures found { IfOk result (λ v. IsVersion v × (bytes.now ≡ version_bytes v)) }
+        // What is spelled so is read.
+        ensures only { (v : VersionParts) → IsVersion v → bytes.now ≡ version_bytes v
+            → (result ≡ Ok v) ⊎ (result ≡ Err NoMemory) }
+        // What is refused has no such part at that place.
+        ensures decodes { Decodes version_format bytes.now result }
+    {
+        let mut reader = Reader::new(bytes);
+        let version = VersionStructure::read(alloc, &mut reader)?;
+        reader.finish()?;
+        Ok(version)
     }
 
     /// Reads a version structure.
