@@ -1,4 +1,0 @@
-pub mod Chains
-pub mod Numbers
-pub mod Items
-mod Examples
