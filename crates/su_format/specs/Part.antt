@@ -1,5 +1,5 @@
 -- The parts of formats. Numbers have their highest byte first.
-use Rattle.std.specs.Prelude.{◌≡◌, ◌≢◌, ℕ, ◌<◌, ◌^◌, true, List, [], ◌∷◌, length}
+use Rattle.std.specs.Prelude.{◌≡◌, ℕ, ◌<◌, ◌^◌, true, List, [], ◌∷◌, length}
 use Rattle.std.specs.Int.{w16, w32, w64, to_be_bytes}
 use Rattle.su_bytes.specs.Principal.{is_user, is_group, is_principal}
 use Rattle.su_bytes.specs.FileId.{is_inum, is_file_id}

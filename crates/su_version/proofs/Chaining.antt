@@ -1,5 +1,5 @@
 -- How commits follow one another: groups of a roster, and leaves of a chain.
-use Rattle.std.proofs.Common.{◌≡◌, ℕ, ◌<◌, ◌≤◌, ◌||◌, true, false, List, [], ◌∷◌, ◌++◌, map, nat_eq, refl, sym, ap, ◌∙◌, arith}
+use Rattle.std.proofs.Common.{◌≡◌, ℕ, true, List, [], ◌∷◌, ◌++◌, map, refl, sym, ap, ◌∙◌}
 use Rattle.std.specs.List.{list_any, AllByRecursion}
 use Rattle.su_bytes.specs.Membership.{Membership, has_number}
 use Rattle.su_bytes.specs.Principal.{principals, user_principal, group_principal}

@@ -1,12 +1,12 @@
 -- Positions in the order of their vectors, one inserted after another.
-use Rattle.std.proofs.Common.{◌≡◌, ℕ, zero, suc, ◌+◌, ◌<◌, ◌≤◌, ◌⊎◌, inl, inr, Bool, true, false, cond, ◌&&◌, nat_le, List, [], ◌∷◌, ◌++◌, length, map, take, drop, get_or, refl, sym, ap, subst, ◌∙◌, arith}
+use Rattle.std.proofs.Common.{◌≡◌, ℕ, zero, suc, ◌+◌, ◌<◌, ◌≤◌, inl, inr, Bool, true, false, cond, ◌&&◌, nat_le, List, [], ◌∷◌, ◌++◌, refl, sym, ap, subst, ◌∙◌, arith}
 use Rattle.std.specs.Prelude.{insert}
 use Rattle.std.specs.List.{AllByRecursion, range_with_len}
 use Rattle.std.specs.List.Sorted.{IsPermutation}
 use Rattle.std.proofs.lemmas.Bool.{and_parts, leb-true, le-leb}
 use Rattle.std.proofs.lemmas.List.{map-id}
 use Rattle.std.proofs.lemmas.List.FromFn.{map-range_with_len_more}
-use Rattle.std.proofs.lemmas.List.Sorted.{IsPermutation-refl, IsPermutation-insert, IsPermutation-append_left, IsPermutation-append_comm, IsPermutation-trans}
+use Rattle.std.proofs.lemmas.List.Sorted.{IsPermutation-insert, IsPermutation-append_left, IsPermutation-append_comm, IsPermutation-trans}
 use Rattle.su_version.specs.Vector.{le}
 use Rattle.su_version.specs.Order.{vector_at, IsAtMost, AreComparable, ComesBefore, Ascend, place_in}
 
@@ -43,21 +43,22 @@ module _ (vs : List (List ℕ)) where
   -- a vector that isn't at most another is greater, and comes behind it
   greater : (q p b : ℕ) → AreComparable vs q p → le (vector_at vs q) (vector_at vs p) ≡ false → IsAtMost vs q b → ComesBefore vs p b
   greater q p b comparable less most =
-    let reverse : IsAtMost vs p q = elim comparable [ inl low ↦ absurd (cc (low, less)) | inr high ↦ high ] in
-    (le_transitive (vector_at vs p) (vector_at vs q) (vector_at vs b) reverse most,
-     λ same. let low : IsAtMost vs q p = subst (λ v. le (vector_at vs q) v ≡ true) (sym same) most in absurd (cc (low, less)))
+      let reverse : IsAtMost vs p q = elim comparable [ inl low ↦ absurd (cc (low, less)) | inr high ↦ high ] in (
+        le_transitive (vector_at vs p) (vector_at vs q) (vector_at vs b) reverse most,
+        λ same. let low : IsAtMost vs q p = subst (λ v. le (vector_at vs q) v ≡ true) (sym same) most in absurd (cc (low, less)),
+      )
 
   ascend_step : (q p : ℕ) (order : List ℕ) → AreComparable vs q p → q < p → AllByRecursion (ComesBefore vs q) order → Ascend vs order → Ascend vs (insert order (place_in vs order p) p) → (b : Bool) → le (vector_at vs q) (vector_at vs p) ≡ b → Ascend vs (insert (q ∷ order) (cond b (suc (place_in vs order p)) 0) p)
   ascend_step q p order comparable less behind ascending more true most =
-    (all_insert (ComesBefore vs q) order (place_in vs order p) p (most, λ _. less) behind, more)
+      (all_insert (ComesBefore vs q) order (place_in vs order p) p (most, λ _. less) behind, more)
   ascend_step q p order comparable less behind ascending more false above =
-    ((greater q p q comparable above (le_itself (vector_at vs q)), all_so (ComesBefore vs q) (ComesBefore vs p) (λ b before. greater q p b comparable above before.0) order behind), (behind, ascending))
+      ((greater q p q comparable above (le_itself (vector_at vs q)), all_so (ComesBefore vs q) (ComesBefore vs p) (λ b before. greater q p b comparable above before.0) order behind), (behind, ascending))
 
   -- what is inserted at its place comes behind those that are at most it, and before the others
   ascend_insert : (order : List ℕ) (p : ℕ) → ((q : ℕ) → q < p → AreComparable vs q p) → AllByRecursion (λ q. q < p) order → Ascend vs order → Ascend vs (insert order (place_in vs order p) p)
   ascend_insert [] p comparable below ascending = (tt, tt)
   ascend_insert (q ∷ order) p comparable (less, below) (behind, ascending) =
-    ascend_step q p order (comparable q less) less behind ascending (ascend_insert order p comparable below ascending) (le (vector_at vs q) (vector_at vs p)) refl
+      ascend_step q p order (comparable q less) less behind ascending (ascend_insert order p comparable below ascending) (le (vector_at vs q) (vector_at vs p)) refl
 
   -- the first positions, in the order of their vectors
   pub record IsOrderOfFirst (n : ℕ) (order : List ℕ) : Type 0 where

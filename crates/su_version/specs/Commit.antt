@@ -1,5 +1,5 @@
 -- Commits and their bytes. (This project's own format.)
-use Rattle.std.specs.Prelude.{◌≡◌, ◌≤◌, ℕ, List, ◌++◌, length}
+use Rattle.std.specs.Prelude.{◌≤◌, ℕ, List, ◌++◌, length}
 use Rattle.sha2.specs.Sha256.{sha256}
 use Rattle.su_format.specs.Format.{Format, part, making, ◌>>=◌}
 use Rattle.su_format.specs.Part.{u32_bytes, bytes_part}

@@ -1,5 +1,5 @@
--- Version vectors: a number for each principal of the roster, the users and then the groups. (SUNDR,
--- section 3.3: their order.)
+-- Version vectors: a number for each principal of the roster, the users and then the groups.
+-- (SUNDR, section 3.3: their order.)
 use Rattle.std.specs.Prelude.{ℕ, ◌+◌, Bool, cond, List, [], ◌∷◌, map, nat_eq, nat_le}
 use Rattle.std.specs.List.{list_any}
 use Rattle.std.specs.Cmp.Lexicographic.{pointwise}

@@ -30,10 +30,10 @@ impl<'a> Model for Tip<'a> {
     ghost Value = { Tip };
 
     ghost view = { λ t. record {
-        number = t.number;
-        head = t.head;
-        vector = t.vector.now;
-        leaf = t.leaf;
+      number = t.number;
+      head = t.head;
+      vector = t.vector.now;
+      leaf = t.leaf;
     } };
 }
 
@@ -43,10 +43,10 @@ impl<'a> Tip<'a> {
     /// commit.
     pub fn new(number: u64, head: Digest, vector: &'a Vector, leaf: Option<u32>) -> Tip<'a>
         ensures { result ≡ record {
-            number = number;
-            head = head;
-            vector = vector.now;
-            leaf = leaf;
+          number = number;
+          head = head;
+          vector = vector.now;
+          leaf = leaf;
         } }
     {
         Tip {
@@ -57,11 +57,11 @@ impl<'a> Tip<'a> {
         }
     }
 
-    /// Checks whether a commit of that user may come next, by the user's key in the roster, if there
-    /// is such a user. `BadSignature` where there is none, or the signature isn't under the key;
-    /// `WrongPrev` with the number of commits where it names another one before it; `WrongVector`
-    /// where it carries a group that isn't in the roster, or its vector isn't the next; `KeyReuse`
-    /// where its leaf isn't above the last; `NoMemory`.
+    /// Checks whether a commit of that user may come next, by the user's key in the roster, if
+    /// there is such a user. `BadSignature` where there is none, or the signature isn't under the
+    /// key; `WrongPrev` with the number of commits where it names another one before it;
+    /// `WrongVector` where it carries a group that isn't in the roster, or its vector isn't the
+    /// next; `KeyReuse` where its leaf isn't above the last; `NoMemory`.
     pub fn check(
         &self,
         alloc: Global,
@@ -125,12 +125,7 @@ fn is_new_leaf(last: Option<u32>, leaf: u32) -> bool
 }
 
 /// Whether a commit carries groups of the roster, and its vector comes next.
-fn counts_on(
-    roster: &Roster,
-    principals: &[Principal],
-    before: &Vector,
-    commit: &Commit,
-) -> bool
+fn counts_on(roster: &Roster, principals: &[Principal], before: &Vector, commit: &Commit) -> bool
     requires { principals.now ≡ principals_of roster.now }
     ensures { IsTrue result ↔ CountsOn roster.now before.now commit.now }
 {
@@ -138,7 +133,13 @@ fn counts_on(
     let numbers = version.vector().numbers();
     let author = version.author();
     have_groups(principals, version.groups())
-        && are_numbers_after(numbers, principals, before.numbers(), author, version.groups())
+        && are_numbers_after(
+            numbers,
+            principals,
+            before.numbers(),
+            author,
+            version.groups(),
+        )
 }
 
 /// Whether each of these groups is among the principals.

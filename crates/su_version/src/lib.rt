@@ -15,3 +15,6 @@ pub use laws::{next_follows_tip, no_spelling_begins_another};
 pub use orders::order_of;
 pub use vectors::Vector;
 pub use versions::VersionStructure;
+
+#[cfg(test)]
+mod tests;

@@ -10,8 +10,8 @@ use std::alloc::Global;
 use su_bytes::Refusal;
 
 /// Returns the positions of the version structures from the least vector up, equal ones by
-/// position. `NotOrdered` with the first pair of positions whose vectors aren't comparable, if there
-/// is one; `NoMemory`.
+/// position. `NotOrdered` with the first pair of positions whose vectors aren't comparable, if
+/// there is one; `NoMemory`.
 pub fn order_of(alloc: Global, versions: &[VersionStructure]) -> Result<Vec<usize>, Refusal>
     ensures order { IfOk result (λ order. IsOrder (vectors_of versions.now) order.items) }
     ensures refused { IfErr result (λ e. (e ≡ NoMemory)
@@ -51,8 +51,8 @@ fn first_not_comparable(versions: &[VersionStructure], i: usize) -> Option<usize
     ensures { MatchOption result
         ((b : ℕ) → i < b → b < length versions.now → AreComparable (vectors_of versions.now) i b)
         (λ j. (i < j) × (j < length versions.now)
-            × (AreComparable (vectors_of versions.now) i j → ⊥)
-            × ((b : ℕ) → i < b → b < j → AreComparable (vectors_of versions.now) i b)) }
+        × (AreComparable (vectors_of versions.now) i j → ⊥)
+        × ((b : ℕ) → i < b → b < j → AreComparable (vectors_of versions.now) i b)) }
 {
     for j in i + 1..versions.len() {
         if !are_comparable(versions, i, j) {

@@ -48,8 +48,8 @@ impl Vector {
         self.numbers.as_slice()
     }
 
-    /// Whether the vectors are as long, and no number is greater than the other's at the same place.
-    /// It takes no memory.
+    /// Whether the vectors are as long, and no number is greater than the other's at the same
+    /// place. It takes no memory.
     pub fn le(&self, other: &Vector) -> bool
         ensures { result ≡ le self.now other.now }
     {

@@ -152,10 +152,7 @@ impl VersionStructure {
     }
 
     /// Reads a version structure.
-    pub(crate) fn read(
-        alloc: Global,
-        reader: &mut Reader<'_>,
-    ) -> Result<VersionStructure, Refusal>
+    pub(crate) fn read(alloc: Global, reader: &mut Reader<'_>) -> Result<VersionStructure, Refusal>
         ensures { Takes version_format reader.old result reader.new }
     {
         // names the type for the prover (docs/ARCHITECTURE.md, "Forms the kit wants")
@@ -231,10 +228,7 @@ fn read_carried(reader: &mut Reader<'_>, least: u8) -> Result<(Group, Digest), R
 }
 
 // Groups in ascending order, with their i-handles.
-fn read_groups(
-    alloc: Global,
-    reader: &mut Reader<'_>,
-) -> Result<Vec<(Group, Digest)>, Refusal>
+fn read_groups(alloc: Global, reader: &mut Reader<'_>) -> Result<Vec<(Group, Digest)>, Refusal>
     ensures found { IfOk result (λ groups.
         Took groups_format reader.old groups.items reader.new) }
     ensures refused { IfErr result (λ e. Refuses groups_format reader.old e) }

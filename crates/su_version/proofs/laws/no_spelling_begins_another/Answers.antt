@@ -1,4 +1,4 @@
-use Rattle.std.proofs.Common.{◌≡◌, ℕ, List, length, ◌++◌, get_or, ap, arith}
+use Rattle.std.proofs.Common.{◌≡◌, ℕ, get_or, ap, arith}
 use Rattle.su_format.proofs.Public.{spelling_told}
 use Rattle.su_version.specs.Version.{version_bytes}
 use Rattle.su_version.specs.Commit.{commit_bytes}

@@ -1,4 +1,4 @@
-use Rattle.std.proofs.Common.{◌≡◌, ap, ◌∙◌, arith}
+use Rattle.std.proofs.Common.{ap, ◌∙◌, arith}
 use Rattle.su_version.specs.Order.{vectors_of, place_in}
 use Rattle.su_version.proofs.Ordering.{one_position_more}
 use Rattle.su_version.proofs.orders.order_of.Goals as goal

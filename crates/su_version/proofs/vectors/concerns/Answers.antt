@@ -1,6 +1,5 @@
-use Rattle.std.proofs.Common.{◌≡◌, nat_eq, sym, ◌∙◌}
+use Rattle.std.proofs.Common.{nat_eq, sym, ◌∙◌}
 use Rattle.su_bytes.proofs.Public.{list_any-map}
-use Rattle.su_version.specs.Vector.{concerns}
 use Rattle.su_version.proofs.vectors.concerns.Goals as goal
 
 pub returns-in-Group : goal.returns-in-Group

@@ -1,9 +1,6 @@
-use Rattle.std.proofs.Common.{◌≡◌, refl, sym, ◌∙◌}
 use Rattle.std.proofs.lemmas.Result.{err_from_is_err_and}
-use Rattle.su_format.specs.Format.{making, ◌>>=◌}
-use Rattle.su_format.specs.Part.{digest_part}
 use Rattle.su_format.proofs.Public.{then_took, then_refused, first_refused, made}
-use Rattle.su_version.specs.Version.{group_above, carried_format}
+use Rattle.su_version.specs.Version.{carried_format}
 use Rattle.su_version.proofs.versions.read_carried.Goals as goal
 
 pub returns-in_err-group : goal.returns-in_err-group

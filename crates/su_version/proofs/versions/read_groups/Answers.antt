@@ -1,6 +1,6 @@
-use Rattle.std.proofs.Common.{◌≡◌, ◌+◌, ℕ, List, inl, refl, sym, ap, ◌∙◌, subst, arith}
+use Rattle.std.proofs.Common.{◌+◌, arith}
 use Rattle.std.proofs.lemmas.Result.{err_from_is_err_and}
-use Rattle.su_format.proofs.Public.{GoesOn, goes_on_at_first, goes_on_after, goes_nowhere, goes_to_end, then_took, then_refused, first_refused}
+use Rattle.su_format.proofs.Public.{goes_on_at_first, goes_on_after, goes_nowhere, goes_to_end, then_took, then_refused, first_refused}
 use Rattle.su_version.specs.Version.{carried_format, groups_format}
 use Rattle.su_version.proofs.versions.read_groups.Goals as goal
 

@@ -1,7 +1,5 @@
-use Rattle.std.proofs.Common.{◌≡◌, refl, sym, ap, ◌∙◌}
 use Rattle.std.proofs.lemmas.Result.{err_from_is_err_and}
 use Rattle.std.specs.Prelude.{Ok}
-use Rattle.su_format.specs.Reading.{Decodes}
 use Rattle.su_format.proofs.Public.{decoded, left_over, undecoded}
 use Rattle.su_version.specs.Commit.{commit_format}
 use Rattle.su_version.proofs.CommitSpelling.{found, only}

@@ -1,4 +1,3 @@
-use Rattle.std.proofs.Common.{◌≡◌, inl, refl, sym, ap, ◌∙◌}
 use Rattle.std.proofs.lemmas.Result.{err_from_is_err_and}
 use Rattle.su_format.proofs.Public.{then_took, then_refused, first_refused, made}
 use Rattle.su_format.specs.Reading.{Took}
@@ -31,7 +30,7 @@ pub invariant_of-result : goal.invariant_of-result
 unfolding commit_format
 invariant_of-result c =
     let took : Took commit_format c.args.reader.now _ c.take_bytes.new.self =
-        then_took _ _ c.in_ok-version.ensures (then_took _ _ c.in_ok-size.ensures (then_took _ _ c.in_ok-bytes.ensures.found (made _ _))) in
+    then_took _ _ c.in_ok-version.ensures (then_took _ _ c.in_ok-size.ensures (then_took _ _ c.in_ok-bytes.ensures.found (made _ _))) in
     rw c.in_ok-signature.ensures.items (commit_of.spelled _ _ _ took.spelled).0
 
 pub returns : goal.returns

@@ -1,4 +1,4 @@
-use Rattle.std.proofs.Common.{◌≡◌, ◌++◌, map, sym, ap, ◌∙◌}
+use Rattle.std.proofs.Common.{◌++◌, map, ◌∙◌}
 use Rattle.su_version.specs.Vector.{bump, numbers_after}
 use Rattle.su_version.proofs.vectors.Vector.bump.Goals as goal
 

@@ -1,4 +1,3 @@
-use Rattle.std.proofs.Common.{◌≡◌, refl, sym, ap, ◌∙◌}
 use Rattle.std.proofs.lemmas.Result.{err_from_is_err_and}
 use Rattle.su_format.proofs.Public.{then_took, then_refused, first_refused, made}
 use Rattle.su_format.specs.Reading.{Took}

@@ -1,9 +1,7 @@
-use Rattle.std.proofs.Common.{◌≡◌, ℕ, List, ◌++◌, ◌∷◌, [], append_assoc, length, sym, ap, subst, ◌∙◌}
+use Rattle.std.proofs.Common.{◌≡◌, ℕ, List, ◌++◌, append_assoc, subst, ◌∙◌}
 use Rattle.std.specs.Prelude.{codes}
-use Rattle.std.specs.List.{flat_map}
 use Rattle.std.proofs.lemmas.Result.{on_ok_weaker}
-use Rattle.su_format.specs.Part.{u64_bytes}
-use Rattle.su_version.specs.Version.{version_bytes, group_bytes}
+use Rattle.su_version.specs.Version.{version_bytes}
 use Rattle.su_version.proofs.versions.VersionStructure.write.Goals as goal
 
 -- the parts behind one another
