@@ -139,7 +139,7 @@ fn desk(alloc: Global, values: &ArgMatches<'_>) -> Result<Line, LineFault>
     ensures { IfOk result HasGoodNumbers }
 {
     match values.get_one::<u8>("users") {
-        Some(users) if 1 <= users && users <= 64 => Ok(Line::Desk { users }),
+        Some(users) if (1..=64).contains(&users) => Ok(Line::Desk { users }),
         _ => Err(LineFault::Usage(String::from_str(
             alloc,
             "error: the number of users is 1 to 64",

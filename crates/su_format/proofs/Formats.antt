@@ -6,7 +6,7 @@ use Rattle.su_bytes.specs.declared.refusals.Refusal.{Refusal}
 use Rattle.su_bytes.specs.declared.refusals.Refusal.TheVariants.{Malformed}
 use Rattle.su_format.specs.Format.{Format, part, making, ◌>>=◌, IsLawful}
 use Rattle.su_format.specs.Part.{bytes_part}
-use Rattle.su_format.specs.Reading.{Reading, IsPlaceOf, Took, Takes}
+use Rattle.su_format.specs.Reading.{Reading, IsPlaceOf, Took, Refuses, Takes}
 
 -- ---- one part
 
@@ -62,6 +62,16 @@ module _ {A B : Type 0} (f : Format A) (g : A → Format B) where
   unfolding ◌>>=◌
   stops old middle new e (inl none) = inl none
   stops old middle new e (inr (place, is, at)) = inr (place, is, record { behind = at.behind; fails = inl at.fails; place_is = at.place_is })
+
+  -- the same of what was taken, and of what is refused
+  pub then_took : {old middle new : Reading} {a : A} {b : B} → Took f old a middle → Took (g a) middle b new → Took (f >>= g) old b new
+  then_took first second = goes_on _ _ _ _ (Ok _) first second
+
+  pub then_refused : {old middle : Reading} {a : A} {e : Refusal} → Took f old a middle → Refuses (g a) middle e → Refuses (f >>= g) old e
+  then_refused {middle} {e} first second = goes_on _ middle middle _ (Err e) first second
+
+  pub first_refused : {old : Reading} {e : Refusal} → Refuses f old e → Refuses (f >>= g) old e
+  first_refused {old} {e} first = stops old old old e first
 
   -- what begins the bytes of both, seen from where another first value ends
   moved : (a b : A) (l m : List ℕ) → (P : A → List ℕ → Type 0) → a ≡ b → l ≡ m → P b m → P a l

@@ -15,7 +15,7 @@ use Rattle.su_bytes.specs.declared.file_ids.FileId.TheVariants as file
 use Rattle.su_bytes.specs.declared.file_ids.Kind.{Kind}
 use Rattle.su_bytes.specs.declared.file_ids.Kind.TheVariants.{File, Dir}
 use Rattle.su_format.specs.Format.{part, IsLawful}
-use Rattle.su_format.specs.Part.{u8_bytes, u16_bytes, u32_bytes, u64_bytes, principal_bytes, file_id_bytes, name_bytes, kind_bytes, AnyKind, u8_part, u16_part, u32_part, u64_part, bytes_part, digest_part, mark_part, user_part, group_part, inum_part, principal_part, file_id_part, name_part, kind_part, end_part}
+use Rattle.su_format.specs.Part.{u8_bytes, u16_bytes, u32_bytes, u64_bytes, principal_bytes, file_id_bytes, name_bytes, kind_bytes, AnyKind, u8_part, u16_part, u32_part, u64_part, bytes_part, digest_part, mark_part, user_part, group_part, inum_part, principal_part, file_id_part, name_part, kind_part}
 use Rattle.su_format.specs.Reading.{Reading, Took, Takes}
 use Rattle.su_format.proofs.Formats.{part_lawful, another, too_short, missing}
 use Rattle.su_bytes.specs.declared.refusals.Refusal.{Refusal}
@@ -129,14 +129,6 @@ kind_told Dir Dir rest behind _ _ e = (refl, cc)
 pub kind_lawful : IsLawful kind_part
 unfolding kind_part
 kind_lawful = part_lawful AnyKind kind_bytes kind_told
-
-pub end_lawful : IsLawful end_part
-unfolding end_part
-end_lawful = record {
-  told = λ bytes a b rest behind x y. (x.0 ∙ sym y.0, x.2 ∙ sym y.2);
-  apart = λ bytes a rest behind x y. y.1 x.1;
-  one_place = λ bytes rest behind x y. x.0 ∙ sym y.0;
-}
 
 -- ---- parts that are numbers of a range
 

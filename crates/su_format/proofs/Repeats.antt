@@ -1,10 +1,10 @@
 -- Values one after another.
-use Rattle.std.proofs.Common.{◌≡◌, ℕ, zero, suc, List, [], ◌∷◌, ◌++◌, length, refl, sym, ◌∙◌, ap, subst, arith, append_assoc}
+use Rattle.std.proofs.Common.{◌≡◌, ℕ, zero, suc, ◌+◌, ◌-◌, ◌<◌, ◌≤◌, List, [], ◌∷◌, ◌++◌, length, refl, sym, ◌∙◌, ap, subst, arith, append_assoc, append-nil}
 use Rattle.std.specs.Prelude.{Result, Ok, Err}
 use Rattle.std.specs.List.{flat_map}
 use Rattle.su_bytes.specs.declared.refusals.Refusal.{Refusal}
 use Rattle.su_format.specs.Format.{Format, part, making, ◌>>=◌, repeated, IsLawful, EachFrom, IsFormatOf}
-use Rattle.su_format.specs.Reading.{Reading, Took, Takes}
+use Rattle.su_format.specs.Reading.{Reading, Took, Refuses, Takes}
 use Rattle.su_format.proofs.Formats.{goes_on, stops, made, making_lawful, in_order}
 
 -- one part is the format of its values
@@ -85,3 +85,45 @@ module _ {A : Type 0} (next : ℕ → Format A) (leaves : A → ℕ) (Is : ℕ �
     spelled = repeated_spelled n s;
     begins = λ bytes vs rest is. repeated_begins n s bytes vs rest is.0 is.1;
   }
+
+-- ---- reading them in a loop
+
+-- Whatever comes of the values that are left comes, behind those that were read, of all of them.
+abbrev pub GoesOn : {A : Type 0} (next : ℕ → Format A) (leaves : A → ℕ) (count first : ℕ) (start : Reading) (i s : ℕ) (now : Reading) (before : List A) → Type 0
+GoesOn {A} next leaves count first start i s now before =
+    (r : Result (List A) Refusal) (new : Reading) → Takes (repeated next leaves (count - i) s) now r new → Takes (repeated next leaves count first) start (in_front before r) new
+
+in_front-nothing : {A : Type 0} (r : Result (List A) Refusal) → in_front [] r ≡ r
+unfolding in_front
+in_front-nothing (Ok more) = refl
+in_front-nothing (Err e) = refl
+
+module _ {A : Type 0} (next : ℕ → Format A) (leaves : A → ℕ) where
+  -- before the first is read
+  pub goes_on_at_first : (count s : ℕ) (start : Reading) → GoesOn next leaves count s start 0 s start []
+  goes_on_at_first count s start = λ r new takes.
+    let all : count - 0 ≡ count = omega arith in
+    rw (in_front-nothing r) (subst (λ n. Takes (repeated next leaves n s) start r new) all takes)
+
+  -- one was read
+  pub goes_on_after : (count first : ℕ) (start : Reading) (i s : ℕ) (now middle : Reading) (before : List A) (a : A) → i < count → Took (next s) now a middle → GoesOn next leaves count first start i s now before → GoesOn next leaves count first start (i + 1) (leaves a) middle (before ++ a ∷ [])
+  goes_on_after count first start i s now middle before a more took goes = λ r new takes.
+    let left : count - i ≡ suc (count - (i + 1)) = omega arith in
+    let here = one_more next leaves (count - (i + 1)) s now middle new a r took takes in
+    subst (λ x. Takes (repeated next leaves count first) start x new) (in_front-push before a r)
+    (goes (in_front (a ∷ []) r) new (subst (λ n. Takes (repeated next leaves n s) now (in_front (a ∷ []) r) new) (sym left) here))
+
+  -- the next one is refused, or there is no room for it
+  pub goes_nowhere : (count first : ℕ) (start : Reading) (i s : ℕ) (now : Reading) (before : List A) (e : Refusal) → i < count → Refuses (next s) now e → GoesOn next leaves count first start i s now before → Refuses (repeated next leaves count first) start e
+  unfolding in_front
+  goes_nowhere count first start i s now before e more refused goes =
+    let left : count - i ≡ suc (count - (i + 1)) = omega arith in
+    goes (Err e) now (subst (λ n. Refuses (repeated next leaves n s) now e) (sym left) (none_more next leaves (count - (i + 1)) s now now now e refused))
+
+  -- all were read
+  pub goes_to_end : (count first : ℕ) (start : Reading) (i s : ℕ) (now : Reading) (before : List A) → count ≤ i → GoesOn next leaves count first start i s now before → Took (repeated next leaves count first) start before now
+  unfolding in_front
+  goes_to_end count first start i s now before end goes =
+    let left : count - i ≡ 0 = omega arith in
+    subst (λ l. Took (repeated next leaves count first) start l now) (append-nil before)
+    (goes (Ok []) now (subst (λ n. Takes (repeated next leaves n s) now (Ok []) now) (sym left) (no_more next leaves s now)))

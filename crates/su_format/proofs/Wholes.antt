@@ -1,9 +1,9 @@
 -- Bytes that are one value.
-use Rattle.std.proofs.Common.{◌≡◌, ◌≢◌, ℕ, ◌⊎◌, inl, inr, List, [], refl, sym, ◌∙◌, ap, subst}
+use Rattle.std.proofs.Common.{◌≡◌, ◌≢◌, ℕ, ◌⊎◌, inl, inr, List, [], ◌++◌, refl, sym, ◌∙◌, ap, subst}
 use Rattle.std.specs.Prelude.{Result, Ok, Err}
 use Rattle.su_bytes.specs.declared.refusals.Refusal.{Refusal}
 use Rattle.su_bytes.specs.declared.refusals.Refusal.TheVariants.{Malformed, NoMemory}
-use Rattle.su_format.specs.Format.{Format, whole, IsLawful}
+use Rattle.su_format.specs.Format.{Format, whole, IsLawful, IsFormatOf}
 use Rattle.su_format.specs.Reading.{Reading, start, Took, Takes, Decodes}
 
 pub whole_lawful : {A : Type 0} (f : Format A) → IsLawful f → IsLawful (whole f)
@@ -45,3 +45,7 @@ module _ {A : Type 0} (f : Format A) where
   read_as_spelled law bytes a (Ok b) is read = inl (ap Ok (law.told bytes b a [] [] read is).0)
   read_as_spelled law bytes a (Err e) is (inl none) = inr (ap Err none)
   read_as_spelled law bytes a (Err e) is (inr (place, _, at)) = absurd ((whole_lawful f law).apart bytes a [] at.behind (is, refl) at.fails)
+
+-- no spelling begins another
+pub spelling_told : {A : Type 0} {f : Format A} {Is : A → Type 0} {spelling : A → List ℕ} → IsLawful f → IsFormatOf f Is spelling → (a b : A) (x y : List ℕ) → Is a → Is b → spelling a ++ x ≡ spelling b ++ y → (a ≡ b) × (x ≡ y)
+spelling_told {spelling} law of a b x y is_a is_b e = law.told (spelling a ++ x) a b x y (of.begins (spelling a ++ x) a x is_a refl) (of.begins (spelling a ++ x) b y is_b e)

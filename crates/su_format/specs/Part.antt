@@ -94,10 +94,3 @@ AnyKind _ = Unit {0}
 
 unfoldable pub kind_part : Format Kind
 kind_part = part AnyKind kind_bytes
-
--- no bytes, and nothing behind them
-unfoldable pub end_part : Format (List ℕ)
-end_part = record {
-  Begins = λ bytes a rest. (a ≡ []) × (bytes ≡ []) × (rest ≡ []);
-  Fails = λ bytes rest. (rest ≡ bytes) × (bytes ≢ []);
-}

@@ -1,7 +1,7 @@
 // What holds of the parts of formats.
 ghost use Rattle.std.specs.Prelude.{ℕ, List};
 ghost use Rattle.su_format.specs.Format.{IsLawful};
-ghost use Rattle.su_format.specs.Part.{u8_part, u16_part, u32_part, u64_part, bytes_part, digest_part, mark_part, user_part, group_part, inum_part, principal_part, file_id_part, name_part, kind_part, end_part};
+ghost use Rattle.su_format.specs.Part.{u8_part, u16_part, u32_part, u64_part, bytes_part, digest_part, mark_part, user_part, group_part, inum_part, principal_part, file_id_part, name_part, kind_part};
 
 /// Each part has one spelling for each value, and none begins the spelling of another value: bytes
 /// begin with at most one value of a part, and else are refused at one place.
@@ -20,5 +20,4 @@ pub fn parts_are_lawful()
     ensures file_id { IsLawful file_id_part }
     ensures name { IsLawful name_part }
     ensures kind { IsLawful kind_part }
-    ensures at_end { IsLawful end_part }
 {}

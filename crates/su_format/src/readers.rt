@@ -1,6 +1,6 @@
 // Bytes are read part by part.
-ghost use Rattle.std.specs.Prelude.{◌≡◌, ◌⊎◌, ◌<◌, ◌≤◌, ◌^◌, IfOk, IfErr, OnOk, OnErr, IfSome, IfNone, [], length, true};
-ghost use Rattle.su_format.specs.Part.{u8_part, u16_part, u32_part, u64_part, bytes_part, digest_part, mark_part, user_part, group_part, inum_part, principal_part, file_id_part, name_part, kind_part, end_part, principal_bytes, file_id_bytes, kind_bytes};
+ghost use Rattle.std.specs.Prelude.{◌≡◌, ◌≢◌, ◌⊎◌, ◌<◌, ◌≤◌, ◌^◌, IfOk, IfErr, OnOk, OnErr, IfSome, IfNone, [], length, true};
+ghost use Rattle.su_format.specs.Part.{u8_part, u16_part, u32_part, u64_part, bytes_part, digest_part, mark_part, user_part, group_part, inum_part, principal_part, file_id_part, name_part, kind_part, principal_bytes, file_id_bytes, kind_bytes};
 ghost use Rattle.su_bytes.specs.Principal.{is_principal};
 ghost use Rattle.su_bytes.specs.FileId.{is_file_id};
 ghost use Rattle.su_bytes.specs.declared.principals.Principal.{Principal as Principal_};
@@ -315,9 +315,9 @@ impl<'a> Reader<'a> {
     /// Checks that nothing is left. `Malformed` with the place of the first byte that is left,
     /// where there is one.
     pub fn finish(&self) -> Result<(), Refusal>
-        ensures found { OnOk result (Takes end_part self.now (Ok []) self.now) }
+        ensures found { OnOk result (self.now.left ≡ []) }
         ensures refused { IfErr result (λ e.
-            Takes end_part self.now (Err e) self.now × (e ≡ Malformed self.now.place)) }
+            (self.now.left ≢ []) × (e ≡ Malformed self.now.place)) }
     {
         if self.left.is_empty() {
             Ok(())

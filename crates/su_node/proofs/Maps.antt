@@ -1,14 +1,16 @@
 -- Finite maps against the entries of std's ordered maps, in any order of keys that tells them apart.
-use Rattle.std.proofs.Common.{◌≡◌, ◌∙◌, sym, refl, ap, length, arith, ◌++◌, append_assoc, subst, Bool, true, false, cond, List, [], ◌∷◌, Option, Some, None}
+use Rattle.std.proofs.Common.{◌≡◌, ◌∙◌, sym, refl, ap, length, arith, ◌++◌, append_assoc, subst, Bool, true, false, not, cond, List, [], ◌∷◌, Option, Some, None}
 use Rattle.std.specs.declared.cmp.Ordering.{Ordering}
 use Rattle.std.specs.declared.cmp.Ordering.TheVariants.{Less, Equal, Greater}
 use Rattle.std.specs.Ordering.{eq_by_cmp, is_eq, ordering_reverse}
-use Rattle.std.specs.Cmp.{IsTotalOrder, eq_by_cmp_equiv}
+use Rattle.std.specs.Cmp.{IsTotalOrder, alike_right, eq_by_cmp_equiv}
 use Rattle.std.specs.List.{AllByRecursion}
 use Rattle.std.specs.List.Sorted.{IsStrictlySortedBy}
 use Rattle.std.specs.Map.{lookup, keys_of}
 use Rattle.std.specs.BTreeMap.{is_at, insert_entry}
-use Rattle.std.specs.FinMap.{FinMap, get, find, from_entries, entries, empty, len, len-entries, len-empty, entries-insert, put, get-from_entries, get-insert, get-remove, same_map, IsAntisymmetric}
+use Rattle.std.specs.FinMap.{FinMap, get, find, from_entries, entries, empty, len, len-entries, len-empty, entries-insert, put, insert, remove, get-from_entries, get-insert, get-remove, same_map, IsAntisymmetric}
+use Rattle.std.specs.FinMap.Entries.{find-put, find-where_key}
+use Rattle.su_hash_tree.specs.Seen.{without}
 use Rattle.su_node.specs.InodeChange.{set_key}
 
 -- a scan from the front is std's look-up
@@ -66,6 +68,23 @@ module _ {K X : Type 0} {R : K → K → Ordering} (o : IsTotalOrder R) where
   from_entries-updates same es fs k v h = same_map o same _ _ (λ q.
       get-from_entries_lookup fs q ∙ h q ∙ ap (λ b. cond b v (lookup (is_at (R q)) es)) ((eq_by_cmp_equiv o).symm k q)
       ∙ sym (get-set_key (from_entries es) k v q ∙ ap (cond (eq_by_cmp R q k) v) (get-from_entries_lookup es q)))
+
+  -- what is put among entries, or taken from them, is put into the map or taken from it
+  pub from_entries-put : IsAntisymmetric R → (es : List (K × X)) (k : K) (v : X) → from_entries {R = R} (put R k v es) ≡ insert (from_entries {R = R} es) k v
+  from_entries-put same es k v = same_map o same _ _ (λ q.
+      get-from_entries o (put R k v es) q ∙ find-put R o q k v es
+      ∙ sym (get-insert o (from_entries es) k v q ∙ ap (cond (eq_by_cmp R q k) (Some v)) (get-from_entries o es q)))
+
+  apart : (b : Bool) (x : Option X) → cond (not b) x None ≡ cond b None x
+  apart true x = refl
+  apart false x = refl
+
+  pub from_entries-without : IsAntisymmetric R → (es : List (K × X)) (k : K) → from_entries {R = R} (without R k es) ≡ remove (from_entries {R = R} es) k
+  from_entries-without same es k = same_map o same _ _ (λ q.
+      get-from_entries o (without R k es) q
+      ∙ find-where_key R (λ x. not (eq_by_cmp R k x)) q (λ x t. ap (λ r. not (is_eq r)) (sym (alike_right o q x k t))) es
+      ∙ apart (eq_by_cmp R k q) (find R q es) ∙ ap (λ b. cond b None (find R q es)) ((eq_by_cmp_equiv o).symm k q)
+      ∙ sym (get-remove o (from_entries es) k q ∙ ap (cond (eq_by_cmp R q k) None) (get-from_entries o es q)))
 
   -- ---- entries in order are those of the map
 

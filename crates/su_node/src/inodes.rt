@@ -10,15 +10,15 @@ mod digests;
 
 use crate::blocks::Blocks;
 use std::alloc::Global;
-use std::collections::BTreeMap;
 use std::marker::Model;
 use su_bytes::{FileId, Kind, Name, Refusal};
+use su_hash_tree::HashTree;
 
 /// The content of an inode as it is stored.
 #[derive(Drop)]
 enum Stored {
     Bytes(Blocks),
-    Names(BTreeMap<Name, FileId>),
+    Names(HashTree<Name, FileId>),
 }
 
 /// A file or a directory: the file id that it was made for, how many names lead to it, and its bytes or names.
@@ -50,7 +50,7 @@ impl Inode {
     {
         let content = match kind {
             Kind::File => Stored::Bytes(Blocks::new(alloc)),
-            Kind::Dir => Stored::Names(BTreeMap::new(alloc)),
+            Kind::Dir => Stored::Names(HashTree::empty(alloc)),
         };
         Inode {
             home,
@@ -100,7 +100,7 @@ impl Inode {
     {
         match &self.content {
             Stored::Bytes(_) => true,
-            Stored::Names(names) => names.len() == 0,
+            Stored::Names(names) => names.is_empty(),
         }
     }
 
@@ -120,14 +120,10 @@ impl Inode {
             option_map (λ v. v.items) names ≡ names_of (Some self.now)) }
         ensures refused { IfErr result (λ e. e ≡ NoMemory) }
     {
-        let Stored::Names(names) = &self.content else {
-            return Ok(None);
-        };
-        let mut list = Vec::with_capacity(self.alloc, names.len())?;
-        for (name, file) in names {
-            list.push((name.clone()?, *file))?;
+        match &self.content {
+            Stored::Bytes(_) => Ok(None),
+            Stored::Names(names) => Ok(Some(names.entries()?)),
         }
-        Ok(Some(list))
     }
 
     /// Reads all bytes of a file; none for a directory. Fails only with `NoMemory`.
@@ -162,7 +158,7 @@ impl Inode {
     {
         let content = match &self.content {
             Stored::Bytes(bytes) => Stored::Bytes(bytes.copy()?),
-            Stored::Names(names) => Stored::Names(copy_names(self.alloc, names)?),
+            Stored::Names(names) => Stored::Names(names.copy()?),
         };
         Ok(Inode {
             home: self.home,
@@ -236,18 +232,4 @@ impl Inode {
     {
         self.links = links;
     }
-}
-
-fn copy_names(
-    alloc: Global,
-    names: &BTreeMap<Name, FileId>,
-) -> Result<BTreeMap<Name, FileId>, Refusal>
-    ensures value { IfOk result (λ copy. copy.entries ≡ names.now.entries) }
-    ensures refused { IfErr result (λ e. e ≡ NoMemory) }
-{
-    let mut copy = BTreeMap::new(alloc);
-    for (name, file) in names {
-        copy.insert(name.clone()?, *file)?;
-    }
-    Ok(copy)
 }

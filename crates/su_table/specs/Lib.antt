@@ -4,3 +4,4 @@ pub mod Query
 pub mod Edit
 pub mod Code
 pub mod Handle
+pub mod Table

@@ -6,4 +6,4 @@ mod forests;
 mod laws;
 
 pub use forests::Forest;
-pub use laws::edits_can_be_taken_back;
+pub use laws::{edits_can_be_taken_back, edits_change_one_table};

@@ -14,8 +14,9 @@ use Rattle.su_tree.specs.KeyTree.{KeyTree, KeyTree.empty, KeyTree.one, KeyTree.s
 use Rattle.su_tree.specs.Digest.{digest, item, pair_item, split_item}
 use Rattle.su_tree.specs.Collision.{tree_items, encodings, Collision}
 use Rattle.su_tree.specs.Laws.Lists.{parts}
-use Rattle.su_tree.proofs.Splits as by
-use Rattle.su_tree.proofs.Splits.{IsTree, tree_of_split}
+use Rattle.su_tree.specs.Parting as by
+use Rattle.su_tree.specs.Parting.{IsTree}
+use Rattle.su_tree.proofs.Splits.{tree_of_split}
 
 same_or_not : (a b : List ℕ) → (a ≡ b) ⊎ (a ≢ b)
 same_or_not a b =

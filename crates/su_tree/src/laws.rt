@@ -10,7 +10,7 @@ ghost use Rattle.su_tree.specs.Number.{numbers, is_u32};
 ghost use Rattle.su_tree.specs.Name.{names};
 ghost use Rattle.su_bytes.specs.FileId.{is_file_id};
 ghost use Rattle.su_bytes.specs.Place.{is_place};
-ghost use Rattle.su_tree.specs.Value.{file_id_bytes, place_bytes};
+ghost use Rattle.su_tree.specs.Value.{is_digest, file_id_bytes, place_bytes};
 ghost use Rattle.su_bytes.specs.Name.{is_name};
 ghost use Rattle.su_bytes.specs.declared.file_ids.FileId.{FileId};
 
@@ -33,7 +33,7 @@ pub fn digest_tells_map<K: TreeKey, V: TreeValue>()
 
 /// That of maps from numbers to digests: a user's i-table, and the blocks of a file.
 pub fn digest_tells_numbers()
-    ensures { DigestTells nat_cmp (numbers (λ (d : List ℕ). d)) (λ e. is_u32 e.0) }
+    ensures { DigestTells nat_cmp (numbers (λ (d : List ℕ). d)) (λ e. is_u32 e.0 && is_digest e.1) }
 {
     digest_tells_map::<u32, Digest>()
 }

@@ -1,9 +1,9 @@
 // Values of hash trees.
-ghost use Rattle.std.specs.Prelude.{◌≡◌, ℕ, Bool, true, List, ◌++◌, IsTrue};
+ghost use Rattle.std.specs.Prelude.{◌≡◌, ℕ, Bool, List, ◌++◌, IsTrue};
 ghost use Rattle.sha2.specs.Hashers.{Holds256};
 ghost use Rattle.su_bytes.specs.FileId.{is_file_id};
 ghost use Rattle.su_bytes.specs.Place.{is_place};
-ghost use Rattle.su_tree.specs.Value.{file_id_bytes, place_bytes};
+ghost use Rattle.su_tree.specs.Value.{is_digest, file_id_bytes, place_bytes};
 ghost use Rattle.su_tree.specs.Laws.Values as value;
 
 use sha2::{Digest as _, Sha256};
@@ -16,23 +16,25 @@ pub trait TreeValue {
 
     ghost bytes: { Self → List ℕ };
 
-    /// Gives its bytes to a hasher.
+    /// Gives its bytes to a hasher. What is passed is a value that is meant.
     fn feed(&self, hasher: &mut Sha256)
-        ensures { (m : List ℕ) → Holds256 hasher.old m → Holds256 hasher.new (m ++ bytes self.now) };
+        ensures fed { (m : List ℕ) → Holds256 hasher.old m → Holds256 hasher.new (m ++ bytes self.now) }
+        ensures value { IsTrue (is_value self.now) };
 
     // the bytes tell the value
     ghost told: { (x y : Self) → IsTrue (is_value x) → IsTrue (is_value y) → bytes x ≡ bytes y → x ≡ y };
 }
 
 impl TreeValue for Digest {
-    ghost is_value = { λ _. true };
+    ghost is_value = { is_digest };
 
     ghost bytes = { λ digest. digest };
 
     ghost told = { λ x y _ _ e. e };
 
     fn feed(&self, hasher: &mut Sha256) {
-        hasher.update(self.as_bytes());
+        let bytes: &[u8] = self.as_bytes();
+        hasher.update(bytes);
     }
 }
 

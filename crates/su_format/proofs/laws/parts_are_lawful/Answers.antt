@@ -1,4 +1,4 @@
-use Rattle.su_format.proofs.Parts.{u8_lawful, u16_lawful, u32_lawful, u64_lawful, bytes_lawful, digest_lawful, mark_lawful, user_lawful, group_lawful, inum_lawful, principal_lawful, file_id_lawful, name_lawful, kind_lawful, end_lawful}
+use Rattle.su_format.proofs.Parts.{u8_lawful, u16_lawful, u32_lawful, u64_lawful, bytes_lawful, digest_lawful, mark_lawful, user_lawful, group_lawful, inum_lawful, principal_lawful, file_id_lawful, name_lawful, kind_lawful}
 use Rattle.su_format.proofs.laws.parts_are_lawful.Goals as goal
 
 pub returns : goal.returns
@@ -17,5 +17,4 @@ returns c = record {
   file_id = file_id_lawful;
   name = name_lawful;
   kind = kind_lawful;
-  at_end = end_lawful;
 }

@@ -15,7 +15,7 @@ same_item a b k m l n s t d e p q r u v = rw (p, q, r, u, v) (ap (λ xs. sha256 
 pub returns-clause-value : goal.returns-clause-value
 unfolding inode_digest
 returns-clause-value c =
-    let fed = c.update-4.ensures _ (c.update-3.ensures _ (c.update-2.ensures _ (c.feed.ensures _ (c.update.ensures _ c.new-hasher.ensures)))) in
+    let fed = c.update-4.ensures _ (c.update-3.ensures _ (c.update-2.ensures _ (c.feed.ensures.fed _ (c.update.ensures _ c.new-hasher.ensures)))) in
     let home : c.self.inside.home ≡ c.args.self.now.home = ap (λ (i : Inode). i.home) c.self.view_is in
     let links : c.self.inside.links ≡ c.args.self.now.links = ap (λ (i : Inode). i.links) c.self.view_is in
     let kind : c.byte_of_kind.result ≡ kind_byte (kind_of c.args.self.now.content) = c.byte_of_kind.ensures ∙ ap kind_byte c.kind.ensures in

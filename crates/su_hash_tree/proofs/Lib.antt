@@ -1,0 +1,12 @@
+pub mod Sorts
+pub mod Forks
+pub mod Orders
+pub mod Sides
+pub mod Insertions
+pub mod Partings
+pub mod Removals
+pub mod Standing
+pub mod Changing
+pub mod Wholes
+pub mod Compared
+pub mod Maps

@@ -1,0 +1,10 @@
+//! Finite maps that keep their digests: a change hashes the path of one key, and the digest is at hand.
+#![tactic(auto)]
+
+mod counts;
+mod nodes;
+#[cfg(test)]
+mod tests;
+mod trees;
+
+pub use trees::HashTree;

@@ -1,0 +1,5 @@
+mod Spelling
+mod CommitSpelling
+mod Chaining
+mod Leaves
+mod Ordering

@@ -1,0 +1,22 @@
+use Rattle.std.proofs.Common.{◌≡◌, refl, sym, ◌∙◌}
+use Rattle.std.proofs.lemmas.Result.{err_from_is_err_and}
+use Rattle.su_format.specs.Format.{making, ◌>>=◌}
+use Rattle.su_format.specs.Part.{digest_part}
+use Rattle.su_format.proofs.Public.{then_took, then_refused, first_refused, made}
+use Rattle.su_version.specs.Version.{group_above, carried_format}
+use Rattle.su_version.proofs.versions.read_carried.Goals as goal
+
+pub returns-in_err-group : goal.returns-in_err-group
+unfolding carried_format
+returns-in_err-group c =
+    let p = err_from_is_err_and c.from_residual.result c.from_residual.ensures.1 in rw (p.1, p.2) (first_refused _ _ c.in_err-group.ensures)
+
+pub returns-in_err-handle : goal.returns-in_err-handle
+unfolding carried_format
+returns-in_err-handle c =
+    let p = err_from_is_err_and c.from_residual-in_err-handle.result c.from_residual-in_err-handle.ensures.1 in
+    rw (p.1, p.2) (then_refused _ _ c.in_ok-group.ensures (first_refused _ _ c.in_err-handle.ensures.takes))
+
+pub returns : goal.returns
+unfolding carried_format
+returns c = then_took _ _ c.in_ok-group.ensures (then_took _ _ c.in_ok-handle.ensures.takes (made _ _))

@@ -1,0 +1,6 @@
+pub mod Vector
+pub mod Version
+pub mod Commit
+pub mod Roster
+pub mod Chain
+pub mod Order

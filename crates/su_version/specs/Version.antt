@@ -1,0 +1,102 @@
+-- Version structures and their bytes. (This project's own format; SUNDR's version structures, with
+-- the digest of the commit before.)
+use Rattle.std.specs.Prelude.{◌≡◌, ◌≤◌, ◌<◌, ◌+◌, ◌^◌, ℕ, true, List, ◌∷◌, ◌++◌, length, codes}
+use Rattle.std.specs.List.{flat_map, AllByRecursion}
+use Rattle.su_bytes.specs.Principal.{is_user, is_group}
+use Rattle.su_format.specs.Format.{Format, part, making, ◌>>=◌, repeated, EachFrom}
+use Rattle.su_format.specs.Part.{u8_bytes, u64_bytes, u8_part, u64_part, mark_part, user_part, digest_part}
+
+-- what a user signs: whose it is, the digest of the commit before, the digest of the change, the
+-- author's i-handle after it, the groups that it carries with their i-handles, and the vector
+pub record Version : Type 0 where
+  pub author : ℕ
+  pub prev : List ℕ
+  pub change : List ℕ
+  pub handle : List ℕ
+  pub groups : List (ℕ × List ℕ)
+  pub vector : List ℕ
+
+-- the version structure of these parts
+abbrev pub made_version : ℕ → List ℕ → List ℕ → List ℕ → List (ℕ × List ℕ) → List ℕ → Version
+made_version author prev change handle groups vector = record {
+  author = author;
+  prev = prev;
+  change = change;
+  handle = handle;
+  groups = groups;
+  vector = vector;
+}
+
+-- a group of at least this number, with a digest
+pub record IsCarried (least : ℕ) (g : ℕ × List ℕ) : Type 0 where
+  pub above : least ≤ g.0
+  pub group : is_group g.0 ≡ true
+  pub handle : length g.1 ≡ 32
+
+-- groups with digests, in strictly ascending order
+abbrev pub AreCarried : List (ℕ × List ℕ) → Type 0
+AreCarried groups = EachFrom IsCarried (λ g. g.0 + 1) 0 groups
+
+-- a version structure that can be spelled
+pub record IsVersion (v : Version) : Type 0 where
+  pub author : is_user v.author ≡ true
+  pub prev : length v.prev ≡ 32
+  pub change : length v.change ≡ 32
+  pub handle : length v.handle ≡ 32
+  pub group_count : length v.groups < 256
+  pub groups : AreCarried v.groups
+  pub some_numbers : 2 ≤ length v.vector
+  pub few_numbers : length v.vector ≤ 80
+  pub numbers : AllByRecursion (λ n. n < 2 ^ 64) v.vector
+
+-- ---- its bytes
+
+abbrev pub group_bytes : ℕ × List ℕ → List ℕ
+group_bytes g = g.0 ∷ g.1
+
+-- `SV01`; author, prev, change, i-handle; how many groups, and each with its i-handle; how many
+-- numbers, and these: the bytes that are signed
+unfoldable pub version_bytes : Version → List ℕ
+version_bytes v =
+    codes "SV01" ++ (v.author ∷ (v.prev ++ (v.change ++ (v.handle
+    ++ (length v.groups ∷ (flat_map group_bytes v.groups
+    ++ (length v.vector ∷ flat_map u64_bytes v.vector)))))))
+
+-- ---- its parts
+
+-- a group of at least this number, and then a digest
+unfoldable pub group_above : ℕ → Format ℕ
+group_above least = part (λ g. (least ≤ g) × (is_group g ≡ true)) u8_bytes
+
+unfoldable pub carried_format : ℕ → Format (ℕ × List ℕ)
+carried_format least = do
+  group ← group_above least
+  handle ← digest_part
+  making (group, handle)
+
+unfoldable pub groups_format : Format (List (ℕ × List ℕ))
+groups_format = do
+  count ← u8_part
+  repeated carried_format (λ g. g.0 + 1) count 0
+
+unfoldable pub vector_size_part : Format ℕ
+vector_size_part = part (λ n. (2 ≤ n) × (n ≤ 80)) u8_bytes
+
+unfoldable pub number_format : ℕ → Format ℕ
+number_format _ = u64_part
+
+unfoldable pub vector_format : Format (List ℕ)
+vector_format = do
+  size ← vector_size_part
+  repeated number_format (λ _. 0) size 0
+
+unfoldable pub version_format : Format Version
+version_format = do
+  mark ← mark_part (codes "SV01")
+  author ← user_part
+  prev ← digest_part
+  change ← digest_part
+  handle ← digest_part
+  groups ← groups_format
+  vector ← vector_format
+  making (made_version author prev change handle groups vector)

@@ -1,0 +1,287 @@
+// Version structures.
+ghost use Rattle.std.specs.Prelude.{◌≡◌, ◌≤◌, ◌<◌, ◌↔◌, ◌⊎◌, IsTrue, ◌++◌, ◌∷◌, [], ℕ, length, true, Ok, Err, IfOk, IfErr, OnOk, OnErr};
+ghost use Rattle.std.specs.List.{flat_map};
+ghost use Rattle.su_format.specs.Reading.{Took, Refuses, Takes, Decodes};
+ghost use Rattle.su_format.specs.Part.{u8_bytes, u64_bytes};
+ghost use Rattle.su_version.specs.Version.{Version as VersionParts, IsVersion, made_version, version_bytes, group_bytes, group_above, carried_format, groups_format, vector_size_part, vector_format, version_format};
+ghost use Rattle.su_bytes.specs.declared.refusals.Refusal.TheVariants.{NoMemory};
+
+use crate::vectors::Vector;
+use std::alloc::{AllocError, Global};
+use std::marker::Model;
+use su_bytes::{Digest, FileId, Group, Refusal, User};
+use su_format::{Reader, Writer};
+
+/// What a user signs for a change: whose it is, the digest of the commit before, the digest of the
+/// change, the author's i-handle after it, the groups whose tables it writes with their i-handles,
+/// and the version vector.
+#[derive(Drop)]
+pub struct VersionStructure {
+    author: User,
+    prev: Digest,
+    change: Digest,
+    handle: Digest,
+    groups: Vec<(Group, Digest)>,
+    vector: Vector,
+}
+
+impl Model for VersionStructure {
+    ghost use Rattle.su_version.specs.Version.{Version, IsVersion, made_version};
+
+    ghost Value = { Version };
+
+    ghost view = { λ v. made_version v.author v.prev v.change v.handle v.groups.items v.vector };
+
+    ghost invariant = { λ v.
+        IsVersion (made_version v.author v.prev v.change v.handle v.groups.items v.vector) };
+}
+
+impl VersionStructure {
+    /// Makes a version structure of these parts. The groups ascend; the vector has 2 to 80 numbers.
+    pub fn new(
+        author: User,
+        prev: Digest,
+        change: Digest,
+        handle: Digest,
+        groups: Vec<(Group, Digest)>,
+        vector: Vector,
+    ) -> VersionStructure
+        requires { IsVersion (made_version author prev change handle groups.items vector) }
+        ensures { result ≡ made_version author prev change handle groups.items vector }
+    {
+        VersionStructure {
+            author,
+            prev,
+            change,
+            handle,
+            groups,
+            vector,
+        }
+    }
+
+    /// Returns the author.
+    pub fn author(&self) -> User
+        ensures value { result ≡ self.now.author }
+        // What holds of each version structure.
+        ensures version { IsVersion self.now }
+    {
+        self.author
+    }
+
+    /// Returns the digest of the commit before; in the first one, that of the roster.
+    pub fn prev(&self) -> Digest
+        ensures { result ≡ self.now.prev }
+    {
+        self.prev
+    }
+
+    /// Returns the digest of the change.
+    pub fn change(&self) -> Digest
+        ensures { result ≡ self.now.change }
+    {
+        self.change
+    }
+
+    /// Returns the author's i-handle after the change.
+    pub fn handle(&self) -> Digest
+        ensures { result ≡ self.now.handle }
+    {
+        self.handle
+    }
+
+    /// Returns the groups that it carries, ascending, with their i-handles after the change.
+    pub fn groups(&self) -> &[(Group, Digest)]
+        ensures { result.now ≡ self.now.groups }
+    {
+        self.groups.as_slice()
+    }
+
+    /// Lends the version vector.
+    pub fn vector(&self) -> &Vector
+        ensures { result.now ≡ self.now.vector }
+    {
+        &self.vector
+    }
+
+    /// Returns the bytes, over which the signature is made. Fails only with `NoMemory`.
+    pub fn encode(&self, alloc: Global) -> Result<Vec<u8>, Refusal>
+        ensures value { IfOk result (λ bytes. bytes.items ≡ version_bytes self.now) }
+        ensures refused { IfErr result (λ e. e ≡ NoMemory) }
+    {
+        let mut writer = Writer::with_room(alloc, self.encoded_length())?;
+        self.write(&mut writer)?;
+        Ok(writer.finish())
+    }
+
+    // How many bytes it is spelled in.
+    pub(crate) fn encoded_length(&self) -> usize
+        ensures { result ≤ 9158 }
+    {
+        103 + 33 * self.groups.len() + 8 * self.vector.numbers().len()
+    }
+
+    /// Writes the bytes.
+    pub(crate) fn write(&self, writer: &mut Writer) -> Result<(), AllocError>
+        ensures { OnOk result (writer.new ≡ writer.old ++ version_bytes self.now) }
+    {
+        writer.put_bytes(b"SV01")?;
+        writer.put_user(self.author)?;
+        writer.put_digest(&self.prev)?;
+        writer.put_digest(&self.change)?;
+        writer.put_digest(&self.handle)?;
+        write_groups(writer, self.groups.as_slice())?;
+        write_vector(writer, self.vector.numbers())
+    }
+
+    /// Returns the version structure that the bytes spell. `Malformed` where they are none's, with
+    /// the place of the first byte of the part that isn't there, or of the first byte that is left
+    /// over; `NoMemory` where there is no room for it.
+    pub fn decode(alloc: Global, bytes: &[u8]) -> Result<VersionStructure, Refusal>
+        // What is read is spelled so.
+        ensures found { IfOk result (λ v. IsVersion v × (bytes.now ≡ version_bytes v)) }
+        // What is spelled so is read.
+        ensures only { (v : VersionParts) → IsVersion v → bytes.now ≡ version_bytes v
+            → (result ≡ Ok v) ⊎ (result ≡ Err NoMemory) }
+        // What is refused has no such part at that place.
+        ensures decodes { Decodes version_format bytes.now result }
+    {
+        let mut reader = Reader::new(bytes);
+        let version = VersionStructure::read(alloc, &mut reader)?;
+        reader.finish()?;
+        Ok(version)
+    }
+
+    /// Reads a version structure.
+    pub(crate) fn read(
+        alloc: Global,
+        reader: &mut Reader<'_>,
+    ) -> Result<VersionStructure, Refusal>
+        ensures { Takes version_format reader.old result reader.new }
+    {
+        // names the type for the prover (docs/ARCHITECTURE.md, "Forms the kit wants")
+        let _file: Option<FileId> = None;
+        reader.take_mark(b"SV01")?;
+        let author = reader.take_user()?;
+        let prev = reader.take_digest()?;
+        let change = reader.take_digest()?;
+        let handle = reader.take_digest()?;
+        let groups = read_groups(alloc, reader)?;
+        let vector = read_vector(alloc, reader)?;
+        Ok(VersionStructure {
+            author,
+            prev,
+            change,
+            handle,
+            groups,
+            vector,
+        })
+    }
+}
+
+// How many groups there are, and each with its i-handle.
+fn write_groups(writer: &mut Writer, groups: &[(Group, Digest)]) -> Result<(), AllocError>
+    requires { length groups.now < 256 }
+    ensures { OnOk result
+        (writer.new ≡ writer.old ++ length groups.now ∷ flat_map group_bytes groups.now) }
+{
+    writer.put_u8(groups.len() as u8)?;
+    for (group, handle) in groups {
+        writer.put_group(*group)?;
+        writer.put_digest(handle)?;
+    }
+    Ok(())
+}
+
+// How many numbers there are, and these.
+fn write_vector(writer: &mut Writer, numbers: &[u64]) -> Result<(), AllocError>
+    requires { length numbers.now < 256 }
+    ensures { OnOk result
+        (writer.new ≡ writer.old ++ length numbers.now ∷ flat_map u64_bytes numbers.now) }
+{
+    writer.put_u8(numbers.len() as u8)?;
+    for number in numbers {
+        writer.put_u64(*number)?;
+    }
+    Ok(())
+}
+
+// A group that is not below this number.
+fn read_group_above(reader: &mut Reader<'_>, least: u8) -> Result<Group, Refusal>
+    ensures { Takes (group_above least) reader.old result reader.new }
+{
+    let malformed = Refusal::Malformed(reader.place());
+    let Ok(group) = reader.take_group() else {
+        return Err(malformed);
+    };
+    if group.number() < least {
+        return Err(malformed);
+    }
+    Ok(group)
+}
+
+// A group that is not below this number, and its i-handle.
+fn read_carried(reader: &mut Reader<'_>, least: u8) -> Result<(Group, Digest), Refusal>
+    ensures { Takes (carried_format least) reader.old result reader.new }
+{
+    // names the type for the prover (docs/ARCHITECTURE.md, "Forms the kit wants")
+    let _file: Option<FileId> = None;
+    let group = read_group_above(reader, least)?;
+    let handle = reader.take_digest()?;
+    Ok((group, handle))
+}
+
+// Groups in ascending order, with their i-handles.
+fn read_groups(
+    alloc: Global,
+    reader: &mut Reader<'_>,
+) -> Result<Vec<(Group, Digest)>, Refusal>
+    ensures found { IfOk result (λ groups.
+        Took groups_format reader.old groups.items reader.new) }
+    ensures refused { IfErr result (λ e. Refuses groups_format reader.old e) }
+{
+    // names the type for the prover (docs/ARCHITECTURE.md, "Forms the kit wants")
+    let _file: Option<FileId> = None;
+    let count = reader.take_u8()?;
+    let mut groups = Vec::new(alloc);
+    let mut least = 0;
+    for _ in 0..count {
+        let (group, handle) = read_carried(reader, least)?;
+        groups.push((group, handle))?;
+        least = group.number() + 1;
+    }
+    Ok(groups)
+}
+
+fn is_vector_size(size: u8) -> bool
+    ensures { IsTrue result ↔ (2 ≤ size) × (size ≤ 80) }
+{
+    (2..=80).contains(&size)
+}
+
+// How many numbers a vector has: 2 to 80.
+fn read_vector_size(reader: &mut Reader<'_>) -> Result<u8, Refusal>
+    ensures { Takes vector_size_part reader.old result reader.new }
+{
+    let malformed = Refusal::Malformed(reader.place());
+    let Ok(size) = reader.take_u8() else {
+        return Err(malformed);
+    };
+    if !is_vector_size(size) {
+        return Err(malformed);
+    }
+    Ok(size)
+}
+
+// The numbers of a vector.
+fn read_vector(alloc: Global, reader: &mut Reader<'_>) -> Result<Vector, Refusal>
+    ensures { Takes vector_format reader.old result reader.new }
+{
+    // names the type for the prover (docs/ARCHITECTURE.md, "Forms the kit wants")
+    let _file: Option<FileId> = None;
+    let size = read_vector_size(reader)?;
+    let mut numbers = Vec::new(alloc);
+    for _ in 0..size {
+        numbers.push(reader.take_u64()?)?;
+    }
+    Ok(Vector::new(numbers))
+}
