@@ -50,7 +50,7 @@ class Tree:
             file.write(text)
 
     def start(self, *arguments, by=None, folder="/", **environment):
-        there = {"CALLS": self.calls_file, "PATH": self.path, **environment}
+        there = {"CALLS": self.calls_file, "PATH": self.path, "TMPDIR": os.path.dirname(self.top), **environment}
         return subprocess.Popen(
             [by or f"{self.top}/sundr", *arguments], cwd=folder, env=there, stdin=subprocess.PIPE,
             stdout=subprocess.PIPE, stderr=subprocess.PIPE, text=True)
