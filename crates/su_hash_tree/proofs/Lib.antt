@@ -9,4 +9,5 @@ pub mod Standing
 pub mod Changing
 pub mod Wholes
 pub mod Compared
+pub mod Lengths
 pub mod Maps

@@ -28,6 +28,7 @@ use su_tree::{TreeKey, TreeValue};
 /// come on top.
 pub struct HashTree<K: TreeKey, V: TreeValue> {
     root: Node<K, V>,
+    len: usize,
     made: Hashes,
     alloc: Global,
 }
@@ -37,13 +38,14 @@ impl<K: TreeKey, V: TreeValue> Model for HashTree<K, V> {
 
     ghost Value = { Seen K V };
 
+    ghost use Rattle.std.specs.Prelude.{◌≡◌, length};
     ghost use Rattle.su_hash_tree.specs.Sort.{sort};
     ghost use Rattle.su_hash_tree.specs.Stands.{Stands, IsWhole, pairs};
 
     ghost view = { λ a. record { entries = pairs a.root; hashes = a.made.count } };
 
     ghost invariant = { λ a. let t = sort K.bits K.bytes K.is_key V.bytes V.is_value in
-        IsWhole a.root × Stands t a.root (pairs a.root) };
+        IsWhole a.root × Stands t a.root (pairs a.root) × (a.len ≡ length (pairs a.root)) };
 }
 
 impl<K: TreeKey + Drop, V: TreeValue + Drop> Drop for HashTree<K, V> {
@@ -51,6 +53,7 @@ impl<K: TreeKey + Drop, V: TreeValue + Drop> Drop for HashTree<K, V> {
     fn drop(self) {
         let HashTree {
             root: _root,
+            len: _,
             made: _made,
             alloc: _,
         } = self;
@@ -67,6 +70,7 @@ impl<K: TreeKey + Drop, V: TreeValue + Drop> HashTree<K, V> {
         let digest = made.empty();
         HashTree {
             root: Node::Empty(digest),
+            len: 0,
             made,
             alloc,
         }
@@ -78,6 +82,14 @@ impl<K: TreeKey + Drop, V: TreeValue + Drop> HashTree<K, V> {
         ensures ordered { IsStrictlySortedBy K.cmp (keys_of self.now.entries) }
     {
         self.root.is_empty()
+    }
+
+    /// Returns the number of pairs.
+    pub fn len(&self) -> usize
+        ensures value { result ≡ length self.now.entries }
+        ensures ordered { IsStrictlySortedBy K.cmp (keys_of self.now.entries) }
+    {
+        self.len
     }
 
     /// Finds the value at a key.
@@ -118,14 +130,21 @@ impl<K: TreeKey + Drop, V: TreeValue + Drop> HashTree<K, V> {
         if self.root.is_empty() {
             let digest = self.made.pair(&key, &value);
             self.root = Node::Leaf(key, value, digest);
+            self.len = 1;
             return Ok(None);
         }
         match self.root.parting(&key) {
             None => Ok(self.root.replace(&key, value, &mut self.made)),
             Some(bit) => {
+                let Some(len) = self.len.checked_add(1) else {
+                    return Err(AllocError);
+                };
                 let before = self.made.count;
                 match self.root.add(self.alloc, bit, key, value, &mut self.made) {
-                    Ok(()) => Ok(None),
+                    Ok(()) => {
+                        self.len = len;
+                        Ok(None)
+                    }
                     Err(refused) => {
                         self.made.count = before;
                         Err(refused)
@@ -143,7 +162,9 @@ impl<K: TreeKey + Drop, V: TreeValue + Drop> HashTree<K, V> {
     {
         // names the key for the prover (docs/ARCHITECTURE.md, "Forms the kit wants")
         let _bytes = key.byte_count();
-        self.root.remove(key, &mut self.made)
+        let old = self.root.remove(key, &mut self.made);
+        self.len -= usize::from(old.is_some());
+        old
     }
 }
 
@@ -155,7 +176,7 @@ impl<K: TreeKey + Clone + Drop, V: TreeValue + Clone + Drop> HashTree<K, V> {
         ensures value { IfOk result (λ list. list.items ≡ self.now.entries) }
         ensures ordered { IsStrictlySortedBy K.cmp (keys_of self.now.entries) }
     {
-        let mut list = Vec::new(self.alloc);
+        let mut list = Vec::with_capacity(self.alloc, self.len)?;
         self.root.list(&mut list)?;
         Ok(list)
     }
@@ -169,6 +190,7 @@ impl<K: TreeKey + Clone + Drop, V: TreeValue + Clone + Drop> HashTree<K, V> {
         let root = self.root.copy(self.alloc)?;
         Ok(HashTree {
             root: Box::into_inner(root),
+            len: self.len,
             made: Hashes {
                 count: self.made.count,
             },
