@@ -1,15 +1,12 @@
-use Rattle.std.proofs.Common.{sym, ap, ◌∙◌, subst}
-use Rattle.std.specs.Prelude.{Contains, Result, Ok, Err, IfOk}
+use Rattle.std.proofs.Common.{◌≡◌, sym, ap, ◌∙◌, subst}
+use Rattle.std.specs.Prelude.{Contains}
 use Rattle.std.specs.Ordering.{nat_cmp}
 use Rattle.std.specs.Cmp.Lexicographic.{slice_cmp}
 use Rattle.std.specs.BTreeMap.{is_at}
+use Rattle.std.proofs.lemmas.Result.{IfOk-weaker}
 use Rattle.sha2.specs.Sha256.{sha256}
 use Rattle.su_block.proofs.Holding.{found_has_digest, none_has_digest, same_digest, own_digest}
 use Rattle.su_block.proofs.memory.MemoryBlocksBlockSource.get.Goals as goal
-
-copied : {T E : Type 0} {P Q : T → Type 0} (r : Result T E) → ((x : T) → P x → Q x) → IfOk r P → IfOk r Q
-copied (Ok x) f is = f x is
-copied (Err e) f is = is
 
 pub returns-in_default-clause-missing : goal.returns-in_default-clause-missing
 returns-in_default-clause-missing c = λ _ has.
@@ -21,4 +18,4 @@ pub returns-clause-checked : goal.returns-clause-checked
 returns-clause-checked c =
     let key = c.as_bytes.result.now in
     let found = found_has_digest (is_at (slice_cmp nat_cmp key)) key (same_digest key) c.self.inside.blocks.entries c.self.invariant c.in-Some.item.now (sym c.in-Some.ensures.value) in
-    copied c.copy.result (λ item is. ap sha256 is ∙ found.1 ∙ c.as_bytes.ensures) c.copy.ensures.value
+    IfOk-weaker c.copy.result (λ copy. copy.items ≡ c.in-Some.item.now) (λ copy. sha256 copy.items ≡ c.args.digest) (λ item is. ap sha256 is ∙ found.1 ∙ c.as_bytes.ensures) c.copy.ensures.value
