@@ -16,15 +16,15 @@ pub fn chains(ots: u32) -> (f64, f64, f64) {
     }
 }
 
-/// The blocks of `generate`: a private value and the steps of each chain, K, the leaf, and the inner
-/// nodes.
+/// The blocks of `generate`: a private value and the steps of each chain, K, the leaf, and the
+/// inner nodes.
 pub fn generate_blocks(ots: u32, leaves: f64) -> f64 {
     let (count, last, of_key) = chains(ots);
     leaves * (count * (1.0 + last) + of_key + 1.0) + 2.0 * (leaves - 1.0)
 }
 
-/// The blocks of `sign`: the randomizer, the hash of the message, a private value for each chain, and
-/// the steps signed.
+/// The blocks of `sign`: the randomizer, the hash of the message, a private value for each chain,
+/// and the steps signed.
 pub fn sign_blocks(ots: u32, steps: f64) -> f64 {
     let (count, _, _) = chains(ots);
     1.0 + 2.0 + count + steps

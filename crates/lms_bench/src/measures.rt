@@ -72,8 +72,8 @@ fn blocks_per_second(rt: &impl CpuClock) -> io::Result<f64> {
     Ok(best)
 }
 
-/// How many blocks of a long input, which costs next to nothing beside its blocks, the hash function
-/// takes in a second.
+/// How many blocks of a long input, which costs next to nothing beside its blocks, the hash
+/// function takes in a second.
 fn rate_of_a_run(rt: &impl CpuClock) -> io::Result<f64> {
     let mut input = [0u8; 4096];
     let from = now(rt)?;

@@ -42,7 +42,7 @@ impl Item {
     }
 }
 
-/// A source that holds its items in memory. It is seen as these, and its failures.
+/// A source that holds its items in memory. Its model is these, and its failures.
 #[derive(Drop)]
 pub struct MemoryBlocks {
     blocks: BTreeMap<[u8; 32], Item>,

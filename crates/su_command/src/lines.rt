@@ -56,8 +56,8 @@ impl<R: Read + Drop> LineReader<R> {
         }
     }
 
-    /// Reads the next line, and waits for no more bytes than it needs. Fails where the reader fails or
-    /// never ends, or where there is no memory for the line.
+    /// Reads the next line, and waits for no more bytes than it needs. Fails where the reader fails
+    /// or never ends, or where there is no memory for the line.
     pub fn next_line(&mut self) -> io::Result<NextLine>
         ensures { IfOk result (λ next.
             Reads next (unread R.remaining self.old) (unread R.remaining self.new)) }

@@ -42,8 +42,8 @@ pub enum Question {
     Handle(Principal),
 }
 
-/// Checks the words of a command. Refuses a user of 0 to 63 who isn't in the roster by `NoUser`, then
-/// a bad name by `BadName`, then any other word outside its range by `BadNumber`; fails with
+/// Checks the words of a command. Refuses a user of 0 to 63 who isn't in the roster by `NoUser`,
+/// then a bad name by `BadName`, then any other word outside its range by `BadNumber`; fails with
 /// `NoMemory` where there is no room for the command.
 pub fn check_ranges(alloc: Global, roster: &Roster, raw: RawCommand<'_>) -> Result<Command, Refusal>
     ensures value { IfOk result (λ c. c ≡ command_of raw.entry) }

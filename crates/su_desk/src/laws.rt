@@ -25,8 +25,8 @@ pub fn good_histories_can_be_undone()
     ensures { (ro : Membership) (h : List Entry) → Good ro h → Headline ro h (tree_after ro h) }
 {}
 
-/// Of operations that lead from a sound tree to another, each can be taken out that wrote no cell that
-/// a later one reads, without a history.
+/// Of operations that lead from a sound tree to another, each can be taken out that wrote no cell
+/// that a later one reads, without a history.
 pub fn operations_can_be_taken_out()
     ensures { (ro : Membership) → UndoIsSafe (store ro) }
 {}
@@ -46,9 +46,9 @@ pub fn live_numbers_ascend()
     ensures { (h : List Entry) → IsStrictlyIncreasing (live_numbers h) }
 {}
 
-/// One entry more: an operation is live then, if it comes after a good history, and makes the tree that
-/// the history left what it does to it; and an undo takes out the operation that it names. The history is
-/// good if it was, and the entry is accepted after it.
+/// One entry more: an operation is live then, if it comes after a good history, and makes the tree
+/// that the history left what it does to it; and an undo takes out the operation that it names. The
+/// history is good if it was, and the entry is accepted after it.
 pub fn one_entry_more()
     ensures done { (ro : Membership) (h : List Entry) (x : Action) → Good ro h
         → live (h ++ entry_by x.author (Do x.op) ∷ [])

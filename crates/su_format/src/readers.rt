@@ -13,7 +13,7 @@ use std::alloc::Global;
 use std::marker::Model;
 use su_bytes::{Digest, FileId, Group, Inum, Kind, Name, Principal, Refusal, User};
 
-/// Reads values one after another from bytes. It is seen as how many bytes were taken, and those
+/// Reads values one after another from bytes. Its model is how many bytes were taken, and those
 /// that are left. Each `take` takes what spells a value, and goes on behind it; where the bytes
 /// that are left begin with no spelling of one it answers `Malformed` with the place of the first
 /// of them, and nothing is taken.

@@ -6,7 +6,7 @@ use std::alloc::{AllocError, Global};
 use std::marker::Model;
 use su_bytes::{Digest, FileId, Group, Inum, Kind, Name, Principal, User};
 
-/// Writes values one behind another. It is seen as the bytes that it has. Each `put` fails only
+/// Writes values one behind another. Its model is the bytes that it has. Each `put` fails only
 /// where there is no room, and then nothing is added.
 #[derive(Debug, Drop)]
 pub struct Writer {

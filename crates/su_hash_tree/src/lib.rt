@@ -1,4 +1,5 @@
-//! Finite maps that keep their digests: a change hashes the path of one key, and the digest is at hand.
+//! Finite maps that keep their digests: a change hashes the path of one key, and the digest is at
+//! hand.
 #![tactic(auto)]
 
 mod counts;

@@ -15,12 +15,14 @@ use std::mem;
 use su_bytes::Digest;
 use su_tree::{TreeKey, TreeValue, first_difference};
 
-/// The tree of a map: left of a split are the keys that have a 0 at its position, right those that have a 1. Each node
-/// keeps the digest of its part of the map. (A call goes down a path by calling itself, so what isn't needed on the way
-/// stands in functions of its own, which aren't inlined: a path can have 2,296 nodes.)
+/// The tree of a map: left of a split are the keys that have a 0 at its position, right those that
+/// have a 1. Each node keeps the digest of its part of the map. (A call goes down a path by calling
+/// itself, so what isn't needed on the way stands in functions of its own, which aren't inlined: a
+/// path can have 2,296 nodes.)
 #[derive(Drop)]
 pub(crate) enum Node<K: TreeKey, V: TreeValue> {
-    /// A part of which only the digest is known. (No tree has one yet: it stands in for a node that is being changed.)
+    /// A part of which only the digest is known. (No tree has one yet: it stands in for a node that
+    /// is being changed.)
     Stub(Digest),
     Empty(Digest),
     Leaf(K, V, Digest),
@@ -70,8 +72,8 @@ impl<K: TreeKey + Drop, V: TreeValue + Drop> Node<K, V> {
         }
     }
 
-    /// Finds where a key parts from the keys of a map that isn't empty; nowhere where it is one of them. The key's path has
-    /// no stub.
+    /// Finds where a key parts from the keys of a map that isn't empty; nowhere where it is one of
+    /// them. The key's path has no stub.
     pub fn parting(&self, key: &K) -> Option<u16>
         requires { IsTrue (reached K.bits key.now self.now) }
         ensures { let t = sort K.bits K.bytes K.is_key V.bytes V.is_value in
@@ -209,8 +211,8 @@ impl<K: TreeKey + Drop, V: TreeValue + Drop> Node<K, V> {
         }
     }
 
-    /// Puts a pair whose key parts at `bit` from the keys that are there. The key's path has no stub. Fails where memory is
-    /// wanting, and then changes nothing.
+    /// Puts a pair whose key parts at `bit` from the keys that are there. The key's path has no
+    /// stub. Fails where memory is wanting, and then changes nothing.
     pub fn add(
         &mut self,
         alloc: Global,
@@ -304,8 +306,8 @@ impl<K: TreeKey + Drop, V: TreeValue + Drop> Node<K, V> {
         }
     }
 
-    /// Takes out the pair of a key and returns its value, where its path has no stub or the map doesn't have it. It takes no
-    /// memory.
+    /// Takes out the pair of a key and returns its value, where its path has no stub or the map
+    /// doesn't have it. It takes no memory.
     pub fn remove(&mut self, key: &K, hashes: &mut Hashes) -> Option<V>
         ensures old { let t = sort K.bits K.bytes K.is_key V.bytes V.is_value in
             (m : List (K × V)) → Stands t self.old m → Known K.bits key.now self.old m
@@ -406,8 +408,8 @@ impl<K: TreeKey + Clone + Drop, V: TreeValue + Clone + Drop> Node<K, V> {
         Ok(Box::new(alloc, Node::Split(at, left, right, *digest))?)
     }
 
-    /// Appends copies of the pairs of the nodes that are no stubs, from left to right, to a list. Fails where memory is
-    /// wanting.
+    /// Appends copies of the pairs of the nodes that are no stubs, from left to right, to a list.
+    /// Fails where memory is wanting.
     pub fn list(&self, list: &mut Vec<(K, V)>) -> Result<(), AllocError>
         requires keys { IsExact K.is_clone }
         requires values { IsExact V.is_clone }

@@ -16,16 +16,17 @@ use std::marker::Model;
 use su_bytes::Digest;
 use su_tree::{TreeKey, TreeValue};
 
-/// A finite map that keeps its digest and counts its hashes. It is seen as its pairs in the order of their keys, and the
-/// count.
+/// A finite map that keeps its digest and counts its hashes. Its model is its pairs in the order of
+/// their keys, and the count.
 ///
-/// A call that changes it hashes the path of one key: one hash for the pair and one for each split, at most one more than
-/// the key has bits, and about log2 n of them where n keys are random. It goes down that path by calling itself. The longest
-/// key, a name of 255 bytes, has 2,296 bits, so a path has at most 2,297 nodes; a level takes up to 350 bytes of stack, as
-/// LLVM builds it, and all levels less than 900 kB.
+/// A call that changes it hashes the path of one key: one hash for the pair and one for each split,
+/// at most one more than the key has bits, and about log2 n of them where n keys are random. It
+/// goes down that path by calling itself. The longest key, a name of 255 bytes, has 2,296 bits, so
+/// a path has at most 2,297 nodes; a level takes up to 350 bytes of stack, as LLVM builds it, and
+/// all levels less than 900 kB.
 ///
-/// A pair takes two boxes of 72 bytes each, with numbers and digests and with names and file ids alike; the bytes of a name
-/// come on top.
+/// A pair takes two boxes of 72 bytes each, with numbers and digests and with names and file ids
+/// alike; the bytes of a name come on top.
 pub struct HashTree<K: TreeKey, V: TreeValue> {
     root: Node<K, V>,
     len: usize,
@@ -116,8 +117,8 @@ impl<K: TreeKey + Drop, V: TreeValue + Drop> HashTree<K, V> {
         self.made.count
     }
 
-    /// Puts a value at a key, and returns the old one. Takes memory only for a key that isn't there; fails where it is
-    /// wanting, and then changes nothing.
+    /// Puts a value at a key, and returns the old one. Takes memory only for a key that isn't
+    /// there; fails where it is wanting, and then changes nothing.
     pub fn insert(&mut self, key: K, value: V) -> Result<Option<V>, AllocError>
         ensures old { IfOk result (λ old. old ≡ find K.cmp key self.old.entries) }
         ensures new { OnOk result (self.new.entries ≡ put K.cmp key value self.old.entries) }

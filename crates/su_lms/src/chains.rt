@@ -1,5 +1,5 @@
-// The chains of a one-time key. The input of a step is I || u32str(q) || u16str(i) || u8str(j) || value, 55 bytes, and
-// from step to step only the last 33 of them change.
+// The chains of a one-time key. The input of a step is I || u32str(q) || u16str(i) || u8str(j) ||
+// value, 55 bytes, and from step to step only the last 33 of them change.
 ghost use Rattle.std.specs.Prelude.{◌≡◌, ◌≤◌, ◌+◌, ◌-◌, ◌++◌, ◌∷◌, [], take, drop, length};
 ghost use Rattle.sha2.specs.Sha256.{sha256};
 ghost use Rattle.su_lms.specs.OneTime.{chain_place, chain, private_value};
@@ -7,7 +7,8 @@ ghost use Rattle.su_lms.specs.OneTime.{chain_place, chain, private_value};
 use crate::strings::{part_at, write_at};
 use sha2::{Digest, Sha256};
 
-/// The value of chain i of leaf q, a number of steps from its private value (RFC 8554, Section 4.3 and Appendix A).
+/// The value of chain i of leaf q, a number of steps from its private value (RFC 8554, Section 4.3
+/// and Appendix A).
 pub fn secret_chain(id: &[u8; 16], seed: &[u8; 32], q: u32, i: u16, steps: u8) -> [u8; 32]
     ensures { result ≡ chain (chain_place id.now q i) 0 steps (private_value id.now seed.now q i) }
 {
@@ -17,7 +18,8 @@ pub fn secret_chain(id: &[u8; 16], seed: &[u8; 32], q: u32, i: u16, steps: u8) -
     part_at(&input, 23)
 }
 
-/// The value of chain i of leaf q after step `to` - 1, from the value before step `from` (RFC 8554, Section 4.6).
+/// The value of chain i of leaf q after step `to` - 1, from the value before step `from` (RFC 8554,
+/// Section 4.6).
 pub fn chain_on(id: &[u8; 16], q: u32, i: u16, from: u8, to: u8, value: &[u8; 32]) -> [u8; 32]
     requires { from ≤ to }
     ensures { result ≡ chain (chain_place id.now q i) from (to - from) value.now }

@@ -20,7 +20,8 @@ pub fn coef(bytes: &[u8], i: u16, ots: u32) -> u8
     step_count(ots) & (byte >> shift)
 }
 
-/// The checksum of a hash: the steps that its chains leave out, added up and shifted (RFC 8554, Section 4.4).
+/// The checksum of a hash: the steps that its chains leave out, added up and shifted (RFC 8554,
+/// Section 4.4).
 pub fn checksum(ots: u32, hash: &[u8; 32]) -> u16
     requires { IsOneTimeType ots }
     ensures { result ≡ checksum ots hash.now }

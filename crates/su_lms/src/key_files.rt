@@ -28,7 +28,8 @@ impl KeyFile {
     ghost use Rattle.su_lms.specs.PrivateKey.{PrivateKey};
     ghost use Rattle.su_lms.specs.KeyFile.{private_key_of, key_file_bytes, IsKept};
 
-    /// The 64 bytes: `SK01`, LMS type, LM-OTS type, I, SEED, next leaf, with numbers of four bytes, high byte first.
+    /// The 64 bytes: `SK01`, LMS type, LM-OTS type, I, SEED, next leaf, with numbers of four bytes,
+    /// high byte first.
     pub fn encode(&self) -> [u8; 64]
         ensures { result ≡ key_file_bytes (private_key_of self.now) self.now.next }
     {
@@ -42,8 +43,8 @@ impl KeyFile {
         bytes
     }
 
-    /// What the bytes spell. `BadKey` where they are no key file: another length, other first bytes, types that are not
-    /// made here, or a next leaf above the number of leaves.
+    /// What the bytes spell. `BadKey` where they are no key file: another length, other first
+    /// bytes, types that are not made here, or a next leaf above the number of leaves.
     pub fn decode(bytes: &[u8]) -> Result<KeyFile, Refusal>
         // What is read is spelled so.
         ensures found { IfOk result (λ file. bytes.now ≡ key_file_bytes (private_key_of file) file.next) }

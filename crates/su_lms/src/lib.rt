@@ -1,5 +1,5 @@
-//! LMS, the hash-based signatures of RFC 8554: keys are made, messages are signed with each leaf at most once, and
-//! signatures are verified.
+//! LMS, the hash-based signatures of RFC 8554: keys are made, messages are signed with each leaf at
+//! most once, and signatures are verified.
 #![tactic(auto)]
 
 mod chains;

@@ -5,7 +5,8 @@ ghost use Rattle.su_bytes.specs.declared.refusals.Refusal.TheVariants.{BadKey};
 
 use su_bytes::Refusal;
 
-/// The parameter set of a key that can be made here, by the type numbers of RFC 8554, Sections 4.1 and 5.1.
+/// The parameter set of a key that can be made here, by the type numbers of RFC 8554, Sections 4.1
+/// and 5.1.
 #[derive(Clone, Copy, Debug, PartialEq, Eq)]
 pub struct Params {
     /// 5 for a tree of 32 leaves, 6 for one of 1,024.

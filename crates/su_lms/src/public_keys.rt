@@ -12,7 +12,7 @@ use crate::trees::{leaf_value, parent_value};
 use std::marker::Model;
 use su_bytes::Refusal;
 
-/// A public key of any parameter set that RFC 8554 lists. It is seen as its 56 bytes (Section 5.3).
+/// A public key of any parameter set that RFC 8554 lists. Its model is its 56 bytes (Section 5.3).
 #[derive(Clone, Copy, Debug, PartialEq, Eq)]
 pub struct PublicKey {
     bytes: [u8; 56],
@@ -32,7 +32,8 @@ impl Model for PublicKey {
 }
 
 impl PublicKey {
-    /// The key that the bytes spell. `BadKey` where they are not 56, or a type is not listed (RFC 8554, Section 5.3).
+    /// The key that the bytes spell. `BadKey` where they are not 56, or a type is not listed (RFC
+    /// 8554, Section 5.3).
     pub fn parse(bytes: &[u8]) -> Result<PublicKey, Refusal>
         ensures accepted { IsOk result ↔ IsPublicKey bytes.now }
         ensures value { IfOk result (λ key. key ≡ bytes.now) }
@@ -73,7 +74,8 @@ impl PublicKey {
         &self.bytes
     }
 
-    /// Whether the message is signed under this key by this signature (RFC 8554, Section 5.4.2). It takes no memory.
+    /// Whether the message is signed under this key by this signature (RFC 8554, Section 5.4.2). It
+    /// takes no memory.
     pub fn verify(&self, message: &[u8], signature: &[u8]) -> bool
         ensures { IsTrue result ↔ IsSigned self.now message.now signature.now }
     {

@@ -20,8 +20,8 @@ use std::alloc::Global;
 use std::marker::Model;
 use su_bytes::Refusal;
 
-/// A private key that signs with each leaf at most once, lowest first (RFC 8554, Section 5.4.1). It keeps its tree in
-/// memory, 64 bytes for each leaf.
+/// A private key that signs with each leaf at most once, lowest first (RFC 8554, Section 5.4.1). It
+/// keeps its tree in memory, 64 bytes for each leaf.
 #[derive(Drop)]
 pub struct Signer<S: KeyStore> {
     file: KeyFile,
@@ -65,8 +65,8 @@ impl<S: KeyStore> Signer<S> {
         Ok(Signer { file, nodes, store })
     }
 
-    /// The signer of a key of which the leaves before `next` may have signed. `BadKey` where `next` is above the number of
-    /// leaves; else only `NoMemory` can come.
+    /// The signer of a key of which the leaves before `next` may have signed. `BadKey` where `next`
+    /// is above the number of leaves; else only `NoMemory` can come.
     pub fn resume(
         alloc: Global,
         params: Params,
@@ -116,9 +116,9 @@ impl<S: KeyStore> Signer<S> {
         &self.store
     }
 
-    /// Signs with the next leaf, after the store has kept the number of the one behind it. `KeySpent` where each leaf has
-    /// signed; then `NoMemory`; then `KeyFileFault` where the store failed. After a refusal nothing was signed, and the
-    /// next leaf is the same.
+    /// Signs with the next leaf, after the store has kept the number of the one behind it.
+    /// `KeySpent` where each leaf has signed; then `NoMemory`; then `KeyFileFault` where the store
+    /// failed. After a refusal nothing was signed, and the next leaf is the same.
     pub fn sign(&mut self, message: &[u8]) -> Result<Vec<u8>, Refusal>
         ensures signature { IfOk result (λ signature. signature.items ≡ signature_of self.old.key self.old.next message.now) }
         ensures signed { IfOk result (λ signature. IsSigned (key_of self.old.key) message.now signature.items) }

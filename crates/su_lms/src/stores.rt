@@ -2,7 +2,8 @@
 ghost use Rattle.std.specs.Prelude.{◌≡◌, ◌<◌, ◌≤◌, ◌-◌, ◌^◌, ℕ, true};
 ghost use Rattle.std.specs.Bool.{OnTrue, OnFalse};
 
-/// Keeps the number of the leaf that signs next, so that no leaf signs twice, not even after a restart.
+/// Keeps the number of the leaf that signs next, so that no leaf signs twice, not even after a
+/// restart.
 pub trait KeyStore: Drop {
     // Storing this number turns the one store into the other.
     ghost stores: { Self → ℕ → Self → Type 0 };
@@ -13,8 +14,8 @@ pub trait KeyStore: Drop {
     // How many calls have failed.
     ghost failure_count: { Self → ℕ };
 
-    /// Stores the number of the leaf that signs next, and says whether it is kept. After a `false`, `failures` has risen,
-    /// unless it was at its last value.
+    /// Stores the number of the leaf that signs next, and says whether it is kept. After a `false`,
+    /// `failures` has risen, unless it was at its last value.
     fn store_next(&mut self, q: u32) -> bool
         ensures stored { OnTrue result (stores self.old q self.new) }
         ensures missed { OnFalse result (misses self.old q self.new) }

@@ -1,4 +1,5 @@
-// What no clause says: the standard's numbers, known answers of other implementations, and that calls succeed.
+// What no clause says: the standard's numbers, known answers of other implementations, and that
+// calls succeed.
 mod vectors;
 
 ghost use Rattle.std.specs.Prelude.{◌≡◌};
@@ -49,8 +50,9 @@ fn changed(alloc: Global, bytes: &[u8], place: usize) -> Result<Vec<u8>, AllocEr
     Ok(other)
 }
 
-// Whether the key reads as it is spelled, and the message is signed under it by these bytes, but neither another message,
-// nor by these bytes with a bit changed in each part of 31 bytes, a byte more or a byte less.
+// Whether the key reads as it is spelled, and the message is signed under it by these bytes, but
+// neither another message, nor by these bytes with a bit changed in each part of 31 bytes, a byte
+// more or a byte less.
 fn signs(alloc: Global, key: &str, signature: &str) -> Result<bool, AllocError> {
     let spelled = bytes_of(alloc, key)?;
     let Ok(key) = PublicKey::parse(&spelled) else {

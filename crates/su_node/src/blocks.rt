@@ -51,7 +51,8 @@ impl Block {
         Ok(Block { bytes })
     }
 
-    /// Cuts the block, or fills it with zeros up to a size. Where there is no memory, it changes nothing.
+    /// Cuts the block, or fills it with zeros up to a size. Where there is no memory, it changes
+    /// nothing.
     fn resize(&mut self, size: usize) -> Result<(), AllocError>
         ensures ok { OnOk result (self.new ≡ with_size size self.old) }
         ensures err { OnErr result (self.new ≡ self.old) }
@@ -155,8 +156,8 @@ impl Blocks {
         })
     }
 
-    /// Writes bytes from an offset on, and fills a gap before them with zeros. Takes no memory where the file doesn't grow;
-    /// where there is none, it changes nothing.
+    /// Writes bytes from an offset on, and fills a gap before them with zeros. Takes no memory
+    /// where the file doesn't grow; where there is none, it changes nothing.
     pub(crate) fn write_at(&mut self, off: u32, bytes: &[u8]) -> Result<(), AllocError>
         requires { off + length bytes.now < 2 ^ 32 }
         ensures ok { OnOk result (self.new ≡ with_bytes_at off bytes.now self.old) }
@@ -171,8 +172,8 @@ impl Blocks {
         Ok(())
     }
 
-    /// Cuts the file to a size, or fills it with zeros up to it. Takes no memory where the file doesn't grow; where there is
-    /// none, it changes nothing.
+    /// Cuts the file to a size, or fills it with zeros up to it. Takes no memory where the file
+    /// doesn't grow; where there is none, it changes nothing.
     pub(crate) fn resize(&mut self, size: u32) -> Result<(), AllocError>
         ensures ok { OnOk result (self.new ≡ with_size size self.old) }
         ensures succeeds { size ≤ length self.old → IsOk result }

@@ -21,7 +21,8 @@ enum Stored {
     Names(HashTree<Name, FileId>),
 }
 
-/// A file or a directory: the file id that it was made for, how many names lead to it, and its bytes or names.
+/// A file or a directory: the file id that it was made for, how many names lead to it, and its
+/// bytes or names.
 #[derive(Drop)]
 pub struct Inode {
     home: FileId,
@@ -114,7 +115,8 @@ impl Inode {
         }
     }
 
-    /// Lists the names by their bytes, and where each leads; none for a file. Fails only with `NoMemory`.
+    /// Lists the names by their bytes, and where each leads; none for a file. Fails only with
+    /// `NoMemory`.
     pub fn names(&self) -> Result<Option<Vec<(Name, FileId)>>, Refusal>
         ensures value { IfOk result (λ names.
             option_map (λ v. v.items) names ≡ names_of (Some self.now)) }
@@ -138,8 +140,8 @@ impl Inode {
         }
     }
 
-    /// Reads the bytes of a file within a range; none for a directory. Fails only with `NoMemory`. (It looks at the blocks in
-    /// the range alone.)
+    /// Reads the bytes of a file within a range; none for a directory. Fails only with `NoMemory`.
+    /// (It looks at the blocks in the range alone.)
     pub fn read_at(&self, off: u64, len: u64) -> Result<Option<Vec<u8>>, Refusal>
         ensures value { IfOk result (λ bytes.
             option_map (λ v. v.items) bytes ≡ option_map (within off len) (bytes_of (Some self.now))) }
@@ -168,8 +170,8 @@ impl Inode {
         })
     }
 
-    /// Makes a name lead to `file`; does nothing to a file. Takes memory only for a name that isn't there. Fails only with
-    /// `NoMemory`, and then changes nothing.
+    /// Makes a name lead to `file`; does nothing to a file. Takes memory only for a name that isn't
+    /// there. Fails only with `NoMemory`, and then changes nothing.
     pub fn name_set(&mut self, name: Name, file: FileId) -> Result<(), Refusal>
         ensures ok { OnOk result
             (inode_after (Named name (Some file)) (Some self.old) ≡ Some self.new) }
@@ -192,9 +194,9 @@ impl Inode {
         }
     }
 
-    /// Writes bytes into a file from an offset on, and fills a gap before them with zeros; does nothing to a directory. Fails
-    /// only with `NoMemory`, where the file grows, and then changes nothing. (It touches the blocks alone that hold these
-    /// bytes or the gap.)
+    /// Writes bytes into a file from an offset on, and fills a gap before them with zeros; does
+    /// nothing to a directory. Fails only with `NoMemory`, where the file grows, and then changes
+    /// nothing. (It touches the blocks alone that hold these bytes or the gap.)
     pub fn write_at(&mut self, off: u32, bytes: &[u8]) -> Result<(), Refusal>
         requires { off + length bytes.now < 2 ^ 32 }
         ensures ok { OnOk result
@@ -210,9 +212,9 @@ impl Inode {
         Ok(())
     }
 
-    /// Cuts a file to a size in bytes, or fills it with zeros up to it; does nothing to a directory. Fails only with
-    /// `NoMemory`, where the file grows, and then changes nothing. (It touches the last block alone, and those that come or
-    /// go.)
+    /// Cuts a file to a size in bytes, or fills it with zeros up to it; does nothing to a
+    /// directory. Fails only with `NoMemory`, where the file grows, and then changes nothing. (It
+    /// touches the last block alone, and those that come or go.)
     pub fn resize(&mut self, size: u32) -> Result<(), Refusal>
         ensures ok { OnOk result
             (inode_after (Resized (size_of self.old.content) size) (Some self.old) ≡ Some self.new) }

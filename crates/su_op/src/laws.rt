@@ -22,8 +22,8 @@ pub fn operations_are_local()
 
 /// An operation that writes the kind of an inode writes all of it, or makes it; one that writes the
 /// kind by itself makes the inode, where nothing stood before; one that writes a block writes the
-/// kind too, or writes into a file that stands there. (So while nobody writes the kind of a file, it
-/// stays a file.)
+/// kind too, or writes into a file that stands there. (So while nobody writes the kind of a file,
+/// it stays a file.)
 pub fn kinds_change_whole()
     ensures kind { (ro : Membership) (T : Tree) (x : Action) (p : Place) → Sound T
         → is_none (why ro T x.author x.op) ≡ true

@@ -37,8 +37,9 @@ impl Model for Forest {
 }
 
 impl Forest {
-    /// Makes the tree before the first operation: the empty root directory of group 0, which stands at user 0. It is the
-    /// same for each roster: later forms of a forest will keep a table for each of its users. Fails only with `NoMemory`.
+    /// Makes the tree before the first operation: the empty root directory of group 0, which stands
+    /// at user 0. It is the same for each roster: later forms of a forest will keep a table for
+    /// each of its users. Fails only with `NoMemory`.
     pub fn genesis(alloc: Global, _roster: &Roster) -> Result<Forest, Refusal>
         ensures value { IfOk result (λ forest. forest ≡ genesis) }
         ensures refused { IfErr result (λ e. e ≡ NoMemory) }
@@ -62,7 +63,8 @@ impl Forest {
         self.inodes.get(&(user, number))
     }
 
-    /// Returns the place of a file's inode: a user's file stands at its own place, a group file where its pointer leads.
+    /// Returns the place of a file's inode: a user's file stands at its own place, a group file
+    /// where its pointer leads.
     pub fn body(&self, file: FileId) -> Option<Place>
         ensures { result ≡ body self.now file }
     {
@@ -167,7 +169,8 @@ impl Forest {
         }
     }
 
-    /// Returns the inode of a file: `NoFile` where the file has no body, `WrongKind` where its pointer leads to nothing.
+    /// Returns the inode of a file: `NoFile` where the file has no body, `WrongKind` where its
+    /// pointer leads to nothing.
     fn standing(&self, file: &FileId) -> Result<&Inode, Refusal>
         ensures ok { IfOk result (λ inode. standing self.now file.now ≡ Ok inode.now) }
         ensures refused { IfErr result (λ e. standing self.now file.now ≡ Err e) }
@@ -176,8 +179,9 @@ impl Forest {
         self.inode(user, number).ok_or(Refusal::WrongKind(*file))
     }
 
-    /// Lists the names of a directory by their bytes, and where each leads. `NoFile` where the file has no body, `WrongKind` where
-    /// its body is no directory, `NoMemory` where there is no room for the list.
+    /// Lists the names of a directory by their bytes, and where each leads. `NoFile` where the file
+    /// has no body, `WrongKind` where its body is no directory, `NoMemory` where there is no room
+    /// for the list.
     pub fn list(&self, file: FileId) -> Result<Vec<(Name, FileId)>, Refusal>
         ensures ok { IfOk result (λ names. listing self.now file ≡ Ok names.items) }
         ensures refused { IfErr result (λ e. (e ≡ NoMemory) ⊎ (listing self.now file ≡ Err e)) }
@@ -186,8 +190,8 @@ impl Forest {
         inode.names()?.ok_or(Refusal::WrongKind(file))
     }
 
-    /// Reads all bytes of a file. `NoFile` where the file has no body, `WrongKind` where its body is a directory, `NoMemory` where
-    /// there is no room for the bytes.
+    /// Reads all bytes of a file. `NoFile` where the file has no body, `WrongKind` where its body
+    /// is a directory, `NoMemory` where there is no room for the bytes.
     pub fn read(&self, file: FileId) -> Result<Vec<u8>, Refusal>
         ensures ok { IfOk result (λ bytes. contents self.now file ≡ Ok bytes.items) }
         ensures refused { IfErr result (λ e. (e ≡ NoMemory) ⊎ (contents self.now file ≡ Err e)) }
@@ -196,8 +200,9 @@ impl Forest {
         inode.content()?.ok_or(Refusal::WrongKind(file))
     }
 
-    /// Reads the bytes of a file within a range, which may reach past its end. `NoFile` where the file has no body,
-    /// `WrongKind` where its body is a directory, `NoMemory` where there is no room for the bytes.
+    /// Reads the bytes of a file within a range, which may reach past its end. `NoFile` where the
+    /// file has no body, `WrongKind` where its body is a directory, `NoMemory` where there is no
+    /// room for the bytes.
     pub fn read_at(&self, file: FileId, off: u64, len: u64) -> Result<Vec<u8>, Refusal>
         ensures ok { IfOk result (λ bytes. contents_within self.now file off len ≡ Ok bytes.items) }
         ensures refused { IfErr result (λ e. (e ≡ NoMemory) ⊎ (contents_within self.now file off len ≡ Err e)) }
@@ -227,11 +232,11 @@ impl Forest {
     }
 }
 
-/// Single edits, of which operations are made. An edit that grows a table or a file fails with `NoMemory` where there is
-/// none, and with nothing else, and then it changes nothing.
+/// Single edits, of which operations are made. An edit that grows a table or a file fails with
+/// `NoMemory` where there is none, and with nothing else, and then it changes nothing.
 impl Forest {
-    /// Makes a name of the directory at `place` lead to the file. Does nothing where no directory stands. Takes memory only
-    /// for a name that isn't there.
+    /// Makes a name of the directory at `place` lead to the file. Does nothing where no directory
+    /// stands. Takes memory only for a name that isn't there.
     pub fn add_name(&mut self, place: Place, name: Name, file: FileId) -> Result<(), Refusal>
         ensures ok { OnOk result (self.new ≡ edit self.old (Inodes place (Named name (Some file)))) }
         ensures refused { IfErr result (λ e. e ≡ NoMemory) }
@@ -262,8 +267,8 @@ impl Forest {
         }
     }
 
-    /// Writes bytes into the file at `place` from an offset on, and fills a gap before them with zeros. Does nothing where no
-    /// file stands. Takes no memory where the file doesn't grow.
+    /// Writes bytes into the file at `place` from an offset on, and fills a gap before them with
+    /// zeros. Does nothing where no file stands. Takes no memory where the file doesn't grow.
     pub fn write_at(&mut self, place: Place, off: u32, bytes: &[u8]) -> Result<(), Refusal>
         requires { off + length bytes.now < 2 ^ 32 }
         ensures ok { OnOk result
@@ -278,8 +283,8 @@ impl Forest {
         Ok(())
     }
 
-    /// Cuts the file at `place` to a size in bytes, or fills it with zeros up to it. Does nothing where no file stands. Takes
-    /// no memory where the file doesn't grow.
+    /// Cuts the file at `place` to a size in bytes, or fills it with zeros up to it. Does nothing
+    /// where no file stands. Takes no memory where the file doesn't grow.
     pub fn resize(&mut self, place: Place, size: u32) -> Result<(), Refusal>
         ensures ok { OnOk result
             (self.new ≡ edit self.old (Inodes place (Resized (size_at self.old place) size))) }
@@ -293,7 +298,8 @@ impl Forest {
         Ok(())
     }
 
-    /// Puts an inode at `place`, over the one that stands there, if any. Takes memory only where none does.
+    /// Puts an inode at `place`, over the one that stands there, if any. Takes memory only where
+    /// none does.
     pub fn put_inode(&mut self, place: Place, inode: Inode) -> Result<(), Refusal>
         ensures ok { OnOk result (self.new ≡ edit self.old (Inodes place (Copied inode))) }
         ensures refused { IfErr result (λ e. e ≡ NoMemory) }
@@ -304,7 +310,8 @@ impl Forest {
         Ok(())
     }
 
-    /// Puts an inode at `place`, and returns the one that stood there, if any. Takes memory only where none did.
+    /// Puts an inode at `place`, and returns the one that stood there, if any. Takes memory only
+    /// where none did.
     pub fn exchange_inode(&mut self, place: Place, inode: Inode) -> Result<Option<Inode>, Refusal>
         ensures ok { OnOk result (self.new ≡ edit self.old (Inodes place (Copied inode))) }
         ensures was { IfOk result (λ was. was ≡ get self.old.inodes place) }

@@ -2,7 +2,8 @@
 ghost use Rattle.su_table.specs.Edit.{EditsCanBeTakenBack};
 ghost use Rattle.su_table.specs.Table.{ChangesOneTable};
 
-/// Edits can be taken back: when what they overwrote is put back, the last one first, the tree is the one before.
+/// Edits can be taken back: when what they overwrote is put back, the last one first, the tree is
+/// the one before.
 pub fn edits_can_be_taken_back()
     ensures { EditsCanBeTakenBack }
 {}

@@ -24,8 +24,8 @@ pub fn order_does_not_matter<K, V>()
         → digest k xs ≡ digest k ys }
 {}
 
-/// Maps of one kind that have one digest are equal, or two different byte strings, one that is hashed for each of them,
-/// have one SHA-256.
+/// Maps of one kind that have one digest are equal, or two different byte strings, one that is
+/// hashed for each of them, have one SHA-256.
 pub fn digest_tells_map<K: TreeKey, V: TreeValue>()
     ensures { DigestTells K.cmp (map_kind K.bits K.bytes V.bytes)
         (λ e. K.is_key e.0 && V.is_value e.1) }

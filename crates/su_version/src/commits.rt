@@ -15,7 +15,7 @@ use su_format::{Reader, Writer};
 /// The most bytes of a signature.
 pub const LONGEST_SIGNATURE: usize = 9_324;
 
-/// A version structure with the signature over its bytes. It is seen as these two.
+/// A version structure with the signature over its bytes. Its model is these two.
 #[derive(Drop)]
 pub struct Commit {
     version: VersionStructure,

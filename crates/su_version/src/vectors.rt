@@ -9,8 +9,8 @@ use std::alloc::{AllocError, Global};
 use std::marker::Model;
 use su_bytes::{Digest, Group, Principal, Refusal, Roster, User};
 
-/// How many commits concern each principal of the roster: its users, and then its groups. It is
-/// seen as these numbers.
+/// How many commits concern each principal of the roster: its users, and then its groups. Its
+/// model is these numbers.
 #[derive(Debug, Drop)]
 pub struct Vector {
     numbers: Vec<u64>,

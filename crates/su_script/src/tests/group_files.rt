@@ -1,5 +1,5 @@
-// Files of groups: made, taken away, taken back, taken over, and refused. Both users are in group 0, and user 0 alone is in
-// group 1.
+// Files of groups: made, taken away, taken back, taken over, and refused. Both users are in group
+// 0, and user 0 alone is in group 1.
 use super::{NOTHING, expect_bad, expect_each, expect_of};
 use std::test::Fail;
 

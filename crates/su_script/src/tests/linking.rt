@@ -1,4 +1,5 @@
-// Further names of files: scripts with their answers, and each refusal of a link alone and together with the next one.
+// Further names of files: scripts with their answers, and each refusal of a link alone and together
+// with the next one.
 use super::{NOTHING, Script, expect_after, expect_bad, expect_each};
 use crate::desk::Status;
 use std::test::Fail;

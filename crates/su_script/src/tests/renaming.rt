@@ -1,4 +1,5 @@
-// Other names of files: scripts with their answers, and each refusal of a rename alone and together with the next one.
+// Other names of files: scripts with their answers, and each refusal of a rename alone and together
+// with the next one.
 use super::{NOTHING, expect_after, expect_bad, expect_each};
 use std::test::Fail;
 
@@ -111,8 +112,8 @@ fn a_file_gets_another_name_in_its_new_directory(rt: HostRuntime) -> Result<(), 
     )
 }
 
-/// A file with number 2 named `f`; a directory with number 3 named `d`, which has a file 4 named `f`; and an empty directory
-/// with number 5 named `e`.
+/// A file with number 2 named `f`; a directory with number 3 named `d`, which has a file 4 named
+/// `f`; and an empty directory with number 5 named `e`.
 const BEFORE: [(&str, &str); 4] = [
     ("0 create G0:1 f U0:2", "ok 1"),
     ("0 mkdir G0:1 d U0:3", "ok 2"),

@@ -1,5 +1,5 @@
-// The first tree, the names of a directory in their order, and digests of tables against SHA-256 of the bytes that the format
-// gives.
+// The first tree, the names of a directory in their order, and digests of tables against SHA-256 of
+// the bytes that the format gives.
 use super::{NOTHING, expect_each};
 use sha2::{Digest, Sha256};
 use std::alloc::{AllocError, Global};
@@ -107,7 +107,8 @@ fn the_first_handles_cover_the_root_alone(rt: HostRuntime) -> Result<(), Fail> {
     )
 }
 
-/// The digest of a file with one link and 4,100 bytes, number 2 of user 1, which ends in two zeros and `xy`.
+/// The digest of a file with one link and 4,100 bytes, number 2 of user 1, which ends in two zeros
+/// and `xy`.
 fn hash_of_file() -> [u8; 32] {
     let first = hash(&[b"\x04", &[0; 4096]]);
     let second = hash(&[b"\x04\x00\x00xy"]);

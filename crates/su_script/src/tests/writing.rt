@@ -1,5 +1,5 @@
-// The bytes of a file at the edges of its blocks; each refusal of a write and of a truncate, alone and together with the next
-// one.
+// The bytes of a file at the edges of its blocks; each refusal of a write and of a truncate, alone
+// and together with the next one.
 use super::{NOTHING, expect_after, expect_each, run};
 use crate::desk::Status;
 use std::test::Fail;

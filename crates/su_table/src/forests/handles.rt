@@ -8,8 +8,8 @@ use su_bytes::{Digest, Group, Principal, Refusal, User};
 use su_tree::digest_of;
 
 impl Forest {
-    /// Computes the i-handle of a user from nothing, hashing all inodes of the user; that of an empty table where the user
-    /// has none. Fails only with `NoMemory`.
+    /// Computes the i-handle of a user from nothing, hashing all inodes of the user; that of an
+    /// empty table where the user has none. Fails only with `NoMemory`.
     pub fn i_handle(&self, user: User) -> Result<Digest, Refusal>
         ensures value { IfOk result (λ d. d ≡ handle self.now (Principal.User user)) }
         ensures refused { IfErr result (λ e. e ≡ NoMemory) }
@@ -25,8 +25,8 @@ impl Forest {
         Ok(digest_of(&pairs))
     }
 
-    /// Computes the i-handle of a group from nothing; that of an empty table where the group has no file. Fails only with
-    /// `NoMemory`.
+    /// Computes the i-handle of a group from nothing; that of an empty table where the group has no
+    /// file. Fails only with `NoMemory`.
     pub fn group_handle(&self, group: Group) -> Result<Digest, Refusal>
         ensures value { IfOk result (λ d. d ≡ handle self.now (Principal.Group group)) }
         ensures refused { IfErr result (λ e. e ≡ NoMemory) }
