@@ -43,7 +43,8 @@ pub trait BlockSource {
         // It may give the item as well from now on, and no other that it might not give before.
         ensures more { (s : List ℕ) → may_give self.new s → may_give self.old s ⊎ (s ≡ item.now) }
         ensures err { OnErr result ((s : List ℕ) → may_give self.new s → may_give self.old s) }
-        ensures counted { failed self.new ≡ failures_after result (sha256 item.now) (failed self.old) };
+        ensures counted { failed self.new
+            ≡ failures_after result (sha256 item.now) (failed self.old) };
 
     /// Returns how many calls have failed: were answered `MissingBlock`, `WrongBlock` or
     /// `SourceFailed`. At its last value it stays.

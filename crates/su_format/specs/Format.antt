@@ -14,7 +14,8 @@ pub record Format (A : Type 0) : Type 1 where
 unfoldable pub part : {A : Type 0} → (A → Type 0) → (A → List ℕ) → Format A
 part Is spelling = record {
   Begins = λ bytes a rest. Is a × (bytes ≡ spelling a ++ rest);
-  Fails = λ bytes rest. (rest ≡ bytes) × ((a : _) (behind : List ℕ) → Is a → bytes ≡ spelling a ++ behind → ⊥);
+  Fails = λ bytes rest. (rest ≡ bytes)
+      × ((a : _) (behind : List ℕ) → Is a → bytes ≡ spelling a ++ behind → ⊥);
 }
 
 -- no part: the value that the parts before it make
@@ -25,8 +26,10 @@ making a = record { Begins = λ bytes b rest. (b ≡ a) × (rest ≡ bytes); Fai
 infixl 10 ◌>>=◌
 unfoldable pub ◌>>=◌ : {A B : Type 0} → Format A → (A → Format B) → Format B
 f >>= g = record {
-  Begins = λ bytes b rest. (a : _) × (between : List ℕ) × f.Begins bytes a between × (g a).Begins between b rest;
-  Fails = λ bytes rest. f.Fails bytes rest ⊎ ((a : _) × (between : List ℕ) × f.Begins bytes a between × (g a).Fails between rest);
+  Begins = λ bytes b rest.
+      (a : _) × (between : List ℕ) × f.Begins bytes a between × (g a).Begins between b rest;
+  Fails = λ bytes rest. f.Fails bytes rest
+      ⊎ ((a : _) × (between : List ℕ) × f.Begins bytes a between × (g a).Fails between rest);
 }
 
 -- so many values one after another; what a value may be can depend on a number that the one before
@@ -46,9 +49,12 @@ whole f = record {
 -- one spelling for each value, none of which begins another's: bytes begin with at most one value,
 -- and then they don't fail; and they fail at one place
 pub record IsLawful {A : Type 0} (f : Format A) : Type 0 where
-  pub told : (bytes : List ℕ) (a b : A) (rest behind : List ℕ) → f.Begins bytes a rest → f.Begins bytes b behind → (a ≡ b) × (rest ≡ behind)
-  pub apart : (bytes : List ℕ) (a : A) (rest behind : List ℕ) → f.Begins bytes a rest → f.Fails bytes behind → ⊥
-  pub one_place : (bytes rest behind : List ℕ) → f.Fails bytes rest → f.Fails bytes behind → rest ≡ behind
+  pub told : (bytes : List ℕ) (a b : A) (rest behind : List ℕ)
+      → f.Begins bytes a rest → f.Begins bytes b behind → (a ≡ b) × (rest ≡ behind)
+  pub apart : (bytes : List ℕ) (a : A) (rest behind : List ℕ)
+      → f.Begins bytes a rest → f.Fails bytes behind → ⊥
+  pub one_place : (bytes rest behind : List ℕ)
+      → f.Fails bytes rest → f.Fails bytes behind → rest ≡ behind
 
 -- each of these is one that may come at its place
 abbrev pub EachFrom : {A : Type 0} → (ℕ → A → Type 0) → (A → ℕ) → ℕ → List A → Type 0
@@ -57,5 +63,7 @@ EachFrom Is leaves s (a ∷ more) = Is s a × EachFrom Is leaves (leaves a) more
 
 -- the format of these values, of which each has this spelling
 pub record IsFormatOf {A : Type 0} (f : Format A) (Is : A → Type 0) (spelling : A → List ℕ) : Type 0 where
-  pub spelled : (bytes : List ℕ) (a : A) (rest : List ℕ) → f.Begins bytes a rest → Is a × (bytes ≡ spelling a ++ rest)
-  pub begins : (bytes : List ℕ) (a : A) (rest : List ℕ) → Is a → bytes ≡ spelling a ++ rest → f.Begins bytes a rest
+  pub spelled : (bytes : List ℕ) (a : A) (rest : List ℕ)
+      → f.Begins bytes a rest → Is a × (bytes ≡ spelling a ++ rest)
+  pub begins : (bytes : List ℕ) (a : A) (rest : List ℕ)
+      → Is a → bytes ≡ spelling a ++ rest → f.Begins bytes a rest

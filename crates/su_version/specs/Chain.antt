@@ -71,7 +71,8 @@ pub record IsSignedByAuthor (ro : Membership) (c : Commit) : Type 0 where
 -- and of these groups one higher
 pub record CountsOn (ro : Membership) (vector : List ℕ) (c : Commit) : Type 0 where
   pub groups : AllByRecursion (λ g. has_number ro.groups g.0 ≡ true) c.version.groups
-  pub vector_is : c.version.vector ≡ bump ro vector c.version.author (map (λ g. g.0) c.version.groups)
+  pub vector_is : c.version.vector
+      ≡ bump ro vector c.version.author (map (λ g. g.0) c.version.groups)
 
 -- its leaf is above the author's last one
 abbrev pub IsNewLeaf : Option ℕ → ℕ → Type 0
@@ -116,5 +117,7 @@ abbrev pub IsRefusedSo : Membership → Tip → Commit → Refusal → Type 0
 IsRefusedSo ro t c e =
     ((e ≡ BadSignature) × (IsSignedByAuthor ro c → ⊥))
     ⊎ ((e ≡ WrongPrev t.number) × IsSignedByAuthor ro c × (c.version.prev ≢ t.head))
-    ⊎ ((e ≡ WrongVector) × IsSignedByAuthor ro c × (c.version.prev ≡ t.head) × (CountsOn ro t.vector c → ⊥))
-    ⊎ ((e ≡ KeyReuse) × IsSignedByAuthor ro c × (c.version.prev ≡ t.head) × CountsOn ro t.vector c × (IsNewLeaf t.leaf (leaf_of c.signature) → ⊥))
+    ⊎ ((e ≡ WrongVector) × IsSignedByAuthor ro c × (c.version.prev ≡ t.head)
+    × (CountsOn ro t.vector c → ⊥))
+    ⊎ ((e ≡ KeyReuse) × IsSignedByAuthor ro c × (c.version.prev ≡ t.head)
+    × CountsOn ro t.vector c × (IsNewLeaf t.leaf (leaf_of c.signature) → ⊥))

@@ -25,7 +25,8 @@ pub record IsFirstUnordered (vs : List (List ℕ)) (i j : ℕ) : Type 0 where
   pub in_order : i < j
   pub within : j < length vs
   pub unordered : AreComparable vs i j → ⊥
-  pub first : (a b : ℕ) → a < b → b < length vs → (a < i) ⊎ ((a ≡ i) × (b < j)) → AreComparable vs a b
+  pub first : (a b : ℕ) → a < b → b < length vs
+      → (a < i) ⊎ ((a ≡ i) × (b < j)) → AreComparable vs a b
 
 -- the vector at i is at most that at j, and of equal ones i is the earlier position
 abbrev pub ComesBefore : List (List ℕ) → ℕ → ℕ → Type 0
@@ -44,4 +45,5 @@ pub record IsOrder (vs : List (List ℕ)) (order : List ℕ) : Type 0 where
 -- how many of these positions, from the front, have a vector that is at most that of p
 abbrev pub place_in : List (List ℕ) → List ℕ → ℕ → ℕ
 place_in vs [] p = 0
-place_in vs (q ∷ others) p = cond (le (vector_at vs q) (vector_at vs p)) (suc (place_in vs others p)) 0
+place_in vs (q ∷ others) p =
+    cond (le (vector_at vs q) (vector_at vs p)) (suc (place_in vs others p)) 0

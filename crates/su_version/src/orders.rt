@@ -32,7 +32,8 @@ pub fn order_of(alloc: Global, versions: &[VersionStructure]) -> Result<Vec<usiz
 fn is_at_most(versions: &[VersionStructure], i: usize, j: usize) -> bool
     requires first { i < length versions.now }
     requires second { j < length versions.now }
-    ensures { result ≡ le (vector_at (vectors_of versions.now) i) (vector_at (vectors_of versions.now) j) }
+    ensures { let vectors = vectors_of versions.now in
+        result ≡ le (vector_at vectors i) (vector_at vectors j) }
 {
     versions[i].vector().le(versions[j].vector())
 }
