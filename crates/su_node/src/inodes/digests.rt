@@ -10,7 +10,8 @@ use su_bytes::{Digest, Kind, Refusal};
 use su_tree::TreeValue;
 
 impl Inode {
-    /// Computes the digest of the inode from nothing. Fails only with `NoMemory`.
+    /// Returns the digest of the inode; that of a file's blocks is computed from nothing. Fails only
+    /// with `NoMemory`.
     pub fn digest(&self) -> Result<Digest, Refusal>
         ensures value { IfOk result (λ d. d ≡ inode_digest self.now) }
         ensures refused { IfErr result (λ e. e ≡ NoMemory) }
