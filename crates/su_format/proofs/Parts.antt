@@ -6,7 +6,7 @@ use Rattle.std.proofs.lemmas.List.{take_at, drop_at}
 use Rattle.std.proofs.lemmas.Bool.{and_parts, or_parts, not-true, leb-true, ltb-false}
 use Rattle.std.specs.Cmp.{first_so}
 use Rattle.su_bytes.specs.Principal.{is_user, is_group, is_principal}
-use Rattle.su_bytes.specs.FileId.{is_inum, is_file_id}
+use Rattle.su_bytes.specs.FileId.{is_inum, is_file_id, file_id_bytes}
 use Rattle.su_bytes.specs.Name.{is_name}
 use Rattle.su_bytes.specs.declared.principals.Principal.{Principal}
 use Rattle.su_bytes.specs.declared.principals.Principal.TheVariants as principal
@@ -15,7 +15,7 @@ use Rattle.su_bytes.specs.declared.file_ids.FileId.TheVariants as file
 use Rattle.su_bytes.specs.declared.file_ids.Kind.{Kind}
 use Rattle.su_bytes.specs.declared.file_ids.Kind.TheVariants.{File, Dir}
 use Rattle.su_format.specs.Format.{part, IsLawful}
-use Rattle.su_format.specs.Part.{u8_bytes, u16_bytes, u32_bytes, u64_bytes, principal_bytes, file_id_bytes, name_bytes, kind_bytes, AnyKind, u8_part, u16_part, u32_part, u64_part, bytes_part, digest_part, mark_part, user_part, group_part, inum_part, principal_part, file_id_part, name_part, kind_part}
+use Rattle.su_format.specs.Part.{u8_bytes, u16_bytes, u32_bytes, u64_bytes, principal_bytes, name_bytes, kind_bytes, AnyKind, u8_part, u16_part, u32_part, u64_part, bytes_part, digest_part, mark_part, user_part, group_part, inum_part, principal_part, file_id_part, name_part, kind_part}
 use Rattle.su_format.specs.Reading.{Reading, Took, Takes}
 use Rattle.su_format.proofs.Formats.{part_lawful, another, too_short, missing}
 use Rattle.su_bytes.specs.declared.refusals.Refusal.{Refusal}

@@ -2,12 +2,11 @@
 use Rattle.std.specs.Prelude.{◌≡◌, ℕ, ◌<◌, ◌^◌, true, List, [], ◌∷◌, length}
 use Rattle.std.specs.Int.{w16, w32, w64, to_be_bytes}
 use Rattle.su_bytes.specs.Principal.{is_user, is_group, is_principal}
-use Rattle.su_bytes.specs.FileId.{is_inum, is_file_id}
+use Rattle.su_bytes.specs.FileId.{is_inum, is_file_id, file_id_bytes}
 use Rattle.su_bytes.specs.Name.{is_name}
 use Rattle.su_bytes.specs.declared.principals.Principal.{Principal}
 use Rattle.su_bytes.specs.declared.principals.Principal.TheVariants as principal
 use Rattle.su_bytes.specs.declared.file_ids.FileId.{FileId}
-use Rattle.su_bytes.specs.declared.file_ids.FileId.TheVariants as file
 use Rattle.su_bytes.specs.declared.file_ids.Kind.{Kind}
 use Rattle.su_bytes.specs.declared.file_ids.Kind.TheVariants.{File, Dir}
 use Rattle.su_format.specs.Format.{Format, part}
@@ -68,12 +67,7 @@ principal_bytes (principal.Group g) = 1 ∷ g ∷ []
 unfoldable pub principal_part : Format Principal
 principal_part = part (λ p. is_principal p ≡ true) principal_bytes
 
--- 0 for a user's file and 1 for a group's, the user or group, and the number in the i-table: six
--- bytes
-abbrev pub file_id_bytes : FileId → List ℕ
-file_id_bytes (file.User u i) = 0 ∷ (u ∷ u32_bytes i)
-file_id_bytes (file.Group g k) = 1 ∷ (g ∷ u32_bytes k)
-
+-- a file id: six bytes
 unfoldable pub file_id_part : Format FileId
 file_id_part = part (λ f. is_file_id f ≡ true) file_id_bytes
 

@@ -1,8 +1,8 @@
 // Bytes are read part by part.
 ghost use Rattle.std.specs.Prelude.{◌≡◌, ◌≢◌, ◌⊎◌, ◌<◌, ◌≤◌, ◌^◌, IfOk, IfErr, OnOk, OnErr, IfSome, IfNone, [], length, true};
-ghost use Rattle.su_format.specs.Part.{u8_part, u16_part, u32_part, u64_part, bytes_part, digest_part, mark_part, user_part, group_part, inum_part, principal_part, file_id_part, name_part, kind_part, principal_bytes, file_id_bytes, kind_bytes};
+ghost use Rattle.su_format.specs.Part.{u8_part, u16_part, u32_part, u64_part, bytes_part, digest_part, mark_part, user_part, group_part, inum_part, principal_part, file_id_part, name_part, kind_part, principal_bytes, kind_bytes};
 ghost use Rattle.su_bytes.specs.Principal.{is_principal};
-ghost use Rattle.su_bytes.specs.FileId.{is_file_id};
+ghost use Rattle.su_bytes.specs.FileId.{is_file_id, file_id_bytes};
 ghost use Rattle.su_bytes.specs.declared.principals.Principal.{Principal as Principal_};
 ghost use Rattle.su_bytes.specs.declared.file_ids.FileId.{FileId as FileId_};
 ghost use Rattle.su_bytes.specs.declared.file_ids.Kind.{Kind as Kind_};

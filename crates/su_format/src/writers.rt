@@ -1,13 +1,17 @@
 // Bytes are written part by part.
-ghost use Rattle.std.specs.Prelude.{◌≡◌, ◌++◌, IfOk, OnOk, OnErr, []};
-ghost use Rattle.su_format.specs.Part.{u8_bytes, u16_bytes, u32_bytes, u64_bytes, principal_bytes, file_id_bytes, name_bytes, kind_bytes};
+ghost use Rattle.std.specs.Prelude.{◌≡◌, ◌++◌, IfOk, OnOk, OnErr, [], true};
+ghost use Rattle.su_bytes.specs.Principal.{is_user, is_group, is_principal};
+ghost use Rattle.su_bytes.specs.FileId.{is_inum, is_file_id, file_id_bytes};
+ghost use Rattle.su_bytes.specs.Name.{is_name};
+ghost use Rattle.su_format.specs.Part.{u8_bytes, u16_bytes, u32_bytes, u64_bytes, principal_bytes, name_bytes, kind_bytes};
 
 use std::alloc::{AllocError, Global};
 use std::marker::Model;
 use su_bytes::{Digest, FileId, Group, Inum, Kind, Name, Principal, User};
 
 /// Writes values one behind another. Its model is the bytes that it has. Each `put` fails only
-/// where there is no room, and then nothing is added.
+/// where there is no room, and then nothing is added. What it is passed is a value that a reader
+/// takes (`meant`).
 #[derive(Debug, Drop)]
 pub struct Writer {
     bytes: Vec<u8>,
@@ -90,6 +94,7 @@ impl Writer {
     pub fn put_user(&mut self, user: User) -> Result<(), AllocError>
         ensures ok { OnOk result (self.new ≡ self.old ++ u8_bytes user) }
         ensures err { OnErr result (self.new ≡ self.old) }
+        ensures meant { is_user user ≡ true }
     {
         self.put_u8(user.number())
     }
@@ -98,6 +103,7 @@ impl Writer {
     pub fn put_group(&mut self, group: Group) -> Result<(), AllocError>
         ensures ok { OnOk result (self.new ≡ self.old ++ u8_bytes group) }
         ensures err { OnErr result (self.new ≡ self.old) }
+        ensures meant { is_group group ≡ true }
     {
         self.put_u8(group.number())
     }
@@ -106,6 +112,7 @@ impl Writer {
     pub fn put_inum(&mut self, inum: Inum) -> Result<(), AllocError>
         ensures ok { OnOk result (self.new ≡ self.old ++ u32_bytes inum) }
         ensures err { OnErr result (self.new ≡ self.old) }
+        ensures meant { is_inum inum ≡ true }
     {
         self.put_u32(inum.number())
     }
@@ -114,6 +121,7 @@ impl Writer {
     pub fn put_principal(&mut self, principal: Principal) -> Result<(), AllocError>
         ensures ok { OnOk result (self.new ≡ self.old ++ principal_bytes principal) }
         ensures err { OnErr result (self.new ≡ self.old) }
+        ensures meant { is_principal principal ≡ true }
     {
         let bytes = match principal {
             Principal::User(user) => [0, user.number()],
@@ -126,6 +134,7 @@ impl Writer {
     pub fn put_file_id(&mut self, file: FileId) -> Result<(), AllocError>
         ensures ok { OnOk result (self.new ≡ self.old ++ file_id_bytes file) }
         ensures err { OnErr result (self.new ≡ self.old) }
+        ensures meant { is_file_id file ≡ true }
     {
         let (kind, principal, number) = match file {
             FileId::User(user, number) => (0, user.number(), number.number()),
@@ -139,6 +148,7 @@ impl Writer {
     pub fn put_name(&mut self, name: &Name) -> Result<(), AllocError>
         ensures ok { OnOk result (self.new ≡ self.old ++ name_bytes name.now) }
         ensures err { OnErr result (self.new ≡ self.old) }
+        ensures meant { is_name name.now ≡ true }
     {
         let bytes = name.as_bytes();
         let end = 1 + bytes.len();

@@ -1,9 +1,9 @@
 // Values of hash trees.
 ghost use Rattle.std.specs.Prelude.{◌≡◌, ℕ, Bool, List, ◌++◌, IsTrue};
 ghost use Rattle.sha2.specs.Hashers.{Holds256};
-ghost use Rattle.su_bytes.specs.FileId.{is_file_id};
+ghost use Rattle.su_bytes.specs.FileId.{is_file_id, file_id_bytes};
 ghost use Rattle.su_bytes.specs.Place.{is_place};
-ghost use Rattle.su_tree.specs.Value.{is_digest, file_id_bytes, place_bytes};
+ghost use Rattle.su_tree.specs.Value.{is_digest, place_bytes};
 ghost use Rattle.su_tree.specs.Laws.Values as value;
 
 use sha2::{Digest as _, Sha256};

@@ -1,6 +1,6 @@
 use Rattle.std.proofs.Common.{◌≡◌, true}
-use Rattle.su_bytes.specs.FileId.{is_file_id}
-use Rattle.su_format.specs.Part.{file_id_part, file_id_bytes}
+use Rattle.su_bytes.specs.FileId.{is_file_id, file_id_bytes}
+use Rattle.su_format.specs.Part.{file_id_part}
 use Rattle.su_format.proofs.Formats.{read_from}
 use Rattle.su_format.proofs.Parts.{none_of_bytes, no_bytes, length-file_id_bytes}
 use Rattle.su_format.proofs.readers.Reader.take_file_id.Goals as goal
