@@ -1,12 +1,12 @@
 -- The bytes of a file, its blocks, and both after a write or a change of size.
-use Rattle.std.proofs.Common.{◌≡◌, ℕ, suc, ◌⊎◌, inl, inr, ◌+◌, ◌-◌, ◌*◌, ◌/◌, ◌<◌, ◌≤◌, Bool, true, false, nat_eq, leb, min, max, List, [], ◌∷◌, ◌++◌, length, take, drop, get_or, set, replicate, refl, sym, ap, ◌∙◌, arith}
+use Rattle.std.proofs.Common.{◌≡◌, ℕ, suc, ◌⊎◌, inl, inr, ◌+◌, ◌-◌, ◌*◌, ◌/◌, ◌<◌, ◌≤◌, Bool, true, false, cond, nat_eq, leb, min, max, List, [], ◌∷◌, ◌++◌, length, take, drop, get_or, set, replicate, refl, sym, ap, ◌∙◌, arith}
 use Rattle.std.specs.List.{concat}
-use Rattle.std.proofs.lemmas.List.{length-take, length-drop, length-append, length-replicate, length-set, get_or-take, get_or-drop, get_or_append_left, get_or-append_right, get_or-replicate, get_or_past, get_or-set_same, get_or-set_other, ext_get_or, take-append-drop, drop_min, take_min, take_at, length_push, get_or_push, get_or_default}
+use Rattle.std.proofs.lemmas.List.{length-take, length-drop, length-append, length-replicate, length-set, get_or-take, get_or-drop, get_or_append_left, get_or-append_right, get_or-replicate, get_or_past, get_or-set_same, get_or-set_other, ext_get_or, take-append-drop, drop_min, take_min, set-append_left, take_at, length_push, get_or_push}
 use Rattle.std.proofs.lemmas.Bool.{leb-true, leb-false}
 use Rattle.std.proofs.Math.Seq.{drop-nil}
 use Rattle.su_node.specs.Field.{block}
 use Rattle.su_node.specs.InodeChange.{with_size, with_bytes_at}
-use Rattle.su_node.specs.Stored.{AreBlocksOf, AreStored, AreZeroBlocks}
+use Rattle.su_node.specs.Stored.{AreBlocksOf, AreStored, AreZeroBlocks, with_padded}
 
 -- ---- blocks
 
@@ -233,6 +233,18 @@ grown_blocks blocks new added bs t are le count zeros is = resized_blocks blocks
         get_or_append_left filled added [] n (omega (arith, filled_long))
         ∙ get_or-set_other blocks (length blocks - 1) n (with_size (min 4096 (t - 4096 * (length blocks - 1))) (get_or blocks (length blocks - 1) [])) [] (λ e. omega (arith, e))
         ∙ resized_same (min 4096 (t - 4096 * n)) (get_or blocks n []) (omega (arith, s))
+
+-- the last of the first blocks filled, with others behind it
+pub padded_before : (t : ℕ) (blocks added : List (List ℕ)) → with_padded (length blocks) t (blocks ++ added)
+    ≡ set blocks (length blocks - 1) (with_size (min 4096 (t - 4096 * (length blocks - 1))) (get_or blocks (length blocks - 1) [])) ++ added
+padded_before t [] added = refl
+padded_before t (b ∷ blocks) added =
+    let n = length (b ∷ blocks) - 1 in
+    let there : n < length (b ∷ blocks) = omega arith in
+    let some : nat_eq (length (b ∷ blocks)) 0 ≡ false = grind arith in
+    ap (λ none. cond none ((b ∷ blocks) ++ added) (set ((b ∷ blocks) ++ added) n (with_size (min 4096 (t - 4096 * n)) (get_or ((b ∷ blocks) ++ added) n [])))) some
+    ∙ ap (λ x. set ((b ∷ blocks) ++ added) n (with_size (min 4096 (t - 4096 * n)) x)) (get_or_append_left (b ∷ blocks) added [] n there)
+    ∙ set-append_left (b ∷ blocks) added n (with_size (min 4096 (t - 4096 * n)) (get_or (b ∷ blocks) n [])) there
 
 -- ---- bytes written
 
@@ -540,9 +552,9 @@ read_all bs off len start count start_is count_is =
 
 -- ---- blocks cut
 
-pub cut_is : (blocks kept : List (List ℕ)) (bs : List ℕ) (t c : ℕ) (x y : List ℕ) → AreBlocksOf blocks bs → t ≤ length bs → c ≡ (t + 4095) / 4096 → kept ≡ take c blocks → 0 < c
-    → x ≡ get_or kept (c - 1) x → y ≡ take (t - (c - 1) * 4096) x → AreBlocksOf (set kept (c - 1) y) (with_size t bs)
-cut_is blocks kept bs t c x y are le c_is kept_is some x_is y_is = cut_blocks blocks (set kept (c - 1) y) bs t are le (length-set kept (c - 1) y ∙ long ∙ c_is) same last
+pub cut_is : (blocks kept : List (List ℕ)) (bs : List ℕ) (t c : ℕ) (y : List ℕ) → AreBlocksOf blocks bs → t ≤ length bs → c ≡ (t + 4095) / 4096 → kept ≡ take c blocks → 0 < c
+    → y ≡ take (t - (c - 1) * 4096) (get_or kept (c - 1) []) → AreBlocksOf (set kept (c - 1) y) (with_size t bs)
+cut_is blocks kept bs t c y are le c_is kept_is some y_is = cut_blocks blocks (set kept (c - 1) y) bs t are le (length-set kept (c - 1) y ∙ long ∙ c_is) same last
   where
     long : length kept ≡ c
     long = let l = length-take c blocks in let m = count_is blocks bs are in ap length kept_is ∙ omega (arith, l, m, c_is, le)
@@ -558,7 +570,7 @@ cut_is blocks kept bs t c x y are le c_is kept_is some x_is y_is = cut_blocks bl
         let at : n ≡ c - 1 = omega (arith, e, l, long) in
         let k : t - (c - 1) * 4096 ≡ t - 4096 * n = omega (arith, at) in
         ap (λ j. get_or (set kept (c - 1) y) j []) at ∙ get_or-set_same kept (c - 1) y [] (omega (arith, long, some))
-        ∙ y_is ∙ (λ i. take (k i) (x_is i)) ∙ ap (take (t - 4096 * n)) (get_or_default kept (c - 1) x [] (omega (arith, long, some)) ∙ ap (λ j. get_or kept j []) (sym at) ∙ ap (λ xs. get_or xs n []) kept_is
+        ∙ y_is ∙ ap (λ m. take m (get_or kept (c - 1) [])) k ∙ ap (take (t - 4096 * n)) (ap (λ j. get_or kept j []) (sym at) ∙ ap (λ xs. get_or xs n []) kept_is
         ∙ get_or-take c blocks n [] (omega (arith, at, some)))
 
 pub cut_to_none : (blocks kept : List (List ℕ)) (bs : List ℕ) (t c : ℕ) → AreBlocksOf blocks bs → t ≤ length bs → c ≡ (t + 4095) / 4096 → kept ≡ take c blocks → c ≤ 0 → AreBlocksOf kept (with_size t bs)

@@ -3,4 +3,5 @@ pub mod NameOrder
 pub mod Names
 pub mod Contents
 pub mod Numbered
+pub mod Hashed
 pub mod Public

@@ -5,12 +5,12 @@ use Rattle.std.specs.Int.{w32, to_be_bytes}
 use Rattle.std.specs.List.{range_with_len}
 use Rattle.std.specs.FinMap.{entries}
 use Rattle.sha2.specs.Sha256.{sha256}
+use Rattle.su_bytes.specs.FileId.{file_id_bytes}
 use Rattle.su_bytes.specs.declared.file_ids.Kind.{Kind}
 use Rattle.su_bytes.specs.declared.file_ids.Kind.TheVariants.{File, Dir}
 use Rattle.su_tree.specs.Digest.{digest}
 use Rattle.su_tree.specs.Number.{numbers}
 use Rattle.su_tree.specs.Name.{names}
-use Rattle.su_tree.specs.Value.{file_id_bytes}
 use Rattle.su_node.specs.Inode.{Inode, Content, Content.Bytes, Content.Names, kind_of, size_of}
 use Rattle.su_node.specs.declared.blocks.TheConstants.{BLOCK_SIZE}
 use Rattle.su_node.specs.Field.{block}

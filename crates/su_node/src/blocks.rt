@@ -1,86 +1,27 @@
 // The bytes of a file, in blocks.
-ghost use Rattle.std.specs.Prelude.{◌≡◌, ◌+◌, ◌-◌, ◌*◌, ◌/◌, ◌<◌, ◌≤◌, ◌^◌, [], IfOk, IsOk, OnOk, OnErr, length, min, take, slice_set, slice_index_or, vec_capacity};
+ghost use Rattle.std.specs.Prelude.{◌≡◌, ◌+◌, ◌-◌, ◌*◌, ◌<◌, ◌≤◌, ◌^◌, [], IfOk, IsOk, OnOk, OnErr, length};
 ghost use Rattle.su_node.specs.InodeChange.{with_size, with_bytes_at};
 ghost use Rattle.su_node.specs.Inode.{within};
-ghost use Rattle.su_node.specs.Digest.{block_count};
-ghost use Rattle.su_node.specs.Stored.{AreZeroBlocks, with_last_padded};
+ghost use Rattle.su_node.specs.Digest.{block_count, block_digests};
+ghost use Rattle.su_node.specs.Stored.{AreZeroBlocks, with_padded};
+ghost use Rattle.su_tree.specs.Digest.{digest};
+ghost use Rattle.su_tree.specs.Number.{numbers};
 
-mod digests;
+mod hashed;
 
+use self::hashed::{Block, HashedBlocks};
 use std::alloc::{AllocError, Global};
 use std::marker::Model;
+use su_bytes::Digest;
 
 /// Bytes of each block of a file but the last.
 pub const BLOCK_SIZE: usize = 4096;
 
-/// A block of a file.
-#[derive(Drop)]
-struct Block {
-    bytes: Vec<u8>,
-}
-
-impl Model for Block {
-    ghost use Rattle.std.specs.Prelude.{ℕ, List};
-
-    ghost Value = { List ℕ };
-
-    ghost view = { λ b. b.bytes.items };
-}
-
-impl Block {
-    /// Makes a block of zeros.
-    fn zeros(alloc: Global, size: usize) -> Result<Block, AllocError>
-        ensures value { IfOk result (λ block. block ≡ with_size size []) }
-    {
-        let mut bytes = Vec::with_capacity(alloc, size)?;
-        bytes.resize(size, 0)?;
-        Ok(Block { bytes })
-    }
-
-    fn as_slice(&self) -> &[u8]
-        ensures { result.now ≡ self.now }
-    {
-        self.bytes.as_slice()
-    }
-
-    /// Copies the block.
-    fn copy(&self, alloc: Global) -> Result<Block, AllocError>
-        ensures value { IfOk result (λ copy. copy ≡ self.now) }
-    {
-        let bytes = Vec::from_slice(alloc, self.bytes.as_slice())?;
-        Ok(Block { bytes })
-    }
-
-    /// Cuts the block, or fills it with zeros up to a size. Where there is no memory, it changes
-    /// nothing.
-    fn resize(&mut self, size: usize) -> Result<(), AllocError>
-        ensures ok { OnOk result (self.new ≡ with_size size self.old) }
-        ensures err { OnErr result (self.new ≡ self.old) }
-    {
-        self.bytes.resize(size, 0)?;
-        Ok(())
-    }
-
-    /// The first bytes alone.
-    fn cut(&mut self, size: usize)
-        ensures { self.new ≡ take size self.old }
-    {
-        self.bytes.truncate(size);
-    }
-
-    /// These bytes in place of those that stand there.
-    fn overwrite(&mut self, start: usize, bytes: &[u8])
-        requires { start + length bytes.now ≤ length self.old }
-        ensures { self.new ≡ with_bytes_at start bytes.now self.old }
-    {
-        self.bytes[start..start + bytes.len()].copy_from_slice(bytes);
-    }
-}
-
-/// The bytes of a file, in blocks of 4,096 bytes: each is full but the last, and none is empty.
+/// The bytes of a file, in blocks of 4,096 bytes: each is full but the last, and none is empty. The
+/// blocks keep the tree of their digests.
 #[derive(Drop)]
 pub(crate) struct Blocks {
-    blocks: Vec<Block>,
+    blocks: HashedBlocks,
     size: u32,
     alloc: Global,
 }
@@ -92,9 +33,9 @@ impl Model for Blocks {
 
     ghost Value = { List ℕ };
 
-    ghost view = { λ b. concat b.blocks.items };
+    ghost view = { λ b. concat b.blocks };
 
-    ghost invariant = { λ b. AreStored b.blocks.items b.size };
+    ghost invariant = { λ b. AreStored b.blocks b.size };
 }
 
 impl Blocks {
@@ -103,7 +44,7 @@ impl Blocks {
         ensures { result ≡ [] }
     {
         Blocks {
-            blocks: Vec::new(alloc),
+            blocks: HashedBlocks::new(alloc),
             size: 0,
             alloc,
         }
@@ -132,7 +73,7 @@ impl Blocks {
         let end = start + (len as usize).min(size - start);
         let mut bytes = Vec::with_capacity(self.alloc, end - start)?;
         for number in start / BLOCK_SIZE..count_for(end) {
-            let block = self.blocks[number].as_slice();
+            let block = self.blocks.get(number);
             let first = start.max(number * BLOCK_SIZE) - number * BLOCK_SIZE;
             let last = end.min(number * BLOCK_SIZE + block.len()) - number * BLOCK_SIZE;
             let part = &block[first..last];
@@ -145,12 +86,8 @@ impl Blocks {
     pub(crate) fn copy(&self) -> Result<Blocks, AllocError>
         ensures value { IfOk result (λ copy. copy ≡ self.now) }
     {
-        let mut blocks = Vec::with_capacity(self.alloc, self.blocks.len())?;
-        for block in &self.blocks {
-            blocks.push(block.copy(self.alloc)?)?;
-        }
         Ok(Blocks {
-            blocks,
+            blocks: self.blocks.copy(self.alloc)?,
             size: self.size,
             alloc: self.alloc,
         })
@@ -195,23 +132,34 @@ impl Blocks {
         let count = count_for(size as usize);
         self.blocks.truncate(count);
         if 0 < count {
-            self.blocks[count - 1].cut(size as usize - (count - 1) * BLOCK_SIZE);
+            let last = size as usize - (count - 1) * BLOCK_SIZE;
+            self.blocks.cut(count - 1, last);
         }
         self.size = size;
     }
 
-    /// Adds zeros up to a size. All room is taken before the first change.
+    /// Adds zeros up to a size. Where there is no memory, it changes nothing.
     fn grow(&mut self, size: u32) -> Result<(), AllocError>
         requires { length self.old ≤ size }
         ensures ok { OnOk result (self.new ≡ with_size size self.old) }
         ensures err { OnErr result (self.new ≡ self.old) }
     {
-        let mut added = zero_blocks(self.alloc, self.blocks.len(), size as usize)?;
-        self.blocks.reserve(added.len())?;
-        pad_last(&mut self.blocks, size as usize)?;
-        self.blocks.append(&mut added)?;
+        let count = self.blocks.len();
+        let added = zero_blocks(self.alloc, count, size as usize)?;
+        self.blocks.append(added)?;
+        if let Err(refused) = pad(&mut self.blocks, count, size as usize) {
+            self.blocks.truncate(count);
+            return Err(refused);
+        }
         self.size = size;
         Ok(())
+    }
+
+    /// Returns the digest of the blocks by their numbers. It makes no hash.
+    pub(crate) fn digest(&self) -> Digest
+        ensures { result ≡ digest (numbers (λ d. d)) (block_digests self.now) }
+    {
+        self.blocks.digest()
     }
 
     /// Writes bytes over those from an offset on.
@@ -226,7 +174,8 @@ impl Blocks {
             let first = off.max(number * BLOCK_SIZE);
             let last = end_.min((number + 1) * BLOCK_SIZE);
             let part = &bytes[first - off..last - off];
-            self.blocks[number].overwrite(first - number * BLOCK_SIZE, part);
+            self.blocks
+                .overwrite(number, first - number * BLOCK_SIZE, part);
         }
     }
 }
@@ -253,17 +202,17 @@ fn zero_blocks(alloc: Global, first: usize, size: usize) -> Result<Vec<Block>, A
     Ok(added)
 }
 
-/// Zeros behind the last block, if there is one, up to where it is full or the file has that size.
-fn pad_last(blocks: &mut Vec<Block>, size: usize) -> Result<(), AllocError>
-    requires { BLOCK_SIZE * (length blocks.old.items - 1) ≤ size }
-    ensures ok { OnOk result (blocks.new.items ≡ with_last_padded size blocks.old.items) }
-    ensures room { vec_capacity blocks.new ≡ vec_capacity blocks.old }
-    ensures err { OnErr result (blocks.new.items ≡ blocks.old.items) }
+/// Fills the last of the first blocks, if there is one, with zeros up to where it is full or the
+/// file has that size. Where there is no memory, it changes nothing.
+fn pad(blocks: &mut HashedBlocks, count: usize, size: usize) -> Result<(), AllocError>
+    requires there { count ≤ length blocks.old }
+    requires within { BLOCK_SIZE * (count - 1) ≤ size }
+    ensures ok { OnOk result (blocks.new ≡ with_padded count size blocks.old) }
+    ensures err { OnErr result (blocks.new ≡ blocks.old) }
 {
-    let count = blocks.len();
     if 0 < count {
         let last = BLOCK_SIZE.min(size - (count - 1) * BLOCK_SIZE);
-        blocks[count - 1].resize(last)?;
+        blocks.resize(count - 1, last)?;
     }
     Ok(())
 }

@@ -1,6 +1,6 @@
 pub mod Places
 pub mod Stores
 pub mod TakenBack
-pub mod Tables
 pub mod TableEdits
+pub mod KeptTables
 pub mod Public

@@ -1,12 +1,12 @@
 -- What std's maps hold and how they change, as the tree sees it.
-use Rattle.std.proofs.Common.{◌≡◌, ◌∙◌, sym, refl, ap, ℕ, nat_eq, arith, not, ◌&&◌, cond, List, [], ◌∷◌, Option, Some, None, Result, Ok, Err, IfOk, IfErr, OnErr, ◌⊎◌, inr}
+use Rattle.std.proofs.Common.{◌≡◌, ◌∙◌, sym, refl, ap, ℕ, nat_eq, arith, not, ◌&&◌, cond, List, Option, Some, None, Result, Ok, Err, IfOk, IfErr, OnErr, ◌⊎◌, inr}
 use Rattle.std.specs.declared.cmp.Ordering.{Ordering}
 use Rattle.std.specs.declared.cmp.Ordering.TheVariants.{Less, Equal, Greater}
 use Rattle.std.specs.Ordering.{is_eq, nat_cmp, ordering_then}
 use Rattle.std.specs.Map.{lookup}
 use Rattle.std.specs.BTreeMap.{is_at}
 use Rattle.std.specs.Option.{is_some, option_eq, ok_or, option_map}
-use Rattle.std.specs.FinMap.{FinMap, get, empty, insert, from_entries}
+use Rattle.std.specs.FinMap.{FinMap, get, empty, from_entries}
 use Rattle.su_bytes.specs.declared.file_ids.FileId.{FileId}
 use Rattle.su_bytes.specs.declared.file_ids.FileId.TheVariants.{User, Group}
 use Rattle.su_bytes.specs.declared.file_ids.Kind.TheVariants.{Dir}
@@ -18,7 +18,7 @@ use Rattle.su_table.specs.Tree.{Tree, genesis}
 use Rattle.su_node.specs.Field.{Field, Field.KindOf, field_value, file_value}
 use Rattle.su_table.specs.Cell.{Cell.At, Cell.Pointer, place_value, val}
 use Rattle.su_table.specs.Query.{is_nothing, is_link_to, pointer_body, body, standing_at, standing, part}
-use Rattle.su_node.specs.InodeChange.{InodeChange, inode_after, set_key}
+use Rattle.su_node.specs.InodeChange.{InodeChange, InodeChange.Copied, inode_after, set_key}
 use Rattle.su_table.specs.Edit.{Edit.Inodes, Edit.Pointers, edit}
 use Rattle.su_node.proofs.Public.{from_entries-updates, get-from_entries_lookup, set_key-get}
 use Rattle.su_table.proofs.Places.{place_cmp_total, place_cmp_exact}
@@ -111,13 +111,10 @@ edit-Pointers n es fs T is g v h =
 
 -- ---- the tree before the first operation
 
-pub genesis-made : (es : List (Place × Inode)) (fs : List (Place × Place)) (root : Inode) → es ≡ ((0, 1), root) ∷ [] → fs ≡ ((0, 1), (0, 1)) ∷ []
-    → root ≡ new_inode (Group 0 1) Dir → record { inodes = from_entries es; pointers = from_entries fs } ≡ genesis
-unfolding genesis
-genesis-made es fs root es_is fs_is root_is =
-    let a : from_entries {R = place_cmp} es ≡ insert empty (0, 1) (new_inode (Group 0 1) Dir) = ap from_entries (es_is ∙ (λ i. ((0, 1), root_is i) ∷ [])) in
-    let b : from_entries {R = place_cmp} fs ≡ insert empty (0, 1) (0, 1) = ap from_entries fs_is in
-    λ i. record { inodes = a i; pointers = b i }
+pub genesis-made : (T U V : Tree) (root : Inode) → T ≡ record { inodes = empty; pointers = empty } → U ≡ edit T (Inodes (0, 1) (Copied root))
+    → V ≡ edit U (Pointers (0, 1) (Some (0, 1))) → root ≡ new_inode (Group 0 1) Dir → V ≡ genesis
+unfolding genesis edit
+genesis-made T U V root bare placed pointed is = pointed ∙ ap (λ (t : Tree). edit t (Pointers (0, 1) (Some (0, 1)))) (placed ∙ (λ i. edit (bare i) (Inodes (0, 1) (Copied (is i)))))
 
 -- ---- what stands for a file
 

@@ -5,3 +5,4 @@ pub mod Edit
 pub mod Code
 pub mod Handle
 pub mod Table
+pub mod Kept

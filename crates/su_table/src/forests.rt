@@ -1,26 +1,32 @@
 // All i-tables together, what is asked of them, and how they change.
 ghost use Rattle.std.specs.Prelude.{◌≡◌, ◌⊎◌, ◌+◌, ◌<◌, ◌≤◌, ◌^◌, true, length, Some, None, Ok, Err, IsOk, IfOk, IfErr, OnOk, OnErr, option_copied};
-ghost use Rattle.std.specs.FinMap.{get};
+ghost use Rattle.std.specs.FinMap.{get, empty};
 ghost use Rattle.su_node.specs.InodeChange.{InodeChange.Named, InodeChange.Linked, InodeChange.Written, InodeChange.Resized, InodeChange.Copied, InodeChange.Gone};
 ghost use Rattle.su_table.specs.Tree.{genesis};
 ghost use Rattle.su_table.specs.Cell.{Cell.Pointer, val};
+ghost use Rattle.su_table.specs.Handle.{handle};
 ghost use Rattle.su_table.specs.Edit.{Edit.Inodes, Edit.Pointers, edit};
 ghost use Rattle.su_table.specs.Query.{is_nothing, body, is_free_at, is_dir_at, is_file_at, links_at, is_bare_at, is_name_free_at, leads_to_at, is_pointer_free, size_at, standing, listing, contents, contents_within};
 ghost use Rattle.su_bytes.specs.declared.refusals.Refusal.TheVariants.{NoMemory};
 
-mod handles;
-
-use std::alloc::Global;
+use crate::tables::Tables;
+use std::alloc::{AllocError, Global};
 use std::collections::BTreeMap;
 use std::marker::Model;
-use su_bytes::{FileId, Group, GroupFile, Inum, Kind, Name, Place, Refusal, Roster, User};
+use su_bytes::{
+    Digest, FileId, Group, GroupFile, Inum, Kind, Name, Place, Principal, Refusal, Roster, User,
+};
 use su_node::Inode;
 
-/// All i-tables of a store. Its model is the plain tree that they make.
+/// All i-tables of a store. Its model is the plain tree that they make. Beside the inodes it keeps
+/// the table of each user, from i-numbers to the digests of inodes, and beside the pointers that of
+/// each group, all with their digests: so an edit hashes what it changes, and a handle is at hand.
 #[derive(Drop)]
 pub struct Forest {
     inodes: BTreeMap<Place, Inode>,
+    digests: Tables<Digest>,
     pointers: BTreeMap<GroupFile, Place>,
+    bodies: Tables<Place>,
     alloc: Global,
 }
 
@@ -34,24 +40,41 @@ impl Model for Forest {
     ghost coded = { tree_code };
 
     ghost view = { λ f. record { inodes = from_entries f.inodes.entries; pointers = from_entries f.pointers.entries } };
+
+    ghost use Rattle.su_bytes.specs.Principal.{is_user, is_group};
+    ghost use Rattle.su_node.specs.Digest.{inode_digest};
+    ghost use Rattle.su_table.specs.Kept.{AreTables, table_in};
+
+    ghost invariant = { λ f.
+        AreTables is_user (table_in inode_digest f.inodes.entries) f.digests
+        × AreTables is_group (table_in (λ place. place) f.pointers.entries) f.bodies };
 }
 
 impl Forest {
     /// Makes the tree before the first operation: the empty root directory of group 0, which stands
-    /// at user 0. It is the same for each roster: later forms of a forest will keep a table for
-    /// each of its users. Fails only with `NoMemory`.
+    /// at user 0. It is the same for each roster: a forest has a table for each user and each group
+    /// that there can be. Fails only with `NoMemory`.
     pub fn genesis(alloc: Global, _roster: &Roster) -> Result<Forest, Refusal>
         ensures value { IfOk result (λ forest. forest ≡ genesis) }
         ensures refused { IfErr result (λ e. e ≡ NoMemory) }
     {
-        let mut inodes = BTreeMap::new(alloc);
-        let mut pointers = BTreeMap::new(alloc);
+        let mut forest = Forest::bare(alloc)?;
         let root = Inode::new(alloc, FileId::ROOT, Kind::Dir);
-        inodes.insert((User::FIRST, Inum::FIRST), root)?;
-        pointers.insert((Group::FIRST, Inum::FIRST), (User::FIRST, Inum::FIRST))?;
+        forest.put_inode((User::FIRST, Inum::FIRST), root)?;
+        forest.put_pointer((Group::FIRST, Inum::FIRST), (User::FIRST, Inum::FIRST))?;
+        Ok(forest)
+    }
+
+    /// Makes a forest with no inode and no pointer.
+    fn bare(alloc: Global) -> Result<Forest, AllocError>
+        ensures { IfOk result (λ forest.
+            forest ≡ record { inodes = empty; pointers = empty }) }
+    {
         Ok(Forest {
-            inodes,
-            pointers,
+            inodes: BTreeMap::new(alloc),
+            digests: Tables::empty(alloc, usize::from(User::LAST.number()) + 1)?,
+            pointers: BTreeMap::new(alloc),
+            bodies: Tables::empty(alloc, usize::from(Group::LAST.number()) + 1)?,
             alloc,
         })
     }
@@ -226,9 +249,33 @@ impl Forest {
         }
         Ok(Forest {
             inodes,
+            digests: self.digests.copy()?,
             pointers,
+            bodies: self.bodies.copy()?,
             alloc: self.alloc,
         })
+    }
+}
+
+/// What stands for all that a principal has. A handle is at hand: no hash is made and no memory is
+/// taken, and so none of these fails.
+impl Forest {
+    /// Returns the i-handle of a user; that of an empty table where the user has no inode.
+    pub fn i_handle(&self, user: User) -> Result<Digest, Refusal>
+        ensures value { IfOk result (λ d. d ≡ handle self.now (Principal.User user)) }
+        ensures refused { IfErr result (λ e. e ≡ NoMemory) }
+        ensures succeeds { IsOk result }
+    {
+        Ok(self.digests.digest(user.number()))
+    }
+
+    /// Returns the i-handle of a group; that of an empty table where the group has no file.
+    pub fn group_handle(&self, group: Group) -> Result<Digest, Refusal>
+        ensures value { IfOk result (λ d. d ≡ handle self.now (Principal.Group group)) }
+        ensures refused { IfErr result (λ e. e ≡ NoMemory) }
+        ensures succeeds { IsOk result }
+    {
+        Ok(self.bodies.digest(group.number()))
     }
 }
 
@@ -243,8 +290,11 @@ impl Forest {
         ensures absent { OnErr result (is_name_free_at self.old place name ≡ true) }
         ensures err { OnErr result (self.new ≡ self.old) }
     {
+        let (user, number) = place;
         if let Some(inode) = self.inodes.get_mut(&place) {
             inode.name_set(name, file)?;
+            let digest = inode.digest();
+            self.digests.set(user.number(), number, digest);
         }
         Ok(())
     }
@@ -253,8 +303,11 @@ impl Forest {
     pub fn remove_name(&mut self, place: Place, name: &Name)
         ensures { self.new ≡ edit self.old (Inodes place (Named name.now None)) }
     {
+        let (user, number) = place;
         if let Some(inode) = self.inodes.get_mut(&place) {
             inode.name_remove(name);
+            let digest = inode.digest();
+            self.digests.set(user.number(), number, digest);
         }
     }
 
@@ -262,8 +315,11 @@ impl Forest {
     pub fn set_links(&mut self, place: Place, links: u8)
         ensures { self.new ≡ edit self.old (Inodes place (Linked links)) }
     {
+        let (user, number) = place;
         if let Some(inode) = self.inodes.get_mut(&place) {
             inode.set_links(links);
+            let digest = inode.digest();
+            self.digests.set(user.number(), number, digest);
         }
     }
 
@@ -277,8 +333,11 @@ impl Forest {
         ensures succeeds { off + length bytes.now ≤ size_at self.old place → IsOk result }
         ensures err { OnErr result (self.new ≡ self.old) }
     {
+        let (user, number) = place;
         if let Some(inode) = self.inodes.get_mut(&place) {
             inode.write_at(off, bytes)?;
+            let written = inode.digest();
+            self.digests.set(user.number(), number, written);
         }
         Ok(())
     }
@@ -292,8 +351,11 @@ impl Forest {
         ensures refused { IfErr result (λ e. e ≡ NoMemory) }
         ensures err { OnErr result (self.new ≡ self.old) }
     {
+        let (user, number) = place;
         if let Some(inode) = self.inodes.get_mut(&place) {
             inode.resize(size)?;
+            let digest = inode.digest();
+            self.digests.set(user.number(), number, digest);
         }
         Ok(())
     }
@@ -306,7 +368,7 @@ impl Forest {
         ensures absent { OnErr result (is_free_at self.old place ≡ true) }
         ensures err { OnErr result (self.new ≡ self.old) }
     {
-        self.inodes.insert(place, inode)?;
+        self.exchange_inode(place, inode)?;
         Ok(())
     }
 
@@ -319,7 +381,13 @@ impl Forest {
         ensures absent { OnErr result (is_free_at self.old place ≡ true) }
         ensures err { OnErr result (self.new ≡ self.old) }
     {
+        let (user, number) = place;
+        let digest = inode.digest();
         let was = self.inodes.insert(place, inode)?;
+        if let Err(refused) = self.digests.put(user.number(), number, digest) {
+            self.inodes.remove(&place);
+            return Err(Refusal::from(refused));
+        }
         Ok(was)
     }
 
@@ -327,7 +395,9 @@ impl Forest {
     pub fn remove_inode(&mut self, place: Place)
         ensures { self.new ≡ edit self.old (Inodes place Gone) }
     {
+        let (user, number) = place;
         self.inodes.remove(&place);
+        self.digests.remove(user.number(), number);
     }
 
     /// Points a group file at `place`. Takes memory only where the file has no pointer yet.
@@ -337,7 +407,13 @@ impl Forest {
         ensures absent { OnErr result (is_nothing (val self.old (Pointer file)) ≡ true) }
         ensures err { OnErr result (self.new ≡ self.old) }
     {
-        self.pointers.insert(file, place)?;
+        let (group, number) = file;
+        let (user, body) = place;
+        self.pointers.insert(file, (user, body))?;
+        if let Err(refused) = self.bodies.put(group.number(), number, (user, body)) {
+            self.pointers.remove(&file);
+            return Err(Refusal::from(refused));
+        }
         Ok(())
     }
 
@@ -345,6 +421,8 @@ impl Forest {
     pub fn remove_pointer(&mut self, file: GroupFile)
         ensures { self.new ≡ edit self.old (Pointers file None) }
     {
+        let (group, number) = file;
         self.pointers.remove(&file);
+        self.bodies.remove(group.number(), number);
     }
 }

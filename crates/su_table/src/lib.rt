@@ -4,6 +4,7 @@
 
 mod forests;
 mod laws;
+mod tables;
 
 pub use forests::Forest;
 pub use laws::{edits_can_be_taken_back, edits_change_one_table};

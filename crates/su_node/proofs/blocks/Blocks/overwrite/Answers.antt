@@ -1,5 +1,5 @@
 use Rattle.std.proofs.Common.{◌≡◌, ◌∙◌, sym, refl, ap, subst, arith, ◌+◌, ◌-◌, ◌*◌, ◌/◌, ◌≤◌, ◌<◌, length, min, max, take, drop, get_or, set, [], List, ℕ}
-use Rattle.std.proofs.lemmas.List.{length-take, take_all, get_or_default}
+use Rattle.std.proofs.lemmas.List.{length-take, take_all}
 use Rattle.su_node.specs.InodeChange.{with_bytes_at}
 use Rattle.su_node.specs.Stored.{AreBlocksOf}
 use Rattle.su_node.proofs.Contents.{stored, reaches, concat_blocks, written_nothing, written_blocks, length-with_bytes_at, length-block}
@@ -9,16 +9,11 @@ use Rattle.su_node.proofs.blocks.Blocks.overwrite.Goals as goal
 length-kept : (off k : ℕ) (xs bs : List ℕ) → off + length xs ≤ length bs → length (with_bytes_at off (take k xs) bs) ≡ length bs
 length-kept off k xs bs fits = let l = length-with_bytes_at off (take k xs) bs in let t = length-take k xs in omega (arith, l, t)
 
--- the block that is written to
-at_block : (blocks : List (List ℕ)) (off k n : ℕ) (xs bs b : List ℕ) → off + length xs ≤ length bs → AreBlocksOf blocks (with_bytes_at off (take k xs) bs) → 4096 * n < off + length xs
-    → b ≡ get_or blocks n b → b ≡ get_or blocks n []
-at_block blocks off k n xs bs b fits are within b_is =
-    b_is ∙ get_or_default blocks n b [] (reaches blocks (with_bytes_at off (take k xs) bs) are n (let l = length-kept off k xs bs fits in omega (arith, l)))
-
-length-at_block : (blocks : List (List ℕ)) (off k n : ℕ) (xs bs b : List ℕ) → off + length xs ≤ length bs → AreBlocksOf blocks (with_bytes_at off (take k xs) bs) → 4096 * n < off + length xs
-    → b ≡ get_or blocks n b → length b ≡ min 4096 (length bs - 4096 * n)
-length-at_block blocks off k n xs bs b fits are within b_is =
-    ap length (at_block blocks off k n xs bs b fits are within b_is ∙ are.each n) ∙ length-block n (with_bytes_at off (take k xs) bs) ∙ ap (λ l. min 4096 (l - 4096 * n)) (length-kept off k xs bs fits)
+-- the length of the block that is written to
+length-at_block : (blocks : List (List ℕ)) (off k n : ℕ) (xs bs : List ℕ) → off + length xs ≤ length bs → AreBlocksOf blocks (with_bytes_at off (take k xs) bs)
+    → length (get_or blocks n []) ≡ min 4096 (length bs - 4096 * n)
+length-at_block blocks off k n xs bs fits are =
+    ap length (are.each n) ∙ length-block n (with_bytes_at off (take k xs) bs) ∙ ap (λ l. min 4096 (l - 4096 * n)) (length-kept off k xs bs fits)
 
 length-part : (off first last : ℕ) (xs : List ℕ) → last ≤ off + length xs → length (take (last - off - (first - off)) (drop (first - off) xs)) ≤ last - off - (first - off)
 length-part off first last xs le = let l = length-take (last - off - (first - off)) (drop (first - off) xs) in omega (arith, l)
@@ -27,46 +22,44 @@ part_fits : (off n first last len size : ℕ) → first ≡ max off (n * 4096) �
     → first - n * 4096 + (last - off - (first - off)) ≤ min 4096 (size - 4096 * n)
 part_fits off n first last len size first_is last_is fits within reached = omega (arith, first_is, last_is)
 
-written_there : (blocks : List (List ℕ)) (off n first last : ℕ) (xs bs b new : List ℕ) → off + length xs ≤ length bs → first ≡ max off (n * 4096) → last ≡ min (off + length xs) ((n + 1) * 4096)
+written_there : (blocks new : List (List ℕ)) (off n first last : ℕ) (xs bs : List ℕ) → off + length xs ≤ length bs → first ≡ max off (n * 4096) → last ≡ min (off + length xs) ((n + 1) * 4096)
     → off < 4096 * (n + 1) → 4096 * n < off + length xs
-    → AreBlocksOf blocks (with_bytes_at off (take (min (length xs) (4096 * n - off)) xs) bs) → b ≡ get_or blocks n b
-    → new ≡ with_bytes_at (first - n * 4096) (take (last - off - (first - off)) (drop (first - off) xs)) b
-    → AreBlocksOf (set blocks n new) (with_bytes_at off (take (min (length xs) (4096 * (n + 1) - off)) xs) bs)
-written_there blocks off n first last xs bs b new fits first_is last_is reached within are b_is new_is =
+    → AreBlocksOf blocks (with_bytes_at off (take (min (length xs) (4096 * n - off)) xs) bs)
+    → new ≡ set blocks n (with_bytes_at (first - n * 4096) (take (last - off - (first - off)) (drop (first - off) xs)) (get_or blocks n []))
+    → AreBlocksOf new (with_bytes_at off (take (min (length xs) (4096 * (n + 1) - off)) xs) bs)
+written_there blocks new off n first last xs bs fits first_is last_is reached within are new_is =
     let start : first - n * 4096 ≡ first - 4096 * n = omega arith in
     let count : last - off - (first - off) ≡ last - first = omega (arith, first_is) in
-    let was = at_block blocks off (min (length xs) (4096 * n - off)) n xs bs b fits are within b_is in
-    let e = new_is ∙ (λ i. with_bytes_at (start i) (take (count i) (drop (first - off) xs)) (was i)) in
-    subst (λ y. AreBlocksOf (set blocks n y) (with_bytes_at off (take (min (length xs) (4096 * (n + 1) - off)) xs) bs)) (sym e)
+    let e = new_is ∙ (λ i. set blocks n (with_bytes_at (start i) (take (count i) (drop (first - off) xs)) (get_or blocks n []))) in
+    subst (λ ys. AreBlocksOf ys (with_bytes_at off (take (min (length xs) (4096 * (n + 1) - off)) xs) bs)) (sym e)
     (written_blocks bs xs off fits n (min (length xs) (4096 * n - off)) (min (length xs) (4096 * (n + 1) - off)) first last refl refl (omega (arith, first_is)) (omega (arith, last_is)) reached within blocks are)
 
 pub loop-number-init : goal.loop-number-init
 loop-number-init c =
     let none : min (length c.args.bytes.now) (4096 * (c.args.off / 4096) - c.args.off) ≡ 0 = omega arith in
-    (refl, subst (AreBlocksOf c.self.inside.blocks.items) (c.self.view_is ∙ written_nothing c.args.off c.args.self.now (omega (arith, c.requires)) ∙ ap (λ k. with_bytes_at c.args.off (take k c.args.bytes.now) c.args.self.now) (sym none)) c.self.invariant.blocks_of)
+    (refl, subst (AreBlocksOf c.self.inside.blocks) (c.self.view_is ∙ written_nothing c.args.off c.args.self.now (omega (arith, c.requires)) ∙ ap (λ k. with_bytes_at c.args.off (take k c.args.bytes.now) c.args.self.now) (sym none)) c.self.invariant.blocks_of)
 
 pub invariant_of-self : goal.invariant_of-self
 invariant_of-self c =
     let l = length-kept c.args.off (min (length c.args.bytes.now) (4096 * c.loop-number.number - c.args.off)) c.args.bytes.now c.args.self.now c.requires in
-    stored c.loop-number.self-inside.blocks.items _ _ c.loop-number.invariant.1 (c.loop-number.invariant.0 ∙ c.self.invariant.size_of ∙ ap length c.self.view_is ∙ sym l)
+    stored c.loop-number.self-inside.blocks _ _ c.loop-number.invariant.1 (c.loop-number.invariant.0 ∙ c.self.invariant.size_of ∙ ap length c.self.view_is ∙ sym l)
 
 pub returns : goal.returns
 returns c =
-    concat_blocks c.loop-number.self-inside.blocks.items _ c.loop-number.invariant.1
+    concat_blocks c.loop-number.self-inside.blocks _ c.loop-number.invariant.1
     ∙ ap (λ ys. with_bytes_at c.args.off ys c.args.self.now) (take_all (min (length c.args.bytes.now) (4096 * c.loop-number.number - c.args.off)) c.args.bytes.now (omega (arith, c.loop-number-test.false, c.count_for-number-end.ensures)))
 
-pub index_mut-requires : goal.index_mut-requires
-index_mut-requires c =
+pub overwrite-requires-clause-there : goal.overwrite-requires-clause-there
+overwrite-requires-clause-there c =
     let l = length-kept c.args.off (min (length c.args.bytes.now) (4096 * c.loop-number.number - c.args.off)) c.args.bytes.now c.args.self.now c.requires in
     let within : 4096 * c.loop-number.number < c.args.off + length c.args.bytes.now = omega (arith, c.loop-number-test.true, c.count_for-number-end.ensures) in
-    let r = reaches c.loop-number.self-inside.blocks.items _ c.loop-number.invariant.1 c.loop-number.number (omega (arith, l, c.requires, within)) in
-    omega (arith, r, c.loop-number.self-inside.blocks.ok.0)
+    reaches c.loop-number.self-inside.blocks _ c.loop-number.invariant.1 c.loop-number.number (omega (arith, l, c.requires, within))
 
-pub overwrite-requires : goal.overwrite-requires
-overwrite-requires c =
+pub overwrite-requires-clause-fits : goal.overwrite-requires-clause-fits
+overwrite-requires-clause-fits c =
     let within : 4096 * c.loop-number.number < c.args.off + length c.args.bytes.now = omega (arith, c.loop-number-test.true, c.count_for-number-end.ensures) in
     let reached : c.args.off < 4096 * (c.loop-number.number + 1) = omega (arith, c.loop-number.auto.number) in
-    let l = length-at_block c.loop-number.self-inside.blocks.items c.args.off _ c.loop-number.number c.args.bytes.now c.args.self.now c.index_mut.result.now c.requires c.loop-number.invariant.1 within c.index_mut.ensures.value in
+    let l = length-at_block c.loop-number.self-inside.blocks c.args.off _ c.loop-number.number c.args.bytes.now c.args.self.now c.requires c.loop-number.invariant.1 in
     let p = length-part c.args.off c.max-first.result c.min-last.result c.args.bytes.now (omega (arith, c.min-last.ensures)) in
     let f = part_fits c.args.off c.loop-number.number c.max-first.result c.min-last.result (length c.args.bytes.now) (length c.args.self.now) c.max-first.ensures c.min-last.ensures c.requires within reached in
     grind (arith, l, p, f)
@@ -76,6 +69,6 @@ loop-number-preserved c =
     let within : 4096 * c.loop-number.number < c.args.off + length c.args.bytes.now = omega (arith, c.loop-number-test.true, c.count_for-number-end.ensures) in
     let reached : c.args.off < 4096 * (c.loop-number.number + 1) = omega (arith, c.loop-number.auto.number) in (
       c.loop-number.invariant.0,
-      written_there c.loop-number.self-inside.blocks.items c.args.off c.loop-number.number c.max-first.result c.min-last.result c.args.bytes.now c.args.self.now c.index_mut.result.now c.overwrite.new.self
-          c.requires c.max-first.ensures c.min-last.ensures reached within c.loop-number.invariant.1 c.index_mut.ensures.value c.overwrite.ensures,
+      written_there c.loop-number.self-inside.blocks c.overwrite.new.self c.args.off c.loop-number.number c.max-first.result c.min-last.result c.args.bytes.now c.args.self.now
+          c.requires c.max-first.ensures c.min-last.ensures reached within c.loop-number.invariant.1 c.overwrite.ensures,
     )

@@ -4,4 +4,4 @@ use Rattle.su_node.specs.Stored.{AreBlocksOf}
 use Rattle.su_node.proofs.blocks.Blocks.overwrite.Given as goal
 
 abbrev pub invariant-loop-number : goal.invariant-loop-number
-invariant-loop-number l = (l.self-inside.size ≡ l._size) × AreBlocksOf l.self-inside.blocks.items (with_bytes_at l.off (take (min (length l.bytes) (4096 * l.number - l.off)) l.bytes) l.fn.self)
+invariant-loop-number l = (l.self-inside.size ≡ l._size) × AreBlocksOf l.self-inside.blocks (with_bytes_at l.off (take (min (length l.bytes) (4096 * l.number - l.off)) l.bytes) l.fn.self)

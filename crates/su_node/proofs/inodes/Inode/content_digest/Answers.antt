@@ -1,7 +1,7 @@
 use Rattle.std.proofs.Common.{sym, ap, ◌∙◌}
+use Rattle.su_bytes.specs.FileId.{file_id_bytes}
 use Rattle.su_tree.specs.Digest.{digest}
 use Rattle.su_tree.specs.Name.{names}
-use Rattle.su_tree.specs.Value.{file_id_bytes}
 use Rattle.su_node.specs.Digest.{content_digest}
 use Rattle.su_node.specs.Inode.{Inode}
 use Rattle.su_node.specs.View.{content_of}

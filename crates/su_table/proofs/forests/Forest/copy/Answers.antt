@@ -12,12 +12,6 @@ loop-place-preserved-in_ok-insert c =
     c.into_iter-place-iterator.ensures.into_iter_gives.5 (ap (λ r. c.loop-place.inodes.entries ++ r) (sym c.in-Some.ensures.steps) ∙ c.loop-place.invariant)
     (c.in_ok-insert.ensures.entries ∙ ap (insert_entry place_cmp c.loop-place.inodes.entries c.in-Some.place.now) c.in_ok-copy.ensures.value)
 
-pub loop-place-preserved-in_ok-insert-2 : goal.loop-place-preserved-in_ok-insert-2
-loop-place-preserved-in_ok-insert-2 c =
-    copied_more place_cmp_total c.self.inside.inodes.entries c.loop-place.inodes.entries c.insert.new.self.entries c.next.new.self c.in-Some.place.now c.in-Some.inode.now
-    c.into_iter-place-iterator.ensures.into_iter_gives.5 (ap (λ r. c.loop-place.inodes.entries ++ r) (sym c.in-Some.ensures.steps) ∙ c.loop-place.invariant)
-    (c.in_ok-insert.ensures.entries ∙ ap (insert_entry place_cmp c.loop-place.inodes.entries c.in-Some.place.now) c.in_ok-copy.ensures.value)
-
 pub loop-place-preserved : goal.loop-place-preserved
 loop-place-preserved c =
     copied_more place_cmp_total c.self.inside.inodes.entries c.loop-place.inodes.entries c.insert.new.self.entries c.next.new.self c.in-Some.place.now c.in-Some.inode.now

@@ -1,55 +1,21 @@
-use Rattle.std.proofs.Common.{◌≡◌, ◌<◌, ◌^◌, ℕ, IsTrue, List, [], ◌∷◌, ◌++◌, sym, ap, ◌∙◌, append-nil, arith}
+use Rattle.std.proofs.Common.{◌∙◌, ap, [], get_or}
 use Rattle.std.specs.FinMap.{entries}
-use Rattle.std.proofs.lemmas.Bool.{lt-ltb}
-use Rattle.std.proofs.lemmas.List.Elements.{All-push}
+use Rattle.su_bytes.specs.Principal.{is_user}
 use Rattle.su_tree.specs.Digest.{digest}
-use Rattle.su_tree.specs.Number.{numbers, is_u32}
-use Rattle.su_node.specs.Inode.{Inode}
+use Rattle.su_tree.specs.Number.{numbers}
 use Rattle.su_node.specs.Digest.{inode_digest}
-use Rattle.su_node.proofs.Public.{entries-from_entries}
-use Rattle.su_bytes.specs.Place.{Place}
 use Rattle.su_table.specs.Tree.{Tree}
 use Rattle.su_table.specs.Handle.{pairs_of, user_table}
-use Rattle.su_table.proofs.Places.{place_cmp_total}
-use Rattle.su_table.proofs.Tables.{pairs_of-ascend, listed_more}
+use Rattle.su_table.proofs.KeptTables.{number_within, user_is}
 use Rattle.su_table.proofs.forests.Forest.i_handle.Goals as goal
 
-pub loop-place-preserved-in-Continue-branch-2 : goal.loop-place-preserved-in-Continue-branch-2
-loop-place-preserved-in-Continue-branch-2 c =
-    let f : Inode → List ℕ = inode_digest in
-    let g = c.args.user in
-    let number : c.number.result ≡ c.in-Some.place.now.1 = c.number.ensures.value in
-    let small : c.number.result < 2 ^ 32 = omega (arith, c.number.ensures.range.1) in
-    let pushed : c.push.new.self.items ≡ c.loop-place.pairs.items ++ (c.in-Some.place.now.1, f c.in-Some.inode.now) ∷ [] =
-    c.in_ok-push.ensures.items ∙ ap (λ (n : ℕ). c.loop-place.pairs.items ++ (n, c.in_ok-digest.digest) ∷ []) number
-    ∙ ap (λ (d : List ℕ). c.loop-place.pairs.items ++ (c.in-Some.place.now.1, d) ∷ []) c.in_ok-digest.ensures.value in
-    record {
-      listed = ap (λ (ps : List (ℕ × List ℕ)). ps ++ pairs_of f g c.next.new.self) pushed
-          ∙ listed_more f g c.loop-place.pairs.items c.in-Some.place.now c.in-Some.inode.now c.next.new.self c.loop-place.place-iterator _ (sym c.eq.ensures ∙ c.if-eq.true) c.in-Some.ensures.steps c.loop-place.invariant.listed;
-      keys = rw c.in_ok-push.ensures.items (All-push (λ (p : ℕ × List ℕ). IsTrue (is_u32 p.0)) c.loop-place.pairs.items (c.number.result, c.in_ok-digest.digest) c.loop-place.invariant.keys (lt-ltb c.number.result (2 ^ 32) small));
-    }
-
-pub digest_of-requires-clause-ascending : goal.digest_of-requires-clause-ascending
-digest_of-requires-clause-ascending c =
-    let f : Inode → List ℕ = inode_digest in
-    let g = c.args.user in
-    let es = c.self.inside.inodes.entries in
-    let items = c.loop-place.pairs.items in
-    let all : c.deref.result.now ≡ pairs_of f g es =
-    c.deref.ensures.value ∙ sym (append-nil items) ∙ ap (λ (r : List (Place × Inode)). items ++ pairs_of f g r) (sym c.in-None.ensures.steps.0) ∙ c.loop-place.invariant.listed
-    ∙ ap (pairs_of f g) c.into_iter-place-iterator.ensures.into_iter_gives.0 in
-    rw all (pairs_of-ascend f g es c.into_iter-place-iterator.ensures.into_iter_gives.5)
+pub digest-requires : goal.digest-requires
+digest-requires c = number_within inode_digest is_user c.self.inside.inodes.entries c.self.inside.digests c.number.result (c.args.user, 0) c.self.invariant.0 c.number.ensures.value (user_is _ _ c.number.ensures.value c.number.ensures.range)
 
 pub returns-clause-value : goal.returns-clause-value
 unfolding user_table
 returns-clause-value c =
-    let f : Inode → List ℕ = inode_digest in
-    let g = c.args.user in
-    let es = c.self.inside.inodes.entries in
-    let items = c.loop-place.pairs.items in
-    let all : c.deref.result.now ≡ pairs_of f g es =
-    c.deref.ensures.value ∙ sym (append-nil items) ∙ ap (λ (r : List (Place × Inode)). items ++ pairs_of f g r) (sym c.in-None.ensures.steps.0) ∙ c.loop-place.invariant.listed
-    ∙ ap (pairs_of f g) c.into_iter-place-iterator.ensures.into_iter_gives.0 in
-    let table : pairs_of f g es ≡ pairs_of f g (entries c.args.self.now.inodes) =
-    ap (pairs_of f g) (sym (entries-from_entries place_cmp_total es c.into_iter-place-iterator.ensures.into_iter_gives.5) ∙ ap (λ (T : Tree). entries T.inodes) c.self.view_is) in
-    c.digest_of.ensures ∙ ap (digest (numbers (λ d. d))) (all ∙ table)
+    c.digest.ensures
+    ∙ ap (digest (numbers (λ d. d))) (ap (λ u. get_or c.self.inside.digests u []) c.number.ensures.value
+    ∙ c.self.invariant.0.each c.args.user (user_is _ _ c.number.ensures.value c.number.ensures.range)
+    ∙ ap (λ (T : Tree). pairs_of inode_digest c.args.user (entries T.inodes)) c.self.view_is)

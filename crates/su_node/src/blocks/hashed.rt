@@ -1,0 +1,259 @@
+// Blocks of a file in order, with a tree of their digests that is kept up to date.
+ghost use Rattle.std.specs.Prelude.{◌≡◌, ◌+◌, ◌-◌, ◌<◌, ◌≤◌, ℕ, ◌^◌, ◌++◌, ◌∷◌, [], IfOk, OnOk, OnErr, length, take, slice_set, slice_index_or};
+ghost use Rattle.std.specs.Ordering.{nat_cmp};
+ghost use Rattle.std.specs.FinMap.Entries.{put};
+ghost use Rattle.sha2.specs.Sha256.{sha256};
+ghost use Rattle.su_tree.specs.Digest.{digest};
+ghost use Rattle.su_tree.specs.Number.{numbers};
+ghost use Rattle.su_node.specs.Digest.{block_item};
+ghost use Rattle.su_node.specs.InodeChange.{with_size, with_bytes_at};
+ghost use Rattle.su_node.specs.Stored.{digests_of, AreBelow, HasNumber};
+
+use sha2::{Digest as _, Sha256};
+use std::alloc::{AllocError, Global};
+use std::marker::Model;
+use su_bytes::Digest;
+use su_hash_tree::HashTree;
+
+/// A block of a file.
+#[derive(Drop)]
+pub(super) struct Block {
+    bytes: Vec<u8>,
+}
+
+impl Model for Block {
+    ghost use Rattle.std.specs.Prelude.{ℕ, List};
+
+    ghost Value = { List ℕ };
+
+    ghost view = { λ b. b.bytes.items };
+}
+
+impl Block {
+    /// Makes a block of zeros.
+    pub fn zeros(alloc: Global, size: usize) -> Result<Block, AllocError>
+        ensures value { IfOk result (λ block. block ≡ with_size size []) }
+    {
+        let mut bytes = Vec::with_capacity(alloc, size)?;
+        bytes.resize(size, 0)?;
+        Ok(Block { bytes })
+    }
+
+    fn as_slice(&self) -> &[u8]
+        ensures { result.now ≡ self.now }
+    {
+        self.bytes.as_slice()
+    }
+
+    /// The digest of the block.
+    fn digest(&self) -> Digest
+        ensures { result ≡ sha256 (block_item self.now) }
+    {
+        let mut hasher = Sha256::new();
+        hasher.update([4]);
+        hasher.update(self.as_slice());
+        Digest::new(hasher.finalize())
+    }
+
+    /// Copies the block.
+    fn copy(&self, alloc: Global) -> Result<Block, AllocError>
+        ensures value { IfOk result (λ copy. copy ≡ self.now) }
+    {
+        let bytes = Vec::from_slice(alloc, self.bytes.as_slice())?;
+        Ok(Block { bytes })
+    }
+
+    /// Cuts the block, or fills it with zeros up to a size. Where there is no memory, it changes
+    /// nothing.
+    fn resize(&mut self, size: usize) -> Result<(), AllocError>
+        ensures ok { OnOk result (self.new ≡ with_size size self.old) }
+        ensures err { OnErr result (self.new ≡ self.old) }
+    {
+        self.bytes.resize(size, 0)?;
+        Ok(())
+    }
+
+    /// The first bytes alone.
+    fn cut(&mut self, size: usize)
+        ensures { self.new ≡ take size self.old }
+    {
+        self.bytes.truncate(size);
+    }
+
+    /// These bytes in place of those that stand there.
+    fn overwrite(&mut self, start: usize, bytes: &[u8])
+        requires { start + length bytes.now ≤ length self.old }
+        ensures { self.new ≡ with_bytes_at start bytes.now self.old }
+    {
+        self.bytes[start..start + bytes.len()].copy_from_slice(bytes);
+    }
+}
+
+/// Blocks in order, and the tree of their digests by their numbers from 0 on. Its model is the
+/// blocks. A call that changes a block hashes it and the path of its number, and nothing else.
+#[derive(Drop)]
+pub(super) struct HashedBlocks {
+    blocks: Vec<Block>,
+    digests: HashTree<u32, Digest>,
+}
+
+impl Model for HashedBlocks {
+    ghost use Rattle.std.specs.Prelude.{◌≡◌, ◌≤◌, ◌^◌, ℕ, List, length};
+    ghost use Rattle.su_node.specs.Stored.{digests_of};
+
+    ghost Value = { List (List ℕ) };
+
+    ghost view = { λ b. b.blocks.items };
+
+    ghost invariant = { λ b. (b.digests.entries ≡ digests_of b.blocks.items)
+        × (length b.blocks.items ≤ 2 ^ 32) };
+}
+
+impl HashedBlocks {
+    /// Makes no blocks.
+    pub fn new(alloc: Global) -> HashedBlocks
+        ensures { result ≡ [] }
+    {
+        HashedBlocks {
+            blocks: Vec::new(alloc),
+            digests: HashTree::empty(alloc),
+        }
+    }
+
+    /// Returns the number of blocks.
+    pub fn len(&self) -> usize
+        ensures { result ≡ length self.now }
+    {
+        self.blocks.len()
+    }
+
+    /// Returns the bytes of a block.
+    pub fn get(&self, number: usize) -> &[u8]
+        requires { number < length self.now }
+        ensures { result.now ≡ slice_index_or self.now number [] }
+    {
+        self.blocks[number].as_slice()
+    }
+
+    /// Returns the digest of the blocks by their numbers. It makes no hash.
+    pub fn digest(&self) -> Digest
+        ensures { result ≡ digest (numbers (λ d. d)) (digests_of self.now) }
+    {
+        self.digests.digest()
+    }
+
+    /// Copies the blocks, and their digests.
+    pub fn copy(&self, alloc: Global) -> Result<HashedBlocks, AllocError>
+        ensures value { IfOk result (λ copy. copy ≡ self.now) }
+    {
+        let mut blocks = Vec::with_capacity(alloc, self.blocks.len())?;
+        for block in &self.blocks {
+            blocks.push(block.copy(alloc)?)?;
+        }
+        let digests = self.digests.copy()?;
+        Ok(HashedBlocks { blocks, digests })
+    }
+
+    /// Writes bytes over those of a block from a place on.
+    pub fn overwrite(&mut self, number: usize, start: usize, bytes: &[u8])
+        requires there { number < length self.old }
+        requires fits { start + length bytes.now ≤ length (slice_index_or self.old number []) }
+        ensures { let block = slice_index_or self.old number [] in
+            self.new ≡ slice_set self.old number (with_bytes_at start bytes.now block) }
+    {
+        let written = &mut self.blocks[number];
+        written.overwrite(start, bytes);
+        refresh(&mut self.digests, number, written);
+    }
+
+    /// Cuts a block to its first bytes.
+    pub fn cut(&mut self, number: usize, size: usize)
+        requires { number < length self.old }
+        ensures { let block = slice_index_or self.old number [] in
+            self.new ≡ slice_set self.old number (take size block) }
+    {
+        if size < self.get(number).len() {
+            let block = &mut self.blocks[number];
+            block.cut(size);
+            refresh(&mut self.digests, number, block);
+        }
+    }
+
+    /// Cuts a block, or fills it with zeros up to a size. Where there is no memory, it changes
+    /// nothing.
+    pub fn resize(&mut self, number: usize, size: usize) -> Result<(), AllocError>
+        requires { number < length self.old }
+        ensures ok { let block = slice_index_or self.old number [] in
+            OnOk result (self.new ≡ slice_set self.old number (with_size size block)) }
+        ensures err { OnErr result (self.new ≡ self.old) }
+    {
+        if self.get(number).len() != size {
+            let block = &mut self.blocks[number];
+            block.resize(size)?;
+            refresh(&mut self.digests, number, block);
+        }
+        Ok(())
+    }
+
+    /// Puts a block behind the last one. Where there is no memory, it changes nothing.
+    fn push(&mut self, block: Block) -> Result<(), AllocError>
+        requires { length self.old < 2 ^ 32 }
+        ensures ok { OnOk result (self.new ≡ self.old ++ block ∷ []) }
+        ensures err { OnErr result (self.new ≡ self.old) }
+    {
+        self.blocks.reserve(1)?;
+        self.digests
+            .insert(self.blocks.len() as u32, block.digest())?;
+        self.blocks.push(block)?;
+        Ok(())
+    }
+
+    /// Puts blocks behind the last one. Where there is no memory, it changes nothing.
+    pub fn append(&mut self, added: Vec<Block>) -> Result<(), AllocError>
+        requires { length self.old + length added.items ≤ 2 ^ 32 }
+        ensures ok { OnOk result (self.new ≡ self.old ++ added.items) }
+        ensures err { OnErr result (self.new ≡ self.old) }
+    {
+        let count = self.len();
+        for block in added {
+            if let Err(refused) = self.push(block) {
+                self.truncate(count);
+                return Err(refused);
+            }
+        }
+        Ok(())
+    }
+
+    /// Removes the last block, if there is one.
+    fn pop(&mut self)
+        ensures { self.new ≡ take (length self.old - 1) self.old }
+    {
+        if let Some(last) = self.len().checked_sub(1) {
+            self.blocks.truncate(last);
+            self.digests.remove(&(last as u32));
+        }
+    }
+
+    /// Keeps the first blocks alone.
+    pub fn truncate(&mut self, count: usize)
+        ensures { self.new ≡ take count self.old }
+    {
+        while count < self.len() {
+            self.pop();
+        }
+    }
+}
+
+/// Puts the digest of a block in the place of an older one, which takes no memory.
+fn refresh(digests: &mut HashTree<u32, Digest>, number: usize, block: &Block)
+    requires there { HasNumber number digests.old.entries }
+    requires small { number < 2 ^ 32 }
+    ensures put { let made = sha256 (block_item block.now) in
+        digests.new.entries ≡ put nat_cmp number made digests.old.entries }
+    ensures hashes { (k : ℕ) → k ≤ 32 → number < 2 ^ k → AreBelow (2 ^ k) digests.old.entries
+        → digests.new.hashes ≤ digests.old.hashes + k + 1 }
+{
+    if digests.insert(number as u32, block.digest()).is_err() {
+        unreachable!();
+    }
+}

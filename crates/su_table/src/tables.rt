@@ -1,0 +1,104 @@
+// Tables of principals, each of which keeps its digest.
+ghost use Rattle.std.specs.Prelude.{◌≡◌, ◌<◌, [], length, replicate, slice_index_or, slice_set, Some, None, IfOk, OnOk, OnErr, IsSome};
+ghost use Rattle.std.specs.Ordering.{nat_cmp};
+ghost use Rattle.std.specs.FinMap.Entries.{find};
+ghost use Rattle.su_tree.specs.Digest.{digest};
+ghost use Rattle.su_tree.specs.Number.{numbers};
+ghost use Rattle.su_hash_tree.specs.Clones.{IsExact};
+ghost use Rattle.su_table.specs.Table.{with_pair};
+
+use std::alloc::{AllocError, Global};
+use std::marker::Model;
+use su_bytes::{Digest, Inum};
+use su_hash_tree::HashTree;
+use su_tree::TreeValue;
+
+/// Tables from numbers to values, one for each principal from number 0 on, each with its digest.
+/// Its model is the pairs of each table in the order of their numbers. A change of a table hashes
+/// the path of one number: at most 33 hashes, and about log2 n of n random numbers.
+#[derive(Drop)]
+pub(crate) struct Tables<V: TreeValue> {
+    trees: Vec<HashTree<u32, V>>,
+    alloc: Global,
+}
+
+impl<V: TreeValue> Model for Tables<V> {
+    ghost use Rattle.std.specs.Prelude.{ℕ, List, map};
+
+    ghost Value = { List (List (ℕ × V)) };
+
+    ghost view = { λ t. map (λ tree. tree.entries) t.trees.items };
+}
+
+impl<V: TreeValue + Drop> Tables<V> {
+    /// Makes so many empty tables. It makes one hash for each.
+    pub fn empty(alloc: Global, count: usize) -> Result<Tables<V>, AllocError>
+        ensures { IfOk result (λ tables. tables ≡ replicate count []) }
+    {
+        let mut trees = Vec::with_capacity(alloc, count)?;
+        for _ in 0..count {
+            trees.push(HashTree::empty(alloc))?;
+        }
+        Ok(Tables { trees, alloc })
+    }
+
+    /// Returns the digest of a table. It makes no hash.
+    pub fn digest(&self, table: u8) -> Digest
+        requires { table < length self.now }
+        ensures { result ≡ digest (numbers V.bytes) (slice_index_or self.now table []) }
+    {
+        self.trees[usize::from(table)].digest()
+    }
+
+    /// Puts a value at a number of a table. Takes memory only for a number that isn't there; where
+    /// it is wanting, it changes nothing.
+    pub fn put(&mut self, table: u8, number: Inum, value: V) -> Result<(), AllocError>
+        requires { table < length self.old }
+        ensures ok { let pairs = slice_index_or self.old table [] in
+            OnOk result (self.new ≡ slice_set self.old table (with_pair number (Some value) pairs)) }
+        ensures absent { let pairs = slice_index_or self.old table [] in
+            OnErr result (find nat_cmp number pairs ≡ None) }
+        ensures err { OnErr result (self.new ≡ self.old) }
+    {
+        self.trees[usize::from(table)].insert(number.number(), value)?;
+        Ok(())
+    }
+
+    /// Puts a value in the place of another, which takes no memory.
+    pub fn set(&mut self, table: u8, number: Inum, value: V)
+        requires within { table < length self.old }
+        requires there { IsSome (find nat_cmp number (slice_index_or self.old table [])) }
+        ensures { let pairs = slice_index_or self.old table [] in
+            self.new ≡ slice_set self.old table (with_pair number (Some value) pairs) }
+    {
+        if self.put(table, number, value).is_err() {
+            unreachable!();
+        }
+    }
+
+    /// Takes out the value at a number of a table, if there is one.
+    pub fn remove(&mut self, table: u8, number: Inum)
+        requires { table < length self.old }
+        ensures { let pairs = slice_index_or self.old table [] in
+            self.new ≡ slice_set self.old table (with_pair number None pairs) }
+    {
+        self.trees[usize::from(table)].remove(&number.number());
+    }
+}
+
+impl<V: TreeValue + Clone + Drop> Tables<V> {
+    /// Copies the tables, with their digests. Fails where memory is wanting.
+    pub fn copy(&self) -> Result<Tables<V>, AllocError>
+        requires { IsExact V.is_clone }
+        ensures { IfOk result (λ copy. copy ≡ self.now) }
+    {
+        let mut trees = Vec::with_capacity(self.alloc, self.trees.len())?;
+        for tree in &self.trees {
+            trees.push(tree.copy()?)?;
+        }
+        Ok(Tables {
+            trees,
+            alloc: self.alloc,
+        })
+    }
+}
