@@ -9,5 +9,7 @@ pub mod GoodHistories
 pub mod KeptOperations
 pub mod KeptIndexes
 pub mod NumberSearch
+pub mod TakingBack
 pub mod Replies
 pub mod Runs
+pub mod TrialLemmas

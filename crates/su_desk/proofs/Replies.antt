@@ -1,5 +1,5 @@
 -- The answers of a desk from what it keeps.
-use Rattle.std.proofs.Common.{◌⊎◌, ⊎_elim, inl, inr, Result, IsErrAnd, ◌≡◌, ◌∙◌, sym, refl, ap, ℕ, ◌+◌, ◌-◌, List, [], ◌∷◌, ◌++◌, length, Some, None, Ok, Err, slice_get, get_or, take, drop, subst, zero, suc, arith}
+use Rattle.std.proofs.Common.{◌⊎◌, ⊎_elim, inl, inr, Result, IsErrAnd, Option, ◌≡◌, ◌∙◌, sym, refl, ap, ℕ, ◌+◌, ◌-◌, List, [], ◌∷◌, ◌++◌, length, Some, None, Ok, Err, slice_get, get_or, take, drop, subst, zero, suc, arith}
 use Rattle.std.specs.Option.{unwrap_or}
 use Rattle.std.proofs.lemmas.Option.{slice_get-get_or}
 use Rattle.su_bytes.specs.Membership.{Membership}
@@ -28,6 +28,15 @@ answer_done ro h a c e = ap (reply (length h + 1)) e
 pub answer_refused : (ro : Membership) (h : List Entry) (a : ℕ) (c : Change) (r : Refusal) → refusal_of ro h a c ≡ Some r → answer ro h a c ≡ Err r
 unfolding answer
 answer_refused ro h a c r e = ap (reply (length h + 1)) e
+
+-- what is answered with a number isn't refused
+pub answer_accepted : (ro : Membership) (h : List Entry) (a : ℕ) (c : Change) (n : ℕ) → answer ro h a c ≡ Ok n → refusal_of ro h a c ≡ None
+unfolding answer
+answer_accepted ro h a c n e = go (refusal_of ro h a c) e
+  where
+    go : (o : Option Refusal) → reply (length h + 1) o ≡ Ok n → o ≡ None
+    go None e = refl
+    go (Some r) e = absurd (let bad : Err r ≡ Ok n = e in cc)
 
 -- a refusal that is passed on
 pub passed_on : (d : DeskState) (a : ℕ) (c : Change) (r : Result ℕ Refusal) (x : Refusal) → IsErrAnd r (λ e. e ≡ x) → (x ≡ NoMemory) ⊎ (answer d.roster d.history a c ≡ Err x) → Answers d a c r d

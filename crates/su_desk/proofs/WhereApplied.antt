@@ -32,7 +32,7 @@ entry_further h e n x is = go (nat_eq n 0) is
     go true is = is
     go false is = slice_get_further h (e ∷ []) (n - 1) x is
 
-entry_last : (h : List Entry) (e : Entry) → entry_at (h ++ e ∷ []) (length h + 1) ≡ Some e
+pub entry_last : (h : List Entry) (e : Entry) → entry_at (h ++ e ∷ []) (length h + 1) ≡ Some e
 entry_last h e =
     let some : nat_eq (length h + 1) 0 ≡ false = grind arith in
     let index : length h + 1 - 1 ≡ length h = omega arith in

@@ -4,5 +4,7 @@ pub mod Blocker
 pub mod Version
 pub mod Answer
 pub mod Desk
+pub mod Trial
 pub mod Keeping
+pub mod Tried
 pub mod Headline

@@ -1,5 +1,5 @@
 // The desk: a history, what is kept of its live operations, and the forest that they make.
-ghost use Rattle.std.specs.Prelude.{◌≡◌, [], map, option_copied, Some, None, OnOk, IfOk, IfErr, OnErr};
+ghost use Rattle.std.specs.Prelude.{◌≡◌, ◌⊎◌, [], map, option_copied, Some, None, OnOk, IfOk, IfErr, OnErr};
 ghost use Rattle.su_desk.specs.Version.{versions};
 ghost use Rattle.su_desk.specs.Headline.{Headline};
 ghost use Rattle.su_bytes.specs.declared.refusals.Refusal.TheVariants.{NoMemory};
@@ -7,7 +7,10 @@ ghost use Rattle.su_op.specs.declared.operations.Change.TheVariants.{Do, Undo};
 ghost use Rattle.su_desk.specs.History.{tree, live_numbers, last_live, entry_at, undoer};
 ghost use Rattle.su_desk.specs.Blocker.{blocker};
 ghost use Rattle.su_desk.specs.Answer.{live_refusal, undo_refusal, Good};
-ghost use Rattle.su_desk.specs.Desk.{Answers, Runs, result_of};
+ghost use Rattle.su_desk.specs.Desk.{Answers, Runs, result_of, with_entry};
+ghost use Rattle.su_desk.specs.Tried.{IsKeptAt};
+
+mod attempts;
 
 use crate::entries::{DeskReply, Entry};
 use crate::kept::{KeptOperation, blocker_at, live_index, undo_index};
@@ -184,6 +187,23 @@ impl Desk {
     fn undo(&mut self, author: User, number: u64) -> Result<u64, Refusal>
         ensures { Answers self.old author (Undo number) result self.new }
     {
+        self.take_out(author, number)?;
+        Ok(self.entries.len() as u64)
+    }
+
+    /// Undoes an operation, adds that to the history, and returns at which index what was kept of
+    /// the operation stood, and what that was. A refusal changes nothing.
+    fn take_out(&mut self, author: User, number: u64) -> Result<(usize, KeptOperation), Refusal>
+        ensures accepted { OnOk result
+            (undo_refusal self.old.roster self.old.history author number ≡ None) }
+        ensures done { OnOk result (self.new ≡ with_entry self.old author (Undo number)) }
+        ensures kept { IfOk result (λ out.
+            IsKeptAt self.old.roster self.old.history number out.0 out.1) }
+        ensures refused { IfErr result (λ e.
+            (e ≡ NoMemory)
+            ⊎ (undo_refusal self.old.roster self.old.history author number ≡ Some e)) }
+        ensures err { OnErr result (self.new ≡ self.old) }
+    {
         let index = undo_index(&self.roster, &self.entries, &self.kept, author, number)?;
         self.entries.reserve(1)?;
         self.kept[index].inverse.undo_on(&mut self.forest)?;
@@ -191,7 +211,7 @@ impl Desk {
         raise(&mut self.counters, author, &undone.footprint.writes);
         let change = Change::Undo(number);
         self.entries.push_reserved(Entry { author, change });
-        Ok(self.entries.len() as u64)
+        Ok((index, undone))
     }
 
     /// Makes one of several changes, and returns the reply to it.

@@ -1,12 +1,14 @@
-// Version numbers, counted entry by entry.
+// Version numbers, counted entry by entry, and which groups an entry carries.
 ghost use Rattle.std.specs.Prelude.{◌≡◌, ◌+◌, ◌<◌, ◌^◌, [], map, IfOk, IfErr};
 ghost use Rattle.std.specs.List.{All};
 ghost use Rattle.su_bytes.specs.declared.refusals.Refusal.TheVariants.{NoMemory};
 ghost use Rattle.su_desk.specs.Version.{is_pointer_of, carries, raises, raised, versions};
+ghost use Rattle.su_desk.specs.Trial.{carried_handles};
 
 use std::alloc::Global;
-use su_bytes::{Group, Principal, Refusal, Roster, User};
+use su_bytes::{Digest, Group, Principal, Refusal, Roster, User};
 use su_op::Area;
+use su_table::Forest;
 
 /// Makes the numbers of an empty history, which are all 0. Fails only with `NoMemory`.
 pub(crate) fn first_versions(
@@ -60,4 +62,29 @@ fn is_pointer_of(area: &Area, group: Group) -> bool
         Area::Inode(..) => false,
         Area::Pointer(file) => file.0 == group,
     }
+}
+
+/// Returns the groups of the roster of which one of the areas is a pointer, with their i-handles.
+/// Fails only with `NoMemory`.
+pub(crate) fn carried_handles(
+    alloc: Global,
+    roster: &Roster,
+    written: &[Area],
+    forest: &Forest,
+) -> Result<Vec<(Group, Digest)>, Refusal>
+    ensures value { IfOk result (λ groups.
+        groups.items ≡ carried_handles roster.now written.now forest.now) }
+    ensures refused { IfErr result (λ e. e ≡ NoMemory) }
+{
+    let principals = roster.principals()?;
+    let mut groups = Vec::new(alloc);
+    for principal in &principals {
+        if let Principal::Group(group) = principal {
+            if carries(written, *group) {
+                let handle = forest.group_handle(*group)?;
+                groups.push((*group, handle))?;
+            }
+        }
+    }
+    Ok(groups)
 }

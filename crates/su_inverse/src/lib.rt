@@ -6,6 +6,8 @@ mod inverses;
 mod laws;
 mod resets;
 mod returns;
+mod wholes;
 
 pub use inverses::{Inverse, build};
 pub use laws::{kept_of_trees_alike, undo_after_apply, writes_can_be_kept};
+pub use wholes::build_whole;

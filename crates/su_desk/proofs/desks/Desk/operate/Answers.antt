@@ -13,7 +13,7 @@ use Rattle.su_bytes.specs.declared.principals.Principal.{Principal}
 use Rattle.su_desk.specs.Version.{cells_of, versions}
 use Rattle.su_desk.proofs.VersionNumbers.{counters_next, versions_within}
 use Rattle.su_desk.proofs.KeptOperations.{tree_kept, keeps_do}
-use Rattle.su_desk.proofs.Replies.{passed_on, answer_done, answer_refused, refusal_of-do}
+use Rattle.su_desk.proofs.Replies.{answer_done, answer_refused, refusal_of-do}
 use Rattle.std.specs.List.{All}
 use Rattle.su_inverse.specs.Kept.{CanKeep}
 use Rattle.su_inverse.proofs.Public.{writes_kept}

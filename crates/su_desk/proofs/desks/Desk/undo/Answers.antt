@@ -1,63 +1,23 @@
-use Rattle.std.proofs.Common.{◌∙◌, ◌+◌, ◌++◌, ◌∷◌, [], List, sym, ap, subst, inr, Ok, Err, Some, ◌≡◌, length, length-append, take, drop, arith, ℕ, ◌<◌, ◌^◌}
-use Rattle.std.specs.List.{All}
-use Rattle.su_bytes.specs.declared.principals.Principal.{Principal}
+use Rattle.std.proofs.Common.{◌≡◌, ◌∙◌, ◌+◌, ◌∷◌, [], ⊎_elim, inl, inr, Ok, sym, ap, subst, length, length-append, arith}
 use Rattle.su_op.specs.declared.operations.Change.TheVariants.{Undo}
-use Rattle.su_desk.specs.declared.entries.Entry.{Entry}
-use Rattle.su_desk.specs.declared.kept.KeptOperation.{KeptOperation}
 use Rattle.su_desk.specs.History.{undo_by}
-use Rattle.su_desk.specs.Answer.{answer, undo_refusal}
-use Rattle.su_desk.specs.Desk.{DeskState, with_entry}
-use Rattle.su_desk.specs.Keeping.{Keeps, IsIndexOf}
-use Rattle.su_desk.specs.Version.{cells_of, versions}
-use Rattle.su_desk.proofs.VersionNumbers.{counters_next, versions_within}
-use Rattle.su_desk.proofs.KeptIndexes.{are_kept, same_there}
-use Rattle.su_desk.proofs.Replies.{passed_on, Found, found, undone_there, undone_written, answer_done, answer_refused}
+use Rattle.su_desk.specs.Desk.{Answers}
+use Rattle.su_desk.proofs.Replies.{passed_on, answer_done, answer_refused}
 use Rattle.su_desk.proofs.desks.Desk.undo.Goals as goal
 
-pub undo_index-requires : goal.undo_index-requires
-undo_index-requires c = are_kept _ _ _ _ _ _ c.deref.ensures.value c.deref-2.ensures.value c.self.invariant.0
-
-pub returns-in_err-index : goal.returns-in_err-index
-returns-in_err-index c =
-    let s = c.self.inside in
-    let refused : undo_refusal s.roster s.entries.items c.args.author c.args.number ≡ Some c.in_err-index.field-0.0
-    = ap (λ h. undo_refusal s.roster h c.args.author c.args.number) (sym c.deref.ensures.value) ∙ c.in_err-index.ensures.refused in
-    passed_on c.args.self.now c.args.author (Undo c.args.number) c.from_residual.result c.in_err-index.field-0.0 c.from_residual.ensures.1
-    (inr (subst (λ d. answer d.roster d.history c.args.author (Undo c.args.number) ≡ Err c.in_err-index.field-0.0) c.self.view_is (answer_refused s.roster s.entries.items c.args.author (Undo c.args.number) c.in_err-index.field-0.0 refused)))
-
-pub invariant_of-self-2 : goal.invariant_of-self-2
-invariant_of-self-2 c =
-    let s = c.self.inside in
-    let e : Entry = undo_by c.args.author c.args.number in
-    let entries = c.push_reserved.ensures.items ∙ ap (λ h. h ++ undo_by c.args.author c.args.number ∷ []) c.in_ok-reserve.ensures.items in
-    let accepted = ap (λ h. undo_refusal s.roster h c.args.author c.args.number) (sym c.deref.ensures.value) ∙ c.in_ok-index.ensures.accepted in
-    let k = c.index.result.now in
-    let i = c.in_ok-index.index in
-    let there : Found s.roster s.entries.items s.kept.items k i c.args.number s.forest
-    = found s.roster s.entries.items s.kept.items k i c.args.number s.forest c.self.invariant.0 (subst (λ ks. IsIndexOf c.args.number ks i) c.deref-2.ensures.value c.in_ok-index.ensures.found) (sym c.index.ensures) in
-    let written : c.deref-3.result.now ≡ cells_of s.roster s.entries.items c.args.author (Undo c.args.number)
-    = c.deref-3.ensures.value ∙ ap (λ (x : KeptOperation). x.footprint.writes.items) (same_there s.kept.items i c.remove-undone.result k (subst (λ ks. IsIndexOf c.args.number ks i) c.deref-2.ensures.value c.in_ok-index.ensures.found).within c.remove-undone.ensures.value (sym c.index.ensures)) ∙ undone_written s.roster s.entries.items s.kept.items k i c.args.number s.forest there in (
-      subst (λ h. Keeps s.roster h c.remove-undone.new.self.items c.undo_on.new.forest) (sym entries)
-          (subst (λ ks. Keeps s.roster (s.entries.items ++ e ∷ []) ks c.undo_on.new.forest) (sym c.remove-undone.ensures.by_index.2)
-          (undone_there s.roster s.entries.items s.kept.items k i s.forest c.undo_on.new.forest c.args.author c.args.number there accepted c.in_ok-undo_on.ensures.ok)),
-      subst (λ h. take s.counters.len (c.raise.new.versions ++ drop (length c.raise.new.versions) s.counters.items) ≡ versions s.roster h) (sym entries)
-          (counters_next s.roster s.entries.items e c.deref-3.result.now s.counters.len s.counters.items c.deref_mut.result.now c.raise.new.versions _ written c.self.invariant.1 s.counters.ok.0 c.deref_mut.ensures.value c.raise.ensures),
-    )
+pub returns-in_err-take_out : goal.returns-in_err-take_out
+returns-in_err-take_out c =
+    let d = c.args.self.now in
+    let n = c.args.number in
+    let x = c.in_err-take_out.field-0.0 in
+    subst (λ s. Answers d c.args.author (Undo n) c.from_residual.result s) (sym c.in_err-take_out.ensures.err)
+    (passed_on d c.args.author (Undo n) c.from_residual.result x c.from_residual.ensures.1
+    (⊎_elim inl (λ refused. inr (answer_refused d.roster d.history c.args.author (Undo n) x refused)) c.in_err-take_out.ensures.refused))
 
 pub returns : goal.returns
 returns c =
     let s = c.self.inside in
-    let entries = c.push_reserved.ensures.items ∙ ap (λ h. h ++ undo_by c.args.author c.args.number ∷ []) c.in_ok-reserve.ensures.items in
-    let number : length s.entries.items + 1 ≡ c.len.result = omega (arith, c.len.ensures, c.push_reserved.new.self.ok.0, ap length entries, length-append s.entries.items (undo_by c.args.author c.args.number ∷ [])) in
-    let accepted = ap (λ h. undo_refusal s.roster h c.args.author c.args.number) (sym c.deref.ensures.value) ∙ c.in_ok-index.ensures.accepted in
-    let seen : List Entry → DeskState = λ h. record { roster = s.roster; history = h } in (
-      subst (λ d. answer d.roster d.history c.args.author (Undo c.args.number) ≡ Ok c.len.result) c.self.view_is
-          (answer_done s.roster s.entries.items c.args.author (Undo c.args.number) accepted ∙ ap Ok number),
-      ap seen entries ∙ ap (λ d. with_entry d c.args.author (Undo c.args.number)) c.self.view_is,
-    )
-
-pub raise-requires : goal.raise-requires
-raise-requires c =
-    let s = c.self.inside in
-    subst (All (λ (v : Principal × ℕ). v.1 + 1 < 2 ^ 64)) (sym (c.deref_mut.ensures.value ∙ c.self.invariant.1)) (versions_within s.roster s.entries.items
-    (let m = c.reserve.new.self.small in let n = s.entries.small in omega (arith, s.entries.ok.0, c.in_ok-reserve.ensures.ok, c.in_ok-reserve.ensures.len)))
+    let d = c.args.self.now in
+    let entries = ap (λ x. length x.history) (c.self.view_is ∙ c.in_ok-take_out.ensures.done) in
+    let number : length d.history + 1 ≡ c.len.result = omega (arith, c.len.ensures, s.entries.ok.0, entries, length-append d.history (undo_by c.args.author c.args.number ∷ [])) in
+    (answer_done d.roster d.history c.args.author (Undo c.args.number) c.in_ok-take_out.ensures.accepted ∙ ap Ok number, c.in_ok-take_out.ensures.done)

@@ -1,0 +1,185 @@
+-- What is seen of a desk of which the last entry can be taken back, and what is kept of that entry.
+use Rattle.std.proofs.Common.{◌≡◌, ℕ, ◌+◌, ◌-◌, Bool, true, false, cond, List, [], ◌∷◌, ◌++◌, length, length-append, map, take, slice_get, Option, Some, None, Result, Ok, Err, IsErrAnd, refl, sym, ap, ◌∙◌, subst, arith, append_assoc, append-nil}
+use Rattle.std.specs.Prelude.{IfErr, OnOk, OnErr, is_err}
+use Rattle.std.proofs.lemmas.Bool.{both_ways}
+use Rattle.std.specs.List.{filter}
+use Rattle.std.proofs.Math.Seq.{take-append_seam}
+use Rattle.su_bytes.specs.Membership.{Membership}
+use Rattle.su_bytes.specs.Principal.{user_principal, group_principal, principals}
+use Rattle.su_bytes.specs.declared.principals.Principal.{Principal}
+use Rattle.su_bytes.specs.declared.principals.Principal.TheVariants.{User, Group}
+use Rattle.su_bytes.specs.declared.refusals.Refusal.{Refusal}
+use Rattle.su_table.specs.Tree.{Tree}
+use Rattle.su_op.specs.declared.areas.Area.{Area}
+use Rattle.su_op.specs.declared.operations.Change.{Change}
+use Rattle.su_op.specs.declared.operations.Change.TheVariants.{Do, Undo}
+use Rattle.su_op.specs.Store.{Action}
+use Rattle.su_desk.specs.declared.entries.Entry.{Entry}
+use Rattle.su_desk.specs.declared.kept.KeptOperation.{KeptOperation}
+use Rattle.su_desk.specs.declared.prepared.Undone.{Undone}
+use Rattle.su_desk.specs.declared.prepared.Tried.{Tried}
+use Rattle.su_desk.specs.History.{entry_by, entry_at}
+use Rattle.su_desk.specs.Answer.{Good}
+use Rattle.su_desk.specs.Desk.{DeskState, with_entry}
+use Rattle.su_desk.specs.Version.{carries, cells_of}
+use Rattle.su_desk.specs.Keeping.{Keeps}
+use Rattle.su_desk.specs.Trial.{TrialState, nothing_ready, ready_with, with_ready, tree_of, before_last, seen_of, with_handle, carried_handles}
+use Rattle.su_desk.specs.Tried.{TakesChangeBack, TriedFits}
+use Rattle.su_desk.proofs.WhereApplied.{entry_last}
+use Rattle.su_desk.proofs.Replays.{good_exact}
+use Rattle.su_desk.proofs.Replies.{ends_with, is_empty}
+use Rattle.su_desk.proofs.KeptOperations.{tree_kept}
+use Rattle.su_desk.proofs.TakingBack.{LastKept, left_by, last_done, kept_writes}
+
+-- ---- lists that end with an element
+
+pub all_but_last : {A : Type 0} (xs : List A) (x : A) → take (length (xs ++ x ∷ []) - 1) (xs ++ x ∷ []) ≡ xs
+all_but_last xs x =
+    let long = length-append xs (x ∷ []) in
+    let before : length (xs ++ x ∷ []) - 1 ≡ length xs = omega arith in
+    ap (λ n. take n (xs ++ x ∷ [])) before ∙ take-append_seam xs (x ∷ [])
+
+not_empty : {A : Type 0} (xs : List A) (x : A) → [] ≡ xs ++ x ∷ [] → ⊥
+not_empty [] x e = let bad : [] ≡ x ∷ [] = e in cc
+not_empty (y ∷ xs) x e = let bad : [] ≡ y ∷ (xs ++ x ∷ []) = e in cc
+
+same_last : {A : Type 0} (xs ys : List A) (x y : A) → xs ++ x ∷ [] ≡ ys ++ y ∷ [] → x ≡ y
+same_last [] [] x y e = let same : x ≡ y = cc in same
+same_last [] (z ∷ ys) x y e = absurd (not_empty ys y (let rest : [] ≡ ys ++ y ∷ [] = cc in rest))
+same_last (z ∷ xs) [] x y e = absurd (not_empty xs x (let rest : [] ≡ xs ++ x ∷ [] = cc in rest))
+same_last (z ∷ xs) (w ∷ ys) x y e = same_last xs ys x y (let rest : xs ++ x ∷ [] ≡ ys ++ y ∷ [] = cc in rest)
+
+pub last_is : {A : Type 0} (ks front : List A) (k l : A) → ks ≡ front ++ l ∷ [] → slice_get ks (length ks - 1) ≡ Some k → k ≡ l
+last_is ks front k l whole e = same_last (take (length ks - 1) ks) front k l (sym (ends_with ks k e) ∙ whole)
+
+pub none_last : {A : Type 0} {P : Type 0} (ks front : List A) (l : A) → ks ≡ front ++ l ∷ [] → slice_get ks (length ks - 1) ≡ None → P
+none_last ks front l whole e = absurd (not_empty front l (sym (is_empty ks e) ∙ whole))
+
+-- ---- what is seen
+
+pub before_with : (d : DeskState) (a : ℕ) (c : Change) → before_last (with_entry d a c) ≡ d
+before_with d a c = ap (λ (h : List Entry). record { roster = d.roster; history = h }) (all_but_last d.history (entry_by a c))
+
+-- the entries without the last one
+pub history_before : (ro : Membership) (h : List Entry) (d : DeskState) (a : ℕ) (c : Change) → record { roster = ro; history = h } ≡ with_entry d a c → take (length h - 1) h ≡ d.history
+history_before ro h d a c e = ap (λ (x : DeskState). take (length x.history - 1) x.history) e ∙ all_but_last d.history (entry_by a c)
+
+-- the entry that was tried stands ready
+pub seen_tried : (s d : DeskState) (a : ℕ) (c : Change) (t : Tried) → s ≡ with_entry d a c → seen_of s (Some t) ≡ ready_with d a c
+seen_tried s d a c t is =
+    let long : length (d.history ++ entry_by a c ∷ []) ≡ length d.history + 1 = length-append d.history (entry_by a c ∷ []) in
+    let e : entry_at s.history (length s.history) ≡ Some (entry_by a c)
+    = ap (λ (x : DeskState). entry_at x.history (length x.history)) is ∙ ap (entry_at (d.history ++ entry_by a c ∷ [])) long ∙ entry_last d.history (entry_by a c) in
+    ap (λ o. record { settled = before_last s; ready = o }) e ∙ ap (λ (x : DeskState). record { settled = x; ready = Some (entry_by a c) }) (ap before_last is ∙ before_with d a c)
+
+-- where nothing is seen to stand ready, the desk is what is settled
+pub nothing_seen : (s : DeskState) (o : Option Tried) (d : DeskState) → seen_of s o ≡ nothing_ready d → TriedFits s o → s ≡ d
+nothing_seen s None d e fits = ap (λ (x : TrialState). x.settled) e
+nothing_seen s (Some t) d e (b, a, c, is, back) =
+    let ready : Some (entry_by a c) ≡ None = ap (λ (x : TrialState). x.ready) (sym (seen_tried s b a c t is) ∙ e) in absurd (let bad = ready in cc)
+
+-- what stands ready is settled
+pub settled_seen : (s : DeskState) (o : Option Tried) (v : TrialState) → seen_of s o ≡ v → TriedFits s o → nothing_ready s ≡ nothing_ready (with_ready v.settled v.ready)
+settled_seen s None v e fits = ap (λ (x : TrialState). nothing_ready (with_ready x.settled x.ready)) e
+settled_seen s (Some t) v e (d, a, c, is, back) =
+    ap nothing_ready is ∙ ap (λ (x : TrialState). nothing_ready (with_ready x.settled x.ready)) (sym (seen_tried s d a c t is) ∙ e)
+
+-- ---- what is kept of the last entry
+
+pub keeps_seen : (ro : Membership) (h : List Entry) (ks : List KeptOperation) (T : Tree) (s : DeskState) → record { roster = ro; history = h } ≡ s → Keeps ro h ks T → Keeps s.roster s.history ks T
+keeps_seen ro h ks T s e keeps = subst (λ (x : DeskState). Keeps x.roster x.history ks T) e keeps
+
+-- the forest is the tree with the last entry
+pub forest_with : (ro : Membership) (h : List Entry) (ks : List KeptOperation) (T : Tree) (s : DeskState) → record { roster = ro; history = h } ≡ s → Keeps ro h ks T → T ≡ tree_of s
+forest_with ro h ks T s e keeps = left_by ro h T (tree_kept ro h ks T keeps) ∙ ap tree_of e
+
+-- the history before the last entry is a good one
+pub good_before : (ro : Membership) (h : List Entry) (ks : List KeptOperation) (T : Tree) (d : DeskState) (a : ℕ) (c : Change) → record { roster = ro; history = h } ≡ with_entry d a c → Keeps ro h ks T → Good d.roster d.history
+good_before ro h ks T d a c e keeps = ((good_exact d.roster d.history (entry_by a c)).0 (keeps_seen ro h ks T (with_entry d a c) e keeps).good).0
+
+pub last_operation : (ro : Membership) (h : List Entry) (ks : List KeptOperation) (T : Tree) (d : DeskState) (x : Action) → record { roster = ro; history = h } ≡ with_entry d x.author (Do x.op) → Keeps ro h ks T → LastKept d.roster d.history x ks T
+last_operation ro h ks T d x e keeps = last_done d.roster d.history x ks T (keeps_seen ro h ks T (with_entry d x.author (Do x.op)) e keeps)
+
+-- something is kept of an operation
+pub some_kept : {P : Type 0} (ro : Membership) (h : List Entry) (ks : List KeptOperation) (T : Tree) (d : DeskState) (a : ℕ) (c : Change) → record { roster = ro; history = h } ≡ with_entry d a c → Keeps ro h ks T → TakesChangeBack d a c None
+    → slice_get ks (length ks - 1) ≡ None → P
+some_kept ro h ks T d a (Do op) e keeps back none =
+    let l = last_operation ro h ks T d (record { author = a; op = op }) e keeps in none_last ks l.front l.kept l.whole none
+some_kept ro h ks T d a (Undo n) e keeps back none = absurd back
+
+-- and last its cells
+pub last_cells : (ro : Membership) (h : List Entry) (ks : List KeptOperation) (T : Tree) (k : KeptOperation) (d : DeskState) (a : ℕ) (c : Change) → record { roster = ro; history = h } ≡ with_entry d a c → Keeps ro h ks T → TakesChangeBack d a c None
+    → slice_get ks (length ks - 1) ≡ Some k → k.footprint.writes.items ≡ cells_of d.roster d.history a c
+last_cells ro h ks T k d a (Do op) e keeps back last =
+    let l = last_operation ro h ks T d (record { author = a; op = op }) e keeps in
+    ap (λ (x : KeptOperation). x.footprint.writes.items) (last_is ks l.front k l.kept l.whole last) ∙ l.written
+last_cells ro h ks T k d a (Undo n) e keeps back last = absurd back
+
+-- the cells of an undo are those that were kept of the operation
+pub undone_cells : (d : DeskState) (a : ℕ) (c : Change) (u : Undone) → Good d.roster d.history → TakesChangeBack d a c (Some u) → u.operation.footprint.writes.items ≡ cells_of d.roster d.history a c
+undone_cells d a (Do op) u good back = absurd back
+undone_cells d a (Undo n) u good back = kept_writes d.roster d.history n u.index u.operation good back.kept
+
+-- ---- a refusal that is passed on
+
+pub refused_by : {X : Type 0} (P : Refusal → Type 0) (r : Result X Refusal) (x : Refusal) → IsErrAnd r (λ e. e ≡ x) → P x → IfErr r P
+refused_by P (Ok v) x is p = tt
+refused_by P (Err e) x is p = subst P (sym is) p
+
+-- what holds of each success, after one
+pub succeeded : {X E P : Type 0} (r : Result X E) (b : Bool) → b ≡ is_err r → b ≡ false → OnOk r P → P
+succeeded (Ok v) b is fine p = p
+succeeded (Err e) b is fine p = absurd (both_ways b fine is)
+
+-- what holds anyway holds of a success, and of a failure
+pub on_ok : {X E P : Type 0} (r : Result X E) → P → OnOk r P
+on_ok (Ok v) p = p
+on_ok (Err e) p = tt
+
+pub on_err : {X E P : Type 0} (r : Result X E) → P → OnErr r P
+on_err (Ok v) p = tt
+on_err (Err e) p = p
+
+-- ---- groups with their handles
+
+-- of a principal: a group of which a pointer is in what is written, with its i-handle
+abbrev pub handle_of : Tree → List Area → Principal → List (ℕ × List ℕ)
+handle_of T w (User u) = []
+handle_of T w (Group g) = cond (carries g w) (with_handle T g ∷ []) []
+
+abbrev pub handles_among : Tree → List Area → List Principal → List (ℕ × List ℕ)
+handles_among T w [] = []
+handles_among T w (p ∷ ps) = handle_of T w p ++ handles_among T w ps
+
+pub handles-push : (T : Tree) (w : List Area) (ps : List Principal) (p : Principal) → handles_among T w (ps ++ p ∷ []) ≡ handles_among T w ps ++ handle_of T w p
+handles-push T w [] p = append-nil (handle_of T w p)
+handles-push T w (q ∷ ps) p = ap (λ xs. handle_of T w q ++ xs) (handles-push T w ps p) ∙ sym (append_assoc (handle_of T w q) (handles_among T w ps) (handle_of T w p))
+
+after_users : (T : Tree) (w : List Area) (us : List (ℕ × List ℕ)) (ps : List Principal) → handles_among T w (map user_principal us ++ ps) ≡ handles_among T w ps
+after_users T w [] ps = refl
+after_users T w (u ∷ us) ps = after_users T w us ps
+
+of_groups : (T : Tree) (w : List Area) (gs : List (ℕ × List ℕ)) → handles_among T w (map group_principal gs) ≡ map (with_handle T) (filter (λ g. carries g w) (map (λ g. g.0) gs))
+of_groups T w [] = refl
+of_groups T w (g ∷ gs) = go (carries g.0 w) (of_groups T w gs)
+  where
+    rest : List ℕ
+    rest = filter (λ g. carries g w) (map (λ g. g.0) gs)
+
+    go : (b : Bool) → handles_among T w (map group_principal gs) ≡ map (with_handle T) rest → cond b (with_handle T g.0 ∷ []) [] ++ handles_among T w (map group_principal gs) ≡ map (with_handle T) (cond b (g.0 ∷ rest) rest)
+    go true ih = ap (λ xs. with_handle T g.0 ∷ xs) ih
+    go false ih = ih
+
+pub handles_carried : (T : Tree) (w : List Area) (ro : Membership) → handles_among T w (principals ro) ≡ carried_handles ro w T
+handles_carried T w ro = after_users T w ro.users (map group_principal ro.groups) ∙ of_groups T w ro.groups
+
+-- those among the principals so far, and of one more
+pub handles_next : (T : Tree) (w : List Area) (all ps : List Principal) (p : Principal) (now new : List (ℕ × List ℕ)) → all ≡ ps ++ p ∷ [] → now ≡ handles_among T w ps → new ≡ now ++ handle_of T w p → new ≡ handles_among T w all
+handles_next T w all ps p now new more is one = one ∙ ap (λ xs. xs ++ handle_of T w p) is ∙ sym (handles-push T w ps p) ∙ ap (handles_among T w) (sym more)
+
+-- of a group that is carried, and of one that isn't
+pub carried_one : (T : Tree) (w : List Area) (p : Principal) (g : ℕ) (b : Bool) → p ≡ Group g → b ≡ carries g w → b ≡ true → handle_of T w p ≡ with_handle T g ∷ []
+carried_one T w p g b group is holds = ap (handle_of T w) group ∙ ap (λ x. cond x (with_handle T g ∷ []) []) (sym is ∙ holds)
+
+pub carried_none : (T : Tree) (w : List Area) (p : Principal) (g : ℕ) (b : Bool) → p ≡ Group g → b ≡ carries g w → b ≡ false → handle_of T w p ≡ []
+carried_none T w p g b group is fails = ap (handle_of T w) group ∙ ap (λ x. cond x (with_handle T g ∷ []) []) (sym is ∙ fails)

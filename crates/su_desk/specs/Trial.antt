@@ -1,0 +1,77 @@
+-- A desk on which one change can be prepared before it is settled: it is made at once, and taken
+-- back where it isn't settled.
+use Rattle.std.specs.Prelude.{◌≡◌, ℕ, ◌+◌, ◌-◌, List, map, length, take, Option, None, Some}
+use Rattle.su_bytes.specs.Membership.{Membership}
+use Rattle.su_bytes.specs.declared.principals.Principal.TheVariants.{User, Group}
+use Rattle.su_table.specs.Tree.{Tree}
+use Rattle.su_table.specs.Handle.{handle}
+use Rattle.su_op.specs.declared.areas.Area.{Area}
+use Rattle.su_op.specs.declared.operations.Change.{Change}
+use Rattle.su_desk.specs.declared.entries.Entry.{Entry}
+use Rattle.su_desk.specs.declared.prepared.Prepared.{Prepared}
+use Rattle.su_desk.specs.declared.prepared.Tried.{Tried}
+use Rattle.su_desk.specs.History.{entry_by, entry_at}
+use Rattle.su_desk.specs.Applied.{tree_after}
+use Rattle.su_desk.specs.Version.{carried_groups, cells_of, versions}
+use Rattle.su_desk.specs.Desk.{DeskState, with_entry}
+
+-- what is seen of such a desk: what is settled, and the entry that stands ready, if one does
+pub record TrialState : Type 0 where
+  pub settled : DeskState
+  pub ready : Option Entry
+
+-- nothing stands ready
+abbrev pub nothing_ready : DeskState → TrialState
+nothing_ready d = record { settled = d; ready = None }
+
+-- a change by user a stands ready
+abbrev pub ready_with : DeskState → ℕ → Change → TrialState
+ready_with d a c = record { settled = d; ready = Some (entry_by a c) }
+
+-- a desk after the entry that stood ready, if one did
+abbrev pub with_ready : DeskState → Option Entry → DeskState
+with_ready d None = d
+with_ready d (Some e) = with_entry d e.author e.change
+
+-- ---- what is told of a change that stands ready
+
+-- the tree of a desk
+abbrev pub tree_of : DeskState → Tree
+tree_of d = tree_after d.roster d.history
+
+-- a group with its i-handle in T
+abbrev pub with_handle : Tree → ℕ → ℕ × List ℕ
+with_handle T g = (g, handle T (Group g))
+
+-- the groups of which a pointer is in what is written, in the order of the roster, with their
+-- i-handles in T
+abbrev pub carried_handles : Membership → List Area → Tree → List (ℕ × List ℕ)
+carried_handles ro w T = map (with_handle T) (carried_groups ro w)
+
+-- What is told of a change by user a, of the history and the tree with it: the number of its entry,
+-- the version numbers, the i-handle of a, and those of the groups that it carries.
+pub record Tells (d : DeskState) (a : ℕ) (c : Change) (p : Prepared) : Type 0 where
+  pub number : p.number ≡ length d.history + 1
+  pub versions : p.versions.items ≡ versions d.roster (with_entry d a c).history
+  pub author_handle : p.author_handle ≡ handle (tree_of (with_entry d a c)) (User a)
+  pub groups : p.groups.items
+      ≡ carried_handles d.roster (cells_of d.roster d.history a c) (tree_of (with_entry d a c))
+
+-- the entry that stands ready is the one of which this is told
+abbrev pub IsReady : TrialState → Prepared → Type 0
+IsReady t p = (e : Entry) × (t.ready ≡ Some e) × Tells t.settled e.author e.change p
+
+-- ---- what is seen of the fields
+
+-- a desk before its last entry
+abbrev pub before_last : DeskState → DeskState
+before_last d = record { roster = d.roster; history = take (length d.history - 1) d.history }
+
+-- its last entry, if it has one
+abbrev pub last_entry : DeskState → Option Entry
+last_entry d = entry_at d.history (length d.history)
+
+-- of a desk and what takes its last entry back, if that is there: that entry stands ready
+abbrev pub seen_of : DeskState → Option Tried → TrialState
+seen_of d None = nothing_ready d
+seen_of d (Some t) = record { settled = before_last d; ready = last_entry d }

@@ -1,0 +1,58 @@
+-- What takes the last entry of a desk back.
+use Rattle.std.specs.Prelude.{◌≡◌, ℕ, List, ◌∷◌, ◌++◌, length, Option, Some, None, ⊤}
+use Rattle.su_bytes.specs.Membership.{Membership}
+use Rattle.su_table.specs.Tree.{Tree, genesis}
+use Rattle.su_op.specs.declared.operations.Change.{Change}
+use Rattle.su_op.specs.declared.operations.Change.TheVariants.{Do, Undo}
+use Rattle.su_inverse.specs.Kept.{IsPutBack}
+use Rattle.su_desk.specs.declared.entries.Entry.{Entry}
+use Rattle.su_desk.specs.declared.kept.KeptOperation.{KeptOperation}
+use Rattle.su_desk.specs.declared.prepared.Undone.{Undone}
+use Rattle.su_desk.specs.declared.prepared.Tried.{Tried}
+use Rattle.su_desk.specs.History.{NumberedAction, live, replay}
+use Rattle.su_desk.specs.Version.{versions}
+use Rattle.su_desk.specs.Desk.{DeskState, with_entry}
+use Rattle.su_desk.specs.Keeping.{Fits}
+use Rattle.su_desk.specs.Trial.{tree_of}
+
+-- Operation n is live, with so many live ones before it; and what is kept of it fits the tree where
+-- it comes in the replay.
+pub record IsKeptAt (ro : Membership) (h : List Entry) (n : ℕ) (index : ℕ) (k : KeptOperation)
+    : Type 0 where
+  pub before : List NumberedAction
+  pub operation : NumberedAction
+  pub after : List NumberedAction
+  pub earlier : Tree
+  pub whole : live h ≡ before ++ operation ∷ after
+  pub number : operation.number ≡ n
+  pub place : length before ≡ index
+  pub reached : replay ro genesis before ≡ Some earlier
+  pub fits : Fits ro earlier operation k
+
+-- Of an undo of n by user a: what it took out is what was kept of n, and what was held puts the
+-- tree before it back.
+pub record TakesUndoBack (d : DeskState) (a n : ℕ) (u : Undone) : Type 0 where
+  pub kept : IsKeptAt d.roster d.history n u.index u.operation
+  pub back : IsPutBack u.held (tree_of (with_entry d a (Undo n))) (tree_of d)
+
+-- of a change by user a: what takes an operation back is kept with it
+abbrev pub TakesChangeBack : DeskState → ℕ → Change → Option Undone → Type 0
+TakesChangeBack d a (Do op) None = ⊤
+TakesChangeBack d a (Undo n) (Some u) = TakesUndoBack d a n u
+TakesChangeBack d a (Do op) (Some u) = ⊥
+TakesChangeBack d a (Undo n) None = ⊥
+
+-- this takes a change by user a back, after which a desk is d again
+pub record TakesBack (d : DeskState) (a : ℕ) (c : Change) (t : Tried) : Type 0 where
+  pub versions : t.versions.items ≡ versions d.roster d.history
+  pub change : TakesChangeBack d a c t.undone
+
+-- this takes the last entry of a desk back
+abbrev pub TakesLastBack : DeskState → Tried → Type 0
+TakesLastBack s t =
+    (d : DeskState) × (a : ℕ) × (c : Change) × (s ≡ with_entry d a c) × TakesBack d a c t
+
+-- the same where there may be none
+abbrev pub TriedFits : DeskState → Option Tried → Type 0
+TriedFits s None = ⊤
+TriedFits s (Some t) = TakesLastBack s t

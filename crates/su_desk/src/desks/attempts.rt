@@ -1,0 +1,175 @@
+// Changes that are made so that they can be taken back.
+ghost use Rattle.std.specs.Prelude.{◌≡◌, ◌⊎◌, ℕ, true, None, Some, Err, IfOk, IfErr, OnOk, OnErr};
+ghost use Rattle.su_bytes.specs.declared.refusals.Refusal.TheVariants.{NoMemory};
+ghost use Rattle.su_op.specs.declared.operations.Change.{Change};
+ghost use Rattle.su_op.specs.declared.operations.Change.TheVariants.{Do, Undo};
+ghost use Rattle.su_op.specs.Area.{has};
+ghost use Rattle.su_op.specs.declared.operations.Op.{Op};
+ghost use Rattle.su_table.specs.Cell.{Cell};
+ghost use Rattle.su_inverse.specs.Kept.{inverse_areas, IsKeptOf};
+ghost use Rattle.su_desk.specs.Answer.{answer, refusal_of, undo_refusal};
+ghost use Rattle.su_desk.specs.Applied.{written_by};
+ghost use Rattle.su_desk.specs.Desk.{DeskState, with_entry};
+ghost use Rattle.su_desk.specs.Trial.{tree_of, before_last, Tells};
+ghost use Rattle.su_desk.specs.Tried.{TakesUndoBack, TakesBack, TakesLastBack};
+ghost use Rattle.su_desk.specs.Version.{cells_of, versions};
+
+use super::Desk;
+use crate::kept::undo_index;
+use crate::prepared::{Prepared, Tried, Undone};
+use crate::versions::carried_handles;
+use su_bytes::{Principal, Refusal, User};
+use su_inverse::{Inverse, build_whole};
+use su_op::{Area, Change};
+
+impl Desk {
+    /// Makes a change as `apply` does, and returns what takes it back.
+    pub(crate) fn attempt(&mut self, author: User, change: Change) -> Result<Tried, Refusal>
+        ensures accepted { OnOk result
+            (refusal_of self.old.roster self.old.history author change ≡ None) }
+        ensures done { OnOk result (self.new ≡ with_entry self.old author change) }
+        ensures tried { IfOk result (TakesBack self.old author change) }
+        ensures refused { IfErr result (λ e.
+            (e ≡ NoMemory) ⊎ (answer self.old.roster self.old.history author change ≡ Err e)) }
+        ensures err { OnErr result (self.new ≡ self.old) }
+    {
+        let versions = Vec::from_slice(self.alloc, self.counters.as_slice())?;
+        match change {
+            Change::Do(op) => {
+                self.operate(author, op)?;
+                Ok(Tried {
+                    versions,
+                    undone: None,
+                })
+            }
+            Change::Undo(number) => {
+                let held = self.hold(author, number)?;
+                let (index, operation) = self.take_out(author, number)?;
+                let undone = Undone {
+                    index,
+                    operation,
+                    held,
+                };
+                Ok(Tried {
+                    versions,
+                    undone: Some(undone),
+                })
+            }
+        }
+    }
+
+    /// Keeps what the cells hold that the undo changes. Refused as the undo is.
+    fn hold(&self, author: User, number: u64) -> Result<Inverse, Refusal>
+        ensures covers { IfOk result (λ held.
+            (c : Cell) → has (written_by self.now.roster self.now.history number) c ≡ true
+            → has (inverse_areas held) c ≡ true) }
+        ensures kept { IfOk result (λ held. IsKeptOf held (tree_of self.now)) }
+        ensures refused { IfErr result (λ e.
+            (e ≡ NoMemory)
+            ⊎ (undo_refusal self.now.roster self.now.history author number ≡ Some e)) }
+    {
+        let index = undo_index(&self.roster, &self.entries, &self.kept, author, number)?;
+        build_whole(self.alloc, &self.forest, &self.kept[index].footprint.writes)
+    }
+
+    /// Tells what holds with the last entry, a change of that author. Fails only with `NoMemory`.
+    pub(crate) fn tell(&self, author: User, tried: &Tried) -> Result<Prepared, Refusal>
+        requires { TakesLastBack self.now tried.now }
+        ensures told { IfOk result (λ prepared.
+            (d : DeskState) (c : Change) → self.now ≡ with_entry d author c
+            → TakesBack d author c tried.now → Tells d author c prepared) }
+        ensures refused { IfErr result (λ e. e ≡ NoMemory) }
+    {
+        let versions = Vec::from_slice(self.alloc, self.counters.as_slice())?;
+        let author_handle = self.forest.i_handle(author)?;
+        let written = self.last_written(tried);
+        let groups = carried_handles(self.alloc, &self.roster, written, &self.forest)?;
+        Ok(Prepared {
+            number: self.entries.len() as u64,
+            versions,
+            author_handle,
+            groups,
+        })
+    }
+
+    /// Returns the cells of the last entry: those that its operation wrote, or the one that it
+    /// undid.
+    fn last_written<'a>(&'a self, tried: &'a Tried) -> &'a [Area]
+        requires { TakesLastBack self.now tried.now }
+        ensures { (d : DeskState) (a : ℕ) (c : Change) → self.now ≡ with_entry d a c
+            → TakesBack d a c tried.now → result.now ≡ cells_of d.roster d.history a c }
+    {
+        match &tried.undone {
+            Some(undone) => undone.operation.footprint.writes.as_slice(),
+            None => match self.kept.last() {
+                Some(operation) => operation.footprint.writes.as_slice(),
+                None => unreachable!(),
+            },
+        }
+    }
+
+    /// Takes the last entry back. Fails only where there is no memory for it: then changes nothing,
+    /// and gives back what it was to be taken back by.
+    pub(crate) fn take_back(&mut self, tried: Tried) -> Result<(), Tried>
+        requires { TakesLastBack self.old tried }
+        ensures ok { OnOk result (self.new ≡ before_last self.old) }
+        ensures tried { IfErr result (λ again. again ≡ tried) }
+        ensures err { OnErr result (self.new ≡ self.old) }
+    {
+        let Tried { versions, undone } = tried;
+        match undone {
+            None => match self.take_operation_back(versions.as_slice()) {
+                Ok(()) => Ok(()),
+                Err(_) => Err(Tried {
+                    versions,
+                    undone: None,
+                }),
+            },
+            Some(undone) => match self.take_undo_back(versions.as_slice(), undone) {
+                Ok(()) => Ok(()),
+                Err(undone) => Err(Tried {
+                    versions,
+                    undone: Some(undone),
+                }),
+            },
+        }
+    }
+
+    /// Takes the operation of the last entry back. Fails only with `NoMemory`, and then changes
+    /// nothing.
+    fn take_operation_back(&mut self, numbers: &[(Principal, u64)]) -> Result<(), Refusal>
+        requires { (d : DeskState) × (a : ℕ) × (op : Op) × (self.old ≡ with_entry d a (Do op))
+            × (numbers.now ≡ versions d.roster d.history) }
+        ensures ok { OnOk result (self.new ≡ before_last self.old) }
+        ensures err { OnErr result (self.new ≡ self.old) }
+    {
+        let Some(operation) = self.kept.last() else {
+            unreachable!()
+        };
+        operation.inverse.undo_on(&mut self.forest)?;
+        self.kept.pop();
+        self.counters.copy_from_slice(numbers);
+        self.entries.pop();
+        Ok(())
+    }
+
+    /// Takes the undo of the last entry back. Fails only where there is no memory for it: then
+    /// changes nothing, and gives back what it was to be taken back by.
+    fn take_undo_back(&mut self, numbers: &[(Principal, u64)], undone: Undone) -> Result<(), Undone>
+        requires { (d : DeskState) × (a : ℕ) × (n : ℕ) × (self.old ≡ with_entry d a (Undo n))
+            × (numbers.now ≡ versions d.roster d.history) × TakesUndoBack d a n undone }
+        ensures ok { OnOk result (self.new ≡ before_last self.old) }
+        ensures undone { IfErr result (λ again. again ≡ undone) }
+        ensures err { OnErr result (self.new ≡ self.old) }
+    {
+        if self.kept.reserve(1).is_err() || undone.held.undo_on(&mut self.forest).is_err() {
+            return Err(undone);
+        }
+        let Ok(()) = self.kept.insert(undone.index, undone.operation) else {
+            unreachable!()
+        };
+        self.counters.copy_from_slice(numbers);
+        self.entries.pop();
+        Ok(())
+    }
+}

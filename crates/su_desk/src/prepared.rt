@@ -1,0 +1,34 @@
+// What is told of a change that was prepared, and what takes it back.
+use crate::kept::KeptOperation;
+use su_bytes::{Digest, Group, Principal};
+use su_inverse::Inverse;
+
+/// What is told of a change that stands ready, of the history and the tree with it.
+#[derive(Debug, Drop)]
+pub struct Prepared {
+    /// The number of its entry, from 1.
+    pub number: u64,
+    /// The version numbers of the users of the roster, and then of its groups.
+    pub versions: Vec<(Principal, u64)>,
+    /// The i-handle of its author.
+    pub author_handle: Digest,
+    /// The groups that it carries, ascending, with their i-handles.
+    pub groups: Vec<(Group, Digest)>,
+}
+
+/// What takes the last entry of a desk back: the version numbers before it, and of an undo what it
+/// undid. What takes an operation back is kept with it.
+#[derive(Drop)]
+pub(crate) struct Tried {
+    pub(crate) versions: Vec<(Principal, u64)>,
+    pub(crate) undone: Option<Undone>,
+}
+
+/// An operation that was undone: what was kept of it, at which index, and what the cells that it
+/// wrote held until then.
+#[derive(Drop)]
+pub(crate) struct Undone {
+    pub(crate) index: usize,
+    pub(crate) operation: KeptOperation,
+    pub(crate) held: Inverse,
+}

@@ -1,0 +1,153 @@
+// A desk on which one change can be prepared before it is settled.
+ghost use Rattle.std.specs.Prelude.{◌≡◌, ◌⊎◌, ◌+◌, [], length, None, Some, Ok, Err, IfOk, IfErr, OnOk, OnErr};
+ghost use Rattle.su_bytes.specs.declared.refusals.Refusal.TheVariants.{NoMemory};
+ghost use Rattle.su_desk.specs.Answer.{answer, Good};
+ghost use Rattle.su_desk.specs.Desk.{Answers};
+ghost use Rattle.su_desk.specs.Headline.{Headline};
+ghost use Rattle.su_desk.specs.History.{tree, live_numbers};
+ghost use Rattle.su_desk.specs.Trial.{nothing_ready, ready_with, with_ready, Tells, IsReady};
+ghost use Rattle.su_desk.specs.Version.{versions};
+
+use crate::desks::Desk;
+use crate::prepared::{Prepared, Tried};
+use std::alloc::Global;
+use std::marker::Model;
+use su_bytes::{Principal, Refusal, Roster, User};
+use su_op::Change;
+use su_table::Forest;
+
+/// A desk on which one change can be prepared, so that it is known what it makes of the tree, and
+/// then settled, which takes no memory. Its model is the desk that is settled, and the entry that
+/// stands ready.
+///
+/// A prepared change is made at once. Where it isn't settled, it is taken back when something else
+/// is prepared, or by `take_back`.
+#[derive(Drop)]
+pub struct TrialDesk {
+    desk: Desk,
+    tried: Option<Tried>,
+}
+
+impl Model for TrialDesk {
+    ghost use Rattle.su_desk.specs.Trial.{TrialState, seen_of};
+
+    ghost Value = { TrialState };
+
+    ghost use Rattle.su_desk.specs.Tried.{TriedFits};
+
+    ghost view = { λ t. seen_of t.desk t.tried };
+
+    ghost invariant = { λ t. TriedFits t.desk t.tried };
+}
+
+impl TrialDesk {
+    /// Makes a desk with an empty history. Fails only with `NoMemory`.
+    pub fn new(alloc: Global, roster: Roster) -> Result<TrialDesk, Refusal>
+        ensures value { IfOk result (λ desk.
+            desk ≡ nothing_ready (record { roster = roster; history = [] })) }
+        ensures refused { IfErr result (λ e. e ≡ NoMemory) }
+    {
+        Ok(TrialDesk {
+            desk: Desk::new(alloc, roster)?,
+            tried: None,
+        })
+    }
+
+    /// Returns who belongs to the store.
+    pub fn roster(&self) -> &Roster
+        ensures { result.now ≡ self.now.settled.roster }
+    {
+        self.desk.roster()
+    }
+
+    /// Returns the version numbers of what is settled, of the users of the roster, and then of its
+    /// groups. Takes no memory, also where a change stands ready.
+    pub fn versions(&self) -> &[(Principal, u64)]
+        ensures { result.now ≡ versions self.now.settled.roster self.now.settled.history }
+    {
+        match &self.tried {
+            Some(tried) => tried.versions.as_slice(),
+            None => self.desk.versions(),
+        }
+    }
+
+    /// Makes a change on trial, and tells what then holds. What stood ready is taken back before,
+    /// and stays so where the change is refused: by the first refusal in order, or `NoMemory`.
+    pub fn prepare(&mut self, author: User, change: Change) -> Result<Prepared, Refusal>
+        ensures accepted { IfOk result (λ prepared.
+            answer self.old.settled.roster self.old.settled.history author change
+            ≡ Ok prepared.number) }
+        ensures told { IfOk result (Tells self.old.settled author change) }
+        ensures ready { OnOk result (self.new ≡ ready_with self.old.settled author change) }
+        ensures refused { IfErr result (λ e.
+            (e ≡ NoMemory)
+            ⊎ (answer self.old.settled.roster self.old.settled.history author change ≡ Err e)) }
+        ensures err { OnErr result (self.new.settled ≡ self.old.settled) }
+    {
+        self.take_back()?;
+        let tried = self.desk.attempt(author, change)?;
+        let prepared = self.desk.tell(author, &tried);
+        self.tried = Some(tried);
+        prepared
+    }
+
+    /// Settles the change that stands ready, which is the one that `prepared` tells of, and returns
+    /// the number of its entry. Takes no memory.
+    pub fn settle(&mut self, prepared: Prepared) -> u64
+        requires { IsReady self.old prepared }
+        ensures number { result ≡ length self.old.settled.history + 1 }
+        ensures settled { self.new ≡ nothing_ready (with_ready self.old.settled self.old.ready) }
+    {
+        self.tried = None;
+        prepared.number
+    }
+
+    /// Makes a change for good: prepares it, and settles it. What stood ready is taken back before;
+    /// a refusal, the first in order or `NoMemory`, changes nothing that is settled.
+    pub fn apply(&mut self, author: User, change: Change) -> Result<u64, Refusal>
+        ensures answered { Answers self.old.settled author change result self.new.settled }
+        ensures none_ready { OnOk result (self.new.ready ≡ None) }
+    {
+        let prepared = self.prepare(author, change)?;
+        Ok(self.settle(prepared))
+    }
+
+    /// Takes back what stands ready, if something does. Fails only with `NoMemory`, and then
+    /// changes nothing.
+    pub fn take_back(&mut self) -> Result<(), Refusal>
+        ensures ok { OnOk result (self.new ≡ nothing_ready self.old.settled) }
+        ensures refused { IfErr result (λ e. e ≡ NoMemory) }
+        ensures err { OnErr result (self.new ≡ self.old) }
+    {
+        let Some(tried) = self.tried.take() else {
+            return Ok(());
+        };
+        if let Err(tried) = self.desk.take_back(tried) {
+            self.tried = Some(tried);
+            return Err(Refusal::NoMemory);
+        }
+        Ok(())
+    }
+
+    /// Returns the tree of what is settled, where nothing stands ready. Of it, the history and the
+    /// version numbers all holds that the desk is for.
+    pub fn forest(&self) -> &Forest
+        requires { self.now.ready ≡ None }
+        ensures tree { tree self.now.settled.roster self.now.settled.history ≡ Some result.now }
+        ensures good { Good self.now.settled.roster self.now.settled.history }
+        ensures headline { Headline self.now.settled.roster self.now.settled.history result.now }
+    {
+        self.desk.forest()
+    }
+
+    /// Returns the numbers of the live operations of what is settled, ascending, where nothing
+    /// stands ready. Fails only with `NoMemory`.
+    pub fn live(&self) -> Result<Vec<u64>, Refusal>
+        requires { self.now.ready ≡ None }
+        ensures value { IfOk result (λ numbers.
+            numbers.items ≡ live_numbers self.now.settled.history) }
+        ensures refused { IfErr result (λ e. e ≡ NoMemory) }
+    {
+        self.desk.live()
+    }
+}
