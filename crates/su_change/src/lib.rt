@@ -1,0 +1,18 @@
+//! The bytes of a change: its item, by which it is stored, and whose digest names it.
+#![tactic(auto)]
+
+mod create;
+mod decoder;
+mod encoder;
+mod laws;
+mod link;
+mod rename;
+mod tags;
+mod take;
+mod truncate;
+mod unlink;
+mod write;
+
+pub use decoder::decode;
+pub use encoder::{digest, encode};
+pub use laws::no_item_begins_another;

@@ -1,0 +1,29 @@
+// A group file is taken over, in bytes.
+ghost use Rattle.std.specs.Prelude.{◌≡◌, ◌++◌, OnOk};
+ghost use Rattle.su_format.specs.Reading.{Takes};
+ghost use Rattle.su_change.specs.Take.{IsTake, take_bytes, take_fields};
+
+use std::alloc::AllocError;
+use su_bytes::{FileId, Refusal};
+use su_format::{Reader, Writer};
+use su_op::{Change, Op, Take};
+
+/// Reads a take: the file, and the number of the new body.
+pub fn read(reader: &mut Reader<'_>) -> Result<Change, Refusal>
+    ensures { Takes take_fields reader.old result reader.new }
+{
+    // names the type for the prover (docs/ARCHITECTURE.md, "Forms the kit wants")
+    let _file: Option<FileId> = None;
+    let file = reader.take_file_id()?;
+    let body = reader.take_inum()?;
+    Ok(Change::Do(Op::Take(Take { file, body })))
+}
+
+/// Writes the fields in the same order.
+pub fn write(writer: &mut Writer, take: &Take) -> Result<(), AllocError>
+    ensures { OnOk result
+        (IsTake take.now × (writer.new ≡ writer.old ++ take_bytes take.now)) }
+{
+    writer.put_file_id(take.file)?;
+    writer.put_inum(take.body)
+}
