@@ -5,7 +5,7 @@ use Rattle.su_bytes.specs.Membership.{Membership, has_number}
 use Rattle.su_bytes.specs.Principal.{principals, user_principal, group_principal}
 use Rattle.su_bytes.specs.declared.principals.Principal.{Principal}
 use Rattle.su_bytes.proofs.Public.{list_any-map}
-use Rattle.su_version.specs.Vector.{bump, numbers_after}
+use Rattle.su_vector.specs.Vector.{bump, numbers_after}
 use Rattle.su_version.specs.Commit.{Commit}
 use Rattle.su_version.specs.Chain.{is_that_group, CountsOn}
 

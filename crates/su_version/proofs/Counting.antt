@@ -1,21 +1,12 @@
 -- The vectors of a chain are as long as the roster has principals.
-use Rattle.std.proofs.Common.{◌≡◌, ℕ, suc, List, [], ◌∷◌, ◌++◌, length, refl, sym, ap, ◌∙◌, arith}
+use Rattle.std.proofs.Common.{◌≡◌, ℕ, List, [], ◌∷◌, ◌++◌, length, refl, sym, ap, ◌∙◌}
 use Rattle.std.proofs.lemmas.List.{length-map}
 use Rattle.su_bytes.specs.Membership.{Membership}
 use Rattle.su_bytes.specs.Principal.{principals}
-use Rattle.su_bytes.specs.declared.principals.Principal.{Principal}
-use Rattle.su_version.specs.Vector.{zeros, bump, numbers_after}
+use Rattle.su_vector.specs.Vector.{zeros}
+use Rattle.su_vector.proofs.Public.{length-bump}
 use Rattle.su_version.specs.Commit.{Commit}
 use Rattle.su_version.specs.Chain.{last_vector, chain_vector, ChainAfter, IsChain}
-
-length-numbers_after : (ps : List Principal) (v : List ℕ) (a : ℕ) (gs : List ℕ) → length v ≡ length ps → length (numbers_after ps v a gs) ≡ length ps
-length-numbers_after [] v a gs long = refl
-length-numbers_after (p ∷ ps) [] a gs long = absurd (omega arith)
-length-numbers_after (p ∷ ps) (n ∷ v) a gs long = ap suc (length-numbers_after ps v a gs (omega arith))
-
-pub length-bump : (ro : Membership) (v : List ℕ) (a : ℕ) (gs : List ℕ) → length v ≡ length (principals ro) → length (bump ro v a gs) ≡ length (principals ro)
-unfolding bump
-length-bump ro v a gs long = length-numbers_after (principals ro) v a gs long
 
 last_vector-push : (v : List ℕ) (cs : List Commit) (c : Commit) → last_vector v (cs ++ c ∷ []) ≡ c.version.vector
 last_vector-push v [] c = refl

@@ -3,5 +3,4 @@ mod CommitSpelling
 mod Chaining
 mod Counting
 mod Leaves
-mod Ordering
 pub mod Public

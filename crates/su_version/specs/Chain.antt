@@ -8,10 +8,10 @@ use Rattle.su_bytes.specs.declared.principals.Principal.TheVariants.{User, Group
 use Rattle.su_bytes.specs.declared.refusals.Refusal.{Refusal}
 use Rattle.su_bytes.specs.declared.refusals.Refusal.TheVariants.{BadSignature, WrongPrev, WrongVector, KeyReuse}
 use Rattle.su_lms.specs.Signature.{IsSigned, leaf_of}
-use Rattle.su_version.specs.Vector.{zeros, bump}
+use Rattle.su_vector.specs.Vector.{zeros, bump}
 use Rattle.su_version.specs.Version.{version_bytes}
 use Rattle.su_version.specs.Commit.{Commit, IsCommit, commit_digest}
-use Rattle.su_version.specs.Roster.{roster_digest, user_key}
+use Rattle.su_bytes.specs.RosterBytes.{roster_digest, user_key}
 
 -- ---- what a chain comes to
 

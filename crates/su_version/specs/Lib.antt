@@ -1,6 +1,3 @@
-pub mod Vector
 pub mod Version
 pub mod Commit
-pub mod Roster
 pub mod Chain
-pub mod Order

@@ -3,17 +3,17 @@ ghost use Rattle.std.specs.Prelude.{◌≡◌, ◌≤◌, ◌⊎◌, ◌↔◌, 
 ghost use Rattle.std.specs.List.{AllByRecursion, list_any};
 ghost use Rattle.std.specs.Option.{option_copied};
 ghost use Rattle.su_bytes.specs.Principal.{principals as principals_of};
-ghost use Rattle.su_lms.specs.Signature.{IsSigned, leaf_of};
+ghost use Rattle.su_lms.specs.Signature.{IsSigned};
 ghost use Rattle.su_version.specs.Chain.{MayFollow, IsRefusedSo, CountsOn, IsNewLeaf, is_that_group};
-ghost use Rattle.su_version.specs.Roster.{IsKeyOf};
+ghost use Rattle.su_bytes.specs.RosterBytes.{IsKeyOf};
 ghost use Rattle.su_bytes.specs.declared.refusals.Refusal.TheVariants.{NoMemory};
 
 use crate::commits::Commit;
-use crate::vectors::{Vector, are_numbers_after};
 use std::alloc::Global;
 use std::marker::Model;
 use su_bytes::{Digest, FileId, Group, Principal, Refusal, Roster};
 use su_lms::PublicKey;
+use su_vector::{Vector, are_numbers_after};
 
 /// What a chain of commits comes to for the next commit of a user.
 #[derive(Drop)]
@@ -87,7 +87,7 @@ impl<'a> Tip<'a> {
         if !counts_on(roster, principals.as_slice(), self.vector, commit) {
             return Err(Refusal::WrongVector);
         }
-        if !is_new_leaf(self.leaf, leaf_of(commit.signature())) {
+        if !is_new_leaf(self.leaf, commit.leaf()) {
             return Err(Refusal::KeyReuse);
         }
         Ok(())
@@ -103,16 +103,6 @@ fn is_signed(key: Option<&PublicKey>, message: &[u8], signature: &[u8]) -> bool
         None => false,
         Some(key) => key.verify(message, signature),
     }
-}
-
-/// The number of the leaf by which a signature was made.
-fn leaf_of(signature: &[u8]) -> u32
-    requires { 4 ≤ length signature.now }
-    ensures { result ≡ leaf_of signature.now }
-{
-    let mut bytes = [0u8; 4];
-    bytes.copy_from_slice(&signature[..4]);
-    u32::from_be_bytes(bytes)
 }
 
 fn is_new_leaf(last: Option<u32>, leaf: u32) -> bool

@@ -1,6 +1,7 @@
 // Commits.
 ghost use Rattle.std.specs.Prelude.{◌≡◌, ◌≤◌, ◌⊎◌, ◌++◌, ◌↔◌, IsTrue, length, Ok, Err, IfOk, IfErr, OnOk};
 ghost use Rattle.su_format.specs.Reading.{Takes, Decodes};
+ghost use Rattle.su_lms.specs.Signature.{leaf_of};
 ghost use Rattle.su_version.specs.Commit.{IsCommit, commit_bytes, commit_digest, commit_format, signature_size_part};
 ghost use Rattle.su_version.specs.Commit.{Commit as CommitParts};
 ghost use Rattle.su_bytes.specs.declared.refusals.Refusal.TheVariants.{NoMemory};
@@ -11,6 +12,7 @@ use std::alloc::{AllocError, Global};
 use std::marker::Model;
 use su_bytes::{Digest, FileId, Refusal};
 use su_format::{Reader, Writer};
+use su_vector::{HasVector, Vector};
 
 /// The most bytes of a signature.
 pub const LONGEST_SIGNATURE: usize = 9_324;
@@ -58,6 +60,21 @@ impl Commit {
         ensures { result.now ≡ self.now.signature }
     {
         self.signature.as_slice()
+    }
+
+    /// Returns the number of the leaf by which it was signed, as the signature has it.
+    pub fn leaf(&self) -> u32
+        requires { 4 ≤ length self.now.signature }
+        ensures { result ≡ leaf_of self.now.signature }
+    {
+        leaf_of(self.signature())
+    }
+
+    /// Gives the version structure away, without the signature.
+    pub fn into_version(self) -> VersionStructure
+        ensures { result ≡ self.version }
+    {
+        self.version
     }
 
     /// Returns the bytes: those of the version structure, the length of the signature, and the
@@ -120,6 +137,24 @@ impl Commit {
         let signature = Vec::from_slice(alloc, bytes)?;
         Ok(Commit { version, signature })
     }
+}
+
+impl HasVector for Commit {
+    ghost vector_of = { λ c. c.version.vector };
+
+    fn vector(&self) -> &Vector {
+        self.version.vector()
+    }
+}
+
+/// Returns the number of the leaf by which a signature was made.
+fn leaf_of(signature: &[u8]) -> u32
+    requires { 4 ≤ length signature.now }
+    ensures { result ≡ leaf_of signature.now }
+{
+    let mut bytes = [0u8; 4];
+    bytes.copy_from_slice(&signature[..4]);
+    u32::from_be_bytes(bytes)
 }
 
 fn is_signature_size(size: u32) -> bool

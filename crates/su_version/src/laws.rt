@@ -3,7 +3,7 @@ ghost use Rattle.std.specs.Prelude.{◌≡◌, ◌++◌, ℕ, List};
 ghost use Rattle.su_bytes.specs.Membership.{Membership};
 ghost use Rattle.su_version.specs.Version.{Version, IsVersion, version_bytes};
 ghost use Rattle.su_version.specs.Commit.{Commit, IsCommit, commit_bytes};
-ghost use Rattle.su_version.specs.Roster.{roster_bytes};
+ghost use Rattle.su_bytes.specs.RosterBytes.{roster_bytes};
 ghost use Rattle.su_version.specs.Chain.{IsChain, MayBeNext, MayFollow, tip};
 
 /// A version structure has one spelling, which begins no other's; so does a commit; and no roster

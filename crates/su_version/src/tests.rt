@@ -1,9 +1,10 @@
 // What no clause says: lengths and places in numbers, and that calls succeed.
-use crate::{Commit, Tip, Vector, VersionStructure, order_of};
+use crate::{Commit, Tip, VersionStructure};
 use std::alloc::{AllocError, Global};
 use std::test::Fail;
 use su_bytes::{Digest, KEY_LENGTH, Refusal, Roster, User};
 use su_lms::{NoStore, Params, PublicKey, Signer};
+use su_vector::{Vector, order_of};
 
 const ID: [u8; 16] = [7; 16];
 

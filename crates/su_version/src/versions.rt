@@ -6,11 +6,11 @@ ghost use Rattle.su_format.specs.Part.{u8_bytes, u64_bytes};
 ghost use Rattle.su_version.specs.Version.{Version as VersionParts, IsVersion, made_version, version_bytes, group_bytes, group_above, carried_format, groups_format, vector_size_part, vector_format, version_format};
 ghost use Rattle.su_bytes.specs.declared.refusals.Refusal.TheVariants.{NoMemory};
 
-use crate::vectors::Vector;
 use std::alloc::{AllocError, Global};
 use std::marker::Model;
 use su_bytes::{Digest, FileId, Group, Refusal, User};
 use su_format::{Reader, Writer};
+use su_vector::{HasVector, Vector};
 
 /// What a user signs for a change: whose it is, the digest of the commit before, the digest of the
 /// change, the author's i-handle after it, the groups whose tables it writes with their i-handles,
@@ -172,6 +172,14 @@ impl VersionStructure {
             groups,
             vector,
         })
+    }
+}
+
+impl HasVector for VersionStructure {
+    ghost vector_of = { λ v. v.vector };
+
+    fn vector(&self) -> &Vector {
+        self.vector()
     }
 }
 

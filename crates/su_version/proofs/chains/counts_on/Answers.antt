@@ -1,6 +1,6 @@
 use Rattle.std.proofs.Common.{◌≡◌, true, false, map, sym, ap, ◌∙◌, subst}
 use Rattle.std.specs.List.{list_any, AllByRecursion}
-use Rattle.su_version.specs.Vector.{numbers_after}
+use Rattle.su_vector.specs.Vector.{numbers_after}
 use Rattle.su_version.specs.Chain.{is_that_group}
 use Rattle.su_version.proofs.Chaining.{counts_from, groups_known, vector_after}
 use Rattle.su_version.proofs.chains.counts_on.Goals as goal

@@ -2,7 +2,7 @@ use Rattle.std.proofs.Common.{◌≡◌, ℕ, get_or, ap, arith}
 use Rattle.su_format.proofs.Public.{spelling_told}
 use Rattle.su_version.specs.Version.{version_bytes}
 use Rattle.su_version.specs.Commit.{commit_bytes}
-use Rattle.su_version.specs.Roster.{roster_bytes}
+use Rattle.su_bytes.specs.RosterBytes.{roster_bytes}
 use Rattle.su_version.proofs.Spelling.{version_of, version_lawful}
 use Rattle.su_version.proofs.CommitSpelling.{commit_of, commit_lawful}
 use Rattle.su_version.proofs.laws.no_spelling_begins_another.Goals as goal

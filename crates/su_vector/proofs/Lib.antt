@@ -1,0 +1,3 @@
+mod Lengths
+mod Ordering
+pub mod Public
