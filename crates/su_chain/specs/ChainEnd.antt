@@ -1,0 +1,35 @@
+-- The end of a chain of commits: what the next one is measured by.
+use Rattle.std.specs.Prelude.{◌≡◌, ℕ, true, List, length, None, get_or}
+use Rattle.su_bytes.specs.Membership.{Membership, has_user}
+use Rattle.su_bytes.specs.Principal.{is_user}
+use Rattle.su_bytes.specs.RosterBytes.{IsKeyOf, user_key}
+use Rattle.su_lms.specs.Signature.{IsPublicKey}
+use Rattle.su_version.specs.Commit.{Commit}
+use Rattle.su_version.specs.Chain.{chain_head, chain_vector, last_leaf, IsChain}
+use Rattle.su_chain.specs.declared.ends.UserKey.{UserKey}
+use Rattle.su_chain.specs.declared.ends.ChainEnd.{ChainEnd}
+use Rattle.su_chain.specs.declared.ends.TheConstants.{USERS}
+
+-- what is known of user u: the key, and the leaf that signed last
+abbrev pub user_at : List UserKey → ℕ → UserKey
+user_at users u = get_or users u (record { key = None; leaf = None })
+
+-- the keys of all users
+pub record AreKeysOf (ro : Membership) (users : List UserKey) : Type 0 where
+  pub long : length users ≡ USERS
+  pub keys : (u : ℕ) → is_user u ≡ true → IsKeyOf ro u (user_at users u).key
+
+-- This is what a chain of commits comes to.
+pub record IsEndOf (ro : Membership) (cs : List Commit) (e : ChainEnd) : Type 0 where
+  pub chain : IsChain ro cs
+  pub number : e.number ≡ length cs
+  pub head : e.head ≡ chain_head ro cs
+  pub vector : e.vector ≡ chain_vector ro cs
+  pub keys : AreKeysOf ro e.users.items
+  pub leaves : (u : ℕ) → is_user u ≡ true → (user_at e.users.items u).leaf ≡ last_leaf u cs
+
+-- a user of the roster has a key that is none
+pub record HasBadKey (ro : Membership) : Type 0 where
+  pub user : ℕ
+  pub listed : has_user ro user ≡ true
+  pub bad : ¬ IsPublicKey (user_key ro user)
