@@ -1,0 +1,4 @@
+pub mod Lists
+pub mod LegalLists
+pub mod VectorCounts
+pub mod Public
