@@ -1,0 +1,189 @@
+-- A commit that may be next, and the change that its item spells.
+use Rattle.std.proofs.Common.{◌≡◌, ◌≢◌, ℕ, suc, ◌+◌, ◌≤◌, ◌<◌, ◌⊎◌, List, [], ◌∷◌, map, length, Option, Some, None, Result, Ok, Err, slice_index, refl, sym, ap, ◌∙◌, subst, arith, inl, inr}
+use Rattle.std.specs.List.Sorted.{IsStrictlyIncreasing}
+use Rattle.sha2.specs.Sha256.{sha256}
+use Rattle.su_bytes.specs.Membership.{Membership}
+use Rattle.su_bytes.specs.declared.refusals.Refusal.{Refusal}
+use Rattle.su_bytes.specs.declared.refusals.Refusal.TheVariants.{NoMemory}
+use Rattle.su_bytes.specs.declared.principals.Principal.{Principal}
+use Rattle.su_bytes.specs.declared.principals.Principal.TheVariants.{Group}
+use Rattle.su_format.specs.Format.{EachFrom}
+use Rattle.su_op.specs.declared.operations.Change.{Change}
+use Rattle.su_desk.specs.declared.entries.Entry.{Entry}
+use Rattle.su_desk.specs.declared.prepared.Prepared.{Prepared}
+use Rattle.su_desk.specs.Desk.{DeskState, with_entry}
+use Rattle.su_desk.specs.History.{entry_by}
+use Rattle.su_desk.specs.Answer.{refusal_of, reply, answer}
+use Rattle.su_desk.specs.Version.{cells_of, carried_groups}
+use Rattle.su_table.specs.Handle.{handle}
+use Rattle.su_op.specs.declared.areas.Area.{Area}
+use Rattle.su_desk.specs.Trial.{TrialState, Tells, ready_with, tree_of}
+use Rattle.su_desk.proofs.VersionNumbers.{carried_ascend as groups_ascend}
+use Rattle.su_version.specs.Version.{IsCarried}
+use Rattle.su_version.specs.Commit.{Commit, commit_bytes}
+use Rattle.su_version.specs.Chain.{MayBeNext}
+use Rattle.su_change.specs.Item.{IsChange, HasItem, item_bytes}
+use Rattle.su_legal.specs.Legal.{commits_of, history, author_handle, group_handles, MayJoin}
+use Rattle.su_view.specs.Holding.{HoldingState, with_more, Took}
+use Rattle.su_view.specs.Keeping.{held_in, holding_of, IsKeeping, JoinsNext}
+use Rattle.su_view.specs.declared.records.Keeping.{Keeping}
+use Rattle.su_view.specs.Joining.{AscendFrom, IsOtherHandle, IsUnfit, IsRefusedWith}
+use Rattle.su_view.specs.declared.refusals.ViewRefusal.{ViewRefusal}
+use Rattle.su_view.specs.declared.refusals.ViewRefusal.TheVariants.{Plain, WrongHandle, Change as ChangeRefused}
+
+-- ---- answers of a desk
+
+refused_reply : (n : ℕ) (o : Option Refusal) (e : Refusal) → reply n o ≡ Err e → o ≡ Some e
+refused_reply n None e is = absurd cc
+refused_reply n (Some x) e is = cc
+
+accepted_reply : (n m : ℕ) (o : Option Refusal) → reply n o ≡ Ok m → o ≡ None
+accepted_reply n m None is = refl
+accepted_reply n m (Some x) is = absurd cc
+
+pub refused_answer : (ro : Membership) (h : List Entry) (a : ℕ) (change : Change) (e : Refusal) → answer ro h a change ≡ Err e → refusal_of ro h a change ≡ Some e
+unfolding answer
+refused_answer ro h a change e is = refused_reply (length h + 1) (refusal_of ro h a change) e is
+
+pub accepted_answer : (ro : Membership) (h : List Entry) (a n : ℕ) (change : Change) → answer ro h a change ≡ Ok n → refusal_of ro h a change ≡ None
+unfolding answer
+accepted_answer ro h a n change is = accepted_reply (length h + 1) n (refusal_of ro h a change) is
+
+-- ---- groups ascend
+
+pub carried_ascend : (least : ℕ) (groups : List (ℕ × List ℕ)) → EachFrom IsCarried (λ g. g.0 + 1) least groups → AscendFrom least groups
+carried_ascend least [] each = tt
+carried_ascend least (g ∷ groups) (here, each) = (here.above, carried_ascend (g.0 + 1) groups each)
+
+rise_from : (f : ℕ → List ℕ) (least : ℕ) (gs : List ℕ) → (0 < length gs → least ≤ slice_index gs 0) → IsStrictlyIncreasing gs → AscendFrom least (map (λ g. (g, f g)) gs)
+rise_from f least [] low rising = tt
+rise_from f least (g ∷ gs) low rising = (low (omega arith), rise_from f (g + 1) gs (λ some. let above = rising 0 (omega (arith, some)) in omega (arith, above)) later)
+  where
+    later : (k : ℕ) → k + 1 < length gs → slice_index gs k < slice_index gs (k + 1)
+    later k within =
+        let next : suc k + 1 ≡ suc (k + 1) = omega arith in
+        subst (λ n. slice_index gs k < slice_index (g ∷ gs) n) next (rising (suc k) (omega (arith, within)))
+
+pub handles_ascend : (f : ℕ → List ℕ) (gs : List ℕ) → IsStrictlyIncreasing gs → AscendFrom 0 (map (λ g. (g, f g)) gs)
+handles_ascend f gs rising = rise_from f 0 gs (λ some. omega arith) rising
+
+-- ---- what joins, and what doesn't
+
+module _ (v : HoldingState) (c : Commit) (change : Change) (item : List ℕ) (is_change : IsChange change) (has_item : HasItem change) (spelled : item ≡ item_bytes change) where
+  unfit : (e : ViewRefusal) → IsUnfit v c change e → IsRefusedWith v c item e
+  unfit e why = inr (record { change = change; is_change = is_change; has_item = has_item; spelled = spelled; unfit = why })
+
+  -- the desk refused the change, or there was no room
+  pub not_prepared : (e : Refusal) (r : ViewRefusal)
+      → ((e ≡ NoMemory) ⊎ (answer v.roster (history v.held) c.version.author change ≡ Err e))
+      → (((e ≡ NoMemory) × (r ≡ Plain NoMemory)) ⊎ ((e ≢ NoMemory) × (r ≡ ChangeRefused e)))
+      → (r ≡ Plain NoMemory) ⊎ IsRefusedWith v c item r
+  not_prepared e r why (inl (none, is)) = inl is
+  not_prepared e r (inl none) (inr (other, is)) = absurd (other none)
+  not_prepared e r (inr refused) (inr (other, is)) =
+      inr (unfit r (inl (e, is, refused_answer v.roster (history v.held) c.version.author change e refused)))
+
+  -- a handle is another than the one that was told
+  pub other_handle : (n : ℕ) (handle : List ℕ) (groups : List (ℕ × List ℕ)) (p : Principal)
+      → answer v.roster (history v.held) c.version.author change ≡ Ok n
+      → handle ≡ author_handle v.roster (history v.held) c.version.author change
+      → groups ≡ group_handles v.roster (history v.held) c.version.author change
+      → IsOtherHandle c.version handle groups p → IsRefusedWith v c item (WrongHandle p)
+  other_handle n handle groups p accepted told_handle told_groups other =
+      unfit (WrongHandle p) (inr (
+        p,
+        refl,
+        accepted_answer v.roster (history v.held) c.version.author n change accepted,
+        subst (λ gs. IsOtherHandle c.version (author_handle v.roster (history v.held) c.version.author change) gs p) told_groups
+            (subst (λ d. IsOtherHandle c.version d groups p) told_handle other),
+      ))
+
+  -- all handles are those that were told
+  pub may_join : (n : ℕ) → MayBeNext v.roster (commits_of v.held) c → sha256 item ≡ c.version.change
+      → answer v.roster (history v.held) c.version.author change ≡ Ok n
+      → c.version.handle ≡ author_handle v.roster (history v.held) c.version.author change
+      → c.version.groups ≡ group_handles v.roster (history v.held) c.version.author change
+      → MayJoin v.roster v.held (record { commit = c; change = change })
+  may_join n next named accepted handle groups = record {
+    next = next;
+    accepted = accepted_answer v.roster (history v.held) c.version.author n change accepted;
+    fits = record {
+      is_change = is_change;
+      has_item = has_item;
+      named = sym named ∙ ap sha256 spelled;
+      author_handle_is = handle;
+      group_handles_are = groups;
+    };
+  }
+
+-- ---- of what a client keeps
+
+module _ (k : Keeping) (kept : IsKeeping k) (a : ℕ) (c : Commit) (author : a ≡ c.version.author) (change : Change) where
+  abbrev v : HoldingState
+  v = holding_of k
+
+  pub answered : (r : Result ℕ Refusal) → answer k.desk.settled.roster k.desk.settled.history a change ≡ r → answer v.roster (history v.held) c.version.author change ≡ r
+  answered r is = (λ i. answer k.desk.settled.roster (kept.entries i) (sym author i) change) ∙ is
+
+  pub told_handle : (p : Prepared) → Tells k.desk.settled a change p → p.author_handle ≡ author_handle v.roster (history v.held) c.version.author change
+  told_handle p told = told.author_handle ∙ same
+    where
+      same : author_handle k.desk.settled.roster k.desk.settled.history a change ≡ author_handle v.roster (history v.held) c.version.author change
+      same = λ i. author_handle k.desk.settled.roster (sym kept.entries i) (author i) change
+
+  pub told_groups : (p : Prepared) → Tells k.desk.settled a change p → p.groups.items ≡ group_handles v.roster (history v.held) c.version.author change
+  told_groups p told = told.groups ∙ same
+    where
+      same : group_handles k.desk.settled.roster k.desk.settled.history a change ≡ group_handles v.roster (history v.held) c.version.author change
+      same = λ i. group_handles k.desk.settled.roster (sym kept.entries i) (author i) change
+
+  pub told_ascend : (p : Prepared) → Tells k.desk.settled a change p → AscendFrom 0 p.groups.items
+  told_ascend p told = subst (AscendFrom 0) (sym told.groups)
+      (handles_ascend (λ g. handle (tree_of (with_entry k.desk.settled a change)) (Group g)) (carried_groups k.desk.settled.roster w) (groups_ascend k.desk.settled.roster w kept.roster))
+    where
+      w : List Area
+      w = cells_of k.desk.settled.roster k.desk.settled.history a change
+
+  pub prepared_so : (e : Refusal) → (e ≡ NoMemory) ⊎ (answer k.desk.settled.roster k.desk.settled.history a change ≡ Err e)
+      → (e ≡ NoMemory) ⊎ (answer v.roster (history v.held) c.version.author change ≡ Err e)
+  prepared_so e (inl none) = inl none
+  prepared_so e (inr refused) = inr (answered (Err e) refused)
+
+-- what is kept with a change that stands ready, and room
+pub joins_with : (k : Keeping) (c : Commit) (change : Change) (l : Keeping) → l.records.items ≡ k.records.items → l.desk.settled ≡ k.desk.settled
+    → l.desk.ready ≡ Some (entry_by c.version.author change) → (bytes item : List ℕ) → bytes ≡ commit_bytes c → item ≡ item_bytes change
+    → MayJoin (holding_of k).roster (holding_of k).held (record { commit = c; change = change }) → JoinsNext l c change bytes item
+joins_with k c change l records settled ready bytes item bytes_are item_is joins = record {
+  ready = ready;
+  joins = subst (λ (d : DeskState). MayJoin d.roster (held_in l.records.items d.history) (record { commit = c; change = change })) (sym settled)
+      (subst (λ rs. MayJoin k.desk.settled.roster (held_in rs k.desk.settled.history) (record { commit = c; change = change })) (sym records) joins);
+  bytes_are = bytes_are;
+  item_is = item_is;
+}
+
+-- the same from what the desk told, where the commit holds the handles that were told
+module _ (k : Keeping) (kept : IsKeeping k) (a : ℕ) (c : Commit) (author : a ≡ c.version.author) (change : Change) (p : Prepared) (bytes item : List ℕ)
+    (is_change : IsChange change) (has_item : HasItem change) (spelled : item ≡ item_bytes change) where
+  pub joined_so : MayBeNext (holding_of k).roster (commits_of (holding_of k).held) c → sha256 item ≡ c.version.change
+      → answer k.desk.settled.roster k.desk.settled.history a change ≡ Ok p.number → Tells k.desk.settled a change p
+      → c.version.handle ≡ p.author_handle → c.version.groups ≡ p.groups.items → bytes ≡ commit_bytes c
+      → (l : Keeping) → l.records.items ≡ k.records.items → l.desk ≡ ready_with k.desk.settled a change → JoinsNext l c change bytes item
+  joined_so next named accepted told handle groups bytes_are l records ready =
+      joins_with k c change l records (ap (λ (t : TrialState). t.settled) ready)
+      (ap (λ (t : TrialState). t.ready) ready ∙ ap (λ a. Some (entry_by a change)) author) bytes item bytes_are spelled
+      (may_join (holding_of k) c change item is_change has_item spelled p.number next named
+      (answered k kept a c author change (Ok p.number) accepted)
+      (handle ∙ told_handle k kept a c author change p told)
+      (groups ∙ told_groups k kept a c author change p told))
+
+-- what is held then
+pub took_next : (k l m : Keeping) (v : HoldingState) (c : Commit) (change : Change) (bytes item : List ℕ) → holding_of k ≡ v
+    → l.user ≡ k.user → l.records.items ≡ k.records.items → l.desk.settled ≡ k.desk.settled
+    → JoinsNext l c change bytes item → holding_of m ≡ with_more (holding_of l) (record { commit = c; change = change } ∷ [])
+    → Took v (record { commit = c; change = change } ∷ []) (holding_of m)
+took_next k l m v c change bytes item is user records settled next more =
+    let same : holding_of l ≡ v = (λ i. record { roster = (settled i).roster; user = user i; held = held_in (records i) (settled i).history }) ∙ is in
+    record {
+      may = (subst (λ (w : HoldingState). MayJoin w.roster w.held (record { commit = c; change = change })) same next.joins, tt);
+      becomes = more ∙ ap (λ w. with_more w (record { commit = c; change = change } ∷ [])) same;
+    }

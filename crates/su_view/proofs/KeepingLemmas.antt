@@ -1,0 +1,146 @@
+-- What is kept with one commit more.
+use Rattle.std.proofs.Common.{◌≡◌, ℕ, zero, suc, ◌+◌, ◌<◌, Bool, true, false, cond, List, [], ◌∷◌, ◌++◌, map, length, length-append, drop, Option, Some, None, nat_eq, slice_get, refl, sym, ap, ◌∙◌, subst, arith}
+use Rattle.std.specs.Option.{option_or}
+use Rattle.std.proofs.lemmas.List.{map-append, length-map}
+use Rattle.std.proofs.Math.Seq.{drop-append-add, drop-append_seam}
+use Rattle.su_bytes.specs.Membership.{Membership, IsRoster, has_user}
+use Rattle.su_format.specs.Part.{u32_bytes}
+use Rattle.su_op.specs.declared.operations.Change.{Change}
+use Rattle.su_desk.specs.declared.entries.Entry.{Entry}
+use Rattle.su_desk.specs.History.{entry_by}
+use Rattle.su_desk.specs.Desk.{DeskState, with_entry}
+use Rattle.su_version.specs.Version.{version_bytes}
+use Rattle.su_version.specs.Commit.{Commit, commit_bytes}
+use Rattle.su_version.specs.Chain.{MayBeNext}
+use Rattle.su_chain.specs.ChainEnd.{IsEndOf}
+use Rattle.su_legal.specs.Legal.{Committed, author_of, commits_of, history, Legal}
+use Rattle.su_legal.proofs.Public.{legal_further}
+use Rattle.su_view.specs.LastCommits.{last_by}
+use Rattle.su_view.specs.Keeping.{commit_in, paired, held_in, AreBytesOf, AreBytes, IsLastIndex, holding_of, IsKeeping, JoinsNext}
+use Rattle.su_view.specs.declared.records.Record.{Record}
+use Rattle.su_view.specs.declared.records.Keeping.{Keeping}
+
+-- ---- the commit that is kept so
+
+behind : (xs ys zs : List ℕ) → length ys ≡ 4 → drop (length xs + 4) (xs ++ (ys ++ zs)) ≡ zs
+behind xs ys zs four = drop-append-add xs (ys ++ zs) 4 ∙ ap (λ n. drop n (ys ++ zs)) (sym four) ∙ drop-append_seam ys zs
+
+pub commit_read : (r : Record) (c : Commit) → r.version ≡ c.version → r.bytes.items ≡ commit_bytes c → commit_in r ≡ c
+unfolding commit_bytes
+commit_read r c version bytes = λ i. record { version = version i; signature = signature i }
+  where
+    signature : drop (length (version_bytes r.version) + 4) r.bytes.items ≡ c.signature
+    signature =
+        (λ i. drop (length (version_bytes (version i)) + 4) (bytes i))
+        ∙ behind (version_bytes c.version) (u32_bytes (length c.signature)) c.signature refl
+
+-- ---- commits beside entries
+
+pub paired_more : (cs : List Commit) (h : List Entry) (c : Commit) (e : Entry) → length cs ≡ length h
+    → paired (cs ++ c ∷ []) (h ++ e ∷ []) ≡ paired cs h ++ record { commit = c; change = e.change } ∷ []
+paired_more [] [] c e l = refl
+paired_more [] (x ∷ h) c e l = absurd (omega arith)
+paired_more (x ∷ cs) [] c e l = absurd (omega arith)
+paired_more (x ∷ cs) (y ∷ h) c e l = ap (λ r. record { commit = x; change = y.change } ∷ r) (paired_more cs h c e (omega arith))
+
+bytes_more : (rs : List Record) (cs : List Committed) (r : Record) (c : Committed) → AreBytes rs cs → AreBytesOf r c → AreBytes (rs ++ r ∷ []) (cs ++ c ∷ [])
+bytes_more [] [] r c are is = (is, tt)
+bytes_more (x ∷ rs) (d ∷ cs) r c (here, are) is = (here, bytes_more rs cs r c are is)
+bytes_more [] (d ∷ cs) r c are is = absurd are
+bytes_more (x ∷ rs) [] r c are is = absurd are
+
+-- ---- the last one of a user
+
+or_assoc : {A : Type 0} (a b c : Option A) → option_or (option_or a b) c ≡ option_or a (option_or b c)
+or_assoc None b c = refl
+or_assoc (Some x) b c = refl
+
+or_none : {A : Type 0} (a : Option A) → option_or a None ≡ a
+or_none None = refl
+or_none (Some x) = refl
+
+last_more : (u : ℕ) (cs : List Committed) (c : Committed) → last_by u (cs ++ c ∷ []) ≡ option_or (cond (nat_eq (author_of c) u) (Some c) None) (last_by u cs)
+last_more u [] c = sym (or_none (cond (nat_eq (author_of c) u) (Some c) None))
+last_more u (x ∷ cs) c =
+    ap (λ o. option_or o (cond (nat_eq (author_of x) u) (Some x) None)) (last_more u cs c)
+    ∙ or_assoc (cond (nat_eq (author_of c) u) (Some c) None) (last_by u cs) (cond (nat_eq (author_of x) u) (Some x) None)
+
+at_end : {A : Type 0} (xs : List A) (x : A) → slice_get (xs ++ x ∷ []) (length xs) ≡ Some x
+at_end [] x = refl
+at_end (y ∷ xs) x = at_end xs x
+
+within_front : {A : Type 0} (xs : List A) (x : A) (i : ℕ) → i < length xs → slice_get (xs ++ x ∷ []) i ≡ slice_get xs i
+within_front [] x i less = absurd (omega (arith, less))
+within_front (y ∷ xs) x zero less = refl
+within_front (y ∷ xs) x (suc i) less = within_front xs x i (omega (arith, less))
+
+longer : {A : Type 0} (xs : List A) (x : A) (i : ℕ) → i < length xs → i < length (xs ++ x ∷ [])
+longer xs x i less = let long = length-append xs (x ∷ []) in omega (arith, less)
+
+pub last_index_more : (u : ℕ) (cs : List Committed) (c : Committed) (own : Option ℕ) (b : Bool) → b ≡ nat_eq (author_of c) u
+    → IsLastIndex u cs own → IsLastIndex u (cs ++ c ∷ []) (cond b (Some (length cs)) own)
+last_index_more u cs c own true is last =
+    let long = length-append cs (c ∷ []) in
+    (omega arith, at_end cs c ∙ sym (last_more u cs c ∙ ap (λ b. option_or (cond b (Some c) None) (last_by u cs)) (sym is)))
+last_index_more u cs c None false is last = last_more u cs c ∙ ap (λ b. option_or (cond b (Some c) None) (last_by u cs)) (sym is) ∙ last
+last_index_more u cs c (Some i) false is (less, last) =
+    (longer cs c i less, within_front cs c i less ∙ last ∙ sym (last_more u cs c ∙ ap (λ b. option_or (cond b (Some c) None) (last_by u cs)) (sym is)))
+
+-- ---- all of it
+
+module _ (k : Keeping) (c : Commit) (change : Change) (r : Record) (kept : IsKeeping k) (next : JoinsNext k c change r.bytes.items r.item.items)
+    (version : r.version ≡ c.version) where
+  abbrev ro : Membership
+  ro = k.desk.settled.roster
+
+  abbrev rs : List Record
+  rs = k.records.items
+
+  abbrev h : List Entry
+  h = k.desk.settled.history
+
+  abbrev x : Committed
+  x = record { commit = c; change = change }
+
+  abbrev e : Entry
+  e = entry_by c.version.author change
+
+  abbrev held : List Committed
+  held = held_in rs h
+
+  long : length (map commit_in rs) ≡ length h
+  long =
+      ap length (sym kept.commits) ∙ length-map held (λ c. c.commit) ∙ sym (length-map held (λ c. entry_by (author_of c) c.change)) ∙ ap length kept.entries
+
+  pub held_more : held_in (rs ++ r ∷ []) (h ++ e ∷ []) ≡ held ++ x ∷ []
+  held_more =
+      ap (λ cs. paired cs (h ++ e ∷ [])) (map-append commit_in rs (r ∷ []) ∙ ap (λ d. map commit_in rs ++ d ∷ []) (commit_read r c version next.bytes_are))
+      ∙ paired_more (map commit_in rs) h c e long
+
+  pub commits_more : map commit_in (rs ++ r ∷ []) ≡ map commit_in rs ++ c ∷ []
+  commits_more = map-append commit_in rs (r ∷ []) ∙ ap (λ d. map commit_in rs ++ d ∷ []) (commit_read r c version next.bytes_are)
+
+  -- the commit may be the next of those that are kept
+  pub next_kept : MayBeNext ro (map commit_in rs) c
+  next_kept = subst (λ cs. MayBeNext ro cs c) kept.commits next.joins.next
+
+  pub keeping_more : (l : Keeping) → l.user ≡ k.user → l.records.items ≡ rs ++ r ∷ [] → l.desk.settled ≡ with_entry k.desk.settled c.version.author change
+      → IsEndOf ro (map commit_in rs ++ c ∷ []) l.end → IsLastIndex k.user (held ++ x ∷ []) l.own → IsKeeping l
+  keeping_more l user records settled end own = record {
+    roster = subst (λ (d : DeskState). IsRoster d.roster) (sym settled) kept.roster;
+    commits = ap commits_of all ∙ map-append (λ c. c.commit) held (x ∷ []) ∙ ap (λ cs. cs ++ c ∷ []) kept.commits ∙ sym commits_more ∙ ap (map commit_in) (sym records);
+    entries = ap history all ∙ map-append (λ c. entry_by (author_of c) c.change) held (x ∷ []) ∙ ap (λ es. es ++ e ∷ []) kept.entries ∙ sym (ap (λ (d : DeskState). d.history) settled);
+    bytes = subst (AreBytes l.records.items) (sym all) (subst (λ zs. AreBytes zs (held ++ x ∷ [])) (sym records)
+        (bytes_more rs held r x kept.bytes (record { commit = next.bytes_are; change = next.item_is })));
+    legal = subst (λ (d : DeskState). Legal d.roster (holding_of l).held) (sym settled) (subst (Legal ro) (sym all) (legal_further ro held x kept.legal next.joins));
+    end_is = subst (λ (d : DeskState). IsEndOf d.roster (map commit_in l.records.items) l.end) (sym settled)
+        (subst (λ cs. IsEndOf ro cs l.end) (sym (ap (map commit_in) records ∙ commits_more)) end);
+    member = subst (λ (d : DeskState). has_user d.roster l.user ≡ true) (sym settled) (ap (has_user ro) user ∙ kept.member);
+    last_own = subst (λ u. IsLastIndex u (holding_of l).held l.own) (sym user) (subst (λ cs. IsLastIndex k.user cs l.own) (sym all) own);
+  }
+    where
+      all : (holding_of l).held ≡ held ++ x ∷ []
+      all = (λ i. held_in (records i) (settled i).history) ∙ held_more
+
+pub length-held : (k : Keeping) → IsKeeping k → length (holding_of k).held ≡ length k.records.items
+length-held k kept = sym (length-map (holding_of k).held (λ c. c.commit)) ∙ ap length kept.commits ∙ length-map k.records.items commit_in

@@ -1,0 +1,3 @@
+pub mod HandleLemmas
+pub mod KeepingLemmas
+pub mod JoinLemmas

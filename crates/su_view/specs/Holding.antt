@@ -1,0 +1,25 @@
+-- What a client holds: the roster, whose client it is, and a list of commits. Its tree, history,
+-- head, vector and i-handles are those of the list.
+use Rattle.std.specs.Prelude.{◌≡◌, ℕ, List, ◌++◌}
+use Rattle.su_bytes.specs.Membership.{Membership}
+use Rattle.su_version.specs.Version.{Version}
+use Rattle.su_legal.specs.Legal.{Committed}
+use Rattle.su_legal.specs.Act.{Act.Takes, Act.Signs, May}
+
+pub record HoldingState : Type 0 where
+  pub roster : Membership
+  pub user : ℕ
+  pub held : List Committed
+
+-- the same with these commits more
+abbrev pub with_more : HoldingState → List Committed → HoldingState
+with_more v more = record { roster = v.roster; user = v.user; held = v.held ++ more }
+
+-- the client took these commits, as it may
+pub record Took (v : HoldingState) (more : List Committed) (v' : HoldingState) : Type 0 where
+  pub may : May v.roster v.user v.held (Takes more)
+  pub becomes : v' ≡ with_more v more
+
+-- its user may sign the version structure
+abbrev pub MaySign : HoldingState → Version → Type 0
+MaySign v s = May v.roster v.user v.held (Signs s)

@@ -1,0 +1,111 @@
+-- Why a commit that is shown doesn't join the list that a client holds, in this order.
+use Rattle.std.specs.Prelude.{◌≡◌, ◌≢◌, ◌<◌, ◌≤◌, ◌+◌, ◌⊎◌, ℕ, true, cond, List, [], ◌∷◌, Option, Some, None, nat_eq}
+use Rattle.sha2.specs.Sha256.{sha256}
+use Rattle.su_bytes.specs.declared.refusals.Refusal.{Refusal}
+use Rattle.su_bytes.specs.declared.principals.Principal.{Principal}
+use Rattle.su_bytes.specs.declared.principals.Principal.TheVariants.{User, Group}
+use Rattle.su_block.specs.Failure.{is_failure, one_more}
+use Rattle.su_block.specs.declared.failures.Failures.{Failures}
+use Rattle.su_format.specs.Format.{whole}
+use Rattle.su_format.specs.Reading.{IsRefusedAt, start}
+use Rattle.su_bytes.specs.declared.refusals.Refusal.TheVariants.{Malformed}
+use Rattle.su_op.specs.declared.operations.Change.{Change}
+use Rattle.su_change.specs.Item.{IsChange, HasItem, item_bytes, item_format}
+use Rattle.su_desk.specs.Answer.{refusal_of}
+use Rattle.su_version.specs.Version.{Version}
+use Rattle.su_version.specs.Commit.{Commit, commit_format}
+use Rattle.su_version.specs.Chain.{MayBeNext, IsRefusedSo, tip}
+use Rattle.su_legal.specs.Legal.{commits_of, history, author_handle, group_handles}
+use Rattle.su_view.specs.Holding.{HoldingState}
+use Rattle.su_view.specs.declared.refusals.ViewRefusal.{ViewRefusal}
+use Rattle.su_view.specs.declared.refusals.ViewRefusal.TheVariants.{Plain, WrongHandle, Change as ChangeRefused}
+
+-- ---- i-handles that differ
+
+-- the i-handle of group g, if the group is one of these
+abbrev pub handle_in : List (ℕ × List ℕ) → ℕ → Option (List ℕ)
+handle_in [] g = None
+handle_in (x ∷ xs) g = cond (nat_eq x.0 g) (Some x.1) (handle_in xs g)
+
+-- each group is above the one before
+abbrev pub AscendFrom : ℕ → List (ℕ × List ℕ) → Type 0
+AscendFrom least [] = Unit {0}
+AscendFrom least (x ∷ xs) = (least ≤ x.0) × AscendFrom (x.0 + 1) xs
+
+-- g is the first group that one list has and the other hasn't, or has with another i-handle
+pub record IsFirstOther (xs ys : List (ℕ × List ℕ)) (g : ℕ) : Type 0 where
+  pub other : handle_in xs g ≢ handle_in ys g
+  pub first : (f : ℕ) → f < g → handle_in xs f ≡ handle_in ys f
+
+-- Of the i-handles that a version structure holds, that of this principal is the first that isn't
+-- one of these: the author's, or then the first of the groups.
+abbrev pub IsOtherHandle : Version → List ℕ → List (ℕ × List ℕ) → Principal → Type 0
+IsOtherHandle v handle groups (User u) = (u ≡ v.author) × (v.handle ≢ handle)
+IsOtherHandle v handle groups (Group g) = (v.handle ≡ handle) × IsFirstOther v.groups groups g
+
+-- of the i-handles that a commit holds, that of this principal is the first that isn't the tree's
+-- with the change
+abbrev pub IsWrongHandle : HoldingState → Commit → Change → Principal → Type 0
+IsWrongHandle v c change p =
+    IsOtherHandle c.version
+    (author_handle v.roster (history v.held) c.version.author change)
+    (group_handles v.roster (history v.held) c.version.author change) p
+
+-- ---- refusals
+
+-- the bytes spell no commit
+pub record IsNoCommit (bytes : List ℕ) (e : ViewRefusal) : Type 0 where
+  pub place : ℕ
+  pub refusal : e ≡ Plain (Malformed place)
+  pub fails : IsRefusedAt (whole commit_format) (start bytes) place
+
+-- the commit may not be the next of those that are held
+pub record IsNotNext (v : HoldingState) (c : Commit) (e : ViewRefusal) : Type 0 where
+  pub why : Refusal
+  pub refusal : e ≡ Plain why
+  pub not_next : IsRefusedSo v.roster (tip v.roster (commits_of v.held) c.version.author) c why
+
+-- the item is that of no change
+pub record IsNoChange (bytes : List ℕ) (e : ViewRefusal) : Type 0 where
+  pub place : ℕ
+  pub refusal : e ≡ ChangeRefused (Malformed place)
+  pub fails : IsRefusedAt (whole item_format) (start bytes) place
+
+-- the change is refused after the list's history, or a handle of the commit isn't the tree's with
+-- it
+abbrev pub IsUnfit : HoldingState → Commit → Change → ViewRefusal → Type 0
+IsUnfit v c change e =
+    ((why : Refusal) × (e ≡ ChangeRefused why)
+    × (refusal_of v.roster (history v.held) c.version.author change ≡ Some why))
+    ⊎ ((p : Principal) × (e ≡ WrongHandle p)
+    × (refusal_of v.roster (history v.held) c.version.author change ≡ None)
+    × IsWrongHandle v c change p)
+
+-- the item spells a change that doesn't fit the commit
+pub record IsUnfitChange (v : HoldingState) (c : Commit) (bytes : List ℕ) (e : ViewRefusal)
+    : Type 0 where
+  pub change : Change
+  pub is_change : IsChange change
+  pub has_item : HasItem change
+  pub spelled : bytes ≡ item_bytes change
+  pub unfit : IsUnfit v c change e
+
+-- With this item of its change, the commit, which may be next, doesn't join the list.
+abbrev pub IsRefusedWith : HoldingState → Commit → List ℕ → ViewRefusal → Type 0
+IsRefusedWith v c bytes e = IsNoChange bytes e ⊎ IsUnfitChange v c bytes e
+
+-- The commit doesn't join the list: it may not be next, or with what the source gave as the item of
+-- its change, which has the digest that it names, it doesn't join.
+abbrev pub IsRefusedCommit : (List ℕ → Type 0) → HoldingState → Commit → ViewRefusal → Type 0
+IsRefusedCommit MayGive v c e =
+    IsNotNext v c e
+    ⊎ ((bytes : List ℕ) × MayGive bytes × (sha256 bytes ≡ c.version.change)
+    × MayBeNext v.roster (commits_of v.held) c × IsRefusedWith v c bytes e)
+
+-- The source was asked for the item of this digest, and failed: that is what is refused, and is
+-- counted.
+pub record HasFailed (before after : Failures) (digest : List ℕ) (e : ViewRefusal) : Type 0 where
+  pub why : Refusal
+  pub refusal : e ≡ Plain why
+  pub failure : is_failure why ≡ true
+  pub counted : after ≡ one_more before digest

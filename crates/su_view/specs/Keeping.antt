@@ -1,0 +1,75 @@
+-- How what a client holds is kept: beside a desk with the changes, of each commit its version
+-- structure and its bytes.
+use Rattle.std.specs.Prelude.{◌≡◌, ◌+◌, ◌<◌, ℕ, true, List, [], ◌∷◌, map, length, drop, Option, Some, None, slice_get}
+use Rattle.su_bytes.specs.Membership.{IsRoster, has_user}
+use Rattle.su_op.specs.declared.operations.Change.{Change}
+use Rattle.su_desk.specs.declared.entries.Entry.{Entry}
+use Rattle.su_desk.specs.History.{entry_by}
+use Rattle.su_change.specs.Item.{item_bytes}
+use Rattle.su_version.specs.Version.{version_bytes}
+use Rattle.su_version.specs.Commit.{Commit, commit_bytes}
+use Rattle.su_chain.specs.ChainEnd.{IsEndOf}
+use Rattle.su_legal.specs.Legal.{Committed, commits_of, history, MayJoin, Legal}
+use Rattle.su_view.specs.declared.records.Record.{Record}
+use Rattle.su_view.specs.declared.records.Keeping.{Keeping}
+use Rattle.su_view.specs.Holding.{HoldingState}
+use Rattle.su_view.specs.LastCommits.{last_by}
+
+-- the commit that is kept so: what its bytes have behind the version structure and the number of
+-- bytes of the signature is the signature
+abbrev pub commit_in : Record → Commit
+commit_in r = record {
+  version = r.version;
+  signature = drop (length (version_bytes r.version) + 4) r.bytes.items;
+}
+
+-- each with the change of the entry at its place
+abbrev pub paired : List Commit → List Entry → List Committed
+paired (c ∷ cs) (e ∷ es) = record { commit = c; change = e.change } ∷ paired cs es
+paired _ _ = []
+
+abbrev pub held_in : List Record → List Entry → List Committed
+held_in rs h = paired (map commit_in rs) h
+
+-- the bytes are the commit's, and the item that of its change
+pub record AreBytesOf (r : Record) (c : Committed) : Type 0 where
+  pub commit : r.bytes.items ≡ commit_bytes c.commit
+  pub change : r.item.items ≡ item_bytes c.change
+
+abbrev pub AreBytes : List Record → List Committed → Type 0
+AreBytes [] [] = Unit {0}
+AreBytes (r ∷ rs) (c ∷ cs) = AreBytesOf r c × AreBytes rs cs
+AreBytes _ _ = ⊥
+
+-- this is the index of the last commit of user u, if there is one
+abbrev pub IsLastIndex : ℕ → List Committed → Option ℕ → Type 0
+IsLastIndex u cs None = last_by u cs ≡ None
+IsLastIndex u cs (Some i) = (i < length cs) × (slice_get cs i ≡ last_by u cs)
+
+-- what a client keeps so it holds
+abbrev pub holding_of : Keeping → HoldingState
+holding_of k = record {
+  roster = k.desk.settled.roster;
+  user = k.user;
+  held = held_in k.records.items k.desk.settled.history;
+}
+
+-- Commits and entries belong together, and make a legal list; and what else is kept is theirs.
+pub record IsKeeping (k : Keeping) : Type 0 where
+  pub roster : IsRoster k.desk.settled.roster
+  pub commits : commits_of (holding_of k).held ≡ map commit_in k.records.items
+  pub entries : history (holding_of k).held ≡ k.desk.settled.history
+  pub bytes : AreBytes k.records.items (holding_of k).held
+  pub legal : Legal k.desk.settled.roster (holding_of k).held
+  pub end_is : IsEndOf k.desk.settled.roster (map commit_in k.records.items) k.end
+  pub member : has_user k.desk.settled.roster k.user ≡ true
+  pub last_own : IsLastIndex k.user (holding_of k).held k.own
+
+-- The change stands ready, and the commit with it may join the list; these are their bytes.
+pub record JoinsNext (k : Keeping) (c : Commit) (change : Change) (bytes item : List ℕ)
+    : Type 0 where
+  pub ready : k.desk.ready ≡ Some (entry_by c.version.author change)
+  pub joins : MayJoin k.desk.settled.roster (holding_of k).held
+      (record { commit = c; change = change })
+  pub bytes_are : bytes ≡ commit_bytes c
+  pub item_is : item ≡ item_bytes change

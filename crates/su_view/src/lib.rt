@@ -1,0 +1,12 @@
+//! A client's view: the legal list of commits that it holds, and the tree that this makes. It takes
+//! no other.
+#![tactic(auto)]
+
+mod handles;
+mod holdings;
+mod records;
+mod refusals;
+mod views;
+
+pub use refusals::ViewRefusal;
+pub use views::View;

@@ -1,0 +1,71 @@
+// How the commits that are held are kept.
+ghost use Rattle.std.specs.Prelude.{◌≡◌, ◌<◌, ◌∷◌, [], Some, cond, length, vec_capacity};
+ghost use Rattle.su_op.specs.declared.operations.Change.{Change};
+ghost use Rattle.su_desk.specs.History.{entry_by};
+ghost use Rattle.su_desk.specs.Trial.{IsReady};
+ghost use Rattle.su_version.specs.Commit.{commit_bytes};
+ghost use Rattle.su_change.specs.Item.{item_bytes};
+ghost use Rattle.su_legal.specs.Legal.{MayJoin};
+ghost use Rattle.su_view.specs.Holding.{with_more};
+ghost use Rattle.su_view.specs.Keeping.{holding_of, IsKeeping, JoinsNext};
+
+use sha2::Sha256;
+use su_bytes::{Digest, User};
+use su_chain::ChainEnd;
+use su_desk::{Prepared, TrialDesk};
+use su_version::{Commit, VersionStructure};
+
+/// A commit that is held: its version structure, its bytes, and the item of its change.
+#[derive(Drop)]
+pub(crate) struct Record {
+    pub(crate) version: VersionStructure,
+    pub(crate) bytes: Vec<u8>,
+    pub(crate) item: Vec<u8>,
+}
+
+/// What a client keeps: whose client it is, the index of the user's last commit, the commits, what
+/// they come to for the next one, and the desk that their changes make. (It has no model, so that
+/// its fields can be lent; what it means is its owner's.)
+#[derive(Drop)]
+pub(crate) struct Keeping {
+    pub(crate) user: User,
+    pub(crate) own: Option<usize>,
+    pub(crate) records: Vec<Record>,
+    pub(crate) end: ChainEnd,
+    pub(crate) desk: TrialDesk,
+}
+
+impl Keeping {
+    /// Adds a commit whose change stands ready, with its bytes and the item of its change. It takes
+    /// no memory.
+    pub fn push(&mut self, commit: Commit, bytes: Vec<u8>, item: Vec<u8>, prepared: Prepared)
+        requires kept { IsKeeping self.old }
+        requires room { length self.old.records.items < vec_capacity self.old.records }
+        requires ready { IsReady self.old.desk prepared }
+        requires joins { (change : Change)
+            × JoinsNext self.old commit change bytes.items item.items }
+        ensures kept { IsKeeping self.new }
+        ensures pushed { (change : Change)
+            → JoinsNext self.old commit change bytes.items item.items
+            → holding_of self.new ≡ with_more (holding_of self.old)
+            (record { commit = commit; change = change } ∷ []) }
+    {
+        let digest = Digest::new(<Sha256 as sha2::Digest>::digest(bytes.as_slice()));
+        let is_own = commit.version().author() == self.user;
+        self.own = last_index(self.own, is_own, self.records.len());
+        self.end.push(self.desk.roster(), &commit, digest);
+        self.desk.settle(prepared);
+        self.records.push_reserved(Record {
+            version: commit.into_version(),
+            bytes,
+            item,
+        });
+    }
+}
+
+/// The index of a user's last commit, where one more is added at this index.
+fn last_index(own: Option<usize>, is_own: bool, index: usize) -> Option<usize>
+    ensures { result ≡ cond is_own (Some index) own }
+{
+    if is_own { Some(index) } else { own }
+}
