@@ -3,7 +3,8 @@
 for each answer replays what is live from the first tree on. With scripts by chance it checks the program, and that the
 definitions mean what they were meant to.
 
-usage: desk_model.py FOLDER COUNT LINES    writes COUNT scripts of LINES lines each into FOLDER, as NAME, NAME.args, NAME.stdout
+usage: desk_model.py FOLDER COUNT LINES    writes COUNT scripts of LINES lines each into FOLDER, as NAME, NAME.args, NAME.stdout;
+                                           each fourth also asks for all handles after each line
        desk_model.py --run USERS           reads a script of good lines on standard input, and prints what it answers
 """
 import hashlib
@@ -588,10 +589,19 @@ def write_scripts(folder, count, lines):
         desk = Desk(users)
         dice = Dice(seed, desk)
         script, printed = [], []
-        for n in range(lines + 3):
-            line = dice.line() if n < lines else ("versions", "ihandle U0", "ihandle G0")[n - lines]
+
+        def say(line):
             script.append(line)
-            printed += answer(desk, line)
+            printed.extend(answer(desk, line))
+
+        every_handle = [f"ihandle U{u}" for u in desk.roster.users] + [f"ihandle G{g}" for g in desk.roster.groups]
+        for _ in range(lines):
+            say(dice.line())
+            if seed % 4 == 0:
+                for question in every_handle:
+                    say(question)
+        for line in ("versions", "ihandle U0", "ihandle G0"):
+            say(line)
         name = f"{folder}/chance_{seed}"
         with open(name, "w") as file:
             file.write("".join(line + "\n" for line in script))

@@ -1,15 +1,20 @@
 #!/usr/bin/env python3
 """Tries the built program: what it prints and its exit status, on the examples, on command lines and faults of each kind,
-on keys that other implementations know, and on scripts by chance against the second desk of desk_model.py.
+on keys that other implementations know, on the deepest directory with little stack, and on scripts by chance against the
+second desk of desk_model.py.
 
 Prints a line for each case that isn't as it should be, and last 'N passed, M failed'.
 """
 import os
 import pty
+import random
 import re
+import resource
 import subprocess
 import sys
 import tempfile
+
+import desk_model
 
 HERE = os.path.dirname(os.path.abspath(__file__))
 TOP = os.path.dirname(HERE)
@@ -166,6 +171,47 @@ def by_chance(room):
         yield f"chance_{n}", run(arguments.split(), script) == (wanted, "", 0)
 
 
+def deepest_names():
+    """Names each of which parts from 255 letters a at another bit, in some order, and those letters; and the digest of a
+    directory that leads from the names to the files 2 and on of user 0."""
+    letters = b"a" * 255
+    apart = {9 * n: letters[:n] for n in range(1, 255)}
+    for n in range(255):
+        for bit in range(8):
+            apart[9 * n + 1 + bit] = letters[:n] + bytes([letters[n] ^ (128 >> bit)])
+    names = [letters, *apart.values()]
+    random.Random(0).shuffle(names)
+    files = {name: desk_model.user_file(0, number) for number, name in enumerate(names, 2)}
+
+    def leaf(name):
+        return desk_model.digest_of([(desk_model.name_bits(name), name, desk_model.file_bytes(files[name]))])
+
+    digest, bits = leaf(letters), desk_model.name_bits(letters)
+    for place in sorted(apart, reverse=True):
+        sides = [digest, leaf(apart[place])]
+        if bits[place] == "1":
+            sides.reverse()
+        digest = desk_model.sha256(b"\1" + place.to_bytes(2, "big") + b"".join(sides))
+    return names, digest
+
+
+def deep(_):
+    """The deepest directory that there can be, with 2 MiB of stack: made, copied and undone, and let go as it stands."""
+    names, digest = deepest_names()
+    count = len(names)
+    root = desk_model.file_bytes(desk_model.group_file(0, 1)) + bytes([1, 1]) + bytes(4)
+    inodes = {number: desk_model.inode_digest((desk_model.user_file(0, number), 1, b"")) for number in range(2, count + 2)}
+    inodes[1] = desk_model.sha256(b"\3" + root + digest)
+    handle = desk_model.digest_of([(desk_model.number_bits(n), n.to_bytes(4, "big"), d) for n, d in inodes.items()]).hex()
+    creates = "".join(f"0 create G0:1 {name.decode('latin-1')} U0:{n}\n" for n, name in enumerate(names, 2))
+    made = "".join(f"ok {n}\n" for n in range(1, count + 1))
+    undone = "".join(f"ok {n}\n" for n in range(count + 1, 2 * count + 1))
+    stack = {"encoding": "latin-1", "preexec_fn": lambda: resource.setrlimit(resource.RLIMIT_STACK, (2 ** 21, 2 ** 21))}
+    yield "the_deepest_names", run(["desk"], creates + "ihandle U0\n", **stack) == (made + handle + "\n", "", 0)
+    script = "mark\n" + creates + "0 undo_last\n" * count + "same\n"
+    yield "the_deepest_names_undone", run(["desk"], script, **stack) == (made + undone + "same\n", "", 0)
+
+
 def main():
     if not os.path.exists(PROGRAM):
         print("program: it isn't built: run ./sundr first")
@@ -173,7 +219,7 @@ def main():
         return 1
     with tempfile.TemporaryDirectory() as room:
         results = dict(examples())
-        for part in (cases, keys, help_texts, faults, at_a_keyboard, by_chance):
+        for part in (cases, keys, help_texts, faults, at_a_keyboard, deep, by_chance):
             results.update(part(room))
     for name, right in results.items():
         if not right:
