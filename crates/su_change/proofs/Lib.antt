@@ -9,3 +9,4 @@ pub mod TakeSpelling
 pub mod Items
 pub mod Public
 mod Examples
+pub mod Sizes

@@ -1,5 +1,5 @@
 // Writing the item of a change.
-ghost use Rattle.std.specs.Prelude.{◌≡◌, ◌⊎◌, ◌++◌, ◌↔◌, IfErr, IfOk, IsTrue, OnOk};
+ghost use Rattle.std.specs.Prelude.{◌≡◌, ◌≤◌, ◌⊎◌, ◌++◌, ◌↔◌, length, IfErr, IfOk, IsTrue, OnOk};
 ghost use Rattle.su_bytes.specs.declared.refusals.Refusal.TheVariants.{BadNumber, NoMemory};
 ghost use Rattle.su_change.specs.Item.{HasItem, IsChange, change_digest, field_bytes, item_bytes};
 
@@ -12,11 +12,13 @@ use su_bytes::{Digest, Refusal};
 use su_format::Writer;
 use su_op::{Change, Op};
 
-/// Returns the item of a change, which `decode` reads back. `BadNumber` where it has none: for a
+/// Returns the item of a change, at most 70,000 bytes, which `decode` reads back. `BadNumber` where it has none: for a
 /// write of no bytes, or of more than `LARGEST_WRITE`; `NoMemory` where there is no room for it.
 pub fn encode(alloc: Global, change: &Change) -> Result<Vec<u8>, Refusal>
     ensures value { IfOk result (λ bytes.
         IsChange change.now × HasItem change.now × (bytes.items ≡ item_bytes change.now)) }
+    ensures size { IfOk result (λ bytes.
+        (1 ≤ length bytes.items) × (length bytes.items ≤ 70_000)) }
     ensures refused { IfErr result (λ e.
         ((e ≡ BadNumber) × (HasItem change.now → ⊥)) ⊎ ((e ≡ NoMemory) × HasItem change.now)) }
 {

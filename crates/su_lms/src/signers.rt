@@ -2,7 +2,7 @@
 ghost use Rattle.std.specs.Prelude.{◌≡◌, ◌≢◌, ◌≤◌, ◌<◌, ◌+◌, ◌*◌, ◌-◌, ◌^◌, ◌++◌, ◌⊎◌, ◌↔◌, [], ℕ, IfOk, OnOk, IfErr, OnErr, IsErrOf, length, vec_len, vec_capacity, slice_index_or};
 ghost use Rattle.su_lms.specs.ParameterSets.{chain_count, height_of, CanBeMade};
 ghost use Rattle.su_lms.specs.Strings.{joined};
-ghost use Rattle.su_lms.specs.Signature.{IsSigned, signature_size};
+ghost use Rattle.su_lms.specs.Signature.{IsSigned, leaf_of, signature_size};
 ghost use Rattle.su_lms.specs.PrivateKey.{leaf_count, key_of, one_time_signature, signature_of, path_at};
 ghost use Rattle.su_lms.specs.KeyFile.{made_key, private_key_of};
 ghost use Rattle.su_lms.specs.NodeTable.{IsNodeTable};
@@ -122,6 +122,8 @@ impl<S: KeyStore> Signer<S> {
     pub fn sign(&mut self, message: &[u8]) -> Result<Vec<u8>, Refusal>
         ensures signature { IfOk result (λ signature. signature.items ≡ signature_of self.old.key self.old.next message.now) }
         ensures signed { IfOk result (λ signature. IsSigned (key_of self.old.key) message.now signature.items) }
+
+        ensures leaf { IfOk result (λ signature. leaf_of signature.items ≡ self.old.next) }
 
         // Its number was stored first, and the leaf is never used again.
         ensures stored { OnOk result (S.stores self.old.store (self.old.next + 1) self.new.store) }

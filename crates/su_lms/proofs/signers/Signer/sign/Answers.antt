@@ -1,5 +1,6 @@
-use Rattle.std.proofs.Common.{ℕ, ◌<◌, List, ◌++◌, ap, sym, ◌∙◌, subst, arith}
-use Rattle.su_lms.specs.Strings.{u32str, joined}
+use Rattle.std.proofs.lemmas.Nat.{from_be_bytes-to_be_bytes_4}
+use Rattle.std.proofs.Common.{ℕ, ◌<◌, ◌^◌, List, ◌++◌, ap, sym, ◌∙◌, subst, arith}
+use Rattle.su_lms.specs.Strings.{number_at, u32str, joined}
 use Rattle.su_lms.specs.Signature.{IsSigned}
 use Rattle.su_lms.specs.PrivateKey.{PrivateKey, IsPrivateKey, key_of, signature_of, one_time_signature, path_at, leaf_count}
 use Rattle.su_lms.specs.ParameterSets.{height_of}
@@ -31,3 +32,9 @@ returns-clause-signed g c =
     let signed : IsSigned (key_of key) message (signature_of key q message) = signature_of-is_signed key made q message below in
     let P : SignerState _ → Type 0 = λ s. IsSigned (key_of s.key) message (signature_of s.key s.next message) in
     subst (λ s. IsSigned (key_of c.args.self.now.key) message s) (sym (returns-clause-signature g c)) (subst P c.self.view_is signed)
+
+pub returns-clause-leaf : goal.returns-clause-leaf
+unfolding number_at signature_of
+returns-clause-leaf g c =
+    let small : c.self.inside.file.next < 2 ^ 32 = omega arith in
+    ap (number_at 0) (returns-clause-signature g c) ∙ from_be_bytes-to_be_bytes_4 _ (subst (λ (s : SignerState _). s.next < 2 ^ 32) c.self.view_is small)
