@@ -2,12 +2,13 @@
 ghost use Rattle.std.specs.Prelude.{◌≡◌, ◌<◌, ◌+◌, ◌-◌, ◌^◌, ◌++◌, ◌↔◌, IsTrue, nat_eq, cond, length, map, IfOk, IfErr, OnOk};
 ghost use Rattle.std.specs.List.{AllByRecursion, list_any};
 ghost use Rattle.su_bytes.specs.Principal.{principals};
-ghost use Rattle.su_vector.specs.Vector.{le, bump, concerns, numbers_after};
+ghost use Rattle.su_bytes.specs.Roster.{users_of};
+ghost use Rattle.su_vector.specs.Vector.{number_in, number_of, le, bump, concerns, numbers_after};
 ghost use Rattle.su_bytes.specs.declared.refusals.Refusal.TheVariants.{NoMemory};
 
 use std::alloc::{AllocError, Global};
 use std::marker::Model;
-use su_bytes::{Digest, Group, Principal, Refusal, Roster, User};
+use su_bytes::{Digest, Group, Principal, Refusal, Roster, RosterUser, User};
 
 /// How many commits concern each principal of the roster: its users, and then its groups. Its
 /// model is these numbers.
@@ -48,6 +49,13 @@ impl Vector {
         self.numbers.as_slice()
     }
 
+    /// Returns the number of a user of the roster, if there is such a user and the vector has it.
+    pub fn number_of(&self, roster: &Roster, user: User) -> Option<u64>
+        ensures { result ≡ number_of roster.now self.now user }
+    {
+        number_in(roster.users(), self.numbers(), user)
+    }
+
     /// Takes the numbers of another vector, which is as long. It takes no memory.
     pub fn set(&mut self, other: &Vector)
         requires { length self.old ≡ length other.now }
@@ -84,6 +92,23 @@ impl Vector {
         let mut numbers = Vec::with_capacity(alloc, self.numbers.len())?;
         push_numbers_after(&mut numbers, &principals, self.numbers(), author, groups)?;
         Ok(Vector { numbers })
+    }
+}
+
+/// The number at the place of a user among these.
+fn number_in(users: &[RosterUser], numbers: &[u64], user: User) -> Option<u64>
+    ensures { result ≡ number_in (users_of users.now) numbers.now user }
+{
+    let [first, users @ ..] = users else {
+        return None;
+    };
+    let [number, numbers @ ..] = numbers else {
+        return None;
+    };
+    if first.user == user {
+        Some(*number)
+    } else {
+        number_in(users, numbers, user)
     }
 }
 

@@ -1,10 +1,10 @@
 // How commits follow one another.
-ghost use Rattle.std.specs.Prelude.{◌≡◌, ◌≤◌, ◌⊎◌, ◌↔◌, IsTrue, true, false, length, IfErr, OnOk, MatchOption};
+ghost use Rattle.std.specs.Prelude.{◌≡◌, ◌≤◌, ◌⊎◌, ◌↔◌, IsTrue, true, false, length, IfOk, IfErr, OnOk, MatchOption};
 ghost use Rattle.std.specs.List.{AllByRecursion, list_any};
 ghost use Rattle.std.specs.Option.{option_copied};
 ghost use Rattle.su_bytes.specs.Principal.{principals as principals_of};
 ghost use Rattle.su_lms.specs.Signature.{IsSigned};
-ghost use Rattle.su_version.specs.Chain.{MayFollow, IsRefusedSo, CountsOn, IsNewLeaf, is_that_group};
+ghost use Rattle.su_version.specs.Chain.{IsSignedByAuthor, MayFollow, IsRefusedSo, CountsOn, IsNewLeaf, is_that_group};
 ghost use Rattle.su_bytes.specs.RosterBytes.{IsKeyOf};
 ghost use Rattle.su_bytes.specs.declared.refusals.Refusal.TheVariants.{NoMemory};
 
@@ -76,9 +76,9 @@ impl<'a> Tip<'a> {
     {
         // names the type for the prover (docs/ARCHITECTURE.md, "Forms the kit wants")
         let _file: Option<FileId> = None;
-        let bytes = commit.version().encode(alloc)?;
+        let by_author = is_signed_by_author(alloc, roster, key, commit)?;
         let principals = roster.principals()?;
-        if !is_signed(key, bytes.as_slice(), commit.signature()) {
+        if !by_author {
             return Err(Refusal::BadSignature);
         }
         if commit.version().prev() != self.head {
@@ -92,6 +92,22 @@ impl<'a> Tip<'a> {
         }
         Ok(())
     }
+}
+
+/// Whether a commit's author is a user of the roster and signed it. The key is the author's in the
+/// roster, if there is such a user. Fails only with `NoMemory`; it makes one check of a signature.
+pub fn is_signed_by_author(
+    alloc: Global,
+    _roster: &Roster,
+    key: Option<&PublicKey>,
+    commit: &Commit,
+) -> Result<bool, Refusal>
+    requires { IsKeyOf _roster.now commit.now.version.author (option_copied key) }
+    ensures value { IfOk result (λ b. IsTrue b ↔ IsSignedByAuthor _roster.now commit.now) }
+    ensures refused { IfErr result (λ e. e ≡ NoMemory) }
+{
+    let bytes = commit.version().encode(alloc)?;
+    Ok(is_signed(key, bytes.as_slice(), commit.signature()))
 }
 
 /// Whether the message is signed under the key, if there is one.

@@ -1,6 +1,7 @@
 -- What is kept with one commit more.
-use Rattle.std.proofs.Common.{◌≡◌, ℕ, zero, suc, ◌+◌, ◌<◌, Bool, true, false, cond, List, [], ◌∷◌, ◌++◌, map, length, length-append, drop, Option, Some, None, nat_eq, slice_get, refl, sym, ap, ◌∙◌, subst, arith}
+use Rattle.std.proofs.Common.{◌≡◌, ℕ, zero, suc, ◌+◌, ◌-◌, ◌<◌, Bool, true, false, cond, List, [], ◌∷◌, ◌++◌, map, length, length-append, drop, Option, Some, None, nat_eq, slice_get, refl, sym, ap, ◌∙◌, subst, arith}
 use Rattle.std.specs.Option.{option_or}
+use Rattle.std.proofs.lemmas.Bool.{eqb-true}
 use Rattle.std.proofs.lemmas.List.{map-append, length-map}
 use Rattle.std.proofs.Math.Seq.{drop-append-add, drop-append_seam}
 use Rattle.su_bytes.specs.Membership.{Membership, IsRoster, has_user}
@@ -16,6 +17,7 @@ use Rattle.su_chain.specs.ChainEnd.{IsEndOf}
 use Rattle.su_legal.specs.Legal.{Committed, author_of, commits_of, history, Legal}
 use Rattle.su_legal.proofs.Public.{legal_further}
 use Rattle.su_view.specs.LastCommits.{last_by}
+use Rattle.su_view.specs.Entry.{AreBytesAt}
 use Rattle.su_view.specs.Keeping.{commit_in, paired, held_in, AreBytesOf, AreBytes, IsLastIndex, holding_of, IsKeeping, JoinsNext}
 use Rattle.su_view.specs.declared.records.Record.{Record}
 use Rattle.su_view.specs.declared.records.Keeping.{Keeping}
@@ -144,3 +146,31 @@ module _ (k : Keeping) (c : Commit) (change : Change) (r : Record) (kept : IsKee
 
 pub length-held : (k : Keeping) → IsKeeping k → length (holding_of k).held ≡ length k.records.items
 length-held k kept = sym (length-map (holding_of k).held (λ c. c.commit)) ∙ ap length kept.commits ∙ length-map k.records.items commit_in
+
+-- ---- by number
+
+bytes_both : (rs : List Record) (cs : List Committed) → AreBytes rs cs → (i : ℕ) (r : Record) → slice_get rs i ≡ Some r
+    → (c : Committed) × (slice_get cs i ≡ Some c) × AreBytesOf r c
+bytes_both [] [] are i r here = absurd (cc)
+bytes_both [] (x ∷ cs) are i r here = absurd are
+bytes_both (y ∷ rs) [] are i r here = absurd are
+bytes_both (y ∷ rs) (x ∷ cs) (is, are) zero r here = let same : y ≡ r = cc in (x, refl, subst (λ z. AreBytesOf z x) same is)
+bytes_both (y ∷ rs) (x ∷ cs) (is, are) (suc i) r here = bytes_both rs cs are i r here
+
+above_zero : (n : ℕ) → 0 < n → nat_eq n 0 ≡ false
+above_zero n less = go (nat_eq n 0) refl
+  where
+    go : (b : Bool) → nat_eq n 0 ≡ b → nat_eq n 0 ≡ false
+    go false is = is
+    go true is = let none = eqb-true n 0 is in absurd (omega (arith, none, less))
+
+pub entry_found : (k : Keeping) → IsKeeping k → (n : ℕ) (r : Record) (commit item : List ℕ) → 0 < n → slice_get k.records.items (n - 1) ≡ Some r
+    → commit ≡ r.bytes.items → item ≡ r.item.items → AreBytesAt (holding_of k).held n commit item
+entry_found k kept n r commit item some here commit_is item_is =
+    let (c, there, are) = bytes_both k.records.items (holding_of k).held kept.bytes (n - 1) r here in
+    record {
+      committed = c;
+      found = ap (λ b. cond b None (slice_get (holding_of k).held (n - 1))) (above_zero n some) ∙ there;
+      commit_is = commit_is ∙ are.commit;
+      item_is = item_is ∙ are.change;
+    }

@@ -1,3 +1,6 @@
 pub mod HandleLemmas
 pub mod KeepingLemmas
 pub mod JoinLemmas
+pub mod ShownLemmas
+pub mod MakeLemmas
+pub mod ListLemmas

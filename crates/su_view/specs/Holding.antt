@@ -3,13 +3,19 @@
 use Rattle.std.specs.Prelude.{◌≡◌, ℕ, List, ◌++◌}
 use Rattle.su_bytes.specs.Membership.{Membership}
 use Rattle.su_version.specs.Version.{Version}
-use Rattle.su_legal.specs.Legal.{Committed}
+use Rattle.su_table.specs.Tree.{Tree}
+use Rattle.su_desk.specs.Applied.{tree_after}
+use Rattle.su_legal.specs.Legal.{Committed, history}
 use Rattle.su_legal.specs.Act.{Act.Takes, Act.Signs, May}
 
 pub record HoldingState : Type 0 where
   pub roster : Membership
   pub user : ℕ
   pub held : List Committed
+
+-- the tree that the list makes
+abbrev pub tree_of_list : HoldingState → Tree
+tree_of_list v = tree_after v.roster (history v.held)
 
 -- the same with these commits more
 abbrev pub with_more : HoldingState → List Committed → HoldingState

@@ -1,33 +1,30 @@
 -- What a client asks of the last commits of the users, as a server shows them, before it takes any
 -- other. (SUNDR, section 3.3: a client checks that its own last version structure is there, and that
 -- all are ordered.)
-use Rattle.std.specs.Prelude.{◌≡◌, ◌≤◌, ◌⊎◌, ℕ, Bool, false, cond, List, [], ◌∷◌, map, Option, None, Some, nat_eq, Contains}
-use Rattle.std.specs.List.{AllByRecursion}
+use Rattle.std.specs.Prelude.{◌≡◌, ◌≤◌, ◌<◌, ◌⊎◌, ℕ, Bool, true, cond, List, [], ◌∷◌, length, map, Option, None, Some, option_map, nat_eq}
+use Rattle.std.specs.List.{AllByRecursion, list_any}
 use Rattle.std.specs.Option.{option_or}
 use Rattle.su_bytes.specs.Membership.{Membership}
-use Rattle.su_bytes.specs.Principal.{principals}
-use Rattle.su_bytes.specs.declared.principals.Principal.{Principal}
-use Rattle.su_bytes.specs.declared.principals.Principal.TheVariants.{User, Group}
 use Rattle.su_bytes.specs.declared.refusals.Refusal.TheVariants.{BadSignature, NotOrdered}
+use Rattle.su_vector.specs.Vector.{number_of}
+use Rattle.su_vector.specs.Order.{AreComparable, IsFirstUnordered}
 use Rattle.su_version.specs.Commit.{Commit}
 use Rattle.su_version.specs.Chain.{IsSignedByAuthor}
-use Rattle.su_vector.specs.Order.{IsFirstUnordered}
 use Rattle.su_legal.specs.Legal.{Committed, author_of}
 use Rattle.su_view.specs.Holding.{HoldingState}
 use Rattle.su_view.specs.declared.refusals.ViewRefusal.{ViewRefusal}
 use Rattle.su_view.specs.declared.refusals.ViewRefusal.TheVariants.{Plain, OwnMissing}
 
-abbrev pub is_that_user : ℕ → Principal → Bool
-is_that_user u (User a) = nat_eq a u
-is_that_user u (Group g) = false
+-- ---- the last commit of a client's own user
 
-abbrev pub number_in : List Principal → List ℕ → ℕ → Option ℕ
-number_in (p ∷ ps) (n ∷ ns) u = cond (is_that_user u p) (Some n) (number_in ps ns u)
-number_in _ _ u = None
+-- the last commit of user u in a list
+abbrev pub last_by : ℕ → List Committed → Option Committed
+last_by u [] = None
+last_by u (c ∷ cs) = option_or (last_by u cs) (cond (nat_eq (author_of c) u) (Some c) None)
 
--- the number of user u in a vector; none where the vector lacks it
-abbrev pub number_of : Membership → List ℕ → ℕ → Option ℕ
-number_of ro vector u = number_in (principals ro) vector u
+-- the last commit of the client's own user that is held, if there is one
+abbrev pub own_last : HoldingState → Option Commit
+own_last v = option_map (λ c. c.commit) (last_by v.user v.held)
 
 -- Of the last commit that is held of user u, and one that is shown as such: the shown one has a
 -- number of u, which isn't lower; and if it is the same, so are the commits.
@@ -37,35 +34,39 @@ pub record IsNotBehind (ro : Membership) (u : ℕ) (last shown : Commit) : Type 
   pub not_lower : (n : ℕ) → number_of ro last.version.vector u ≡ Some n → n ≤ number
   pub same : number_of ro last.version.vector u ≡ Some number → shown ≡ last
 
--- the last commit of user u in a list
-abbrev pub last_by : ℕ → List Committed → Option Committed
-last_by u [] = None
-last_by u (c ∷ cs) = option_or (last_by u cs) (cond (nat_eq (author_of c) u) (Some c) None)
+abbrev pub is_by : ℕ → Commit → Bool
+is_by u c = nat_eq c.version.author u
 
--- If the user has a commit in the list, one is shown of the user's, and each such is not behind the
--- user's last one.
-pub record ShowsOwn (v : HoldingState) (shown : List Commit) : Type 0 where
-  pub some_own : (l : Committed) → last_by v.user v.held ≡ Some l
-      → (c : Commit) × Contains shown c × (c.version.author ≡ v.user)
-  pub not_behind : (l : Committed) → last_by v.user v.held ≡ Some l
-      → (c : Commit) → Contains shown c → c.version.author ≡ v.user
-      → IsNotBehind v.roster v.user l.commit c
+-- a commit of user u is shown, and each such isn't behind the user's last one
+pub record ShowsLast (ro : Membership) (u : ℕ) (last : Commit) (shown : List Commit) : Type 0 where
+  pub some_own : list_any (is_by u) shown ≡ true
+  pub not_behind : AllByRecursion (λ c. is_by u c ≡ true → IsNotBehind ro u last c) shown
+
+-- so it is, if user u has a last commit
+abbrev pub ShowsOwn : Membership → ℕ → Option Commit → List Commit → Type 0
+ShowsOwn ro u None shown = Unit {0}
+ShowsOwn ro u (Some last) shown = ShowsLast ro u last shown
+
+-- ---- what passes
 
 abbrev pub vectors_of : List Commit → List (List ℕ)
 vectors_of shown = map (λ c. c.version.vector) shown
 
--- What is shown as the users' last commits passes: each is signed by its author; the user's own is
--- there; and all are ordered.
-pub record Passes (v : HoldingState) (shown : List Commit) : Type 0 where
-  pub signed : AllByRecursion (IsSignedByAuthor v.roster) shown
-  pub own : ShowsOwn v shown
-  pub ordered : (i j : ℕ) → IsFirstUnordered (vectors_of shown) i j → ⊥
+abbrev pub AreSigned : Membership → List Commit → Type 0
+AreSigned ro shown = AllByRecursion (IsSignedByAuthor ro) shown
+
+-- What is shown as the users' last commits passes, for a client of user u with this last commit:
+-- each is signed by its author; the user's own is there; and all are ordered.
+pub record Passes (ro : Membership) (u : ℕ) (last : Option Commit) (shown : List Commit)
+    : Type 0 where
+  pub signed : AreSigned ro shown
+  pub own : ShowsOwn ro u last shown
+  pub ordered : (i j : ℕ) → i < j → j < length shown → AreComparable (vectors_of shown) i j
 
 -- Why it doesn't pass, in this order.
-abbrev pub IsRefusedList : HoldingState → List Commit → ViewRefusal → Type 0
-IsRefusedList v shown e =
-    ((e ≡ Plain BadSignature) × ¬ AllByRecursion (IsSignedByAuthor v.roster) shown)
-    ⊎ ((e ≡ OwnMissing) × AllByRecursion (IsSignedByAuthor v.roster) shown × ¬ ShowsOwn v shown)
-    ⊎ ((i j : ℕ) × (e ≡ Plain (NotOrdered i j))
-    × AllByRecursion (IsSignedByAuthor v.roster) shown × ShowsOwn v shown
+abbrev pub IsRefusedList : Membership → ℕ → Option Commit → List Commit → ViewRefusal → Type 0
+IsRefusedList ro u last shown e =
+    ((e ≡ Plain BadSignature) × ¬ AreSigned ro shown)
+    ⊎ ((e ≡ OwnMissing) × AreSigned ro shown × ¬ ShowsOwn ro u last shown)
+    ⊎ ((i j : ℕ) × (e ≡ Plain (NotOrdered i j)) × AreSigned ro shown × ShowsOwn ro u last shown
     × IsFirstUnordered (vectors_of shown) i j)

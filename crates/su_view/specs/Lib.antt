@@ -1,5 +1,9 @@
 pub mod Holding
 pub mod Keeping
+pub mod Spelled
+pub mod Entry
+pub mod Making
 pub mod Joining
 pub mod Listing
 pub mod LastCommits
+pub mod Refusal

@@ -1,13 +1,14 @@
 -- Lists of commits as bytes: of each, how many bytes it has, and these. (This project's own
 -- format.)
-use Rattle.std.specs.Prelude.{◌≡◌, ℕ, ◌⊎◌, List, ◌++◌, length}
+use Rattle.std.specs.Prelude.{◌≡◌, ◌<◌, ◌+◌, ◌^◌, ℕ, ◌⊎◌, List, ◌++◌, length}
 use Rattle.std.specs.List.{flat_map}
-use Rattle.su_bytes.specs.declared.refusals.Refusal.TheVariants.{Malformed}
+use Rattle.su_bytes.specs.declared.refusals.Refusal.TheVariants.{Malformed, NoMemory}
+use Rattle.su_block.specs.declared.failures.Failures.{Failures}
 use Rattle.su_format.specs.Part.{u32_bytes}
 use Rattle.su_version.specs.Commit.{Commit, IsCommit, commit_bytes}
 use Rattle.su_legal.specs.Legal.{Committed}
-use Rattle.su_view.specs.Holding.{HoldingState}
-use Rattle.su_view.specs.Joining.{IsNoCommit, IsRefusedCommit}
+use Rattle.su_view.specs.Holding.{HoldingState, Took}
+use Rattle.su_view.specs.Joining.{HasFailed, IsNoCommit, IsRefusedCommit}
 use Rattle.su_view.specs.declared.refusals.ViewRefusal.{ViewRefusal}
 use Rattle.su_view.specs.declared.refusals.ViewRefusal.TheVariants.{Plain}
 
@@ -18,18 +19,40 @@ record_bytes bytes = u32_bytes (length bytes) ++ bytes
 abbrev pub commits_bytes : List Committed → List ℕ
 commits_bytes cs = flat_map (λ c. record_bytes (commit_bytes c.commit)) cs
 
--- they begin with bytes of which the number stands before them
-pub record HasRecord (bytes : List ℕ) : Type 0 where
-  pub first : List ℕ
-  pub rest : List ℕ
+-- the bytes begin with a record: with these, before which their number stands
+pub record BeginWith (bytes first rest : List ℕ) : Type 0 where
+  pub few : length first < 2 ^ 32
   pub whole : bytes ≡ record_bytes first ++ rest
 
--- What a list begins with is refused at this place: no number of bytes stands there with as many
--- bytes behind it, and the place of the number is named; or these bytes spell no commit; or the
--- commit doesn't join what is held.
-abbrev pub IsRefusedFirst : (List ℕ → Type 0) → HoldingState → ℕ → List ℕ → ViewRefusal → Type 0
-IsRefusedFirst MayGive v place bytes e =
-    ((e ≡ Plain (Malformed place)) × ¬ HasRecord bytes)
-    ⊎ ((first rest : List ℕ) × (bytes ≡ record_bytes first ++ rest)
-    × (IsNoCommit first e
-    ⊎ ((c : Commit) × IsCommit c × (first ≡ commit_bytes c) × IsRefusedCommit MayGive v c e)))
+-- A commit that is shown isn't taken: these are the bytes of none; or the source fails to give the
+-- item of its change; or the commit doesn't join the list.
+abbrev pub IsRefusedBytes : (List ℕ → Type 0) → Failures → Failures → HoldingState → List ℕ → ViewRefusal → Type 0
+IsRefusedBytes MayGive before after v bytes e =
+    IsNoCommit bytes e
+    ⊎ ((c : Commit) × IsCommit c × (bytes ≡ commit_bytes c)
+    × (HasFailed before after c.version.change e ⊎ IsRefusedCommit MayGive v c e))
+
+-- What a list begins with isn't taken: no record stands there, and its place is named; or what
+-- stands there is refused.
+abbrev pub IsRefusedFirst : (List ℕ → Type 0) → Failures → Failures → HoldingState → ℕ → List ℕ → ViewRefusal → Type 0
+IsRefusedFirst MayGive before after v place bytes e =
+    ((e ≡ Plain (Malformed place)) × ((first rest : List ℕ) → BeginWith bytes first rest → ⊥))
+    ⊎ ((first rest : List ℕ) × BeginWith bytes first rest
+    × IsRefusedBytes MayGive before after v first e)
+
+-- The commits that a list begins with were taken, so many of them, and the rest wasn't.
+pub record HasTaken (v : HoldingState) (bytes : List ℕ) (n : ℕ) (v' : HoldingState) (rest : List ℕ)
+    : Type 0 where
+  pub more : List Committed
+  pub took : Took v more v'
+  pub number : n ≡ length more
+  pub front : bytes ≡ commits_bytes more ++ rest
+
+-- Of the list it took so many, and refused the next.
+pub record RefusesNext (MayGive : List ℕ → Type 0) (before after : Failures) (v : HoldingState)
+    (bytes : List ℕ) (n : ℕ) (e : ViewRefusal) (v' : HoldingState) : Type 0 where
+  pub rest : List ℕ
+  pub taken : HasTaken v bytes n v' rest
+  pub why : (e ≡ Plain NoMemory)
+      ⊎ ((place : ℕ) × (place + length rest ≡ length bytes)
+      × IsRefusedFirst MayGive before after v' place rest e)

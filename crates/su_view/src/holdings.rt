@@ -11,12 +11,18 @@ ghost use Rattle.su_version.specs.Chain.{MayBeNext, IsRefusedSo, tip};
 ghost use Rattle.su_chain.specs.ChainEnd.{HasBadKey};
 ghost use Rattle.su_legal.specs.Legal.{commits_of, head_of, history};
 ghost use Rattle.su_view.specs.Holding.{HoldingState, Took};
+ghost use Rattle.su_view.specs.LastCommits.{own_last, Passes, IsRefusedList};
 ghost use Rattle.su_view.specs.Joining.{IsRefusedWith, IsOtherHandle, AscendFrom};
 ghost use Rattle.su_view.specs.declared.refusals.ViewRefusal.TheVariants.{Plain, Change as ChangeRefused};
 
+mod drafts;
+mod queries;
+
 use crate::handles::first_other;
+use crate::last_commits::check_list;
 use crate::records::Keeping;
 use crate::refusals::ViewRefusal;
+pub(crate) use drafts::Draft;
 use std::alloc::Global;
 use std::marker::Model;
 use su_bytes::{Digest, FileId, Principal, Refusal, Roster, User};
@@ -91,6 +97,16 @@ impl Holding {
             .check(self.alloc, self.keeping.desk.roster(), commit)
     }
 
+    /// Checks what a server shows as the users' last commits, as `View::check_list` does.
+    pub fn check_list(&self, shown: &[Commit]) -> Result<(), ViewRefusal>
+        ensures passes { OnOk result
+            (Passes self.now.roster self.now.user (own_last self.now) shown.now) }
+        ensures refused { IfErr result (λ e. (e ≡ Plain NoMemory)
+            ⊎ IsRefusedList self.now.roster self.now.user (own_last self.now) shown.now e) }
+    {
+        check_list(self.alloc, &self.keeping, shown)
+    }
+
     /// Takes a commit that may be the next, with its bytes and the item of its change. `Change`
     /// where the item is that of no change, or the change is refused; `WrongHandle` where the
     /// commit holds another i-handle than the tree has then; `NoMemory`. A refusal changes nothing.
@@ -124,7 +140,7 @@ impl Holding {
 }
 
 /// The refusal of a change, or want of memory.
-fn within(refusal: Refusal) -> ViewRefusal
+pub(crate) fn within(refusal: Refusal) -> ViewRefusal
     ensures { ((refusal ≡ NoMemory) × (result ≡ Plain NoMemory))
         ⊎ ((refusal ≢ NoMemory) × (result ≡ ChangeRefused refusal)) }
 {

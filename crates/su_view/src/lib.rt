@@ -4,8 +4,11 @@
 
 mod handles;
 mod holdings;
+mod last_commits;
+mod lists;
 mod records;
 mod refusals;
+mod signing;
 mod views;
 
 pub use refusals::ViewRefusal;

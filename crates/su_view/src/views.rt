@@ -1,21 +1,36 @@
 // A client's view.
-ghost use Rattle.std.specs.Prelude.{◌≡◌, ◌⊎◌, ◌∷◌, ◌++◌, ◌+◌, ℕ, List, [], true, length, IfOk, IfErr, OnOk, OnErr, option_map};
+ghost use Rattle.std.specs.Prelude.{◌≡◌, ◌⊎◌, ◌∷◌, ◌++◌, ◌+◌, ◌-◌, ◌<◌, ◌^◌, ℕ, List, [], true, length, None, Ok, Err, IfOk, IfErr, OnOk, OnErr, MatchOption, option_map};
 ghost use Rattle.std.specs.Borrow.{Lends, sem};
 ghost use Rattle.su_bytes.specs.Membership.{has_user};
-ghost use Rattle.su_bytes.specs.declared.refusals.Refusal.TheVariants.{BadKey, NoUser, NoMemory};
+ghost use Rattle.su_bytes.specs.declared.refusals.Refusal.TheVariants.{BadKey, NoUser, NoMemory, KeyFileFault};
 ghost use Rattle.su_chain.specs.ChainEnd.{HasBadKey};
-ghost use Rattle.su_op.specs.declared.operations.Change.{Change};
+ghost use Rattle.su_op.specs.declared.operations.Change.{Change as Change_};
+ghost use Rattle.su_table.specs.Query.{listing, contents_within};
+ghost use Rattle.su_desk.specs.History.{live_numbers};
+ghost use Rattle.su_desk.specs.Version.{versions};
+ghost use Rattle.su_lms.specs.PrivateKey.{key_of, leaf_count};
+ghost use Rattle.su_change.specs.Item.{item_bytes};
 ghost use Rattle.su_version.specs.Commit.{commit_bytes};
-ghost use Rattle.su_view.specs.Holding.{Took};
+ghost use Rattle.su_version.specs.Chain.{IsNewLeaf, last_leaf};
+ghost use Rattle.su_legal.specs.Legal.{Committed, commits_of, head_of, history, Legal, MayJoin};
+ghost use Rattle.su_view.specs.Holding.{Took, MaySign, tree_of_list};
+ghost use Rattle.su_view.specs.Entry.{committed_at, AreBytesAt};
+ghost use Rattle.su_view.specs.Making.{IsMade, IsRefusedMaking};
+ghost use Rattle.su_view.specs.Listing.{HasTaken, IsRefusedBytes, RefusesNext};
+ghost use Rattle.su_view.specs.LastCommits.{own_last, Passes, IsRefusedList};
 ghost use Rattle.su_view.specs.Joining.{HasFailed, IsRefusedCommit};
 ghost use Rattle.su_view.specs.declared.refusals.ViewRefusal.TheVariants.{Plain};
 ghost use Rattle.su_view.specs.contracts.views.View.{the_row};
 
 use crate::holdings::Holding;
+use crate::lists::first_record;
 use crate::refusals::ViewRefusal;
+use crate::signing::signed;
 use std::alloc::Global;
 use su_block::BlockSource;
-use su_bytes::{Digest, Refusal, Roster, User};
+use su_bytes::{Digest, FileId, Name, Principal, Refusal, Roster, User};
+use su_lms::{KeyStore, Signer};
+use su_op::Change;
 use su_version::Commit;
 
 /// A client's view: the legal list of commits that the client holds, with the tree that it makes,
@@ -54,12 +69,25 @@ impl<S: BlockSource + Drop> View<S> {
         &mut self.source
     }
 
+    /// Checks what a server shows as the users' last commits, before any other is taken.
+    /// `BadSignature` where one isn't signed by its author; `OwnMissing` where the view's user has
+    /// a commit in the list, and none of the user's is shown or one that is behind the last;
+    /// `NotOrdered` with the first two positions whose vectors aren't comparable; `NoMemory`.
+    pub fn check_list(&self, shown: &[Commit]) -> Result<(), ViewRefusal>
+        ensures passes { let v = self.now.holding in
+            OnOk result (Passes v.roster v.user (own_last v) shown.now) }
+        ensures refused { let v = self.now.holding in IfErr result (λ e.
+            (e ≡ Plain NoMemory) ⊎ IsRefusedList v.roster v.user (own_last v) shown.now e) }
+    {
+        self.holding.check_list(shown)
+    }
+
     /// Takes a commit by its bytes, with the item of its change, which the source is asked for. The
     /// refusals are those of `accept`. A refusal leaves the list as it was.
     fn accept_commit(&mut self, commit: Commit, bytes: &[u8]) -> Result<(), ViewRefusal>
         requires checked { S.is_checked ≡ true }
         requires bytes { bytes.now ≡ commit_bytes commit }
-        ensures took { OnOk result ((change : Change) × Took self.old.holding
+        ensures took { OnOk result ((change : Change_) × Took self.old.holding
             (record { commit = commit; change = change } ∷ []) self.new.holding) }
         ensures refused { IfErr result (λ e. (e ≡ Plain NoMemory)
             ⊎ HasFailed (S.failed self.old.source) (S.failed self.new.source)
@@ -84,11 +112,116 @@ impl<S: BlockSource + Drop> View<S> {
         self.holding.join(commit, copy, item)
     }
 
+    /// Takes a commit that is shown by its bytes. The refusals are those of `accept`. A refusal
+    /// leaves the list as it was.
+    fn accept_bytes(&mut self, bytes: &[u8]) -> Result<(), ViewRefusal>
+        requires checked { S.is_checked ≡ true }
+        ensures took { OnOk result ((c : Committed) × (bytes.now ≡ commit_bytes c.commit)
+            × Took self.old.holding (c ∷ []) self.new.holding) }
+        ensures refused { IfErr result (λ e. (e ≡ Plain NoMemory)
+            ⊎ IsRefusedBytes (S.may_give self.old.source) (S.failed self.old.source)
+            (S.failed self.new.source) self.old.holding bytes.now e) }
+        ensures err { OnErr result (self.new.holding ≡ self.old.holding) }
+        ensures no_more { (item : List ℕ) → S.may_give self.new.source item
+            → S.may_give self.old.source item }
+        ensures no_failure { OnOk result
+            (S.failed self.new.source ≡ S.failed self.old.source) }
+    {
+        let commit = match Commit::decode(self.alloc, bytes) {
+            Ok(commit) => commit,
+            Err(refusal) => return Err(ViewRefusal::Plain(refusal)),
+        };
+        self.accept_commit(commit, bytes)
+    }
+
+    /// Takes the commits that a server shows, each as the number of its bytes (`u32`) and these,
+    /// and returns how many. Where one is refused, those before it stay taken, and their number
+    /// comes with the refusal: `Malformed` with the place of a number in the list that runs past
+    /// its end, or with a place in the commit's own bytes; then what refuses the commit alone, as
+    /// `ChainEnd::check` does; `Change` with what refuses the change, or where its item is that of
+    /// no change; `WrongHandle` where the commit holds another i-handle than the tree has then;
+    /// `MissingBlock`, `WrongBlock`, `SourceFailed` where the source fails to give the item;
+    /// `NoMemory`.
+    pub fn accept(&mut self, bytes: &[u8]) -> Result<u64, (u64, ViewRefusal)>
+        requires checked { S.is_checked ≡ true }
+        ensures took { IfOk result (λ n.
+            HasTaken self.old.holding bytes.now n self.new.holding []) }
+        ensures refused { IfErr result (λ e. RefusesNext (S.may_give self.old.source)
+            (S.failed self.old.source) (S.failed self.new.source) self.old.holding bytes.now
+            e.0 e.1 self.new.holding) }
+        ensures no_more { (item : List ℕ) → S.may_give self.new.source item
+            → S.may_give self.old.source item }
+    {
+        let mut rest = bytes;
+        let mut count = 0;
+        while !rest.is_empty() {
+            let Some((first, others)) = first_record(rest) else {
+                let place = (bytes.len() - rest.len()) as u64;
+                return Err((count, ViewRefusal::Plain(Refusal::Malformed(place))));
+            };
+            if let Err(refusal) = self.accept_bytes(first) {
+                return Err((count, refusal));
+            }
+            rest = others;
+            count += 1;
+        }
+        Ok(count)
+    }
+
+    /// Makes a commit of a change of the view's user, signed by the next leaf of the signer, and
+    /// gives the item of the change to the source. The view's list stays as it was: once the commit
+    /// is stored, `accept_own` takes it. `BadSignature` where the signer's key isn't that of the
+    /// user; `Change` where the change is refused; `SourceFailed`; `NoMemory`; `KeySpent` where
+    /// each leaf has signed; `KeyFileFault` where the signer's store fails. It signs last: on a
+    /// refusal no leaf was used.
+    pub fn make<K: KeyStore>(
+        &mut self,
+        change: Change,
+        signer: &mut Signer<K>,
+    ) -> Result<Commit, ViewRefusal>
+        ensures made { IfOk result (IsMade self.old.holding change signer.old.next) }
+        // It may be signed, and with it the list is legal, unless its leaf has signed before.
+        ensures may_sign { IfOk result (λ c. MaySign self.old.holding c.version) }
+        ensures joins { IfOk result (λ c. let v = self.old.holding in
+            IsNewLeaf (last_leaf v.user (commits_of v.held)) signer.old.next
+            → MayJoin v.roster v.held (record { commit = c; change = change })) }
+        ensures refused { IfErr result (λ e. (e ≡ Plain NoMemory)
+            ⊎ IsRefusedMaking (S.failed self.old.source) (S.failed self.new.source)
+            (key_of signer.old.key) (signer.old.next ≡ leaf_count signer.old.key)
+            self.old.holding change e) }
+        ensures view { self.new.holding ≡ self.old.holding }
+        ensures more { (item : List ℕ) → S.may_give self.new.source item
+            → S.may_give self.old.source item ⊎ (item ≡ item_bytes change) }
+        ensures used { OnOk result (signer.new.next ≡ signer.old.next + 1) }
+        ensures unused { OnErr result (signer.new.next ≡ signer.old.next) }
+        ensures key { signer.new.key ≡ signer.old.key }
+        ensures fault { IfErr result (λ e. e ≡ Plain KeyFileFault
+            → K.failure_count signer.old.store < 2 ^ 64 - 1
+            → K.failure_count signer.old.store < K.failure_count signer.new.store) }
+    {
+        if !self.holding.is_own_key(signer.public()) {
+            return Err(ViewRefusal::Plain(Refusal::BadSignature));
+        }
+        let draft = self.holding.draft(change)?;
+        let digest = match self.source.put(self.alloc, draft.item.as_slice()) {
+            Ok(digest) => digest,
+            Err(refusal) => return Err(ViewRefusal::Plain(refusal)),
+        };
+        let version = match self.holding.next_version(draft, digest) {
+            Ok(version) => version,
+            Err(refusal) => return Err(ViewRefusal::Plain(refusal)),
+        };
+        match signed(self.alloc, version, signer) {
+            Ok(commit) => Ok(commit),
+            Err(refusal) => Err(ViewRefusal::Plain(refusal)),
+        }
+    }
+
     /// Takes a commit that its user made, and returns its number. The refusals are those of
     /// `accept`, in its order. A refusal leaves the list as it was.
     pub fn accept_own(&mut self, commit: &Commit) -> Result<u64, ViewRefusal>
         requires checked { S.is_checked ≡ true }
-        ensures took { OnOk result ((change : Change) × Took self.old.holding
+        ensures took { OnOk result ((change : Change_) × Took self.old.holding
             (record { commit = commit.now; change = change } ∷ []) self.new.holding) }
         ensures number { IfOk result (λ n. n ≡ length self.new.holding.held) }
         ensures refused { IfErr result (λ e. (e ≡ Plain NoMemory)
@@ -110,5 +243,81 @@ impl<S: BlockSource + Drop> View<S> {
         };
         self.accept_commit(copy, bytes.as_slice())?;
         Ok(self.holding.number())
+    }
+
+    /// Lends who belongs to the store.
+    pub fn roster(&self) -> &Roster
+        ensures { result.now ≡ self.now.holding.roster }
+    {
+        self.holding.roster()
+    }
+
+    /// Returns whose view it is.
+    pub fn user(&self) -> User
+        ensures { result ≡ self.now.holding.user }
+    {
+        self.holding.user()
+    }
+
+    /// Returns the number of commits that the view holds, and the digest that the next one names:
+    /// of the last commit, at first of the roster.
+    pub fn head(&self) -> (u64, Digest)
+        ensures value { let v = self.now.holding in
+            result ≡ (length v.held, head_of v.roster v.held) }
+        // What holds of each list that a view holds.
+        ensures legal { Legal self.now.holding.roster self.now.holding.held }
+    {
+        self.holding.head()
+    }
+
+    /// Lends the bytes of the commit of that number, from 1, and the item of its change; none
+    /// where the view holds no commit of that number.
+    pub fn entry(&self, number: u64) -> Option<(&[u8], &[u8])>
+        ensures { MatchOption result (committed_at self.now.holding.held number ≡ None) (λ entry.
+            AreBytesAt self.now.holding.held number entry.0.now entry.1.now) }
+    {
+        self.holding.entry(number)
+    }
+
+    /// Returns the version numbers of the users of the roster, and then of its groups: of a user
+    /// how many commits are the user's, of a group how many carry it. Takes no memory.
+    pub fn versions(&self) -> &[(Principal, u64)]
+        ensures { let v = self.now.holding in result.now ≡ versions v.roster (history v.held) }
+    {
+        self.holding.versions()
+    }
+
+    /// Returns the numbers of the live operations, ascending. Fails only with `NoMemory`.
+    pub fn live(&mut self) -> Result<Vec<u64>, Refusal>
+        ensures value { IfOk result (λ numbers.
+            numbers.items ≡ live_numbers (history self.old.holding.held)) }
+        ensures refused { IfErr result (λ e. e ≡ NoMemory) }
+        ensures same { self.new ≡ self.old }
+    {
+        self.holding.live()
+    }
+
+    /// Lists the names of a directory with the files that they lead to, ascending. `NoFile` where
+    /// the file has no body, `WrongKind` where its body is no directory; `NoMemory`.
+    pub fn list(&mut self, file: FileId) -> Result<Vec<(Name, FileId)>, Refusal>
+        ensures ok { IfOk result (λ names.
+            listing (tree_of_list self.old.holding) file ≡ Ok names.items) }
+        ensures refused { IfErr result (λ e. (e ≡ NoMemory)
+            ⊎ (listing (tree_of_list self.old.holding) file ≡ Err e)) }
+        ensures same { self.new ≡ self.old }
+    {
+        self.holding.list(file)
+    }
+
+    /// Reads the bytes of a file within a range, which may reach past its end. `NoFile` where the
+    /// file has no body, `WrongKind` where its body is a directory; `NoMemory`.
+    pub fn read_at(&mut self, file: FileId, off: u64, len: u64) -> Result<Vec<u8>, Refusal>
+        ensures ok { IfOk result (λ bytes.
+            contents_within (tree_of_list self.old.holding) file off len ≡ Ok bytes.items) }
+        ensures refused { IfErr result (λ e. (e ≡ NoMemory)
+            ⊎ (contents_within (tree_of_list self.old.holding) file off len ≡ Err e)) }
+        ensures same { self.new ≡ self.old }
+    {
+        self.holding.read_at(file, off, len)
     }
 }

@@ -1,0 +1,18 @@
+use Rattle.std.proofs.Common.{◌≡◌, ◌-◌, ◌<◌, length, refl, sym, ap, ◌∙◌, subst, arith}
+use Rattle.std.proofs.lemmas.Option.{slice_get_read}
+use Rattle.su_view.specs.Holding.{HoldingState}
+use Rattle.su_view.specs.Keeping.{holding_of}
+use Rattle.su_view.specs.Entry.{AreBytesAt}
+use Rattle.su_view.proofs.KeepingLemmas.{entry_found, length-held}
+use Rattle.su_view.proofs.holdings.Holding.entry.Goals as goal
+
+pub returns : goal.returns
+returns c =
+    let k = c.self.inside.keeping in
+    let held = length-held k c.self.invariant in
+    let number : c.number.result ≡ length (holding_of k).held = c.number.ensures ∙ ap (λ (v : HoldingState). length v.held) (sym c.self.view_is) in
+    let within : c.args.number - 1 < length k.records.items = omega (arith, held, number, c.if-number-eq0.false, c.if-number.false) in
+    subst (λ (v : HoldingState). AreBytesAt v.held c.args.number c.as_slice.result.now c.as_slice-2.result.now) c.self.view_is
+    (entry_found k c.self.invariant c.args.number c.index-record.result.now c.as_slice.result.now c.as_slice-2.result.now (omega (arith, c.if-number-eq0.false))
+    (slice_get_read k.records.items (length k.records.items) (c.args.number - 1) c.index-record.result.now refl within c.index-record.ensures)
+    c.as_slice.ensures.value c.as_slice-2.ensures.value)

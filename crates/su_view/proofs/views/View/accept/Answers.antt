@@ -1,0 +1,24 @@
+use Rattle.std.proofs.Common.{◌∙◌, arith}
+use Rattle.su_view.proofs.ListLemmas.{shorter, one_taken, refuses_next}
+use Rattle.su_view.proofs.views.View.accept.Goals as goal
+
+pub returns-in-Err-clause-refused : goal.returns-in-Err-clause-refused
+returns-in-Err-clause-refused g c =
+    let (taken, sum, failed, may) = c.loop-rest.invariant in
+    refuses_next (g.S.BlockSource.may_give c.loop-rest.self.source) (g.S.BlockSource.may_give c.args.self.now.source) may
+    (g.S.BlockSource.failed c.args.self.now.source) (g.S.BlockSource.failed c.loop-rest.self.source) (g.S.BlockSource.failed c.accept_bytes.new.self.source) failed
+    c.args.self.now.holding c.loop-rest.self.holding c.accept_bytes.new.self.holding c.args.bytes.now c.loop-rest.rest.now c.in-Some.first.now c.in-Some.others.now
+    c.loop-rest.count c.in-Err.refusal taken c.in-Err.ensures.err (omega (arith, sum)) c.in-Some.ensures c.in-Err.ensures.refused
+
+pub loop-rest-preserved : goal.loop-rest-preserved
+loop-rest-preserved g c =
+    let (taken, sum, failed, may) = c.loop-rest.invariant in
+    let ok = c.in_default-accept_bytes.ensures in
+    let (committed, is, took) = ok.took in
+    let less = shorter c.loop-rest.rest.now c.in-Some.first.now c.in-Some.others.now c.in-Some.ensures in (
+      one_taken c.args.self.now.holding c.loop-rest.self.holding c.accept_bytes.new.self.holding c.args.bytes.now c.loop-rest.rest.now c.in-Some.first.now c.in-Some.others.now
+          c.loop-rest.count committed taken c.in-Some.ensures is took,
+      omega (arith, sum, less),
+      ok.no_failure ∙ failed,
+      λ item m. may item (ok.no_more item m),
+    )

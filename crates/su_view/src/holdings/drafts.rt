@@ -1,0 +1,139 @@
+// A change of the user's own, before it is signed.
+ghost use Rattle.std.specs.Prelude.{◌≡◌, ◌≢◌, ◌≤◌, ◌<◌, ◌+◌, ◌^◌, ◌⊎◌, ◌↔◌, ℕ, IsTrue, Some, None, true, length, map, IfOk, IfErr};
+ghost use Rattle.std.specs.List.{AllByRecursion};
+ghost use Rattle.su_bytes.specs.declared.refusals.Refusal.{Refusal as Refusal_};
+ghost use Rattle.su_bytes.specs.declared.refusals.Refusal.TheVariants.{NoMemory};
+ghost use Rattle.su_bytes.specs.Principal.{principals};
+ghost use Rattle.su_bytes.specs.RosterBytes.{user_key};
+ghost use Rattle.su_format.specs.Format.{EachFrom};
+ghost use Rattle.su_op.specs.declared.operations.Change.{Change as Change_};
+ghost use Rattle.su_desk.specs.Answer.{refusal_of};
+ghost use Rattle.su_version.specs.Version.{IsCarried};
+ghost use Rattle.su_change.specs.Item.{change_digest};
+ghost use Rattle.su_legal.specs.Legal.{history, Legal};
+ghost use Rattle.su_bytes.specs.Membership.{has_user};
+ghost use Rattle.su_view.specs.Joining.{AscendFrom};
+ghost use Rattle.su_view.specs.Making.{IsDraft, next_version};
+ghost use Rattle.su_view.specs.declared.refusals.ViewRefusal.TheVariants.{Plain, Change as ChangeRefused};
+
+use crate::holdings::{Holding, within};
+use crate::refusals::ViewRefusal;
+use std::alloc::Global;
+use su_bytes::{Digest, FileId, Group, Principal, Refusal, Roster, User};
+use su_change::encode;
+use su_desk::{Prepared, TrialDesk};
+use su_lms::PublicKey;
+use su_op::Change;
+use su_vector::Vector;
+use su_version::VersionStructure;
+
+/// A change of the user's own that stands ready: what is told of it, and its item.
+#[derive(Drop)]
+pub(crate) struct Draft {
+    pub(crate) prepared: Prepared,
+    pub(crate) item: Vec<u8>,
+}
+
+impl Holding {
+    /// Whether the key is that of the user.
+    pub fn is_own_key(&self, key: PublicKey) -> bool
+        ensures value { IsTrue result ↔ (key ≡ user_key self.now.roster self.now.user) }
+        // What holds of all that a client holds.
+        ensures member { has_user self.now.roster self.now.user ≡ true }
+        ensures legal { Legal self.now.roster self.now.held }
+    {
+        match self
+            .keeping
+            .end
+            .key(self.keeping.desk.roster(), self.keeping.user)
+        {
+            Some(own) => own == key,
+            None => unreachable!(),
+        }
+    }
+
+    /// Makes a change of the user's on trial, which isn't seen. `Change` where it is refused;
+    /// `NoMemory`.
+    pub fn draft(&mut self, change: Change) -> Result<Draft, ViewRefusal>
+        ensures drafted { IfOk result (IsDraft self.old change) }
+        ensures refused { IfErr result (λ e. (e ≡ Plain NoMemory)
+            ⊎ ((why : Refusal_) × (e ≡ ChangeRefused why)
+            × (refusal_of self.old.roster (history self.old.held) self.old.user change
+            ≡ Some why))) }
+        ensures same { self.new ≡ self.old }
+    {
+        let item = match encode(self.alloc, &change) {
+            Ok(item) => item,
+            Err(refusal) => return Err(within(refusal)),
+        };
+        let prepared = match self.keeping.desk.prepare(self.keeping.user, change) {
+            Ok(prepared) => prepared,
+            Err(refusal) => return Err(within(refusal)),
+        };
+        Ok(Draft { prepared, item })
+    }
+
+    /// Makes the version structure of a draft, by the digest of its item. Fails only with
+    /// `NoMemory`.
+    pub fn next_version(&self, draft: Draft, digest: Digest) -> Result<VersionStructure, Refusal>
+        requires { (change : Change_) × IsDraft self.now change draft
+            × (digest ≡ change_digest change) }
+        ensures value { IfOk result (λ version. (change : Change_) → IsDraft self.now change draft
+            → digest ≡ change_digest change → version ≡ next_version self.now change) }
+        ensures refused { IfErr result (λ e. e ≡ NoMemory) }
+    {
+        let vector = vector_of(self.alloc, draft.prepared.versions.as_slice())?;
+        let head = self.keeping.end.head();
+        // their clauses tell the prover what is in range (docs/ARCHITECTURE.md, "Forms the kit
+        // wants")
+        let _user = self.keeping.user.number();
+        let _count = self.keeping.desk.roster().principal_count();
+        has_digest_length(&head);
+        has_digest_length(&digest);
+        has_digest_length(&draft.prepared.author_handle);
+        are_carried(draft.prepared.groups.as_slice());
+        Ok(VersionStructure::new(
+            self.keeping.user,
+            head,
+            digest,
+            draft.prepared.author_handle,
+            draft.prepared.groups,
+            vector,
+        ))
+    }
+}
+
+/// The vector of version numbers. Fails only with `NoMemory`.
+fn vector_of(alloc: Global, versions: &[(Principal, u64)]) -> Result<Vector, Refusal>
+    ensures value { IfOk result (λ v. v ≡ map (λ n. n.1) versions.now) }
+    ensures range { IfOk result (λ v. AllByRecursion (λ n. n < 2 ^ 64) v) }
+    ensures refused { IfErr result (λ e. e ≡ NoMemory) }
+{
+    let mut numbers = Vec::with_capacity(alloc, versions.len())?;
+    for version in versions {
+        numbers.push(version.1)?;
+    }
+    Ok(Vector::new(numbers))
+}
+
+/// Tells the prover how long a digest is.
+fn has_digest_length(digest: &Digest)
+    ensures { length digest.now ≡ 32 }
+{
+    let _bytes: &[u8] = digest.as_bytes();
+}
+
+/// Tells the prover that groups that ascend are as a version structure carries them, and few.
+fn are_carried(groups: &[(Group, Digest)])
+    ensures carried { (least : ℕ) → AscendFrom least groups.now
+        → EachFrom IsCarried (λ g. g.0 + 1) least groups.now }
+    ensures few { (least : ℕ) → AscendFrom least groups.now → least ≤ 16
+        → length groups.now + least ≤ 16 }
+{
+    let Some((first, others)) = groups.split_first() else {
+        return;
+    };
+    let _group = first.0.number();
+    has_digest_length(&first.1);
+    are_carried(others);
+}

@@ -1,0 +1,94 @@
+// What is asked of what a client holds.
+ghost use Rattle.std.specs.Prelude.{◌≡◌, ◌⊎◌, Ok, Err, IfOk, IfErr, None, MatchOption, length};
+ghost use Rattle.su_bytes.specs.declared.refusals.Refusal.TheVariants.{NoMemory};
+ghost use Rattle.su_desk.specs.History.{live_numbers};
+ghost use Rattle.su_desk.specs.Version.{versions};
+ghost use Rattle.su_legal.specs.Legal.{head_of, history, Legal};
+ghost use Rattle.su_table.specs.Query.{listing, contents_within};
+ghost use Rattle.su_view.specs.Holding.{tree_of_list};
+ghost use Rattle.su_view.specs.Entry.{committed_at, AreBytesAt};
+
+use crate::holdings::Holding;
+use su_bytes::{Digest, FileId, Name, Principal, Refusal, Roster, User};
+
+impl Holding {
+    /// Lends who belongs to the store.
+    pub fn roster(&self) -> &Roster
+        ensures { result.now ≡ self.now.roster }
+    {
+        self.keeping.desk.roster()
+    }
+
+    /// Returns whose client it is.
+    pub fn user(&self) -> User
+        ensures { result ≡ self.now.user }
+    {
+        self.keeping.user
+    }
+
+    /// Returns the number of commits, and what the next one names as the one before it.
+    pub fn head(&self) -> (u64, Digest)
+        ensures value { result ≡ (length self.now.held, head_of self.now.roster self.now.held) }
+        // What holds of each list that is held.
+        ensures legal { Legal self.now.roster self.now.held }
+    {
+        (self.number(), self.keeping.end.head())
+    }
+
+    /// Lends the bytes of the commit of that number, from 1, and the item of its change, if there
+    /// is one.
+    pub fn entry(&self, number: u64) -> Option<(&[u8], &[u8])>
+        ensures { MatchOption result (committed_at self.now.held number ≡ None) (λ entry.
+            AreBytesAt self.now.held number entry.0.now entry.1.now) }
+    {
+        if number == 0 {
+            return None;
+        }
+        if self.number() < number {
+            return None;
+        }
+        let record = &self.keeping.records[(number - 1) as usize];
+        Some((record.bytes.as_slice(), record.item.as_slice()))
+    }
+
+    /// Returns the version numbers of the users of the roster, and then of its groups.
+    pub fn versions(&self) -> &[(Principal, u64)]
+        ensures { result.now ≡ versions self.now.roster (history self.now.held) }
+    {
+        self.keeping.desk.versions()
+    }
+
+    /// Returns the numbers of the live operations, ascending. Fails only with `NoMemory`.
+    pub fn live(&mut self) -> Result<Vec<u64>, Refusal>
+        ensures value { IfOk result (λ numbers.
+            numbers.items ≡ live_numbers (history self.old.held)) }
+        ensures refused { IfErr result (λ e. e ≡ NoMemory) }
+        ensures same { self.new ≡ self.old }
+    {
+        self.keeping.desk.take_back()?;
+        self.keeping.desk.live()
+    }
+
+    /// Lists the names of a directory, as `Forest::list` does.
+    pub fn list(&mut self, file: FileId) -> Result<Vec<(Name, FileId)>, Refusal>
+        ensures ok { IfOk result (λ names. listing (tree_of_list self.old) file ≡ Ok names.items) }
+        ensures refused { IfErr result (λ e.
+            (e ≡ NoMemory) ⊎ (listing (tree_of_list self.old) file ≡ Err e)) }
+        ensures same { self.new ≡ self.old }
+    {
+        self.keeping.desk.take_back()?;
+        self.keeping.desk.forest().list(file)
+    }
+
+    /// Reads the bytes of a file within a range, as `Forest::read_at` does.
+    pub fn read_at(&mut self, file: FileId, off: u64, len: u64) -> Result<Vec<u8>, Refusal>
+        ensures ok { IfOk result (λ bytes.
+            contents_within (tree_of_list self.old) file off len ≡ Ok bytes.items) }
+        ensures refused { IfErr result (λ e.
+            (e ≡ NoMemory) ⊎ (contents_within (tree_of_list self.old) file off len ≡ Err e)) }
+        ensures same { self.new ≡ self.old }
+    {
+        self.keeping.desk.take_back()?;
+        self.keeping.desk.forest().read_at(file, off, len)
+    }
+}

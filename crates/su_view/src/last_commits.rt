@@ -1,0 +1,236 @@
+// The last commits of the users, as a server shows them.
+ghost use Rattle.std.specs.Prelude.{◌≡◌, ◌⊎◌, ◌↔◌, IsTrue, true, IfOk, IfErr, IfSome, OnOk, option_map};
+ghost use Rattle.std.specs.List.{AllByRecursion, list_any};
+ghost use Rattle.std.specs.Option.{option_copied};
+ghost use Rattle.su_bytes.specs.declared.refusals.Refusal.TheVariants.{NoMemory};
+ghost use Rattle.su_chain.specs.ChainEnd.{AreKeysOf};
+ghost use Rattle.su_view.specs.Keeping.{commit_in, holding_of, IsKeeping};
+ghost use Rattle.su_view.specs.Spelled.{IsSpelled};
+ghost use Rattle.su_view.specs.LastCommits.{own_last, AreSigned, is_by, IsNotBehind, ShowsLast, ShowsOwn, Passes, IsRefusedList};
+ghost use Rattle.su_view.specs.declared.refusals.ViewRefusal.TheVariants.{Plain};
+
+use crate::records::{Keeping, Record};
+use crate::refusals::ViewRefusal;
+use std::alloc::Global;
+use su_bytes::{FileId, Refusal, Roster, User};
+use su_chain::ChainEnd;
+use su_vector::first_unordered;
+use su_version::{Commit, is_signed_by_author};
+
+/// Checks what a server shows as the users' last commits, by what is kept. `BadSignature` where a
+/// commit isn't signed by its author; `OwnMissing` where the user has a commit that is held, and
+/// none of the user's is shown or one that is behind the last; `NotOrdered` with the first pair of
+/// positions whose vectors aren't comparable; `NoMemory`.
+pub(crate) fn check_list(
+    alloc: Global,
+    keeping: &Keeping,
+    shown: &[Commit],
+) -> Result<(), ViewRefusal>
+    requires { IsKeeping keeping.now }
+    ensures passes { let v = holding_of keeping.now in
+        OnOk result (Passes v.roster v.user (own_last v) shown.now) }
+    ensures refused { let v = holding_of keeping.now in IfErr result (λ e.
+        (e ≡ Plain NoMemory) ⊎ IsRefusedList v.roster v.user (own_last v) shown.now e) }
+{
+    check_last(
+        alloc,
+        keeping.desk.roster(),
+        &keeping.end,
+        keeping.user,
+        own_record(keeping),
+        shown,
+    )
+}
+
+/// Finds the user's last commit that is kept, if there is one.
+fn own_record(keeping: &Keeping) -> Option<&Record>
+    requires { IsKeeping keeping.now }
+    ensures spelled { IfSome (option_copied result) IsSpelled }
+    ensures last { option_map commit_in (option_copied result) ≡ own_last (holding_of keeping.now) }
+{
+    match keeping.own {
+        None => None,
+        Some(index) => Some(&keeping.records[index]),
+    }
+}
+
+/// Checks what a server shows as the users' last commits, for a client of that user, by the user's
+/// last commit that the client holds, if there is one. `BadSignature` where a commit isn't signed
+/// by its author; `OwnMissing` where the user has a last commit, and none of the user's is shown or
+/// one that is behind it; `NotOrdered` with the first pair of positions whose vectors aren't
+/// comparable; `NoMemory`.
+pub(crate) fn check_last(
+    alloc: Global,
+    roster: &Roster,
+    end: &ChainEnd,
+    user: User,
+    last: Option<&Record>,
+    shown: &[Commit],
+) -> Result<(), ViewRefusal>
+    requires keys { AreKeysOf roster.now end.now.users.items }
+    requires last { IfSome (option_copied last) IsSpelled }
+    ensures passes { OnOk result
+        (Passes roster.now user (option_map commit_in (option_copied last.entry)) shown.now) }
+    ensures refused { IfErr result (λ e. (e ≡ Plain NoMemory) ⊎ IsRefusedList roster.now user
+        (option_map commit_in (option_copied last.entry)) shown.now e) }
+{
+    // names the type for the prover (docs/ARCHITECTURE.md, "Forms the kit wants")
+    let _file: Option<FileId> = None;
+    let signed = match are_signed(alloc, roster, end, shown) {
+        Ok(signed) => signed,
+        Err(refusal) => return Err(ViewRefusal::Plain(refusal)),
+    };
+    if !signed {
+        return Err(ViewRefusal::Plain(Refusal::BadSignature));
+    }
+    let own = match shows_own(alloc, roster, user, last, shown) {
+        Ok(own) => own,
+        Err(refusal) => return Err(ViewRefusal::Plain(refusal)),
+    };
+    if !own {
+        return Err(ViewRefusal::OwnMissing);
+    }
+    if let Some((i, j)) = first_unordered(shown) {
+        return Err(ViewRefusal::Plain(Refusal::NotOrdered(i as u64, j as u64)));
+    }
+    Ok(())
+}
+
+/// Whether each commit is signed by its author. Fails only with `NoMemory`.
+fn are_signed(
+    alloc: Global,
+    roster: &Roster,
+    end: &ChainEnd,
+    shown: &[Commit],
+) -> Result<bool, Refusal>
+    requires { AreKeysOf roster.now end.now.users.items }
+    ensures value { IfOk result (λ b. IsTrue b ↔ AreSigned roster.now shown.now) }
+    ensures refused { IfErr result (λ e. e ≡ NoMemory) }
+{
+    // names the type for the prover (docs/ARCHITECTURE.md, "Forms the kit wants")
+    let _file: Option<FileId> = None;
+    for commit in shown {
+        let key = end.key(roster, commit.version().author());
+        let signed = is_signed_by_author(alloc, roster, key.as_ref(), commit)?;
+        if !signed {
+            return Ok(false);
+        }
+    }
+    Ok(true)
+}
+
+/// Whether the user's own last commit is shown, if there is one. Fails only with `NoMemory`.
+fn shows_own(
+    alloc: Global,
+    roster: &Roster,
+    user: User,
+    last: Option<&Record>,
+    shown: &[Commit],
+) -> Result<bool, Refusal>
+    requires { IfSome (option_copied last) IsSpelled }
+    ensures value { IfOk result (λ b. IsTrue b ↔ ShowsOwn roster.now user
+        (option_map commit_in (option_copied last.entry)) shown.now) }
+    ensures refused { IfErr result (λ e. e ≡ NoMemory) }
+{
+    match last {
+        None => Ok(true),
+        Some(last) => shows_last(alloc, roster, user, last, shown),
+    }
+}
+
+/// Whether a commit of the user is shown, and none that is behind this one. Fails only with
+/// `NoMemory`.
+fn shows_last(
+    alloc: Global,
+    roster: &Roster,
+    user: User,
+    last: &Record,
+    shown: &[Commit],
+) -> Result<bool, Refusal>
+    requires { IsSpelled last.now }
+    ensures value { IfOk result (λ b.
+        IsTrue b ↔ ShowsLast roster.now user (commit_in last.now) shown.now) }
+    ensures refused { IfErr result (λ e. e ≡ NoMemory) }
+{
+    if !has_own(user, shown) {
+        return Ok(false);
+    }
+    are_not_behind(alloc, roster, user, last, shown)
+}
+
+fn has_own(user: User, shown: &[Commit]) -> bool
+    ensures { result ≡ list_any (is_by user) shown.now }
+{
+    shown.iter().any(|commit| commit.version().author() == user)
+}
+
+/// Whether none of the user's commits among these is behind the user's last one. Fails only with
+/// `NoMemory`.
+fn are_not_behind(
+    alloc: Global,
+    roster: &Roster,
+    user: User,
+    last: &Record,
+    shown: &[Commit],
+) -> Result<bool, Refusal>
+    requires { IsSpelled last.now }
+    ensures value { IfOk result (λ b. IsTrue b ↔ AllByRecursion (λ c. is_by user c ≡ true
+        → IsNotBehind roster.now user (commit_in last.now) c) shown.now) }
+    ensures refused { IfErr result (λ e. e ≡ NoMemory) }
+{
+    // names the type for the prover (docs/ARCHITECTURE.md, "Forms the kit wants")
+    let _file: Option<FileId> = None;
+    for commit in shown {
+        let passes = is_other_or_not_behind(alloc, roster, user, last, commit)?;
+        if !passes {
+            return Ok(false);
+        }
+    }
+    Ok(true)
+}
+
+/// Whether a commit is another user's, or isn't behind the user's last one. Fails only with
+/// `NoMemory`.
+fn is_other_or_not_behind(
+    alloc: Global,
+    roster: &Roster,
+    user: User,
+    last: &Record,
+    commit: &Commit,
+) -> Result<bool, Refusal>
+    requires { IsSpelled last.now }
+    ensures value { IfOk result (λ b. IsTrue b ↔ (is_by user commit.now ≡ true
+        → IsNotBehind roster.now user (commit_in last.now) commit.now)) }
+    ensures refused { IfErr result (λ e. e ≡ NoMemory) }
+{
+    if commit.version().author() != user {
+        return Ok(true);
+    }
+    is_not_behind(alloc, roster, user, last, commit)
+}
+
+/// Whether a commit isn't behind the user's last one. Fails only with `NoMemory`.
+fn is_not_behind(
+    alloc: Global,
+    roster: &Roster,
+    user: User,
+    last: &Record,
+    commit: &Commit,
+) -> Result<bool, Refusal>
+    requires { IsSpelled last.now }
+    ensures value { IfOk result (λ b.
+        IsTrue b ↔ IsNotBehind roster.now user (commit_in last.now) commit.now) }
+    ensures refused { IfErr result (λ e. e ≡ NoMemory) }
+{
+    let Some(number) = commit.version().vector().number_of(roster, user) else {
+        return Ok(false);
+    };
+    let Some(held) = last.version.vector().number_of(roster, user) else {
+        return Ok(true);
+    };
+    if held != number {
+        return Ok(held < number);
+    }
+    let bytes = commit.encode(alloc)?;
+    Ok(bytes.as_slice() == last.bytes.as_slice())
+}
