@@ -1,0 +1,10 @@
+mod Places
+mod Spelling
+mod Heads
+mod Runs
+mod Agreeing
+mod Forking
+mod Relating
+mod Counts
+mod Noticed
+mod Calling
