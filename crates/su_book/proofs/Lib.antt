@@ -1,0 +1,4 @@
+pub mod Public
+pub mod Runs
+pub mod LastLemmas
+pub mod AnswerLemmas

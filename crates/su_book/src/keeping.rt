@@ -1,0 +1,215 @@
+// How a book is kept.
+ghost use Rattle.std.specs.Prelude.{◌≡◌, ◌≢◌, ◌≤◌, ◌<◌, ◌+◌, ◌-◌, ◌^◌, ◌⊎◌, ◌↔◌, ◌++◌, ℕ, List, [], IsTrue, IfSome, IfNone, Some, None, length, IfOk, IfErr, OnOk, OnErr, vec_len, vec_capacity};
+ghost use Rattle.su_bytes.specs.Membership.{Membership};
+ghost use Rattle.su_bytes.specs.declared.refusals.Refusal.TheVariants.{BadKey, NoMemory};
+ghost use Rattle.su_version.specs.Commit.{Commit, commit_bytes};
+ghost use Rattle.su_version.specs.Chain.{MayBeNext};
+ghost use Rattle.su_chain.specs.ChainEnd.{IsEndOf, HasBadKey};
+ghost use Rattle.su_book.specs.declared.steps.Act.TheVariants.{Granted, Stored, Given};
+ghost use Rattle.su_book.specs.Machine.{IsCapacity, MayFollow, IsUnfit, stored_by, turn_after, with_step, holder_of, records_of, count_of, last_numbers, paired};
+ghost use Rattle.su_book.specs.Kept.{AreLast, IsKeeping, book_of, StoresNext};
+
+use crate::commits::HashedCommit;
+use crate::steps::{Act, Step};
+use std::alloc::{AllocError, Global};
+use su_bytes::{Refusal, Roster, User};
+use su_chain::ChainEnd;
+
+/// How many users there can be.
+const USERS: usize = 64;
+
+/// What a book keeps: how many commits it may store, the roster, the steps, and what these come to:
+/// the seat that has the turn, the end of the chain of records, and the number of each user's last
+/// one. (It has no model, so that its fields can be lent; what it means is its owner's.)
+#[derive(Drop)]
+pub(crate) struct Keeping {
+    pub(crate) capacity: u64,
+    pub(crate) roster: Roster,
+    pub(crate) journal: Vec<Step>,
+    pub(crate) holder: Option<u16>,
+    pub(crate) end: ChainEnd,
+    pub(crate) last: Vec<Option<u64>>,
+}
+
+impl Keeping {
+    /// Makes what is kept before the first step. `BadKey` where a user's key is none; else only
+    /// `NoMemory`.
+    pub fn new(alloc: Global, capacity: u64, roster: Roster) -> Result<Keeping, Refusal>
+        requires capacity { IsCapacity capacity }
+        ensures kept { IfOk result (λ k. IsKeeping k) }
+        ensures value { IfOk result (λ k. book_of k
+            ≡ record { capacity = capacity; roster = roster; journal = [] }) }
+        ensures refused { IfErr result (λ e. ((e ≡ BadKey) × HasBadKey roster) ⊎ (e ≡ NoMemory)) }
+    {
+        let end = ChainEnd::new(alloc, &roster)?;
+        let last = no_numbers(alloc)?;
+        Ok(Keeping {
+            capacity,
+            roster,
+            journal: Vec::new(alloc),
+            holder: None,
+            end,
+            last,
+        })
+    }
+
+    /// Returns the number of records.
+    pub fn count(&self) -> u64
+        requires kept { IsKeeping self.now }
+        ensures { result ≡ count_of self.now.journal.items }
+    {
+        self.end.number()
+    }
+
+    /// Whether the seat has the turn.
+    pub fn has_turn(&self, seat: u16) -> bool
+        requires kept { IsKeeping self.now }
+        ensures { IsTrue result ↔ (holder_of self.now.journal.items ≡ Some seat) }
+    {
+        self.holder == Some(seat)
+    }
+
+    /// Finds another seat that has the turn.
+    pub fn other_holder(&self, seat: u16) -> Option<u16>
+        requires kept { IsKeeping self.now }
+        ensures other { IfSome result (λ other.
+            (holder_of self.now.journal.items ≡ Some other) × (other ≢ seat)) }
+        ensures none { IfNone result ((other : ℕ)
+            → holder_of self.now.journal.items ≡ Some other → other ≡ seat) }
+    {
+        self.holder.filter(|holder| *holder != seat)
+    }
+
+    /// Checks whether the commit of these bytes may be stored, but for the turn, and finds its
+    /// number. It makes one check of a signature.
+    pub fn check(&self, alloc: Global, bytes: &[u8]) -> Result<HashedCommit, Refusal>
+        requires kept { IsKeeping self.now }
+        ensures spelled { IfOk result (λ c. bytes.now ≡ commit_bytes c) }
+        ensures next { IfOk result (λ c.
+            MayBeNext self.now.roster (records_of self.now.journal.items) c) }
+        ensures room { OnOk result (count_of self.now.journal.items < self.now.capacity) }
+        ensures refused { IfErr result (λ e.
+            (e ≡ NoMemory) ⊎ IsUnfit (book_of self.now) bytes.now e) }
+    {
+        let commit = HashedCommit::decode(alloc, bytes)?;
+        self.end.check(alloc, &self.roster, commit.commit())?;
+        if self.end.number() >= self.capacity {
+            return Err(Refusal::BookFull);
+        }
+        Ok(commit)
+    }
+
+    /// Adds a step that may follow. It takes no memory.
+    pub fn push(&mut self, step: Step)
+        requires kept { IsKeeping self.old }
+        requires follows { MayFollow (book_of self.old) step }
+        requires room { vec_len self.old.journal < vec_capacity self.old.journal }
+        requires more { turn_after step.seat step.act ≢ None
+            → vec_len self.old.journal + 1 < vec_capacity self.old.journal }
+        ensures kept { IsKeeping self.new }
+        ensures pushed { book_of self.new ≡ with_step (book_of self.old) step }
+    {
+        self.holder = turn_after(step.seat, &step.act);
+        add_record(&mut self.end, &self.roster, &step.act);
+        set_last(&mut self.last, &step.act);
+        self.journal.push_reserved(step);
+    }
+}
+
+#[tactic(auto, unfolding(crate::specs::Machine::last_number))]
+/// Makes the list in which no user has a number.
+fn no_numbers(alloc: Global) -> Result<Vec<Option<u64>>, AllocError>
+    ensures { IfOk result (λ last. AreLast [] last.items) }
+{
+    let mut last = Vec::with_capacity(alloc, USERS)?;
+    for _ in 0..USERS {
+        last.push(None)?;
+    }
+    Ok(last)
+}
+
+/// Finds who has the turn after an act of a seat.
+fn turn_after(seat: u16, act: &Act) -> Option<u16>
+    ensures { result ≡ turn_after seat act.now }
+{
+    match act {
+        Act::Granted(_) => Some(seat),
+        Act::Stored(_, _) | Act::Given => None,
+    }
+}
+
+/// Adds what was stored to the end of the chain of records. It takes no memory.
+fn add_record(end: &mut ChainEnd, roster: &Roster, act: &Act)
+    requires room { end.old.number < 2 ^ 64 - 1 }
+    requires next { (cs : List Commit) × IsEndOf roster.now cs end.old
+        × StoresNext roster.now cs act.now }
+    ensures { (cs : List Commit) → IsEndOf roster.now cs end.old → StoresNext roster.now cs act.now
+        → IsEndOf roster.now (cs ++ stored_by act.now) end.new }
+{
+    match act {
+        Act::Stored(_, commit) => end.push(roster, commit.commit(), commit.digest()),
+        Act::Granted(_) | Act::Given => {}
+    }
+}
+
+/// Sets the number of its author's last record to that of what was stored.
+fn set_last(last: &mut Vec<Option<u64>>, act: &Act)
+    requires { length last.old.items ≡ USERS }
+    ensures { (ro : Membership) (cs : List Commit) → AreLast cs last.old.items
+        → StoresNext ro cs act.now → AreLast (cs ++ stored_by act.now) last.new.items }
+{
+    match act {
+        Act::Stored(number, commit) => {
+            last[usize::from(commit.author().number())] = Some(*number);
+        }
+        Act::Granted(_) | Act::Given => {}
+    }
+}
+
+/// Takes room for a grant and for the step that ends the turn.
+pub(crate) fn make_room(journal: &mut Vec<Step>, act: &Act) -> Result<(), AllocError>
+    ensures items { journal.new.items ≡ journal.old.items }
+    ensures len { vec_len journal.new ≡ vec_len journal.old }
+    ensures capacity { vec_capacity journal.old ≤ vec_capacity journal.new }
+    ensures room { OnOk result ((n : ℕ) → act.now ≡ Granted n
+        → vec_len journal.new + 2 ≤ vec_capacity journal.new) }
+    ensures only { OnErr result ((n : ℕ) × (act.now ≡ Granted n)) }
+{
+    if let Act::Granted(_) = act {
+        journal.reserve(2)?;
+    }
+    Ok(())
+}
+
+/// Returns the users who have a number, ascending, each with it.
+pub(crate) fn last_numbers(
+    alloc: Global,
+    last: &Vec<Option<u64>>,
+) -> Result<Vec<(User, u64)>, AllocError>
+    requires { length last.now.items ≡ USERS }
+    ensures { IfOk result (λ numbers. (cs : List Commit) → AreLast cs last.now.items
+        → numbers.items ≡ last_numbers cs) }
+{
+    let mut numbers = Vec::new(alloc);
+    for number in 0..USERS {
+        let Ok(user) = User::new(number as u64) else {
+            unreachable!()
+        };
+        push_paired(&mut numbers, user, last[number])?;
+    }
+    Ok(numbers)
+}
+
+/// Adds the user with a number, if there is one.
+fn push_paired(
+    numbers: &mut Vec<(User, u64)>,
+    user: User,
+    number: Option<u64>,
+) -> Result<(), AllocError>
+    ensures { OnOk result (numbers.new.items ≡ numbers.old.items ++ paired user number) }
+{
+    if let Some(number) = number {
+        numbers.push((user, number))?;
+    }
+    Ok(())
+}
