@@ -1,0 +1,5 @@
+pub mod Knowing
+pub mod Keeping
+pub mod Orders
+pub mod Closing
+pub mod Meeting

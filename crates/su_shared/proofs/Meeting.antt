@@ -1,0 +1,75 @@
+-- What a seat may be refused.
+use Rattle.std.proofs.Common.{◌≡◌, ◌≢◌, ◌⊎◌, ℕ, ◌==◌, Bool, true, false, List, Option, None, Some, refl, ap, sym, ◌∙◌, subst, arith, inl, inr}
+use Rattle.std.proofs.lemmas.Bool.Decides.{nat_tests}
+use Rattle.su_bytes.specs.declared.refusals.Refusal.{Refusal}
+use Rattle.su_bytes.specs.declared.refusals.Refusal.TheVariants.{Busy, NotYourTurn, BookFull, NoMemory}
+use Rattle.su_book.specs.declared.events.Event.{Event}
+use Rattle.su_book.specs.declared.events.Event.TheVariants as event
+use Rattle.su_book.specs.Machine.{BookState, IsUnfit, IsRefused, holder_of}
+use Rattle.su_shared.specs.declared.seats.Kept.{Kept}
+use Rattle.su_shared.specs.Shares.{MayMeet, is_grant, has_turn}
+
+has_no_turn : (seat : ℕ) (h : Option ℕ) → h ≢ Some seat → has_turn seat h ≡ false
+has_no_turn seat None none = refl
+has_no_turn seat (Some k) none =
+    let apart : k ≢ seat = λ e. none (ap (λ (n : ℕ). Some n) e) in
+    grind (arith, nat_tests)
+
+has_the_turn : (seat : ℕ) (h : Option ℕ) → h ≡ Some seat → has_turn seat h ≡ true
+has_the_turn seat h is =
+    let same : (seat == seat) ≡ true = grind (arith, nat_tests) in
+    ap (has_turn seat) is ∙ same
+
+-- ---- a refusal
+
+unfit_not_busy : (b : BookState) (bytes : List ℕ) (e : Refusal) (n : ℕ) → IsUnfit b bytes e → e ≡ Busy n → ⊥
+unfit_not_busy b bytes e n (inl (place, is, _)) busy = absurd cc
+unfit_not_busy b bytes e n (inr (c, _, _, inl (inl why))) busy = let is = why.0 in absurd cc
+unfit_not_busy b bytes e n (inr (c, _, _, inl (inr (inl why)))) busy = let is = why.0 in absurd cc
+unfit_not_busy b bytes e n (inr (c, _, _, inl (inr (inr (inl why))))) busy = let is = why.0 in absurd cc
+unfit_not_busy b bytes e n (inr (c, _, _, inl (inr (inr (inr why))))) busy = let is = why.0 in absurd cc
+unfit_not_busy b bytes e n (inr (c, _, _, inr (is, _, _))) busy = absurd cc
+
+unfit_not_turn : (b : BookState) (bytes : List ℕ) (e : Refusal) → IsUnfit b bytes e → e ≡ NotYourTurn → ⊥
+unfit_not_turn b bytes e (inl (place, is, _)) turn = absurd cc
+unfit_not_turn b bytes e (inr (c, _, _, inl (inl why))) turn = let is = why.0 in absurd cc
+unfit_not_turn b bytes e (inr (c, _, _, inl (inr (inl why)))) turn = let is = why.0 in absurd cc
+unfit_not_turn b bytes e (inr (c, _, _, inl (inr (inr (inl why))))) turn = let is = why.0 in absurd cc
+unfit_not_turn b bytes e (inr (c, _, _, inl (inr (inr (inr why))))) turn = let is = why.0 in absurd cc
+unfit_not_turn b bytes e (inr (c, _, _, inr (is, _, _))) turn = absurd cc
+
+no_memory_meets : (k : Kept) (seat : ℕ) (grant : Bool) (x : Refusal) → x ≡ NoMemory → MayMeet k seat grant x
+no_memory_meets k seat grant x is = record { busy = λ n other. absurd cc; not_turn = λ other. absurd cc; without = λ _ _. inr (inl is) }
+
+pub full_meets : (k : Kept) (seat : ℕ) (grant : Bool) (x : Refusal) → x ≡ BookFull → MayMeet k seat grant x
+full_meets k seat grant x is = record { busy = λ n other. absurd cc; not_turn = λ other. absurd cc; without = λ _ _. inr (inr is) }
+
+module _ (b : BookState) (seat : ℕ) (k : Kept) (is : k.turn ≡ has_turn seat (holder_of b.journal)) where
+  refused_meets : (e : Event) (x : Refusal) → IsRefused b seat e x → MayMeet k seat (is_grant e) x
+  refused_meets event.Grant x (other, busy, holder, apart) =
+      let none : k.turn ≡ false = is ∙ has_no_turn seat (holder_of b.journal) (λ same. apart (cc)) in
+      record {
+        busy = λ n again. let same : n ≡ other = cc in (none, subst (λ (m : ℕ). m ≢ seat) (sym same) apart, refl);
+        not_turn = λ turn. absurd cc;
+        without = λ _ other_event. absurd cc;
+      }
+  refused_meets (event.Commit bytes) x (inl (turn, none)) = record {
+    busy = λ n busy. absurd cc;
+    not_turn = λ _. (is ∙ has_no_turn seat (holder_of b.journal) none, refl);
+    without = λ _ _. inl turn;
+  }
+  refused_meets (event.Commit bytes) x (inr (has, unfit)) = record {
+    busy = λ n busy. absurd (unfit_not_busy b bytes.items x n unfit busy);
+    not_turn = λ turn. absurd (unfit_not_turn b bytes.items x unfit turn);
+    without = λ none _. let it = has_the_turn seat (holder_of b.journal) has in absurd cc;
+  }
+  refused_meets event.Give x (turn, none) = record {
+    busy = λ n busy. absurd cc;
+    not_turn = λ _. (is ∙ has_no_turn seat (holder_of b.journal) none, refl);
+    without = λ _ _. inl turn;
+  }
+
+  pub meets : (e : Event) (x : Refusal) → IsRefused b seat e x ⊎ (((x ≡ NoMemory) × (e ≢ event.Give)) ⊎ ((x ≡ BookFull) × (e ≢ event.Grant) × (e ≢ event.Give))) → MayMeet k seat (is_grant e) x
+  meets e x (inl refused) = refused_meets e x refused
+  meets e x (inr (inl none)) = no_memory_meets k seat (is_grant e) x none.0
+  meets e x (inr (inr full)) = full_meets k seat (is_grant e) x full.0

@@ -1,0 +1,171 @@
+-- What a book under a lock keeps for each seat, and that it is what the steps say. (This project's
+-- own.)
+use Rattle.std.specs.Prelude.{◌≡◌, ◌≢◌, ◌⊎◌, ℕ, ◌+◌, ◌-◌, ◌<◌, ◌≤◌, ◌==◌, Bool, true, false, List, [], ◌∷◌, length, Option, Some, None, MatchOption, IfSome, slice_get, slice_set, slice_index_or, max, if◌then◌else◌}
+use Rattle.std.specs.List.{sum_by}
+use Rattle.su_bytes.specs.declared.refusals.Refusal.{Refusal}
+use Rattle.su_bytes.specs.declared.refusals.Refusal.TheVariants.{Busy, NotYourTurn, BookFull, NoMemory}
+use Rattle.su_version.specs.Commit.{Commit, commit_bytes}
+use Rattle.su_book.specs.declared.steps.Step.{Step}
+use Rattle.su_book.specs.declared.steps.Act.{Act}
+use Rattle.su_book.specs.declared.steps.Act.TheVariants.{Granted, Stored, Given}
+use Rattle.su_book.specs.declared.events.Event.{Event}
+use Rattle.su_book.specs.declared.events.Event.TheVariants as event
+use Rattle.su_book.specs.declared.events.BookReply.{BookReply}
+use Rattle.su_book.specs.declared.events.BookReply.TheVariants as reply
+use Rattle.su_book.specs.Machine.{BookState, IsRun, records_of, holder_of, count_of}
+use Rattle.su_shared.specs.declared.cells.Record.{Record}
+use Rattle.su_shared.specs.declared.seats.Kept.{Kept}
+use Rattle.su_shared.specs.Seats.{SeatView, known_at}
+
+-- what contracts see of the value under the lock: the book, and how many seats it has
+pub record HeldView : Type 0 where
+  pub book : BookState
+  pub seats : ℕ
+
+-- ---- what a seat was told
+
+abbrev pub nothing : Kept
+nothing = record { top = 0; stored = 0; steps = 0; turn = false }
+
+abbrev pub after_grant : Kept → ℕ → Kept
+after_grant k n = record { top = max k.top n; stored = k.stored; steps = k.steps + 1; turn = true }
+
+abbrev pub after_commit : Kept → ℕ → Kept
+after_commit k n = record {
+  top = max k.top n;
+  stored = k.stored + 1;
+  steps = k.steps + 1;
+  turn = false;
+}
+
+abbrev pub after_give : Kept → Kept
+after_give k = record { top = k.top; stored = k.stored; steps = k.steps + 1; turn = false }
+
+-- what a seat was told, after one more reply to it
+abbrev pub kept_after : Kept → BookReply → Kept
+kept_after k (reply.Granted count _) = after_grant k count
+kept_after k (reply.Stored number) = after_commit k number
+kept_after k reply.Given = after_give k
+
+abbrev pub kept_by : Kept → Act → Kept
+kept_by k (Granted n) = after_grant k n
+kept_by k (Stored n _) = after_commit k n
+kept_by k Given = after_give k
+
+abbrev pub kept_from : ℕ → Kept → List Step → Kept
+kept_from seat k [] = k
+kept_from seat k (s ∷ ss) = kept_from seat (if s.seat == seat then kept_by k s.act else k) ss
+
+-- what the steps say that a seat was told
+abbrev pub kept_of : ℕ → List Step → Kept
+kept_of seat steps = kept_from seat nothing steps
+
+-- ---- records and receipts
+
+abbrev pub numbered : ℕ → List Commit → List Record
+numbered n [] = []
+numbered n (c ∷ cs) = record { number = n; bytes = commit_bytes c } ∷ numbered (n + 1) cs
+
+-- the records of these steps, with their numbers
+abbrev pub run_records : List Step → List Record
+run_records steps = numbered 1 (records_of steps)
+
+abbrev pub last_of : {X : Type 0} → List X → Option X
+last_of xs = if length xs == 0 then None else slice_get xs (length xs - 1)
+
+-- the receipt that goes with a reply, where these are the records after it
+abbrev pub receipt_for : BookReply → List Record → Option Record
+receipt_for (reply.Granted _ _) records = last_of records
+receipt_for (reply.Stored _) records = last_of records
+receipt_for reply.Given records = None
+
+-- What an event is answered: a count, with the receipt of the record of that number; a number, with
+-- that of the bytes that were handed in; or no more.
+abbrev pub Gives : Event → BookReply → Option Record → Type 0
+Gives event.Grant (reply.Granted n _) receipt = MatchOption receipt (n ≡ 0) (λ r. r.number ≡ n)
+Gives (event.Commit bytes) (reply.Stored n) receipt =
+    receipt ≡ Some (record { number = n; bytes = bytes.items })
+Gives event.Give reply.Given receipt = receipt ≡ None
+Gives _ _ _ = ⊥
+
+-- what a seat knows after a receipt
+abbrev pub learned : List (Option Record) → Option Record → List (Option Record)
+learned known None = known
+learned known (Some r) = slice_set known (r.number - 1) (Some r)
+
+-- ---- what the lock keeps
+
+-- The steps are a run, the receipts are those of its records, and what is kept for each seat is
+-- what the steps say.
+pub record IsHeld (cells : ℕ) (b : BookState) (receipts : List Record) (kept : List Kept)
+    : Type 0 where
+  pub run : IsRun b
+  pub room : b.capacity ≡ cells
+  pub records : receipts ≡ run_records b.journal
+  pub each : (i : ℕ) → slice_index_or kept i nothing ≡ kept_of i b.journal
+  pub stored : sum_by (λ k. k.stored) kept ≡ count_of b.journal
+  pub steps : sum_by (λ k. k.steps) kept ≡ length b.journal
+
+abbrev pub has_turn : ℕ → Option ℕ → Bool
+has_turn seat None = false
+has_turn seat (Some holder) = holder == seat
+
+-- what a run says of the seats: none was told more than the number of records, and the one that has
+-- the turn was told so last
+pub record IsOrderly (steps : List Step) : Type 0 where
+  pub top : (i : ℕ) → (kept_of i steps).top ≤ count_of steps
+  pub turn : (i : ℕ) → (kept_of i steps).turn ≡ has_turn i (holder_of steps)
+
+-- A count is no less than all that the seat was told before, and a number is greater.
+abbrev pub IsFresh : ℕ → BookReply → Type 0
+IsFresh top (reply.Granted n _) = top ≤ n
+IsFresh top (reply.Stored n) = top < n
+IsFresh top reply.Given = Unit {0}
+
+-- the seat is one of the book's, and was told what the steps say
+abbrev pub IsSeat : SeatView → HeldView → Type 0
+IsSeat s h = (s.number < h.seats) × (s.kept ≡ kept_of s.number h.book.journal)
+
+abbrev pub is_grant : Event → Bool
+is_grant event.Grant = true
+is_grant (event.Commit _) = false
+is_grant event.Give = false
+
+-- Which refusals a seat may meet, of a grant or of another event: with the turn neither of those
+-- that speak of it; and without it, of another event, that it hasn't the turn, or want of memory,
+-- or that the book takes no more.
+pub record MayMeet (k : Kept) (seat : ℕ) (grant : Bool) (refusal : Refusal) : Type 0 where
+  pub busy : (other : ℕ) → refusal ≡ Busy other
+      → (k.turn ≡ false) × (other ≢ seat) × (grant ≡ true)
+  pub not_turn : refusal ≡ NotYourTurn → (k.turn ≡ false) × (grant ≡ false)
+  pub without : k.turn ≡ false → grant ≡ false
+      → (refusal ≡ NotYourTurn) ⊎ ((refusal ≡ NoMemory) ⊎ (refusal ≡ BookFull))
+
+-- ---- all seats
+
+-- what is known under the number of one of these records is that record
+abbrev pub Knows : List (Option Record) → List Record → Type 0
+Knows known records = (k : ℕ) (r : Record) → slice_get records k ≡ Some r
+    → IfSome (known_at known r.number) (λ x. x ≡ r)
+
+abbrev pub EachKnows : List SeatView → List Record → Type 0
+EachKnows seats records = (k : ℕ) (s : SeatView) → slice_get seats k ≡ Some s
+    → Knows s.known records
+
+-- these are the book's seats, in order, with what the steps say that they were told
+pub record AreAll (seats : List SeatView) (h : HeldView) : Type 0 where
+  pub count : length seats ≡ h.seats
+  pub each : (k : ℕ) (s : SeatView) → slice_get seats k ≡ Some s
+      → (s.number ≡ k) × (s.kept ≡ kept_of k h.book.journal)
+  pub stored : sum_by (λ s. s.kept.stored) seats ≡ count_of h.book.journal
+  pub steps : sum_by (λ s. s.kept.steps) seats ≡ length h.book.journal
+
+-- each of these seats, in order, was told what the steps say of its number, no more than the number
+-- of records, and knows no other records than these
+abbrev pub EachStands : List SeatView → List Step → Type 0
+EachStands seats steps = (k : ℕ) (s : SeatView) → slice_get seats k ≡ Some s
+    → (s.number ≡ k) × (s.kept ≡ kept_of k steps) × (s.kept.top ≤ count_of steps)
+    × Knows s.known (run_records steps)
+
+abbrev pub IsNumbered : List Record → Type 0
+IsNumbered records = (k : ℕ) (r : Record) → slice_get records k ≡ Some r → r.number ≡ k + 1

@@ -1,0 +1,182 @@
+// The row of cells, one for each record, which are read without the lock.
+ghost use Rattle.std.specs.Prelude.{◌≡◌, ℕ, ◌<◌, ◌-◌, ◌≤◌, length, replicate, None, ◌⊎◌, IfErr, IfOk, slice_get, Some};
+ghost use Rattle.once_cell.specs.Once.{cell_name};
+ghost use Rattle.sha2.specs.Sha256.{sha256};
+ghost use Rattle.su_bytes.specs.declared.refusals.Refusal.TheVariants.{NoMemory, BookFull, BadNumber};
+ghost use Rattle.su_version.specs.Commit.{commit_bytes};
+ghost use Rattle.su_book.specs.Machine.{IsCapacity};
+ghost use Rattle.su_shared.specs.Entry.{IsBy};
+ghost use Rattle.su_shared.specs.Seats.{names_of, known_of};
+
+use crate::notes::Receipt;
+use once_cell::race::{Note, OnceBox};
+use std::alloc::{AllocError, Global};
+use std::marker::{Brand, Model};
+use std::sync::ledger::Ledger;
+use su_book::{HashedCommit, MOST_RECORDS};
+use su_bytes::{Digest, Refusal, User};
+
+/// A record of the book: the bytes of a commit, with its number, from 1, and what is asked of it
+/// often. Its model is the number and the bytes.
+#[derive(Drop)]
+pub struct Record {
+    number: u64,
+    author: User,
+    digest: Digest,
+    bytes: Vec<u8>,
+}
+
+impl Model for Record {
+    ghost use Rattle.std.specs.Prelude.{◌≡◌};
+    ghost use Rattle.sha2.specs.Sha256.{sha256};
+    ghost use Rattle.su_shared.specs.Entry.{Entry, IsBy};
+
+    ghost Value = { Entry };
+
+    ghost view = { λ r. record { number = r.number; bytes = r.bytes.items } };
+
+    ghost invariant = { λ r. IsBy r.bytes.items r.author × (r.digest ≡ sha256 r.bytes.items) };
+}
+
+impl Record {
+    /// Makes the record of a commit by its bytes.
+    pub(crate) fn new(number: u64, bytes: Vec<u8>, commit: &HashedCommit) -> Record
+        requires { bytes.items ≡ commit_bytes commit.now }
+        ensures { result ≡ record { number = number; bytes = bytes.items } }
+    {
+        Record {
+            number,
+            author: commit.author(),
+            digest: commit.digest(),
+            bytes,
+        }
+    }
+
+    /// Returns the number.
+    pub fn number(&self) -> u64
+        ensures { result ≡ self.now.number }
+    {
+        self.number
+    }
+
+    /// Returns the author of the commit.
+    pub fn author(&self) -> User
+        ensures { IsBy self.now.bytes result }
+    {
+        self.author
+    }
+
+    /// Returns the SHA-256 of the commit's bytes.
+    pub fn digest(&self) -> Digest
+        ensures { result ≡ sha256 self.now.bytes }
+    {
+        self.digest
+    }
+
+    /// Lends the bytes of the commit.
+    pub fn bytes(&self) -> &[u8]
+        ensures { result.now ≡ self.now.bytes }
+    {
+        self.bytes.as_slice()
+    }
+}
+
+/// Names the cells of one book, and the ledger of its steps. Each run of a program picks them.
+pub trait BookName: Ledger {
+    ghost use Rattle.std.specs.Prelude.{List, ℕ};
+
+    ghost cells: { List ℕ };
+}
+
+impl BookName for Brand {
+    ghost use Rattle.std.specs.Prelude.{[]};
+
+    ghost cells = { [] };
+}
+
+/// A row of cells, one for each record that a book may store. Its model is their names.
+#[derive(Drop)]
+pub struct Cells {
+    cells: Vec<OnceBox<Record>>,
+}
+
+impl Model for Cells {
+    ghost use Rattle.std.specs.Prelude.{List, ℕ, map};
+    ghost use Rattle.once_cell.specs.Once.{cell_name};
+
+    ghost Value = { List ℕ };
+
+    ghost view = { λ c. map cell_name c.cells.items };
+}
+
+impl Cells {
+    /// Makes the cells of a book that may store so many commits. `BadNumber` where they aren't 1 to
+    /// 1,000,000; else only `NoMemory`.
+    pub fn new(alloc: Global, capacity: u64) -> Result<Cells, Refusal>
+        ensures length { IfOk result (λ cells. length cells ≡ capacity) }
+        ensures refused { IfErr result (λ e.
+            ((e ≡ BadNumber) × ¬ IsCapacity capacity) ⊎ (e ≡ NoMemory)) }
+    {
+        if capacity < 1 || MOST_RECORDS < capacity {
+            return Err(Refusal::BadNumber);
+        }
+        let mut cells = Vec::with_capacity(alloc, capacity as usize)?;
+        for _ in 0..capacity {
+            if cells.push(OnceBox::new(alloc)).is_err() {
+                return Err(Refusal::NoMemory);
+            }
+        }
+        Ok(Cells { cells })
+    }
+
+    /// Returns how many there are.
+    pub fn len(&self) -> usize
+        ensures { result ≡ length self.now }
+    {
+        self.cells.len()
+    }
+
+    /// Makes a new note for each cell.
+    pub(crate) fn notes(&self, alloc: Global) -> Result<Vec<Note<Record>>, AllocError>
+        ensures { IfOk result (λ notes. (names_of notes.items ≡ self.now)
+            × (known_of notes.items ≡ replicate (length self.now) None)) }
+    {
+        let mut notes = Vec::new(alloc);
+        for cell in &self.cells {
+            notes.push(cell.note())?;
+        }
+        Ok(notes)
+    }
+
+    /// Sets the cell of a record, and gives a receipt for it. `BookFull` where the cell doesn't
+    /// take it; else only `NoMemory`.
+    pub(crate) fn store<N: BookName>(
+        &self,
+        alloc: Global,
+        entry: Record,
+    ) -> Result<Receipt<N>, Refusal>
+        requires cells { self.now ≡ N.cells }
+        requires number { (0 < entry.number) × (entry.number ≤ length N.cells) }
+        ensures receipt { IfOk result (λ receipt. receipt ≡ entry) }
+        ensures refused { IfErr result (λ e. (e ≡ NoMemory) ⊎ (e ≡ BookFull)) }
+    {
+        let number = entry.number();
+        let cell = self.cell((number - 1) as usize);
+        let Ok(entry) = Box::new(alloc, entry) else {
+            return Err(Refusal::NoMemory);
+        };
+        let mut note = cell.note();
+        if cell.set_as(entry, &mut note).is_err() {
+            return Err(Refusal::BookFull);
+        }
+        Ok(Receipt::of(number, note))
+    }
+
+    /// Lends the cell at this index.
+    pub(crate) fn cell(&self, index: usize) -> &OnceBox<Record>
+        requires { index < length self.now }
+        ensures { slice_get self.now index ≡ Some (cell_name result.now) }
+    {
+        &self.cells[index]
+    }
+}

@@ -1,0 +1,391 @@
+// What lies under the lock.
+ghost use Rattle.std.specs.Prelude.{◌≡◌, ◌≢◌, ◌-◌, ◌+◌, ◌≤◌, ◌<◌, ◌++◌, [], ◌⊎◌, length, true, false, IfSome, IfNone, IfOk, IfErr, OnOk, OnErr, Err, None, Some, vec_len, vec_capacity, option_to_list, replicate, map, slice_get, ℕ, IsPermutation};
+ghost use Rattle.su_bytes.specs.declared.refusals.Refusal.TheVariants.{NoMemory, BookFull, BadNumber};
+ghost use Rattle.su_version.specs.Commit.{Commit, commit_bytes};
+ghost use Rattle.su_book.specs.declared.events.Event.TheVariants.{Grant, Give};
+ghost use Rattle.su_book.specs.declared.steps.Act.TheVariants.{Stored};
+ghost use Rattle.su_book.specs.Machine.{Asks, IsRefused, IsRun, Stepped, count_of, stored_by};
+ghost use Rattle.su_shared.specs.Seats.{Learns};
+ghost use Rattle.su_shared.specs.Shares.{kept_of, kept_after, numbered, run_records, receipt_for, learned, IsOrderly, IsFresh, MayMeet, is_grant, Gives, nothing, AreAll, Knows, EachKnows, IsSeat, last_of};
+
+use crate::cells::{BookName, Cells, Record};
+use crate::notes::{Notes, Receipt};
+use crate::seats::{Kept, Seat};
+use std::alloc::Global;
+use std::marker::Model;
+use std::sync::ledger::{Blank, Book as Tally, Share};
+use su_book::{Act, Book, BookReply, Event};
+use su_bytes::Refusal;
+
+/// What lies under the lock: the book, a receipt for each of its records, what each seat was told,
+/// and the ledger of the seats' steps. Its model is the book and the number of seats.
+#[derive(Drop)]
+pub struct Held<N: BookName> {
+    book: Book,
+    receipts: Vec<Receipt<N>>,
+    kept: Vec<Kept>,
+    calls: Tally<N>,
+    rest: Share<N>,
+}
+
+impl<N: BookName> Model for Held<N> {
+    ghost use Rattle.std.specs.Prelude.{length, ◌≡◌, ◌≤◌, ◌+◌};
+    ghost use Rattle.su_shared.specs.Shares.{HeldView, IsHeld};
+
+    ghost Value = { HeldView };
+
+    ghost view = { λ h. record { book = h.book; seats = length h.kept.items } };
+
+    ghost invariant = { λ h. IsHeld (length N.cells) h.book h.receipts.items h.kept.items
+        × (h.calls.total ≡ length h.book.journal) × (h.rest.amount ≡ 0)
+        × (257 ≤ h.rest.parts + length h.kept.items) };
+}
+
+impl<N: BookName> Held<N> {
+    /// Makes what lies under the lock of a book without seats and steps.
+    pub fn new(alloc: Global, book: Book, blank: Blank) -> Held<N>
+        requires ledger { (blank.name ≡ N.name) × (blank.parts ≡ N.parts) × (257 ≤ N.parts) }
+        requires cells { book.capacity ≡ length N.cells }
+        requires empty { book.journal ≡ [] }
+        ensures { result ≡ record { book = book; seats = 0 } }
+    {
+        let (calls, rest) = blank.open::<N>();
+        Held {
+            book,
+            receipts: Vec::new(alloc),
+            kept: Vec::new(alloc),
+            calls,
+            rest,
+        }
+    }
+
+    /// Makes the next seat, which was told nothing and knows nothing. `BadNumber` after 256 seats;
+    /// else only `NoMemory`. A refusal changes nothing.
+    pub fn seat(&mut self, alloc: Global, cells: &Cells) -> Result<Seat<N>, Refusal>
+        requires { cells.now ≡ N.cells }
+        ensures seat { IfOk result (λ seat. seat ≡ record {
+          number = self.old.seats;
+          kept = nothing;
+          known = replicate (length N.cells) None;
+        }) }
+        ensures held { OnOk result (self.new ≡ record self.old { seats = self.old.seats + 1 }) }
+        ensures refused { IfErr result (λ e. (e ≡ NoMemory)
+            ⊎ ((e ≡ BadNumber) × (256 ≤ self.old.seats))) }
+        ensures err { OnErr result (self.new ≡ self.old) }
+    {
+        let number = self.kept.len();
+        if number >= 256 {
+            return Err(Refusal::BadNumber);
+        }
+        if self.kept.reserve(1).is_err() {
+            return Err(Refusal::NoMemory);
+        }
+        let Ok(notes) = Notes::new(alloc, cells) else {
+            return Err(Refusal::NoMemory);
+        };
+        let seat = Seat::new(number as u16, notes, self.rest.split_off(1, 0));
+        let kept = seat.kept();
+        self.kept.push_reserved(kept);
+        Ok(seat)
+    }
+
+    /// Makes the step of the book that a seat asks for, and sets the cell of a record that it
+    /// stores. The refusals are those of `Book::step`; and `BookFull`, before these where what the
+    /// seat was told isn't what is kept for it, and after them where the cell doesn't take the
+    /// record. A refusal changes nothing.
+    pub fn step(
+        &mut self,
+        alloc: Global,
+        cells: &Cells,
+        seat: &mut Seat<N>,
+        event: Event,
+    ) -> Result<(BookReply, Option<Receipt<N>>), Refusal>
+        requires { cells.now ≡ N.cells }
+        ensures book { IfOk result (λ r.
+            Stepped self.old.book seat.old.number event self.new.book r.0) }
+        ensures seats { OnOk result (self.new.seats ≡ self.old.seats) }
+        ensures receipt { IfOk result (λ r.
+            r.1 ≡ receipt_for r.0 (run_records self.new.book.journal)) }
+        ensures seat { IfOk result (λ r. seat.new ≡ record {
+          number = seat.old.number;
+          kept = kept_after seat.old.kept r.0;
+          known = learned seat.old.known r.1;
+        }) }
+        ensures kept { OnOk result ((seat.old.kept ≡ kept_of seat.old.number self.old.book.journal)
+            × (seat.new.kept ≡ kept_of seat.old.number self.new.book.journal)) }
+        ensures gives { IfOk result (λ r. Gives event r.0 r.1) }
+        ensures learns { IfOk result (λ r.
+            IfSome r.1 (λ x. Learns seat.old.known x seat.new.known)) }
+        ensures fresh { IfOk result (λ r. IsFresh seat.old.kept.top r.0) }
+        ensures holder { OnOk result (event ≢ Grant → seat.old.kept.turn ≡ true) }
+        ensures meets { IfErr result (λ e.
+            MayMeet seat.old.kept seat.old.number (is_grant event) e) }
+        ensures err { OnErr result ((self.new ≡ self.old) × (seat.new ≡ seat.old)) }
+        ensures give { event ≡ Give → IfErr result (λ e. e ≢ NoMemory) }
+        ensures other { IsSeat seat.old self.old ⊎ (result ≡ Err BookFull) }
+        ensures refused { IsSeat seat.old self.old → IfErr result (λ e.
+            IsRefused self.old.book seat.old.number event e
+            ⊎ (((e ≡ NoMemory) × (event ≢ Give))
+            ⊎ ((e ≡ BookFull) × (event ≢ Grant) × (event ≢ Give)))) }
+    {
+        self.orders();
+        if !self.is_of(seat) {
+            return Err(Refusal::BookFull);
+        }
+        let (reply, mut receipt, kept) = self.take(
+            alloc,
+            cells,
+            seat.number,
+            event,
+            &mut seat.mark,
+        )?;
+        seat.kept = kept;
+        if let Some(receipt) = &mut receipt {
+            seat.notes.learn(receipt);
+        }
+        Ok((reply, receipt))
+    }
+
+    #[tactic(auto, using(crate::proofs::Keeping::length_numbered))]
+    /// Makes a receipt for the record of this number, if there is one.
+    pub fn receipt(&mut self, number: u64) -> Option<Receipt<N>>
+        ensures held { self.new ≡ self.old }
+        ensures none { IfNone result ((number ≡ 0)
+            ⊎ (count_of self.old.book.journal < number)) }
+        ensures some { IfSome result (λ r.
+            slice_get (run_records self.old.book.journal) (number - 1) ≡ Some r) }
+    {
+        if number == 0 || number > self.book.count() {
+            return None;
+        }
+        Some(receipt_at(&mut self.receipts, (number - 1) as usize))
+    }
+
+    /// Tells that the steps are a run, and that what they say of the seats is in order.
+    pub fn orders(&self)
+        ensures run { IsRun self.now.book }
+        ensures orderly { IsOrderly self.now.book.journal }
+    {
+        let _ = &self.book;
+    }
+
+    /// Whether these are the book's seats, in order, and were told what is kept for them.
+    pub fn is_all(&self, seats: &Vec<Seat<N>>) -> bool
+        ensures { result ≡ true → AreAll seats.now.items self.now }
+    {
+        are_kept(&self.kept, seats)
+    }
+
+    /// Ends the book. The seats are to be all of its seats, in any order; else all is handed back.
+    pub fn close(self, mut seats: Vec<Seat<N>>) -> Result<Book, (Held<N>, Vec<Seat<N>>)>
+        ensures book { IfOk result (λ b. b ≡ self.book) }
+        ensures all { OnOk result ((sorted : _) × IsPermutation seats.items sorted
+            × AreAll sorted self × EachKnows sorted (run_records self.book.journal)) }
+        ensures err { IfErr result (λ r.
+            (r.0 ≡ self) × IsPermutation seats.items r.1.items) }
+    {
+        seats.sort_unstable_by_key(|seat| seat.number());
+        self.close_in_order(seats)
+    }
+
+    /// Ends the book, with the seats in order.
+    fn close_in_order(mut self, mut seats: Vec<Seat<N>>) -> Result<Book, (Held<N>, Vec<Seat<N>>)>
+        ensures book { IfOk result (λ b. b ≡ self.book) }
+        ensures all { OnOk result (AreAll seats.items self) }
+        ensures knows { OnOk result (EachKnows seats.items (run_records self.book.journal)) }
+        ensures err { IfErr result (λ r. (r.0 ≡ self) × (r.1.items ≡ seats.items)) }
+    {
+        if !self.is_all(&seats) {
+            return Err((self, seats));
+        }
+        for i in 0..seats.len() {
+            self.check(&mut seats[i]);
+        }
+        let Held {
+            book,
+            receipts: _,
+            kept: _,
+            calls: _,
+            rest: _,
+        } = self;
+        Ok(book)
+    }
+
+    /// Compares what the seat knows under the number of each record: it is that record.
+    pub fn check(&mut self, seat: &mut Seat<N>)
+        ensures held { self.new ≡ self.old }
+        ensures seat { seat.new ≡ seat.old }
+        ensures knows { Knows seat.old.known (run_records self.old.book.journal) }
+    {
+        check_all(&mut self.receipts, seat);
+    }
+
+    /// Whether the seat is one of the book's, and was told what is kept for it.
+    fn is_of(&self, seat: &Seat<N>) -> bool
+        ensures is { result ≡ true → IsSeat seat.now self.now }
+        ensures not { result ≡ false → IsSeat seat.now self.now → ⊥ }
+    {
+        let index = seat.number() as usize;
+        index < self.kept.len() && self.kept[index] == seat.kept()
+    }
+
+    /// Makes the step that the seat of this number asks for, and counts it in the ledger.
+    fn take(
+        &mut self,
+        alloc: Global,
+        cells: &Cells,
+        number: u16,
+        event: Event,
+        mark: &mut Share<N>,
+    ) -> Result<(BookReply, Option<Receipt<N>>, Kept), Refusal>
+        requires cells { cells.now ≡ N.cells }
+        requires number { number < self.old.seats }
+        requires mark { 0 < mark.old.parts }
+        ensures mark { OnOk result ((mark.new.parts ≡ mark.old.parts)
+            × (mark.new.amount ≡ mark.old.amount + 1)) }
+        ensures same { OnErr result (mark.new ≡ mark.old) }
+        ensures book { IfOk result (λ r.
+            Stepped self.old.book number event self.new.book r.0) }
+        ensures seats { OnOk result (self.new.seats ≡ self.old.seats) }
+        ensures receipt { IfOk result (λ r.
+            r.1 ≡ receipt_for r.0 (run_records self.new.book.journal)) }
+        ensures gives { IfOk result (λ r. Gives event r.0 r.1) }
+        ensures kept { IfOk result (λ r.
+            (r.2 ≡ kept_after (kept_of number self.old.book.journal) r.0)
+            × (r.2 ≡ kept_of number self.new.book.journal)) }
+        ensures err { OnErr result (self.new ≡ self.old) }
+        ensures refused { IfErr result (λ e.
+            IsRefused self.old.book number event e
+            ⊎ (((e ≡ NoMemory) × (event ≢ Give))
+            ⊎ ((e ≡ BookFull) × (event ≢ Grant) × (event ≢ Give)))) }
+    {
+        let step = self.book.answer(number, &event)?;
+        let Ok(reply) = self.book.reply(&step.act) else {
+            return Err(Refusal::NoMemory);
+        };
+        let mut stored = store(alloc, cells, &mut self.receipts, &step.act, event)?;
+        let Ok(()) = self.book.apply(step) else {
+            return Err(Refusal::NoMemory);
+        };
+        let _steps = self.book.len();
+        self.calls.add(mark, 1);
+        keep(&mut self.receipts, &mut stored);
+        let index = number as usize;
+        let kept = self.kept[index].after(&reply);
+        self.kept[index] = kept;
+        let receipt = last(&mut self.receipts, &reply);
+        Ok((reply, receipt, kept))
+    }
+}
+
+/// Sets the cell of a new record, and gives a receipt for it. There is room for one more then.
+fn store<N: BookName>(
+    alloc: Global,
+    cells: &Cells,
+    receipts: &mut Vec<Receipt<N>>,
+    act: &Act,
+    event: Event,
+) -> Result<Option<Receipt<N>>, Refusal>
+    requires cells { cells.now ≡ N.cells }
+    requires asked { Asks event act.now }
+    requires number { (n : ℕ) (c : Commit) → act.now ≡ Stored n c
+        → (0 < n) × (n ≤ length N.cells) }
+    ensures items { receipts.new.items ≡ receipts.old.items }
+    ensures room { IfOk result (λ o.
+        IfSome o (λ _. vec_len receipts.new < vec_capacity receipts.new)) }
+    ensures none { stored_by act.now ≡ [] → IfOk result (λ o. o ≡ None) }
+    ensures stored { (n : ℕ) (c : Commit) → act.now ≡ Stored n c → IfOk result (λ o.
+        o ≡ Some (record { number = n; bytes = commit_bytes c })) }
+    ensures refused { IfErr result (λ e. ((e ≡ NoMemory) ⊎ (e ≡ BookFull))
+        × (event ≢ Grant) × (event ≢ Give)) }
+{
+    let (Act::Stored(number, commit), Event::Commit(bytes)) = (act, event) else {
+        return Ok(None);
+    };
+    if receipts.reserve(1).is_err() {
+        return Err(Refusal::NoMemory);
+    }
+    Ok(Some(cells.store(alloc, Record::new(*number, bytes, commit))?))
+}
+
+/// Keeps a second receipt of a new record.
+fn keep<N: BookName>(receipts: &mut Vec<Receipt<N>>, stored: &mut Option<Receipt<N>>)
+    requires { IfSome stored.old (λ _. vec_len receipts.old < vec_capacity receipts.old) }
+    ensures items { receipts.new.items ≡ receipts.old.items ++ option_to_list stored.old }
+    ensures same { stored.new ≡ stored.old }
+{
+    if let Some(receipt) = stored {
+        receipts.push_reserved(receipt.again());
+    }
+}
+
+/// Makes a second receipt of one that is kept.
+fn receipt_at<N: BookName>(receipts: &mut Vec<Receipt<N>>, index: usize) -> Receipt<N>
+    requires { index < length receipts.old.items }
+    ensures items { receipts.new.items ≡ receipts.old.items }
+    ensures found { slice_get receipts.old.items index ≡ Some result }
+{
+    receipts[index].again()
+}
+
+/// Makes the receipt that goes with a reply.
+fn last<N: BookName>(receipts: &mut Vec<Receipt<N>>, reply: &BookReply) -> Option<Receipt<N>>
+    ensures items { receipts.new.items ≡ receipts.old.items }
+    ensures receipt { result ≡ receipt_for reply.now receipts.old.items }
+{
+    match reply {
+        BookReply::Granted { count: _, last: _ } | BookReply::Stored { number: _ } => {
+            last_receipt(receipts)
+        }
+        BookReply::Given => None,
+    }
+}
+
+/// Makes a second receipt of the last record, if there is one.
+fn last_receipt<N: BookName>(receipts: &mut Vec<Receipt<N>>) -> Option<Receipt<N>>
+    ensures items { receipts.new.items ≡ receipts.old.items }
+    ensures last { result ≡ last_of receipts.old.items }
+{
+    let count = receipts.len();
+    if count == 0 {
+        return None;
+    }
+    Some(receipt_at(receipts, count - 1))
+}
+
+fn are_same(one: Kept, other: Kept) -> bool
+    ensures { result ≡ true → one ≡ other }
+{
+    one == other
+}
+
+/// Whether these seats are numbered in order, and were told what is kept.
+fn are_kept<N: BookName>(kept: &Vec<Kept>, seats: &Vec<Seat<N>>) -> bool
+    ensures { result ≡ true → (map (λ s. s.kept) seats.now.items ≡ kept.now.items)
+        × ((k : ℕ) (s : _) → slice_get seats.now.items k ≡ Some s → s.number ≡ k) }
+{
+    if seats.len() != kept.len() {
+        return false;
+    }
+    for i in 0..seats.len() {
+        let seat = &seats[i];
+        if usize::from(seat.number()) != i {
+            return false;
+        }
+        if !are_same(seat.kept(), kept[i]) {
+            return false;
+        }
+    }
+    true
+}
+
+/// Compares what the seat knows of each receipt's cell: it is what the receipt knows.
+fn check_all<N: BookName>(receipts: &mut Vec<Receipt<N>>, seat: &mut Seat<N>)
+    ensures receipts { receipts.new.items ≡ receipts.old.items }
+    ensures seat { seat.new ≡ seat.old }
+    ensures knows { Knows seat.old.known receipts.old.items }
+{
+    for i in 0..receipts.len() {
+        seat.check(&mut receipts[i]);
+    }
+}

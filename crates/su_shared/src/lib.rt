@@ -1,0 +1,17 @@
+//! A book that threads share: steps under one lock, and records in cells that are set once and read
+//! without the lock.
+#![tactic(auto)]
+
+mod cells;
+mod held;
+mod laws;
+mod notes;
+mod seats;
+mod shared;
+
+pub use cells::{BookName, Cells, Record};
+pub use held::Held;
+pub use laws::{records_are_numbered, runs_are_orderly, steps_are_counted};
+pub use notes::Receipt;
+pub use seats::{Kept, Seat};
+pub use shared::{Closed, SharedBook};

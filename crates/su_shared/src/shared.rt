@@ -1,0 +1,197 @@
+// A book that threads share.
+ghost use Rattle.std.specs.Prelude.{◌≡◌, ◌⊎◌, IsPermutation, ◌≤◌, ◌<◌, ◌-◌, length, replicate, true, false, IfSome, IfNone, IfOk, IfErr, OnOk, OnErr, None, Some, slice_set};
+ghost use Rattle.std.specs.List.{sum_by};
+ghost use Rattle.once_cell.specs.Once.{Agrees};
+ghost use Rattle.su_bytes.specs.declared.refusals.Refusal.TheVariants.{BadNumber, BadKey, NoMemory};
+ghost use Rattle.su_chain.specs.ChainEnd.{HasBadKey};
+ghost use Rattle.su_book.specs.declared.events.Event.TheVariants.{Grant};
+ghost use Rattle.su_book.specs.Machine.{IsCapacity, IsRun, count_of};
+ghost use Rattle.su_shared.specs.Seats.{known_at, Learns};
+ghost use Rattle.su_shared.specs.Shares.{nothing, kept_after, after_commit, after_give, learned, Gives, IsFresh, MayMeet, EachStands};
+
+use crate::cells::{BookName, Cells, Record};
+use crate::held::Held;
+use crate::notes::Receipt;
+use crate::seats::Seat;
+use std::alloc::Global;
+use std::sync::ledger::Blank;
+use std::sync::{Mutex, Wait};
+use su_book::{Book, BookReply, Event};
+use su_bytes::{Refusal, Roster};
+
+/// A book that threads share. Its steps are made under one lock, and its records are read without
+/// it.
+#[derive(Drop)]
+pub struct SharedBook<N: BookName> {
+    cells: Cells,
+    held: Mutex<Held<N>>,
+    ghost named: { cells ≡ N.cells },
+}
+
+impl<N: BookName> SharedBook<N> {
+    /// Makes a book without records and seats, which may store as many commits as there are cells.
+    /// `BadNumber` where they aren't 1 to 1,000,000; `BadKey` where a user's key is none; else only
+    /// `NoMemory`.
+    pub fn new(
+        alloc: Global,
+        cells: Cells,
+        roster: Roster,
+        blank: Blank,
+    ) -> Result<SharedBook<N>, Refusal>
+        requires cells { cells ≡ N.cells }
+        requires ledger { (blank.name ≡ N.name) × (blank.parts ≡ N.parts) × (257 ≤ N.parts) }
+        ensures refused { IfErr result (λ e. ((e ≡ BadNumber) × ¬ IsCapacity (length cells))
+            ⊎ ((e ≡ BadKey) × IsCapacity (length cells) × HasBadKey roster) ⊎ (e ≡ NoMemory)) }
+    {
+        let book = Book::new(alloc, cells.len() as u64, roster)?;
+        let held = Mutex::new(Held::new(alloc, book, blank));
+        Ok(SharedBook { cells, held })
+    }
+
+    /// Makes the next seat, which was told nothing and knows nothing. `BadNumber` after 256 seats;
+    /// else only `NoMemory`.
+    pub fn seat(&self, rt: &impl Wait, alloc: Global) -> Result<Seat<N>, Refusal>
+        ensures kept { IfOk result (λ seat. seat.kept ≡ nothing) }
+        ensures known { IfOk result (λ seat. seat.known ≡ replicate (length N.cells) None) }
+        ensures refused { IfErr result (λ e. (e ≡ NoMemory) ⊎ (e ≡ BadNumber)) }
+    {
+        self.held.lock(rt).seat(alloc, &self.cells)
+    }
+
+    /// Takes the turn. The count of records is no less than all that the seat was told before; the
+    /// receipt is that of the last record. `Busy` with the seat that has the turn, where it is
+    /// another; `BookFull` where what the seat was told isn't what is kept for it; `NoMemory`. A
+    /// refusal leaves the seat as it was.
+    pub fn grant(
+        &self,
+        rt: &impl Wait,
+        alloc: Global,
+        seat: &mut Seat<N>,
+    ) -> Result<(BookReply, Option<Receipt<N>>), Refusal>
+        ensures gives { IfOk result (λ r. Gives Grant r.0 r.1) }
+        ensures fresh { IfOk result (λ r. IsFresh seat.old.kept.top r.0) }
+        ensures seat { IfOk result (λ r. seat.new ≡ record {
+          number = seat.old.number;
+          kept = kept_after seat.old.kept r.0;
+          known = learned seat.old.known r.1;
+        }) }
+        ensures learns { IfOk result (λ r.
+            IfSome r.1 (λ x. Learns seat.old.known x seat.new.known)) }
+        ensures meets { IfErr result (λ e. MayMeet seat.old.kept seat.old.number true e) }
+        ensures err { OnErr result (seat.new ≡ seat.old) }
+    {
+        self.held
+            .lock(rt)
+            .step(alloc, &self.cells, seat, Event::Grant)
+    }
+
+    /// Stores a commit by its bytes, and gives the turn back. The number is greater than all that
+    /// the seat was told before; the receipt is that of these bytes. The refusals are those of
+    /// `Held::step`. A refusal leaves the seat as it was.
+    pub fn commit(
+        &self,
+        rt: &impl Wait,
+        alloc: Global,
+        seat: &mut Seat<N>,
+        bytes: &[u8],
+    ) -> Result<(u64, Receipt<N>), Refusal>
+        ensures receipt { IfOk result (λ r. r.1 ≡ record { number = r.0; bytes = bytes.now }) }
+        ensures fresh { IfOk result (λ r. seat.old.kept.top < r.0) }
+        ensures seat { IfOk result (λ r. seat.new ≡ record {
+          number = seat.old.number;
+          kept = after_commit seat.old.kept r.0;
+          known = learned seat.old.known (Some r.1);
+        }) }
+        ensures learns { IfOk result (λ r. Learns seat.old.known r.1 seat.new.known) }
+        ensures holder { OnOk result (seat.old.kept.turn ≡ true) }
+        ensures meets { IfErr result (λ e. MayMeet seat.old.kept seat.old.number false e) }
+        ensures err { OnErr result (seat.new ≡ seat.old) }
+    {
+        let Ok(bytes) = Vec::from_slice(alloc, bytes) else {
+            return Err(Refusal::NoMemory);
+        };
+        let (reply, receipt) = self
+            .held
+            .lock(rt)
+            .step(alloc, &self.cells, seat, Event::Commit(bytes))?;
+        let BookReply::Stored { number } = reply else {
+            unreachable!()
+        };
+        let Some(receipt) = receipt else {
+            unreachable!()
+        };
+        Ok((number, receipt))
+    }
+
+    /// Gives the turn back. The refusals are `NotYourTurn`, and `BookFull` where what the seat was
+    /// told isn't what is kept for it. A refusal leaves the seat as it was.
+    pub fn give(&self, rt: &impl Wait, alloc: Global, seat: &mut Seat<N>) -> Result<(), Refusal>
+        ensures seat { OnOk result (seat.new ≡ record {
+          number = seat.old.number;
+          kept = after_give seat.old.kept;
+          known = seat.old.known;
+        }) }
+        ensures holder { OnOk result (seat.old.kept.turn ≡ true) }
+        ensures meets { IfErr result (λ e. MayMeet seat.old.kept seat.old.number false e) }
+        ensures err { OnErr result (seat.new ≡ seat.old) }
+    {
+        let (_, _) = self
+            .held
+            .lock(rt)
+            .step(alloc, &self.cells, seat, Event::Give)?;
+        Ok(())
+    }
+
+    /// Reads the cell of a record, without the lock. What the seat knows is found, and what is
+    /// found has this number and is known from then on.
+    pub fn published<'a>(&'a self, seat: &mut Seat<N>, number: u64) -> Option<&'a Record>
+        ensures none { IfNone result ((seat.new ≡ seat.old)
+            × (known_at seat.old.known number ≡ None)) }
+        ensures number { IfSome result (λ r. r.now.number ≡ number) }
+        ensures known { IfSome result (λ r. Agrees (known_at seat.old.known number) r.now) }
+        ensures seat { IfSome result (λ r. seat.new ≡ record seat.old {
+          known = slice_set seat.old.known (number - 1) (Some r.now);
+        }) }
+        ensures learns { IfSome result (λ r. Learns seat.old.known r.now seat.new.known) }
+    {
+        seat.read(&self.cells, number)
+    }
+
+    #[tactic(auto, using(crate::proofs::Closing::same_sum))]
+    /// Ends the book. The seats are to be all of its seats, in any order, as they were told; else
+    /// all is handed back.
+    pub fn close(self, seats: Vec<Seat<N>>) -> Result<Closed, (SharedBook<N>, Vec<Seat<N>>)>
+        ensures run { IfOk result (λ c. IsRun c.book) }
+        ensures records { IfOk result (λ c. c.records ≡ count_of c.book.journal) }
+        ensures calls { IfOk result (λ c. c.calls ≡ length c.book.journal) }
+        ensures stored { IfOk result (λ c. c.records ≡ sum_by (λ s. s.kept.stored) seats.items) }
+        ensures steps { IfOk result (λ c. c.calls ≡ sum_by (λ s. s.kept.steps) seats.items) }
+        ensures seats { IfOk result (λ c. (sorted : _) × IsPermutation seats.items sorted
+            × EachStands sorted c.book.journal) }
+        ensures err { IfErr result (λ r. IsPermutation seats.items r.1.items) }
+    {
+        let SharedBook { cells, held } = self;
+        let held = held.into_inner();
+        held.orders();
+        match held.close(seats) {
+            Ok(book) => Ok(Closed {
+                records: book.count(),
+                calls: book.len(),
+                book,
+            }),
+            Err((held, seats)) => {
+                let held = Mutex::new(held);
+                Err((SharedBook { cells, held }, seats))
+            }
+        }
+    }
+}
+
+/// A book that has ended: how many commits the seats stored, how many steps they made, and the
+/// book.
+#[derive(Drop)]
+pub struct Closed {
+    pub records: u64,
+    pub calls: usize,
+    pub book: Book,
+}
