@@ -8,7 +8,8 @@ pub const ABOUT: &str = "A shared file store of which each operation can be undo
 
 Exit status:
   0  what was asked for was done, refusals among the answers of a script
-  1  a file or stream failed, or there was no memory; standard error says which
+  1  a log was refused, which is printed; or a file or stream failed, or there
+     was no memory, and standard error says which
   2  a wrong command line, or a line of a script that is no command";
 
 pub const DESK_ABOUT: &str = "Runs a script from standard input, and answers it on standard output
@@ -63,3 +64,35 @@ let them stand in no file. In bash and zsh
 leaves none. The key goes to the file `key`, for its owner alone, and the public
 key to `key.pub`. Plain files that stood there are replaced, a pair by a pair;
 anything else is left as it is.";
+
+pub const AUDIT_ABOUT: &str = "Audits a log of commits, as a client's view of user 0 takes them
+
+A log is the file that a client saves: of each commit its bytes, and the item of
+its change. Each signature is checked, each commit follows the one before, each
+change is accepted after those before it, and the i-handles are those of the
+tree that they make. The keys are those of the users 0, 1 and so on; group 0 has
+all of them, group 1 has user 0. So
+
+    sundr audit --log log 0.pub 1.pub
+
+audits the log of two users.";
+
+/// What an audit prints.
+pub const AUDIT_ANSWERS: &str = "Answers:
+  ok N               all N commits are taken
+  at N               commit N is refused, and those before it are taken;
+  no NUMBER NAME ..  why it is refused
+
+Refusals:
+   1 Malformed AT       no commit: of the file the place of a length that is cut
+                        or goes past its end, or of the commit the place of what
+                        is wrong
+   5 MissingBlock       the item of its change did not come yet
+  22 TooBig             an item has 1 to 70,000 bytes
+  30 NoMemory           memory was refused
+  33 BadSignature       its author did not sign it
+  34 WrongPrev N        it does not follow commit N, the one before
+  35 WrongVector        its version numbers are not those that come next
+  36 KeyReuse           its author's key signed with this leaf, or a later one
+  38 WrongHandle P      it holds another i-handle of P than the tree has then
+  39 Change NUMBER ..   its change is refused so, or its item spells none";

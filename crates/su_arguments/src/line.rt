@@ -5,7 +5,9 @@ ghost use Rattle.su_lms.specs.ParameterSets.{height_of, width_of};
 ghost use Rattle.su_arguments.specs.declared.line.LineFault.TheVariants.{NoMemory};
 ghost use Rattle.su_arguments.specs.Line.{HasGoodNumbers};
 
-use crate::help::{ABOUT, DESK_ABOUT, DESK_ANSWERS, KEYGEN_ABOUT, LONG_VERSION};
+use crate::help::{
+    ABOUT, AUDIT_ABOUT, AUDIT_ANSWERS, DESK_ABOUT, DESK_ANSWERS, KEYGEN_ABOUT, LONG_VERSION,
+};
 use clap::{Arg, ArgMatches, Command};
 use std::alloc::{AllocError, Global};
 use su_lms::Params;
@@ -23,6 +25,11 @@ pub enum Line {
         entropy: String,
         out: String,
         params: Params,
+    },
+    /// Audits the log in a file, of users with the public keys in these files, 1 to 64 of them.
+    Audit {
+        log: String,
+        keys: Vec<String>,
     },
     /// A text for the standard output: help, or the version.
     Text(String),
@@ -59,6 +66,7 @@ pub fn line_of<'a>(alloc: Global, commands: &str, words: &'a [&'a str]) -> Resul
     match matches.subcommand() {
         Some(("desk", values)) => desk(alloc, values),
         Some(("keygen", values)) => keygen(alloc, values),
+        Some(("audit", values)) => audit(alloc, values),
         _ => Err(LineFault::Usage(String::from_str(alloc, "error: no such subcommand")?)),
     }
 }
@@ -71,7 +79,8 @@ fn program<'a>(alloc: Global, desk_help: &'a str) -> Result<Command<'a>, AllocEr
         .long_version(LONG_VERSION)
         .subcommand_required(true)
         .subcommand(desk_command(alloc, desk_help)?)?
-        .subcommand(keygen_command(alloc)?)
+        .subcommand(keygen_command(alloc)?)?
+        .subcommand(audit_command(alloc)?)
 }
 
 fn desk_command<'a>(alloc: Global, help: &'a str) -> Result<Command<'a>, AllocError> {
@@ -106,6 +115,21 @@ fn keygen_command<'a>(alloc: Global) -> Result<Command<'a>, AllocError> {
         .arg(out)?
         .arg(height)?
         .arg(width)
+}
+
+fn audit_command<'a>(alloc: Global) -> Result<Command<'a>, AllocError> {
+    let log = needed(alloc, "log", "FILE").help("The log");
+    let keys = Arg::new(alloc, "keys")
+        .value_name("PUB")
+        .required(true)
+        .num_args(1..=64)
+        .help("The users' public keys: of user 0, of user 1, and so on");
+    Command::new(alloc, "audit")
+        .about("Audits a log of commits")
+        .long_about(AUDIT_ABOUT)
+        .after_help(AUDIT_ANSWERS)
+        .arg(log)?
+        .arg(keys)
 }
 
 /// Builds an option that has to be given.
@@ -170,6 +194,38 @@ fn keygen(alloc: Global, values: &ArgMatches<'_>) -> Result<Line, LineFault>
         out: String::from_str(alloc, out)?,
         params,
     })
+}
+
+/// `audit --log FILE PUB..`
+fn audit(alloc: Global, values: &ArgMatches<'_>) -> Result<Line, LineFault>
+    ensures { IfOk result HasGoodNumbers }
+{
+    let (Some(log), Some(paths)) = (values.get_str("log"), values.get_strs("keys")) else {
+        return Err(LineFault::Usage(String::from_str(alloc, "error: an option is missing")?));
+    };
+    let keys = copies(alloc, paths)?;
+    if keys.is_empty() || 64 < keys.len() {
+        return Err(LineFault::Usage(String::from_str(
+            alloc,
+            "error: there are 1 to 64 public keys",
+        )?));
+    }
+    Ok(Line::Audit {
+        log: String::from_str(alloc, log)?,
+        keys,
+    })
+}
+
+/// Copies texts.
+fn copies(alloc: Global, texts: &[&str]) -> Result<Vec<String>, AllocError> {
+    let mut copies = Vec::with_capacity(alloc, texts.len())?;
+    for text in texts {
+        let copy = String::from_str(alloc, text)?;
+        if copies.push(copy).is_err() {
+            return Err(AllocError);
+        }
+    }
+    Ok(copies)
 }
 
 /// Returns the parameter set of a tree of that height and coefficients of that width, by the type

@@ -1,12 +1,13 @@
 -- What the program prints for a command line, and how it ends.
 use Rattle.std.specs.Prelude.{◌≡◌, ℕ, List, ◌++◌, Option, Some, string_bytes}
 use Rattle.su_arguments.specs.declared.line.Line.{Line}
-use Rattle.su_arguments.specs.declared.line.Line.TheVariants.{Desk, Keygen, Text}
+use Rattle.su_arguments.specs.declared.line.Line.TheVariants.{Desk, Keygen, Audit, Text}
 use Rattle.su_arguments.specs.declared.line.LineFault.{LineFault}
 use Rattle.su_arguments.specs.declared.line.LineFault.TheVariants.{Usage, NoMemory}
 use Rattle.su_script.specs.declared.desk.Status.{Status}
 use Rattle.su_script.specs.declared.desk.Status.TheVariants.{Finished, Fault, BadLine}
 use Rattle.su_script.specs.Transcript.{Prints}
+use Rattle.su_audit.specs.Audit.{taken_text}
 use Rattle.sundr.specs.Key.{IsPublicLine}
 
 -- a wrong command line ends the program as a line that is no command does, want of memory as a
@@ -23,11 +24,18 @@ PrintsUnlessFault P before after Finished =
 PrintsUnlessFault P before after Fault = Unit {0}
 PrintsUnlessFault P before after BadLine = ⊥
 
+-- `ok N` for some N
+abbrev pub IsTakenLine : List ℕ → Type 0
+IsTakenLine text = (n : ℕ) × (text ≡ taken_text n)
+
 -- a desk prints the transcript of its script, a key maker the line of a public key, and a text
--- itself
+-- itself; an audit that ends well prints how many commits it took (of which log no clause can say, as
+-- it stands in a file)
 abbrev pub CarriesOut : Line → List ℕ → List ℕ → Option (List ℕ) → Status → Type 0
 CarriesOut (Desk users) input before after status = Prints users input before after status
 CarriesOut (Keygen entropy out params) input before after status =
     PrintsUnlessFault (IsPublicLine params) before after status
+CarriesOut (Audit log keys) input before after status =
+    PrintsUnlessFault IsTakenLine before after status
 CarriesOut (Text text) input before after status =
     PrintsUnlessFault (λ t. t ≡ string_bytes text) before after status

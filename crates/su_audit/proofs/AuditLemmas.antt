@@ -1,0 +1,127 @@
+-- An audit, record by record.
+use Rattle.std.proofs.Common.{◌≡◌, ℕ, ◌+◌, List, [], ◌∷◌, ◌++◌, length, length-append, refl, sym, ap, ◌∙◌, subst, arith, append_assoc, append-nil, Option, Some}
+use Rattle.std.proofs.lemmas.Grind.{flat_map-append}
+use Rattle.su_bytes.specs.Membership.{Membership}
+use Rattle.su_version.specs.Commit.{commit_bytes}
+use Rattle.su_legal.specs.Legal.{Committed, LegalAfter}
+use Rattle.su_legal.proofs.Public.{after_both}
+use Rattle.su_view.specs.Holding.{HoldingState, with_more}
+use Rattle.su_view.specs.declared.refusals.ViewRefusal.{ViewRefusal}
+use Rattle.su_audit.specs.Log.{LogRecord, record_bytes, log_bytes}
+use Rattle.su_audit.specs.Step.{Takes, IsRefusedNext}
+use Rattle.su_audit.specs.declared.audits.Ending.{Ending}
+use Rattle.su_audit.specs.declared.audits.Ending.TheVariants.{Taken, Refused, Failed}
+use Rattle.su_audit.specs.Audit.{AreBytesOf, BeginsLegally, IsLegalLog, IsRefusedAt, held_by_first, taken_text, refused_text, Tells, Prints, PrintsSome}
+
+-- So far the log begins with the records of what is held, and this is left; the next is the nth.
+pub record Stands (ro : Membership) (log : List ℕ) (v : HoldingState) (place : ℕ) (known : Option (List ℕ)) (n : ℕ) : Type 0 where
+  pub commits : List Committed
+  pub rest : List ℕ
+  pub holds : v ≡ held_by_first ro commits
+  pub begins : BeginsLegally ro log commits place rest
+  pub left : known ≡ Some rest
+  pub number : n ≡ length commits + 1
+
+pub none_yet : (ro : Membership) (log : List ℕ) (v : HoldingState) (known : Option (List ℕ)) → v ≡ held_by_first ro [] → known ≡ Some log → Stands ro log v 0 known 1
+none_yet ro log v known holds left = record {
+  commits = [];
+  rest = log;
+  holds = holds;
+  begins = record { records = []; front = refl; place_is = refl; bytes_are = tt; legal = tt };
+  left = left;
+  number = refl;
+}
+
+are_further : (rs : List LogRecord) (cs : List Committed) (r : LogRecord) (c : Committed)
+    → AreBytesOf rs cs → r.commit ≡ commit_bytes c.commit → AreBytesOf (rs ++ r ∷ []) (cs ++ c ∷ [])
+are_further [] [] r c are is = (is, tt)
+are_further (x ∷ rs) (y ∷ cs) r c (e, are) is = (e, are_further rs cs r c are is)
+are_further [] (y ∷ cs) r c are is = absurd are
+are_further (x ∷ rs) [] r c are is = absurd are
+
+further_log : (log : List ℕ) (rs : List LogRecord) (r : LogRecord) (rest rest' : List ℕ) → log ≡ log_bytes rs ++ rest → rest ≡ record_bytes r ++ rest' → log ≡ log_bytes (rs ++ r ∷ []) ++ rest'
+further_log log rs r rest rest' is begins =
+    is ∙ ap (λ x. log_bytes rs ++ x) begins ∙ sym (append_assoc (log_bytes rs) (record_bytes r) rest')
+    ∙ ap (λ x. (log_bytes rs ++ x) ++ rest') (sym (append-nil (record_bytes r)))
+    ∙ ap (λ x. x ++ rest') (sym (flat_map-append record_bytes rs (r ∷ [])))
+
+further_place : (rs : List LogRecord) (r : LogRecord) (place place' : ℕ) → place ≡ length (log_bytes rs) → place' ≡ place + length (record_bytes r) → place' ≡ length (log_bytes (rs ++ r ∷ []))
+further_place rs r place place' is is' =
+    let sum = length-append (log_bytes rs) (record_bytes r ++ []) in
+    let one : length (record_bytes r ++ []) ≡ length (record_bytes r) = ap length (append-nil (record_bytes r)) in
+    let all : length (log_bytes (rs ++ r ∷ [])) ≡ length (log_bytes rs ++ (record_bytes r ++ [])) = ap length (flat_map-append record_bytes rs (r ∷ [])) in
+    omega (arith, sum, one, all, is, is')
+
+pub further : (ro : Membership) (log : List ℕ) (v v' : HoldingState) (place place' : ℕ) (known known' : Option (List ℕ)) (n : ℕ)
+    → Stands ro log v place known n → ((input : List ℕ) → known ≡ Some input → Takes place v input place' v' known') → Stands ro log v' place' known' (n + 1)
+further ro log v v' place place' known known' n s takes =
+    let t = takes s.rest s.left in
+    let may : LegalAfter ro s.commits (t.taken ∷ []) = subst (λ (u : HoldingState). LegalAfter u.roster u.held (t.taken ∷ [])) s.holds t.took.may in
+    record {
+      commits = s.commits ++ t.taken ∷ [];
+      rest = t.rest;
+      holds = t.took.becomes ∙ ap (λ u. with_more u (t.taken ∷ [])) s.holds;
+      begins = record {
+        records = s.begins.records ++ t.first ∷ [];
+        front = further_log log s.begins.records t.first s.rest t.rest s.begins.front t.begins;
+        place_is = further_place s.begins.records t.first place place' s.begins.place_is t.place_is;
+        bytes_are = are_further s.begins.records s.commits t.first t.taken s.begins.bytes_are t.bytes_are;
+        legal = after_both ro [] s.commits (t.taken ∷ []) s.begins.legal may;
+      };
+      left = t.left;
+      number = ap (λ k. k + 1) (s.number ∙ sym (length-append s.commits (t.taken ∷ [])));
+    }
+
+pub at_end : (ro : Membership) (log : List ℕ) (v : HoldingState) (place : ℕ) (known : Option (List ℕ)) (n m : ℕ)
+    → Stands ro log v place known n → n ≡ m + 1 → ((input : List ℕ) → known ≡ Some input → input ≡ []) → IsLegalLog ro log m
+at_end ro log v place known n m s is ends =
+    let none = ends s.rest s.left in
+    let front : log ≡ log_bytes s.begins.records ++ [] = subst (λ x. log ≡ log_bytes s.begins.records ++ x) none s.begins.front in
+    let whole : log ≡ log_bytes s.begins.records = front ∙ append-nil (log_bytes s.begins.records) in
+    record {
+      commits = s.commits;
+      number = omega (arith, is, s.number);
+      begins = record {
+        records = s.begins.records;
+        front = front;
+        place_is = ap length whole;
+        bytes_are = s.begins.bytes_are;
+        legal = s.begins.legal;
+      };
+    }
+
+pub refused_next : (ro : Membership) (log : List ℕ) (v : HoldingState) (place : ℕ) (known : Option (List ℕ)) (n : ℕ) (e : ViewRefusal)
+    → Stands ro log v place known n → ((input : List ℕ) → known ≡ Some input → IsRefusedNext v place input e) → IsRefusedAt ro log n e
+refused_next ro log v place known n e s why = record {
+  commits = s.commits;
+  place = place;
+  rest = s.rest;
+  number = s.number;
+  begins = s.begins;
+  why = subst (λ u. IsRefusedNext u place s.rest e) s.holds (why s.rest s.left);
+}
+
+-- ---- what is told
+
+pub told_taken : (ro : Membership) (log before text : List ℕ) (after : Option (List ℕ)) (m : ℕ) (result : Ending)
+    → IsLegalLog ro log m → text ≡ taken_text m → Tells Taken text before after result → Prints ro log before after result
+told_taken ro log before text after m (Failed fault) legal is t = tt
+told_taken ro log before text after m Taken legal is t = (m, legal, t.1 ∙ ap (λ x. Some (before ++ x)) is)
+told_taken ro log before text after m Refused legal is t = absurd (let bad : Refused ≡ Taken = t.0 in cc)
+
+pub told_refused : (ro : Membership) (log before text : List ℕ) (after : Option (List ℕ)) (n : ℕ) (e : ViewRefusal) (result : Ending)
+    → IsRefusedAt ro log n e → text ≡ refused_text n e → Tells Refused text before after result → Prints ro log before after result
+told_refused ro log before text after n e (Failed fault) why is t = tt
+told_refused ro log before text after n e Refused why is t = (n, e, why, t.1 ∙ ap (λ x. Some (before ++ x)) is)
+told_refused ro log before text after n e Taken why is t = absurd (let bad : Taken ≡ Refused = t.0 in cc)
+
+-- what is told, of whatever log
+pub some_taken : (n : ℕ) (before : List ℕ) (after : Option (List ℕ)) (r : Ending) → Tells Taken (taken_text n) before after r → PrintsSome before after r
+some_taken n before after Taken (is, written) = (n, written)
+some_taken n before after Refused (is, written) = absurd (let clash : Refused ≡ Taken = is in cc)
+some_taken n before after (Failed fault) told = tt
+
+pub some_refused : (n : ℕ) (e : ViewRefusal) (before : List ℕ) (after : Option (List ℕ)) (r : Ending) → Tells Refused (refused_text n e) before after r → PrintsSome before after r
+some_refused n e before after Taken (is, written) = absurd (let clash : Taken ≡ Refused = is in cc)
+some_refused n e before after Refused (is, written) = (n, e, written)
+some_refused n e before after (Failed fault) told = tt

@@ -1,0 +1,3 @@
+mod LogLemmas
+mod StepLemmas
+mod AuditLemmas

@@ -1,0 +1,28 @@
+use Rattle.std.proofs.Common.{◌∙◌, refl, arith}
+use Rattle.su_audit.proofs.AuditLemmas.{further, at_end, refused_next, told_taken, told_refused, some_taken, some_refused}
+use Rattle.su_audit.proofs.audits.run_audit.Goals as goal
+
+pub loop-number-preserved : goal.loop-number-preserved
+loop-number-preserved g c = record {
+  stands = λ log is. further c.args.roster log _ _ _ _ _ _ _ (c.loop-number.invariant.stands log is) c.in-Took.ensures;
+  writer = c.loop-number.invariant.writer;
+}
+
+pub returns-in-Ended-clause-prints : goal.returns-in-Ended-clause-prints
+returns-in-Ended-clause-prints g c = λ log before is there.
+    told_taken c.args.roster log before _ _ _ c.tell_taken.result
+    (at_end c.args.roster log _ _ _ _ _ (c.loop-number.invariant.stands log is) (omega arith) c.in-Ended.ensures)
+    refl (c.tell_taken.ensures before (c.loop-number.invariant.writer ∙ there))
+
+pub returns-in-Refused-clause-prints : goal.returns-in-Refused-clause-prints
+returns-in-Refused-clause-prints g c = λ log before is there.
+    told_refused c.args.roster log before _ _ c.loop-number.number c.in-Refused.refusal c.tell_refused.result
+    (refused_next c.args.roster log _ _ _ _ _ (c.loop-number.invariant.stands log is) c.in-Refused.ensures)
+    refl (c.tell_refused.ensures before (c.loop-number.invariant.writer ∙ there))
+
+pub returns-in-Ended-clause-text : goal.returns-in-Ended-clause-text
+returns-in-Ended-clause-text g c before there = some_taken _ before _ c.tell_taken.result (c.tell_taken.ensures before (c.loop-number.invariant.writer ∙ there))
+
+pub returns-in-Refused-clause-text : goal.returns-in-Refused-clause-text
+returns-in-Refused-clause-text g c before there =
+    some_refused c.loop-number.number c.in-Refused.refusal before _ c.tell_refused.result (c.tell_refused.ensures before (c.loop-number.invariant.writer ∙ there))

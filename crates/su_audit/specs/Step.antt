@@ -1,0 +1,53 @@
+-- What comes of the next record of a log.
+use Rattle.std.specs.Prelude.{◌≡◌, ◌≢◌, ◌+◌, ◌⊎◌, ℕ, List, [], ◌∷◌, ◌++◌, length, true, false, ⊤, Option, Some}
+use Rattle.su_bytes.specs.declared.refusals.Refusal.{Refusal}
+use Rattle.su_bytes.specs.declared.refusals.Refusal.TheVariants.{Malformed, TooBig, NoMemory}
+use Rattle.su_block.specs.Item.{is_item}
+use Rattle.su_block.specs.Failure.{is_failure}
+use Rattle.su_version.specs.Commit.{Commit, IsCommit, commit_bytes}
+use Rattle.su_legal.specs.Legal.{Committed}
+use Rattle.su_view.specs.Holding.{HoldingState, Took}
+use Rattle.su_view.specs.Joining.{IsNoCommit, IsRefusedCommit}
+use Rattle.su_view.specs.declared.refusals.ViewRefusal.{ViewRefusal}
+use Rattle.su_view.specs.declared.refusals.ViewRefusal.TheVariants.{Plain}
+use Rattle.su_audit.specs.declared.steps.Step.{Step}
+use Rattle.su_audit.specs.declared.steps.Step.TheVariants as step
+use Rattle.su_audit.specs.Log.{LogRecord, record_bytes, BeginsWith, HasNoPart}
+
+-- Why a record is refused, for what is held: there is no memory; its item is none; its commit's
+-- bytes spell none; or the commit doesn't join, or the source has no item of its change.
+abbrev pub IsRefusedRecord : HoldingState → List ℕ → List ℕ → ViewRefusal → Type 0
+IsRefusedRecord v bytes item e =
+    (e ≡ Plain NoMemory)
+    ⊎ ((e ≡ Plain TooBig) × (is_item item ≡ false))
+    ⊎ IsNoCommit bytes e
+    ⊎ ((c : Commit) × IsCommit c × (bytes ≡ commit_bytes c)
+    × (((why : Refusal) × (e ≡ Plain why) × (is_failure why ≡ true))
+    ⊎ IsRefusedCommit (λ _. ⊤) v c e))
+
+-- Why what a log has next is refused, which begins at a place: no part begins there, and its place
+-- is named; or behind the first part; or the record is refused.
+abbrev pub IsRefusedNext : HoldingState → ℕ → List ℕ → ViewRefusal → Type 0
+IsRefusedNext v place input e =
+    ((e ≡ Plain (Malformed place)) × (input ≢ []) × HasNoPart input)
+    ⊎ ((first rest : List ℕ) × BeginsWith input first rest
+    × (((e ≡ Plain (Malformed (place + (4 + length first)))) × HasNoPart rest)
+    ⊎ ((item others : List ℕ) × BeginsWith rest item others × IsRefusedRecord v first item e)))
+
+-- the log goes on with a record, whose commit is taken
+pub record Takes (place : ℕ) (v : HoldingState) (input : List ℕ) (place' : ℕ) (v' : HoldingState)
+    (known : Option (List ℕ)) : Type 0 where
+  pub first : LogRecord
+  pub rest : List ℕ
+  pub taken : Committed
+  pub begins : input ≡ record_bytes first ++ rest
+  pub left : known ≡ Some rest
+  pub bytes_are : first.commit ≡ commit_bytes taken.commit
+  pub took : Took v (taken ∷ []) v'
+  pub place_is : place' ≡ place + length (record_bytes first)
+
+abbrev pub Steps : ℕ → HoldingState → List ℕ → ℕ → HoldingState → Option (List ℕ) → Step → Type 0
+Steps place v input place' v' known step.Took = Takes place v input place' v' known
+Steps place v input place' v' known step.Ended = input ≡ []
+Steps place v input place' v' known (step.Refused e) = IsRefusedNext v place input e
+Steps place v input place' v' known (step.Failed error) = ⊤

@@ -1,0 +1,11 @@
+//! An audit: reads a log of commits, with the items of their changes, and takes them in a client's
+//! view, up to the first one that this refuses.
+#![tactic(auto)]
+
+mod audits;
+mod keys;
+mod logs;
+mod steps;
+
+pub use audits::{Ending, Fault, run_audit};
+pub use keys::{KeyFault, read_keys};
