@@ -112,7 +112,7 @@ def keys(room):
 
 def help_texts(room):
     """Lines of at most 80 columns, each refusal that a desk can answer, and the kit that is there."""
-    texts = {" ".join(words): run([*words, "--help"])[0] for words in ([], ["desk"], ["keygen"])}
+    texts = {" ".join(words): run([*words, "--help"])[0] for words in ([], ["desk"], ["keygen"], ["audit"])}
     for words, text in texts.items():
         wide = [line for line in text.split("\n") if len(line) > 80]
         yield f"help_of_{words or 'sundr'}_fits: {wide}", wide == []

@@ -1,0 +1,162 @@
+#!/usr/bin/env python3
+"""How long an audit takes. Run by hand: `bench/audit.py [FOLDER]`. Making the logs takes some ten minutes of four cores, and they are
+kept in FOLDER for the next time, if one is given.
+
+Prints, for a log of so many commits: its megabytes, seconds of processor, commits a second, and the peak of memory in megabytes.
+
+- 10,000 commits that each create a file in one directory, and 1,000 more that each write a byte into one of the files; the time
+  of the 1,000 is the time of the whole log less that of the first 10,000. With signatures of 4 and of 8 bits a coefficient.
+- 100,000 commits that each write a byte into one of 1,000 files.
+
+The author's key has a tree of height 20, of which only the leaves that sign are computed (`leaves` of tests/lms.py): a verifier can't
+tell, but its signatures have a path of 20 hashes, where keys of `sundr keygen` have 5 or 10.
+"""
+import multiprocessing
+import os
+import sys
+import tempfile
+
+HERE = os.path.dirname(os.path.abspath(__file__))
+TOP = os.path.dirname(HERE)
+PROGRAM = f"{TOP}/crates/sundr/out/sundr"
+sys.path.insert(0, f"{TOP}/tests")
+
+import desk_model  # noqa: E402
+import lms  # noqa: E402
+import logs  # noqa: E402
+from desk_model import name_bits, number_bits, sha256  # noqa: E402
+
+
+class KeptTree:
+    """The digest of a map, kept up to date: a tree whose nodes are (digest, bits, None) for a pair and else (digest, place, nodes)."""
+
+    def __init__(self):
+        self.root = None
+
+    def digest(self):
+        return self.root[0] if self.root else sha256(b"\2")
+
+    def set(self, bits, key, value):
+        pair = desk_model.digest_of([(bits, key, value)]), bits, None
+        if self.root is None:
+            self.root = pair
+            return
+        nearest = self.root
+        while nearest[2]:
+            nearest = nearest[2][int(bits[nearest[1]])] if nearest[1] < len(bits) else nearest[2][0]
+        differ = [n for n, (x, y) in enumerate(zip(bits, nearest[1])) if x != y]
+        self.root = self.put(self.root, bits, pair, differ[0] if differ else None)
+
+    def put(self, node, bits, pair, place):
+        if node[2] is None and place is None:
+            return pair
+        if node[2] is None or place is not None and place < node[1]:
+            return self.inner(place, [pair, node] if bits[place] == "0" else [node, pair])
+        nodes, side = list(node[2]), int(bits[node[1]])
+        nodes[side] = self.put(nodes[side], bits, pair, place)
+        return self.inner(node[1], nodes)
+
+    def inner(self, place, nodes):
+        return sha256(b"\1" + place.to_bytes(2, "big") + nodes[0][0] + nodes[1][0]), place, nodes
+
+
+class LongMaker:
+    """Makes a long log of user 0, who creates files in the root directory and writes bytes into them."""
+
+    def __init__(self, key, file):
+        self.key, self.file, self.count = key, file, 0
+        self.prev = sha256(logs.roster_bytes([key.public()]))
+        self.table, self.names = KeptTree(), KeptTree()
+        self.put_inode(1, self.root_digest())
+
+    def root_digest(self):
+        home = desk_model.file_bytes(desk_model.group_file(0, 1))
+        return sha256(b"\3" + home + b"\1\1" + bytes(4) + self.names.digest())
+
+    def put_inode(self, number, digest):
+        self.table.set(number_bits(number), number.to_bytes(4, "big"), digest)
+
+    def create(self, number):
+        name, file = b"f%d" % number, desk_model.user_file(0, number)
+        self.names.set(name_bits(name), name, desk_model.file_bytes(file))
+        self.put_inode(1, self.root_digest())
+        self.put_inode(number, desk_model.inode_digest((file, 1, b"")))
+        self.add(("create", "create", desk_model.group_file(0, 1), name, file, number))
+
+    def write(self, number, byte):
+        file = desk_model.user_file(0, number)
+        self.put_inode(number, desk_model.inode_digest((file, 1, byte)))
+        self.add(("write", file, 0, byte))
+
+    def add(self, change):
+        item, q = logs.item_of(change), self.count
+        self.count += 1
+        version = logs.Version(0, self.prev, sha256(item), self.table.digest(), [], [self.count, 0, 0])
+        commit = logs.commit_of(version, self.key.sign(q, version.encode()))
+        self.prev = sha256(commit)
+        self.file.write(logs.log_bytes([(commit, item)]))
+
+
+def make(folder, name, width, files, writes):
+    """Makes a log, and the public key of its author, unless they are there."""
+    path = f"{folder}/{name}"
+    if os.path.exists(f"{path}.pub"):
+        return path
+    with multiprocessing.Pool() as pool:
+        entropy = name.encode().ljust(48, b".")
+        key = lms.Key(entropy, 20, width, files + writes, lambda leaf, all_: pool.imap(leaf, all_, 64))
+    with open(path, "wb") as file:
+        maker = LongMaker(key, file)
+        for n in range(files):
+            maker.create(n + 2)
+        for n in range(writes):
+            maker.write(n * 7919 % files + 2, bytes([n % 256]))
+    with open(f"{path}.pub", "wb") as file:
+        file.write(key.public())
+    return path
+
+
+def front(path, count):
+    """The front of a log, of so many commits, beside it."""
+    to = f"{path}.front"
+    with open(path, "rb") as file, open(to, "wb") as out:
+        for _ in range(2 * count):
+            length = file.read(4)
+            out.write(length + file.read(int.from_bytes(length, "big")))
+    return to
+
+
+def measure(public, log, count):
+    """Seconds of processor, megabytes at the peak, and megabytes of the log."""
+    read, write = os.pipe()
+    to_pipe = [(os.POSIX_SPAWN_DUP2, write, 1), (os.POSIX_SPAWN_CLOSE, read)]
+    process = os.posix_spawn(PROGRAM, [PROGRAM, "audit", "--log", log, public], os.environ, file_actions=to_pipe)
+    os.close(write)
+    said = os.read(read, 1000)
+    os.close(read)
+    used = os.wait4(process, 0)[2]
+    if said != b"ok %d\n" % count:
+        sys.exit(f"bench/audit.py: of {count} commits it says {said}")
+    return used.ru_utime + used.ru_stime, used.ru_maxrss / 1000, os.path.getsize(log) / 1e6
+
+
+def show(name, count, seconds, peak, size):
+    print(f"{name:34} {count:8} {size:8.0f} {seconds:9.2f} {count / seconds:9.0f} {peak:8.0f}", flush=True)
+
+
+def main():
+    with tempfile.TemporaryDirectory() as room:
+        folder = sys.argv[1] if len(sys.argv) > 1 else room
+        print(f"{'':34} {'commits':>8} {'MB':>8} {'seconds':>9} {'a second':>9} {'peak MB':>8}")
+        for width in (4, 8):
+            log = make(folder, f"writes_behind_creates_{width}", width, 10000, 1000)
+            whole, peak, size = measure(f"{log}.pub", log, 11000)
+            creates, peak_before, size_before = measure(f"{log}.pub", front(log, 10000), 10000)
+            show(f"creates, width {width}", 10000, creates, peak_before, size_before)
+            show(f"writes behind them, width {width}", 1000, max(whole - creates, 0.001), peak, size - size_before)
+        log = make(folder, "writes_4", 4, 1000, 99000)
+        show("creates and writes, width 4", 100000, *measure(f"{log}.pub", log, 100000))
+
+
+if __name__ == "__main__":
+    main()

@@ -1,0 +1,565 @@
+#!/usr/bin/env python3
+"""Tries `sundr audit`: what it prints of good logs, of logs in which each field of a commit is another one, of logs that are cut at
+each byte, and of logs with each byte changed, against what is written here and against the second audit of audit_model.py; and its
+faults and statuses.
+
+Prints a line for each case that isn't as it should be, and last 'N passed, M failed'.
+"""
+import concurrent.futures
+import hashlib
+import os
+import random
+import re
+import resource
+import subprocess
+import sys
+import tempfile
+
+import audit_model
+import desk_model
+import lms
+import logs
+from desk_model import sha256
+
+HERE = os.path.dirname(os.path.abspath(__file__))
+TOP = os.path.dirname(HERE)
+PROGRAM = f"{TOP}/crates/sundr/out/sundr"
+CHANCE_LOGS, CHANCE_LINES = 24, 60
+RUNS_AT_ONCE = 4
+LITTLE_MEMORY = 2 ** 27  # the address space of a run that is given little, in bytes
+GONE = b"\xff\xff\xff\xff"
+
+
+class Room:
+    """A folder with logs and public keys."""
+
+    def __init__(self, at):
+        self.at = at
+
+    def file(self, data, end=""):
+        """The path of a file with these bytes."""
+        path = f"{self.at}/{hashlib.sha256(data).hexdigest()}{end}"
+        if not os.path.exists(path):
+            os.replace(self.new_file(data), path)
+        return path
+
+    def new_file(self, data):
+        """The path of a file with these bytes that no other run has."""
+        number, path = tempfile.mkstemp(dir=self.at)
+        with os.fdopen(number, "wb") as file:
+            file.write(data)
+        return path
+
+    def words(self, publics, log):
+        return ["audit", "--log", log, *(self.file(public, ".pub") for public in publics)]
+
+    def audit(self, publics, log):
+        """What the program prints of a log, and its status. Of a log it tells nothing on standard error."""
+        path = self.new_file(log)
+        printed, told, status = run(self.words(publics, path))
+        os.remove(path)
+        return (printed, status) if told == "" else (printed, told, status)
+
+
+def run(words, **how):
+    """Returns what the program prints, what it tells, and its status."""
+    streams = {"stdin": subprocess.DEVNULL, "stdout": subprocess.PIPE, "stderr": subprocess.PIPE, **how}
+    ended = subprocess.run([PROGRAM, *words], text=True, errors="replace", timeout=120, **streams)
+    return ended.stdout, ended.stderr, ended.returncode
+
+
+def is_so(room, publics, log, wanted=None):
+    """Whether the program says of a log what the second audit does, and what is written here, if it is: a number of commits, or
+    the place of the one that is refused and why."""
+    by_model = audit_model.audit(publics, log)
+    if isinstance(wanted, int):
+        wanted = f"ok {wanted}\n", 0
+    elif wanted is not None:
+        wanted = "at {}\nno {}\n".format(*wanted), 1
+    return wanted in (None, by_model) and room.audit(publics, log) == by_model
+
+
+def script(maker, text):
+    for line in text.split("; "):
+        maker.say(line)
+    return maker
+
+
+# ---- keys and signatures
+
+def keys(room):
+    """The keys and signatures of these tries are those of other implementations, and of `sundr keygen`."""
+    text = open(f"{TOP}/crates/su_lms/src/tests/vectors.rt", encoding="utf-8").read()
+    known = dict(re.findall(r"pub const (\w+): &str =\s*\"([0-9a-f]+)\"", text))
+    for key in [name.removesuffix("_KEY") for name in known if name.endswith("_KEY")]:
+        for name in [name for name in known if re.fullmatch(key + "(_FIRST|_LAST)?", name)]:
+            public, signature = bytes.fromhex(known[key + "_KEY"]), bytes.fromhex(known[name])
+            message = b"sundr: a message to sign"
+            is_signed = [lms.verify(public, *it) for it in ((message, signature), (message + b" ", signature))]
+            yield f"known_signature_{name}", is_signed == [True, False]
+    entropy = random.Random("entropy").randbytes(48)
+    for width in (4, 8):
+        words = ["keygen", "--entropy", room.file(entropy), "--out", f"{room.at}/key", "--height", "5", "--width", str(width)]
+        run(words)
+        key, files = lms.Key(entropy, 5, width), [open(f"{room.at}/{name}", "rb").read() for name in ("key", "key.pub")]
+        yield f"key_of_width_{width}", files == [key.file(), key.public()]
+
+
+# ---- good logs
+
+ALL_KINDS = (
+    "0 mkdir G0:1 d U0:2; 0 create U0:2 f G0:3 3; 0 write G0:3 5000 68656c6c6f; 0 truncate G0:3 4097; 0 link G0:1 g G0:3; "
+    "0 rename U0:2 f G0:1 h G0:3; 0 unlink G0:1 g G0:3; 1 take G0:3 7; 1 write G0:3 0 41; 1 undo 9; 1 undo 8; 0 undo 6; "
+    "0 create G0:1 s G1:1 9; 0 unlink G0:1 s G1:1; 0 undo 14; 0 undo_last; 2 take G0:1 1; 2 mkdir G0:1 e G0:9 9; 2 undo_last; "
+    "2 undo 17; 0 undo 4")
+
+
+def good(room):
+    for count in (1, 2, 64):
+        publics = [logs.key_of(n, width=4, leaves=1).public() for n in range(count)]
+        yield f"an_empty_log_of_{count}", is_so(room, publics, b"", 0)
+    for width in (4, 8):
+        maker = script(logs.Maker([logs.key_of(n, width=width) for n in range(3)]), ALL_KINDS)
+        yield f"all_kinds_of_width_{width}", is_so(room, maker.publics, maker.log(), 21)
+    for height in lms.LMS_OF_HEIGHT:
+        for width in lms.OTS_OF_WIDTH:
+            maker = logs.Maker([logs.key_of(n, height, width, leaves=2) for n in range(2)])
+            script(maker, "0 mkdir G0:1 a U0:2; 1 take G0:1 1; 1 create G0:1 b G0:2 2")
+            yield f"keys_of_{height}_{width}", is_so(room, maker.publics, maker.log(), 3)
+    yield from extremes(room)
+
+
+def extremes(room):
+    """The most users, the longest commit and the longest item, names of any bytes, a leaf left out, and the last one."""
+    maker = logs.Maker([logs.key_of(n, 25, 1, leaves=4) for n in range(64)])
+    script(maker, "63 take G0:1 1; 63 create G0:1 a G0:2 2; 62 take G0:2 1; 62 write G0:2 0 41; 62 undo 4; 62 undo 3")
+    yield "the_most_users", is_so(room, maker.publics, maker.log(), 6)
+    maker = script(logs.Maker([logs.key_of(0, width=4)]), "0 create G0:1 a U0:2")
+    maker.add(0, ("write", ("U", 0, 2), 1048576 - 65536, bytes(range(256)) * 256))
+    names = [b"\n", b" ", b"\xff" * 255, b"...", bytes(n for n in range(1, 256) if n != 0x2f)]
+    for number, name in enumerate(names, 3):
+        maker.add(0, ("create", "create", desk_model.group_file(0, 1), name, ("U", 0, number), number))
+    yield "long_items_and_odd_names", is_so(room, maker.publics, maker.log(), 7)
+    maker.leaves[0] = 31
+    maker.say("0 undo_last")
+    yield "the_last_leaf_alone", is_so(room, maker.publics, maker.log(), 8)
+
+
+# ---- logs by chance
+
+def by_chance(room):
+    """Lines of the second desk's dice: those that are accepted make a log, and some that aren't come at the end of one."""
+    refused = {}
+    for seed in range(CHANCE_LOGS):
+        users = 1 + seed % 3
+        maker = logs.Maker([logs.key_of(n, 20, 4, leaves=CHANCE_LINES) for n in range(users)])
+        dice = desk_model.Dice(f"audit {seed}", maker.desk)
+        for _ in range(CHANCE_LINES):
+            line = dice.line()
+            if line[0].isdigit() and is_spelled(*maker.read(line), users):
+                say(maker, line, refused)
+        yield f"chance_{seed}", is_so(room, maker.publics, maker.log(), len(maker.records))
+    for number, (line, publics, log, place, why) in refused.items():
+        yield f"chance_refused_{number}: {line}", is_so(room, publics, log, (place, f"39 Change {why}"))
+    yield f"chance_meets_most_refusals: {sorted(refused)}", len(refused) >= 10
+
+
+def is_spelled(user, change, users):
+    """Whether the user is there, and the change has an item."""
+    try:
+        return user < users and audit_model.change_in(logs.item_of(change)) == change
+    except (desk_model.Refused, OverflowError):
+        return False
+
+
+def say(maker, line, refused):
+    """Adds the commit of a line; or keeps, of each refusal, a log that ends with a commit that is refused so."""
+    user, change = maker.read(line)
+    try:
+        maker.add(user, change)
+    except desk_model.Refused as why:
+        number = int(str(why).split(" ")[0])
+        if number not in refused:
+            refused[number] = line, maker.publics, unfit(maker, user, change), len(maker.records) + 1, str(why)
+
+
+def unfit(maker, user, change):
+    """A log with a commit at its end whose change the desk refuses, and which has the i-handles of no tree."""
+    version = logs.Version(user, maker.prev, sha256(logs.item_of(change)), bytes(32), [], maker.raised(user, []))
+    return maker.log() + logs.log_bytes([(maker.sign(version), logs.item_of(change))])
+
+
+# ---- a commit with each of its fields another
+
+class Next:
+    """A list of four commits by users 0 and 1 of three, and the commit of a change that comes next: it carries group 0."""
+
+    FIRST = "0 create G0:1 a G0:2 2; 0 write G0:2 0 41; 1 take G0:1 1; 1 create G0:1 b U1:2"
+    CHANGE = "1 create G0:1 c G0:3 3"
+
+    def __init__(self):
+        self.before = script(logs.Maker([logs.key_of(n, width=4) for n in range(3)]), self.FIRST)
+
+    def of(self, line=CHANGE):
+        """A maker of its own, and the version structure and the item of the change of a line."""
+        maker = self.before.copy()
+        user, change = maker.read(line)
+        return maker, maker.version(user, change), logs.item_of(change)
+
+    def log(self, maker, version, item, **how):
+        """The log with the commit of a version structure behind it."""
+        return maker.log() + logs.log_bytes([(maker.sign(version, **how), item)])
+
+    def with_item(self, user, item):
+        """The log with a commit behind it that names these bytes as its item."""
+        maker = self.before.copy()
+        version = logs.Version(user, maker.prev, sha256(item), bytes(32), [], maker.raised(user, []))
+        return self.log(maker, version, item)
+
+
+def flipped(data, at=-1):
+    data = bytearray(data)
+    data[at] ^= 1
+    return bytes(data)
+
+
+def tried(room, next_, changes, wanted):
+    """Whether the next commit is refused so where these changes are made to its version structure, one after the other."""
+    maker, version, item = next_.of()
+    how = {}
+    for change in changes:
+        item = change(maker, version, item, how) or item
+    return is_so(room, maker.publics, next_.log(maker, version, item, **how), (5, wanted))
+
+
+def other_signer(maker, version, item, how):
+    how["signer"] = 0
+
+
+def other_author(maker, version, item, how):
+    version.author = 2
+    version.vector = maker.raised(2, [0])
+
+
+def unknown_author(maker, version, item, how):
+    version.author, how["signer"] = 3, 1
+
+
+def old_leaf(maker, version, item, how):
+    how["leaf"] = 1
+
+
+def other(name, change):
+    """A change to a field of the version structure."""
+    def make(maker, version, item, how):
+        setattr(version, name, change(getattr(version, name), maker))
+    return make
+
+
+def other_item(maker, version, item, how):
+    return flipped(item)
+
+
+def carried(*groups):
+    """Another list of carried groups, each with its i-handle after the change, and the vector that goes with it."""
+    def make(maker, version, item, how):
+        maker.desk.history.append(maker.read(Next.CHANGE))
+        handles = logs.Handles(maker.desk)
+        maker.desk.history.pop()
+        version.groups = [(group, handles.of("G", group)) for group in groups]
+        version.vector = maker.raised(version.author, [group for group in groups if group < 2])
+    return make
+
+
+PREV, VECTOR = other("prev", lambda prev, _: flipped(prev)), other("vector", lambda vector, _: [x + 1 for x in vector])
+HANDLE, CHANGE = other("handle", lambda handle, _: flipped(handle)), other("change", lambda change, _: flipped(change))
+GROUP_HANDLE = other("groups", lambda groups, _: [(group, flipped(handle)) for group, handle in groups])
+# what is changed, each alone and before the ones that are looked at later, and the refusal
+FIELDS = {
+    "signed_by_another": ([other_signer], "33 BadSignature"),
+    "no_author": ([unknown_author], "33 BadSignature"),
+    "another_author": ([other_author], "39 Change 16 NotHolder 1"),
+    "prev": ([PREV], "34 WrongPrev 4"),
+    "prev_of_the_first": ([other("prev", lambda _, maker: sha256(logs.roster_bytes(maker.publics)))], "34 WrongPrev 4"),
+    "prev_of_the_last": ([other("prev", lambda _, maker: sha256(maker.records[2][0]))], "34 WrongPrev 4"),
+    "vector": ([VECTOR], "35 WrongVector"),
+    "vector_as_before": ([other("vector", lambda _, maker: maker.vector)], "35 WrongVector"),
+    "vector_of_the_author_alone": ([other("vector", lambda _, maker: maker.raised(1, []))], "35 WrongVector"),
+    "vector_of_the_group_alone": ([other("vector", lambda _, maker: maker.raised(3, []))], "35 WrongVector"),
+    "vector_too_long": ([other("vector", lambda vector, _: vector + [0])], "35 WrongVector"),
+    "vector_too_short": ([other("vector", lambda vector, _: vector[:-1])], "35 WrongVector"),
+    "vector_at_its_end": ([other("vector", lambda vector, _: [2 ** 64 - 1] * len(vector))], "35 WrongVector"),
+    "group_that_isnt_there": ([carried(0, 2)], "35 WrongVector"),
+    "leaf_used_again": ([old_leaf], "36 KeyReuse"),
+    "digest_of_the_change": ([CHANGE], "5 MissingBlock"),
+    "digest_of_an_earlier_change": ([other("change", lambda _, maker: sha256(maker.records[0][1]))], "39 Change 17 Held"),
+    "item": ([other_item], "5 MissingBlock"),
+    "handle": ([HANDLE], "38 WrongHandle U1"),
+    "handle_of_the_group": ([GROUP_HANDLE], "38 WrongHandle G0"),
+    "no_group": ([carried()], "38 WrongHandle G0"),
+    "a_group_more": ([carried(0, 1)], "38 WrongHandle G1"),
+    "another_group": ([carried(1)], "38 WrongHandle G0"),
+    "signature_before_prev": ([other_signer, PREV], "33 BadSignature"),
+    "prev_before_vector": ([PREV, VECTOR], "34 WrongPrev 4"),
+    "prev_before_group_that_isnt_there": ([PREV, carried(15)], "34 WrongPrev 4"),
+    "vector_before_leaf": ([VECTOR, old_leaf], "35 WrongVector"),
+    "leaf_before_item": ([old_leaf, other_item], "36 KeyReuse"),
+    "item_before_handle": ([CHANGE, HANDLE], "5 MissingBlock"),
+    "change_before_handle": ([other_author, HANDLE], "39 Change 16 NotHolder 1"),
+    "author_before_group": ([HANDLE, carried()], "38 WrongHandle U1"),
+}
+
+# changes that the desk refuses after the first four, and how
+UNFIT = {
+    "1 take U1:2 9": "3 BadNumber", "2 create G0:1 x G1:1 9": "13 NotMember 1", "1 unlink G0:1 b U1:9": "14 NoFile U1:9",
+    "1 write G0:1 0 41": "15 WrongKind G0:1", "0 create G0:1 x U0:3": "16 NotHolder 1", "1 take G0:1 9": "17 Held",
+    "1 rename G0:1 x G0:1 y U1:2": "18 NoName", "1 link G0:1 a U1:2": "19 Exists", "0 truncate G0:2 1048577": "22 TooBig",
+    "1 undo 0": "24 NoOperation 0", "1 undo 5": "24 NoOperation 5", "1 undo 18446744073709551615": "24 NoOperation " + str(2 ** 64 - 1),
+    "1 undo 2": "27 NotAuthor 0", "0 undo 1": "28 Blocked 3", "1 undo 3": "28 Blocked 4",
+}
+
+# bytes that are no item, and the place that is refused
+WRITE, TAKE = "0502" + "010000000002" + "00000000", "0507" + "010000000001"
+LINK = "0504" + "010000000001"
+NO_ITEMS = {
+    "00": 0, "06": 0, "05": 1, "0508": 1, "05ff": 1, "0500" + "00" * 7: 2, "0500" + "00" * 9: 10, "0503": 2,
+    "0507" + "020000000001": 2, "0507" + "004000000001": 2, "0507" + "011000000001": 2, "0507" + "010000000000": 2,
+    "0507" + "0100000f4241": 2, "0507" + "0100000000": 2, TAKE + "00000000": 8, TAKE + "000f4241": 8, TAKE + "000000": 8,
+    TAKE + "00000001" + "00": 12, WRITE: 12, WRITE + "00000000": 12, WRITE + "00010001" + "41" * 65537: 12,
+    WRITE + "00000002" + "41": 16, WRITE + "00000001" + "4141": 17, LINK: 8, LINK + "00": 8, LINK + "012f": 8, LINK + "0100": 8,
+    LINK + "012e": 8, LINK + "022e2e": 8, LINK + "0261": 8, LINK + "0161": 10, LINK + "0161" + "00000000000200": 16,
+    "0501" + "010000000001" + "0161" + "000000000002" + "00000000" + "00": 16,
+    "0501" + "010000000001" + "0161" + "000000000002" + "00000002" + "02": 20,
+    "0501" + "010000000001" + "0161" + "000000000002" + "00000002": 20, "41" * 70000: 0,
+}
+
+
+def fields(room):
+    next_ = Next()
+    yield "the_next_is_taken", is_so(room, next_.before.publics, next_.log(*next_.of()), 5)
+    for name, (changes, wanted) in FIELDS.items():
+        yield name, tried(room, next_, changes, wanted)
+    yield from spellings(room, next_)
+    for line, wanted in UNFIT.items():
+        log = unfit(next_.before, *next_.before.read(line))
+        yield f"change_{line}", is_so(room, next_.before.publics, log, (5, f"39 Change {wanted}"))
+    for item, place in NO_ITEMS.items():
+        log = next_.with_item(1, bytes.fromhex(item))
+        yield f"no_item_{item[:60]}", is_so(room, next_.before.publics, log, (5, f"39 Change 1 Malformed {place}"))
+    for length in (0, 70001):
+        log = next_.with_item(1, b"\5" * length)
+        yield f"item_of_{length}", is_so(room, next_.before.publics, log, (5, "22 TooBig"))
+    keys = [logs.key_of(0, 10, 4, leaves=300)]
+    maker = script(logs.Maker(keys), "0 create G0:1 a U0:2; " + "; ".join(f"0 link G0:1 l{n} U0:2" for n in range(254)))
+    yield "the_most_links", is_so(room, maker.publics, maker.log(), 255)
+    log = unfit(maker, *maker.read("0 link G0:1 l U0:2"))
+    yield "too_many_links", is_so(room, maker.publics, log, (256, "39 Change 23 TooManyLinks"))
+
+
+def spellings(room, next_):
+    """The bytes of a commit are others: signatures, commits of too few and too many bytes, and parts out of their ranges."""
+    maker, version, item = next_.of()
+    commit = maker.sign(version)
+    start = len(version.encode())
+    signature = commit[start + 4:]
+
+    def refused(bytes_, wanted):
+        return is_so(room, maker.publics, maker.log() + logs.log_bytes([(bytes_, item)]), (5, wanted))
+
+    for at in (0, 4, 8, 40, 2184, 2188, -1):
+        yield f"signature_at_{at}", refused(commit[:start + 4] + flipped(signature, at), "33 BadSignature")
+    for other_ in (signature + b"\0", signature[:-1], signature[:1], signature * 3):
+        yield f"signature_of_{len(other_)}", refused(logs.commit_of(version, other_), "33 BadSignature")
+    for length in [*range(start + 80), *range(start + 80, len(commit), 97), len(commit) - 1]:
+        place = next(at for at in parts_of(version, commit) if at[1] > length)[0]
+        yield f"commit_of_{length}", refused(commit[:length], f"1 Malformed {place}")
+    yield "commit_of_a_byte_more", refused(commit + b"\0", f"1 Malformed {len(commit)}")
+    for name, at, part in (
+            ("later_format", 0, b"SV02"), ("author_out_of_range", 4, b"\x40"), ("group_out_of_range", 102, b"\x10"),
+            ("one_number", 135, b"\1"), ("too_many_numbers", 135, b"\x51"), ("no_signature", start, bytes(4)),
+            ("too_long_a_signature", start, (9325).to_bytes(4, "big"))):
+        yield name, refused(commit[:at] + part + commit[at + len(part):], f"1 Malformed {at}")
+    for groups in ((0, 0), (1, 0), (0, 5, 5)):
+        version.groups = [(group, bytes(32)) for group in groups]
+        place = 102 + 33 * (len(groups) - 1)
+        yield f"groups_{groups}", refused(maker.sign(version), f"1 Malformed {place}")
+
+
+def parts_of(version, commit):
+    """The first place of each part of a commit, and the place behind it."""
+    lengths = [4, 1, 32, 32, 32, 1] + [1, 32] * len(version.groups) + [1] + [8] * len(version.vector) + [4, len(commit)]
+    at = 0
+    for length in lengths:
+        yield at, at + length
+        at += length
+
+
+# ---- bytes of a log, and commits in another order
+
+def short():
+    """A log of two commits, of which the second carries a group: where each of its lengths stands, and where its records end."""
+    maker = script(logs.Maker([logs.key_of(n) for n in range(2)]), "0 create G0:1 a U0:2; 1 take G0:1 1")
+    places, ends, at = [], [], 0
+    for record in maker.records:
+        for part in record:
+            places.append(at)
+            at += 4 + len(part)
+        ends.append(at)
+    return maker.publics, maker.log(), places, ends
+
+
+def all_of(room, publics, wanted):
+    """Those logs of which the program says something else than is wanted: pairs of a name and of what it says."""
+    with concurrent.futures.ThreadPoolExecutor(RUNS_AT_ONCE) as pool:
+        said = pool.map(lambda it: room.audit(publics, it[1]), wanted)
+        return [(name, is_) for (name, _, should), is_ in zip(wanted, said) if is_ != should]
+
+
+def each_byte(room):
+    publics, log, places, ends = short()
+    cut = []
+    for length in range(len(log) + 1):
+        taken = sum(end <= length for end in ends)
+        place = max(at for at in places if at <= length)
+        if length in (0, *ends):
+            wanted = f"ok {taken}\n", 0
+        else:
+            wanted = f"at {taken + 1}\nno 1 Malformed {place}\n", 1
+        cut.append((length, log[:length], wanted))
+    wrong = all_of(room, publics, cut)
+    yield f"cut_at_each_byte: {wrong[:3]}", wrong == []
+    changed = []
+    for at, byte in enumerate(log):
+        number = 1 + sum(end <= at for end in ends)
+        start = places[2 * number - 1] - 1292
+        if start <= at < start + 1292:
+            wanted = f"at {number}\nno 33 BadSignature\n", 1
+            changed.append((at, log[:at] + bytes([byte ^ 1 << at % 8]) + log[at + 1:], wanted))
+            continue
+        for to in {0, 255, byte ^ 1, byte ^ 128} - {byte}:
+            other_ = log[:at] + bytes([to]) + log[at + 1:]
+            wanted = audit_model.audit(publics, other_)
+            changed.append(((at, to), other_, wanted if wanted[0].startswith(f"at {number}\n") else None))
+    wrong = all_of(room, publics, changed)
+    yield f"each_byte_changed: {wrong[:3]}", wrong == []
+
+
+def orders(room):
+    """Commits are left out, come twice, or in another order; and logs of other users."""
+    maker = script(logs.Maker([logs.key_of(n, width=4) for n in range(2)]), "; ".join(logs.STORY.splitlines()))
+    publics, records = maker.publics, maker.records
+    count = len(records)
+    for n in range(count):
+        log = logs.log_bytes(records[:n] + records[n + 1:])
+        yield f"without_{n + 1}", is_so(room, publics, log, count - 1 if n == count - 1 else (n + 1, f"34 WrongPrev {n}"))
+        log = logs.log_bytes(records[:n + 1] + records[n:])
+        yield f"twice_{n + 1}", is_so(room, publics, log, (n + 2, f"34 WrongPrev {n + 1}"))
+        for m in range(n + 1, count):
+            log = logs.log_bytes(records[:n] + [records[m]] + records[n + 1:m] + [records[n]] + records[m + 1:])
+            yield f"{m + 1}_for_{n + 1}", is_so(room, publics, log, (n + 1, f"34 WrongPrev {n}"))
+    yield "users_exchanged", is_so(room, publics[::-1], maker.log(), (1, "33 BadSignature"))
+    yield "a_user_more", is_so(room, publics + publics[:1], maker.log(), (1, "34 WrongPrev 0"))
+    yield "a_user_fewer", is_so(room, publics[:1], maker.log(), (1, "34 WrongPrev 0"))
+    items = [record[1] for record in records]
+    log = logs.log_bytes(list(zip((record[0] for record in records), items[1:] + items[:1])))
+    yield "items_of_the_next", is_so(room, publics, log, (1, "5 MissingBlock"))
+    again = script(logs.Maker(maker.keys), "0 create G0:1 a U0:2; 0 write U0:2 0 41; 0 write U0:2 0 41")
+    log = logs.log_bytes([*again.records[:2], (again.records[2][0], b"junk")])
+    yield "an_item_that_came_before", is_so(room, publics, log, 3)
+    log = logs.log_bytes([(records[0][0], items[1]), *records])
+    yield "an_item_too_late", is_so(room, publics, log, (1, "5 MissingBlock"))
+
+
+# ---- faults and statuses
+
+def tells(result, *parts):
+    """Whether a run ended with status 1 and a line that has these parts, and printed nothing."""
+    printed, told, status = result
+    return (printed, status) == ("", 1) and told.count("\n") == 1 and all(part in told for part in ("sundr: ", *parts))
+
+
+def faults(room):
+    publics, log, _, _ = short()
+    key, right = room.file(publics[0], ".pub"), room.file(log)
+    lines = {
+        "no_words": [], "no_log": [key], "no_key": ["--log", right], "a_log_of_no_name": [key, "--log"],
+        "two_logs": ["--log", right, "--log", right, key], "another_option": ["--log", right, "--users", "1", key],
+        "too_many_keys": ["--log", right, *[key] * 65], "keys_after_no_log": ["--log", key],
+    }
+    for name, words in lines.items():
+        printed, told, status = run(["audit", *words])
+        yield name, (printed, status) == ("", 2) and told != ""
+    yield "as_many_keys_as_can_be", run(room.words(publics[:1] * 64, room.file(b""))) == ("ok 0\n", "", 0)
+    yield "the_log_last", run(["audit", *(room.file(public, ".pub") for public in publics), f"--log={right}"]) == ("ok 2\n", "", 0)
+    bad = {
+        "short": publics[0][:55], "long": publics[0] + b"\0", "empty": b"", "of_text": publics[0].hex().encode(),
+        "of_lms_4": b"\0\0\0\4" + publics[0][4:], "of_lms_10": b"\0\0\0\12" + publics[0][4:],
+        "of_ots_0": publics[0][:7] + b"\0" + publics[0][8:], "of_ots_5": publics[0][:7] + b"\5" + publics[0][8:],
+    }
+    for name, data in bad.items():
+        refused = room.file(data, ".bad")
+        yield f"a_key_{name}", tells(run(["audit", "--log", "/nowhere", key, refused]), refused, "BadKey")
+    for name, path, why in (("no_key_there", "/nowhere", "No such file"), ("a_folder_as_key", "/", "Is a directory")):
+        yield name, tells(run(["audit", "--log", "/nowhere/log", key, path]), f"{path}:", why)
+    yield "a_key_without_end", tells(run(["audit", "--log", right, "/dev/zero"]), "/dev/zero", "BadKey")
+    yield "the_first_bad_key", tells(run(["audit", "--log", right, "/nowhere", "/"]), "/nowhere")
+    yield "no_log_there", tells(run(["audit", "--log", "/nowhere", key]), "/nowhere:", "No such file")
+    yield "a_folder_as_log", tells(run(["audit", "--log", "/", key]), "/:", "Is a directory")
+    yield from streams(room, publics, log)
+
+
+def streams(room, publics, log):
+    words, right = room.words(publics, room.file(log)), room.file(log)
+    with open("/dev/full", "w") as full:
+        _, told, status = run(words, stdout=full)
+        yield "a_full_disk", status == 1 and told.startswith("sundr: writing") and "No space left" in told
+    reader, writer = os.pipe()
+    os.close(reader)
+    yield "a_reader_gone", run(words, stdout=writer)[1:] == ("", 1)
+    os.close(writer)
+    by_pipe = ["bash", "-c", '"$0" audit --log <(cat "$1") "${@:2}"', PROGRAM, right, *words[3:]]
+    ended = subprocess.run(by_pipe, capture_output=True, text=True)
+    yield "a_log_by_a_pipe", (ended.stdout, ended.stderr, ended.returncode) == ("ok 2\n", "", 0)
+    yield "a_log_without_end", run(["audit", "--log", "/dev/zero", *words[3:]]) == ("at 1\nno 22 TooBig\n", "", 1)
+    little = {"preexec_fn": lambda: resource.setrlimit(resource.RLIMIT_AS, (LITTLE_MEMORY, LITTLE_MEMORY))}
+    yield "little_memory", run(words, **little) == ("ok 2\n", "", 0)
+    behind = 4 + 1_431  # the first commit with its number
+    for name, other_, wanted in (
+            ("a_commit_past_the_end", GONE, "at 1\nno 1 Malformed 0\n"),
+            ("more_past_the_end", GONE + log, "at 1\nno 1 Malformed 0\n"),
+            ("an_item_past_the_end", log + log[:behind] + GONE + log, None)):
+        wanted = wanted or f"at 3\nno 1 Malformed {len(log) + behind}\n"
+        yield name, run(room.words(publics, room.file(other_)), **little) == (wanted, "", 1)
+    yield "help", run(["audit", "--help"])[::2] == (run(["audit", "--help"])[0], 0) and "--log" in run(["audit", "--help"])[0]
+
+
+def example(room):
+    """The log of examples/audit is the one that logs.py makes, and its script prints what it should."""
+    folder = f"{TOP}/examples/audit"
+    logs.write_example(room.at)
+    for name in ("log", "0.pub", "1.pub"):
+        made, stored = (open(f"{at}/{name}", "rb").read() for at in (room.at, folder))
+        yield f"example_{name}", made == stored
+    ended = subprocess.run([f"{folder}/run", PROGRAM], capture_output=True, text=True)
+    yield "example_run", (ended.stdout, ended.stderr, ended.returncode) == (open(f"{folder}/run.out").read(), "", 0)
+
+
+def main():
+    results = {}
+    if not os.path.exists(PROGRAM):
+        print("audit: the program isn't built: run ./sundr first")
+        print("0 passed, 1 failed")
+        return 1
+    for part in (keys, good, by_chance, fields, each_byte, orders, faults, example):
+        with tempfile.TemporaryDirectory() as at:
+            results.update(part(Room(at)))
+    for name, right in results.items():
+        if not right:
+            print(f"audit: {name}")
+    passed = sum(results.values())
+    print(f"{passed} passed, {len(results) - passed} failed")
+    return 0 if passed == len(results) else 1
+
+
+if __name__ == "__main__":
+    sys.exit(main())

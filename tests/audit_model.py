@@ -1,0 +1,186 @@
+"""A second audit, written from docs/FORMATS.md and docs/DEFINITIONS.md alone, in the plainest way: it reads a log and says what
+`sundr audit` prints. Signatures are checked by lms.py, changes and i-handles by the second desk of desk_model.py.
+"""
+import functools
+
+import desk_model
+import lms
+import logs
+from desk_model import Refused, demand, sha256
+
+LONGEST_ITEM = 70000
+LONGEST_SIGNATURE = 9324
+MOST_NUMBERS = 80
+
+# A signature costs a few thousand hashes, and most logs here differ from one another in one commit.
+verify = functools.lru_cache(maxsize=4096)(lms.verify)
+
+
+class Reader:
+    """Reads parts one after the other. Each is refused at its first byte, where it is cut or isn't as it should be."""
+
+    def __init__(self, data):
+        self.data, self.at = data, 0
+
+    def part(self, length, is_good=lambda part: True):
+        part = self.data[self.at:self.at + length]
+        demand(len(part) == length and is_good(part), f"1 Malformed {self.at}")
+        self.at += length
+        return part
+
+    def number(self, length, first=0, last=None):
+        last = 256 ** length - 1 if last is None else last
+        return int.from_bytes(self.part(length, lambda part: first <= int.from_bytes(part, "big") <= last), "big")
+
+    def file(self):
+        part = self.part(6, lambda part: part[0] <= 1 and desk_model.is_file_id(file_in(part)))
+        return file_in(part)
+
+    def name(self):
+        length = self.data[self.at:self.at + 1]
+        return self.part(1 + (length[0] if length else 0), lambda part: desk_model.is_name(part[1:]))[1:]
+
+    def end(self):
+        demand(self.at == len(self.data), f"1 Malformed {self.at}")
+
+
+def file_in(part):
+    return "UG"[part[0]], part[1], int.from_bytes(part[2:], "big")
+
+
+def change_in(item):
+    """The change of an item."""
+    reader = Reader(item)
+    reader.part(1, lambda part: part == b"\5")
+    words = ("undo", "create", "write", "truncate", "link", "rename", "unlink", "take")
+    word = words[reader.number(1, 0, len(words) - 1)]
+    change = globals().get(word + "_in", link_in)(word, reader)
+    reader.end()
+    return change
+
+
+def undo_in(word, reader):
+    return word, reader.number(8)
+
+
+def create_in(word, reader):
+    directory, name, file = reader.file(), reader.name(), reader.file()
+    body = reader.number(4, 1, 1000000)
+    return word, ("create", "mkdir")[reader.number(1, 0, 1)], directory, name, file, body
+
+
+def write_in(word, reader):
+    file, off = reader.file(), reader.number(4)
+    return word, file, off, reader.part(reader.number(4, 1, desk_model.LARGEST_WRITE))
+
+
+def truncate_in(word, reader):
+    return word, reader.file(), reader.number(4)
+
+
+def link_in(word, reader):
+    """A link or an unlink."""
+    return word, reader.file(), reader.name(), reader.file()
+
+
+def rename_in(word, reader):
+    return word, reader.file(), reader.name(), reader.file(), reader.name(), reader.file()
+
+
+def take_in(word, reader):
+    return word, reader.file(), reader.number(4, 1, 1000000)
+
+
+def commit_in(data):
+    """The version structure of a commit, and its signature."""
+    reader = Reader(data)
+    reader.part(4, lambda part: part == b"SV01")
+    author = reader.number(1, 0, 63)
+    prev, change, handle = reader.part(32), reader.part(32), reader.part(32)
+    groups, least = [], 0
+    for _ in range(reader.number(1)):
+        group = reader.number(1, least, 15)
+        groups.append((group, reader.part(32)))
+        least = group + 1
+    vector = [reader.number(8) for _ in range(reader.number(1, 2, MOST_NUMBERS))]
+    signature = reader.part(reader.number(4, 1, LONGEST_SIGNATURE))
+    reader.end()
+    return logs.Version(author, prev, change, handle, groups, vector), signature
+
+
+class View:
+    """What a client holds. It takes a commit, or raises why it refuses it."""
+
+    def __init__(self, publics):
+        self.publics = publics
+        self.items = {}
+        self.maker = logs.Maker([Unsigning(public) for public in publics])
+        self.last_leaf = {}
+
+    def put(self, item):
+        demand(1 <= len(item) <= LONGEST_ITEM, "22 TooBig")
+        self.items[sha256(item)] = item
+
+    def accept(self, commit):
+        version, signature = commit_in(commit)
+        self.check_next(version, signature)
+        demand(version.change in self.items, "5 MissingBlock")
+        change, wanted = self.within(version)
+        demand(version.handle == wanted.handle, f"38 WrongHandle U{version.author}")
+        self.check_groups(dict(version.groups), dict(wanted.groups))
+        self.maker.take(version.author, change, version, commit)
+        self.last_leaf[version.author] = int.from_bytes(signature[:4], "big")
+
+    def check_next(self, version, signature):
+        is_user = version.author < len(self.publics)
+        is_signed = is_user and verify(self.publics[version.author], version.encode(), signature)
+        demand(is_signed, "33 BadSignature")
+        demand(version.prev == self.maker.prev, f"34 WrongPrev {len(self.maker.records)}")
+        carried = [group for group, _ in version.groups]
+        is_next = set(carried) <= {0, 1} and version.vector == self.maker.raised(version.author, carried)
+        demand(is_next, "35 WrongVector")
+        demand(int.from_bytes(signature[:4], "big") > self.last_leaf.get(version.author, -1), "36 KeyReuse")
+
+    def within(self, version):
+        """The change that a commit names, and the version structure that it should have then."""
+        try:
+            change = change_in(self.items[version.change])
+            return change, self.maker.version(version.author, change)
+        except Refused as why:
+            raise Refused(f"39 Change {why}") from None
+
+    def check_groups(self, carried, wanted):
+        for group in range(16):
+            demand(carried.get(group) == wanted.get(group), f"38 WrongHandle G{group}")
+
+
+class Unsigning:
+    """A public key in the place of a key that signs."""
+
+    def __init__(self, public):
+        self.bytes = public
+
+    def public(self):
+        return self.bytes
+
+
+def piece(log, at):
+    """The bytes behind the length at a place, and the place after them."""
+    length = int.from_bytes(log[at:at + 4], "big")
+    demand(at + 4 <= len(log) and at + 4 + length <= len(log), f"1 Malformed {at}")
+    return log[at + 4:at + 4 + length], at + 4 + length
+
+
+def audit(publics, log):
+    """What an audit of the log prints, and its status."""
+    view, at, number = View(publics), 0, 0
+    while at < len(log):
+        number += 1
+        try:
+            commit, at = piece(log, at)
+            item, at = piece(log, at)
+            view.put(item)
+            view.accept(commit)
+        except Refused as why:
+            return f"at {number}\nno {why}\n", 1
+    return f"ok {number}\n", 0
