@@ -15,7 +15,7 @@ use Rattle.su_bytes.specs.declared.file_ids.FileId.TheVariants as file
 use Rattle.su_bytes.specs.declared.file_ids.Kind.{Kind}
 use Rattle.su_bytes.specs.declared.file_ids.Kind.TheVariants.{File, Dir}
 use Rattle.su_format.specs.Format.{part, IsLawful}
-use Rattle.su_format.specs.Part.{u8_bytes, u16_bytes, u32_bytes, u64_bytes, principal_bytes, name_bytes, kind_bytes, AnyKind, u8_part, u16_part, u32_part, u64_part, bytes_part, digest_part, mark_part, user_part, group_part, inum_part, principal_part, file_id_part, name_part, kind_part}
+use Rattle.su_format.specs.Part.{u8_bytes, u16_bytes, u32_bytes, u64_bytes, principal_bytes, name_bytes, kind_bytes, AnyKind, u8_part, u16_part, u32_part, u64_part, bytes_part, rest_part, digest_part, mark_part, user_part, group_part, inum_part, principal_part, file_id_part, name_part, kind_part}
 use Rattle.su_format.specs.Reading.{Reading, Took, Takes}
 use Rattle.su_format.proofs.Formats.{part_lawful, another, too_short, missing}
 use Rattle.su_bytes.specs.declared.refusals.Refusal.{Refusal}
@@ -60,6 +60,14 @@ u64_lawful = part_lawful (λ n. n < 2 ^ 64) u64_bytes u64_told
 pub bytes_lawful : (n : ℕ) → IsLawful (bytes_part n)
 unfolding bytes_part
 bytes_lawful n = part_lawful (λ bytes. length bytes ≡ n) (λ bytes. bytes) (λ a b rest behind ha hb e. same_fronts a rest b behind (ha ∙ sym hb) e)
+
+pub rest_lawful : IsLawful rest_part
+unfolding rest_part
+rest_lawful = record {
+  told = λ bytes a b rest behind x y. (x.0 ∙ sym y.0, x.1 ∙ sym y.1);
+  apart = λ bytes a rest behind x y. y;
+  one_place = λ bytes rest behind x y. absurd x;
+}
 
 pub digest_lawful : IsLawful digest_part
 unfolding digest_part

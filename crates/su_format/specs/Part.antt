@@ -40,6 +40,13 @@ u64_part = part (λ n. n < 2 ^ 64) u64_bytes
 unfoldable pub bytes_part : ℕ → Format (List ℕ)
 bytes_part n = part (λ bytes. length bytes ≡ n) (λ bytes. bytes)
 
+-- all bytes that are left
+unfoldable pub rest_part : Format (List ℕ)
+rest_part = record {
+  Begins = λ bytes a rest. (a ≡ bytes) × (rest ≡ []);
+  Fails = λ bytes rest. ⊥;
+}
+
 -- a digest: 32 bytes
 unfoldable pub digest_part : Format (List ℕ)
 digest_part = bytes_part 32

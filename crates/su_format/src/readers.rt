@@ -1,6 +1,6 @@
 // Bytes are read part by part.
 ghost use Rattle.std.specs.Prelude.{◌≡◌, ◌≢◌, ◌⊎◌, ◌<◌, ◌≤◌, ◌^◌, IfOk, IfErr, OnOk, OnErr, IfSome, IfNone, [], length, true};
-ghost use Rattle.su_format.specs.Part.{u8_part, u16_part, u32_part, u64_part, bytes_part, digest_part, mark_part, user_part, group_part, inum_part, principal_part, file_id_part, name_part, kind_part, principal_bytes, kind_bytes};
+ghost use Rattle.su_format.specs.Part.{u8_part, u16_part, u32_part, u64_part, bytes_part, rest_part, digest_part, mark_part, user_part, group_part, inum_part, principal_part, file_id_part, name_part, kind_part, principal_bytes, kind_bytes};
 ghost use Rattle.su_bytes.specs.Principal.{is_principal};
 ghost use Rattle.su_bytes.specs.FileId.{is_file_id, file_id_bytes};
 ghost use Rattle.su_bytes.specs.declared.principals.Principal.{Principal as Principal_};
@@ -83,6 +83,18 @@ impl<'a> Reader<'a> {
         self.left = left;
         self.place += count;
         Ok(taken)
+    }
+
+    /// Takes all bytes that are left.
+    #[tactic(auto, unfolding(crate::specs::Part::rest_part))]
+    pub fn take_rest(&mut self) -> &'a [u8]
+        ensures { Took rest_part self.old result.now self.new }
+    {
+        let taken = self.left;
+        let (_, left) = taken.split_at(taken.len());
+        self.left = left;
+        self.place += taken.len();
+        taken
     }
 
     // Takes N bytes, if there are so many.

@@ -1,0 +1,2 @@
+mod TaggedLemmas
+mod RequestLemmas

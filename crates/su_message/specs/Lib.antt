@@ -1,0 +1,3 @@
+pub mod RequestTag
+pub mod Tagged
+pub mod Request
