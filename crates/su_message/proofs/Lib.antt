@@ -1,2 +1,4 @@
 mod TaggedLemmas
+mod LastNumbersLemmas
 mod RequestLemmas
+mod ReplyLemmas

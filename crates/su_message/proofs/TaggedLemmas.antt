@@ -1,11 +1,11 @@
 -- Messages of a tag and its fields.
-use Rattle.std.proofs.Common.{◌≡◌, ◌≢◌, ◌∙◌, ℕ, ◌+◌, ◌⊎◌, inl, inr, List, [], ◌∷◌, ◌++◌, length, refl, sym, ap, subst, arith, slice_index}
+use Rattle.std.proofs.Common.{◌≡◌, ◌≢◌, ◌∙◌, ℕ, ◌⊎◌, inl, inr, List, [], ◌∷◌, ◌++◌, length, refl, sym, ap, subst, arith}
 use Rattle.std.specs.Prelude.{Result, Ok, Err}
 use Rattle.su_bytes.specs.declared.refusals.Refusal.{Refusal}
 use Rattle.su_bytes.specs.declared.refusals.Refusal.TheVariants.{Malformed, NoMemory, UnknownTag}
 use Rattle.su_format.specs.Format.{Format, part, whole, IsLawful}
 use Rattle.su_format.specs.Part.{bytes_part}
-use Rattle.su_format.specs.Reading.{Reading, start, Took, Takes, IsRefusedAt}
+use Rattle.su_format.specs.Reading.{Reading, start, Took, Takes}
 use Rattle.su_format.proofs.Public.{whole_lawful}
 use Rattle.su_message.specs.Tagged.{behind_tag, ReadsTagged}
 

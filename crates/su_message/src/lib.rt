@@ -2,9 +2,16 @@
 #![tactic(auto)]
 
 mod byte_strings;
+mod digests;
+mod last_numbers;
+mod replies;
+mod reply_tags;
 mod request_tags;
 mod requests;
 
 pub use byte_strings::Bytes;
+pub use last_numbers::LastNumbers;
+pub use replies::Reply;
+pub use reply_tags::ReplyTag;
 pub use request_tags::RequestTag;
 pub use requests::Request;

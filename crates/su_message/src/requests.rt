@@ -1,5 +1,5 @@
 // Requests, in bytes.
-ghost use Rattle.std.specs.Prelude.{◌≡◌, ◌⊎◌, ◌++◌, Ok, Err, IfOk, IfErr, OnOk, length};
+ghost use Rattle.std.specs.Prelude.{◌≡◌, ◌⊎◌, ◌++◌, Ok, Err, IfOk, IfErr, OnOk};
 ghost use Rattle.su_bytes.specs.declared.refusals.Refusal.TheVariants.{NoMemory};
 ghost use Rattle.su_format.specs.Reading.{Takes};
 ghost use Rattle.su_message.specs.declared.requests.Request.{Request as Request_};
@@ -9,6 +9,7 @@ ghost use Rattle.su_message.specs.Tagged.{ReadsTagged};
 ghost use Rattle.su_message.specs.Request.{IsRequest, field_bytes, request_bytes, request_fields};
 
 use crate::byte_strings::Bytes;
+use crate::digests::put_digest;
 use crate::request_tags::RequestTag;
 use std::alloc::{AllocError, Global};
 use su_bytes::{Digest, FileId, Refusal};
@@ -144,14 +145,4 @@ fn read_get(reader: &mut Reader<'_>) -> Result<Request, Refusal>
     let _file: Option<FileId> = None;
     let digest = reader.take_digest()?;
     Ok(Request::Get(digest))
-}
-
-/// Writes a digest.
-fn put_digest(writer: &mut Writer, digest: &Digest) -> Result<(), AllocError>
-    ensures written { OnOk result (writer.new ≡ writer.old ++ digest.now) }
-    ensures meant { length digest.now ≡ 32 }
-{
-    // its length (docs/ARCHITECTURE.md, "Forms the kit wants")
-    let _bytes: &[u8] = digest.as_bytes();
-    writer.put_digest(digest)
 }
