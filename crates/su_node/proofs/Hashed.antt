@@ -1,5 +1,5 @@
 -- The digests of blocks by their numbers, after a change of the blocks.
-use Rattle.std.proofs.Common.{◌≡◌, ℕ, ◌+◌, ◌<◌, List, [], ◌∷◌, ◌++◌, map, set, take, length, sym, ap, ◌∙◌, arith, subst}
+use Rattle.std.proofs.Common.{◌≡◌, ℕ, ◌+◌, ◌<◌, ◌≤◌, List, [], ◌∷◌, ◌++◌, map, set, take, length, sym, ap, ◌∙◌, arith, subst}
 use Rattle.std.specs.Ordering.{nat_cmp}
 use Rattle.std.specs.List.{enumerate_from, range_with_len, take-map}
 use Rattle.std.specs.FinMap.Entries.{put}
@@ -8,9 +8,9 @@ use Rattle.sha2.specs.Sha256.{sha256}
 use Rattle.su_hash_tree.specs.Seen.{without}
 use Rattle.su_node.specs.Field.{block}
 use Rattle.su_node.specs.Digest.{block_item, block_digests}
-use Rattle.su_node.specs.Stored.{AreBlocksOf, digests_of, HasNumber}
+use Rattle.su_node.specs.Stored.{AreBelow, AreBlocksOf, digests_of, HasNumber}
 use Rattle.su_node.proofs.Contents.{count_is}
-use Rattle.su_node.proofs.Numbered.{numbered-each, numbered-pop, numbered-push, numbered-set, numbered-there}
+use Rattle.su_node.proofs.Numbered.{numbered-below, numbered-each, numbered-pop, numbered-push, numbered-set, numbered-there}
 
 abbrev made : List ℕ → List ℕ
 made b = sha256 (block_item b)
@@ -20,6 +20,12 @@ module _ (blocks : List (List ℕ)) (pairs : List (ℕ × List ℕ)) (is : pairs
   hashed-there n h =
       let l = length-map blocks made in
       subst (HasNumber n) (sym is) (numbered-there 0 n n (map made blocks) (omega arith) (omega (arith, l, h)))
+
+  -- the numbers of so many blocks
+  pub hashed-below : (bound : ℕ) → length blocks ≤ bound → AreBelow bound pairs
+  hashed-below bound h =
+      let l = length-map blocks made in
+      subst (AreBelow bound) (sym is) (numbered-below bound 0 (map made blocks) (omega (arith, l, h)))
 
   -- one block changed
   pub hashed-set : (n : ℕ) (b : List ℕ) → n < length blocks → put nat_cmp n (made b) pairs ≡ digests_of (set blocks n b)

@@ -47,6 +47,11 @@ module _ {X : Type 0} where
   numbered-pop k q zero (x ∷ y ∷ xs) e h = absurd (omega arith)
   numbered-pop k q (suc n) (x ∷ xs) e h = rw (more q k (omega arith)) (ap (λ es. (k, x) ∷ es) (numbered-pop (k + 1) q n xs (omega arith) (omega arith)))
 
+-- numbers one after another are below a bound that they don't reach
+pub numbered-below : (bound k : ℕ) (xs : List (List ℕ)) → k + length xs ≤ bound → AreBelow bound (enumerate_from k xs)
+numbered-below bound k [] h = tt
+numbered-below bound k (x ∷ xs) h = (omega arith, numbered-below bound (k + 1) xs (omega arith))
+
 -- the same values, each told by its number
 pub numbered-each : {X Y : Type 0} (d : X → Y) (f : ℕ → Y) (none : X) (k : ℕ) (xs : List X) → ((i : ℕ) → i < length xs → d (get_or xs i none) ≡ f (k + i))
     → enumerate_from k (map d xs) ≡ map (λ n. (n, f n)) (range_with_len k (length xs))

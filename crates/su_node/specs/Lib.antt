@@ -6,3 +6,4 @@ pub mod InodeChange
 pub mod Stored
 pub mod Code
 pub mod View
+pub mod Cost

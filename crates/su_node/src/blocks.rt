@@ -3,6 +3,7 @@ ghost use Rattle.std.specs.Prelude.{◌≡◌, ◌+◌, ◌-◌, ◌*◌, ◌<�
 ghost use Rattle.su_node.specs.InodeChange.{with_size, with_bytes_at};
 ghost use Rattle.su_node.specs.Inode.{within};
 ghost use Rattle.su_node.specs.Digest.{block_count, block_digests};
+ghost use Rattle.su_node.specs.Cost.{IsSmall, blocks_grown, blocks_touched, few_blocks, hashes_of_blocks, hashes_of_write};
 ghost use Rattle.su_node.specs.Stored.{AreZeroBlocks, with_padded};
 ghost use Rattle.su_tree.specs.Digest.{digest};
 ghost use Rattle.su_tree.specs.Number.{numbers};
@@ -93,20 +94,26 @@ impl Blocks {
         })
     }
 
-    /// Writes bytes from an offset on, and fills a gap before them with zeros. Takes no memory
-    /// where the file doesn't grow; where there is none, it changes nothing.
-    pub(crate) fn write_at(&mut self, off: u32, bytes: &[u8]) -> Result<(), AllocError>
+    /// Writes bytes from an offset on, and fills a gap before them with zeros. Returns how many
+    /// hashes it made. Takes no memory where the file doesn't grow; where there is none, it changes
+    /// nothing.
+    pub(crate) fn write_at(&mut self, off: u32, bytes: &[u8]) -> Result<u64, AllocError>
         requires { off + length bytes.now < 2 ^ 32 }
         ensures ok { OnOk result (self.new ≡ with_bytes_at off bytes.now self.old) }
         ensures succeeds { off + length bytes.now ≤ length self.old → IsOk result }
         ensures err { OnErr result (self.new ≡ self.old) }
+        ensures hashes { IfOk result (λ made. let size = length self.old in
+            IsSmall size → IsSmall (off + length bytes.now)
+            → made ≤ hashes_of_write size off (length bytes.now)) }
     {
         let end_ = off + bytes.len() as u32;
-        if self.size < end_ {
-            self.grow(end_)?;
-        }
-        self.overwrite(off as usize, bytes);
-        Ok(())
+        let grown = if self.size < end_ {
+            self.grow(end_)?
+        } else {
+            0
+        };
+        let written = self.overwrite(off as usize, bytes);
+        Ok(grown.saturating_add(written))
     }
 
     /// Cuts the file to a size, or fills it with zeros up to it. Takes no memory where the file
@@ -118,10 +125,10 @@ impl Blocks {
     {
         if size <= self.size {
             self.cut(size);
-            Ok(())
         } else {
-            self.grow(size)
+            self.grow(size)?;
         }
+        Ok(())
     }
 
     /// Cuts the file to its first bytes.
@@ -138,21 +145,27 @@ impl Blocks {
         self.size = size;
     }
 
-    /// Adds zeros up to a size. Where there is no memory, it changes nothing.
-    fn grow(&mut self, size: u32) -> Result<(), AllocError>
+    /// Adds zeros up to a size. Returns how many hashes it made. Where there is no memory, it
+    /// changes nothing.
+    fn grow(&mut self, size: u32) -> Result<u64, AllocError>
         requires { length self.old ≤ size }
         ensures ok { OnOk result (self.new ≡ with_size size self.old) }
         ensures err { OnErr result (self.new ≡ self.old) }
+        ensures hashes { IfOk result (λ made. IsSmall size
+            → made ≤ hashes_of_blocks (blocks_grown (length self.old) size)) }
     {
         let count = self.blocks.len();
         let added = zero_blocks(self.alloc, count, size as usize)?;
-        self.blocks.append(added)?;
-        if let Err(refused) = pad(&mut self.blocks, count, size as usize) {
-            self.blocks.truncate(count);
-            return Err(refused);
-        }
+        let appended = self.blocks.append(added)?;
+        let padded = match pad(&mut self.blocks, count, size as usize) {
+            Ok(made) => made,
+            Err(refused) => {
+                self.blocks.truncate(count);
+                return Err(refused);
+            }
+        };
         self.size = size;
-        Ok(())
+        Ok(appended.saturating_add(padded))
     }
 
     /// Returns the digest of the blocks by their numbers. It makes no hash.
@@ -162,21 +175,27 @@ impl Blocks {
         self.blocks.digest()
     }
 
-    /// Writes bytes over those from an offset on.
-    fn overwrite(&mut self, off: usize, bytes: &[u8])
+    /// Writes bytes over those from an offset on. Returns how many hashes it made.
+    fn overwrite(&mut self, off: usize, bytes: &[u8]) -> u64
         requires { off + length bytes.now ≤ length self.old }
-        ensures { self.new ≡ with_bytes_at off bytes.now self.old }
+        ensures value { self.new ≡ with_bytes_at off bytes.now self.old }
+        ensures hashes { IsSmall (length self.old)
+            → result ≤ hashes_of_blocks (blocks_touched off (length bytes.now)) }
     {
         // names the size for the prover (docs/ARCHITECTURE.md, "Forms the kit wants")
         let _size = self.size;
         let end_ = off + bytes.len();
+        let mut hashes: u64 = 0;
         for number in off / BLOCK_SIZE..count_for(end_) {
             let first = off.max(number * BLOCK_SIZE);
             let last = end_.min((number + 1) * BLOCK_SIZE);
             let part = &bytes[first - off..last - off];
-            self.blocks
+            let made = self
+                .blocks
                 .overwrite(number, first - number * BLOCK_SIZE, part);
+            hashes = hashes.saturating_add(made);
         }
+        hashes
     }
 }
 
@@ -203,16 +222,20 @@ fn zero_blocks(alloc: Global, first: usize, size: usize) -> Result<Vec<Block>, A
 }
 
 /// Fills the last of the first blocks, if there is one, with zeros up to where it is full or the
-/// file has that size. Where there is no memory, it changes nothing.
-fn pad(blocks: &mut HashedBlocks, count: usize, size: usize) -> Result<(), AllocError>
+/// file has that size. Returns how many hashes it made. Where there is no memory, it changes
+/// nothing.
+fn pad(blocks: &mut HashedBlocks, count: usize, size: usize) -> Result<u64, AllocError>
     requires there { count ≤ length blocks.old }
     requires within { BLOCK_SIZE * (count - 1) ≤ size }
     ensures ok { OnOk result (blocks.new ≡ with_padded count size blocks.old) }
     ensures err { OnErr result (blocks.new ≡ blocks.old) }
+    ensures hashes { IfOk result (λ made.
+        length blocks.old ≤ few_blocks → made ≤ hashes_of_blocks 1) }
 {
     if 0 < count {
         let last = BLOCK_SIZE.min(size - (count - 1) * BLOCK_SIZE);
-        blocks.resize(count - 1, last)?;
+        blocks.resize(count - 1, last)
+    } else {
+        Ok(0)
     }
-    Ok(())
 }

@@ -3,6 +3,7 @@ ghost use Rattle.std.specs.Prelude.{◌≡◌, ◌+◌, ◌<◌, ◌≤◌, ◌^
 ghost use Rattle.std.specs.FinMap.{get};
 ghost use Rattle.su_node.specs.Inode.{new_inode, kind_of, size_of, has_no_names, names_of, bytes_of, within};
 ghost use Rattle.su_node.specs.InodeChange.{InodeChange.Named, InodeChange.Linked, InodeChange.Written, InodeChange.Resized, inode_after};
+ghost use Rattle.su_node.specs.Cost.{IsSmall, hashes_of_write};
 ghost use Rattle.su_node.specs.Field.{Field.NameOf, Value.Nothing, file_value, field_value};
 ghost use Rattle.su_bytes.specs.declared.refusals.Refusal.TheVariants.{NoMemory};
 
@@ -206,9 +207,10 @@ impl Inode {
     }
 
     /// Writes bytes into a file from an offset on, and fills a gap before them with zeros; does
-    /// nothing to a directory. Fails only with `NoMemory`, where the file grows, and then changes
-    /// nothing. (It touches the blocks alone that hold these bytes or the gap.)
-    pub fn write_at(&mut self, off: u32, bytes: &[u8]) -> Result<(), Refusal>
+    /// nothing to a directory. Returns how many hashes it made. Fails only with `NoMemory`, where
+    /// the file grows, and then changes nothing. (It touches the blocks alone that hold these bytes
+    /// or the gap.)
+    pub fn write_at(&mut self, off: u32, bytes: &[u8]) -> Result<u64, Refusal>
         requires { off + length bytes.now < 2 ^ 32 }
         ensures ok { OnOk result
             (inode_after (Written (size_of self.old.content) off bytes.now) (Some self.old)
@@ -216,11 +218,14 @@ impl Inode {
         ensures refused { IfErr result (λ e. e ≡ NoMemory) }
         ensures succeeds { off + length bytes.now ≤ size_of self.old.content → IsOk result }
         ensures err { OnErr result (self.new ≡ self.old) }
+        ensures hashes { IfOk result (λ made. let size = size_of self.old.content in
+            IsSmall size → IsSmall (off + length bytes.now)
+            → made ≤ hashes_of_write size off (length bytes.now)) }
     {
-        if let Stored::Bytes(blocks) = &mut self.content {
-            blocks.write_at(off, bytes)?;
+        match &mut self.content {
+            Stored::Bytes(blocks) => Ok(blocks.write_at(off, bytes)?),
+            Stored::Names(_) => Ok(0),
         }
-        Ok(())
     }
 
     /// Cuts a file to a size in bytes, or fills it with zeros up to it; does nothing to a

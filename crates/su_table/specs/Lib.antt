@@ -6,3 +6,4 @@ pub mod Code
 pub mod Handle
 pub mod Table
 pub mod Kept
+pub mod Cost

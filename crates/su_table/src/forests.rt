@@ -1,9 +1,11 @@
 // All i-tables together, what is asked of them, and how they change.
 ghost use Rattle.std.specs.Prelude.{◌≡◌, ◌⊎◌, ◌+◌, ◌<◌, ◌≤◌, ◌^◌, true, length, Some, None, Ok, Err, IsOk, IfOk, IfErr, OnOk, OnErr, option_copied};
 ghost use Rattle.std.specs.FinMap.{get, empty};
+ghost use Rattle.su_node.specs.Cost.{IsSmall, hashes_of_write};
 ghost use Rattle.su_node.specs.InodeChange.{InodeChange.Named, InodeChange.Linked, InodeChange.Written, InodeChange.Resized, InodeChange.Copied, InodeChange.Gone};
 ghost use Rattle.su_table.specs.Tree.{genesis};
 ghost use Rattle.su_table.specs.Cell.{Cell.Pointer, val};
+ghost use Rattle.su_table.specs.Cost.{hashes_of_inode};
 ghost use Rattle.su_table.specs.Handle.{handle};
 ghost use Rattle.su_table.specs.Edit.{Edit.Inodes, Edit.Pointers, edit};
 ghost use Rattle.su_table.specs.Query.{is_nothing, body, is_free_at, is_dir_at, is_file_at, links_at, is_bare_at, is_name_free_at, leads_to_at, is_pointer_free, size_at, standing, listing, contents, contents_within};
@@ -324,22 +326,28 @@ impl Forest {
     }
 
     /// Writes bytes into the file at `place` from an offset on, and fills a gap before them with
-    /// zeros. Does nothing where no file stands. Takes no memory where the file doesn't grow.
-    pub fn write_at(&mut self, place: Place, off: u32, bytes: &[u8]) -> Result<(), Refusal>
+    /// zeros. Does nothing where no file stands. Returns how many hashes it made: within a file of
+    /// at most 256 blocks a byte makes at most 44. Takes no memory where the file doesn't grow.
+    pub fn write_at(&mut self, place: Place, off: u32, bytes: &[u8]) -> Result<u64, Refusal>
         requires { off + length bytes.now < 2 ^ 32 }
         ensures ok { OnOk result
             (self.new ≡ edit self.old (Inodes place (Written (size_at self.old place) off bytes.now))) }
         ensures refused { IfErr result (λ e. e ≡ NoMemory) }
         ensures succeeds { off + length bytes.now ≤ size_at self.old place → IsOk result }
         ensures err { OnErr result (self.new ≡ self.old) }
+        ensures hashes { IfOk result (λ made. let size = size_at self.old place in
+            IsSmall size → IsSmall (off + length bytes.now)
+            → made ≤ hashes_of_write size off (length bytes.now) + hashes_of_inode) }
     {
         let (user, number) = place;
+        let mut hashes: u64 = 0;
         if let Some(inode) = self.inodes.get_mut(&place) {
-            inode.write_at(off, bytes)?;
+            let content = inode.write_at(off, bytes)?;
             let written = inode.digest();
-            self.digests.set(user.number(), number, written);
+            let path = self.digests.set(user.number(), number, written);
+            hashes = content.saturating_add(1 + path);
         }
-        Ok(())
+        Ok(hashes)
     }
 
     /// Cuts the file at `place` to a size in bytes, or fills it with zeros up to it. Does nothing

@@ -1,4 +1,5 @@
 // What holds of the definitions themselves.
+ghost use Rattle.su_table.specs.Cost.{AByteMakesFewHashes};
 ghost use Rattle.su_table.specs.Edit.{EditsCanBeTakenBack};
 ghost use Rattle.su_table.specs.Table.{ChangesOneTable};
 
@@ -12,4 +13,9 @@ pub fn edits_can_be_taken_back()
 /// tree of digests is kept up to date by one change.
 pub fn edits_change_one_table()
     ensures { ChangesOneTable }
+{}
+
+/// A byte within a file touches one block: what `Forest::write_at` may cost is then 44 hashes.
+pub fn a_byte_makes_few_hashes()
+    ensures { AByteMakesFewHashes }
 {}

@@ -7,4 +7,4 @@ mod laws;
 mod tables;
 
 pub use forests::Forest;
-pub use laws::{edits_can_be_taken_back, edits_change_one_table};
+pub use laws::{a_byte_makes_few_hashes, edits_can_be_taken_back, edits_change_one_table};

@@ -1,10 +1,11 @@
 // Tables of principals, each of which keeps its digest.
-ghost use Rattle.std.specs.Prelude.{◌≡◌, ◌<◌, [], length, replicate, slice_index_or, slice_set, Some, None, IfOk, OnOk, OnErr, IsSome};
+ghost use Rattle.std.specs.Prelude.{◌≡◌, ◌<◌, ◌≤◌, [], length, replicate, slice_index_or, slice_set, Some, None, IfOk, OnOk, OnErr, IsSome};
 ghost use Rattle.std.specs.Ordering.{nat_cmp};
 ghost use Rattle.std.specs.FinMap.Entries.{find};
 ghost use Rattle.su_tree.specs.Digest.{digest};
 ghost use Rattle.su_tree.specs.Number.{numbers};
 ghost use Rattle.su_hash_tree.specs.Clones.{IsExact};
+ghost use Rattle.su_table.specs.Cost.{hashes_of_number};
 ghost use Rattle.su_table.specs.Table.{with_pair};
 
 use std::alloc::{AllocError, Global};
@@ -50,29 +51,34 @@ impl<V: TreeValue + Drop> Tables<V> {
         self.trees[usize::from(table)].digest()
     }
 
-    /// Puts a value at a number of a table. Takes memory only for a number that isn't there; where
-    /// it is wanting, it changes nothing.
-    pub fn put(&mut self, table: u8, number: Inum, value: V) -> Result<(), AllocError>
+    /// Puts a value at a number of a table. Returns how many hashes it made. Takes memory only for a
+    /// number that isn't there; where it is wanting, it changes nothing.
+    pub fn put(&mut self, table: u8, number: Inum, value: V) -> Result<u64, AllocError>
         requires { table < length self.old }
         ensures ok { let pairs = slice_index_or self.old table [] in
             OnOk result (self.new ≡ slice_set self.old table (with_pair number (Some value) pairs)) }
         ensures absent { let pairs = slice_index_or self.old table [] in
             OnErr result (find nat_cmp number pairs ≡ None) }
         ensures err { OnErr result (self.new ≡ self.old) }
+        ensures hashes { IfOk result (λ made. made ≤ hashes_of_number) }
     {
-        self.trees[usize::from(table)].insert(number.number(), value)?;
-        Ok(())
+        let tree = &mut self.trees[usize::from(table)];
+        let before = tree.hashes();
+        tree.insert(number.number(), value)?;
+        Ok(tree.hashes().saturating_sub(before))
     }
 
-    /// Puts a value in the place of another, which takes no memory.
-    pub fn set(&mut self, table: u8, number: Inum, value: V)
+    /// Puts a value in the place of another, which takes no memory. Returns how many hashes it made.
+    pub fn set(&mut self, table: u8, number: Inum, value: V) -> u64
         requires within { table < length self.old }
         requires there { IsSome (find nat_cmp number (slice_index_or self.old table [])) }
-        ensures { let pairs = slice_index_or self.old table [] in
+        ensures value { let pairs = slice_index_or self.old table [] in
             self.new ≡ slice_set self.old table (with_pair number (Some value) pairs) }
+        ensures hashes { result ≤ hashes_of_number }
     {
-        if self.put(table, number, value).is_err() {
-            unreachable!();
+        match self.put(table, number, value) {
+            Ok(made) => made,
+            Err(_) => unreachable!(),
         }
     }
 

@@ -1,10 +1,11 @@
 // Blocks of a file in order, with a tree of their digests that is kept up to date.
-ghost use Rattle.std.specs.Prelude.{◌≡◌, ◌+◌, ◌-◌, ◌<◌, ◌≤◌, ℕ, ◌^◌, ◌++◌, ◌∷◌, [], IfOk, OnOk, OnErr, length, take, slice_set, slice_index_or};
+ghost use Rattle.std.specs.Prelude.{◌≡◌, ◌+◌, ◌-◌, ◌<◌, ◌≤◌, ℕ, ◌^◌, ◌++◌, ◌∷◌, [], None, IfOk, OnOk, OnErr, length, take, slice_set, slice_index_or};
 ghost use Rattle.std.specs.Ordering.{nat_cmp};
-ghost use Rattle.std.specs.FinMap.Entries.{put};
+ghost use Rattle.std.specs.FinMap.Entries.{find, put};
 ghost use Rattle.sha2.specs.Sha256.{sha256};
 ghost use Rattle.su_tree.specs.Digest.{digest};
 ghost use Rattle.su_tree.specs.Number.{numbers};
+ghost use Rattle.su_node.specs.Cost.{few_blocks, hashes_of_blocks};
 ghost use Rattle.su_node.specs.Digest.{block_item};
 ghost use Rattle.su_node.specs.InodeChange.{with_size, with_bytes_at};
 ghost use Rattle.su_node.specs.Stored.{digests_of, AreBelow, HasNumber};
@@ -154,16 +155,17 @@ impl HashedBlocks {
         Ok(HashedBlocks { blocks, digests })
     }
 
-    /// Writes bytes over those of a block from a place on.
-    pub fn overwrite(&mut self, number: usize, start: usize, bytes: &[u8])
+    /// Writes bytes over those of a block from a place on. Returns how many hashes it made.
+    pub fn overwrite(&mut self, number: usize, start: usize, bytes: &[u8]) -> u64
         requires there { number < length self.old }
         requires fits { start + length bytes.now ≤ length (slice_index_or self.old number []) }
-        ensures { let block = slice_index_or self.old number [] in
+        ensures value { let block = slice_index_or self.old number [] in
             self.new ≡ slice_set self.old number (with_bytes_at start bytes.now block) }
+        ensures hashes { length self.old ≤ few_blocks → result ≤ hashes_of_blocks 1 }
     {
         let written = &mut self.blocks[number];
         written.overwrite(start, bytes);
-        refresh(&mut self.digests, number, written);
+        refresh(&mut self.digests, number, written)
     }
 
     /// Cuts a block to its first bytes.
@@ -179,49 +181,61 @@ impl HashedBlocks {
         }
     }
 
-    /// Cuts a block, or fills it with zeros up to a size. Where there is no memory, it changes
-    /// nothing.
-    pub fn resize(&mut self, number: usize, size: usize) -> Result<(), AllocError>
+    /// Cuts a block, or fills it with zeros up to a size. Returns how many hashes it made. Where
+    /// there is no memory, it changes nothing.
+    pub fn resize(&mut self, number: usize, size: usize) -> Result<u64, AllocError>
         requires { number < length self.old }
         ensures ok { let block = slice_index_or self.old number [] in
             OnOk result (self.new ≡ slice_set self.old number (with_size size block)) }
         ensures err { OnErr result (self.new ≡ self.old) }
+        ensures hashes { IfOk result (λ made.
+            length self.old ≤ few_blocks → made ≤ hashes_of_blocks 1) }
     {
         if self.get(number).len() != size {
             let block = &mut self.blocks[number];
             block.resize(size)?;
-            refresh(&mut self.digests, number, block);
+            Ok(refresh(&mut self.digests, number, block))
+        } else {
+            Ok(0)
         }
-        Ok(())
     }
 
-    /// Puts a block behind the last one. Where there is no memory, it changes nothing.
-    fn push(&mut self, block: Block) -> Result<(), AllocError>
+    /// Puts a block behind the last one. Returns how many hashes it made. Where there is no memory,
+    /// it changes nothing.
+    fn push(&mut self, block: Block) -> Result<u64, AllocError>
         requires { length self.old < 2 ^ 32 }
         ensures ok { OnOk result (self.new ≡ self.old ++ block ∷ []) }
         ensures err { OnErr result (self.new ≡ self.old) }
+        ensures hashes { IfOk result (λ made.
+            length self.old < few_blocks → made ≤ hashes_of_blocks 1) }
     {
         self.blocks.reserve(1)?;
-        self.digests
-            .insert(self.blocks.len() as u32, block.digest())?;
+        let made = put_digest(&mut self.digests, self.blocks.len() as u32, &block)?;
         self.blocks.push(block)?;
-        Ok(())
+        Ok(made)
     }
 
-    /// Puts blocks behind the last one. Where there is no memory, it changes nothing.
-    pub fn append(&mut self, added: Vec<Block>) -> Result<(), AllocError>
+    /// Puts blocks behind the last one. Returns how many hashes it made. Where there is no memory,
+    /// it changes nothing.
+    pub fn append(&mut self, added: Vec<Block>) -> Result<u64, AllocError>
         requires { length self.old + length added.items ≤ 2 ^ 32 }
         ensures ok { OnOk result (self.new ≡ self.old ++ added.items) }
         ensures err { OnErr result (self.new ≡ self.old) }
+        ensures hashes { IfOk result (λ made. length self.old + length added.items ≤ few_blocks
+            → made ≤ hashes_of_blocks (length added.items)) }
     {
         let count = self.len();
+        let mut hashes: u64 = 0;
         for block in added {
-            if let Err(refused) = self.push(block) {
-                self.truncate(count);
-                return Err(refused);
+            match self.push(block) {
+                Ok(made) => hashes = hashes.saturating_add(made),
+                Err(refused) => {
+                    self.truncate(count);
+                    return Err(refused);
+                }
             }
         }
-        Ok(())
+        Ok(hashes)
     }
 
     /// Removes the last block, if there is one.
@@ -244,16 +258,41 @@ impl HashedBlocks {
     }
 }
 
-/// Puts the digest of a block in the place of an older one, which takes no memory.
-fn refresh(digests: &mut HashTree<u32, Digest>, number: usize, block: &Block)
+/// Hashes a block, and puts its digest at a number. Returns how many hashes it made: the block's,
+/// and those that the tree counted. Takes memory only for a number that isn't there; where it is
+/// wanting, it changes nothing.
+fn put_digest(
+    digests: &mut HashTree<u32, Digest>,
+    number: u32,
+    block: &Block,
+) -> Result<u64, AllocError>
+    ensures put { let made = sha256 (block_item block.now) in
+        OnOk result (digests.new.entries ≡ put nat_cmp number made digests.old.entries) }
+    ensures absent { OnErr result (find nat_cmp number digests.old.entries ≡ None) }
+    ensures err { OnErr result (digests.new ≡ digests.old) }
+    ensures hashes { (k : ℕ) → k ≤ 32 → number < 2 ^ k → AreBelow (2 ^ k) digests.old.entries
+        → digests.new.hashes ≤ digests.old.hashes + k + 1 }
+    ensures counted { IfOk result (λ made.
+        made ≡ digests.new.hashes - digests.old.hashes + 1) }
+{
+    let before = digests.hashes();
+    digests.insert(number, block.digest())?;
+    Ok(digests.hashes().saturating_sub(before) + 1)
+}
+
+/// Puts the digest of a block in the place of an older one, which takes no memory. Returns how many
+/// hashes it made: the block's, and those that the tree counted.
+fn refresh(digests: &mut HashTree<u32, Digest>, number: usize, block: &Block) -> u64
     requires there { HasNumber number digests.old.entries }
     requires small { number < 2 ^ 32 }
     ensures put { let made = sha256 (block_item block.now) in
         digests.new.entries ≡ put nat_cmp number made digests.old.entries }
     ensures hashes { (k : ℕ) → k ≤ 32 → number < 2 ^ k → AreBelow (2 ^ k) digests.old.entries
         → digests.new.hashes ≤ digests.old.hashes + k + 1 }
+    ensures counted { result ≡ digests.new.hashes - digests.old.hashes + 1 }
 {
-    if digests.insert(number as u32, block.digest()).is_err() {
-        unreachable!();
+    match put_digest(digests, number as u32, block) {
+        Ok(made) => made,
+        Err(_) => unreachable!(),
     }
 }

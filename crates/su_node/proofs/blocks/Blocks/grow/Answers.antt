@@ -22,16 +22,25 @@ append-requires c =
 pub pad-requires : goal.pad-requires
 pad-requires c =
     let l = count_is c.self.inside.blocks c.args.self.now (subst (AreBlocksOf c.self.inside.blocks) c.self.view_is c.self.invariant.blocks_of) in
-    let n = ap length c.in_ok-append.ensures.ok ∙ length-append c.self.inside.blocks c.in_ok-added.added.items in
+    let n = ap length c.in_ok-appended.ensures.ok ∙ length-append c.self.inside.blocks c.in_ok-added.added.items in
     record { there = omega (arith, n, c.len-count.ensures); within = omega (arith, l, c.len-count.ensures, c.requires) }
 
 pub invariant_of-self-2 : goal.invariant_of-self-2
 invariant_of-self-2 c =
     stored c.pad.new.blocks _ _ (grown c.self.inside.blocks c.in_ok-added.added.items c.append.new.self c.pad.new.blocks c.args.self.now c.args.size c.len-count.result
-    c.self.view_is c.self.invariant.blocks_of c.requires c.len-count.ensures c.in_ok-added.ensures.count c.in_ok-added.ensures.zeros c.in_ok-append.ensures.ok c.in_default.ensures.ok)
+    c.self.view_is c.self.invariant.blocks_of c.requires c.len-count.ensures c.in_ok-added.ensures.count c.in_ok-added.ensures.zeros c.in_ok-appended.ensures.ok c.in-Ok.ensures.ok)
     (sym (length-with_size c.args.size c.args.self.now))
 
 pub returns-clause-ok : goal.returns-clause-ok
 returns-clause-ok c =
     concat_blocks c.pad.new.blocks _ (grown c.self.inside.blocks c.in_ok-added.added.items c.append.new.self c.pad.new.blocks c.args.self.now c.args.size c.len-count.result
-    c.self.view_is c.self.invariant.blocks_of c.requires c.len-count.ensures c.in_ok-added.ensures.count c.in_ok-added.ensures.zeros c.in_ok-append.ensures.ok c.in_default.ensures.ok)
+    c.self.view_is c.self.invariant.blocks_of c.requires c.len-count.ensures c.in_ok-added.ensures.count c.in_ok-added.ensures.zeros c.in_ok-appended.ensures.ok c.in-Ok.ensures.ok)
+
+pub returns-clause-hashes : goal.returns-clause-hashes
+returns-clause-hashes c = λ small.
+    let l = count_is c.self.inside.blocks c.args.self.now (subst (AreBlocksOf c.self.inside.blocks) c.self.view_is c.self.invariant.blocks_of) in
+    let added = c.in_ok-added.ensures.count in
+    let longer = ap length c.in_ok-appended.ensures.ok ∙ length-append c.self.inside.blocks c.in_ok-added.added.items in
+    let appended = c.in_ok-appended.ensures.hashes (omega (arith, l, added, c.len-count.ensures, c.requires, small)) in
+    let padded = c.in-Ok.ensures.hashes (omega (arith, l, added, longer, c.len-count.ensures, c.requires, small)) in
+    omega (arith, l, added, appended, padded, c.len-count.ensures, c.saturating_add.ensures)

@@ -2,7 +2,7 @@ use Rattle.std.proofs.Common.{◌≡◌, ◌∙◌, sym, refl, ap, subst, arith,
 use Rattle.std.proofs.lemmas.List.{length-take, take_all}
 use Rattle.su_node.specs.InodeChange.{with_bytes_at}
 use Rattle.su_node.specs.Stored.{AreBlocksOf}
-use Rattle.su_node.proofs.Contents.{stored, reaches, concat_blocks, written_nothing, written_blocks, length-with_bytes_at, length-block}
+use Rattle.su_node.proofs.Contents.{count_is, stored, reaches, concat_blocks, written_nothing, written_blocks, length-with_bytes_at, length-block}
 use Rattle.su_node.proofs.blocks.Blocks.overwrite.Goals as goal
 
 -- a file keeps its size where what is written lies within it
@@ -37,26 +37,26 @@ written_there blocks new off n first last xs bs fits first_is last_is reached wi
 pub loop-number-init : goal.loop-number-init
 loop-number-init c =
     let none : min (length c.args.bytes.now) (4096 * (c.args.off / 4096) - c.args.off) ≡ 0 = omega arith in
-    (refl, subst (AreBlocksOf c.self.inside.blocks) (c.self.view_is ∙ written_nothing c.args.off c.args.self.now (omega (arith, c.requires)) ∙ ap (λ k. with_bytes_at c.args.off (take k c.args.bytes.now) c.args.self.now) (sym none)) c.self.invariant.blocks_of)
+    (refl, subst (AreBlocksOf c.self.inside.blocks) (c.self.view_is ∙ written_nothing c.args.off c.args.self.now (omega (arith, c.requires)) ∙ ap (λ k. with_bytes_at c.args.off (take k c.args.bytes.now) c.args.self.now) (sym none)) c.self.invariant.blocks_of, λ small. omega arith)
 
 pub invariant_of-self : goal.invariant_of-self
 invariant_of-self c =
     let l = length-kept c.args.off (min (length c.args.bytes.now) (4096 * c.loop-number.number - c.args.off)) c.args.bytes.now c.args.self.now c.requires in
     stored c.loop-number.self-inside.blocks _ _ c.loop-number.invariant.1 (c.loop-number.invariant.0 ∙ c.self.invariant.size_of ∙ ap length c.self.view_is ∙ sym l)
 
-pub returns : goal.returns
-returns c =
+pub returns-clause-value : goal.returns-clause-value
+returns-clause-value c =
     concat_blocks c.loop-number.self-inside.blocks _ c.loop-number.invariant.1
     ∙ ap (λ ys. with_bytes_at c.args.off ys c.args.self.now) (take_all (min (length c.args.bytes.now) (4096 * c.loop-number.number - c.args.off)) c.args.bytes.now (omega (arith, c.loop-number-test.false, c.count_for-number-end.ensures)))
 
-pub overwrite-requires-clause-there : goal.overwrite-requires-clause-there
-overwrite-requires-clause-there c =
+pub overwrite-made-requires-clause-there : goal.overwrite-made-requires-clause-there
+overwrite-made-requires-clause-there c =
     let l = length-kept c.args.off (min (length c.args.bytes.now) (4096 * c.loop-number.number - c.args.off)) c.args.bytes.now c.args.self.now c.requires in
     let within : 4096 * c.loop-number.number < c.args.off + length c.args.bytes.now = omega (arith, c.loop-number-test.true, c.count_for-number-end.ensures) in
     reaches c.loop-number.self-inside.blocks _ c.loop-number.invariant.1 c.loop-number.number (omega (arith, l, c.requires, within))
 
-pub overwrite-requires-clause-fits : goal.overwrite-requires-clause-fits
-overwrite-requires-clause-fits c =
+pub overwrite-made-requires-clause-fits : goal.overwrite-made-requires-clause-fits
+overwrite-made-requires-clause-fits c =
     let within : 4096 * c.loop-number.number < c.args.off + length c.args.bytes.now = omega (arith, c.loop-number-test.true, c.count_for-number-end.ensures) in
     let reached : c.args.off < 4096 * (c.loop-number.number + 1) = omega (arith, c.loop-number.auto.number) in
     let l = length-at_block c.loop-number.self-inside.blocks c.args.off _ c.loop-number.number c.args.bytes.now c.args.self.now c.requires c.loop-number.invariant.1 in
@@ -69,6 +69,11 @@ loop-number-preserved c =
     let within : 4096 * c.loop-number.number < c.args.off + length c.args.bytes.now = omega (arith, c.loop-number-test.true, c.count_for-number-end.ensures) in
     let reached : c.args.off < 4096 * (c.loop-number.number + 1) = omega (arith, c.loop-number.auto.number) in (
       c.loop-number.invariant.0,
-      written_there c.loop-number.self-inside.blocks c.overwrite.new.self c.args.off c.loop-number.number c.max-first.result c.min-last.result c.args.bytes.now c.args.self.now
-          c.requires c.max-first.ensures c.min-last.ensures reached within c.loop-number.invariant.1 c.overwrite.ensures,
+      written_there c.loop-number.self-inside.blocks c.overwrite-made.new.self c.args.off c.loop-number.number c.max-first.result c.min-last.result c.args.bytes.now c.args.self.now
+          c.requires c.max-first.ensures c.min-last.ensures reached within c.loop-number.invariant.1 c.overwrite-made.ensures.value,
+      λ small.
+          let kept = length-kept c.args.off (min (length c.args.bytes.now) (4096 * c.loop-number.number - c.args.off)) c.args.bytes.now c.args.self.now c.requires in
+          let count = count_is c.loop-number.self-inside.blocks _ c.loop-number.invariant.1 in
+          let made = c.overwrite-made.ensures.hashes (omega (arith, count, kept, small)) in
+          omega (arith, made, c.loop-number.invariant.2 small, c.saturating_add-hashes.ensures, c.loop-number.auto.number),
     )

@@ -26,6 +26,6 @@ set-requires-clause-there c = number_there inode_digest is_user c.self.inside.in
 pub invariant_of-self : goal.invariant_of-self
 invariant_of-self c = (
   kept_put inode_digest is_user c.self.inside.inodes.entries _ c.self.inside.digests c.set.new.self c.number.result c.args.place c.name_remove.new.self c.digest-digest.result c.self.invariant.0 c.number.ensures.value
-      (user_is _ _ c.number.ensures.value c.number.ensures.range) ((c.get_mut.follows.holds c.name_remove.new.self).3 (ap is_some (sym c.in-Some.ensures.value))).0 c.digest-digest.ensures c.set.ensures,
+      (user_is _ _ c.number.ensures.value c.number.ensures.range) ((c.get_mut.follows.holds c.name_remove.new.self).3 (ap is_some (sym c.in-Some.ensures.value))).0 c.digest-digest.ensures c.set.ensures.value,
   c.self.invariant.1,
 )

@@ -1,9 +1,7 @@
 use Rattle.std.proofs.Common.{◌≡◌, ◌++◌, ◌∷◌, [], ◌∙◌, ap, sym, length, arith}
-use Rattle.std.specs.Ordering.{nat_cmp}
-use Rattle.std.specs.FinMap.Entries.{put}
 use Rattle.std.proofs.lemmas.List.{length_push}
 use Rattle.su_node.specs.Stored.{digests_of}
-use Rattle.su_node.proofs.Hashed.{hashed-push}
+use Rattle.su_node.proofs.Hashed.{hashed-below, hashed-push}
 use Rattle.su_node.proofs.blocks.hashed.HashedBlocks.push.Goals as goal
 
 pub invariant_of-self-2 : goal.invariant_of-self-2
@@ -12,6 +10,14 @@ invariant_of-self-2 c =
     let kept = c.reserve.ensures.items in
     let more : c.push.new.self.items ≡ blocks ++ c.args.block ∷ [] = c.in_ok-push.ensures.items ∙ ap (λ bs. bs ++ c.args.block ∷ []) kept in
     let last : c.len.result ≡ length blocks = omega (arith, c.len.ensures, ap length kept, c.reserve.new.self.ok.0) in (
-      c.in_ok-insert.ensures.new ∙ ap (λ d. put nat_cmp c.len.result d c.self.inside.digests.entries) c.digest.ensures ∙ hashed-push blocks c.self.inside.digests.entries c.self.invariant.0 c.len.result c.args.block last ∙ ap digests_of (sym more),
+      c.in_ok-made.ensures.put ∙ hashed-push blocks c.self.inside.digests.entries c.self.invariant.0 c.len.result c.args.block last ∙ ap digests_of (sym more),
       omega (arith, ap length more, length_push blocks c.args.block, ap length c.self.view_is, c.requires),
     )
+
+pub returns-clause-hashes : goal.returns-clause-hashes
+returns-clause-hashes c = λ few.
+    let long = ap length c.self.view_is in
+    let kept = ap length c.reserve.ensures.items in
+    let below = hashed-below c.self.inside.blocks.items c.self.inside.digests.entries c.self.invariant.0 256 (omega (arith, long, few)) in
+    let path = c.put_digest.ensures.hashes 8 (omega arith) (omega (arith, c.len.ensures, kept, long, few)) below in
+    omega (arith, path, c.in_ok-made.ensures.counted)

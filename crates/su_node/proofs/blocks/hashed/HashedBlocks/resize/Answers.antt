@@ -2,7 +2,7 @@ use Rattle.std.proofs.Common.{◌≡◌, ◌∙◌, ap, sym, length, set, get_or
 use Rattle.std.proofs.lemmas.List.{length-set, set-get_or}
 use Rattle.su_node.specs.InodeChange.{with_size}
 use Rattle.su_node.proofs.Contents.{resized_same}
-use Rattle.su_node.proofs.Hashed.{hashed-set, hashed-there}
+use Rattle.su_node.proofs.Hashed.{hashed-below, hashed-set, hashed-there}
 use Rattle.su_node.proofs.blocks.hashed.HashedBlocks.resize.Goals as goal
 
 pub refresh-requires-clause-there : goal.refresh-requires-clause-there
@@ -21,3 +21,10 @@ returns-else-get-size-clause-ok c =
     let bs = get_or c.args.self.now c.args.number [] in
     let same : bs ≡ with_size c.args.size bs = resized_same c.args.size bs (sym (ap length c.get.ensures) ∙ c.if-get-size.false) in
     sym (set-get_or c.args.self.now c.args.number []) ∙ ap (set c.args.self.now c.args.number) same
+
+pub returns-in_ok-resize-clause-hashes : goal.returns-in_ok-resize-clause-hashes
+returns-in_ok-resize-clause-hashes c = λ few.
+    let long = ap length c.self.view_is in
+    let below = hashed-below c.self.inside.blocks.items c.self.inside.digests.entries c.self.invariant.0 256 (omega (arith, long, few)) in
+    let path = c.refresh.ensures.hashes 8 (omega arith) (omega (arith, c.requires, few)) below in
+    omega (arith, path, c.refresh.ensures.counted)
