@@ -143,6 +143,7 @@ impl AcceptedWrite<'_> {
         ensures err { OnErr result (forest.new ≡ forest.old) }
     {
         let write = self.write;
-        forest.write_at(self.place, write.off, write.bytes.as_slice())
+        forest.write_at(self.place, write.off, write.bytes.as_slice())?;
+        Ok(())
     }
 }
