@@ -51,8 +51,8 @@ impl<V: TreeValue + Drop> Tables<V> {
         self.trees[usize::from(table)].digest()
     }
 
-    /// Puts a value at a number of a table. Returns how many hashes it made. Takes memory only for a
-    /// number that isn't there; where it is wanting, it changes nothing.
+    /// Puts a value at a number of a table. Returns how many hashes it made. Takes memory only for
+    /// a number that isn't there; where it is wanting, it changes nothing.
     pub fn put(&mut self, table: u8, number: Inum, value: V) -> Result<u64, AllocError>
         requires { table < length self.old }
         ensures ok { let pairs = slice_index_or self.old table [] in
@@ -68,7 +68,8 @@ impl<V: TreeValue + Drop> Tables<V> {
         Ok(tree.hashes().saturating_sub(before))
     }
 
-    /// Puts a value in the place of another, which takes no memory. Returns how many hashes it made.
+    /// Puts a value in the place of another, which takes no memory. Returns how many hashes it
+    /// made.
     pub fn set(&mut self, table: u8, number: Inum, value: V) -> u64
         requires within { table < length self.old }
         requires there { IsSome (find nat_cmp number (slice_index_or self.old table [])) }
