@@ -11,8 +11,8 @@ few_blocks = 256
 abbrev pub IsSmall : ℕ → Type 0
 IsSmall size = size ≤ few_blocks * BLOCK_SIZE
 
--- In a file of at most 256 blocks a block that changes costs ten hashes at most: its own, and the nine of the path of its
--- number in the tree of the blocks.
+-- In a file of at most 256 blocks a block that changes costs ten hashes at most: its own, and the
+-- nine of the path of its number in the tree of the blocks.
 abbrev pub hashes_of_blocks : ℕ → ℕ
 hashes_of_blocks changed = 10 * changed
 
@@ -20,12 +20,13 @@ hashes_of_blocks changed = 10 * changed
 abbrev pub blocks_touched : ℕ → ℕ → ℕ
 blocks_touched off len = block_count (off + len) - off / BLOCK_SIZE
 
--- how many blocks come or change when a file grows: those that are new, and the one that was the last
+-- how many blocks come or change when a file grows: those that are new, and the one that was the
+-- last
 abbrev pub blocks_grown : ℕ → ℕ → ℕ
 blocks_grown size new_size = block_count new_size - block_count size + 1
 
--- The most hashes of a write into a file of that size: within the file ten for each block that the bytes touch, and where
--- the file grows also ten for each block of the growth.
+-- The most hashes of a write into a file of that size: within the file ten for each block that the
+-- bytes touch, and where the file grows also ten for each block of the growth.
 abbrev pub hashes_of_write : ℕ → ℕ → ℕ → ℕ
 hashes_of_write size off len =
     let growth = cond (nat_lt size (off + len)) (blocks_grown size (off + len)) 0 in

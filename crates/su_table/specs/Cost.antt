@@ -6,11 +6,12 @@ use Rattle.su_node.specs.Cost.{hashes_of_write}
 abbrev pub hashes_of_number : ℕ
 hashes_of_number = 33
 
--- the most hashes of an inode that changes, besides those of its content: its own, and the path of its number
+-- the most hashes of an inode that changes, besides those of its content: its own, and the path of
+-- its number
 abbrev pub hashes_of_inode : ℕ
 hashes_of_inode = 1 + hashes_of_number
 
--- A write of one byte within a file makes at most 44 hashes: its block, nine of the path in the tree of the file's blocks,
--- the inode, and 33 of the path in its user's table.
+-- A write of one byte within a file makes at most 44 hashes: its block, nine of the path in the
+-- tree of the file's blocks, the inode, and 33 of the path in its user's table.
 abbrev pub AByteMakesFewHashes : Type 0
 AByteMakesFewHashes = (size off : ℕ) → off < size → hashes_of_write size off 1 + hashes_of_inode ≡ 44
