@@ -2,10 +2,12 @@
 """How long an audit takes. Run by hand: `bench/audit.py [FOLDER]`. Making the logs takes some ten minutes of four cores, and they are
 kept in FOLDER for the next time, if one is given.
 
-Prints, for a log of so many commits: its megabytes, seconds of processor, commits a second, and the peak of memory in megabytes.
+Prints, for a log of so many commits: its megabytes, seconds by the clock on one core and on all, commits a second on both, and the peak
+of memory in megabytes.
 
 - 10,000 commits that each create a file in one directory, and 1,000 more that each write a byte into one of the files; the time
-  of the 1,000 is the time of the whole log less that of the first 10,000. With signatures of 4 and of 8 bits a coefficient.
+  of the 1,000 is the time of the whole log less that of the first 10,000, so it wants an idle machine. With signatures of 4 and of
+  8 bits a coefficient.
 - 100,000 commits that each write a byte into one of 1,000 files.
 
 The author's key has a tree of height 20, of which only the leaves that sign are computed (`leaves` of tests/lms.py): a verifier can't
@@ -15,6 +17,7 @@ import multiprocessing
 import os
 import sys
 import tempfile
+import time
 
 HERE = os.path.dirname(os.path.abspath(__file__))
 TOP = os.path.dirname(HERE)
@@ -126,10 +129,11 @@ def front(path, count):
     return to
 
 
-def measure(public, log, count):
-    """Seconds of processor, megabytes at the peak, and megabytes of the log."""
+def seconds_of(public, log, count):
+    """Seconds by the clock, and megabytes at the peak."""
     read, write = os.pipe()
     to_pipe = [(os.POSIX_SPAWN_DUP2, write, 1), (os.POSIX_SPAWN_CLOSE, read)]
+    start = time.monotonic()
     process = os.posix_spawn(PROGRAM, [PROGRAM, "audit", "--log", log, public], os.environ, file_actions=to_pipe)
     os.close(write)
     said = os.read(read, 1000)
@@ -137,23 +141,36 @@ def measure(public, log, count):
     used = os.wait4(process, 0)[2]
     if said != b"ok %d\n" % count:
         sys.exit(f"bench/audit.py: of {count} commits it says {said}")
-    return used.ru_utime + used.ru_stime, used.ru_maxrss / 1000, os.path.getsize(log) / 1e6
+    return time.monotonic() - start, used.ru_maxrss / 1000
 
 
-def show(name, count, seconds, peak, size):
-    print(f"{name:34} {count:8} {size:8.0f} {seconds:9.2f} {count / seconds:9.0f} {peak:8.0f}", flush=True)
+def measure(public, log, count):
+    """Seconds on one core, seconds on all, megabytes at the peak, and megabytes of the log."""
+    cores = os.sched_getaffinity(0)
+    os.sched_setaffinity(0, {min(cores)})
+    try:
+        one, _ = seconds_of(public, log, count)
+    finally:
+        os.sched_setaffinity(0, cores)
+    every, peak = seconds_of(public, log, count)
+    return one, every, peak, os.path.getsize(log) / 1e6
+
+
+def show(name, count, one, every, peak, size):
+    print(f"{name:34} {count:8} {size:6.0f} {one:8.2f} {every:8.2f} {count / one:8.0f} {count / every:8.0f} {peak:8.0f}", flush=True)
 
 
 def main():
     with tempfile.TemporaryDirectory() as room:
         folder = sys.argv[1] if len(sys.argv) > 1 else room
-        print(f"{'':34} {'commits':>8} {'MB':>8} {'seconds':>9} {'a second':>9} {'peak MB':>8}")
+        print(f"{'':34} {'commits':>8} {'MB':>6} {'one core':>8} {'all':>8} {'a second':>8} {'on all':>8} {'peak MB':>8}")
         for width in (4, 8):
             log = make(folder, f"writes_behind_creates_{width}", width, 10000, 1000)
-            whole, peak, size = measure(f"{log}.pub", log, 11000)
-            creates, peak_before, size_before = measure(f"{log}.pub", front(log, 10000), 10000)
-            show(f"creates, width {width}", 10000, creates, peak_before, size_before)
-            show(f"writes behind them, width {width}", 1000, max(whole - creates, 0.001), peak, size - size_before)
+            whole = measure(f"{log}.pub", log, 11000)
+            creates = measure(f"{log}.pub", front(log, 10000), 10000)
+            show(f"creates, width {width}", 10000, *creates)
+            writes = [max(x - y, 0.001) for x, y in zip(whole, creates)]
+            show(f"writes behind them, width {width}", 1000, writes[0], writes[1], whole[2], writes[3])
         log = make(folder, "writes_4", 4, 1000, 99000)
         show("creates and writes, width 4", 100000, *measure(f"{log}.pub", log, 100000))
 
