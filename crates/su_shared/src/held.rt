@@ -59,14 +59,13 @@ impl<N: BookName> Held<N> {
         }
     }
 
-    /// Makes the next seat, which was told nothing and knows nothing. `BadNumber` after 256 seats;
-    /// else only `NoMemory`. A refusal changes nothing.
-    pub fn seat(&mut self, alloc: Global, cells: &Cells) -> Result<Seat<N>, Refusal>
-        requires { cells.now ≡ N.cells }
+    /// Makes the next seat, which was told nothing and knows what these notes know. `BadNumber`
+    /// after 256 seats; else only `NoMemory`. A refusal changes nothing.
+    pub(crate) fn seat(&mut self, notes: Notes<N>) -> Result<Seat<N>, Refusal>
         ensures seat { IfOk result (λ seat. seat ≡ record {
           number = self.old.seats;
           kept = nothing;
-          known = replicate (length N.cells) None;
+          known = notes;
         }) }
         ensures held { OnOk result (self.new ≡ record self.old { seats = self.old.seats + 1 }) }
         ensures refused { IfErr result (λ e. (e ≡ NoMemory)
@@ -80,9 +79,6 @@ impl<N: BookName> Held<N> {
         if self.kept.reserve(1).is_err() {
             return Err(Refusal::NoMemory);
         }
-        let Ok(notes) = Notes::new(alloc, cells) else {
-            return Err(Refusal::NoMemory);
-        };
         let seat = Seat::new(number as u16, notes, self.rest.split_off(1, 0));
         let kept = seat.kept();
         self.kept.push_reserved(kept);

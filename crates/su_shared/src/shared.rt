@@ -11,7 +11,7 @@ ghost use Rattle.su_shared.specs.Shares.{nothing, kept_after, after_commit, afte
 
 use crate::cells::{BookName, Cells, Record};
 use crate::held::Held;
-use crate::notes::Receipt;
+use crate::notes::{Notes, Receipt};
 use crate::seats::Seat;
 use std::alloc::Global;
 use std::sync::ledger::Blank;
@@ -49,13 +49,14 @@ impl<N: BookName> SharedBook<N> {
     }
 
     /// Makes the next seat, which was told nothing and knows nothing. `BadNumber` after 256 seats;
-    /// else only `NoMemory`.
+    /// else only `NoMemory`. Its notes, one of each cell, are made before the lock is taken.
     pub fn seat(&self, rt: &impl Wait, alloc: Global) -> Result<Seat<N>, Refusal>
         ensures kept { IfOk result (λ seat. seat.kept ≡ nothing) }
         ensures known { IfOk result (λ seat. seat.known ≡ replicate (length N.cells) None) }
         ensures refused { IfErr result (λ e. (e ≡ NoMemory) ⊎ (e ≡ BadNumber)) }
     {
-        self.held.lock(rt).seat(alloc, &self.cells)
+        let notes = Notes::new(alloc, &self.cells)?;
+        self.held.lock(rt).seat(notes)
     }
 
     /// Takes the turn. The count of records is no less than all that the seat was told before; the
