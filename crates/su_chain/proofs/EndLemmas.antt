@@ -120,12 +120,16 @@ module _ (ro : Membership) (cs : List Commit) (e : ChainEnd) (is : IsEndOf ro cs
 
 -- ---- answers of a check, for each chain of which this is the end
 
-module _ (ro : Membership) (e : ChainEnd) (c : Commit) (t : Tip) (is : IsCommit c) (leaf : Option ℕ)
-    (here : t ≡ record { number = e.number; head = e.head; vector = e.vector; leaf = leaf })
-    (read : leaf ≡ (user_at e.users.items c.version.author).leaf) where
+-- the tip for a user, of that commit's author
+pub tip_for : (e : ChainEnd) (u : ℕ) (c : Commit) (t : Tip) → u ≡ c.version.author
+    → t ≡ record { number = e.number; head = e.head; vector = e.vector; leaf = (user_at e.users.items u).leaf }
+    → t ≡ record { number = e.number; head = e.head; vector = e.vector; leaf = (user_at e.users.items c.version.author).leaf }
+tip_for e u c t same is = is ∙ (λ i. record { number = e.number; head = e.head; vector = e.vector; leaf = (user_at e.users.items (same i)).leaf })
+
+module _ (ro : Membership) (e : ChainEnd) (c : Commit) (t : Tip) (is : IsCommit c)
+    (here : t ≡ record { number = e.number; head = e.head; vector = e.vector; leaf = (user_at e.users.items c.version.author).leaf }) where
   tip_is : (cs : List Commit) → IsEndOf ro cs e → t ≡ tip ro cs c.version.author
-  tip_is cs end =
-      here ∙ (λ i. record { number = e.number; head = e.head; vector = e.vector; leaf = read i }) ∙ tip_of ro cs e end c.version.author is.version.author
+  tip_is cs end = here ∙ tip_of ro cs e end c.version.author is.version.author
 
   pub checked : (r : Result ⊤ Refusal) → OnOk r (MayFollow ro t c) → OnOk r ((cs : List Commit) → IsEndOf ro cs e → MayBeNext ro cs c)
   checked (Ok x) may = λ cs end. next_of ro cs e end t c (tip_is cs end) is may

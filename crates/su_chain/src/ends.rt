@@ -1,18 +1,18 @@
 // The end of a chain of commits.
-ghost use Rattle.std.specs.Prelude.{◌≡◌, ◌≤◌, ◌<◌, ◌+◌, ◌-◌, ◌^◌, ◌⊎◌, ◌++◌, ◌∷◌, ℕ, List, [], None, length, IfOk, IfErr, OnOk};
+ghost use Rattle.std.specs.Prelude.{◌≡◌, ◌≤◌, ◌<◌, ◌+◌, ◌-◌, ◌^◌, ◌⊎◌, ◌↔◌, ◌++◌, ◌∷◌, ℕ, List, [], None, length, IsTrue, IfOk, IfErr, OnOk};
 ghost use Rattle.su_bytes.specs.Membership.{Membership};
 ghost use Rattle.su_bytes.specs.RosterBytes.{IsKeyOf};
 ghost use Rattle.su_bytes.specs.declared.refusals.Refusal.TheVariants.{BadKey, NoMemory};
 ghost use Rattle.su_vector.specs.Vector.{zeros};
 ghost use Rattle.su_version.specs.Commit.{Commit as CommitParts, commit_digest};
-ghost use Rattle.su_version.specs.Chain.{MayBeNext, IsRefusedSo, tip};
+ghost use Rattle.su_version.specs.Chain.{IsSignedByAuthor, MayBeNext, IsRefusedSo, tip};
 ghost use Rattle.su_chain.specs.ChainEnd.{user_at, AreKeysOf, IsEndOf, HasBadKey};
 
 use std::alloc::Global;
 use su_bytes::{Digest, FileId, Refusal, Roster, User};
 use su_lms::PublicKey;
 use su_vector::Vector;
-use su_version::{Commit, Tip};
+use su_version::{Commit, Tip, is_signed_by_author};
 
 /// How many users there can be.
 const USERS: usize = 64;
@@ -89,13 +89,43 @@ impl ChainEnd {
             ⊎ ((cs : List CommitParts) → IsEndOf roster.now cs self.now
             → IsRefusedSo roster.now (tip roster.now cs commit.now.version.author) commit.now e)) }
     {
-        let user = self.users[usize::from(commit.version().author().number())];
-        Tip::new(self.number, self.head, &self.vector, user.leaf).check(
-            alloc,
-            roster,
-            user.key.as_ref(),
-            commit,
-        )
+        let author = commit.version().author();
+        let key = self.key(roster, author);
+        self.tip(author).check(alloc, roster, key.as_ref(), commit)
+    }
+
+    /// Checks as `check` does, where it is known whether the commit's author signed it. It checks
+    /// no signature.
+    pub fn check_known(
+        &self,
+        roster: &Roster,
+        by_author: bool,
+        commit: &Commit,
+    ) -> Result<(), Refusal>
+        requires keys { AreKeysOf roster.now self.now.users.items }
+        requires known { IsTrue by_author ↔ IsSignedByAuthor roster.now commit.now }
+        ensures next { OnOk result ((cs : List CommitParts) → IsEndOf roster.now cs self.now
+            → MayBeNext roster.now cs commit.now) }
+        ensures refused { IfErr result (λ e. (e ≡ NoMemory)
+            ⊎ ((cs : List CommitParts) → IsEndOf roster.now cs self.now
+            → IsRefusedSo roster.now (tip roster.now cs commit.now.version.author) commit.now e)) }
+    {
+        let tip = self.tip(commit.version().author());
+        tip.check_known(roster, by_author, commit)
+    }
+
+    /// What the next commit of that user is measured by.
+    fn tip(&self, user: User) -> Tip<'_>
+        requires { length self.now.users.items ≡ USERS }
+        ensures { result ≡ record {
+          number = self.now.number;
+          head = self.now.head;
+          vector = self.now.vector;
+          leaf = (user_at self.now.users.items user).leaf;
+        } }
+    {
+        let user = self.users[usize::from(user.number())];
+        Tip::new(self.number, self.head, &self.vector, user.leaf)
     }
 
     /// Adds a commit that may come next, by its digest. It takes no memory.
@@ -114,6 +144,19 @@ impl ChainEnd {
         self.head = digest;
         self.vector.set(version.vector());
     }
+}
+
+/// Tells whether a commit's author is a user of the roster and signed it. `BadKey` where the
+/// author's key in the roster is none; else only `NoMemory`. It makes one check of a signature.
+pub fn is_signed(alloc: Global, roster: &Roster, commit: &Commit) -> Result<bool, Refusal>
+    ensures value { IfOk result (λ b. IsTrue b ↔ IsSignedByAuthor roster.now commit.now) }
+    ensures refused { IfErr result (λ e.
+        ((e ≡ BadKey) × HasBadKey roster.now) ⊎ (e ≡ NoMemory)) }
+{
+    // names the type for the prover (docs/ARCHITECTURE.md, "Forms the kit wants")
+    let _file: Option<FileId> = None;
+    let key = key_of(roster, commit.version().author())?;
+    is_signed_by_author(alloc, roster, key.as_ref(), commit)
 }
 
 /// Reads the key of each user of the roster. `BadKey` where one is none; else only `NoMemory`.

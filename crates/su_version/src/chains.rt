@@ -77,6 +77,24 @@ impl<'a> Tip<'a> {
         // names the type for the prover (docs/ARCHITECTURE.md, "Forms the kit wants")
         let _file: Option<FileId> = None;
         let by_author = is_signed_by_author(alloc, roster, key, commit)?;
+        self.check_known(roster, by_author, commit)
+    }
+
+    /// Checks as `check` does, where it is known whether the commit's author signed it. It checks
+    /// no signature.
+    pub fn check_known(
+        &self,
+        roster: &Roster,
+        by_author: bool,
+        commit: &Commit,
+    ) -> Result<(), Refusal>
+        requires { IsTrue by_author ↔ IsSignedByAuthor roster.now commit.now }
+        ensures follows { OnOk result (MayFollow roster.now self.now commit.now) }
+        ensures refused { IfErr result (λ e.
+            (e ≡ NoMemory) ⊎ IsRefusedSo roster.now self.now commit.now e) }
+    {
+        // names the type for the prover (docs/ARCHITECTURE.md, "Forms the kit wants")
+        let _file: Option<FileId> = None;
         let principals = roster.principals()?;
         if !by_author {
             return Err(Refusal::BadSignature);
