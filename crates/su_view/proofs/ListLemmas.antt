@@ -1,6 +1,8 @@
 -- A list of commits as bytes, record by record.
 use Rattle.std.proofs.Common.{◌≡◌, ℕ, zero, suc, get_or, take, ◌+◌, ◌-◌, ◌<◌, ◌≤◌, ◌^◌, ◌⊎◌, List, [], ◌∷◌, ◌++◌, length, length-append, refl, sym, ap, ◌∙◌, subst, arith, append_assoc, append-nil, inl, inr}
+use Rattle.std.specs.List.{AllByRecursion}
 use Rattle.std.proofs.lemmas.List.{flat_map_more}
+use Rattle.su_change.specs.Item.{item_bytes}
 use Rattle.su_block.specs.declared.failures.Failures.{Failures}
 use Rattle.su_format.specs.Part.{u32_bytes}
 use Rattle.su_format.proofs.Public.{u32_told}
@@ -65,28 +67,35 @@ shorter bytes first rest b =
 
 -- ---- one record more is taken
 
-pub none_taken : (v : HoldingState) (bytes : List ℕ) → HasTaken v bytes 0 v bytes
-none_taken v bytes = record {
-  more = [];
-  took = record { may = tt; becomes = ap (λ l. record { roster = v.roster; user = v.user; held = l }) (sym (append-nil v.held)) };
-  number = refl;
-  front = refl;
-}
+module _ (M : List ℕ → Type 0) where
+  pub none_taken : (v : HoldingState) (bytes : List ℕ) → HasTaken M v bytes 0 v bytes
+  none_taken v bytes = record {
+    more = [];
+    took = record { may = tt; becomes = ap (λ l. record { roster = v.roster; user = v.user; held = l }) (sym (append-nil v.held)) };
+    given = tt;
+    number = refl;
+    front = refl;
+  }
 
-pub one_taken : (v w x : HoldingState) (bytes rest first others : List ℕ) (n : ℕ) (c : Committed)
-    → HasTaken v bytes n w rest → BeginWith rest first others → first ≡ commit_bytes c.commit → Took w (c ∷ []) x → HasTaken v bytes (n + 1) x others
-one_taken v w x bytes rest first others n c t b is took = record {
-  more = t.more ++ c ∷ [];
-  took = record {
-    may = after_both v.roster v.held t.more (c ∷ []) t.took.may (subst (λ (u : HoldingState). LegalAfter u.roster u.held (c ∷ [])) t.took.becomes took.may);
-    becomes = took.becomes ∙ ap (λ u. with_more u (c ∷ [])) t.took.becomes
-        ∙ ap (λ l. record { roster = v.roster; user = v.user; held = l }) (append_assoc v.held t.more (c ∷ []));
-  };
-  number = ap (λ n. n + 1) t.number ∙ sym (length-append t.more (c ∷ []));
-  front = t.front ∙ ap (λ r. commits_bytes t.more ++ r) (b.whole ∙ ap (λ f. record_bytes f ++ others) is)
-      ∙ sym (append_assoc (commits_bytes t.more) (record_bytes (commit_bytes c.commit)) others)
-      ∙ ap (λ l. l ++ others) (flat_map_more (λ (c : Committed). record_bytes (commit_bytes c.commit)) [] t.more c);
-}
+  given_more : (cs : List Committed) (c : Committed) → AllByRecursion (λ (d : Committed). M (item_bytes d.change)) cs → M (item_bytes c.change) → AllByRecursion (λ (d : Committed). M (item_bytes d.change)) (cs ++ c ∷ [])
+  given_more [] c given here = (here, tt)
+  given_more (d ∷ cs) c (first, given) here = (first, given_more cs c given here)
+
+  pub one_taken : (v w x : HoldingState) (bytes rest first others : List ℕ) (n : ℕ) (c : Committed)
+      → HasTaken M v bytes n w rest → BeginWith rest first others → first ≡ commit_bytes c.commit → M (item_bytes c.change) → Took w (c ∷ []) x → HasTaken M v bytes (n + 1) x others
+  one_taken v w x bytes rest first others n c t b is given took = record {
+    more = t.more ++ c ∷ [];
+    took = record {
+      may = after_both v.roster v.held t.more (c ∷ []) t.took.may (subst (λ (u : HoldingState). LegalAfter u.roster u.held (c ∷ [])) t.took.becomes took.may);
+      becomes = took.becomes ∙ ap (λ u. with_more u (c ∷ [])) t.took.becomes
+          ∙ ap (λ l. record { roster = v.roster; user = v.user; held = l }) (append_assoc v.held t.more (c ∷ []));
+    };
+    given = given_more t.more c t.given given;
+    number = ap (λ n. n + 1) t.number ∙ sym (length-append t.more (c ∷ []));
+    front = t.front ∙ ap (λ r. commits_bytes t.more ++ r) (b.whole ∙ ap (λ f. record_bytes f ++ others) is)
+        ∙ sym (append_assoc (commits_bytes t.more) (record_bytes (commit_bytes c.commit)) others)
+        ∙ ap (λ l. l ++ others) (flat_map_more (λ (c : Committed). record_bytes (commit_bytes c.commit)) [] t.more c);
+  }
 
 -- ---- what is refused
 
@@ -99,12 +108,13 @@ refused_of_more M N within before after v bytes e (inr (c, is, bytes_are, inr (i
     inr (c, is, bytes_are, inr (inr (item, within item may, named, next, why)))
 
 pub refuses_next : (M N : List ℕ → Type 0) → ((item : List ℕ) → M item → N item) → (before b after : Failures) → b ≡ before
-    → (v w x : HoldingState) (bytes rest first others : List ℕ) (n : ℕ) (e : ViewRefusal) → HasTaken v bytes n w rest → x ≡ w
+    → (v w x : HoldingState) (bytes rest first others : List ℕ) (n : ℕ) (e : ViewRefusal) → HasTaken N v bytes n w rest → x ≡ w
     → length rest ≤ length bytes → BeginWith rest first others
     → (e ≡ Plain NoMemory) ⊎ IsRefusedBytes M b after w first e → RefusesNext N before after v bytes n e x
-refuses_next M N within before b after same v w x bytes rest first others n e t still shorter begin why = record {
+refuses_next M N within before b after same v w x bytes rest first others n e t still within_bytes begin why = record {
   rest = rest;
-  taken = subst (λ y. HasTaken v bytes n y rest) (sym still) t;
+  taken = subst (λ y. HasTaken N v bytes n y rest) (sym still) t;
+  goes_on = λ none. let short = ap length none in omega (arith, short, shorter rest first others begin);
   why = go why;
 }
   where
@@ -113,7 +123,7 @@ refuses_next M N within before b after same v w x bytes rest first others n e t 
     go (inl none) = inl none
     go (inr refused) = inr (
       length bytes - length rest,
-      omega (arith, shorter),
+      omega (arith, within_bytes),
       inr (
         first,
         others,

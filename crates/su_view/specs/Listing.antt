@@ -1,10 +1,11 @@
 -- Lists of commits as bytes: of each, how many bytes it has, and these. (This project's own
 -- format.)
-use Rattle.std.specs.Prelude.{◌≡◌, ◌<◌, ◌+◌, ◌^◌, ℕ, ◌⊎◌, List, ◌++◌, length}
-use Rattle.std.specs.List.{flat_map}
+use Rattle.std.specs.Prelude.{◌≡◌, ◌≢◌, ◌<◌, ◌+◌, ◌^◌, ℕ, ◌⊎◌, List, [], ◌++◌, length}
+use Rattle.std.specs.List.{flat_map, AllByRecursion}
 use Rattle.su_bytes.specs.declared.refusals.Refusal.TheVariants.{Malformed, NoMemory}
 use Rattle.su_block.specs.declared.failures.Failures.{Failures}
 use Rattle.su_format.specs.Part.{u32_bytes}
+use Rattle.su_change.specs.Item.{item_bytes}
 use Rattle.su_version.specs.Commit.{Commit, IsCommit, commit_bytes}
 use Rattle.su_legal.specs.Legal.{Committed}
 use Rattle.su_view.specs.Holding.{HoldingState, Took}
@@ -41,10 +42,12 @@ IsRefusedFirst MayGive before after v place bytes e =
     × IsRefusedBytes MayGive before after v first e)
 
 -- The commits that a list begins with were taken, so many of them, and the rest wasn't.
-pub record HasTaken (v : HoldingState) (bytes : List ℕ) (n : ℕ) (v' : HoldingState) (rest : List ℕ)
-    : Type 0 where
+pub record HasTaken (MayGive : List ℕ → Type 0) (v : HoldingState) (bytes : List ℕ) (n : ℕ)
+    (v' : HoldingState) (rest : List ℕ) : Type 0 where
   pub more : List Committed
   pub took : Took v more v'
+  -- each with an item of its change that the source might give
+  pub given : AllByRecursion (λ c. MayGive (item_bytes c.change)) more
   pub number : n ≡ length more
   pub front : bytes ≡ commits_bytes more ++ rest
 
@@ -52,7 +55,9 @@ pub record HasTaken (v : HoldingState) (bytes : List ℕ) (n : ℕ) (v' : Holdin
 pub record RefusesNext (MayGive : List ℕ → Type 0) (before after : Failures) (v : HoldingState)
     (bytes : List ℕ) (n : ℕ) (e : ViewRefusal) (v' : HoldingState) : Type 0 where
   pub rest : List ℕ
-  pub taken : HasTaken v bytes n v' rest
+  pub taken : HasTaken MayGive v bytes n v' rest
+  -- what is refused stands there
+  pub goes_on : rest ≢ []
   pub why : (e ≡ Plain NoMemory)
       ⊎ ((place : ℕ) × (place + length rest ≡ length bytes)
       × IsRefusedFirst MayGive before after v' place rest e)

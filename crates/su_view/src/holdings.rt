@@ -1,5 +1,5 @@
 // What a client holds.
-ghost use Rattle.std.specs.Prelude.{◌≡◌, ◌≢◌, ◌⊎◌, ◌∷◌, ◌++◌, ℕ, [], true, length, None, Err, IfOk, IfErr, IfSome, OnOk, OnErr};
+ghost use Rattle.std.specs.Prelude.{◌≡◌, ◌≢◌, ◌⊎◌, ◌↔◌, ◌∷◌, ◌++◌, ℕ, [], true, length, None, Err, IsTrue, IfOk, IfErr, IfSome, OnOk, OnErr};
 ghost use Rattle.sha2.specs.Sha256.{sha256};
 ghost use Rattle.su_bytes.specs.Membership.{has_user};
 ghost use Rattle.su_bytes.specs.declared.refusals.Refusal.TheVariants.{BadKey, NoUser, NoMemory};
@@ -7,7 +7,7 @@ ghost use Rattle.su_op.specs.declared.operations.Change.{Change};
 ghost use Rattle.su_desk.specs.Version.{versions};
 ghost use Rattle.su_change.specs.Item.{item_bytes};
 ghost use Rattle.su_version.specs.Commit.{commit_bytes, commit_digest};
-ghost use Rattle.su_version.specs.Chain.{MayBeNext, IsRefusedSo, tip};
+ghost use Rattle.su_version.specs.Chain.{IsSignedByAuthor, MayBeNext, IsRefusedSo, tip};
 ghost use Rattle.su_chain.specs.ChainEnd.{HasBadKey};
 ghost use Rattle.su_legal.specs.Legal.{commits_of, head_of, history};
 ghost use Rattle.su_view.specs.Holding.{HoldingState, Took};
@@ -95,6 +95,20 @@ impl Holding {
         self.keeping
             .end
             .check(self.alloc, self.keeping.desk.roster(), commit)
+    }
+
+    /// Checks as `check` does, where it is known whether the commit's author signed it.
+    pub fn check_known(&self, by_author: bool, commit: &Commit) -> Result<(), Refusal>
+        requires { IsTrue by_author ↔ IsSignedByAuthor self.now.roster commit.now }
+        ensures next { OnOk result
+            (MayBeNext self.now.roster (commits_of self.now.held) commit.now) }
+        ensures refused { IfErr result (λ e. (e ≡ NoMemory) ⊎ IsRefusedSo self.now.roster
+            (tip self.now.roster (commits_of self.now.held) commit.now.version.author)
+            commit.now e) }
+    {
+        self.keeping
+            .end
+            .check_known(self.keeping.desk.roster(), by_author, commit)
     }
 
     /// Checks what a server shows as the users' last commits, as `View::check_list` does.

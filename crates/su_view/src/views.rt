@@ -1,5 +1,5 @@
 // A client's view.
-ghost use Rattle.std.specs.Prelude.{◌≡◌, ◌⊎◌, ◌∷◌, ◌++◌, ◌+◌, ◌-◌, ◌<◌, ◌^◌, ℕ, List, [], true, length, None, Ok, Err, IfOk, IfErr, OnOk, OnErr, MatchOption, option_map};
+ghost use Rattle.std.specs.Prelude.{◌≡◌, ◌⊎◌, ◌∷◌, ◌++◌, ◌+◌, ◌-◌, ◌<◌, ◌^◌, ◌↔◌, ℕ, List, [], true, length, None, Ok, Err, IsTrue, IfOk, IfErr, OnOk, OnErr, MatchOption, option_map};
 ghost use Rattle.std.specs.Borrow.{Lends, sem};
 ghost use Rattle.su_bytes.specs.Membership.{has_user};
 ghost use Rattle.su_bytes.specs.declared.refusals.Refusal.TheVariants.{BadKey, NoUser, NoMemory, KeyFileFault};
@@ -11,7 +11,7 @@ ghost use Rattle.su_desk.specs.Version.{versions};
 ghost use Rattle.su_lms.specs.PrivateKey.{key_of, leaf_count};
 ghost use Rattle.su_change.specs.Item.{item_bytes};
 ghost use Rattle.su_version.specs.Commit.{commit_bytes};
-ghost use Rattle.su_version.specs.Chain.{IsNewLeaf, last_leaf};
+ghost use Rattle.su_version.specs.Chain.{IsNewLeaf, IsSignedByAuthor, MayBeNext, last_leaf};
 ghost use Rattle.su_legal.specs.Legal.{Committed, commits_of, head_of, history, Legal, MayJoin};
 ghost use Rattle.su_view.specs.Holding.{Took, MaySign, tree_of_list};
 ghost use Rattle.su_view.specs.Entry.{committed_at, AreBytesAt};
@@ -87,7 +87,8 @@ impl<S: BlockSource + Drop> View<S> {
     fn accept_commit(&mut self, commit: Commit, bytes: &[u8]) -> Result<(), ViewRefusal>
         requires checked { S.is_checked ≡ true }
         requires bytes { bytes.now ≡ commit_bytes commit }
-        ensures took { OnOk result ((change : Change_) × Took self.old.holding
+        ensures took { OnOk result ((change : Change_)
+            × S.may_give self.old.source (item_bytes change) × Took self.old.holding
             (record { commit = commit; change = change } ∷ []) self.new.holding) }
         ensures refused { IfErr result (λ e. (e ≡ Plain NoMemory)
             ⊎ HasFailed (S.failed self.old.source) (S.failed self.new.source)
@@ -102,6 +103,58 @@ impl<S: BlockSource + Drop> View<S> {
         if let Err(refusal) = self.holding.check(&commit) {
             return Err(ViewRefusal::Plain(refusal));
         }
+        self.join(commit, bytes)
+    }
+
+    /// Takes a commit by its bytes, of which it is known whether its author signed it: it checks no
+    /// signature. The refusals are those of `accept`. A refusal leaves the list as it was.
+    pub fn accept_known(
+        &mut self,
+        commit: Commit,
+        bytes: &[u8],
+        by_author: bool,
+    ) -> Result<(), ViewRefusal>
+        requires checked { S.is_checked ≡ true }
+        requires bytes { bytes.now ≡ commit_bytes commit }
+        requires known { IsTrue by_author ↔ IsSignedByAuthor self.old.holding.roster commit }
+        ensures took { OnOk result ((change : Change_)
+            × S.may_give self.old.source (item_bytes change) × Took self.old.holding
+            (record { commit = commit; change = change } ∷ []) self.new.holding) }
+        ensures refused { IfErr result (λ e. (e ≡ Plain NoMemory)
+            ⊎ HasFailed (S.failed self.old.source) (S.failed self.new.source)
+            commit.version.change e
+            ⊎ IsRefusedCommit (S.may_give self.old.source) self.old.holding commit e) }
+        ensures err { OnErr result (self.new.holding ≡ self.old.holding) }
+        ensures no_more { (item : List ℕ) → S.may_give self.new.source item
+            → S.may_give self.old.source item }
+        ensures no_failure { OnOk result
+            (S.failed self.new.source ≡ S.failed self.old.source) }
+    {
+        if let Err(refusal) = self.holding.check_known(by_author, &commit) {
+            return Err(ViewRefusal::Plain(refusal));
+        }
+        self.join(commit, bytes)
+    }
+
+    /// Asks the source for the item of the change of a commit that may be the next, and takes the
+    /// commit. A refusal leaves the list as it was.
+    fn join(&mut self, commit: Commit, bytes: &[u8]) -> Result<(), ViewRefusal>
+        requires checked { S.is_checked ≡ true }
+        requires next { let v = self.old.holding in MayBeNext v.roster (commits_of v.held) commit }
+        requires bytes { bytes.now ≡ commit_bytes commit }
+        ensures took { OnOk result ((change : Change_)
+            × S.may_give self.old.source (item_bytes change) × Took self.old.holding
+            (record { commit = commit; change = change } ∷ []) self.new.holding) }
+        ensures refused { IfErr result (λ e. (e ≡ Plain NoMemory)
+            ⊎ HasFailed (S.failed self.old.source) (S.failed self.new.source)
+            commit.version.change e
+            ⊎ IsRefusedCommit (S.may_give self.old.source) self.old.holding commit e) }
+        ensures err { OnErr result (self.new.holding ≡ self.old.holding) }
+        ensures no_more { (item : List ℕ) → S.may_give self.new.source item
+            → S.may_give self.old.source item }
+        ensures no_failure { OnOk result
+            (S.failed self.new.source ≡ S.failed self.old.source) }
+    {
         let item = match self.source.get(self.alloc, commit.version().change()) {
             Ok(item) => item,
             Err(refusal) => return Err(ViewRefusal::Plain(refusal)),
@@ -117,6 +170,7 @@ impl<S: BlockSource + Drop> View<S> {
     fn accept_bytes(&mut self, bytes: &[u8]) -> Result<(), ViewRefusal>
         requires checked { S.is_checked ≡ true }
         ensures took { OnOk result ((c : Committed) × (bytes.now ≡ commit_bytes c.commit)
+            × S.may_give self.old.source (item_bytes c.change)
             × Took self.old.holding (c ∷ []) self.new.holding) }
         ensures refused { IfErr result (λ e. (e ≡ Plain NoMemory)
             ⊎ IsRefusedBytes (S.may_give self.old.source) (S.failed self.old.source)
@@ -145,7 +199,8 @@ impl<S: BlockSource + Drop> View<S> {
     pub fn accept(&mut self, bytes: &[u8]) -> Result<u64, (u64, ViewRefusal)>
         requires checked { S.is_checked ≡ true }
         ensures took { IfOk result (λ n.
-            HasTaken self.old.holding bytes.now n self.new.holding []) }
+            HasTaken (S.may_give self.old.source) self.old.holding bytes.now n
+            self.new.holding []) }
         ensures refused { IfErr result (λ e. RefusesNext (S.may_give self.old.source)
             (S.failed self.old.source) (S.failed self.new.source) self.old.holding bytes.now
             e.0 e.1 self.new.holding) }
@@ -221,7 +276,8 @@ impl<S: BlockSource + Drop> View<S> {
     /// `accept`, in its order. A refusal leaves the list as it was.
     pub fn accept_own(&mut self, commit: &Commit) -> Result<u64, ViewRefusal>
         requires checked { S.is_checked ≡ true }
-        ensures took { OnOk result ((change : Change_) × Took self.old.holding
+        ensures took { OnOk result ((change : Change_)
+            × S.may_give self.old.source (item_bytes change) × Took self.old.holding
             (record { commit = commit.now; change = change } ∷ []) self.new.holding) }
         ensures number { IfOk result (λ n. n ≡ length self.new.holding.held) }
         ensures refused { IfErr result (λ e. (e ≡ Plain NoMemory)

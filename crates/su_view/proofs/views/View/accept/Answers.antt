@@ -1,4 +1,5 @@
 use Rattle.std.proofs.Common.{◌∙◌, arith}
+use Rattle.su_change.specs.Item.{item_bytes}
 use Rattle.su_view.proofs.ListLemmas.{shorter, one_taken, refuses_next}
 use Rattle.su_view.proofs.views.View.accept.Goals as goal
 
@@ -14,10 +15,10 @@ pub loop-rest-preserved : goal.loop-rest-preserved
 loop-rest-preserved g c =
     let (taken, sum, failed, may) = c.loop-rest.invariant in
     let ok = c.in_default-accept_bytes.ensures in
-    let (committed, is, took) = ok.took in
+    let (committed, is, given, took) = ok.took in
     let less = shorter c.loop-rest.rest.now c.in-Some.first.now c.in-Some.others.now c.in-Some.ensures in (
-      one_taken c.args.self.now.holding c.loop-rest.self.holding c.accept_bytes.new.self.holding c.args.bytes.now c.loop-rest.rest.now c.in-Some.first.now c.in-Some.others.now
-          c.loop-rest.count committed taken c.in-Some.ensures is took,
+      one_taken (g.S.BlockSource.may_give c.args.self.now.source) c.args.self.now.holding c.loop-rest.self.holding c.accept_bytes.new.self.holding c.args.bytes.now c.loop-rest.rest.now c.in-Some.first.now c.in-Some.others.now
+          c.loop-rest.count committed taken c.in-Some.ensures is (may (item_bytes committed.change) given) took,
       omega (arith, sum, less),
       ok.no_failure ∙ failed,
       λ item m. may item (ok.no_more item m),

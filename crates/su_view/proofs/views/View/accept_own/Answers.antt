@@ -24,5 +24,5 @@ returns-in_err-accept_commit-clause-refused g c =
 pub returns-clause-took : goal.returns-clause-took
 returns-clause-took g c =
     let same = same_commit (Ok c.in-Ok-decode.copy) c.args.commit.now c.in-Ok-decode.copy refl (c.in-Ok-decode.ensures.only c.args.commit.now c.version-version.ensures.commit (c.as_slice.ensures.value ∙ c.in-Ok.ensures.value)) in
-    let (change, took) = c.in_ok-accept_commit.ensures.took in
-    (change, subst (λ (d : Commit). Took c.args.self.now.holding (record { commit = d; change = change } ∷ []) c.accept_commit.new.self.holding) same took)
+    let (change, given, took) = c.in_ok-accept_commit.ensures.took in
+    (change, given, subst (λ (d : Commit). Took c.args.self.now.holding (record { commit = d; change = change } ∷ []) c.accept_commit.new.self.holding) same took)
