@@ -14,17 +14,19 @@ use Rattle.su_audit.specs.declared.audits.Ending.TheVariants.{Taken, Refused, Fa
 use Rattle.su_audit.specs.Audit.{AreBytesOf, BeginsLegally, IsLegalLog, IsRefusedAt, held_by_first, taken_text, refused_text, Tells, Prints, PrintsSome}
 
 -- So far the log begins with the records of what is held, and this is left; the next is the nth.
-pub record Stands (ro : Membership) (log : List ℕ) (v : HoldingState) (place : ℕ) (known : Option (List ℕ)) (n : ℕ) : Type 0 where
+pub record Stands (ro : Membership) (log : List ℕ) (v : HoldingState) (Left : ℕ → List ℕ → Type 0) (n : ℕ) : Type 0 where
   pub commits : List Committed
+  pub place : ℕ
   pub rest : List ℕ
   pub holds : v ≡ held_by_first ro commits
   pub begins : BeginsLegally ro log commits place rest
-  pub left : known ≡ Some rest
+  pub left : Left place rest
   pub number : n ≡ length commits + 1
 
-pub none_yet : (ro : Membership) (log : List ℕ) (v : HoldingState) (known : Option (List ℕ)) → v ≡ held_by_first ro [] → known ≡ Some log → Stands ro log v 0 known 1
-none_yet ro log v known holds left = record {
+pub none_yet : (ro : Membership) (log : List ℕ) (v : HoldingState) (Left : ℕ → List ℕ → Type 0) → v ≡ held_by_first ro [] → Left 0 log → Stands ro log v Left 1
+none_yet ro log v Left holds left = record {
   commits = [];
+  place = 0;
   rest = log;
   holds = holds;
   begins = record { records = []; front = refl; place_is = refl; bytes_are = tt; legal = tt };
@@ -45,61 +47,60 @@ further_log log rs r rest rest' is begins =
     ∙ ap (λ x. (log_bytes rs ++ x) ++ rest') (sym (append-nil (record_bytes r)))
     ∙ ap (λ x. x ++ rest') (sym (flat_map-append record_bytes rs (r ∷ [])))
 
-further_place : (rs : List LogRecord) (r : LogRecord) (place place' : ℕ) → place ≡ length (log_bytes rs) → place' ≡ place + length (record_bytes r) → place' ≡ length (log_bytes (rs ++ r ∷ []))
-further_place rs r place place' is is' =
+further_place : (rs : List LogRecord) (r : LogRecord) (place : ℕ) → place ≡ length (log_bytes rs) → place + length (record_bytes r) ≡ length (log_bytes (rs ++ r ∷ []))
+further_place rs r place is =
     let sum = length-append (log_bytes rs) (record_bytes r ++ []) in
     let one : length (record_bytes r ++ []) ≡ length (record_bytes r) = ap length (append-nil (record_bytes r)) in
     let all : length (log_bytes (rs ++ r ∷ [])) ≡ length (log_bytes rs ++ (record_bytes r ++ [])) = ap length (flat_map-append record_bytes rs (r ∷ [])) in
-    omega (arith, sum, one, all, is, is')
+    omega (arith, sum, one, all, is)
 
-pub further : (ro : Membership) (log : List ℕ) (v v' : HoldingState) (place place' : ℕ) (known known' : Option (List ℕ)) (n : ℕ)
-    → Stands ro log v place known n → ((input : List ℕ) → known ≡ Some input → Takes place v input place' v' known') → Stands ro log v' place' known' (n + 1)
-further ro log v v' place place' known known' n s takes =
-    let t = takes s.rest s.left in
-    let may : LegalAfter ro s.commits (t.taken ∷ []) = subst (λ (u : HoldingState). LegalAfter u.roster u.held (t.taken ∷ [])) s.holds t.took.may in
-    record {
-      commits = s.commits ++ t.taken ∷ [];
-      rest = t.rest;
-      holds = t.took.becomes ∙ ap (λ u. with_more u (t.taken ∷ [])) s.holds;
-      begins = record {
-        records = s.begins.records ++ t.first ∷ [];
-        front = further_log log s.begins.records t.first s.rest t.rest s.begins.front t.begins;
-        place_is = further_place s.begins.records t.first place place' s.begins.place_is t.place_is;
-        bytes_are = are_further s.begins.records s.commits t.first t.taken s.begins.bytes_are t.bytes_are;
-        legal = after_both ro [] s.commits (t.taken ∷ []) s.begins.legal may;
-      };
-      left = t.left;
-      number = ap (λ k. k + 1) (s.number ∙ sym (length-append s.commits (t.taken ∷ [])));
-    }
+module _ (ro : Membership) (log : List ℕ) (v : HoldingState) (Left : ℕ → List ℕ → Type 0) (n : ℕ) (s : Stands ro log v Left n) where
+  pub further : (v' : HoldingState) (Left' : ℕ → List ℕ → Type 0) → ((place : ℕ) (input : List ℕ) → Left place input → Takes place v input Left' v') → Stands ro log v' Left' (n + 1)
+  further v' Left' takes =
+      let t = takes s.place s.rest s.left in
+      let may : LegalAfter ro s.commits (t.taken ∷ []) = subst (λ (u : HoldingState). LegalAfter u.roster u.held (t.taken ∷ [])) s.holds t.took.may in
+      record {
+        commits = s.commits ++ t.taken ∷ [];
+        place = s.place + length (record_bytes t.first);
+        rest = t.rest;
+        holds = t.took.becomes ∙ ap (λ u. with_more u (t.taken ∷ [])) s.holds;
+        begins = record {
+          records = s.begins.records ++ t.first ∷ [];
+          front = further_log log s.begins.records t.first s.rest t.rest s.begins.front t.begins;
+          place_is = further_place s.begins.records t.first s.place s.begins.place_is;
+          bytes_are = are_further s.begins.records s.commits t.first t.taken s.begins.bytes_are t.bytes_are;
+          legal = after_both ro [] s.commits (t.taken ∷ []) s.begins.legal may;
+        };
+        left = t.left;
+        number = ap (λ k. k + 1) (s.number ∙ sym (length-append s.commits (t.taken ∷ [])));
+      }
 
-pub at_end : (ro : Membership) (log : List ℕ) (v : HoldingState) (place : ℕ) (known : Option (List ℕ)) (n m : ℕ)
-    → Stands ro log v place known n → n ≡ m + 1 → ((input : List ℕ) → known ≡ Some input → input ≡ []) → IsLegalLog ro log m
-at_end ro log v place known n m s is ends =
-    let none = ends s.rest s.left in
-    let front : log ≡ log_bytes s.begins.records ++ [] = subst (λ x. log ≡ log_bytes s.begins.records ++ x) none s.begins.front in
-    let whole : log ≡ log_bytes s.begins.records = front ∙ append-nil (log_bytes s.begins.records) in
-    record {
-      commits = s.commits;
-      number = omega (arith, is, s.number);
-      begins = record {
-        records = s.begins.records;
-        front = front;
-        place_is = ap length whole;
-        bytes_are = s.begins.bytes_are;
-        legal = s.begins.legal;
-      };
-    }
+  pub at_end : (m : ℕ) → n ≡ m + 1 → ((place : ℕ) (input : List ℕ) → Left place input → input ≡ []) → IsLegalLog ro log m
+  at_end m is ends =
+      let none = ends s.place s.rest s.left in
+      let front : log ≡ log_bytes s.begins.records ++ [] = subst (λ x. log ≡ log_bytes s.begins.records ++ x) none s.begins.front in
+      let whole : log ≡ log_bytes s.begins.records = front ∙ append-nil (log_bytes s.begins.records) in
+      record {
+        commits = s.commits;
+        number = omega (arith, is, s.number);
+        begins = record {
+          records = s.begins.records;
+          front = front;
+          place_is = ap length whole;
+          bytes_are = s.begins.bytes_are;
+          legal = s.begins.legal;
+        };
+      }
 
-pub refused_next : (ro : Membership) (log : List ℕ) (v : HoldingState) (place : ℕ) (known : Option (List ℕ)) (n : ℕ) (e : ViewRefusal)
-    → Stands ro log v place known n → ((input : List ℕ) → known ≡ Some input → IsRefusedNext v place input e) → IsRefusedAt ro log n e
-refused_next ro log v place known n e s why = record {
-  commits = s.commits;
-  place = place;
-  rest = s.rest;
-  number = s.number;
-  begins = s.begins;
-  why = subst (λ u. IsRefusedNext u place s.rest e) s.holds (why s.rest s.left);
-}
+  pub refused_next : (e : ViewRefusal) → ((place : ℕ) (input : List ℕ) → Left place input → IsRefusedNext v place input e) → IsRefusedAt ro log n e
+  refused_next e why = record {
+    commits = s.commits;
+    place = s.place;
+    rest = s.rest;
+    number = s.number;
+    begins = s.begins;
+    why = subst (λ u. IsRefusedNext u s.place s.rest e) s.holds (why s.place s.rest s.left);
+  }
 
 -- ---- what is told
 

@@ -1,3 +1,5 @@
 mod LogLemmas
+pub mod RecordLemmas
+pub mod AheadLemmas
 mod StepLemmas
 mod AuditLemmas

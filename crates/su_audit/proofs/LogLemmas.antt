@@ -2,31 +2,9 @@
 use Rattle.std.proofs.Common.{◌≡◌, ℕ, ◌<◌, ◌≤◌, ◌⊎◌, inl, inr, ◌^◌, List, [], ◌++◌, length, length-append, refl, sym, ap, ◌∙◌, arith, append_assoc, append-nil, Option, Some, None}
 use Rattle.std.specs.Io.KnownBytes.{Consumes, IsAtEnd}
 use Rattle.su_format.specs.Part.{u32_bytes}
-use Rattle.su_format.proofs.Public.{u32_told}
-use Rattle.su_audit.specs.Log.{BeginsWith, HasNoPart}
-
--- a part that stands there has as many bytes as the number says, and these are behind it
-first_is : (bytes first rest behind : List ℕ) (size : ℕ) → BeginsWith bytes first rest → size < 2 ^ 32 → bytes ≡ u32_bytes size ++ behind
-    → (length first ≡ size) × (first ++ rest ≡ behind)
-first_is bytes first rest behind size b small is =
-    u32_told (length first) size (first ++ rest) behind b.few small (sym (append_assoc (u32_bytes (length first)) first rest) ∙ sym b.whole ∙ is)
-
--- a number that says more than there is begins no part
-too_long : (bytes behind : List ℕ) (size : ℕ) → size < 2 ^ 32 → bytes ≡ u32_bytes size ++ behind → length behind < size → HasNoPart bytes
-too_long bytes behind size small is short first rest b =
-    let p = first_is bytes first rest behind size b small is in
-    let long = ap length p.1 in
-    let sum = length-append first rest in
-    omega (arith, p.0, long, sum, short)
-
--- fewer than four bytes begin none
-pub too_short : (bytes : List ℕ) → length bytes < 4 → HasNoPart bytes
-too_short bytes short first rest b =
-    let long = ap length b.whole in
-    let sum = length-append (u32_bytes (length first) ++ first) rest in
-    let number = length-append (u32_bytes (length first)) first in
-    let four : length (u32_bytes (length first)) ≡ 4 = refl in
-    omega (arith, long, sum, number, four, short)
+use Rattle.su_view.specs.Listing.{BeginWith}
+use Rattle.su_view.proofs.Public.{too_long}
+use Rattle.su_audit.specs.Log.{HasNoPart}
 
 -- what is consumed of known bytes, and what is left then
 pub record Left (input bytes : List ℕ) (known : Option (List ℕ)) : Type 0 where
@@ -67,7 +45,7 @@ cut_behind input number bytes size old mid new is c d number_is small short e =
 
 -- a number, and as many bytes behind it
 pub part_read : (input number bytes : List ℕ) (size : ℕ) (old mid new : Option (List ℕ)) → old ≡ Some input → Consumes old mid number → Consumes mid new bytes
-    → u32_bytes size ≡ number → size < 2 ^ 32 → length bytes ≡ size → (rest : List ℕ) × BeginsWith input bytes rest × (new ≡ Some rest)
+    → u32_bytes size ≡ number → size < 2 ^ 32 → length bytes ≡ size → (rest : List ℕ) × BeginWith input bytes rest × (new ≡ Some rest)
 part_read input number bytes size old mid new is c d number_is small long =
     let l = left_of input number old mid is c in
     let m = left_of l.rest bytes mid new l.left d in

@@ -1,16 +1,21 @@
 -- One record of a log.
-use Rattle.std.proofs.Common.{◌≡◌, ℕ, ◌+◌, ◌⊎◌, List, [], ◌∷◌, ◌++◌, length, refl, inl, inr, Option, Some, ap, sym, ◌∙◌, arith, length-append, append_assoc}
-use Rattle.su_bytes.specs.declared.refusals.Refusal.TheVariants.{NoMemory}
+use Rattle.std.proofs.Common.{◌≡◌, ℕ, ◌+◌, ◌⊎◌, List, [], ◌∷◌, ◌++◌, length, inl, inr, ap, sym, subst, ◌∙◌, append_assoc}
+use Rattle.std.specs.Prelude.{⊤, Result, Ok, Err, IfErr}
+use Rattle.su_bytes.specs.declared.refusals.Refusal.TheVariants.{NoMemory, Malformed}
 use Rattle.su_block.specs.declared.failures.Failures.{Failures}
-use Rattle.su_format.specs.Part.{u32_bytes}
 use Rattle.su_version.specs.Commit.{Commit, IsCommit, commit_bytes}
 use Rattle.su_legal.specs.Legal.{Committed}
 use Rattle.su_view.specs.Holding.{HoldingState, Took}
 use Rattle.su_view.specs.Joining.{IsRefusedCommit, HasFailed}
 use Rattle.su_view.specs.declared.refusals.ViewRefusal.{ViewRefusal}
 use Rattle.su_view.specs.declared.refusals.ViewRefusal.TheVariants.{Plain}
-use Rattle.su_audit.specs.Log.{part_bytes, BeginsWith}
-use Rattle.su_audit.specs.Step.{IsRefusedRecord, Takes}
+use Rattle.su_view.specs.Listing.{record_bytes as part_bytes}
+use Rattle.su_audit.specs.Log.{LogRecord, record_bytes}
+use Rattle.su_audit.specs.Record.{BeginsWithRecord, StopsSo}
+use Rattle.su_audit.specs.declared.records.Stop.TheVariants.{Cut}
+use Rattle.su_audit.specs.declared.steps.Step.{Step}
+use Rattle.su_audit.specs.declared.steps.Step.TheVariants as step
+use Rattle.su_audit.specs.Step.{IsRefusedRecord, IsRefusedNext, Takes, Steps}
 
 any_source : (MayGive : List ℕ → Type 0) (v : HoldingState) (c : Commit) (e : ViewRefusal) → IsRefusedCommit MayGive v c e → IsRefusedCommit (λ _. Unit {0}) v c e
 any_source MayGive v c e (inl not_next) = inl not_next
@@ -23,27 +28,35 @@ refused_view v bytes item c e MayGive before after good is (inl memory) = inl me
 refused_view v bytes item c e MayGive before after good is (inr (inl failed)) = inr (inr (inr (c, good, is, inl (failed.why, failed.refusal, failed.failure))))
 refused_view v bytes item c e MayGive before after good is (inr (inr refused)) = inr (inr (inr (c, good, is, inr (any_source MayGive v c e refused))))
 
-long_part : (bytes : List ℕ) → length (part_bytes bytes) ≡ 4 + length bytes
-long_part bytes =
-    let sum = length-append (u32_bytes (length bytes)) bytes in
-    let four : length (u32_bytes (length bytes)) ≡ 4 = refl in
-    omega (arith, sum, four)
+-- and where that is known of what came of taking it
+pub refused_known : (v : HoldingState) (bytes item : List ℕ) (c : Commit) (r : Result ⊤ ViewRefusal) (MayGive : List ℕ → Type 0) (before after : Failures)
+    → IsCommit c → bytes ≡ commit_bytes c → IfErr r (λ e. (e ≡ Plain NoMemory) ⊎ HasFailed before after c.version.change e ⊎ IsRefusedCommit MayGive v c e) → IfErr r (IsRefusedRecord v bytes item)
+refused_known v bytes item c (Ok x) MayGive before after good is why = tt
+refused_known v bytes item c (Err e) MayGive before after good is why = refused_view v bytes item c e MayGive before after good is why
 
--- a record is read part by part
-pub takes_parts : (place mid place' : ℕ) (v v' : HoldingState) (input bytes rest item rest' : List ℕ) (known : Option (List ℕ)) (c : Committed)
-    → BeginsWith input bytes rest → BeginsWith rest item rest' → known ≡ Some rest' → mid ≡ place + (4 + length bytes) → place' ≡ mid + (4 + length item)
-    → bytes ≡ commit_bytes c.commit → Took v (c ∷ []) v' → Takes place v input place' v' known
-takes_parts place mid place' v v' input bytes rest item rest' known c b d left here there is took = record {
-  first = record { commit = bytes; item = item };
-  rest = rest';
+-- what no record comes of
+refused_stop : (v : HoldingState) (at place : ℕ) (input : List ℕ) → StopsSo (Cut at) place input → IsRefusedNext v place input (Plain (Malformed at))
+refused_stop v at place input (inl (same, goes_on, none)) = inl (ap (λ (p : ℕ). Plain (Malformed p)) same, goes_on, none)
+refused_stop v at place input (inr (first, rest, begins, same, none)) = inr (first, rest, begins, inl (ap (λ (p : ℕ). Plain (Malformed p)) same, none))
+
+pub refused_step : (v v' : HoldingState) (at place : ℕ) (input : List ℕ) (Left : ℕ → List ℕ → Type 0) (result : Step) → result ≡ step.Refused (Plain (Malformed at)) → StopsSo (Cut at) place input
+    → Steps place v input Left v' result
+refused_step v v' at place input Left result is stops = subst (Steps place v input Left v') (sym is) (refused_stop v at place input stops)
+
+-- a record that is refused
+pub refused_record : (v : HoldingState) (place : ℕ) (input : List ℕ) (r : LogRecord) (rest : List ℕ) (e : ViewRefusal) → BeginsWithRecord input r rest → IsRefusedRecord v r.commit r.item e
+    → IsRefusedNext v place input e
+refused_record v place input r rest e b why = inr (r.commit, b.rest, b.commit, inr (r.item, rest, b.item, why))
+
+-- a record whose commit is taken
+pub takes_record : (v v' : HoldingState) (place : ℕ) (input : List ℕ) (r : LogRecord) (rest : List ℕ) (Left : ℕ → List ℕ → Type 0) (c : Committed)
+    → BeginsWithRecord input r rest → Left (place + length (record_bytes r)) rest → r.commit ≡ commit_bytes c.commit → Took v (c ∷ []) v' → Takes place v input Left v'
+takes_record v v' place input r rest Left c b left is took = record {
+  first = r;
+  rest = rest;
   taken = c;
-  begins = b.whole ∙ ap (λ x. part_bytes bytes ++ x) d.whole ∙ sym (append_assoc (part_bytes bytes) (part_bytes item) rest');
+  begins = b.commit.whole ∙ ap (λ x. part_bytes r.commit ++ x) b.item.whole ∙ sym (append_assoc (part_bytes r.commit) (part_bytes r.item) rest);
   left = left;
   bytes_are = is;
   took = took;
-  place_is =
-      let one = length-append (part_bytes bytes) (part_bytes item) in
-      let first = long_part bytes in
-      let second = long_part item in
-      omega (arith, one, first, second, here, there);
 }

@@ -1,3 +1,5 @@
 pub mod Log
+pub mod Record
+pub mod Ahead
 pub mod Step
 pub mod Audit

@@ -1,8 +1,8 @@
 -- A log of commits: of each its bytes, and those of an item, with the number of bytes before both.
 -- (This project's own format.)
-use Rattle.std.specs.Prelude.{◌≡◌, ◌≢◌, ◌+◌, ◌<◌, ◌^◌, ℕ, List, [], ◌++◌, length, Option, Some}
+use Rattle.std.specs.Prelude.{◌≡◌, ◌≢◌, ◌+◌, ℕ, List, [], ◌++◌, length, Option, Some}
 use Rattle.std.specs.List.{flat_map}
-use Rattle.su_format.specs.Part.{u32_bytes}
+use Rattle.su_view.specs.Listing.{BeginWith, record_bytes as part_bytes}
 use Rattle.su_audit.specs.declared.logs.Part.{Part}
 use Rattle.su_audit.specs.declared.logs.Part.TheVariants.{Bytes, Cut, End}
 
@@ -11,29 +11,21 @@ pub record LogRecord : Type 0 where
   pub commit : List ℕ
   pub item : List ℕ
 
--- bytes, with their number before them
-abbrev pub part_bytes : List ℕ → List ℕ
-part_bytes bytes = u32_bytes (length bytes) ++ bytes
-
+-- both, each with its number before it
 abbrev pub record_bytes : LogRecord → List ℕ
 record_bytes r = part_bytes r.commit ++ part_bytes r.item
 
 abbrev pub log_bytes : List LogRecord → List ℕ
 log_bytes rs = flat_map record_bytes rs
 
--- the bytes begin with a part: with these, before which their number stands
-pub record BeginsWith (bytes first rest : List ℕ) : Type 0 where
-  pub few : length first < 2 ^ 32
-  pub whole : bytes ≡ part_bytes first ++ rest
-
--- the bytes begin with no part
+-- the bytes begin with no part: with no bytes before which their number stands
 abbrev pub HasNoPart : List ℕ → Type 0
-HasNoPart bytes = (first rest : List ℕ) → BeginsWith bytes first rest → ⊥
+HasNoPart bytes = (first rest : List ℕ) → BeginWith bytes first rest → ⊥
 
 -- what the next part of an input is, and what is left of it
 abbrev pub Reads : Part → List ℕ → Option (List ℕ) → Type 0
 Reads (Bytes bytes) input known =
-    (rest : List ℕ) × BeginsWith input bytes.items rest × (known ≡ Some rest)
+    (rest : List ℕ) × BeginWith input bytes.items rest × (known ≡ Some rest)
 Reads Cut input known = (input ≢ []) × HasNoPart input
 Reads End input known = input ≡ []
 

@@ -12,7 +12,8 @@ use Rattle.su_view.specs.declared.refusals.ViewRefusal.{ViewRefusal}
 use Rattle.su_view.specs.declared.refusals.ViewRefusal.TheVariants.{Plain}
 use Rattle.su_audit.specs.declared.steps.Step.{Step}
 use Rattle.su_audit.specs.declared.steps.Step.TheVariants as step
-use Rattle.su_audit.specs.Log.{LogRecord, record_bytes, BeginsWith, HasNoPart}
+use Rattle.su_view.specs.Listing.{BeginWith}
+use Rattle.su_audit.specs.Log.{LogRecord, record_bytes, HasNoPart}
 
 -- Why a record is refused, for what is held: there is no memory; its item is none; its commit's
 -- bytes spell none; or the commit doesn't join, or the source has no item of its change.
@@ -30,24 +31,23 @@ IsRefusedRecord v bytes item e =
 abbrev pub IsRefusedNext : HoldingState → ℕ → List ℕ → ViewRefusal → Type 0
 IsRefusedNext v place input e =
     ((e ≡ Plain (Malformed place)) × (input ≢ []) × HasNoPart input)
-    ⊎ ((first rest : List ℕ) × BeginsWith input first rest
+    ⊎ ((first rest : List ℕ) × BeginWith input first rest
     × (((e ≡ Plain (Malformed (place + (4 + length first)))) × HasNoPart rest)
-    ⊎ ((item others : List ℕ) × BeginsWith rest item others × IsRefusedRecord v first item e)))
+    ⊎ ((item others : List ℕ) × BeginWith rest item others × IsRefusedRecord v first item e)))
 
--- the log goes on with a record, whose commit is taken
-pub record Takes (place : ℕ) (v : HoldingState) (input : List ℕ) (place' : ℕ) (v' : HoldingState)
-    (known : Option (List ℕ)) : Type 0 where
+-- The log goes on with a record, whose commit is taken; and behind it, at a place, this is left.
+pub record Takes (place : ℕ) (v : HoldingState) (input : List ℕ) (Left : ℕ → List ℕ → Type 0)
+    (v' : HoldingState) : Type 0 where
   pub first : LogRecord
   pub rest : List ℕ
   pub taken : Committed
   pub begins : input ≡ record_bytes first ++ rest
-  pub left : known ≡ Some rest
+  pub left : Left (place + length (record_bytes first)) rest
   pub bytes_are : first.commit ≡ commit_bytes taken.commit
   pub took : Took v (taken ∷ []) v'
-  pub place_is : place' ≡ place + length (record_bytes first)
 
-abbrev pub Steps : ℕ → HoldingState → List ℕ → ℕ → HoldingState → Option (List ℕ) → Step → Type 0
-Steps place v input place' v' known step.Took = Takes place v input place' v' known
-Steps place v input place' v' known step.Ended = input ≡ []
-Steps place v input place' v' known (step.Refused e) = IsRefusedNext v place input e
-Steps place v input place' v' known (step.Failed error) = ⊤
+abbrev pub Steps : ℕ → HoldingState → List ℕ → (ℕ → List ℕ → Type 0) → HoldingState → Step → Type 0
+Steps place v input Left v' step.Took = Takes place v input Left v'
+Steps place v input Left v' step.Ended = input ≡ []
+Steps place v input Left v' (step.Refused e) = IsRefusedNext v place input e
+Steps place v input Left v' (step.Failed error) = ⊤

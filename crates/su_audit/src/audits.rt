@@ -4,9 +4,11 @@ ghost use Rattle.std.specs.Io.KnownBytes.{Appends};
 ghost use Rattle.su_audit.specs.declared.audits.Ending.TheVariants.{Taken, Refused};
 ghost use Rattle.su_audit.specs.Audit.{Prints, PrintsSome, Tells, taken_text, refused_text};
 
-use crate::steps::{Log, Step, next_step};
+use crate::ahead::Ahead;
+use crate::steps::{Step, next_step};
 use std::alloc::{AllocError, Global};
 use std::io::{Read, Write};
+use std::thread::Threads;
 use std::{fmt, io};
 use su_block::MemoryBlocks;
 use su_bytes::{Refusal, Roster, User};
@@ -46,14 +48,23 @@ impl fmt::Display for Fault {
     }
 }
 
+/// Somebody who watches an audit.
+pub trait Watcher {
+    /// Tells that so many commits were taken so far.
+    fn taken(&mut self, count: u64);
+}
+
 /// Takes the commits of a log in a view of user 0, one after the other, each with the item that
 /// follows it. Prints `ok N`, where all N of them are taken; else `at N` and the refusal of the Nth,
-/// where those before it are.
-pub fn run_audit<R: Read + Drop, W: Write>(
+/// where those before it are. It reads ahead, and checks the signatures of what it read on all
+/// cores; each time that the view has taken all of this, the watcher is told.
+pub fn run_audit<T: Threads + Sync, R: Read + Drop, W: Write, X: Watcher>(
+    rt: &T,
     alloc: Global,
     reader: R,
     writer: &mut W,
     roster: Roster,
+    watcher: &mut X,
 ) -> Ending
     ensures prints { (log before : List ℕ) → R.remaining reader ≡ Some log
         → W.contents writer.old ≡ Some before
@@ -70,10 +81,14 @@ pub fn run_audit<R: Read + Drop, W: Write>(
         Ok(view) => view,
         Err(refusal) => return Ending::Failed(Fault::NoView(refusal)),
     };
-    let mut log = Log { reader, place: 0 };
+    let mut log = Ahead::new(alloc, reader);
     for number in 1..u64::MAX {
-        match next_step(alloc, &mut log, &mut view) {
-            Step::Took => {}
+        match next_step(rt, alloc, &mut log, &mut view) {
+            Step::Took => {
+                if log.is_used_up() {
+                    watcher.taken(number);
+                }
+            }
             Step::Ended => return tell_taken(alloc, writer, number - 1),
             Step::Refused(refusal) => return tell_refused(alloc, writer, number, &refusal),
             Step::Failed(error) => return Ending::Failed(Fault::Reading(error)),

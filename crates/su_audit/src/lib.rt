@@ -2,10 +2,12 @@
 //! view, up to the first one that this refuses.
 #![tactic(auto)]
 
+mod ahead;
 mod audits;
 mod keys;
 mod logs;
+mod records;
 mod steps;
 
-pub use audits::{Ending, Fault, run_audit};
+pub use audits::{Ending, Fault, Watcher, run_audit};
 pub use keys::{KeyFault, read_keys};

@@ -1,29 +1,25 @@
 // One record of a log.
-ghost use Rattle.std.specs.Prelude.{◌≡◌, ◌∷◌, ℕ, List, [], Some, IfOk, IfErr, OnOk, OnErr};
+ghost use Rattle.std.specs.Prelude.{◌≡◌, ◌∷◌, ℕ, List, [], IfErr, OnOk, OnErr};
+ghost use Rattle.std.specs.List.{AllByRecursion};
 ghost use Rattle.su_version.specs.Commit.{commit_bytes};
 ghost use Rattle.su_legal.specs.Legal.{Committed};
 ghost use Rattle.su_view.specs.Holding.{Took};
 ghost use Rattle.su_view.specs.declared.refusals.ViewRefusal.TheVariants.{Plain};
 ghost use Rattle.su_bytes.specs.declared.refusals.Refusal.TheVariants.{Malformed};
-ghost use Rattle.su_audit.specs.Log.{Reads, PassesPart};
+ghost use Rattle.su_audit.specs.Record.{IsExamined};
+ghost use Rattle.su_audit.specs.Ahead.{IsLeft};
 ghost use Rattle.su_audit.specs.declared.steps.Step.TheVariants as step;
 ghost use Rattle.su_audit.specs.Step.{IsRefusedRecord, Steps};
 
-use crate::logs::{Part, next_part};
+use crate::ahead::Ahead;
+use crate::records::{Record, Stop};
 use std::alloc::Global;
 use std::io;
 use std::io::Read;
+use std::thread::Threads;
 use su_block::{BlockSource, MemoryBlocks};
 use su_bytes::Refusal;
-use su_version::Commit;
 use su_view::{View, ViewRefusal};
-
-/// A log that is read, and how many bytes of it were.
-#[derive(Drop)]
-pub(crate) struct Log<R> {
-    pub(crate) reader: R,
-    pub(crate) place: u64,
-}
 
 /// What comes of the next record of a log.
 #[derive(Drop)]
@@ -38,36 +34,32 @@ pub(crate) enum Step {
     Failed(io::Error),
 }
 
-/// Reads the next record of a log, puts its item into the view's source, and lets the view take its
+/// Puts the item of the next record of a log into the view's source, and lets the view take its
 /// commit. `Malformed` with the place in the log of a number of bytes that is cut or goes past the
 /// end; `TooBig` where the item has none or too many bytes; `Malformed` with a place in the
 /// commit's own bytes; then the refusals of the view.
-pub(crate) fn next_step<R: Read + Drop>(
+pub(crate) fn next_step<T: Threads + Sync, R: Read + Drop>(
+    rt: &T,
     alloc: Global,
-    log: &mut Log<R>,
+    log: &mut Ahead<R>,
     view: &mut View<MemoryBlocks>,
 ) -> Step
-    ensures { (input : List ℕ) → R.remaining log.old.reader ≡ Some input
-        → Steps log.old.place view.old.holding input
-        log.new.place view.new.holding (R.remaining log.new.reader) result }
+    requires { AllByRecursion (IsExamined view.old.holding.roster) log.old.records.items }
+    ensures examined { AllByRecursion (IsExamined view.new.holding.roster) log.new.records.items }
+    ensures steps { (place : ℕ) (input : List ℕ)
+        → IsLeft log.old.records.items log.old.stop log.old.log.place
+        (R.remaining log.old.log.reader) place input
+        → Steps place view.old.holding input (IsLeft log.new.records.items log.new.stop
+        log.new.log.place (R.remaining log.new.log.reader)) view.new.holding result }
 {
-    let start = log.place;
-    let bytes = match log.next_part(alloc) {
-        Ok(Part::Bytes(bytes)) => bytes,
-        Ok(Part::Cut) => return refused_at(start),
-        Ok(Part::End) => return Step::Ended,
-        Err(error) => return Step::Failed(error),
-    };
-    let start = log.place;
-    let item = match log.next_part(alloc) {
-        Ok(Part::Bytes(bytes)) => bytes,
-        Ok(Part::Cut) => return refused_at(start),
-        Ok(Part::End) => return refused_at(start),
-        Err(error) => return Step::Failed(error),
-    };
-    match take(alloc, view, bytes.as_slice(), item.as_slice()) {
-        Ok(()) => Step::Took,
-        Err(refusal) => Step::Refused(refusal),
+    match log.next(rt, alloc, view.roster()) {
+        Ok(next) => match take(alloc, view, next) {
+            Ok(()) => Step::Took,
+            Err(refusal) => Step::Refused(refusal),
+        },
+        Err(Stop::End) => Step::Ended,
+        Err(Stop::Cut(place)) => refused_at(place),
+        Err(Stop::Failed(error)) => Step::Failed(error),
     }
 }
 
@@ -78,46 +70,33 @@ fn refused_at(place: u64) -> Step
     Step::Refused(ViewRefusal::Plain(Refusal::Malformed(place)))
 }
 
-impl<R: Read + Drop> Log<R> {
-    /// Reads the next part. Its place is then behind it.
-    fn next_part(&mut self, alloc: Global) -> io::Result<Part>
-        ensures part { IfOk result (λ part. (input : List ℕ)
-            → R.remaining self.old.reader ≡ Some input
-            → Reads part input (R.remaining self.new.reader)) }
-        ensures place { IfOk result (PassesPart self.old.place self.new.place) }
-    {
-        let part = next_part(alloc, &mut self.reader)?;
-        if let Part::Bytes(bytes) = &part {
-            let Some(place) = self.place.checked_add(4 + bytes.len() as u64) else {
-                return Err(io::Error::other("it has no end"));
-            };
-            self.place = place;
-        }
-        Ok(part)
-    }
-}
-
-/// Puts an item into the view's source, and lets the view take a commit that is shown by its bytes.
-fn take(
-    alloc: Global,
-    view: &mut View<MemoryBlocks>,
-    bytes: &[u8],
-    item: &[u8],
-) -> Result<(), ViewRefusal>
-    ensures took { OnOk result ((c : Committed) × (bytes.now ≡ commit_bytes c.commit)
+/// Puts the item of a record into the view's source, and lets the view take its commit.
+fn take(alloc: Global, view: &mut View<MemoryBlocks>, next: Record) -> Result<(), ViewRefusal>
+    requires { IsExamined view.old.holding.roster next }
+    ensures took { OnOk result ((c : Committed) × (next.bytes.items ≡ commit_bytes c.commit)
         × Took view.old.holding (c ∷ []) view.new.holding) }
-    ensures refused { IfErr result (IsRefusedRecord view.old.holding bytes.now item.now) }
+    ensures refused { IfErr result
+        (IsRefusedRecord view.old.holding next.bytes.items next.item.items) }
     ensures err { OnErr result (view.new.holding ≡ view.old.holding) }
 {
-    if let Err(refusal) = view.source_mut().put(alloc, item) {
+    let Record {
+        bytes,
+        item,
+        commit,
+        by_author,
+    } = next;
+    if let Err(refusal) = view.source_mut().put(alloc, item.as_slice()) {
         return Err(ViewRefusal::Plain(refusal));
     }
-    let commit = match Commit::decode(alloc, bytes) {
+    let commit = match commit {
         Ok(commit) => commit,
         Err(refusal) => return Err(ViewRefusal::Plain(refusal)),
     };
-    match view.accept_own(&commit) {
-        Ok(_) => Ok(()),
-        Err(refusal) => Err(refusal),
+    match by_author {
+        Some(by_author) => view.accept_known(commit, bytes.as_slice(), by_author),
+        None => match view.accept_own(&commit) {
+            Ok(_) => Ok(()),
+            Err(refusal) => Err(refusal),
+        },
     }
 }

@@ -1,64 +1,27 @@
-use Rattle.std.proofs.Common.{◌∙◌, ℕ, length, refl, sym, ap, inl, inr, arith}
+use Rattle.std.proofs.Common.{ℕ, ap, ◌∙◌}
 use Rattle.su_bytes.specs.declared.refusals.Refusal.TheVariants.{Malformed}
 use Rattle.su_view.specs.declared.refusals.ViewRefusal.TheVariants.{Plain}
-use Rattle.su_audit.proofs.LogLemmas.{too_short}
-use Rattle.su_audit.proofs.StepLemmas.{takes_parts}
+use Rattle.su_audit.specs.declared.steps.Step.TheVariants as step
+use Rattle.su_audit.specs.Record.{spelled}
+use Rattle.su_audit.proofs.StepLemmas.{refused_step, refused_record, takes_record}
 use Rattle.su_audit.proofs.steps.next_step.Goals as goal
 
-pub returns-in-Ok-Cut : goal.returns-in-Ok-Cut
-returns-in-Ok-Cut g c = λ input is.
-    let cut = rw c.in-Ok-Cut.field-0-is at (c.in-Ok-Cut.ensures.part input is) in
-    rw c.refused_at.ensures (inl (refl, cut.0, cut.1))
+pub returns-in-Ok-take-clause-steps : goal.returns-in-Ok-take-clause-steps
+returns-in-Ok-take-clause-steps g c = λ place input l.
+    let (rest, begins, left) = c.in-Ok.ensures.next place input l in
+    let (committed, is, took) = c.in-Ok-take.ensures.took in
+    takes_record c.args.view.now.holding c.take.new.view.holding place input (spelled c.in-Ok.next) rest _ committed begins left is took
 
-pub returns-in-Ok-End : goal.returns-in-Ok-End
-returns-in-Ok-End g c = λ input is. rw c.in-Ok-End.field-0-is at (c.in-Ok-End.ensures.part input is)
+pub returns-in-Err-clause-steps : goal.returns-in-Err-clause-steps
+returns-in-Err-clause-steps g c = λ place input l.
+    let (rest, begins, left) = c.in-Ok.ensures.next place input l in
+    refused_record c.args.view.now.holding place input (spelled c.in-Ok.next) rest c.in-Err.refusal begins c.in-Err.ensures.refused
 
-pub returns-in-Ok-Cut-next_part : goal.returns-in-Ok-Cut-next_part
-returns-in-Ok-Cut-next_part g c = λ input is.
-    let first = rw c.in-Ok-Bytes.field-0-is at (c.in-Ok-Bytes.ensures.part input is) in
-    let here = rw c.in-Ok-Bytes.field-0-is at c.in-Ok-Bytes.ensures.place in
-    let cut = rw c.in-Ok-Cut-next_part.field-0-is at (c.in-Ok-Cut-next_part.ensures.part first.0 first.2) in
-    rw c.refused_at-in-Ok-Cut-next_part.ensures
-    (inr (c.in-Ok-Bytes.bytes.items, first.0, first.1, inl (ap (λ (p : ℕ). Plain (Malformed p)) here, cut.1)))
+pub returns-in-Err-End-clause-steps : goal.returns-in-Err-End-clause-steps
+returns-in-Err-End-clause-steps g c = λ place input l. rw c.in-Err-End.field-0-is at (c.in-Err-End.ensures.next place input l)
 
-pub returns-in-Ok-End-next_part : goal.returns-in-Ok-End-next_part
-returns-in-Ok-End-next_part g c = λ input is.
-    let first = rw c.in-Ok-Bytes.field-0-is at (c.in-Ok-Bytes.ensures.part input is) in
-    let here = rw c.in-Ok-Bytes.field-0-is at c.in-Ok-Bytes.ensures.place in
-    let none = rw c.in-Ok-End-next_part.field-0-is at (c.in-Ok-End-next_part.ensures.part first.0 first.2) in
-    rw c.refused_at-in-Ok-End-next_part.ensures
-    (inr (
-      c.in-Ok-Bytes.bytes.items,
-      first.0,
-      first.1,
-      inl (
-        ap (λ (p : ℕ). Plain (Malformed p)) here,
-        too_short first.0 (let short = ap length none in omega (arith, short)),
-      ),
-    ))
-
-pub returns-in-Ok : goal.returns-in-Ok
-returns-in-Ok g c = λ input is.
-    let first = rw c.in-Ok-Bytes.field-0-is at (c.in-Ok-Bytes.ensures.part input is) in
-    let here = rw c.in-Ok-Bytes.field-0-is at c.in-Ok-Bytes.ensures.place in
-    let second = rw c.in-Ok-Bytes-next_part.field-0-is at (c.in-Ok-Bytes-next_part.ensures.part first.0 first.2) in
-    let there = rw c.in-Ok-Bytes-next_part.field-0-is at c.in-Ok-Bytes-next_part.ensures.place in
-    let took = c.in-Ok.ensures.took in
-    takes_parts c.args.log.now.place c.next_part.new.self.place c.next_part-2.new.self.place c.args.view.now.holding c.take.new.view.holding input c.in-Ok-Bytes.bytes.items first.0
-    c.in-Ok-Bytes-next_part.bytes.items second.0 _ took.0 first.1 second.1 second.2 here there (sym c.as_slice.ensures.value ∙ took.1) took.2
-
-pub returns : goal.returns
-returns g c = λ input is.
-    let first = rw c.in-Ok-Bytes.field-0-is at (c.in-Ok-Bytes.ensures.part input is) in
-    let second = rw c.in-Ok-Bytes-next_part.field-0-is at (c.in-Ok-Bytes-next_part.ensures.part first.0 first.2) in
-    inr (
-      c.in-Ok-Bytes.bytes.items,
-      first.0,
-      first.1,
-      inr (
-        c.in-Ok-Bytes-next_part.bytes.items,
-        second.0,
-        second.1,
-        rw c.as_slice-2.ensures.value at (rw c.as_slice.ensures.value at c.in-Err-take.ensures.refused),
-      ),
-    )
+pub returns-in-Err-Cut-clause-steps : goal.returns-in-Err-Cut-clause-steps
+returns-in-Err-Cut-clause-steps g c = λ place input l.
+    let stops = rw c.in-Err-Cut.field-0-is at (c.in-Err-Cut.ensures.next place input l) in
+    refused_step c.args.view.now.holding c.args.view.now.holding c.in-Err-Cut.place place input _ c.refused_at.result
+    (c.refused_at.ensures ∙ ap (λ (p : ℕ). step.Refused (Plain (Malformed p))) c.in-Err-Cut.place-is) stops

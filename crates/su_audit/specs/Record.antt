@@ -1,0 +1,63 @@
+-- The next record of a log, and what is known of it.
+use Rattle.std.specs.Prelude.{◌≡◌, ◌≢◌, ◌+◌, ◌⊎◌, ◌↔◌, ℕ, IsTrue, Bool, List, [], length, ⊤, Option, Some, None, Result, Ok, Err}
+use Rattle.su_bytes.specs.Membership.{Membership}
+use Rattle.su_bytes.specs.declared.refusals.Refusal.{Refusal}
+use Rattle.su_format.specs.Reading.{Decodes}
+use Rattle.su_version.specs.Commit.{Commit, IsCommit, commit_bytes, commit_format}
+use Rattle.su_version.specs.Chain.{IsSignedByAuthor}
+use Rattle.su_view.specs.Listing.{BeginWith}
+use Rattle.su_audit.specs.Log.{LogRecord, record_bytes, HasNoPart}
+use Rattle.su_audit.specs.declared.records.Record.{Record}
+use Rattle.su_audit.specs.declared.records.Stop.{Stop}
+use Rattle.su_audit.specs.declared.records.Stop.TheVariants.{End, Cut, Failed}
+
+-- what the log has of it
+abbrev pub spelled : Record → LogRecord
+spelled r = record { commit = r.bytes.items; item = r.item.items }
+
+-- ---- what is known of it
+
+-- the bytes spell the commit
+abbrev pub Spell : List ℕ → Result Commit Refusal → Type 0
+Spell bytes (Ok c) = IsCommit c × (bytes ≡ commit_bytes c)
+Spell bytes (Err e) = ⊤
+
+-- this was read of the bytes
+pub record IsRead (bytes : List ℕ) (read : Result Commit Refusal) : Type 0 where
+  pub found : Spell bytes read
+  pub decodes : Decodes commit_format bytes read
+
+-- whether the commit's author signed it is so, if it is known
+abbrev pub IsVerdict : Membership → Result Commit Refusal → Option Bool → Type 0
+IsVerdict ro (Ok c) (Some by_author) = IsTrue by_author ↔ IsSignedByAuthor ro c
+IsVerdict ro (Ok c) None = ⊤
+IsVerdict ro (Err e) verdict = ⊤
+
+pub record IsExamined (ro : Membership) (r : Record) : Type 0 where
+  pub read : IsRead r.bytes.items r.commit
+  pub verdict : IsVerdict ro r.commit r.by_author
+
+-- ---- what comes next
+
+-- the input begins with a record: with the commit's bytes, and then the item
+pub record BeginsWithRecord (input : List ℕ) (r : LogRecord) (others : List ℕ) : Type 0 where
+  pub rest : List ℕ
+  pub commit : BeginWith input r.commit rest
+  pub item : BeginWith rest r.item others
+
+-- No record comes next, from a place on: nothing does; or no part begins there, and its place is
+-- named; or behind the first part.
+abbrev pub StopsSo : Stop → ℕ → List ℕ → Type 0
+StopsSo End place input = input ≡ []
+StopsSo (Cut at) place input =
+    ((at ≡ place) × (input ≢ []) × HasNoPart input)
+    ⊎ ((first rest : List ℕ) × BeginWith input first rest
+    × (at ≡ place + (4 + length first)) × HasNoPart rest)
+StopsSo (Failed error) place input = ⊤
+
+-- what comes next, and what is left then
+abbrev pub ReadsNext : Result Record Stop → ℕ → List ℕ → ℕ → Option (List ℕ) → Type 0
+ReadsNext (Ok r) place input place' known =
+    (rest : List ℕ) × BeginsWithRecord input (spelled r) rest × (known ≡ Some rest)
+    × (place' ≡ place + length (record_bytes (spelled r)))
+ReadsNext (Err stop) place input place' known = StopsSo stop place input

@@ -1,0 +1,148 @@
+// Records that are read ahead of their turn, so that their signatures are checked on all cores.
+ghost use Rattle.std.specs.Prelude.{◌≡◌, ◌<◌, ◌+◌, ℕ, List, [], Some, None, IfOk, MatchResult, length, slice_index_or, vec_len};
+ghost use Rattle.std.specs.List.{AllByRecursion};
+ghost use Rattle.su_audit.specs.Log.{record_bytes};
+ghost use Rattle.su_audit.specs.Record.{IsRead, IsExamined, BeginsWithRecord, StopsSo, spelled};
+ghost use Rattle.su_audit.specs.Ahead.{IsLeft, IsExaminedFrom};
+
+use crate::records::{Log, Record, Stop};
+use std::alloc::{AllocError, Global};
+use std::collections::VecDeque;
+use std::io::Read;
+use std::thread;
+use std::thread::Threads;
+use su_bytes::Roster;
+
+/// How many records are read ahead at most.
+const MOST_RECORDS: usize = 256;
+
+/// Once the records that were read ahead have so many bytes, no more are.
+const MANY_BYTES: usize = 16_777_216;
+
+/// A log of which records are read ahead.
+#[derive(Drop)]
+pub(crate) struct Ahead<R> {
+    log: Log<R>,
+    /// What was read and not taken yet.
+    records: VecDeque<Record>,
+    /// What is behind these; none where that isn't read yet.
+    stop: Option<Stop>,
+}
+
+impl<R: Read + Drop> Ahead<R> {
+    /// Makes the log that this reader gives, of which nothing is read yet.
+    pub fn new(alloc: Global, reader: R) -> Ahead<R>
+        ensures reader { result.log.reader ≡ reader }
+        ensures place { result.log.place ≡ 0 }
+        ensures records { result.records.items ≡ [] }
+        ensures stop { result.stop ≡ None }
+    {
+        Ahead {
+            log: Log { reader, place: 0 },
+            records: VecDeque::new(alloc),
+            stop: None,
+        }
+    }
+
+    /// Whether what was read ahead is taken, and there may be more.
+    pub fn is_used_up(&self) -> bool {
+        self.records.is_empty() && self.stop.is_none()
+    }
+
+    /// Gives away the next record, with what is known of it; where nothing is left of what was read
+    /// ahead, it reads ahead first. Fails where there is none.
+    pub fn next<T: Threads + Sync>(
+        &mut self,
+        rt: &T,
+        alloc: Global,
+        roster: &Roster,
+    ) -> Result<Record, Stop>
+        requires { AllByRecursion (IsExamined roster.now) self.old.records.items }
+        ensures examined { AllByRecursion (IsExamined roster.now) self.new.records.items }
+        ensures known { IfOk result (IsExamined roster.now) }
+        ensures next { (place : ℕ) (input : List ℕ)
+            → IsLeft self.old.records.items self.old.stop self.old.log.place
+            (R.remaining self.old.log.reader) place input
+            → MatchResult result (λ r. (rest : List ℕ) × BeginsWithRecord input (spelled r) rest
+            × IsLeft self.new.records.items self.new.stop self.new.log.place
+            (R.remaining self.new.log.reader) (place + length (record_bytes (spelled r))) rest)
+            (λ stop. StopsSo stop place input) }
+    {
+        if self.records.is_empty() && self.stop.is_none() {
+            self.read_ahead(rt, alloc, roster);
+        }
+        match self.records.pop_front() {
+            Some(next) => Ok(next),
+            None => match self.stop.take() {
+                Some(stop) => Err(stop),
+                None => unreachable!(),
+            },
+        }
+    }
+
+    /// Reads ahead, where nothing is left of what was, and finds out on all cores which of the
+    /// commits are signed.
+    fn read_ahead<T: Threads + Sync>(&mut self, rt: &T, alloc: Global, roster: &Roster)
+        requires records { self.old.records.items ≡ [] }
+        requires stop { self.old.stop ≡ None }
+        ensures examined { AllByRecursion (IsExamined roster.now) self.new.records.items }
+        ensures some { self.new.records.items ≡ [] → self.new.stop ≡ None → ⊥ }
+        ensures left { (place : ℕ) (input : List ℕ)
+            → IsLeft self.old.records.items self.old.stop self.old.log.place
+            (R.remaining self.old.log.reader) place input
+            → IsLeft self.new.records.items self.new.stop self.new.log.place
+            (R.remaining self.new.log.reader) place input }
+    {
+        match read_records(alloc, &mut self.log) {
+            Ok((mut records, stop)) => {
+                examine(rt, alloc, roster, records.as_mut_slice());
+                self.records = VecDeque::from_vec(records);
+                self.stop = stop;
+            }
+            Err(error) => self.stop = Some(Stop::Failed(error.into())),
+        }
+    }
+}
+
+/// Reads records until they are many, or have many bytes, or none comes next; and what is behind
+/// them, if that is read.
+fn read_records<R: Read + Drop>(
+    alloc: Global,
+    log: &mut Log<R>,
+) -> Result<(Vec<Record>, Option<Stop>), AllocError>
+    ensures read { IfOk result (λ b.
+        AllByRecursion (λ r. IsRead r.bytes.items r.commit) b.0.items) }
+    ensures some { IfOk result (λ b. b.1 ≡ None → 0 < vec_len b.0) }
+    ensures left { IfOk result (λ b. (input : List ℕ) → R.remaining log.old.reader ≡ Some input
+        → IsLeft b.0.items b.1 log.new.place (R.remaining log.new.reader) log.old.place input) }
+{
+    let mut records = Vec::with_capacity(alloc, MOST_RECORDS)?;
+    let mut bytes = 0;
+    while records.len() < MOST_RECORDS && bytes < MANY_BYTES {
+        match log.next_record(alloc) {
+            Ok(next) => {
+                bytes = next
+                    .item
+                    .len()
+                    .saturating_add(next.bytes.len())
+                    .saturating_add(bytes);
+                records.push_reserved(next);
+            }
+            Err(stop) => return Ok((records, Some(stop))),
+        }
+    }
+    Ok((records, None))
+}
+
+/// Finds out which of the commits are signed, on all cores.
+fn examine<T: Threads + Sync>(rt: &T, alloc: Global, roster: &Roster, records: &mut [Record])
+    ensures { (i : ℕ) (d : Record) → i < length records.old
+        → IsExaminedFrom roster.now (slice_index_or records.old i d)
+        (slice_index_or records.new i d) }
+{
+    let threads = match thread::available_parallelism(rt) {
+        Ok(threads) => threads.get(),
+        Err(_) => 1,
+    };
+    thread::for_each_mut(rt, records, threads, &|_, next| next.examine(alloc, roster));
+}

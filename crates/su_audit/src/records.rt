@@ -1,0 +1,115 @@
+// Records of a log.
+ghost use Rattle.std.specs.Prelude.{◌≡◌, ℕ, List, Some, IfOk, IfErr};
+ghost use Rattle.su_version.specs.Commit.{commit_format};
+ghost use Rattle.su_audit.specs.Log.{Reads, PassesPart};
+ghost use Rattle.su_audit.specs.Record.{IsRead, IsVerdict, ReadsNext};
+
+use crate::logs::{Part, next_part};
+use std::alloc::Global;
+use std::io;
+use std::io::Read;
+use su_bytes::{FileId, Refusal, Roster};
+use su_chain::is_signed;
+use su_version::Commit;
+
+/// What a log has of a commit, and what is found out of it before its turn comes.
+#[derive(Drop)]
+pub(crate) struct Record {
+    /// The bytes of the commit.
+    pub(crate) bytes: Vec<u8>,
+    /// The item.
+    pub(crate) item: Vec<u8>,
+    /// The commit that the bytes spell, or why there is none.
+    pub(crate) commit: Result<Commit, Refusal>,
+    /// Whether the commit's author signed it; none where that isn't known.
+    pub(crate) by_author: Option<bool>,
+}
+
+impl Record {
+    /// Finds out whether the commit's author signed it. Without memory for that, it isn't known.
+    pub(crate) fn examine(&mut self, alloc: Global, roster: &Roster)
+        ensures verdict { IsVerdict roster.now self.new.commit self.new.by_author }
+        ensures same { self.new ≡ record self.old { by_author = self.new.by_author } }
+    {
+        self.by_author = verdict(alloc, roster, &self.commit);
+    }
+}
+
+/// Whether a commit's author signed it; none where there is no commit, or no memory.
+fn verdict(alloc: Global, roster: &Roster, commit: &Result<Commit, Refusal>) -> Option<bool>
+    ensures { IsVerdict roster.now commit.now result }
+{
+    // names the type for the prover (docs/ARCHITECTURE.md, "Forms the kit wants")
+    let _file: Option<FileId> = None;
+    match commit {
+        Ok(commit) => is_signed(alloc, roster, commit).ok(),
+        Err(_) => None,
+    }
+}
+
+/// Why no record comes next in a log.
+#[derive(Drop)]
+pub(crate) enum Stop {
+    /// The log ends.
+    End,
+    /// The number of bytes at this place is cut, or goes past the end.
+    Cut(u64),
+    /// The log can't be read.
+    Failed(io::Error),
+}
+
+/// A log that is read, and how many bytes of it were.
+#[derive(Drop)]
+pub(crate) struct Log<R> {
+    pub(crate) reader: R,
+    pub(crate) place: u64,
+}
+
+impl<R: Read + Drop> Log<R> {
+    /// Reads the next record, and the commit that its bytes spell. Fails where there is none.
+    pub(crate) fn next_record(&mut self, alloc: Global) -> Result<Record, Stop>
+        ensures read { IfOk result (λ r. IsRead r.bytes.items r.commit) }
+        ensures next { (input : List ℕ) → R.remaining self.old.reader ≡ Some input
+            → ReadsNext result self.old.place input self.new.place
+            (R.remaining self.new.reader) }
+    {
+        let start = self.place;
+        let bytes = match self.next_part(alloc) {
+            Ok(Part::Bytes(bytes)) => bytes,
+            Ok(Part::Cut) => return Err(Stop::Cut(start)),
+            Ok(Part::End) => return Err(Stop::End),
+            Err(error) => return Err(Stop::Failed(error)),
+        };
+        let start = self.place;
+        let item = match self.next_part(alloc) {
+            Ok(Part::Bytes(bytes)) => bytes,
+            Ok(Part::Cut) => return Err(Stop::Cut(start)),
+            Ok(Part::End) => return Err(Stop::Cut(start)),
+            Err(error) => return Err(Stop::Failed(error)),
+        };
+        let commit = Commit::decode(alloc, bytes.as_slice());
+        Ok(Record {
+            bytes,
+            item,
+            commit,
+            by_author: None,
+        })
+    }
+
+    /// Reads the next part. Its place is then behind it.
+    fn next_part(&mut self, alloc: Global) -> io::Result<Part>
+        ensures part { IfOk result (λ part. (input : List ℕ)
+            → R.remaining self.old.reader ≡ Some input
+            → Reads part input (R.remaining self.new.reader)) }
+        ensures place { IfOk result (PassesPart self.old.place self.new.place) }
+    {
+        let part = next_part(alloc, &mut self.reader)?;
+        if let Part::Bytes(bytes) = &part {
+            let Some(place) = self.place.checked_add(4 + bytes.len() as u64) else {
+                return Err(io::Error::other("it has no end"));
+            };
+            self.place = place;
+        }
+        Ok(part)
+    }
+}
