@@ -7,15 +7,16 @@ ghost use Rattle.std.specs.Prelude.{◌≡◌, ℕ, List, Some, IfOk, ◌≤◌,
 ghost use Rattle.su_script.specs.Transcript.{Prints};
 ghost use Rattle.su_arguments.specs.Line.{HasGoodNumbers};
 ghost use Rattle.sundr.specs.Key.{IsPublicLine};
-ghost use Rattle.sundr.specs.Run.{CarriesOut, PrintsUnlessFault, IsTakenLine, refused_status};
+ghost use Rattle.sundr.specs.Run.{CarriesOut, PrintsUnlessFault, refused_status};
 
-use std::fs::File;
-use std::io::{BufReader, ErrorKind, IsTerminal, Read, Write};
+mod audits;
+
+use audits::audit;
+use std::io::{ErrorKind, IsTerminal, Read, Write};
 use std::process::ExitCode;
+use std::thread::Threads;
 use std::{env, io};
 use su_arguments::{Line, LineFault, line_of};
-use su_audit::{KeyFault, read_keys, run_audit};
-use su_bytes::Roster;
 use su_keygen::{KeygenFault, make_key};
 use su_lms::Params;
 use su_script::{DESK_WORDS, Ending, Fault, Status, run_desk};
@@ -24,7 +25,7 @@ fn main(rt: HostRuntime) -> ExitCode {
     let status = match command_line(&rt) {
         Ok(line) => {
             let reader = Prompting::new(&rt, rt.reader());
-            carry_out(&rt, line, reader, &mut io::writer(&rt))
+            carry_out(&rt, &rt, line, reader, &mut io::writer(&rt))
         }
         Err(fault) => refuse(&rt, &fault),
     };
@@ -49,8 +50,9 @@ fn command_line(rt: &HostRuntime) -> Result<Line, LineFault>
 }
 
 /// Carries out a command line with this input and output. A fault is told on standard error.
-fn carry_out<R: Read + Drop, W: Write>(
+fn carry_out<T: Threads + Sync, R: Read + Drop, W: Write>(
     rt: &HostRuntime,
+    threads: &T,
     line: Line,
     reader: R,
     writer: &mut W,
@@ -67,7 +69,7 @@ fn carry_out<R: Read + Drop, W: Write>(
             out,
             params,
         } => new_key(rt, entropy.as_str(), out.as_str(), params, writer),
-        Line::Audit { log, keys } => audit(rt, log.as_str(), keys.as_slice(), writer),
+        Line::Audit { log, keys } => audit(rt, threads, log.as_str(), keys.as_slice(), writer),
         Line::Text(text) => print(rt, text.as_str(), writer),
     }
 }
@@ -136,59 +138,6 @@ fn public_line(
     let public = make_key(rt, entropy, out, params)?;
     let digits = hex::encode(alloc, public.as_bytes())?;
     Ok(format!(in alloc; "{digits}\n")?)
-}
-
-/// Audits the log in a file, of users with the public keys in these files, 1 to 64 of them. A
-/// refused log is a fault of the input.
-fn audit<W: Write>(rt: &HostRuntime, log: &str, keys: &[String], writer: &mut W) -> Status
-    requires { (1 ≤ length keys.now) × (length keys.now ≤ 64) }
-    ensures { (before : List ℕ) → W.contents writer.old ≡ Some before
-        → PrintsUnlessFault IsTakenLine before (W.contents writer.new) result }
-{
-    let alloc = rt.alloc();
-    let roster = match read_keys(rt, keys) {
-        Ok(keys) => match Roster::of_keys(alloc, keys.as_slice()) {
-            Ok(roster) => roster,
-            Err(_) => {
-                tell_key_fault(rt, &KeyFault::NoMemory);
-                return Status::Fault;
-            }
-        },
-        Err(reason) => {
-            tell_key_fault(rt, &reason);
-            return Status::Fault;
-        }
-    };
-    let reader = match File::open(rt, log).and_then(|file| BufReader::new(alloc, file)) {
-        Ok(reader) => reader,
-        Err(reason) => {
-            let _ = eprintln!(rt; "sundr: reading {log}: {reason}");
-            return Status::Fault;
-        }
-    };
-    match run_audit(alloc, reader, writer, roster) {
-        su_audit::Ending::Taken => Status::Finished,
-        su_audit::Ending::Refused => Status::Fault,
-        su_audit::Ending::Failed(reason) => {
-            tell_audit_fault(rt, log, &reason);
-            Status::Fault
-        }
-    }
-}
-
-/// Tells on standard error why a key can't be read.
-fn tell_key_fault(rt: &HostRuntime, reason: &KeyFault) {
-    let _ = eprintln!(rt; "sundr: {reason}");
-}
-
-/// Tells on standard error what failed in the audit of a log; nothing where nobody reads what it
-/// prints.
-fn tell_audit_fault(rt: &HostRuntime, log: &str, reason: &su_audit::Fault) {
-    let _ = match reason {
-        su_audit::Fault::Reading(reason) => eprintln!(rt; "sundr: reading {log}: {reason}"),
-        su_audit::Fault::Writing(error) if error.kind() == ErrorKind::BrokenPipe => Ok(()),
-        reason => eprintln!(rt; "sundr: {reason}"),
-    };
 }
 
 /// Prints a text. That it isn't read to its end is no fault to be told.
