@@ -1,11 +1,11 @@
 -- A log of which records are read ahead.
-use Rattle.std.proofs.Common.{◌≡◌, ℕ, zero, suc, ◌+◌, ◌<◌, List, [], ◌∷◌, ◌++◌, map, length, get_or, take, ◌≤◌, refl, sym, ap, ◌∙◌, subst, arith, Option, Some, None}
-use Rattle.std.specs.Prelude.{⊤, Result, Ok, Err}
+use Rattle.std.proofs.Common.{◌≡◌, ℕ, suc, ◌+◌, ◌<◌, List, [], ◌∷◌, ◌++◌, map, length, get_or, take, ◌≤◌, refl, sym, ap, ◌∙◌, subst, arith, Option, Some, None}
+use Rattle.std.specs.Prelude.{Ok}
 use Rattle.std.specs.List.{AllByRecursion}
 use Rattle.std.proofs.lemmas.List.{take-append-le, take_all}
 use Rattle.su_bytes.specs.Membership.{Membership}
 use Rattle.su_audit.specs.Log.{LogRecord, record_bytes}
-use Rattle.su_audit.specs.Record.{spelled, IsRead, IsExamined, IsVerdict, BeginsWithRecord, StopsSo, ReadsNext}
+use Rattle.su_audit.specs.Record.{spelled, IsRead, IsExamined, BeginsWithRecord, StopsSo, ReadsNext}
 use Rattle.su_audit.specs.Ahead.{GoesOn, IsBehind, IsLeft, IsExaminedFrom}
 use Rattle.su_audit.specs.declared.records.Record.{Record}
 use Rattle.su_audit.specs.declared.records.Stop.{Stop}

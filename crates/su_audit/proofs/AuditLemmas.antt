@@ -1,6 +1,9 @@
 -- An audit, record by record.
-use Rattle.std.proofs.Common.{◌≡◌, ℕ, ◌+◌, List, [], ◌∷◌, ◌++◌, length, length-append, refl, sym, ap, ◌∙◌, subst, arith, append_assoc, append-nil, Option, Some}
+use Rattle.std.proofs.Common.{◌≡◌, ℕ, ◌+◌, List, [], ◌∷◌, ◌++◌, length, length-append, refl, sym, ap, ◌∙◌, subst, arith, append_assoc, append-nil, inl, inr, Option, Some}
+use Rattle.std.specs.Prelude.{◌⊎◌, map, Contains}
 use Rattle.std.proofs.lemmas.Grind.{flat_map-append}
+use Rattle.std.proofs.lemmas.List.Elements.{Contains-append_left, Contains-append_right, Contains-append_cases}
+use Rattle.su_change.specs.Item.{item_bytes}
 use Rattle.su_bytes.specs.Membership.{Membership}
 use Rattle.su_version.specs.Commit.{commit_bytes}
 use Rattle.su_legal.specs.Legal.{Committed, LegalAfter}
@@ -11,28 +14,56 @@ use Rattle.su_audit.specs.Log.{LogRecord, record_bytes, log_bytes}
 use Rattle.su_audit.specs.Step.{Takes, IsRefusedNext}
 use Rattle.su_audit.specs.declared.audits.Ending.{Ending}
 use Rattle.su_audit.specs.declared.audits.Ending.TheVariants.{Taken, Refused, Failed}
-use Rattle.su_audit.specs.Audit.{AreBytesOf, BeginsLegally, IsLegalLog, IsRefusedAt, held_by_first, taken_text, refused_text, Tells, Prints, PrintsSome}
+use Rattle.su_audit.specs.Audit.{AreBytesOf, AreItemsOf, BeginsLegally, IsLegalLog, IsRefusedAt, held_by_first, taken_text, refused_text, Tells, Prints, PrintsSome}
+
+abbrev pub items_of : List LogRecord → List (List ℕ)
+items_of rs = map (λ (r : LogRecord). r.item) rs
 
 -- So far the log begins with the records of what is held, and this is left; the next is the nth.
-pub record Stands (ro : Membership) (log : List ℕ) (v : HoldingState) (Left : ℕ → List ℕ → Type 0) (n : ℕ) : Type 0 where
+pub record Stands (ro : Membership) (log : List ℕ) (v : HoldingState) (has : List (List ℕ)) (Left : ℕ → List ℕ → Type 0) (n : ℕ) : Type 0 where
   pub commits : List Committed
   pub place : ℕ
   pub rest : List ℕ
   pub holds : v ≡ held_by_first ro commits
   pub begins : BeginsLegally ro log commits place rest
+  -- the source has no other items than the log
+  pub items : (item : List ℕ) → Contains has item → Contains (items_of begins.records) item
   pub left : Left place rest
   pub number : n ≡ length commits + 1
 
-pub none_yet : (ro : Membership) (log : List ℕ) (v : HoldingState) (Left : ℕ → List ℕ → Type 0) → v ≡ held_by_first ro [] → Left 0 log → Stands ro log v Left 1
-none_yet ro log v Left holds left = record {
+pub none_yet : (ro : Membership) (log : List ℕ) (v : HoldingState) (has : List (List ℕ)) (Left : ℕ → List ℕ → Type 0) → v ≡ held_by_first ro [] → has ≡ [] → Left 0 log → Stands ro log v has Left 1
+none_yet ro log v has Left holds none left = record {
   commits = [];
   place = 0;
   rest = log;
   holds = holds;
-  begins = record { records = []; front = refl; place_is = refl; bytes_are = tt; legal = tt };
+  begins = record { records = []; front = refl; place_is = refl; bytes_are = tt; items_are = tt; legal = tt };
+  items = λ item there. subst (λ xs. Contains xs item) none there;
   left = left;
   number = refl;
 }
+
+-- ---- items
+
+-- what is among these, or is that one, is among more
+wider : (xs ys : List (List ℕ)) (y x : List ℕ) → ((item : List ℕ) → Contains xs item → Contains ys item) → Contains (xs ++ y ∷ []) x → Contains (ys ++ y ∷ []) x
+wider xs ys y x within there = go (Contains-append_cases xs (y ∷ []) x there)
+  where
+    go : Contains xs x ⊎ Contains (y ∷ []) x → Contains (ys ++ y ∷ []) x
+    go (inl here) = Contains-append_left ys (y ∷ []) x (within x here)
+    go (inr here) = Contains-append_right ys (y ∷ []) x here
+
+items_more : (rs : List LogRecord) (r : LogRecord) → items_of (rs ++ r ∷ []) ≡ items_of rs ++ r.item ∷ []
+items_more [] r = refl
+items_more (x ∷ rs) r = ap (λ l. x.item ∷ l) (items_more rs r)
+
+items_further : (before : List (List ℕ)) (rs : List LogRecord) (cs : List Committed) (r : LogRecord) (c : Committed)
+    → AreItemsOf before rs cs → Contains (before ++ (items_of rs ++ r.item ∷ [])) (item_bytes c.change) → AreItemsOf before (rs ++ r ∷ []) (cs ++ c ∷ [])
+items_further before [] [] r c are is = (is, tt)
+items_further before (x ∷ rs) (y ∷ cs) r c (e, are) is =
+    (e, items_further (before ++ x.item ∷ []) rs cs r c are (subst (λ l. Contains l (item_bytes c.change)) (sym (append_assoc before (x.item ∷ []) (items_of rs ++ r.item ∷ []))) is))
+items_further before [] (y ∷ cs) r c are is = absurd are
+items_further before (x ∷ rs) [] r c are is = absurd are
 
 are_further : (rs : List LogRecord) (cs : List Committed) (r : LogRecord) (c : Committed)
     → AreBytesOf rs cs → r.commit ≡ commit_bytes c.commit → AreBytesOf (rs ++ r ∷ []) (cs ++ c ∷ [])
@@ -54,24 +85,29 @@ further_place rs r place is =
     let all : length (log_bytes (rs ++ r ∷ [])) ≡ length (log_bytes rs ++ (record_bytes r ++ [])) = ap length (flat_map-append record_bytes rs (r ∷ [])) in
     omega (arith, sum, one, all, is)
 
-module _ (ro : Membership) (log : List ℕ) (v : HoldingState) (Left : ℕ → List ℕ → Type 0) (n : ℕ) (s : Stands ro log v Left n) where
-  pub further : (v' : HoldingState) (Left' : ℕ → List ℕ → Type 0) → ((place : ℕ) (input : List ℕ) → Left place input → Takes place v input Left' v') → Stands ro log v' Left' (n + 1)
-  further v' Left' takes =
-      let t = takes s.place s.rest s.left in
+module _ (ro : Membership) (log : List ℕ) (v : HoldingState) (has : List (List ℕ)) (Left : ℕ → List ℕ → Type 0) (n : ℕ) (s : Stands ro log v has Left n) where
+  pub further : (v' : HoldingState) (has' : List (List ℕ)) (Left' : ℕ → List ℕ → Type 0) → ((place : ℕ) (input : List ℕ) → Left place input → Takes place v has input Left' v' has') → Stands ro log v' has' Left' (n + 1)
+  further v' has' Left' takes =
+      let k = takes s.place s.rest s.left in
+      let t = k.takes in
       let may : LegalAfter ro s.commits (t.taken ∷ []) = subst (λ (u : HoldingState). LegalAfter u.roster u.held (t.taken ∷ [])) s.holds t.took.may in
       record {
         commits = s.commits ++ t.taken ∷ [];
-        place = s.place + length (record_bytes t.first);
-        rest = t.rest;
+        place = s.place + length (record_bytes k.first);
+        rest = k.rest;
         holds = t.took.becomes ∙ ap (λ u. with_more u (t.taken ∷ [])) s.holds;
         begins = record {
-          records = s.begins.records ++ t.first ∷ [];
-          front = further_log log s.begins.records t.first s.rest t.rest s.begins.front t.begins;
-          place_is = further_place s.begins.records t.first s.place s.begins.place_is;
-          bytes_are = are_further s.begins.records s.commits t.first t.taken s.begins.bytes_are t.bytes_are;
+          records = s.begins.records ++ k.first ∷ [];
+          front = further_log log s.begins.records k.first s.rest k.rest s.begins.front k.begins;
+          place_is = further_place s.begins.records k.first s.place s.begins.place_is;
+          bytes_are = are_further s.begins.records s.commits k.first t.taken s.begins.bytes_are t.bytes_are;
+          items_are = items_further [] s.begins.records s.commits k.first t.taken s.begins.items_are
+              (wider has (items_of s.begins.records) k.first.item (item_bytes t.taken.change) s.items t.given);
           legal = after_both ro [] s.commits (t.taken ∷ []) s.begins.legal may;
         };
-        left = t.left;
+        items = λ item there. subst (λ l. Contains l item) (sym (items_more s.begins.records k.first))
+            (wider has (items_of s.begins.records) k.first.item item s.items (t.no_more item there));
+        left = k.left;
         number = ap (λ k. k + 1) (s.number ∙ sym (length-append s.commits (t.taken ∷ [])));
       }
 
@@ -88,6 +124,7 @@ module _ (ro : Membership) (log : List ℕ) (v : HoldingState) (Left : ℕ → L
           front = front;
           place_is = ap length whole;
           bytes_are = s.begins.bytes_are;
+          items_are = s.begins.items_are;
           legal = s.begins.legal;
         };
       }

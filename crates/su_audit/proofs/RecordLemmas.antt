@@ -1,5 +1,5 @@
 -- Records of a log.
-use Rattle.std.proofs.Common.{◌≡◌, ℕ, ◌+◌, List, ◌++◌, length, length-append, refl, arith}
+use Rattle.std.proofs.Common.{◌≡◌, ℕ, ◌+◌, List, length, length-append, refl, arith}
 use Rattle.su_format.specs.Part.{u32_bytes}
 use Rattle.su_view.specs.Listing.{record_bytes as part_bytes}
 use Rattle.su_audit.specs.Log.{record_bytes}

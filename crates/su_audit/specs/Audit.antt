@@ -1,7 +1,8 @@
 -- What an audit prints of a log.
-use Rattle.std.specs.Prelude.{◌≡◌, ◌+◌, ℕ, List, [], ◌∷◌, ◌++◌, length, ⊤, Option, Some, codes}
+use Rattle.std.specs.Prelude.{◌≡◌, ◌+◌, ℕ, List, [], ◌∷◌, ◌++◌, length, ⊤, Option, Some, Contains, codes}
 use Rattle.std.specs.Fmt.{decimal}
 use Rattle.su_bytes.specs.Membership.{Membership}
+use Rattle.su_change.specs.Item.{item_bytes}
 use Rattle.su_version.specs.Commit.{commit_bytes}
 use Rattle.su_legal.specs.Legal.{Committed, Legal}
 use Rattle.su_view.specs.Holding.{HoldingState}
@@ -31,6 +32,15 @@ AreBytesOf [] [] = ⊤
 AreBytesOf (r ∷ rs) (c ∷ cs) = (r.commit ≡ commit_bytes c.commit) × AreBytesOf rs cs
 AreBytesOf _ _ = ⊥
 
+-- The item of each commit's change is that of its record, or of one before it: one of these, or of
+-- the records.
+abbrev pub AreItemsOf : List (List ℕ) → List LogRecord → List Committed → Type 0
+AreItemsOf before [] [] = ⊤
+AreItemsOf before (r ∷ rs) (c ∷ cs) =
+    Contains (before ++ r.item ∷ []) (item_bytes c.change)
+    × AreItemsOf (before ++ r.item ∷ []) rs cs
+AreItemsOf before _ _ = ⊥
+
 -- A log begins with records of so many commits, which make a legal list; the rest is left.
 pub record BeginsLegally (ro : Membership) (log : List ℕ) (cs : List Committed) (place : ℕ)
     (rest : List ℕ) : Type 0 where
@@ -38,6 +48,7 @@ pub record BeginsLegally (ro : Membership) (log : List ℕ) (cs : List Committed
   pub front : log ≡ log_bytes records ++ rest
   pub place_is : place ≡ length (log_bytes records)
   pub bytes_are : AreBytesOf records cs
+  pub items_are : AreItemsOf [] records cs
   pub legal : Legal ro cs
 
 -- the log is that of so many commits, which make a legal list

@@ -1,9 +1,10 @@
 -- What comes of the next record of a log.
-use Rattle.std.specs.Prelude.{◌≡◌, ◌≢◌, ◌+◌, ◌⊎◌, ℕ, List, [], ◌∷◌, ◌++◌, length, true, false, ⊤, Option, Some}
+use Rattle.std.specs.Prelude.{◌≡◌, ◌≢◌, ◌+◌, ◌⊎◌, ℕ, List, [], ◌∷◌, ◌++◌, length, true, false, ⊤, Contains}
 use Rattle.su_bytes.specs.declared.refusals.Refusal.{Refusal}
 use Rattle.su_bytes.specs.declared.refusals.Refusal.TheVariants.{Malformed, TooBig, NoMemory}
 use Rattle.su_block.specs.Item.{is_item}
 use Rattle.su_block.specs.Failure.{is_failure}
+use Rattle.su_change.specs.Item.{item_bytes}
 use Rattle.su_version.specs.Commit.{Commit, IsCommit, commit_bytes}
 use Rattle.su_legal.specs.Legal.{Committed}
 use Rattle.su_view.specs.Holding.{HoldingState, Took}
@@ -35,19 +36,27 @@ IsRefusedNext v place input e =
     × (((e ≡ Plain (Malformed (place + (4 + length first)))) × HasNoPart rest)
     ⊎ ((item others : List ℕ) × BeginWith rest item others × IsRefusedRecord v first item e)))
 
+-- The commit of a record is taken: with an item of its change that is this one, or one of those
+-- that the view's source had; and the source has no other.
+pub record TakesRecord (v : HoldingState) (had : List (List ℕ)) (r : LogRecord) (v' : HoldingState)
+    (has : List (List ℕ)) : Type 0 where
+  pub taken : Committed
+  pub bytes_are : r.commit ≡ commit_bytes taken.commit
+  pub took : Took v (taken ∷ []) v'
+  pub given : Contains (had ++ r.item ∷ []) (item_bytes taken.change)
+  pub no_more : (item : List ℕ) → Contains has item → Contains (had ++ r.item ∷ []) item
+
 -- The log goes on with a record, whose commit is taken; and behind it, at a place, this is left.
-pub record Takes (place : ℕ) (v : HoldingState) (input : List ℕ) (Left : ℕ → List ℕ → Type 0)
-    (v' : HoldingState) : Type 0 where
+pub record Takes (place : ℕ) (v : HoldingState) (had : List (List ℕ)) (input : List ℕ)
+    (Left : ℕ → List ℕ → Type 0) (v' : HoldingState) (has : List (List ℕ)) : Type 0 where
   pub first : LogRecord
   pub rest : List ℕ
-  pub taken : Committed
   pub begins : input ≡ record_bytes first ++ rest
   pub left : Left (place + length (record_bytes first)) rest
-  pub bytes_are : first.commit ≡ commit_bytes taken.commit
-  pub took : Took v (taken ∷ []) v'
+  pub takes : TakesRecord v had first v' has
 
-abbrev pub Steps : ℕ → HoldingState → List ℕ → (ℕ → List ℕ → Type 0) → HoldingState → Step → Type 0
-Steps place v input Left v' step.Took = Takes place v input Left v'
-Steps place v input Left v' step.Ended = input ≡ []
-Steps place v input Left v' (step.Refused e) = IsRefusedNext v place input e
-Steps place v input Left v' (step.Failed error) = ⊤
+abbrev pub Steps : ℕ → HoldingState → List (List ℕ) → List ℕ → (ℕ → List ℕ → Type 0) → HoldingState → List (List ℕ) → Step → Type 0
+Steps place v had input Left v' has step.Took = Takes place v had input Left v' has
+Steps place v had input Left v' has step.Ended = input ≡ []
+Steps place v had input Left v' has (step.Refused e) = IsRefusedNext v place input e
+Steps place v had input Left v' has (step.Failed error) = ⊤

@@ -1,15 +1,12 @@
 // One record of a log.
-ghost use Rattle.std.specs.Prelude.{◌≡◌, ◌∷◌, ℕ, List, [], IfErr, OnOk, OnErr};
+ghost use Rattle.std.specs.Prelude.{◌≡◌, ℕ, List, IfErr, OnOk, OnErr};
 ghost use Rattle.std.specs.List.{AllByRecursion};
-ghost use Rattle.su_version.specs.Commit.{commit_bytes};
-ghost use Rattle.su_legal.specs.Legal.{Committed};
-ghost use Rattle.su_view.specs.Holding.{Took};
 ghost use Rattle.su_view.specs.declared.refusals.ViewRefusal.TheVariants.{Plain};
 ghost use Rattle.su_bytes.specs.declared.refusals.Refusal.TheVariants.{Malformed};
-ghost use Rattle.su_audit.specs.Record.{IsExamined};
+ghost use Rattle.su_audit.specs.Record.{IsExamined, spelled};
 ghost use Rattle.su_audit.specs.Ahead.{IsLeft};
 ghost use Rattle.su_audit.specs.declared.steps.Step.TheVariants as step;
-ghost use Rattle.su_audit.specs.Step.{IsRefusedRecord, Steps};
+ghost use Rattle.su_audit.specs.Step.{IsRefusedRecord, TakesRecord, Steps};
 
 use crate::ahead::Ahead;
 use crate::records::{Record, Stop};
@@ -49,8 +46,9 @@ pub(crate) fn next_step<T: Threads + Sync, R: Read + Drop>(
     ensures steps { (place : ℕ) (input : List ℕ)
         → IsLeft log.old.records.items log.old.stop log.old.log.place
         (R.remaining log.old.log.reader) place input
-        → Steps place view.old.holding input (IsLeft log.new.records.items log.new.stop
-        log.new.log.place (R.remaining log.new.log.reader)) view.new.holding result }
+        → Steps place view.old.holding view.old.source.items input
+        (IsLeft log.new.records.items log.new.stop log.new.log.place
+        (R.remaining log.new.log.reader)) view.new.holding view.new.source.items result }
 {
     match log.next(rt, alloc, view.roster()) {
         Ok(next) => match take(alloc, view, next) {
@@ -73,8 +71,8 @@ fn refused_at(place: u64) -> Step
 /// Puts the item of a record into the view's source, and lets the view take its commit.
 fn take(alloc: Global, view: &mut View<MemoryBlocks>, next: Record) -> Result<(), ViewRefusal>
     requires { IsExamined view.old.holding.roster next }
-    ensures took { OnOk result ((c : Committed) × (next.bytes.items ≡ commit_bytes c.commit)
-        × Took view.old.holding (c ∷ []) view.new.holding) }
+    ensures took { OnOk result (TakesRecord view.old.holding view.old.source.items (spelled next)
+        view.new.holding view.new.source.items) }
     ensures refused { IfErr result
         (IsRefusedRecord view.old.holding next.bytes.items next.item.items) }
     ensures err { OnErr result (view.new.holding ≡ view.old.holding) }

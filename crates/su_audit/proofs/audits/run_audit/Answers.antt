@@ -1,4 +1,5 @@
 use Rattle.std.proofs.Common.{◌≡◌, [], ap, ◌∙◌, refl, arith, rules}
+use Rattle.su_block.specs.Memory.{Memory}
 use Rattle.su_audit.specs.Audit.{held_by_first}
 use Rattle.su_audit.proofs.AheadLemmas.{none_ahead, none_examined}
 use Rattle.su_audit.proofs.AuditLemmas.{none_yet, further, at_end, refused_next, told_taken, told_refused, some_taken, some_refused}
@@ -10,14 +11,14 @@ loop-number-init g c =
     record {
       stands = λ input is.
           let holds : c.in-Ok-new.view.holding ≡ held_by_first c.args.roster [] = search rules in
-          none_yet c.args.roster input _ _ holds (none_ahead _ _ _ _ _ input log.records log.stop log.place (ap g.R.Read.remaining log.reader) is);
+          none_yet c.args.roster input _ _ _ holds (ap (λ (m : Memory). m.items) (c.in-Ok-new.ensures.source ∙ c.new-blocks.ensures)) (none_ahead _ _ _ _ _ input log.records log.stop log.place (ap g.R.Read.remaining log.reader) is);
       examined = none_examined _ _ log.records;
       writer = refl;
     }
 
 pub loop-number-preserved : goal.loop-number-preserved
 loop-number-preserved g c = record {
-  stands = λ log is. further c.args.roster log _ _ _ (c.loop-number.invariant.stands log is) _ _ c.in-Took.ensures.steps;
+  stands = λ log is. further c.args.roster log _ _ _ _ (c.loop-number.invariant.stands log is) _ _ _ c.in-Took.ensures.steps;
   examined = c.in-Took.ensures.examined;
   writer = c.loop-number.invariant.writer;
 }
@@ -25,13 +26,13 @@ loop-number-preserved g c = record {
 pub returns-in-Ended-clause-prints : goal.returns-in-Ended-clause-prints
 returns-in-Ended-clause-prints g c = λ log before is there.
     told_taken c.args.roster log before _ _ _ c.tell_taken.result
-    (at_end c.args.roster log _ _ _ (c.loop-number.invariant.stands log is) _ (omega arith) c.in-Ended.ensures.steps)
+    (at_end c.args.roster log _ _ _ _ (c.loop-number.invariant.stands log is) _ (omega arith) c.in-Ended.ensures.steps)
     refl (c.tell_taken.ensures before (c.loop-number.invariant.writer ∙ there))
 
 pub returns-in-Refused-clause-prints : goal.returns-in-Refused-clause-prints
 returns-in-Refused-clause-prints g c = λ log before is there.
     told_refused c.args.roster log before _ _ c.loop-number.number c.in-Refused.refusal c.tell_refused.result
-    (refused_next c.args.roster log _ _ _ (c.loop-number.invariant.stands log is) _ c.in-Refused.ensures.steps)
+    (refused_next c.args.roster log _ _ _ _ (c.loop-number.invariant.stands log is) _ c.in-Refused.ensures.steps)
     refl (c.tell_refused.ensures before (c.loop-number.invariant.writer ∙ there))
 
 pub returns-in-Ended-clause-text : goal.returns-in-Ended-clause-text

@@ -9,8 +9,7 @@ use Rattle.su_audit.proofs.steps.next_step.Goals as goal
 pub returns-in-Ok-take-clause-steps : goal.returns-in-Ok-take-clause-steps
 returns-in-Ok-take-clause-steps g c = λ place input l.
     let (rest, begins, left) = c.in-Ok.ensures.next place input l in
-    let (committed, is, took) = c.in-Ok-take.ensures.took in
-    takes_record c.args.view.now.holding c.take.new.view.holding place input (spelled c.in-Ok.next) rest _ committed begins left is took
+    takes_record c.args.view.now.holding c.take.new.view.holding c.args.view.now.source.items c.take.new.view.source.items place input (spelled c.in-Ok.next) rest _ begins left c.in-Ok-take.ensures.took
 
 pub returns-in-Err-clause-steps : goal.returns-in-Err-clause-steps
 returns-in-Err-clause-steps g c = λ place input l.
@@ -23,5 +22,5 @@ returns-in-Err-End-clause-steps g c = λ place input l. rw c.in-Err-End.field-0-
 pub returns-in-Err-Cut-clause-steps : goal.returns-in-Err-Cut-clause-steps
 returns-in-Err-Cut-clause-steps g c = λ place input l.
     let stops = rw c.in-Err-Cut.field-0-is at (c.in-Err-Cut.ensures.next place input l) in
-    refused_step c.args.view.now.holding c.args.view.now.holding c.in-Err-Cut.place place input _ c.refused_at.result
+    refused_step c.args.view.now.holding c.args.view.now.holding c.args.view.now.source.items c.args.view.now.source.items c.in-Err-Cut.place place input _ c.refused_at.result
     (c.refused_at.ensures ∙ ap (λ (p : ℕ). step.Refused (Plain (Malformed p))) c.in-Err-Cut.place-is) stops

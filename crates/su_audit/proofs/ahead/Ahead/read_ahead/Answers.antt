@@ -1,6 +1,5 @@
-use Rattle.std.proofs.Common.{◌≡◌, length, sym, ◌∙◌, subst, refl}
+use Rattle.std.proofs.Common.{◌≡◌, length, sym, ◌∙◌, subst}
 use Rattle.su_audit.specs.Ahead.{IsLeft}
-use Rattle.su_audit.specs.declared.records.Record.{Record}
 use Rattle.su_audit.proofs.AheadLemmas.{all_unread, left_examined, given_back}
 use Rattle.su_audit.proofs.ahead.Ahead.read_ahead.Goals as goal
 

@@ -1,4 +1,4 @@
-use Rattle.std.proofs.Common.{◌∙◌, ℕ, length, refl, ap, inl, inr, arith}
+use Rattle.std.proofs.Common.{length, refl, ap, inl, inr, arith}
 use Rattle.su_view.proofs.Public.{too_short}
 use Rattle.su_audit.proofs.RecordLemmas.{parts_read}
 use Rattle.su_audit.proofs.records.Log.next_record.Goals as goal
