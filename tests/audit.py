@@ -470,6 +470,40 @@ def orders(room):
     yield "an_item_too_late", is_so(room, publics, log, (1, "5 MissingBlock"))
 
 
+# ---- logs of more commits than are read ahead at once
+
+def ahead(room):
+    """The program reads 256 records at once, and no more once they have 16 MiB: what is wrong stands around the end of these, or behind
+    another wrong one."""
+    maker = script(logs.Maker([logs.key_of(0, 10, 4, leaves=300)]), "0 create G0:1 a U0:2; " + "; ".join(f"0 truncate U0:2 {n}" for n in range(299)))
+    publics, records = maker.publics, maker.records
+
+    def with_bad(*numbers):
+        return [(flipped(commit), item) if n in numbers else (commit, item) for n, (commit, item) in enumerate(records, 1)]
+
+    yield "ahead_all", is_so(room, publics, maker.log(), 300)
+    for number in (255, 256, 257, 300):
+        yield f"ahead_unsigned_{number}", is_so(room, publics, logs.log_bytes(with_bad(number)), (number, "33 BadSignature"))
+    yield "ahead_two_unsigned", is_so(room, publics, logs.log_bytes(with_bad(100, 200)), (100, "33 BadSignature"))
+    for number in (256, 257):
+        yield f"ahead_{number}_alone", is_so(room, publics, logs.log_bytes(records[:number]), number)
+        log = logs.log_bytes(records[:number])
+        place = len(log) - 4 - len(records[number - 1][1])
+        yield f"ahead_cut_{number}", is_so(room, publics, log[:-1], (number, f"1 Malformed {place}"))
+        yield f"ahead_unsigned_before_cut_{number}", is_so(room, publics, logs.log_bytes(with_bad(3)[:number])[:-1], (3, "33 BadSignature"))
+        later = [item for _, item in records]
+        later[number - 1], later[number] = later[number], later[number - 1]
+        log = logs.log_bytes(list(zip((commit for commit, _ in records), later)))
+        yield f"ahead_item_of_{number}_too_late", is_so(room, publics, log, (number, "5 MissingBlock"))
+    maker = script(logs.Maker(maker.keys), "0 create G0:1 a U0:2")
+    for n in range(270):
+        maker.add(0, ("write", ("U", 0, 2), n % 16 * 65536, bytes([n % 256]) * 65536))
+    yield "ahead_many_bytes", is_so(room, publics, maker.log(), 271)
+    for number in (255, 256, 257):
+        log = logs.log_bytes([(flipped(commit), item) if n == number else (commit, item) for n, (commit, item) in enumerate(maker.records, 1)])
+        yield f"ahead_many_bytes_unsigned_{number}", is_so(room, publics, log, (number, "33 BadSignature"))
+
+
 # ---- faults and statuses
 
 def tells(result, *parts):
@@ -550,7 +584,7 @@ def main():
         print("audit: the program isn't built: run ./sundr first")
         print("0 passed, 1 failed")
         return 1
-    for part in (keys, good, by_chance, fields, each_byte, orders, faults, example):
+    for part in (keys, good, by_chance, fields, each_byte, orders, ahead, faults, example):
         with tempfile.TemporaryDirectory() as at:
             results.update(part(Room(at)))
     for name, right in results.items():
