@@ -1,0 +1,46 @@
+use Rattle.std.proofs.Common.{◌∙◌, sym, refl, arith}
+use Rattle.su_session.proofs.Going.{none, some, goes-none, goes-then, goes-end, goes-read, end-closed, end-cut, end-failed, end-spent}
+use Rattle.su_session.proofs.talks.Talk.converse.Goals as goal
+
+pub loop-init : goal.loop-init
+loop-init g c = (c.requires, goes-none g.S.Service.answers _)
+
+pub returns-in-Some : goal.returns-in-Some
+returns-in-Some g c = goes-end g.S.Service.answers _ _ _ _ c.loop.invariant.1 (c.in-Some.ensures.says _)
+
+pub refill-requires : goal.refill-requires
+refill-requires g c = omega (arith, c.in_default.ensures.reads, c.loop.invariant.0, c.loop-test.true)
+
+pub returns-then-is_empty : goal.returns-then-is_empty
+returns-then-is_empty g c =
+    let ready = c.in_default.ensures.says (g.R.Read.remaining c.loop.reader) in
+    let (read, end, (frames, answered, turn)) = c.in-Ended.ensures.bytes in
+    goes-end g.S.Service.answers _ _ _ _ (goes-then g.S.Service.answers _ _ _ c.loop.invariant.1 ready.0) (end-closed g.S.Service.answers _ _ refl turn answered refl read end (sym frames ∙ sym c.waiting.ensures ∙ none c.waiting.result.now (sym c.is_empty.ensures ∙ c.if-is_empty.true)))
+
+pub returns-in-Ended : goal.returns-in-Ended
+returns-in-Ended g c =
+    let ready = c.in_default.ensures.says (g.R.Read.remaining c.loop.reader) in
+    let (read, end, (frames, answered, turn)) = c.in-Ended.ensures.bytes in
+    goes-end g.S.Service.answers _ _ _ _ (goes-then g.S.Service.answers _ _ _ c.loop.invariant.1 ready.0) (end-cut g.S.Service.answers _ _ refl turn answered refl read end ready.1 (rw (← c.in-Ended.ensures.bytes.2.0) (rw (← c.waiting.ensures) (some c.waiting.result.now (sym c.is_empty.ensures ∙ c.if-is_empty.false)))))
+
+pub returns-in-Failed : goal.returns-in-Failed
+returns-in-Failed g c =
+    let ready = c.in_default.ensures.says (g.R.Read.remaining c.loop.reader) in
+    let (piece, read, (frames, answered, turn)) = c.in-Failed.ensures.bytes in
+    goes-end g.S.Service.answers _ _ _ _ (goes-then g.S.Service.answers _ _ _ c.loop.invariant.1 ready.0) (end-failed g.S.Service.answers _ _ piece refl turn answered refl read)
+
+pub loop-preserved : goal.loop-preserved
+loop-preserved g c =
+    let ready = c.in_default.ensures.says (g.R.Read.remaining c.loop.reader) in
+    let (piece, read, (frames, answered, turn)) = c.in-More.ensures.bytes in (
+      omega (arith, c.in-More.ensures.reads, c.in_default.ensures.reads, c.loop.invariant.0),
+      goes-then g.S.Service.answers _ _ _ (goes-then g.S.Service.answers _ _ _ c.loop.invariant.1 ready.0) (goes-read g.S.Service.answers _ _ piece refl turn answered frames refl read),
+    )
+
+pub returns-in-Some-answer_ready : goal.returns-in-Some-answer_ready
+returns-in-Some-answer_ready g c = goes-end g.S.Service.answers _ _ _ _ c.loop.invariant.1 (c.in-Some-answer_ready.ensures.says _)
+
+pub returns-in-None : goal.returns-in-None
+returns-in-None g c =
+    let ready = c.in-None.ensures.says (g.R.Read.remaining c.loop.reader) in
+    goes-end g.S.Service.answers _ _ _ _ (goes-then g.S.Service.answers _ _ _ c.loop.invariant.1 ready.0) (end-spent g.S.Service.answers _ ready.1)

@@ -1,0 +1,14 @@
+//! A session of a server with one client: a stream is cut into messages, a service answers each, and
+//! the replies are written.
+#![tactic(auto)]
+
+mod exchanges;
+mod laws;
+mod links;
+mod services;
+mod sessions;
+mod talks;
+
+pub use laws::first_messages;
+pub use services::Service;
+pub use sessions::{End, MOST_READS, Served, serve};
