@@ -49,52 +49,58 @@ ends-later ended.Refused n known rest before rs out (e, f, w, a) =
     (e, f, ap (λ t. written_of before ++ t) w ∙ sym (append_assoc (written_of before) (written_of rs) (reply_frame (refusal_reply e))) ∙ ap (λ t. t ++ reply_frame (refusal_reply e)) (sym (flat_map-append reply_frame before rs)), omega (arith, a, length-append before rs))
 ends-later ended.Spent n known rest before rs out (p, (w, a)) =
     (p, (ap (λ t. written_of before ++ t) w ∙ sym (flat_map-append reply_frame before rs), omega (arith, a, length-append before rs)))
-ends-later ended.LinkFailed n known rest before rs out b =
-    record {
+ends-later ended.LinkFailed n known rest before rs out (inl b) = inl (record {
+      before = before ++ b.before;
+      last = b.last;
       part = b.part;
       missing = b.missing;
-      written =
-          ap (λ t. written_of before ++ t) b.written ∙ sym (append_assoc (written_of before) (written_of (take n rs)) b.part)
-          ∙ ap (λ t. t ++ b.part) (sym (flat_map-append reply_frame before (take n rs)) ∙ ap written_of (sym (take-append-add before rs n)));
-      front = b.front ∙ ap (λ (t : List Reply). written_of t ++ refusal_frame (fault rest)) (sym (drop-append-add before rs n));
+      replies_are = ap (λ t. before ++ t) b.replies_are ∙ sym (append_assoc before b.before (b.last ∷ []));
+      counted = omega (arith, b.counted, length-append before b.before);
+      written = ap (λ t. written_of before ++ t) b.written ∙ sym (append_assoc (written_of before) (written_of b.before) b.part) ∙ ap (λ t. t ++ b.part) (sym (flat_map-append reply_frame before b.before));
+      cut = b.cut;
+      short = b.short;
+    })
+ends-later ended.LinkFailed n known rest before rs out (inr b) = inr (record {
+      part = b.part;
+      missing = b.missing;
       counted = omega (arith, b.counted, length-append before rs);
-      one = omega (arith, b.one, length-append before rs);
-    }
+      written = ap (λ t. written_of before ++ t) b.written ∙ sym (append_assoc (written_of before) (written_of rs) b.part) ∙ ap (λ t. t ++ b.part) (sym (flat_map-append reply_frame before rs));
+      cut = b.cut;
+    })
 
 -- nothing more was written
 pub breaks-nothing : (rest : List ℕ) (n : ℕ) (rs : List Reply) → n ≡ length rs → Breaks n rest rs (written_of rs)
-breaks-nothing rest n rs e =
-    let all : take n rs ≡ rs = ap (λ k. take k rs) e ∙ take-length rs in
-    record {
+breaks-nothing rest n rs e = inr (record {
       part = [];
-      missing = written_of (drop n rs) ++ refusal_frame (fault rest);
-      written = ap written_of (sym all) ∙ sym (append-nil (written_of (take n rs)));
-      front = refl;
-      counted = omega (arith, e);
-      one = omega (arith, e);
-    }
+      missing = refusal_frame (fault rest);
+      counted = e;
+      written = sym (append-nil (written_of rs));
+      cut = refl;
+    })
 
 -- a front of one reply was written
-pub breaks-part : (rest : List ℕ) (r : Reply) (n : ℕ) → Breaks 0 rest (r ∷ []) (take n (reply_frame r))
-breaks-part rest r n = record {
-  part = take n (reply_frame r);
-  missing = drop n (reply_frame r) ++ refusal_frame (fault rest);
-  written = refl;
-  front = sym (append_assoc (take n (reply_frame r)) (drop n (reply_frame r)) (refusal_frame (fault rest))) ∙ ap (λ t. t ++ refusal_frame (fault rest)) (take-append-drop n (reply_frame r) ∙ sym (append-nil (reply_frame r)));
-  counted = omega arith;
-  one = omega arith;
-}
+pub breaks-part : (rest : List ℕ) (r : Reply) (n : ℕ) → n < length (reply_frame r) → Breaks 0 rest (r ∷ []) (take n (reply_frame r))
+breaks-part rest r n lt = inl (record {
+      before = [];
+      last = r;
+      part = take n (reply_frame r);
+      missing = drop n (reply_frame r);
+      replies_are = refl;
+      counted = refl;
+      written = refl;
+      cut = take-append-drop n (reply_frame r);
+      short = omega (arith, lt, length-drop n (reply_frame r));
+    })
 
 -- a front of the last refusal was written
 pub breaks-refusal : (rest : List ℕ) (e : Refusal) (n : ℕ) → fault rest ≡ Some e → Breaks 0 rest [] (take n (reply_frame (refusal_reply e)))
-breaks-refusal rest e n f = record {
-  part = take n (reply_frame (refusal_reply e));
-  missing = drop n (reply_frame (refusal_reply e));
-  written = refl;
-  front = take-append-drop n (reply_frame (refusal_reply e)) ∙ ap refusal_frame (sym f);
-  counted = omega arith;
-  one = omega arith;
-}
+breaks-refusal rest e n f = inr (record {
+      part = take n (reply_frame (refusal_reply e));
+      missing = drop n (reply_frame (refusal_reply e));
+      counted = refl;
+      written = refl;
+      cut = take-append-drop n (reply_frame (refusal_reply e)) ∙ ap refusal_frame (sym f);
+    })
 
 pub none : (xs : List ℕ) → (length xs == 0) ≡ true → xs ≡ []
 none [] e = refl
@@ -217,8 +223,8 @@ module _ {S : Type 0} (step : S → Request → Reply → S → Type 0) where
   pub step-broken : (s t : S) (turn turn' : Bool) (n : ℕ) (old new m : List ℕ) (known held held' : Option (List ℕ)) → IsMessage m × (old ≡ frame m ++ new)
       → SaysPart step s turn m held t turn' held' ⊎ SaysNothing step s turn held t turn' held'
       → Session step (moment s turn n old known held) ended.LinkFailed (moment t turn' n new known held')
-  step-broken s t turn turn' n old new m known held held' (good, cut) (inl (r, k, run, turned, wrote)) =
-      session-here _ _ ended.LinkFailed (m ∷ []) new (r ∷ []) (take k (reply_frame r)) 0 refl (one-message m old new cut) (all-one m good) (t, run, refl) wrote (omega arith) turned (breaks-part new r k)
+  step-broken s t turn turn' n old new m known held held' (good, cut) (inl (r, k, run, turned, lt, wrote)) =
+      session-here _ _ ended.LinkFailed (m ∷ []) new (r ∷ []) (take k (reply_frame r)) 0 refl (one-message m old new cut) (all-one m good) (t, run, refl) wrote (omega arith) turned (breaks-part new r k lt)
   step-broken s t turn turn' n old new m known held held' (good, cut) (inr (same, turned, wrote)) =
       session-here _ _ ended.LinkFailed [] old [] [] 0 refl refl (All-nil IsMessage) same wrote (omega arith) turned (breaks-nothing old 0 [] refl)
 

@@ -13,10 +13,10 @@ use Rattle.su_session.specs.Step.{Sends, Says}
 pub front_sent : (bytes : List ℕ) (held : Option (List ℕ)) (s : Sent) (held' : Option (List ℕ)) → Sends bytes held s held' → (n : ℕ) × Appends held held' (take n bytes)
 front_sent bytes held sent.Whole held' w = (length bytes, subst (Appends held held') (sym (take-length bytes)) w)
 front_sent bytes held sent.Unflushed held' w = (length bytes, subst (Appends held held') (sym (take-length bytes)) w)
-front_sent bytes held sent.Broken held' w = w
+front_sent bytes held sent.Broken held' (n, lt, w) = (n, w)
 
 -- a message that was answered, by what became of the reply
 pub says_sent : {S : Type 0} (answers : S → Request → Reply → S → Type 0) (s t : S) (turn turn' : Bool) (m : List ℕ) (r : Reply) (held : Option (List ℕ)) (became : Sent) (held' : Option (List ℕ)) → Answered answers s m r t → turn' ≡ turn_by turn r → Sends (reply_frame r) held became held' → Says answers s turn m held became t turn' held'
 says_sent answers s t turn turn' m r held sent.Whole held' a i w = (r, a, i, w)
 says_sent answers s t turn turn' m r held sent.Unflushed held' a i w = (r, a, i, w)
-says_sent answers s t turn turn' m r held sent.Broken held' a i (n, w) = inl (r, n, a, i, w)
+says_sent answers s t turn turn' m r held sent.Broken held' a i (n, lt, w) = inl (r, n, a, i, lt, w)

@@ -1,5 +1,5 @@
 -- A session: the messages at the front of a stream are answered in order, whoever answers.
-use Rattle.std.specs.Prelude.{◌≡◌, ℕ, ◌+◌, ◌<◌, ◌≤◌, Bool, false, List, [], ◌++◌, length, take, drop, Option, Some, None, All}
+use Rattle.std.specs.Prelude.{◌≡◌, ◌⊎◌, ℕ, ◌+◌, ◌<◌, Bool, false, List, [], ◌∷◌, ◌++◌, length, Option, Some, None, All}
 use Rattle.std.specs.Io.KnownBytes.{Consumes, Appends, IsAtEnd}
 use Rattle.su_bytes.specs.declared.refusals.Refusal.{Refusal}
 use Rattle.su_message.specs.declared.requests.Request.{Request}
@@ -10,19 +10,36 @@ use Rattle.su_session.specs.declared.sessions.Served.{Served}
 use Rattle.su_frames.specs.Stream.{fault, stream, IsMessage, IsPartial, IsRest}
 use Rattle.su_session.specs.Answer.{refusal_reply, reply_frame, written_of, refusal_frame, turn_after, Replies, GivesBack}
 
--- What was written where the link failed: the replies that are counted, and a part of what should
--- follow. At most the last reply isn't counted.
-pub record Breaks (answered : ℕ) (rest : List ℕ) (replies : List Reply) (out : List ℕ) : Type 0 where
-  pub part : List ℕ
-  pub missing : List ℕ
-  pub written : out ≡ written_of (take answered replies) ++ part
-  pub front : part ++ missing ≡ written_of (drop answered replies) ++ refusal_frame (fault rest)
-  pub counted : answered ≤ length replies
-  pub one : length replies ≤ answered + 1
-
 -- all replies were written, and no other byte
 abbrev pub SaysAll : ℕ → List Reply → List ℕ → Type 0
 SaysAll answered replies out = (out ≡ written_of replies) × (answered ≡ length replies)
+
+-- The last message was answered, and its reply is missing, or a last part of it. That one isn't
+-- counted.
+pub record BreaksReply (answered : ℕ) (replies : List Reply) (out : List ℕ) : Type 0 where
+  pub before : List Reply
+  pub last : Reply
+  pub part : List ℕ
+  pub missing : List ℕ
+  pub replies_are : replies ≡ before ++ last ∷ []
+  pub counted : answered ≡ length before
+  pub written : out ≡ written_of before ++ part
+  pub cut : part ++ missing ≡ reply_frame last
+  pub short : 0 < length missing
+
+-- All replies were written, and perhaps a part of the refusal of the length that stands next.
+pub record BreaksBetween (answered : ℕ) (rest : List ℕ) (replies : List Reply) (out : List ℕ) : Type 0
+  where
+  pub part : List ℕ
+  pub missing : List ℕ
+  pub counted : answered ≡ length replies
+  pub written : out ≡ written_of replies ++ part
+  pub cut : part ++ missing ≡ refusal_frame (fault rest)
+
+-- where the link failed
+abbrev pub Breaks : ℕ → List ℕ → List Reply → List ℕ → Type 0
+Breaks answered rest replies out =
+    BreaksReply answered replies out ⊎ BreaksBetween answered rest replies out
 
 -- How a session ended, by how many messages were answered, what the reader has left, what was read
 -- and isn't answered, the replies, and what was written.
@@ -92,7 +109,8 @@ module _ {S : Type 0} (answers : S → Request → Reply → S → Type 0) where
     pub ends : Ends end count b.known rest replies out
 
   -- a whole session, from its first moment to a turn given back
-  pub record Serves (s : S) (known held : Option (List ℕ)) (served : Served) (t : S) (known' held' : Option (List ℕ)) : Type 0 where
+  pub record Serves (s : S) (known held : Option (List ℕ)) (served : Served)
+    (t : S) (known' held' : Option (List ℕ)) : Type 0 where
     pub last : Moment S
     pub session : Session (begin s known held) served.end_ last
     pub answered : served.answered ≡ last.answered

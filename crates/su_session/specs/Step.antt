@@ -28,11 +28,12 @@ at s talk known held = record {
   held = held;
 }
 
--- these bytes were written, or a front of them
+-- these bytes were written, or a front of them that isn't all
 abbrev pub Sends : List ℕ → Option (List ℕ) → Sent → Option (List ℕ) → Type 0
 Sends bytes held sent.Whole held' = Appends held held' bytes
 Sends bytes held sent.Unflushed held' = Appends held held' bytes
-Sends bytes held sent.Broken held' = (n : ℕ) × Appends held held' (take n bytes)
+Sends bytes held sent.Broken held' =
+    (n : ℕ) × (n < length bytes) × Appends held held' (take n bytes)
 
 -- the refusal of a length was written, or a front of it
 abbrev pub Refusing : Refusal → Option (List ℕ) → End → Option (List ℕ) → Type 0
@@ -62,11 +63,11 @@ module _ {S : Type 0} (answers : S → Request → Reply → S → Type 0) where
       (r : Reply) × Answered answers s message r t × (turn' ≡ turn_by turn r)
       × Appends held held' (reply_frame r)
 
-  -- a message was answered, and a front of its reply was written
+  -- a message was answered, and a front of its reply was written that isn't all
   abbrev pub SaysPart : S → Bool → List ℕ → Option (List ℕ) → S → Bool → Option (List ℕ) → Type 0
   SaysPart s turn message held t turn' held' =
       (r : Reply) × (n : ℕ) × Answered answers s message r t × (turn' ≡ turn_by turn r)
-      × Appends held held' (take n (reply_frame r))
+      × (n < length (reply_frame r)) × Appends held held' (take n (reply_frame r))
 
   -- a message was given to nobody
   abbrev pub SaysNothing : S → Bool → Option (List ℕ) → S → Bool → Option (List ℕ) → Type 0

@@ -1,5 +1,5 @@
-//! A session of a server with one client: a stream is cut into messages, a service answers each, and
-//! the replies are written.
+//! A session of a server with one client: a stream is cut into messages, a service answers each,
+//! and the replies are written.
 #![tactic(auto)]
 
 mod exchanges;
