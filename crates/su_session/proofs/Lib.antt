@@ -1,3 +1,4 @@
 pub mod Sending
 pub mod Going
 pub mod Ending
+pub mod Waiting

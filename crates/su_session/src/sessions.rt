@@ -1,5 +1,5 @@
 // Sessions over a reader and a writer.
-ghost use Rattle.std.specs.Prelude.{◌≡◌, ◌+◌, ◌<◌, ℕ, List, Option};
+ghost use Rattle.std.specs.Prelude.{◌≡◌, ◌+◌, ◌<◌, ℕ, List, length, Option};
 ghost use Rattle.su_session.specs.Session.{Serves, Session};
 ghost use Rattle.su_session.specs.Step.{at, Readies, Refills, Steps};
 
@@ -182,9 +182,10 @@ impl Talk {
         }
     }
 
-    /// Reads once.
+    /// Reads once, where no whole message waits.
     fn refill<R: Read>(&mut self, reader: &mut R) -> Refill
-        requires { self.old.reads < 10000000 }
+        requires few { self.old.reads < 10000000 }
+        requires partial { length self.old.frames < 131076 }
         ensures bytes { Refills self.old (R.remaining reader.old) result
             self.new (R.remaining reader.new) }
         ensures reads { self.new.reads ≡ self.old.reads + 1 }

@@ -1,5 +1,6 @@
 use Rattle.std.proofs.Common.{◌∙◌, sym, refl, arith}
 use Rattle.su_session.proofs.Going.{none, some, goes-none, goes-then, goes-end, goes-read, end-closed, end-cut, end-failed, end-spent}
+use Rattle.su_session.proofs.Waiting.{partial_short}
 use Rattle.su_session.proofs.talks.Talk.converse.Goals as goal
 
 pub loop-init : goal.loop-init
@@ -8,8 +9,11 @@ loop-init g c = (c.requires, goes-none g.S.Service.answers _)
 pub returns-in-Some : goal.returns-in-Some
 returns-in-Some g c = goes-end g.S.Service.answers _ _ _ _ c.loop.invariant.1 (c.in-Some.ensures.says _)
 
-pub refill-requires : goal.refill-requires
-refill-requires g c = omega (arith, c.in_default.ensures.reads, c.loop.invariant.0, c.loop-test.true)
+pub refill-requires-clause-few : goal.refill-requires-clause-few
+refill-requires-clause-few g c = omega (arith, c.in_default.ensures.reads, c.loop.invariant.0, c.loop-test.true)
+
+pub refill-requires-clause-partial : goal.refill-requires-clause-partial
+refill-requires-clause-partial g c = partial_short _ (c.in_default.ensures.says (g.R.Read.remaining c.loop.reader)).1
 
 pub returns-then-is_empty : goal.returns-then-is_empty
 returns-then-is_empty g c =
