@@ -3,7 +3,7 @@ use Rattle.std.proofs.Common.{◌≡◌, ◌∙◌, sym, refl, ap, subst, ℕ, z
 use Rattle.std.specs.List.{flat_map}
 use Rattle.std.specs.Io.KnownBytes.{Consumes, Appends, IsAtEnd}
 use Rattle.std.proofs.KnownBytes.{Consumes-nil, Consumes-trans, Appends-nil, Appends-trans}
-use Rattle.std.proofs.Math.Seq.{take-length, take-add, take-append-add, drop-append-add}
+use Rattle.std.proofs.Math.Seq.{take-length, take-add}
 use Rattle.std.proofs.lemmas.Bool.Decides.{nat_tests}
 use Rattle.std.proofs.lemmas.List.Elements.{All-append, All-nil}
 use Rattle.su_bytes.specs.declared.refusals.Refusal.{Refusal}
@@ -50,57 +50,57 @@ ends-later ended.Refused n known rest before rs out (e, f, w, a) =
 ends-later ended.Spent n known rest before rs out (p, (w, a)) =
     (p, (ap (λ t. written_of before ++ t) w ∙ sym (flat_map-append reply_frame before rs), omega (arith, a, length-append before rs)))
 ends-later ended.LinkFailed n known rest before rs out (inl b) = inl (record {
-      before = before ++ b.before;
-      last = b.last;
-      part = b.part;
-      missing = b.missing;
-      replies_are = ap (λ t. before ++ t) b.replies_are ∙ sym (append_assoc before b.before (b.last ∷ []));
-      counted = omega (arith, b.counted, length-append before b.before);
-      written = ap (λ t. written_of before ++ t) b.written ∙ sym (append_assoc (written_of before) (written_of b.before) b.part) ∙ ap (λ t. t ++ b.part) (sym (flat_map-append reply_frame before b.before));
-      cut = b.cut;
-      short = b.short;
-    })
+  before = before ++ b.before;
+  last = b.last;
+  part = b.part;
+  missing = b.missing;
+  replies_are = ap (λ t. before ++ t) b.replies_are ∙ sym (append_assoc before b.before (b.last ∷ []));
+  counted = omega (arith, b.counted, length-append before b.before);
+  written = ap (λ t. written_of before ++ t) b.written ∙ sym (append_assoc (written_of before) (written_of b.before) b.part) ∙ ap (λ t. t ++ b.part) (sym (flat_map-append reply_frame before b.before));
+  cut = b.cut;
+  short = b.short;
+})
 ends-later ended.LinkFailed n known rest before rs out (inr b) = inr (record {
-      part = b.part;
-      missing = b.missing;
-      counted = omega (arith, b.counted, length-append before rs);
-      written = ap (λ t. written_of before ++ t) b.written ∙ sym (append_assoc (written_of before) (written_of rs) b.part) ∙ ap (λ t. t ++ b.part) (sym (flat_map-append reply_frame before rs));
-      cut = b.cut;
-    })
+  part = b.part;
+  missing = b.missing;
+  counted = omega (arith, b.counted, length-append before rs);
+  written = ap (λ t. written_of before ++ t) b.written ∙ sym (append_assoc (written_of before) (written_of rs) b.part) ∙ ap (λ t. t ++ b.part) (sym (flat_map-append reply_frame before rs));
+  cut = b.cut;
+})
 
 -- nothing more was written
 pub breaks-nothing : (rest : List ℕ) (n : ℕ) (rs : List Reply) → n ≡ length rs → Breaks n rest rs (written_of rs)
 breaks-nothing rest n rs e = inr (record {
-      part = [];
-      missing = refusal_frame (fault rest);
-      counted = e;
-      written = sym (append-nil (written_of rs));
-      cut = refl;
-    })
+  part = [];
+  missing = refusal_frame (fault rest);
+  counted = e;
+  written = sym (append-nil (written_of rs));
+  cut = refl;
+})
 
 -- a front of one reply was written
 pub breaks-part : (rest : List ℕ) (r : Reply) (n : ℕ) → n < length (reply_frame r) → Breaks 0 rest (r ∷ []) (take n (reply_frame r))
 breaks-part rest r n lt = inl (record {
-      before = [];
-      last = r;
-      part = take n (reply_frame r);
-      missing = drop n (reply_frame r);
-      replies_are = refl;
-      counted = refl;
-      written = refl;
-      cut = take-append-drop n (reply_frame r);
-      short = omega (arith, lt, length-drop n (reply_frame r));
-    })
+  before = [];
+  last = r;
+  part = take n (reply_frame r);
+  missing = drop n (reply_frame r);
+  replies_are = refl;
+  counted = refl;
+  written = refl;
+  cut = take-append-drop n (reply_frame r);
+  short = omega (arith, lt, length-drop n (reply_frame r));
+})
 
 -- a front of the last refusal was written
 pub breaks-refusal : (rest : List ℕ) (e : Refusal) (n : ℕ) → fault rest ≡ Some e → Breaks 0 rest [] (take n (reply_frame (refusal_reply e)))
 breaks-refusal rest e n f = inr (record {
-      part = take n (reply_frame (refusal_reply e));
-      missing = drop n (reply_frame (refusal_reply e));
-      counted = refl;
-      written = refl;
-      cut = take-append-drop n (reply_frame (refusal_reply e)) ∙ ap refusal_frame (sym f);
-    })
+  part = take n (reply_frame (refusal_reply e));
+  missing = drop n (reply_frame (refusal_reply e));
+  counted = refl;
+  written = refl;
+  cut = take-append-drop n (reply_frame (refusal_reply e)) ∙ ap refusal_frame (sym f);
+})
 
 pub none : (xs : List ℕ) → (length xs == 0) ≡ true → xs ≡ []
 none [] e = refl

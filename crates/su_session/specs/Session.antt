@@ -30,11 +30,11 @@ pub record BreaksReply (answered : ℕ) (replies : List Reply) (out : List ℕ) 
 -- All replies were written, and perhaps a part of the refusal of the length that stands next.
 pub record BreaksBetween (answered : ℕ) (rest : List ℕ) (replies : List Reply) (out : List ℕ) : Type 0
   where
-  pub part : List ℕ
-  pub missing : List ℕ
-  pub counted : answered ≡ length replies
-  pub written : out ≡ written_of replies ++ part
-  pub cut : part ++ missing ≡ refusal_frame (fault rest)
+    pub part : List ℕ
+    pub missing : List ℕ
+    pub counted : answered ≡ length replies
+    pub written : out ≡ written_of replies ++ part
+    pub cut : part ++ missing ≡ refusal_frame (fault rest)
 
 -- where the link failed
 abbrev pub Breaks : ℕ → List ℕ → List Reply → List ℕ → Type 0
@@ -110,7 +110,7 @@ module _ {S : Type 0} (answers : S → Request → Reply → S → Type 0) where
 
   -- a whole session, from its first moment to a turn given back
   pub record Serves (s : S) (known held : Option (List ℕ)) (served : Served)
-    (t : S) (known' held' : Option (List ℕ)) : Type 0 where
+      (t : S) (known' held' : Option (List ℕ)) : Type 0 where
     pub last : Moment S
     pub session : Session (begin s known held) served.end_ last
     pub answered : served.answered ≡ last.answered

@@ -12,3 +12,6 @@ mod talks;
 pub use laws::first_messages;
 pub use services::Service;
 pub use sessions::{End, MOST_READS, Served, serve};
+
+#[cfg(test)]
+mod tests;

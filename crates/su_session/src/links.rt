@@ -11,7 +11,7 @@ use su_frames::LONGEST_MESSAGE;
 use su_message::Reply;
 
 /// What became of a reply.
-#[derive(Clone, Copy, Debug, PartialEq, Eq)]
+#[derive(Clone, Copy)]
 pub(crate) enum Sent {
     /// It was written.
     Whole,
@@ -22,7 +22,7 @@ pub(crate) enum Sent {
 }
 
 /// The link took a front of the bytes alone, or none.
-#[derive(Clone, Copy, Debug)]
+#[derive(Clone, Copy)]
 pub(crate) struct WriteFault;
 
 /// Writes all the bytes, of which there is one at least. Fails where the writer fails, or takes

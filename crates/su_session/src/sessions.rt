@@ -42,7 +42,7 @@ pub struct Served {
 }
 
 /// What one step of a session did.
-#[derive(Clone, Copy, Debug, PartialEq, Eq)]
+#[derive(Clone, Copy)]
 enum Progress {
     /// A message was answered.
     Answered,
@@ -53,7 +53,7 @@ enum Progress {
 }
 
 /// What one read did.
-#[derive(Clone, Copy, Debug, PartialEq, Eq)]
+#[derive(Clone, Copy)]
 enum Refill {
     /// There may be more.
     More,
