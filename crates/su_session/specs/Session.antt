@@ -89,6 +89,15 @@ IsWhole Refused rest = IsRest rest
 IsWhole Spent rest = Unit {0}
 IsWhole LinkFailed rest = Unit {0}
 
+-- how a session ends where the link holds, by what stands behind the last whole message
+abbrev pub end_by : Option Refusal → List ℕ → End
+end_by (Some e) rest = Refused
+end_by None [] = Closed
+end_by None (b ∷ bs) = Cut
+
+abbrev pub end_of : List ℕ → End
+end_of rest = end_by (fault rest) rest
+
 module _ {S : Type 0} (answers : S → Request → Reply → S → Type 0) where
   -- A session, or what is left of one: some bytes were read; of what waited and these, the first
   -- messages were answered.

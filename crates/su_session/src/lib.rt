@@ -9,7 +9,7 @@ mod services;
 mod sessions;
 mod talks;
 
-pub use laws::first_messages;
+pub use laws::{all_messages, first_messages};
 pub use services::Service;
 pub use sessions::{End, MOST_READS, Served, serve};
 
