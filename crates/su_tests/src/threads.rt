@@ -1,0 +1,94 @@
+// Two threads at one book.
+ghost use Rattle.std.specs.Prelude.{◌≡◌, ◌≤◌};
+
+use crate::books::new_commits;
+use crate::clients::roster;
+use crossbeam_channel::{Receiver, Sender, bounded};
+use std::alloc::Global;
+use std::marker::Brand;
+use std::process::Abort;
+use std::sync::Wait;
+use std::sync::ledger::Blank;
+use std::test::Fail;
+use std::thread::{Threads, join};
+use su_bytes::Roster;
+use su_shared::{BookName, Cells, Receipt, Seat, SharedBook};
+
+#[test]
+fn two_threads_at_one_book(rt: HostRuntime) -> Result<(), Fail> {
+    let alloc = rt.alloc();
+    let commits = new_commits(alloc)?;
+    let roster = roster(alloc)?;
+    let cells = Cells::new(alloc, 4)?;
+    hand_over::<Brand, _>(&rt, alloc, cells, roster, &commits.first, Blank::new(512))
+}
+
+// One seat stores a commit, and hands its receipt to the other's thread.
+fn hand_over<N: BookName + Send + Sync, R: Threads + Wait + Abort + Sync>(
+    rt: &R,
+    alloc: Global,
+    cells: Cells,
+    roster: Roster,
+    commit: &[u8],
+    blank: Blank,
+) -> Result<(), Fail>
+    requires cells { cells ≡ N.cells }
+    requires ledger { (blank.name ≡ N.name) × (blank.parts ≡ N.parts) × (257 ≤ N.parts) }
+{
+    let book: SharedBook<N> = SharedBook::new(alloc, cells, roster, blank)?;
+    let shared = &book;
+    let zero = shared.seat(rt, alloc)?;
+    let one = shared.seat(rt, alloc)?;
+    let (to, from) = bounded(alloc, 1)?;
+    let (a, b) = join(
+        rt,
+        move || store(rt, alloc, shared, zero, commit, to),
+        move || read(rt, shared, one, commit, from),
+    );
+    let zero = a.ok_or("not stored")?;
+    let one = b.ok_or("not read")?;
+    let mut seats = Vec::new(alloc);
+    seats.push(zero)?;
+    let Err((book, mut seats)) = book.close(seats) else {
+        return Err(Fail::new("closed with one seat"));
+    };
+    assert_eq!(rt; seats.len(), 1);
+    seats.push(one)?;
+    let Ok(closed) = book.close(seats) else {
+        return Err(Fail::new("not closed"));
+    };
+    assert_eq!(rt; closed.records, 1);
+    assert_eq!(rt; closed.calls, 2);
+    Ok(())
+}
+
+fn store<N: BookName, R: Wait + Abort>(
+    rt: &R,
+    alloc: Global,
+    book: &SharedBook<N>,
+    mut seat: Seat<N>,
+    commit: &[u8],
+    to: Sender<Receipt<N>>,
+) -> Option<Seat<N>> {
+    let (_reply, receipt) = book.grant(rt, alloc, &mut seat).ok()?;
+    assert!(rt; receipt.is_none());
+    let (number, receipt) = book.commit(rt, alloc, &mut seat, commit).ok()?;
+    assert_eq!(rt; number, 1);
+    to.send(rt, receipt).ok()?;
+    Some(seat)
+}
+
+fn read<N: BookName, R: Wait + Abort>(
+    rt: &R,
+    book: &SharedBook<N>,
+    mut seat: Seat<N>,
+    commit: &[u8],
+    from: Receiver<Receipt<N>>,
+) -> Option<Seat<N>> {
+    let mut receipt = from.recv(rt).ok()?;
+    seat.learn(&mut receipt);
+    let record = book.published(&mut seat, 1)?;
+    assert!(rt; record.bytes() == commit);
+    assert!(rt; book.published(&mut seat, 2).is_none());
+    Some(seat)
+}
