@@ -28,18 +28,17 @@ pub record BreaksReply (answered : ℕ) (replies : List Reply) (out : List ℕ) 
   pub short : 0 < length missing
 
 -- All replies were written, and perhaps a part of the refusal of the length that stands next.
-pub record BreaksBetween (answered : ℕ) (rest : List ℕ) (replies : List Reply) (out : List ℕ) : Type 0
-  where
-    pub part : List ℕ
-    pub missing : List ℕ
-    pub counted : answered ≡ length replies
-    pub written : out ≡ written_of replies ++ part
-    pub cut : part ++ missing ≡ refusal_frame (fault rest)
+pub record BreaksBetween (answered : ℕ) (replies : List Reply) (rest out : List ℕ) : Type 0 where
+  pub part : List ℕ
+  pub missing : List ℕ
+  pub counted : answered ≡ length replies
+  pub written : out ≡ written_of replies ++ part
+  pub cut : part ++ missing ≡ refusal_frame (fault rest)
 
 -- where the link failed
 abbrev pub Breaks : ℕ → List ℕ → List Reply → List ℕ → Type 0
 Breaks answered rest replies out =
-    BreaksReply answered replies out ⊎ BreaksBetween answered rest replies out
+    BreaksReply answered replies out ⊎ BreaksBetween answered replies rest out
 
 -- How a session ended, by how many messages were answered, what the reader has left, what was read
 -- and isn't answered, the replies, and what was written.

@@ -3,8 +3,8 @@ ghost use Rattle.std.specs.Prelude.{◌+◌, ◌*◌, ◌<◌, ◌≤◌, length
 
 use su_frames::Frames;
 
-/// What was read and isn't answered, which is less than a message and what one read brings; how many
-/// messages were answered; whether the turn is held; how often was read.
+/// What was read and isn't answered, which is less than a message and what one read brings; how
+/// many messages were answered; whether the turn is held; how often was read.
 #[derive(Drop)]
 pub(crate) struct Talk {
     pub(crate) frames: Frames,
