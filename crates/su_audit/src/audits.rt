@@ -52,6 +52,9 @@ impl fmt::Display for Fault {
 pub trait Watcher {
     /// Tells that so many commits were taken so far.
     fn taken(&mut self, count: u64);
+
+    /// Tells that no more will be, before anything is printed.
+    fn ended(&mut self);
 }
 
 /// Takes the commits of a log in a view of user 0, one after the other, each with the item that
@@ -89,9 +92,18 @@ pub fn run_audit<T: Threads + Sync, R: Read + Drop, W: Write, X: Watcher>(
                     watcher.taken(number);
                 }
             }
-            Step::Ended => return tell_taken(alloc, writer, number - 1),
-            Step::Refused(refusal) => return tell_refused(alloc, writer, number, &refusal),
-            Step::Failed(error) => return Ending::Failed(Fault::Reading(error)),
+            Step::Ended => {
+                watcher.ended();
+                return tell_taken(alloc, writer, number - 1);
+            }
+            Step::Refused(refusal) => {
+                watcher.ended();
+                return tell_refused(alloc, writer, number, &refusal);
+            }
+            Step::Failed(error) => {
+                watcher.ended();
+                return Ending::Failed(Fault::Reading(error));
+            }
         }
     }
     Ending::Failed(Fault::Reading(io::Error::other("it has no end")))

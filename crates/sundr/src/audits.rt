@@ -44,9 +44,7 @@ pub(crate) fn audit<T: Threads + Sync, W: Write>(
         }
     };
     let mut progress = Progress::new(rt);
-    let ending = run_audit(threads, alloc, reader, writer, roster, &mut progress);
-    progress.clear();
-    match ending {
+    match run_audit(threads, alloc, reader, writer, roster, &mut progress) {
         Ending::Taken => Status::Finished,
         Ending::Refused => Status::Fault,
         Ending::Failed(reason) => {
@@ -87,14 +85,6 @@ impl<'a> Progress<'a> {
             is_clear: true,
         }
     }
-
-    /// Clears the line.
-    fn clear(&mut self) {
-        if !self.is_clear {
-            let _ = eprint!(self.rt; "\r\x1b[K");
-            self.is_clear = true;
-        }
-    }
 }
 
 impl Watcher for Progress<'_> {
@@ -102,6 +92,14 @@ impl Watcher for Progress<'_> {
         if self.is_shown {
             let _ = eprint!(self.rt; "\r{count} commits");
             self.is_clear = false;
+        }
+    }
+
+    /// Clears the line.
+    fn ended(&mut self) {
+        if !self.is_clear {
+            let _ = eprint!(self.rt; "\r\x1b[K");
+            self.is_clear = true;
         }
     }
 }
