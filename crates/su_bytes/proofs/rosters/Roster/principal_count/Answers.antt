@@ -1,4 +1,4 @@
-use Rattle.std.proofs.Common.{◌≡◌, map, sym, subst, arith}
+use Rattle.std.proofs.Common.{map, sym, subst, arith}
 use Rattle.std.specs.List.Sorted.{IsStrictlyIncreasing}
 use Rattle.su_bytes.proofs.Memberships.{length-rising, users_ascend, groups_ascend}
 use Rattle.su_bytes.proofs.rosters.Roster.principal_count.Goals as goal
