@@ -1,5 +1,5 @@
 -- The tables that a forest keeps beside its maps, after a change at one place.
-use Rattle.std.proofs.Common.{◌≡◌, ◌≢◌, ◌∙◌, sym, ap, refl, ℕ, ◌<◌, ◌≤◌, Bool, true, false, cond, nat_eq, IsTrue, List, [], map, replicate, length, set, get_or, Option, Some, None, arith, subst}
+use Rattle.std.proofs.Common.{◌≡◌, ◌≢◌, ◌∙◌, sym, ap, refl, ℕ, ◌<◌, ◌≤◌, Bool, true, false, cond, nat_eq, not, is_some, IsTrue, List, [], replicate, length, set, get_or, Option, Some, None, arith, subst}
 use Rattle.std.specs.Prelude.{IsSome}
 use Rattle.std.specs.Ordering.{nat_cmp}
 use Rattle.std.specs.BTreeMap.{is_at}
@@ -8,41 +8,19 @@ use Rattle.std.specs.FinMap.{FinMap, entries, from_entries, get-entries}
 use Rattle.std.specs.FinMap.Entries.{find}
 use Rattle.std.proofs.lemmas.Bool.{eqb-true, leb-true, le-leb}
 use Rattle.std.proofs.lemmas.Bool.Decides.{nat_tests}
-use Rattle.std.proofs.lemmas.List.{get_or-map, get_or-set_same, get_or-set_other, get_or-replicate, length-replicate, length-set, length-map, map-set}
+use Rattle.std.proofs.lemmas.List.{get_or-set_same, get_or-set_other, get_or-replicate, length-replicate, length-set}
 use Rattle.std.specs.List.Sorted.{IsStrictlySortedBy}
 use Rattle.su_bytes.specs.Principal.{is_user, is_group}
 use Rattle.su_bytes.specs.Place.{Place, place_cmp}
-use Rattle.su_hash_tree.specs.Seen.{Seen}
 use Rattle.su_node.proofs.Public.{entries-from_entries, from_entries-updates, get-from_entries_lookup, set_key-get, set_key-set_key}
 use Rattle.su_node.specs.InodeChange.{set_key}
 use Rattle.su_table.specs.Handle.{pairs_of}
 use Rattle.su_table.specs.Table.{with_pair}
+use Rattle.su_table.specs.Free.{has_none}
 use Rattle.su_table.specs.Kept.{AreTables, table_in}
 use Rattle.su_table.proofs.Places.{place_cmp_total, place_cmp_exact}
 use Rattle.su_table.proofs.Stores.{at_place}
 use Rattle.su_table.proofs.TableEdits.{find-pairs_of, pairs_of-set}
-
--- ---- one tree of a list of trees
-
-module _ {V : Type 0} where
-  abbrev pub seen_all : List (Seen ℕ V) → List (List (ℕ × V))
-  seen_all trees = map (λ (t : Seen ℕ V). t.entries) trees
-
-  -- what one tree is seen as
-  pub tree_seen : (trees : List (Seen ℕ V)) (tables : List (List (ℕ × V))) (n k : ℕ) (tree : Seen ℕ V)
-      → seen_all trees ≡ tables → n ≡ k → k < length tables → tree ≡ get_or trees n tree → tree.entries ≡ get_or tables k []
-  tree_seen trees tables n k tree is at within tree_is =
-      let l = length-map trees (λ (t : Seen ℕ V). t.entries) in
-      let there : n < length trees = omega (arith, l, ap length is, at, within) in
-      ap (λ (t : Seen ℕ V). t.entries) tree_is ∙ sym (get_or-map (λ (t : Seen ℕ V). t.entries) trees n tree [] there) ∙ (λ i. get_or (is i) (at i) [])
-
-  -- one tree changed, and what all are seen as
-  pub tree_changed : (trees : List (Seen ℕ V)) (tables : List (List (ℕ × V))) (n k : ℕ) (was new : Seen ℕ V) (change : List (ℕ × V) → List (ℕ × V))
-      → seen_all trees ≡ tables → n ≡ k → k < length tables → was ≡ get_or trees n was → new.entries ≡ change was.entries
-      → seen_all (set trees n new) ≡ set tables k (change (get_or tables k []))
-  tree_changed trees tables n k was new change is at within was_is new_is =
-      map-set (λ (t : Seen ℕ V). t.entries) trees n new ∙ (λ i. set (is i) (at i) (new_is i))
-      ∙ ap (λ ps. set tables k (change ps)) (tree_seen trees tables n k was is at within was_is)
 
 -- ---- the tables of a map's entries
 
@@ -104,6 +82,13 @@ module _ {X W : Type 0} (value : X → W) (is_principal : ℕ → Bool) where
   kept_absent es tables p are h none = none_from (at_place es p) (sym (kept_at es tables p are h) ∙ none)
 
   -- ---- told by the number of a principal
+
+  -- the table lacks a number where nothing stands
+  pub kept_lacks : (es : List (Place × X)) (tables : List (List (ℕ × W))) (n : ℕ) (p : Place) → Kept es tables → n ≡ p.0 → IsTrue (is_principal p.0)
+      → has_none (get_or tables n []) p.1 ≡ not (is_some (at_place es p))
+  kept_lacks es tables n p are at h =
+      ap (λ k. has_none (get_or tables k []) p.1) at ∙ ap (λ o. not (is_some o)) (kept_at es tables p are h)
+      ∙ elim (at_place es p) as (λ o. not (is_some (option_map value o)) ≡ not (is_some o)) [ None ↦ refl | Some x ↦ refl ]
 
   pub number_within : (es : List (Place × X)) (tables : List (List (ℕ × W))) (n : ℕ) (p : Place) → Kept es tables → n ≡ p.0 → IsTrue (is_principal p.0) → n < length tables
   number_within es tables n p are at h = subst (λ k. k < length tables) (sym at) (are.within p.0 h)

@@ -2,5 +2,6 @@ pub mod Places
 pub mod Stores
 pub mod TakenBack
 pub mod TableEdits
+pub mod Fronts
 pub mod KeptTables
 pub mod Public

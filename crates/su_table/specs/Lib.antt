@@ -7,3 +7,4 @@ pub mod Handle
 pub mod Table
 pub mod Kept
 pub mod Cost
+pub mod Free

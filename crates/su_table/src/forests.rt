@@ -7,9 +7,11 @@ ghost use Rattle.su_table.specs.Tree.{genesis};
 ghost use Rattle.su_table.specs.Cell.{Cell.Pointer, val};
 ghost use Rattle.su_table.specs.Cost.{hashes_of_inode};
 ghost use Rattle.su_table.specs.Handle.{handle};
+ghost use Rattle.su_table.specs.Free.{IsLeastFree};
 ghost use Rattle.su_table.specs.Edit.{Edit.Inodes, Edit.Pointers, edit};
 ghost use Rattle.su_table.specs.Query.{is_nothing, body, is_free_at, is_dir_at, is_file_at, links_at, is_bare_at, is_name_free_at, leads_to_at, is_pointer_free, size_at, standing, listing, contents, contents_within};
 ghost use Rattle.su_bytes.specs.declared.refusals.Refusal.TheVariants.{NoMemory};
+ghost use Rattle.su_bytes.specs.declared.file_ids.FileId.TheVariants.{Group as GroupFileId};
 
 use crate::tables::Tables;
 use std::alloc::{AllocError, Global};
@@ -192,6 +194,23 @@ impl Forest {
             FileId::User(..) => true,
             FileId::Group(group, number) => !self.pointers.contains_key(&(group, number)),
         }
+    }
+
+    /// Finds the least number from a number on at which the user has no inode; none where each one
+    /// from there to the last is taken. It looks at what is kept of each 1,024 numbers, and at 1,024
+    /// numbers.
+    pub fn free_number(&self, user: User, from_: Inum) -> Option<Inum>
+        ensures { IsLeastFree (λ i. is_free_at self.now (user, i)) from_ result }
+    {
+        self.digests.free_number(user.number(), from_)
+    }
+
+    /// Finds the least number from a number on at which the group has no file, as `free_number`
+    /// does for a user.
+    pub fn free_group_number(&self, group: Group, from_: Inum) -> Option<Inum>
+        ensures { IsLeastFree (λ k. is_pointer_free self.now (GroupFileId group k)) from_ result }
+    {
+        self.bodies.free_number(group.number(), from_)
     }
 
     /// Returns the inode of a file: `NoFile` where the file has no body, `WrongKind` where its

@@ -4,6 +4,7 @@
 
 mod forests;
 mod laws;
+mod table;
 mod tables;
 
 pub use forests::Forest;

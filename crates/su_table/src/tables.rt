@@ -6,29 +6,29 @@ ghost use Rattle.su_tree.specs.Digest.{digest};
 ghost use Rattle.su_tree.specs.Number.{numbers};
 ghost use Rattle.su_hash_tree.specs.Clones.{IsExact};
 ghost use Rattle.su_table.specs.Cost.{hashes_of_number};
+ghost use Rattle.su_table.specs.Free.{has_none, IsLeastFree};
 ghost use Rattle.su_table.specs.Table.{with_pair};
 
+use crate::table::Table;
 use std::alloc::{AllocError, Global};
 use std::marker::Model;
 use su_bytes::{Digest, Inum};
-use su_hash_tree::HashTree;
 use su_tree::TreeValue;
 
-/// Tables from numbers to values, one for each principal from number 0 on, each with its digest.
-/// Its model is the pairs of each table in the order of their numbers. A change of a table hashes
-/// the path of one number: at most 33 hashes, and about log2 n of n random numbers.
+/// Tables from numbers to values, one for each principal from number 0 on. Its model is the pairs
+/// of each table in the order of their numbers.
 #[derive(Drop)]
 pub(crate) struct Tables<V: TreeValue> {
-    trees: Vec<HashTree<u32, V>>,
+    tables: Vec<Table<V>>,
     alloc: Global,
 }
 
 impl<V: TreeValue> Model for Tables<V> {
-    ghost use Rattle.std.specs.Prelude.{ℕ, List, map};
+    ghost use Rattle.std.specs.Prelude.{ℕ, List};
 
     ghost Value = { List (List (ℕ × V)) };
 
-    ghost view = { λ t. map (λ tree. tree.entries) t.trees.items };
+    ghost view = { λ t. t.tables.items };
 }
 
 impl<V: TreeValue + Drop> Tables<V> {
@@ -36,11 +36,11 @@ impl<V: TreeValue + Drop> Tables<V> {
     pub fn empty(alloc: Global, count: usize) -> Result<Tables<V>, AllocError>
         ensures { IfOk result (λ tables. tables ≡ replicate count []) }
     {
-        let mut trees = Vec::with_capacity(alloc, count)?;
+        let mut tables = Vec::with_capacity(alloc, count)?;
         for _ in 0..count {
-            trees.push(HashTree::empty(alloc))?;
+            tables.push(Table::empty(alloc))?;
         }
-        Ok(Tables { trees, alloc })
+        Ok(Tables { tables, alloc })
     }
 
     /// Returns the digest of a table. It makes no hash.
@@ -48,7 +48,16 @@ impl<V: TreeValue + Drop> Tables<V> {
         requires { table < length self.now }
         ensures { result ≡ digest (numbers V.bytes) (slice_index_or self.now table []) }
     {
-        self.trees[usize::from(table)].digest()
+        self.tables[usize::from(table)].digest()
+    }
+
+    /// Finds the least number from a number on that a table doesn't have, as `Table::free_number`
+    /// does.
+    pub fn free_number(&self, table: u8, from_: Inum) -> Option<Inum>
+        requires { table < length self.now }
+        ensures { IsLeastFree (has_none (slice_index_or self.now table [])) from_ result }
+    {
+        self.tables[usize::from(table)].free_number(from_)
     }
 
     /// Puts a value at a number of a table. Returns how many hashes it made. Takes memory only for
@@ -62,10 +71,7 @@ impl<V: TreeValue + Drop> Tables<V> {
         ensures err { OnErr result (self.new ≡ self.old) }
         ensures hashes { IfOk result (λ made. made ≤ hashes_of_number) }
     {
-        let tree = &mut self.trees[usize::from(table)];
-        let before = tree.hashes();
-        tree.insert(number.number(), value)?;
-        Ok(tree.hashes().saturating_sub(before))
+        self.tables[usize::from(table)].put(number, value)
     }
 
     /// Puts a value in the place of another, which takes no memory. Returns how many hashes it
@@ -89,7 +95,7 @@ impl<V: TreeValue + Drop> Tables<V> {
         ensures { let pairs = slice_index_or self.old table [] in
             self.new ≡ slice_set self.old table (with_pair number None pairs) }
     {
-        self.trees[usize::from(table)].remove(&number.number());
+        self.tables[usize::from(table)].remove(number);
     }
 }
 
@@ -99,12 +105,12 @@ impl<V: TreeValue + Clone + Drop> Tables<V> {
         requires { IsExact V.is_clone }
         ensures { IfOk result (λ copy. copy ≡ self.now) }
     {
-        let mut trees = Vec::with_capacity(self.alloc, self.trees.len())?;
-        for tree in &self.trees {
-            trees.push(tree.copy()?)?;
+        let mut tables = Vec::with_capacity(self.alloc, self.tables.len())?;
+        for table in &self.tables {
+            tables.push(table.copy()?)?;
         }
         Ok(Tables {
-            trees,
+            tables,
             alloc: self.alloc,
         })
     }

@@ -1,6 +1,5 @@
 use Rattle.std.proofs.Common.{◌≡◌, [], replicate}
-use Rattle.su_table.proofs.KeptTables.{seen_all}
 use Rattle.su_table.proofs.tables.Tables.empty.Given as goal
 
 abbrev pub invariant-loop : goal.invariant-loop
-invariant-loop g l = seen_all l.trees.items ≡ replicate l.counter []
+invariant-loop g l = l.tables.items ≡ replicate l.counter []
