@@ -1,2 +1,3 @@
 mod Cutting
 mod Framing
+pub mod Writing

@@ -25,14 +25,6 @@ pub turn_after-append : (b : Bool) (xs ys : List Reply) → turn_after b (xs ++ 
 turn_after-append b [] ys = refl
 turn_after-append b (x ∷ xs) ys = turn_after-append (turn_by b x) xs ys
 
--- what was written of some bytes, and then of their rest
-pub appends-more : (a b c : Option (List ℕ)) (done n new : ℕ) (xs : List ℕ) → Appends a b (take done xs) → Appends b c (take n (drop done xs)) → new ≡ done + n → Appends a c (take new xs)
-appends-more a b c done n new xs p q e = subst (Appends a c) (sym (take-add done n xs) ∙ ap (λ k. take k xs) (sym e)) (Appends-trans a b c (take done xs) (take n (drop done xs)) p q)
-
--- all bytes from a place on
-pub rest-all : (done : ℕ) (xs : List ℕ) → take (length xs - done) (drop done xs) ≡ drop done xs
-rest-all done xs = ap (λ k. take k (drop done xs)) (sym (length-drop done xs)) ∙ take-length (drop done xs)
-
 -- bytes cut at a front, and what is left with more behind it cut again
 pub cut-twice : (a x b y c : List ℕ) (ms ns : List (List ℕ)) → a ++ x ≡ stream ms b → b ++ y ≡ stream ns c → a ++ (x ++ y) ≡ stream (ms ++ ns) c
 cut-twice a x b y c ms ns p q =

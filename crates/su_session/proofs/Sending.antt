@@ -4,10 +4,11 @@ use Rattle.std.specs.Io.KnownBytes.{Appends}
 use Rattle.std.proofs.Math.Seq.{take-length}
 use Rattle.su_message.specs.declared.requests.Request.{Request}
 use Rattle.su_message.specs.declared.replies.Reply.{Reply}
-use Rattle.su_session.specs.declared.links.Sent.{Sent}
-use Rattle.su_session.specs.declared.links.Sent.TheVariants as sent
+use Rattle.su_frames.specs.declared.sending.Sent.{Sent}
+use Rattle.su_frames.specs.declared.sending.Sent.TheVariants as sent
 use Rattle.su_session.specs.Answer.{reply_frame, turn_by, Answered}
-use Rattle.su_session.specs.Step.{Sends, Says}
+use Rattle.su_frames.specs.Sending.{Sends}
+use Rattle.su_session.specs.Step.{Says}
 
 -- whatever became of bytes, a front of them was written
 pub front_sent : (bytes : List ℕ) (held : Option (List ℕ)) (s : Sent) (held' : Option (List ℕ)) → Sends bytes held s held' → (n : ℕ) × Appends held held' (take n bytes)

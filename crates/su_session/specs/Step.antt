@@ -6,8 +6,8 @@ use Rattle.su_message.specs.declared.requests.Request.{Request}
 use Rattle.su_message.specs.declared.replies.Reply.{Reply}
 use Rattle.su_session.specs.declared.sessions.End.{End}
 use Rattle.su_session.specs.declared.sessions.End.TheVariants as ended
-use Rattle.su_session.specs.declared.links.Sent.{Sent}
-use Rattle.su_session.specs.declared.links.Sent.TheVariants as sent
+use Rattle.su_frames.specs.declared.sending.Sent.{Sent}
+use Rattle.su_frames.specs.declared.sending.Sent.TheVariants as sent
 use Rattle.su_session.specs.declared.sessions.Progress.{Progress}
 use Rattle.su_session.specs.declared.sessions.Progress.TheVariants as progress
 use Rattle.su_session.specs.declared.sessions.Refill.{Refill}
@@ -27,13 +27,6 @@ at s talk known held = record {
   known = known;
   held = held;
 }
-
--- these bytes were written, or a front of them that isn't all
-abbrev pub Sends : List ℕ → Option (List ℕ) → Sent → Option (List ℕ) → Type 0
-Sends bytes held sent.Whole held' = Appends held held' bytes
-Sends bytes held sent.Unflushed held' = Appends held held' bytes
-Sends bytes held sent.Broken held' =
-    (n : ℕ) × (n < length bytes) × Appends held held' (take n bytes)
 
 -- the refusal of a length was written, or a front of it
 abbrev pub Refusing : Refusal → Option (List ℕ) → End → Option (List ℕ) → Type 0

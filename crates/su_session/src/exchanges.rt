@@ -3,12 +3,13 @@ ghost use Rattle.std.specs.Prelude.{◌≡◌, IfOk, OnErr};
 ghost use Rattle.su_session.specs.Answer.{turn_by, Answered, GivesBack};
 ghost use Rattle.su_session.specs.Step.{Refusing, Says};
 
-use crate::links::{Sent, send};
+use crate::links::send;
 use crate::services::Service;
 use crate::sessions::End;
 use std::alloc::{AllocError, Global};
 use std::io::Write;
 use su_bytes::Refusal;
+use su_frames::Sent;
 use su_message::{Reply, Request};
 
 /// Returns the reply to a message. Fails where there is no memory to read it, and then the service

@@ -4,12 +4,11 @@ ghost use Rattle.su_session.specs.Session.{Serves, Session};
 ghost use Rattle.su_session.specs.Step.{at, Readies, Refills, Steps};
 
 use crate::exchanges::{exchange, give_back, refuse};
-use crate::links::Sent;
 use crate::services::Service;
 use crate::talks::Talk;
 use std::alloc::Global;
 use std::io::{ErrorKind, Read, Write};
-use su_frames::Frames;
+use su_frames::{Frames, Sent};
 
 /// How often a reader is read at most.
 pub const MOST_READS: u32 = 10_000_000;

@@ -1,8 +1,8 @@
 use Rattle.std.proofs.Common.{◌-◌, drop, length, length-take, length-drop, arith}
 use Rattle.std.proofs.KnownBytes.{Appends-kept}
-use Rattle.su_session.proofs.links.write_whole.Goals.{in-Ok+else-done-bytes, in-Err+else-ne}
-use Rattle.su_session.proofs.Going.{appends-more, rest-all}
-use Rattle.su_session.proofs.links.write_whole.Goals as goal
+use Rattle.su_frames.proofs.sending.write_whole.Goals.{in-Ok+else-done-bytes, in-Err+else-ne}
+use Rattle.su_frames.proofs.Writing.{appends-more, rest-all}
+use Rattle.su_frames.proofs.sending.write_whole.Goals as goal
 
 pub loop-preserved : goal.loop-preserved
 loop-preserved g c =
