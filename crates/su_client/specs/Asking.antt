@@ -1,0 +1,48 @@
+-- The parts of a call over a link.
+use Rattle.std.specs.Prelude.{◌≡◌, ℕ, Bool, true, false, List, ◌++◌, Option, Some, None}
+use Rattle.std.specs.Global.{Vec}
+use Rattle.std.specs.Io.KnownBytes.{Appends, Consumes}
+use Rattle.su_frames.specs.Stream.{frame, IsMessage}
+use Rattle.su_message.specs.declared.replies.Reply.{Reply}
+use Rattle.su_message.specs.Reply.{IsReply, reply_bytes}
+use Rattle.su_client.specs.Link.{LinkState}
+
+-- What is read joins what waits; nothing is written.
+pub record Joins (a b : LinkState) : Type 0 where
+  pub input : List ℕ
+  pub read : Consumes a.known b.known input
+  pub waits : b.waits ≡ a.waits ++ input
+  pub held : b.held ≡ a.held
+  pub failed : b.failed ≡ a.failed
+
+-- one read
+abbrev pub Refills : LinkState → Bool → LinkState → Type 0
+Refills a true b = Joins a b
+Refills a false b = b.failed ≡ a.failed
+
+-- The next message is taken of what waits and what is read.
+pub record Takes (a : LinkState) (message : List ℕ) (b : LinkState) : Type 0 where
+  pub input : List ℕ
+  pub read : Consumes a.known b.known input
+  pub is : IsMessage message
+  pub next : a.waits ++ input ≡ frame message ++ b.waits
+  pub held : b.held ≡ a.held
+  pub failed : b.failed ≡ a.failed
+
+abbrev pub Fetches : LinkState → Option (Vec ℕ) → LinkState → Type 0
+Fetches a (Some message) b = Takes a message.items b
+Fetches a None b = b.failed ≡ a.failed
+
+-- A message is written whole, and the one that comes next is this reply.
+pub record Talks (message : List ℕ) (a : LinkState) (r : Reply) (b : LinkState) : Type 0 where
+  pub written : Appends a.held b.held (frame message)
+  pub input : List ℕ
+  pub read : Consumes a.known b.known input
+  pub replies : IsReply r
+  pub is : IsMessage (reply_bytes r)
+  pub next : a.waits ++ input ≡ frame (reply_bytes r) ++ b.waits
+  pub failed : b.failed ≡ a.failed
+
+abbrev pub Exchanges : List ℕ → LinkState → Option Reply → LinkState → Type 0
+Exchanges message a (Some r) b = Talks message a r b
+Exchanges message a None b = b.failed ≡ a.failed

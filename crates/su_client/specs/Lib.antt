@@ -1,0 +1,3 @@
+pub mod Fitting
+pub mod Link
+pub mod Asking

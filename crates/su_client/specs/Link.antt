@@ -1,0 +1,71 @@
+-- A link between a client and a server, and one request and its reply on it.
+use Rattle.std.specs.Prelude.{◌≡◌, ◌⊎◌, ℕ, Bool, true, false, List, ◌++◌, Contains, Option, Some, None, Result, Ok, Err}
+use Rattle.std.specs.Io.KnownBytes.{Appends, Consumes}
+use Rattle.su_bytes.specs.declared.refusals.Refusal.{Refusal}
+use Rattle.su_bytes.specs.declared.refusals.Refusal.TheVariants.{NoMemory, LinkFailed}
+use Rattle.su_bytes.specs.Refusal.{refusal_number}
+use Rattle.su_frames.specs.Stream.{frame, IsMessage, Splits}
+use Rattle.su_message.specs.declared.requests.Request.{Request}
+use Rattle.su_message.specs.declared.replies.Reply.{Reply}
+use Rattle.su_message.specs.declared.replies.Reply.TheVariants.{Kept, Nothing, Item, Refused}
+use Rattle.su_message.specs.Request.{IsRequest, request_bytes}
+use Rattle.su_message.specs.Reply.{IsReply, reply_bytes, refused_argument}
+use Rattle.su_client.specs.Fitting.{may_refuse}
+
+-- What contracts see of a link: the bytes that are still to come, and those that were written, where
+-- they are known; the bytes that have come and weren't used; whether it has failed.
+pub record LinkState : Type 0 where
+  pub known : Option (List ℕ)
+  pub held : Option (List ℕ)
+  pub waits : List ℕ
+  pub failed : Bool
+
+-- The request was written whole, and the message that came next is this reply.
+pub record Exchanged (q : Request) (a b : LinkState) (r : Reply) : Type 0 where
+  pub works : a.failed ≡ false
+  pub asks : IsRequest q
+  pub written : Appends a.held b.held (frame (request_bytes q))
+  pub input : List ℕ
+  pub read : Consumes a.known b.known input
+  pub replies : IsReply r
+  pub message : IsMessage (reply_bytes r)
+  pub next : a.waits ++ input ≡ frame (reply_bytes r) ++ b.waits
+  pub good : b.failed ≡ false
+
+-- Nothing was written, as there was no memory for the request.
+abbrev pub Unasked : LinkState → LinkState → Type 0
+Unasked a b = (a.failed ≡ false) × (b ≡ a)
+
+-- what became of a request
+abbrev pub Asked : Request → LinkState → LinkState → Result Reply Refusal → Type 0
+Asked q a b (Ok r) = Exchanged q a b r
+Asked q a b (Err e) =
+    ((e ≡ LinkFailed) × (b.failed ≡ true))
+    ⊎ ((e ≡ NoMemory) × Unasked a b)
+
+-- Why a call fails: the link failed, or had before; there was no memory for the request; or the
+-- server refused it, as it may.
+abbrev pub IsRefusal : Request → LinkState → LinkState → Refusal → Type 0
+IsRefusal q a b e =
+    ((e ≡ LinkFailed) × (b.failed ≡ true))
+    ⊎ ((e ≡ NoMemory) × Unasked a b)
+    ⊎ ((may_refuse q e ≡ true)
+    × Exchanged q a b (Refused (refusal_number e) (refused_argument e)))
+
+-- the reply to a request for a record
+abbrev pub kept_or_nothing : Option (List ℕ) → Reply
+kept_or_nothing (Some bytes) = Kept bytes
+kept_or_nothing None = Nothing
+
+-- of bytes that have come and bytes that are still to come, where these are known: a message tells
+-- of the item
+abbrev pub IsToldOf : List ℕ → Option (List ℕ) → List ℕ → Type 0
+IsToldOf waits None item = Unit {0}
+IsToldOf waits (Some bytes) item =
+    (messages : List (List ℕ)) × (rest : List ℕ) × Splits (waits ++ bytes) messages rest
+    × Contains messages (reply_bytes (Item item))
+
+-- the items that may be given over a link from now on: those that its messages tell of, and none
+-- once it has failed
+abbrev pub MayGive : LinkState → List ℕ → Type 0
+MayGive a item = (a.failed ≡ false) × IsToldOf a.waits a.known item

@@ -1,0 +1,11 @@
+//! A client of a server: one call for each request, over a link that need not be trusted.
+#![tactic(auto)]
+
+mod clients;
+mod links;
+mod refusals;
+
+pub use clients::Client;
+
+#[cfg(test)]
+mod tests;
