@@ -10,14 +10,17 @@ const NOT_YOUR_TURN: &[u8] = b"\x00\x00\x00\x0a\xff\x20\x00\x00\x00\x00\x00\x00\
 const MISSING: &[u8] = b"\x00\x00\x00\x0a\xff\x05\x00\x00\x00\x00\x00\x00\x00\x00";
 const GIVEN: &[u8] = b"\x00\x00\x00\x01\x83";
 
+fn refusal_of<T: Drop>(answer: Result<T, Refusal>) -> Option<Refusal> {
+    match answer {
+        Ok(_value) => None,
+        Err(refusal) => Some(refusal),
+    }
+}
+
 /// What a client that asks for the turn is told, where the server replies these bytes.
 fn grant(rt: &impl Abort, alloc: Global, replies: &[u8], refusal: Refusal, failed: bool) {
     let mut client = Client::new(alloc, replies, Vec::new(alloc));
-    let told = match client.grant() {
-        Ok(_) => None,
-        Err(refusal) => Some(refusal),
-    };
-    assert_eq!(rt; told, Some(refusal));
+    assert_eq!(rt; refusal_of(client.grant()), Some(refusal));
     assert_eq!(rt; client.has_failed(), failed);
 }
 
@@ -41,15 +44,9 @@ fn a_reply_that_does_not_fit_fails_the_link(rt: HostRuntime) -> Result<(), Fail>
 fn a_source_over_a_link(rt: HostRuntime) -> Result<(), Fail> {
     let digest = digest_of(b"item");
     let mut client = Client::new(rt.alloc(), MISSING, Vec::new(rt.alloc()));
-    let missing = match client.get(rt.alloc(), digest) {
-        Ok(_) => None,
-        Err(refusal) => Some(refusal),
-    };
+    let missing = refusal_of(client.get(rt.alloc(), digest));
     assert_eq!(&rt; missing, Some(Refusal::MissingBlock));
-    let failed = match client.get(rt.alloc(), digest) {
-        Ok(_) => None,
-        Err(refusal) => Some(refusal),
-    };
+    let failed = refusal_of(client.get(rt.alloc(), digest));
     assert_eq!(&rt; failed, Some(Refusal::SourceFailed));
     assert_eq!(&rt; client.failures(), 2);
     assert_eq!(&rt; client.failed_at(), Some(digest));
