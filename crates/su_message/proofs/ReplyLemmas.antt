@@ -1,5 +1,5 @@
 -- Replies: one spelling each.
-use Rattle.std.proofs.Common.{◌≡◌, ◌∙◌, ℕ, ◌⊎◌, List, [], ◌∷◌, ◌++◌, append-nil, cond, nat_eq, refl, sym, ap, subst}
+use Rattle.std.proofs.Common.{◌≡◌, ◌∙◌, ℕ, ◌⊎◌, List, [], ◌∷◌, ◌++◌, append-nil, append_assoc, cond, nat_eq, refl, sym, ap, subst}
 use Rattle.std.specs.Prelude.{Result, Ok, Err, IfOk}
 use Rattle.su_bytes.specs.declared.refusals.Refusal.{Refusal}
 use Rattle.su_bytes.specs.declared.refusals.Refusal.TheVariants.{NoMemory}
@@ -13,9 +13,9 @@ use Rattle.su_message.specs.declared.reply_tags.ReplyTag.TheVariants.{Granted, S
 use Rattle.su_message.specs.LastNumbers.{users_bytes}
 use Rattle.su_message.specs.ReplyTag.{reply_number, tag_of_reply}
 use Rattle.su_message.specs.Tagged.{ReadsTagged}
-use Rattle.su_message.specs.Reply.{IsReply, field_bytes, reply_bytes, reply_fields}
+use Rattle.su_message.specs.Reply.{IsReply, EndsItself, field_bytes, reply_bytes, reply_fields}
 use Rattle.su_message.proofs.LastNumbersLemmas.{last_of, last_lawful}
-use Rattle.su_message.proofs.TaggedLemmas.{read_as_spelled}
+use Rattle.su_message.proofs.TaggedLemmas.{no_more, read_as_spelled}
 
 -- ---- tags
 
@@ -99,3 +99,21 @@ only message x read r is spelled =
 pub found_if : (message : List ℕ) (x : Result Reply Refusal) → ReadsTagged reply_number reply_fields message x → IfOk x (λ r. IsReply r × (message ≡ reply_bytes r))
 found_if message (Ok r) read = found message r read
 found_if message (Err e) read = tt
+
+-- ---- where a reply ends
+
+begins_more : (r : Reply) → IsReply r → EndsItself r → (more : List ℕ) → (reply_fields (tag_of_reply r)).Begins (field_bytes r ++ more) r more
+unfolding ◌>>=◌ making part u8_part u64_part bytes_part digest_part
+begins_more (reply.Granted n us) is ends more =
+    (n, users_bytes us ++ more, (is.0, append_assoc (u64_bytes n) (users_bytes us) more), (us, more, last_of.begins (users_bytes us ++ more) us more is.1 refl, (refl, refl)))
+begins_more (reply.Stored n) is ends more = (n, more, (is, refl), (refl, refl))
+begins_more reply.Given is ends more = (refl, refl)
+begins_more (reply.Kept b) is ends more = absurd ends
+begins_more reply.Nothing is ends more = (refl, refl)
+begins_more (reply.PutDone d) is ends more = (d, more, (is, refl), (refl, refl))
+begins_more (reply.Item b) is ends more = absurd ends
+begins_more (reply.Refused n a) is ends more = (n, u64_bytes a ++ more, (is.0, refl), (a, more, (is.1, refl), (refl, refl)))
+
+pub reply_ends : (r s : Reply) (more : List ℕ) → IsReply r → IsReply s → EndsItself r → reply_bytes s ≡ reply_bytes r ++ more → (s ≡ r) × (more ≡ [])
+reply_ends r s more is_r is_s ends e =
+    no_more reply_number reply_fields one_tag fields_lawful (tag_of_reply s) (tag_of_reply r) s r (field_bytes s) (field_bytes r) more (fields_begin s is_s) (begins_more r is_r ends more) e

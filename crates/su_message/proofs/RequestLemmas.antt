@@ -12,8 +12,8 @@ use Rattle.su_message.specs.declared.request_tags.RequestTag.{RequestTag}
 use Rattle.su_message.specs.declared.request_tags.RequestTag.TheVariants.{Grant, Commit, Give, Fetch, Put, Get}
 use Rattle.su_message.specs.RequestTag.{request_number, tag_of_request}
 use Rattle.su_message.specs.Tagged.{ReadsTagged}
-use Rattle.su_message.specs.Request.{IsRequest, field_bytes, request_bytes, request_fields}
-use Rattle.su_message.proofs.TaggedLemmas.{read_as_spelled}
+use Rattle.su_message.specs.Request.{IsRequest, EndsItself, field_bytes, request_bytes, request_fields}
+use Rattle.su_message.proofs.TaggedLemmas.{no_more, read_as_spelled}
 
 -- ---- tags
 
@@ -80,3 +80,18 @@ only message r read q is spelled =
 pub found_if : (message : List ℕ) (r : Result Request Refusal) → ReadsTagged request_number request_fields message r → IfOk r (λ q. IsRequest q × (message ≡ request_bytes q))
 found_if message (Ok q) read = found message q read
 found_if message (Err e) read = tt
+
+-- ---- where a request ends
+
+begins_more : (q : Request) → IsRequest q → EndsItself q → (more : List ℕ) → (request_fields (tag_of_request q)).Begins (field_bytes q ++ more) q more
+unfolding ◌>>=◌ making part u64_part bytes_part digest_part
+begins_more request.Grant is ends more = (refl, refl)
+begins_more (request.Commit b) is ends more = absurd ends
+begins_more request.Give is ends more = (refl, refl)
+begins_more (request.Fetch n) is ends more = (n, more, (is, refl), (refl, refl))
+begins_more (request.Put b) is ends more = absurd ends
+begins_more (request.Get d) is ends more = (d, more, (is, refl), (refl, refl))
+
+pub request_ends : (q p : Request) (more : List ℕ) → IsRequest q → IsRequest p → EndsItself q → request_bytes p ≡ request_bytes q ++ more → (p ≡ q) × (more ≡ [])
+request_ends q p more is_q is_p ends e =
+    no_more request_number request_fields one_tag fields_lawful (tag_of_request p) (tag_of_request q) p q (field_bytes p) (field_bytes q) more (fields_begin p is_p) (begins_more q is_q ends more) e

@@ -1,5 +1,5 @@
 -- Messages of a tag and its fields.
-use Rattle.std.proofs.Common.{◌≡◌, ◌≢◌, ◌∙◌, ℕ, ◌⊎◌, inl, inr, List, [], ◌∷◌, ◌++◌, length, refl, sym, ap, subst, arith}
+use Rattle.std.proofs.Common.{◌≡◌, ◌≢◌, ◌∙◌, ℕ, ◌⊎◌, inl, inr, List, [], ◌∷◌, ◌++◌, length, get_or, refl, sym, ap, subst, arith}
 use Rattle.std.specs.Prelude.{Result, Ok, Err}
 use Rattle.su_bytes.specs.declared.refusals.Refusal.{Refusal}
 use Rattle.su_bytes.specs.declared.refusals.Refusal.TheVariants.{Malformed, NoMemory, UnknownTag}
@@ -78,3 +78,18 @@ module _ {T A : Type 0} (number : T → ℕ) (fields : T → Format A) where
   read_as_spelled one law rest t a (Err e) is (inr (inr (s, named, place, _, at))) =
       let same : s ≡ t = one s t named in
       absurd ((whole_lawful (fields t) (law t)).apart rest a [] at.behind (whole_begins t rest a is) (subst (λ k. (whole (fields k)).Fails rest at.behind) same at.fails))
+
+-- ---- a message that ends by itself
+
+abbrev tail : List ℕ → List ℕ
+tail [] = []
+tail (x ∷ xs) = xs
+
+-- a message that begins with one that ends by itself is that one
+pub no_more : {T A : Type 0} (number : T → ℕ) (fields : T → Format A) → ((s t : T) → number s ≡ number t → s ≡ t) → ((t : T) → IsLawful (fields t))
+    → (s t : T) (a b : A) (xs ys more : List ℕ) → (fields s).Begins xs a [] → (fields t).Begins (ys ++ more) b more → number s ∷ xs ≡ number t ∷ (ys ++ more) → (a ≡ b) × (more ≡ [])
+no_more number fields one_tag lawful s t a b xs ys more first second e =
+    let same : s ≡ t = one_tag s t (ap (λ l. get_or l 0 0) e) in
+    let moved = subst (λ u. (fields u).Begins xs a []) same first in
+    let told = (lawful t).told (ys ++ more) a b [] more (subst (λ l. (fields t).Begins l a []) (ap tail e) moved) second in
+    (told.0, sym told.1)

@@ -46,6 +46,12 @@ field_bytes (reply.Refused number argument) = number ∷ u64_bytes argument
 abbrev pub reply_bytes : Reply → List ℕ
 reply_bytes r = reply_number (tag_of_reply r) ∷ field_bytes r
 
+-- the reply's bytes tell where it ends: it doesn't run to the end of its message
+abbrev pub EndsItself : Reply → Type 0
+EndsItself (reply.Kept bytes) = ⊥
+EndsItself (reply.Item bytes) = ⊥
+EndsItself _ = Unit {0}
+
 -- ---- its parts
 
 -- the fields behind a tag

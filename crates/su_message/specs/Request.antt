@@ -30,6 +30,12 @@ field_bytes (request.Get digest) = digest
 abbrev pub request_bytes : Request → List ℕ
 request_bytes q = request_number (tag_of_request q) ∷ field_bytes q
 
+-- the request's bytes tell where it ends: it doesn't run to the end of its message
+abbrev pub EndsItself : Request → Type 0
+EndsItself (request.Commit bytes) = ⊥
+EndsItself (request.Put bytes) = ⊥
+EndsItself _ = Unit {0}
+
 -- ---- its parts
 
 -- the fields behind a tag

@@ -4,6 +4,7 @@
 mod byte_strings;
 mod digests;
 mod last_numbers;
+mod laws;
 mod replies;
 mod reply_tags;
 mod request_tags;
@@ -11,6 +12,7 @@ mod requests;
 
 pub use byte_strings::Bytes;
 pub use last_numbers::LastNumbers;
+pub use laws::no_message_begins_another;
 pub use replies::Reply;
 pub use reply_tags::ReplyTag;
 pub use request_tags::RequestTag;
