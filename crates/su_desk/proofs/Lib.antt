@@ -13,3 +13,5 @@ pub mod TakingBack
 pub mod Replies
 pub mod Runs
 pub mod TrialLemmas
+pub mod StandingReady
+pub mod RehearsalLemmas

@@ -1,5 +1,5 @@
 -- What is seen of a desk of which the last entry can be taken back, and what is kept of that entry.
-use Rattle.std.proofs.Common.{◌≡◌, ℕ, ◌+◌, ◌-◌, Bool, true, false, cond, List, [], ◌∷◌, ◌++◌, length, length-append, map, take, slice_get, Option, Some, None, Result, Ok, Err, IsErrAnd, refl, sym, ap, ◌∙◌, subst, arith, append_assoc, append-nil}
+use Rattle.std.proofs.Common.{◌≡◌, ℕ, ◌-◌, Bool, true, false, cond, List, [], ◌∷◌, ◌++◌, length, length-append, map, take, slice_get, Some, None, Result, Ok, Err, IsErrAnd, refl, sym, ap, ◌∙◌, subst, arith, append_assoc, append-nil}
 use Rattle.std.specs.Prelude.{IfErr, OnOk, OnErr, is_err}
 use Rattle.std.proofs.lemmas.Bool.{both_ways}
 use Rattle.std.specs.List.{filter}
@@ -17,15 +17,13 @@ use Rattle.su_op.specs.Store.{Action}
 use Rattle.su_desk.specs.declared.entries.Entry.{Entry}
 use Rattle.su_desk.specs.declared.kept.KeptOperation.{KeptOperation}
 use Rattle.su_desk.specs.declared.prepared.Undone.{Undone}
-use Rattle.su_desk.specs.declared.prepared.Tried.{Tried}
-use Rattle.su_desk.specs.History.{entry_by, entry_at}
+use Rattle.su_desk.specs.History.{entry_by}
 use Rattle.su_desk.specs.Answer.{Good}
 use Rattle.su_desk.specs.Desk.{DeskState, with_entry}
 use Rattle.su_desk.specs.Version.{carries, cells_of}
 use Rattle.su_desk.specs.Keeping.{Keeps}
-use Rattle.su_desk.specs.Trial.{TrialState, nothing_ready, ready_with, with_ready, tree_of, before_last, seen_of, with_handle, carried_handles}
-use Rattle.su_desk.specs.Tried.{TakesChangeBack, TriedFits}
-use Rattle.su_desk.proofs.WhereApplied.{entry_last}
+use Rattle.su_desk.specs.Trial.{tree_of, before_last, with_handle, carried_handles}
+use Rattle.su_desk.specs.Tried.{TakesChangeBack}
 use Rattle.su_desk.proofs.Replays.{good_exact}
 use Rattle.su_desk.proofs.Replies.{ends_with, is_empty}
 use Rattle.su_desk.proofs.KeptOperations.{tree_kept}
@@ -63,26 +61,6 @@ before_with d a c = ap (λ (h : List Entry). record { roster = d.roster; history
 -- the entries without the last one
 pub history_before : (ro : Membership) (h : List Entry) (d : DeskState) (a : ℕ) (c : Change) → record { roster = ro; history = h } ≡ with_entry d a c → take (length h - 1) h ≡ d.history
 history_before ro h d a c e = ap (λ (x : DeskState). take (length x.history - 1) x.history) e ∙ all_but_last d.history (entry_by a c)
-
--- the entry that was tried stands ready
-pub seen_tried : (s d : DeskState) (a : ℕ) (c : Change) (t : Tried) → s ≡ with_entry d a c → seen_of s (Some t) ≡ ready_with d a c
-seen_tried s d a c t is =
-    let long : length (d.history ++ entry_by a c ∷ []) ≡ length d.history + 1 = length-append d.history (entry_by a c ∷ []) in
-    let e : entry_at s.history (length s.history) ≡ Some (entry_by a c)
-    = ap (λ (x : DeskState). entry_at x.history (length x.history)) is ∙ ap (entry_at (d.history ++ entry_by a c ∷ [])) long ∙ entry_last d.history (entry_by a c) in
-    ap (λ o. record { settled = before_last s; ready = o }) e ∙ ap (λ (x : DeskState). record { settled = x; ready = Some (entry_by a c) }) (ap before_last is ∙ before_with d a c)
-
--- where nothing is seen to stand ready, the desk is what is settled
-pub nothing_seen : (s : DeskState) (o : Option Tried) (d : DeskState) → seen_of s o ≡ nothing_ready d → TriedFits s o → s ≡ d
-nothing_seen s None d e fits = ap (λ (x : TrialState). x.settled) e
-nothing_seen s (Some t) d e (b, a, c, is, back) =
-    let ready : Some (entry_by a c) ≡ None = ap (λ (x : TrialState). x.ready) (sym (seen_tried s b a c t is) ∙ e) in absurd (let bad = ready in cc)
-
--- what stands ready is settled
-pub settled_seen : (s : DeskState) (o : Option Tried) (v : TrialState) → seen_of s o ≡ v → TriedFits s o → nothing_ready s ≡ nothing_ready (with_ready v.settled v.ready)
-settled_seen s None v e fits = ap (λ (x : TrialState). nothing_ready (with_ready x.settled x.ready)) e
-settled_seen s (Some t) v e (d, a, c, is, back) =
-    ap nothing_ready is ∙ ap (λ (x : TrialState). nothing_ready (with_ready x.settled x.ready)) (sym (seen_tried s d a c t is) ∙ e)
 
 -- ---- what is kept of the last entry
 

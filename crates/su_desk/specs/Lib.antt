@@ -7,4 +7,5 @@ pub mod Desk
 pub mod Trial
 pub mod Keeping
 pub mod Tried
+pub mod Rehearsal
 pub mod Headline

@@ -1,6 +1,6 @@
--- A desk on which one change can be prepared before it is settled: it is made at once, and taken
--- back where it isn't settled.
-use Rattle.std.specs.Prelude.{◌≡◌, ℕ, ◌+◌, ◌-◌, List, map, length, take, Option, None, Some}
+-- A desk on which changes can be made on trial, one after another: one of them can be settled, and
+-- what isn't settled is taken back.
+use Rattle.std.specs.Prelude.{◌≡◌, ℕ, ◌+◌, ◌-◌, List, [], ◌∷◌, ◌++◌, map, length, take, drop}
 use Rattle.su_bytes.specs.Membership.{Membership}
 use Rattle.su_bytes.specs.declared.principals.Principal.TheVariants.{User, Group}
 use Rattle.su_table.specs.Tree.{Tree}
@@ -10,28 +10,28 @@ use Rattle.su_op.specs.declared.operations.Change.{Change}
 use Rattle.su_desk.specs.declared.entries.Entry.{Entry}
 use Rattle.su_desk.specs.declared.prepared.Prepared.{Prepared}
 use Rattle.su_desk.specs.declared.prepared.Tried.{Tried}
-use Rattle.su_desk.specs.History.{entry_by, entry_at}
+use Rattle.su_desk.specs.History.{entry_by}
 use Rattle.su_desk.specs.Applied.{tree_after}
 use Rattle.su_desk.specs.Version.{carried_groups, cells_of, versions}
 use Rattle.su_desk.specs.Desk.{DeskState, with_entry}
 
--- what is seen of such a desk: what is settled, and the entry that stands ready, if one does
+-- what is seen of such a desk: what is settled, and the entries behind it that stand ready, which
+-- were made one after another
 pub record TrialState : Type 0 where
   pub settled : DeskState
-  pub ready : Option Entry
+  pub ready : List Entry
 
 -- nothing stands ready
 abbrev pub nothing_ready : DeskState → TrialState
-nothing_ready d = record { settled = d; ready = None }
+nothing_ready d = record { settled = d; ready = [] }
 
--- a change by user a stands ready
+-- a change by user a stands ready, and nothing else
 abbrev pub ready_with : DeskState → ℕ → Change → TrialState
-ready_with d a c = record { settled = d; ready = Some (entry_by a c) }
+ready_with d a c = record { settled = d; ready = entry_by a c ∷ [] }
 
--- a desk after the entry that stood ready, if one did
-abbrev pub with_ready : DeskState → Option Entry → DeskState
-with_ready d None = d
-with_ready d (Some e) = with_entry d e.author e.change
+-- a desk with the entries that stood ready
+abbrev pub with_ready : DeskState → List Entry → DeskState
+with_ready d es = record { roster = d.roster; history = d.history ++ es }
 
 -- ---- what is told of a change that stands ready
 
@@ -57,9 +57,19 @@ pub record Tells (d : DeskState) (a : ℕ) (c : Change) (p : Prepared) : Type 0 
   pub groups : p.groups.items
       ≡ carried_handles d.roster (cells_of d.roster d.history a c) (tree_of (with_entry d a c))
 
--- the entry that stands ready is the one of which this is told
+-- just one entry stands ready, the one of which this is told
 abbrev pub IsReady : TrialState → Prepared → Type 0
-IsReady t p = (e : Entry) × (t.ready ≡ Some e) × Tells t.settled e.author e.change p
+IsReady t p = (e : Entry) × (t.ready ≡ e ∷ []) × Tells t.settled e.author e.change p
+
+-- ---- steps between
+
+-- the tree of a desk with the entries that stand ready
+abbrev pub tree_with_ready : TrialState → Tree
+tree_with_ready t = tree_of (with_ready t.settled t.ready)
+
+-- without the last entry that stands ready, if one does
+abbrev pub without_last : TrialState → TrialState
+without_last t = record { settled = t.settled; ready = take (length t.ready - 1) t.ready }
 
 -- ---- what is seen of the fields
 
@@ -67,11 +77,13 @@ IsReady t p = (e : Entry) × (t.ready ≡ Some e) × Tells t.settled e.author e.
 abbrev pub before_last : DeskState → DeskState
 before_last d = record { roster = d.roster; history = take (length d.history - 1) d.history }
 
--- its last entry, if it has one
-abbrev pub last_entry : DeskState → Option Entry
-last_entry d = entry_at d.history (length d.history)
+-- a desk of which the last n entries stand ready, and those before them are settled
+abbrev pub split_before : DeskState → ℕ → TrialState
+split_before d n = record {
+  settled = record { roster = d.roster; history = take (length d.history - n) d.history };
+  ready = drop (length d.history - n) d.history;
+}
 
--- of a desk and what takes its last entry back, if that is there: that entry stands ready
-abbrev pub seen_of : DeskState → Option Tried → TrialState
-seen_of d None = nothing_ready d
-seen_of d (Some t) = record { settled = before_last d; ready = last_entry d }
+-- of a desk and what takes its last entries back, one for each: they stand ready
+abbrev pub seen_of : DeskState → List Tried → TrialState
+seen_of d ts = split_before d (length ts)

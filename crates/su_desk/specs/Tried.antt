@@ -1,5 +1,5 @@
--- What takes the last entry of a desk back.
-use Rattle.std.specs.Prelude.{◌≡◌, ℕ, List, ◌∷◌, ◌++◌, length, Option, Some, None, ⊤}
+-- What takes the last entries of a desk back.
+use Rattle.std.specs.Prelude.{◌≡◌, ℕ, List, [], ◌∷◌, ◌++◌, length, Option, Some, None, ⊤}
 use Rattle.su_bytes.specs.Membership.{Membership}
 use Rattle.su_table.specs.Tree.{Tree, genesis}
 use Rattle.su_op.specs.declared.operations.Change.{Change}
@@ -13,7 +13,7 @@ use Rattle.su_desk.specs.History.{NumberedAction, live, replay}
 use Rattle.su_desk.specs.Version.{versions}
 use Rattle.su_desk.specs.Desk.{DeskState, with_entry}
 use Rattle.su_desk.specs.Keeping.{Fits}
-use Rattle.su_desk.specs.Trial.{tree_of}
+use Rattle.su_desk.specs.Trial.{tree_of, seen_of}
 
 -- Operation n is live, with so many live ones before it; and what is kept of it fits the tree where
 -- it comes in the replay.
@@ -52,7 +52,14 @@ abbrev pub TakesLastBack : DeskState → Tried → Type 0
 TakesLastBack s t =
     (d : DeskState) × (a : ℕ) × (c : Change) × (s ≡ with_entry d a c) × TakesBack d a c t
 
--- the same where there may be none
-abbrev pub TriedFits : DeskState → Option Tried → Type 0
-TriedFits s None = ⊤
-TriedFits s (Some t) = TakesLastBack s t
+-- these take entries back that were made from d one after another, each its own
+abbrev pub TakeAllBack : DeskState → List Entry → List Tried → Type 0
+TakeAllBack d [] [] = ⊤
+TakeAllBack d (e ∷ es) (t ∷ ts) =
+    TakesBack d e.author e.change t × TakeAllBack (with_entry d e.author e.change) es ts
+TakeAllBack d [] (t ∷ ts) = ⊥
+TakeAllBack d (e ∷ es) [] = ⊥
+
+-- these take the last entries of a desk back, which so stand ready
+abbrev pub TriedFits : DeskState → List Tried → Type 0
+TriedFits s ts = TakeAllBack (seen_of s ts).settled (seen_of s ts).ready ts

@@ -1,31 +1,34 @@
-// A desk on which one change can be prepared before it is settled.
-ghost use Rattle.std.specs.Prelude.{◌≡◌, ◌⊎◌, ◌+◌, [], length, None, Some, Ok, Err, IfOk, IfErr, OnOk, OnErr};
+// A desk on which changes can be made on trial before one is settled.
+ghost use Rattle.std.specs.Prelude.{◌≡◌, ◌⊎◌, ◌+◌, ◌==◌, [], length, Ok, Err, IfOk, IfErr, OnOk, OnErr};
 ghost use Rattle.su_bytes.specs.declared.refusals.Refusal.TheVariants.{NoMemory};
 ghost use Rattle.su_desk.specs.Answer.{answer, Good};
 ghost use Rattle.su_desk.specs.Desk.{Answers};
 ghost use Rattle.su_desk.specs.Headline.{Headline};
 ghost use Rattle.su_desk.specs.History.{tree, live_numbers};
-ghost use Rattle.su_desk.specs.Trial.{nothing_ready, ready_with, with_ready, Tells, IsReady};
+ghost use Rattle.su_desk.specs.Trial.{nothing_ready, ready_with, with_ready, without_last, Tells, IsReady};
 ghost use Rattle.su_desk.specs.Version.{versions};
+
+mod rehearsals;
 
 use crate::desks::Desk;
 use crate::prepared::{Prepared, Tried};
 use std::alloc::Global;
 use std::marker::Model;
-use su_bytes::{Principal, Refusal, Roster, User};
+use su_bytes::{FileId, Principal, Refusal, Roster, User};
 use su_op::Change;
 use su_table::Forest;
 
 /// A desk on which one change can be prepared, so that it is known what it makes of the tree, and
-/// then settled, which takes no memory. Its model is the desk that is settled, and the entry that
-/// stands ready.
+/// then settled, which takes no memory; and on which operations can be rehearsed. Its model is the
+/// desk that is settled, and the entries behind it that stand ready.
 ///
 /// A prepared change is made at once. Where it isn't settled, it is taken back when something else
-/// is prepared, or by `take_back`.
+/// is prepared or rehearsed, or by `take_back`.
 #[derive(Drop)]
 pub struct TrialDesk {
     desk: Desk,
-    tried: Option<Tried>,
+    /// What takes back each entry that stands ready, the last made last.
+    tried: Vec<Tried>,
 }
 
 impl Model for TrialDesk {
@@ -35,9 +38,9 @@ impl Model for TrialDesk {
 
     ghost use Rattle.su_desk.specs.Tried.{TriedFits};
 
-    ghost view = { λ t. seen_of t.desk t.tried };
+    ghost view = { λ t. seen_of t.desk t.tried.items };
 
-    ghost invariant = { λ t. TriedFits t.desk t.tried };
+    ghost invariant = { λ t. TriedFits t.desk t.tried.items };
 }
 
 impl TrialDesk {
@@ -49,7 +52,7 @@ impl TrialDesk {
     {
         Ok(TrialDesk {
             desk: Desk::new(alloc, roster)?,
-            tried: None,
+            tried: Vec::new(alloc),
         })
     }
 
@@ -61,11 +64,11 @@ impl TrialDesk {
     }
 
     /// Returns the version numbers of what is settled, of the users of the roster, and then of its
-    /// groups. Takes no memory, also where a change stands ready.
+    /// groups. Takes no memory, also where something stands ready.
     pub fn versions(&self) -> &[(Principal, u64)]
         ensures { result.now ≡ versions self.now.settled.roster self.now.settled.history }
     {
-        match &self.tried {
+        match self.tried.first() {
             Some(tried) => tried.versions.as_slice(),
             None => self.desk.versions(),
         }
@@ -85,9 +88,10 @@ impl TrialDesk {
         ensures err { OnErr result (self.new.settled ≡ self.old.settled) }
     {
         self.take_back()?;
+        self.tried.reserve(1)?;
         let tried = self.desk.attempt(author, change)?;
         let prepared = self.desk.tell(author, &tried);
-        self.tried = Some(tried);
+        self.tried.push_reserved(tried);
         prepared
     }
 
@@ -98,7 +102,7 @@ impl TrialDesk {
         ensures number { result ≡ length self.old.settled.history + 1 }
         ensures settled { self.new ≡ nothing_ready (with_ready self.old.settled self.old.ready) }
     {
-        self.tried = None;
+        self.tried.clear();
         prepared.number
     }
 
@@ -106,24 +110,46 @@ impl TrialDesk {
     /// a refusal, the first in order or `NoMemory`, changes nothing that is settled.
     pub fn apply(&mut self, author: User, change: Change) -> Result<u64, Refusal>
         ensures answered { Answers self.old.settled author change result self.new.settled }
-        ensures none_ready { OnOk result (self.new.ready ≡ None) }
+        ensures none_ready { OnOk result (self.new.ready ≡ []) }
     {
         let prepared = self.prepare(author, change)?;
         Ok(self.settle(prepared))
     }
 
-    /// Takes back what stands ready, if something does. Fails only with `NoMemory`, and then
-    /// changes nothing.
+    /// Takes back what stands ready, from the last on. Fails only with `NoMemory`: then what is
+    /// left still stands ready, and what is settled hasn't changed.
     pub fn take_back(&mut self) -> Result<(), Refusal>
         ensures ok { OnOk result (self.new ≡ nothing_ready self.old.settled) }
         ensures refused { IfErr result (λ e. e ≡ NoMemory) }
+        ensures err { OnErr result (self.new.settled ≡ self.old.settled) }
+    {
+        // names the type for the prover (docs/ARCHITECTURE.md, "Forms the kit wants")
+        let _file: Option<FileId> = None;
+        while !self.is_settled() {
+            self.take_last_back()?;
+        }
+        Ok(())
+    }
+
+    /// Tells whether nothing stands ready.
+    fn is_settled(&self) -> bool
+        ensures { result ≡ (length self.now.ready == 0) }
+    {
+        self.tried.is_empty()
+    }
+
+    /// Takes back the last change that stands ready, if one does. Fails only with `NoMemory`, and
+    /// then changes nothing.
+    fn take_last_back(&mut self) -> Result<(), Refusal>
+        ensures ok { OnOk result (self.new ≡ without_last self.old) }
+        ensures refused { IfErr result (λ e. e ≡ NoMemory) }
         ensures err { OnErr result (self.new ≡ self.old) }
     {
-        let Some(tried) = self.tried.take() else {
+        let Some(tried) = self.tried.pop() else {
             return Ok(());
         };
         if let Err(tried) = self.desk.take_back(tried) {
-            self.tried = Some(tried);
+            self.tried.push_reserved(tried);
             return Err(Refusal::NoMemory);
         }
         Ok(())
@@ -132,7 +158,7 @@ impl TrialDesk {
     /// Returns the tree of what is settled, where nothing stands ready. Of it, the history and the
     /// version numbers all holds that the desk is for.
     pub fn forest(&self) -> &Forest
-        requires { self.now.ready ≡ None }
+        requires { self.now.ready ≡ [] }
         ensures tree { tree self.now.settled.roster self.now.settled.history ≡ Some result.now }
         ensures good { Good self.now.settled.roster self.now.settled.history }
         ensures headline { Headline self.now.settled.roster self.now.settled.history result.now }
@@ -143,7 +169,7 @@ impl TrialDesk {
     /// Returns the numbers of the live operations of what is settled, ascending, where nothing
     /// stands ready. Fails only with `NoMemory`.
     pub fn live(&self) -> Result<Vec<u64>, Refusal>
-        requires { self.now.ready ≡ None }
+        requires { self.now.ready ≡ [] }
         ensures value { IfOk result (λ numbers.
             numbers.items ≡ live_numbers self.now.settled.history) }
         ensures refused { IfErr result (λ e. e ≡ NoMemory) }

@@ -151,7 +151,7 @@ module _ (k : Keeping) (kept : IsKeeping k) (a : ℕ) (c : Commit) (author : a �
 
 -- what is kept with a change that stands ready, and room
 pub joins_with : (k : Keeping) (c : Commit) (change : Change) (l : Keeping) → l.records.items ≡ k.records.items → l.desk.settled ≡ k.desk.settled
-    → l.desk.ready ≡ Some (entry_by c.version.author change) → (bytes item : List ℕ) → bytes ≡ commit_bytes c → item ≡ item_bytes change
+    → l.desk.ready ≡ entry_by c.version.author change ∷ [] → (bytes item : List ℕ) → bytes ≡ commit_bytes c → item ≡ item_bytes change
     → MayJoin (holding_of k).roster (holding_of k).held (record { commit = c; change = change }) → JoinsNext l c change bytes item
 joins_with k c change l records settled ready bytes item bytes_are item_is joins = record {
   ready = ready;
@@ -170,7 +170,7 @@ module _ (k : Keeping) (kept : IsKeeping k) (a : ℕ) (c : Commit) (author : a �
       → (l : Keeping) → l.records.items ≡ k.records.items → l.desk ≡ ready_with k.desk.settled a change → JoinsNext l c change bytes item
   joined_so next named accepted told handle groups bytes_are l records ready =
       joins_with k c change l records (ap (λ (t : TrialState). t.settled) ready)
-      (ap (λ (t : TrialState). t.ready) ready ∙ ap (λ a. Some (entry_by a change)) author) bytes item bytes_are spelled
+      (ap (λ (t : TrialState). t.ready) ready ∙ ap (λ a. entry_by a change ∷ []) author) bytes item bytes_are spelled
       (may_join (holding_of k) c change item is_change has_item spelled p.number next named
       (answered k kept a c author change (Ok p.number) accepted)
       (handle ∙ told_handle k kept a c author change p told)

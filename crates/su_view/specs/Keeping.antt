@@ -68,7 +68,7 @@ pub record IsKeeping (k : Keeping) : Type 0 where
 -- The change stands ready, and the commit with it may join the list; these are their bytes.
 pub record JoinsNext (k : Keeping) (c : Commit) (change : Change) (bytes item : List ℕ)
     : Type 0 where
-  pub ready : k.desk.ready ≡ Some (entry_by c.version.author change)
+  pub ready : k.desk.ready ≡ entry_by c.version.author change ∷ []
   pub joins : MayJoin k.desk.settled.roster (holding_of k).held
       (record { commit = c; change = change })
   pub bytes_are : bytes ≡ commit_bytes c

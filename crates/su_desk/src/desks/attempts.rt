@@ -7,7 +7,7 @@ ghost use Rattle.su_op.specs.Area.{has};
 ghost use Rattle.su_op.specs.declared.operations.Op.{Op};
 ghost use Rattle.su_table.specs.Cell.{Cell};
 ghost use Rattle.su_inverse.specs.Kept.{inverse_areas, IsKeptOf};
-ghost use Rattle.su_desk.specs.Answer.{answer, refusal_of, undo_refusal};
+ghost use Rattle.su_desk.specs.Answer.{answer, refusal_of, undo_refusal, Good};
 ghost use Rattle.su_desk.specs.Applied.{written_by};
 ghost use Rattle.su_desk.specs.Desk.{DeskState, with_entry};
 ghost use Rattle.su_desk.specs.Trial.{tree_of, before_last, Tells};
@@ -27,6 +27,7 @@ impl Desk {
     pub(crate) fn attempt(&mut self, author: User, change: Change) -> Result<Tried, Refusal>
         ensures accepted { OnOk result
             (refusal_of self.old.roster self.old.history author change ≡ None) }
+        ensures good { OnOk result (Good self.old.roster self.old.history) }
         ensures done { OnOk result (self.new ≡ with_entry self.old author change) }
         ensures tried { IfOk result (TakesBack self.old author change) }
         ensures refused { IfErr result (λ e.

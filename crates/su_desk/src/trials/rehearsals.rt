@@ -1,0 +1,76 @@
+// Operations that are made on trial one after another, and taken back.
+ghost use Rattle.std.specs.Prelude.{◌≡◌, ◌⊎◌, [], None, Some, IfErr, OnOk, OnErr};
+ghost use Rattle.su_bytes.specs.declared.refusals.Refusal.TheVariants.{NoMemory};
+ghost use Rattle.su_op.specs.Operation.{why, effect};
+ghost use Rattle.su_desk.specs.Rehearsal.{first_refusal};
+ghost use Rattle.su_desk.specs.Trial.{nothing_ready, tree_of, tree_with_ready};
+
+use super::TrialDesk;
+use su_bytes::{Refusal, User};
+use su_op::{Change, Op};
+
+impl TrialDesk {
+    /// Finds whether the operations, made by that author one after another, would all be accepted.
+    /// They are made on trial and taken back, and so is before what stood ready. The error is the
+    /// first refusal that they meet, or `NoMemory`; then what isn't taken back still stands ready,
+    /// and what is settled hasn't changed.
+    pub fn rehearse(&mut self, author: User, operations: &[Op]) -> Result<(), Refusal>
+        ensures accepted { OnOk result
+            (first_refusal self.old.settled.roster (tree_of self.old.settled) author operations.now
+            ≡ None) }
+        ensures none_ready { OnOk result (self.new ≡ nothing_ready self.old.settled) }
+        ensures refused { IfErr result (λ e.
+            (e ≡ NoMemory)
+            ⊎ (first_refusal self.old.settled.roster (tree_of self.old.settled) author
+            operations.now ≡ Some e)) }
+        ensures taken_back { IfErr result (λ e.
+            (e ≡ NoMemory) ⊎ (self.new ≡ nothing_ready self.old.settled)) }
+        ensures err { OnErr result (self.new.settled ≡ self.old.settled) }
+    {
+        self.take_back()?;
+        let answer = self.try_all(author, operations);
+        self.take_back()?;
+        answer
+    }
+
+    /// Makes operations on trial, one after another, where nothing stands ready. Those before a
+    /// refusal, the first that they meet or `NoMemory`, stand ready then.
+    fn try_all(&mut self, author: User, operations: &[Op]) -> Result<(), Refusal>
+        requires { self.old.ready ≡ [] }
+        ensures accepted { OnOk result
+            (first_refusal self.old.settled.roster (tree_of self.old.settled) author operations.now
+            ≡ None) }
+        ensures refused { IfErr result (λ e.
+            (e ≡ NoMemory)
+            ⊎ (first_refusal self.old.settled.roster (tree_of self.old.settled) author
+            operations.now ≡ Some e)) }
+        ensures settled { self.new.settled ≡ self.old.settled }
+    {
+        for operation in operations {
+            self.try_next(author, operation)?;
+        }
+        Ok(())
+    }
+
+    /// Makes an operation on trial, behind what stands ready. A refusal, the first in order or
+    /// `NoMemory`, changes nothing.
+    fn try_next(&mut self, author: User, operation: &Op) -> Result<(), Refusal>
+        ensures accepted { OnOk result
+            (why self.old.settled.roster (tree_with_ready self.old) author operation.now ≡ None) }
+        ensures effect { OnOk result
+            (tree_with_ready self.new
+            ≡ effect self.old.settled.roster (tree_with_ready self.old) author operation.now) }
+        ensures settled { self.new.settled ≡ self.old.settled }
+        ensures refused { IfErr result (λ e.
+            (e ≡ NoMemory)
+            ⊎ (why self.old.settled.roster (tree_with_ready self.old) author operation.now
+            ≡ Some e)) }
+        ensures err { OnErr result (self.new ≡ self.old) }
+    {
+        let change = Change::Do(operation.clone()?);
+        self.tried.reserve(1)?;
+        let tried = self.desk.attempt(author, change)?;
+        self.tried.push_reserved(tried);
+        Ok(())
+    }
+}
