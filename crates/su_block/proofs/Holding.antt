@@ -11,7 +11,10 @@ use Rattle.std.specs.declared.cmp.Ordering.TheVariants.{Less, Equal, Greater}
 use Rattle.std.specs.BTreeMap.{insert_entry, is_at}
 use Rattle.std.proofs.lemmas.List.Elements.{Contains-append_cases, Contains-append_right, Contains-push_cases}
 use Rattle.sha2.specs.Sha256.{sha256}
-use Rattle.su_block.specs.Memory.{AreUnderTheirDigests}
+use Rattle.std.specs.Option.{option_or}
+use Rattle.std.specs.List.{find}
+use Rattle.std.specs.Str.{bytes_eq}
+use Rattle.su_block.specs.Memory.{AreUnderTheirDigests, held_under, held_with}
 
 abbrev Held : Type 0
 Held = List (List ℕ × List ℕ)
@@ -117,3 +120,56 @@ some_found (Some v) is = (v, refl)
 pub none_found : (o : Option (List ℕ)) → is_some o ≡ false → o ≡ None
 none_found None is = refl
 none_found (Some v) is = absurd (cc)
+
+-- ---- what is held under a digest
+
+abbrev has : List ℕ → List ℕ → Bool
+has d item = bytes_eq d (sha256 item)
+
+-- what is looked up by the digest is the item that has it
+pub held_is : (d : List ℕ) (held : Held) → AreUnderTheirDigests held → lookup (is_at (slice_cmp nat_cmp d)) held ≡ held_under (values_of held) d
+unfolding held_under
+held_is d [] under = refl
+held_is d (e ∷ held) under =
+    let same : is_at (slice_cmp nat_cmp d) e.0 ≡ has d e.1 = is_eq-slice_cmp d e.0 ∙ ap (bytes_eq d) (sym under.0) in
+    (λ i. cond (same i) (Some e.1) (held_is d held under.1 i))
+
+none_more : (o : Option (List ℕ)) → o ≡ option_or o None
+none_more None = refl
+none_more (Some v) = refl
+
+-- one item more in front of others, of which none has its digest
+in_front : (b : Bool) (v : List ℕ) (o : Option (List ℕ)) → (b ≡ true → o ≡ None) → cond b (Some v) o ≡ option_or o (cond b (Some v) None)
+in_front true v o none = sym (ap (λ p. option_or p (Some v)) (none refl))
+in_front false v o none = none_more o
+
+-- and behind an item
+behind : (b : Bool) (x : List ℕ) (o p q : Option (List ℕ)) → o ≡ option_or p q → cond b (Some x) o ≡ option_or (cond b (Some x) p) q
+behind true x o p q is = refl
+behind false x o p q is = is
+
+module _ (k v : List ℕ) (of_v : sha256 v ≡ k) where
+  no_other : (held : Held) → AreUnderTheirDigests held → lookup (is_at (slice_cmp nat_cmp k)) held ≡ None → (d : List ℕ) → has d v ≡ true → held_under (values_of held) d ≡ None
+  no_other held under none d is =
+      let same : d ≡ k = same_text d (sha256 v) (sym is) ∙ of_v in
+      ap (held_under (values_of held)) same ∙ sym (held_is k held under) ∙ none
+
+  -- the items that are held with one more, under a digest under which there was none
+  pub under_more : (held : Held) → AreUnderTheirDigests held → lookup (is_at (slice_cmp nat_cmp k)) held ≡ None → (d : List ℕ)
+      → held_under (values_of (insert_entry (slice_cmp nat_cmp) held k v)) d ≡ held_with (held_under (values_of held)) v d
+  unfolding held_under
+  under_more [] under none d = refl
+  under_more (e ∷ held) under none d =
+      let others = missed (is_at (slice_cmp nat_cmp k) e.0) e.1 (lookup (is_at (slice_cmp nat_cmp k)) held) none in
+      ordered (λ es. held_under (values_of es) d ≡ held_with (held_under (e.1 ∷ values_of held)) v d) (slice_cmp nat_cmp k e.0) _ _ _
+      (λ _. in_front (has d v) v (held_under (e.1 ∷ values_of held) d) (no_other (e ∷ held) under none d))
+      (λ equal. let no : true ≡ false = sym (ap is_eq equal) ∙ others.0 in absurd (cc))
+      (λ _. behind (has d e.1) e.1 _ (held_under (values_of held) d) (held_under (v ∷ []) d) (under_more held under.1 others.1 d))
+
+-- an item that is held already changes nothing
+pub under_same : (held : List ℕ → Option (List ℕ)) (v w : List ℕ) → held (sha256 v) ≡ Some w → (d : List ℕ) → held d ≡ held_with held v d
+unfolding held_under
+under_same held v w is d = stays (has d v) refl where
+  stays : (b : Bool) → has d v ≡ b → held d ≡ option_or (held d) (cond b (Some v) None)
+  stays true same = let there : held d ≡ Some w = ap held (same_text d (sha256 v) (sym same)) ∙ is in rw there refl
+  stays false same = none_more (held d)

@@ -1,5 +1,5 @@
 // Items in memory.
-ghost use Rattle.std.specs.Prelude.{◌≡◌, ◌⊎◌, ◌↔◌, ℕ, List, [], false, IfOk, IfErr, OnErr, Err, None, Contains};
+ghost use Rattle.std.specs.Prelude.{◌≡◌, ◌⊎◌, ◌↔◌, ℕ, List, [], false, IfOk, IfErr, OnOk, OnErr, Err, Some, None, Contains};
 ghost use Rattle.sha2.specs.Sha256.{sha256};
 ghost use Rattle.su_block.specs.Item.{is_item};
 ghost use Rattle.su_block.specs.Failure.{failures_after};
@@ -77,7 +77,7 @@ impl MemoryBlocks {
 /// It is checked, and refuses an item only where it holds none of that digest.
 impl BlockSource for MemoryBlocks {
     ghost use Rattle.std.specs.Prelude.{true, Contains};
-    ghost use Rattle.su_block.specs.Memory.{HasItemOf};
+    ghost use Rattle.su_block.specs.Memory.{HasItemOf, held_under, held_with};
 
     ghost may_give = { λ m item. Contains m.items item };
 
@@ -88,7 +88,10 @@ impl BlockSource for MemoryBlocks {
     fn get(&mut self, alloc: Global, digest: Digest) -> Result<Vec<u8>, Refusal>
         ensures given { IfOk result (λ item. Contains self.old.items item.items) }
         ensures checked { IfOk result (λ item. sha256 item.items ≡ digest) }
+        ensures under { IfOk result (λ item.
+            held_under self.old.items digest ≡ Some item.items) }
         // It is refused only where nothing is held under the digest, or there is no room.
+        ensures none { (result ≡ Err MissingBlock) ↔ (held_under self.old.items digest ≡ None) }
         ensures missing { result ≡ Err MissingBlock → ¬ HasItemOf self.old.items digest }
         ensures refused { IfErr result (λ e. (e ≡ MissingBlock) ⊎ (e ≡ NoMemory)) }
         ensures kept { self.new.items ≡ self.old.items }
@@ -105,6 +108,9 @@ impl BlockSource for MemoryBlocks {
         ensures digest { IfOk result (λ digest. digest ≡ sha256 item.now) }
         // From then on an item is held under the digest: this one, unless another one was.
         ensures held { IfOk result (λ digest. HasItemOf self.new.items digest) }
+        // Under any other digest is held what was.
+        ensures under { OnOk result (held_under self.new.items
+            ≡ held_with (held_under self.old.items) item.now) }
         ensures kept { (s : List ℕ) → Contains self.old.items s → Contains self.new.items s }
         ensures more { (s : List ℕ) → Contains self.new.items s
             → Contains self.old.items s ⊎ (s ≡ item.now) }
