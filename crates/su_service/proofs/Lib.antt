@@ -1,0 +1,4 @@
+mod LastLemmas
+mod OwnLemmas
+mod RequestLemmas
+mod AnswerLemmas

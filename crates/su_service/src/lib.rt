@@ -1,0 +1,8 @@
+//! A service that owns all that it serves, a book and items: its replies are those of one machine.
+#![tactic(auto)]
+
+mod laws;
+mod own;
+
+pub use laws::replies_are_the_machines;
+pub use own::{OwnService, SEAT};
