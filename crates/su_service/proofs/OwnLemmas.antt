@@ -71,14 +71,6 @@ kept_of : (o : Option Commit) (bytes : List ℕ) (copy : List ℕ) → copy ≡ 
 kept_of None bytes copy same e = absurd (cc)
 kept_of (Some c) bytes copy same e = let is : commit_bytes c ≡ bytes = cc in inl (ap Kept (same ∙ sym is))
 
-failed_of : (o : Option Commit) (bytes : List ℕ) → option_map commit_bytes o ≡ Some bytes → Fetches o (refusal_reply NoMemory)
-failed_of None bytes e = absurd (cc)
-failed_of (Some c) bytes e = inr refl
-
-nothing_of : (o : Option Commit) → option_map commit_bytes o ≡ None → Fetches o Nothing
-nothing_of None e = refl
-nothing_of (Some c) e = absurd (cc)
-
 at_number : (cs : List Commit) (n : ℕ) → (n ≡ 0 → ⊥) → record_at cs n ≡ slice_get cs (n - 1)
 at_number cs zero some = absurd (some refl)
 at_number cs (suc n) some = let same : n ≡ suc n - 1 = omega arith in ap (slice_get cs) same
@@ -87,15 +79,10 @@ looked_up : (cs : List Commit) (held : List (List ℕ)) (n : ℕ) (o : Option (L
 looked_up cs held n o is some found =
     ap (option_map commit_bytes) (at_number cs n some) ∙ sym (slice_get-map commit_bytes cs (n - 1)) ∙ ap (λ l. slice_get l (n - 1)) (sym is) ∙ sym found
 
-module _ (cs : List Commit) (held : List (List ℕ)) (n : ℕ) (is : held ≡ map commit_bytes cs) (some : (n ≡ 0 → ⊥)) where
-  pub fetches_kept : (bytes copy : List ℕ) → Some bytes ≡ slice_get held (n - 1) → copy ≡ bytes → Fetches (record_at cs n) (Kept copy)
-  fetches_kept bytes copy found same = kept_of (record_at cs n) bytes copy same (looked_up cs held n (Some bytes) is some found)
-
-  pub fetches_failed : (bytes : List ℕ) → Some bytes ≡ slice_get held (n - 1) → Fetches (record_at cs n) (refusal_reply NoMemory)
-  fetches_failed bytes found = failed_of (record_at cs n) bytes (looked_up cs held n (Some bytes) is some found)
-
-  pub fetches_nothing : None ≡ slice_get held (n - 1) → Fetches (record_at cs n) Nothing
-  fetches_nothing found = nothing_of (record_at cs n) (looked_up cs held n None is some found)
+pub fetches_kept : (cs : List Commit) (held : List (List ℕ)) (n : ℕ) (bytes copy : List ℕ) → held ≡ map commit_bytes cs → (n ≡ 0 → ⊥)
+    → Some bytes ≡ slice_get held (n - 1) → copy ≡ bytes → Fetches (record_at cs n) (Kept copy)
+fetches_kept cs held n bytes copy is some found same =
+    kept_of (record_at cs n) bytes copy same (looked_up cs held n (Some bytes) is some found)
 
 -- ---- what is refused
 

@@ -6,3 +6,6 @@ mod own;
 
 pub use laws::replies_are_the_machines;
 pub use own::{OwnService, SEAT};
+
+#[cfg(test)]
+mod tests;

@@ -67,11 +67,13 @@ impl OwnService {
     fn store(&mut self, alloc: Global, commit: &Bytes) -> Result<Reply, Refusal>
         ensures { Answers self.old (request.Commit commit.now) (said result) self.new }
     {
-        let kept = Bytes::copy_of(alloc, commit.as_slice())?;
-        self.records.reserve(1)?;
         let event = Event::Commit(Vec::from_slice(alloc, commit.as_slice())?);
+        self.records.reserve(1)?;
         let reply = self.book.step(SEAT, &event)?;
-        self.records.push_reserved(kept);
+        let Event::Commit(bytes) = event else {
+            unreachable!()
+        };
+        self.records.push_reserved(Bytes::new(bytes));
         Ok(told(reply))
     }
 

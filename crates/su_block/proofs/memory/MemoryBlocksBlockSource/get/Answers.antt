@@ -27,10 +27,10 @@ pub returns-in_default-clause-none : goal.returns-in_default-clause-none
 returns-in_default-clause-none c =
     let key = c.as_bytes.result.now in
     let none : held_under c.args.self.now.items c.args.digest ≡ None =
-        ap (λ m. held_under m.items c.args.digest) (sym c.self.view_is)
-        ∙ ap (held_under (values_of c.self.inside.blocks.entries)) (sym c.as_bytes.ensures)
-        ∙ sym (held_is key c.self.inside.blocks.entries c.self.invariant)
-        ∙ sym c.in_default.ensures.value in
+    ap (λ m. held_under m.items c.args.digest) (sym c.self.view_is)
+    ∙ ap (held_under (values_of c.self.inside.blocks.entries)) (sym c.as_bytes.ensures)
+    ∙ sym (held_is key c.self.inside.blocks.entries c.self.invariant)
+    ∙ sym c.in_default.ensures.value in
     (λ _. none, λ _. refl)
 
 -- what was found is held under the digest
@@ -48,6 +48,7 @@ returns-clause-under c =
     IfOk-weaker c.copy.result (λ copy. copy.items ≡ c.in-Some.item.now) _ (λ item is. some ∙ ap Some (sym is)) c.copy.ensures.value
 
 pub returns-clause-none : goal.returns-clause-none
-returns-clause-none c =
-    (λ missing. let other : MissingBlock ≡ NoMemory = subst (λ r. IfErr r (λ e. e ≡ NoMemory)) missing c.copy.ensures.refused in absurd (cc),
-     λ none. let other = sym none ∙ found_under c in absurd (cc))
+returns-clause-none c = (
+  λ missing. let other : MissingBlock ≡ NoMemory = subst (λ r. IfErr r (λ e. e ≡ NoMemory)) missing c.copy.ensures.refused in absurd (cc),
+  λ none. let other = sym none ∙ found_under c in absurd (cc),
+)

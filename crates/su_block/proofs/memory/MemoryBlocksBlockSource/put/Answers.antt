@@ -51,10 +51,10 @@ returns-then-contains_key-clause-under c =
     let some = some_found (lookup (is_at (slice_cmp nat_cmp key)) c.self.inside.blocks.entries) (sym c.contains_key.ensures ∙ c.if-contains_key.true) in
     let own : sha256 c.args.item.now ≡ key = sym c.digest_of-digest.ensures ∙ sym c.as_bytes.ensures in
     let there : held_under c.args.self.now.items (sha256 c.args.item.now) ≡ Some some.0 =
-        ap (held_under c.args.self.now.items) own
-        ∙ ap (λ m. held_under m.items key) (sym c.self.view_is)
-        ∙ sym (held_is key c.self.inside.blocks.entries c.self.invariant)
-        ∙ some.1 in
+    ap (held_under c.args.self.now.items) own
+    ∙ ap (λ m. held_under m.items key) (sym c.self.view_is)
+    ∙ sym (held_is key c.self.inside.blocks.entries c.self.invariant)
+    ∙ some.1 in
     (λ i d. under_same (held_under c.args.self.now.items) c.args.item.now some.0 there d i)
 
 pub returns-clause-under : goal.returns-clause-under
@@ -66,5 +66,5 @@ returns-clause-under c =
     let none = subst (λ k. lookup (is_at (slice_cmp nat_cmp k)) c.self.inside.blocks.entries ≡ None) (c.as_bytes.ensures ∙ sym c.as_bytes-2.ensures) absent in
     let more = under_more key c.new.result own c.self.inside.blocks.entries c.self.invariant none in
     let here : held_under (values_of c.insert.new.self.entries) ≡ held_with (held_under (values_of c.self.inside.blocks.entries)) c.new.result =
-        rw c.in_ok-insert.ensures.entries (λ i d. more d i) in
+    rw c.in_ok-insert.ensures.entries (λ i d. more d i) in
     here ∙ ap (λ m. held_with (held_under m.items) c.new.result) c.self.view_is ∙ ap (held_with (held_under c.args.self.now.items)) same
