@@ -1,13 +1,12 @@
 -- To a request there is one reply, and to messages one list of replies, where memory isn't wanted.
-use Rattle.std.proofs.Common.{◌≡◌, ◌∙◌, ℕ, zero, suc, ◌⊎◌, inl, inr, Bool, true, false, List, [], ◌∷◌, refl, sym, ap, subst}
+use Rattle.std.proofs.Common.{◌≡◌, ◌∙◌, ℕ, inl, inr, Bool, true, false, List, [], ◌∷◌, refl, sym, ap, subst}
 use Rattle.std.specs.Prelude.{◌≢◌, Option, None, Some}
 use Rattle.std.specs.Global.{Vec}
-use Rattle.sha2.specs.Sha256.{sha256}
 use Rattle.su_bytes.specs.declared.refusals.Refusal.{Refusal}
 use Rattle.su_bytes.specs.declared.refusals.Refusal.TheVariants.{NoMemory}
 use Rattle.su_block.specs.Item.{is_item}
 use Rattle.su_block.specs.Memory.{held_under, held_with}
-use Rattle.su_version.specs.Commit.{Commit, commit_bytes}
+use Rattle.su_version.specs.Commit.{Commit}
 use Rattle.su_book.specs.declared.events.Event.{Event}
 use Rattle.su_book.specs.declared.events.Event.TheVariants as event
 use Rattle.su_book.specs.declared.events.BookReply.{BookReply}
@@ -19,9 +18,9 @@ use Rattle.su_message.specs.declared.requests.Request.{Request}
 use Rattle.su_message.specs.declared.requests.Request.TheVariants as request
 use Rattle.su_message.specs.declared.replies.Reply.{Reply}
 use Rattle.su_message.specs.declared.replies.Reply.TheVariants as reply
-use Rattle.su_session.specs.Answer.{refusal_reply, Asks, AsksNothing, Answered, Replies}
+use Rattle.su_session.specs.Answer.{refusal_reply, Answered, Replies}
 use Rattle.su_service.specs.declared.own.TheConstants.{SEAT}
-use Rattle.su_service.specs.Own.{Owned, held, Alike, reply_of, Makes, Refuses, AsksBook, record_at, Fetches, Gets, HoldsMore, Puts, LacksMemory, Answers, HasMemory}
+use Rattle.su_service.specs.Own.{Owned, held, Alike, reply_of, Makes, AsksBook, record_at, Fetches, Gets, Puts, Answers, HasMemory}
 use Rattle.su_service.proofs.RequestLemmas.{one_request, request_or_reason, one_reason}
 
 -- ---- the same commit in two vectors

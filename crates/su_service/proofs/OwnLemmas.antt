@@ -6,7 +6,7 @@ use Rattle.std.proofs.lemmas.Option.{slice_get-map}
 use Rattle.su_bytes.specs.declared.refusals.Refusal.TheVariants.{NoMemory}
 use Rattle.su_bytes.specs.declared.refusals.Refusal.{Refusal}
 use Rattle.su_message.specs.declared.requests.Request.TheVariants as request
-use Rattle.su_message.specs.declared.replies.Reply.TheVariants.{Kept, Nothing}
+use Rattle.su_message.specs.declared.replies.Reply.TheVariants.{Kept}
 use Rattle.su_session.specs.Answer.{refusal_reply}
 use Rattle.std.specs.Global.{Vec}
 use Rattle.su_version.specs.Commit.{Commit, commit_bytes}
@@ -16,7 +16,7 @@ use Rattle.su_book.specs.declared.events.BookReply.{BookReply}
 use Rattle.su_book.specs.declared.events.BookReply.TheVariants as told
 use Rattle.su_book.specs.declared.steps.Act.{Act}
 use Rattle.su_book.specs.declared.steps.Act.TheVariants.{Granted, Stored, Given}
-use Rattle.su_book.specs.Machine.{BookState, records_of, stored_by, Asks, Tells, MayAct, Stepped, IsRefused}
+use Rattle.su_book.specs.Machine.{BookState, records_of, stored_by, Tells, MayAct, Stepped, IsRefused}
 use Rattle.su_book.proofs.Public.{records_push, grant_asks, commit_asks, give_asks}
 use Rattle.su_service.specs.declared.own.TheConstants.{SEAT}
 use Rattle.su_service.specs.Own.{Owned, TellsRecords, bytes_of, Fetches, record_at, Answers}

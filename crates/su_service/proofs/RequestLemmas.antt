@@ -1,6 +1,6 @@
 -- A message is one request, or none for one reason.
-use Rattle.std.proofs.Common.{◌≡◌, ◌∙◌, ℕ, ◌⊎◌, inl, inr, List, [], ◌∷◌, length, append-nil, cond, nat_eq, refl, sym, ap, subst, arith}
-use Rattle.std.specs.Prelude.{Result, Ok, Err}
+use Rattle.std.proofs.Common.{◌≡◌, ◌∙◌, ℕ, inl, inr, List, [], ◌∷◌, length, append-nil, cond, nat_eq, refl, sym, ap, subst, arith}
+use Rattle.std.specs.Prelude.{Ok, Err}
 use Rattle.su_bytes.specs.declared.refusals.Refusal.{Refusal}
 use Rattle.su_bytes.specs.declared.refusals.Refusal.TheVariants.{Malformed, NoMemory}
 use Rattle.su_format.specs.Format.{Format, part, making, whole, ◌>>=◌, IsLawful}
@@ -12,7 +12,7 @@ use Rattle.su_message.specs.declared.request_tags.RequestTag.{RequestTag}
 use Rattle.su_message.specs.declared.request_tags.RequestTag.TheVariants.{Grant, Commit, Give, Fetch, Put, Get}
 use Rattle.su_message.specs.RequestTag.{request_number, tag_of_request}
 use Rattle.su_message.specs.Tagged.{ReadsTagged}
-use Rattle.su_message.specs.Request.{IsRequest, field_bytes, request_bytes, request_fields}
+use Rattle.su_message.specs.Request.{IsRequest, field_bytes, request_fields}
 use Rattle.su_session.specs.Answer.{Asks, AsksNothing}
 
 -- ---- messages of a tag and its fields

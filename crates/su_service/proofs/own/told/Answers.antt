@@ -1,4 +1,4 @@
-use Rattle.std.proofs.Common.{◌≡◌, ◌<◌, ◌^◌, subst, sym, arith}
+use Rattle.std.proofs.Common.{◌<◌, ◌^◌, subst, sym, arith}
 use Rattle.su_book.specs.declared.events.BookReply.TheVariants.{Granted}
 use Rattle.su_message.specs.LastNumbers.{AreLast}
 use Rattle.su_service.specs.Own.{TellsRecords}

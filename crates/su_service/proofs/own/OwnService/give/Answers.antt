@@ -1,4 +1,4 @@
-use Rattle.std.proofs.Common.{◌≡◌, ◌∙◌, sym}
+use Rattle.std.proofs.Common.{◌∙◌, sym}
 use Rattle.su_service.proofs.OwnLemmas.{same_after_give}
 use Rattle.su_service.proofs.own.OwnService.give.Goals as goal
 

@@ -1,4 +1,4 @@
-use Rattle.std.proofs.Common.{◌≡◌, ◌∙◌, sym}
+use Rattle.std.proofs.Common.{◌∙◌, sym}
 use Rattle.su_service.proofs.OwnLemmas.{same_after_grant}
 use Rattle.su_service.proofs.own.OwnService.grant.Goals as goal
 
