@@ -2,3 +2,4 @@ mod LastLemmas
 mod OwnLemmas
 mod RequestLemmas
 mod AnswerLemmas
+mod KeptLemmas

@@ -4,7 +4,7 @@
 mod laws;
 mod own;
 
-pub use laws::replies_are_the_machines;
+pub use laws::{replies_are_the_machines, what_is_given_is_kept};
 pub use own::{OwnService, SEAT};
 
 #[cfg(test)]
