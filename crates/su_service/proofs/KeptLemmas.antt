@@ -1,13 +1,11 @@
 -- What is given to the service is kept.
-use Rattle.std.proofs.Common.{◌≡◌, ◌∙◌, ℕ, ◌+◌, ◌⊎◌, inl, inr, Bool, true, false, List, [], ◌∷◌, ◌++◌, length, refl, sym, ap, subst, arith, add-one}
+use Rattle.std.proofs.Common.{◌≡◌, ◌∙◌, ℕ, ◌+◌, ◌⊎◌, inl, inr, Bool, true, false, List, [], ◌∷◌, ◌++◌, length, refl, sym, ap, subst, add-one}
 use Rattle.std.specs.Prelude.{Option, None, Some, slice_get}
-use Rattle.std.specs.List.{find}
 use Rattle.std.specs.Global.{Vec}
 use Rattle.std.specs.Option.{option_or}
 use Rattle.std.specs.Str.{bytes_eq}
 use Rattle.std.proofs.lemmas.Slice.Eq.{bytes_eq-Decides}
 use Rattle.sha2.specs.Sha256.{sha256}
-use Rattle.su_bytes.specs.declared.refusals.Refusal.{Refusal}
 use Rattle.su_bytes.specs.declared.refusals.Refusal.TheVariants.{NoMemory}
 use Rattle.su_block.specs.Item.{is_item}
 use Rattle.su_block.specs.Memory.{held_under, held_with}
@@ -15,9 +13,8 @@ use Rattle.su_version.specs.Commit.{Commit, commit_bytes}
 use Rattle.su_book.specs.declared.events.Event.TheVariants as event
 use Rattle.su_book.specs.declared.events.BookReply.{BookReply}
 use Rattle.su_book.specs.declared.events.BookReply.TheVariants as told
-use Rattle.su_book.specs.declared.steps.Act.{Act}
-use Rattle.su_book.specs.declared.steps.Act.TheVariants.{Granted, Stored, Given}
-use Rattle.su_book.specs.Machine.{BookState, records_of, stored_by, count_of, Tells, MayAct, MayBeStored, Stepped}
+use Rattle.su_book.specs.declared.steps.Act.TheVariants.{Stored}
+use Rattle.su_book.specs.Machine.{BookState, records_of, stored_by, Tells, MayAct, MayBeStored}
 use Rattle.su_book.proofs.Public.{records_push, commit_asks}
 use Rattle.su_message.specs.declared.requests.Request.TheVariants as request
 use Rattle.su_message.specs.declared.replies.Reply.{Reply}

@@ -1,5 +1,5 @@
 -- What a service that owns a book and items may answer. (This project's own.)
-use Rattle.std.specs.Prelude.{◌≡◌, ◌≢◌, ℕ, zero, suc, ◌⊎◌, Bool, true, false, List, [], ◌∷◌, Option, Some, None, length, map, slice_get, Result, Ok, Err}
+use Rattle.std.specs.Prelude.{◌≡◌, ◌≢◌, ℕ, zero, suc, ◌⊎◌, Bool, true, false, List, [], ◌∷◌, Option, Some, None, slice_get}
 use Rattle.std.specs.Global.{Vec}
 use Rattle.sha2.specs.Sha256.{sha256}
 use Rattle.su_bytes.specs.declared.refusals.Refusal.{Refusal}
@@ -11,7 +11,7 @@ use Rattle.su_book.specs.declared.events.Event.{Event}
 use Rattle.su_book.specs.declared.events.Event.TheVariants as event
 use Rattle.su_book.specs.declared.events.BookReply.{BookReply}
 use Rattle.su_book.specs.declared.events.BookReply.TheVariants as told
-use Rattle.su_book.specs.Machine.{BookState, records_of, last_numbers, IsRefused, Stepped}
+use Rattle.su_book.specs.Machine.{BookState, records_of, IsRefused, Stepped}
 use Rattle.su_message.specs.declared.requests.Request.{Request}
 use Rattle.su_message.specs.declared.requests.Request.TheVariants as request
 use Rattle.su_message.specs.declared.replies.Reply.{Reply}
@@ -33,10 +33,6 @@ pub record Alike (s t : Owned) : Type 0 where
   pub book : s.book ≡ t.book
   pub held : held s ≡ held t
 
--- the bytes of the book's records, in order
-abbrev pub bytes_of : BookState → List (List ℕ)
-bytes_of b = map commit_bytes (records_of b.journal)
-
 -- ---- the turn and commits
 
 -- what the book tells, as a reply
@@ -44,13 +40,6 @@ abbrev pub reply_of : BookReply → Reply
 reply_of (told.Granted count last) = reply.Granted count last.items
 reply_of (told.Stored number) = reply.Stored number
 reply_of told.Given = reply.Given
-
--- of a grant it tells how many records there are, and the users' last ones
-abbrev pub TellsRecords : BookReply → Type 0
-TellsRecords (told.Granted count last) =
-    (cs : List Commit) × (count ≡ length cs) × (last.items ≡ last_numbers cs)
-TellsRecords (told.Stored number) = Unit {0}
-TellsRecords told.Given = Unit {0}
 
 -- the book makes the step that the event asks for, and the reply tells of it
 pub record Makes (s : Owned) (e : Event) (r : Reply) (t : Owned) : Type 0 where
@@ -104,7 +93,8 @@ Puts true s item r t =
 
 -- ---- all requests
 
--- what may be answered; to give the turn back takes no memory
+-- What may be answered. (A book is asked for a commit by a vector of its bytes.) To give the turn
+-- back takes no memory.
 abbrev pub Answers : Owned → Request → Reply → Owned → Type 0
 Answers s request.Grant r t = AsksBook s event.Grant r t ⊎ LacksMemory s r t
 Answers s (request.Commit bytes) r t =
@@ -114,11 +104,6 @@ Answers s request.Give r t = AsksBook s event.Give r t
 Answers s (request.Fetch n) r t = Fetches (record_at (records_of s.book.journal) n) r × (t ≡ s)
 Answers s (request.Put item) r t = Puts (is_item item) s item r t
 Answers s (request.Get digest) r t = Gets (held s digest) r × (t ≡ s)
-
--- a reply, or the one that tells of a refusal
-abbrev pub said : Result Reply Refusal → Reply
-said (Ok r) = r
-said (Err e) = refusal_reply e
 
 -- no reply is a refusal for want of memory
 abbrev pub HasMemory : List Reply → Type 0

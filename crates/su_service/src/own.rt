@@ -2,7 +2,8 @@
 ghost use Rattle.std.specs.Prelude.{◌≡◌};
 ghost use Rattle.su_book.specs.Machine.{count_of};
 ghost use Rattle.su_message.specs.declared.requests.Request.TheVariants as request;
-ghost use Rattle.su_service.specs.Own.{Answers, TellsRecords, reply_of, said};
+ghost use Rattle.su_service.specs.Kept.{TellsRecords, said};
+ghost use Rattle.su_service.specs.Own.{Answers, reply_of};
 
 use std::alloc::Global;
 use std::marker::Model;
@@ -26,7 +27,8 @@ pub struct OwnService {
 
 impl Model for OwnService {
     ghost use Rattle.std.specs.Prelude.{◌≡◌};
-    ghost use Rattle.su_service.specs.Own.{Owned, bytes_of};
+    ghost use Rattle.su_service.specs.Kept.{bytes_of};
+    ghost use Rattle.su_service.specs.Own.{Owned};
 
     ghost Value = { Owned };
 

@@ -1,7 +1,7 @@
 use Rattle.std.proofs.Common.{◌≡◌, ◌∙◌, ◌-◌, length, ap, refl, sym}
 use Rattle.std.specs.Prelude.{slice_get}
 use Rattle.std.proofs.lemmas.Option.{slice_get_read}
-use Rattle.su_service.specs.Own.{bytes_of}
+use Rattle.su_service.specs.Kept.{bytes_of}
 use Rattle.su_service.proofs.OwnLemmas.{fetches_kept}
 use Rattle.su_service.proofs.own.OwnService.fetch.Goals as goal
 

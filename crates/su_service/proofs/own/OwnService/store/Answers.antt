@@ -3,7 +3,7 @@ use Rattle.std.proofs.lemmas.Result.{err_from_is_err_and}
 use Rattle.su_book.specs.declared.events.Event.TheVariants.{Commit}
 use Rattle.su_book.specs.Machine.{Stepped}
 use Rattle.su_service.specs.declared.own.TheConstants.{SEAT}
-use Rattle.su_service.specs.Own.{bytes_of}
+use Rattle.su_service.specs.Kept.{bytes_of}
 use Rattle.su_service.proofs.OwnLemmas.{more_after_commit, refused_commit}
 use Rattle.su_service.proofs.own.OwnService.store.Goals as goal
 
