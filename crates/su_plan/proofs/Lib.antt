@@ -1,0 +1,6 @@
+pub mod DraftTakes
+pub mod LeastFree
+pub mod NameLists
+pub mod Spelling
+pub mod TakeCounts
+pub mod WalkSteps
