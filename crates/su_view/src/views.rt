@@ -7,6 +7,8 @@ ghost use Rattle.su_chain.specs.ChainEnd.{HasBadKey};
 ghost use Rattle.su_op.specs.declared.operations.Change.{Change as Change_};
 ghost use Rattle.su_table.specs.Query.{listing, contents_within};
 ghost use Rattle.su_desk.specs.History.{live_numbers};
+ghost use Rattle.su_desk.specs.Rehearsal.{first_refusal};
+ghost use Rattle.su_plan.specs.Plan.{plan, found};
 ghost use Rattle.su_desk.specs.Version.{versions};
 ghost use Rattle.su_lms.specs.PrivateKey.{key_of, leaf_count};
 ghost use Rattle.su_change.specs.Item.{item_bytes};
@@ -30,7 +32,8 @@ use std::alloc::Global;
 use su_block::BlockSource;
 use su_bytes::{Digest, FileId, Name, Principal, Refusal, Roster, User};
 use su_lms::{KeyStore, Signer};
-use su_op::Change;
+use su_op::{Change, Op};
+use su_plan::Command;
 use su_version::Commit;
 
 /// A client's view: the legal list of commits that the client holds, with the tree that it makes,
@@ -375,5 +378,31 @@ impl<S: BlockSource + Drop> View<S> {
         ensures same { self.new ≡ self.old }
     {
         self.holding.read_at(file, off, len)
+    }
+
+    /// Plans a command of the view's user on paths: returns operations that carry it out, each of
+    /// which is accepted after those before it, where no other commit comes between. The refusals
+    /// are those of `su_plan::plan`.
+    pub fn plan(&mut self, command: &Command) -> Result<Vec<Op>, Refusal>
+        ensures planned { let v = self.old.holding in IfOk result (λ operations.
+            plan v.roster (tree_of_list v) v.user command.now ≡ Ok operations.items) }
+        ensures accepted { let v = self.old.holding in IfOk result (λ operations.
+            first_refusal v.roster (tree_of_list v) v.user operations.items ≡ None) }
+        ensures refused { let v = self.old.holding in IfErr result (λ e. (e ≡ NoMemory)
+            ⊎ (plan v.roster (tree_of_list v) v.user command.now ≡ Err e)) }
+        ensures same { self.new ≡ self.old }
+    {
+        self.holding.plan(command)
+    }
+
+    /// Finds the file that a path leads to. The refusals are those of `su_plan::find`.
+    pub fn find(&mut self, path: &[u8]) -> Result<FileId, Refusal>
+        ensures found { let v = self.old.holding in IfOk result (λ file.
+            found (tree_of_list v) path.now ≡ Ok file) }
+        ensures refused { let v = self.old.holding in IfErr result (λ e.
+            (e ≡ NoMemory) ⊎ (found (tree_of_list v) path.now ≡ Err e)) }
+        ensures same { self.new ≡ self.old }
+    {
+        self.holding.find(path)
     }
 }

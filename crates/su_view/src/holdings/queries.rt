@@ -2,7 +2,9 @@
 ghost use Rattle.std.specs.Prelude.{◌≡◌, ◌⊎◌, Ok, Err, IfOk, IfErr, None, MatchOption, length};
 ghost use Rattle.su_bytes.specs.declared.refusals.Refusal.TheVariants.{NoMemory};
 ghost use Rattle.su_desk.specs.History.{live_numbers};
+ghost use Rattle.su_desk.specs.Rehearsal.{first_refusal};
 ghost use Rattle.su_desk.specs.Version.{versions};
+ghost use Rattle.su_plan.specs.Plan.{plan, found};
 ghost use Rattle.su_legal.specs.Legal.{head_of, history, Legal};
 ghost use Rattle.su_table.specs.Query.{listing, contents_within};
 ghost use Rattle.su_view.specs.Holding.{tree_of_list};
@@ -10,6 +12,8 @@ ghost use Rattle.su_view.specs.Entry.{committed_at, AreBytesAt};
 
 use crate::holdings::Holding;
 use su_bytes::{Digest, FileId, Name, Principal, Refusal, Roster, User};
+use su_op::Op;
+use su_plan::{Command, find, plan};
 
 impl Holding {
     /// Lends who belongs to the store.
@@ -90,5 +94,29 @@ impl Holding {
     {
         self.keeping.desk.take_back()?;
         self.keeping.desk.forest().read_at(file, off, len)
+    }
+
+    /// Plans a command of the client's user, as `su_plan::plan` does.
+    pub fn plan(&mut self, command: &Command) -> Result<Vec<Op>, Refusal>
+        ensures planned { IfOk result (λ operations.
+            plan self.old.roster (tree_of_list self.old) self.old.user command.now
+            ≡ Ok operations.items) }
+        ensures accepted { IfOk result (λ operations. first_refusal self.old.roster
+            (tree_of_list self.old) self.old.user operations.items ≡ None) }
+        ensures refused { IfErr result (λ e. (e ≡ NoMemory)
+            ⊎ (plan self.old.roster (tree_of_list self.old) self.old.user command.now ≡ Err e)) }
+        ensures same { self.new ≡ self.old }
+    {
+        plan(self.alloc, &mut self.keeping.desk, self.keeping.user, command)
+    }
+
+    /// Finds the file that a path leads to, as `su_plan::find` does.
+    pub fn find(&mut self, path: &[u8]) -> Result<FileId, Refusal>
+        ensures found { IfOk result (λ file. found (tree_of_list self.old) path.now ≡ Ok file) }
+        ensures refused { IfErr result (λ e.
+            (e ≡ NoMemory) ⊎ (found (tree_of_list self.old) path.now ≡ Err e)) }
+        ensures same { self.new ≡ self.old }
+    {
+        find(self.alloc, &mut self.keeping.desk, path)
     }
 }
