@@ -2,6 +2,8 @@ use super::*;
 use std::alloc::Global;
 use std::process::Abort;
 use std::test::Fail;
+use su_bytes::Refusal;
+use su_frames::Frames;
 use su_message::{LastNumbers, Reply, Request};
 
 /// Grants the turn, stores what it is given, and counts how often the turn is given back.
@@ -103,4 +105,51 @@ fn sessions_of_some_bytes(rt: HostRuntime) -> Result<(), Fail> {
         try_case(&rt, rt.alloc(), case);
     }
     Ok(())
+}
+
+#[test]
+fn a_message_comes_in_single_bytes(rt: HostRuntime) -> Result<(), Fail> {
+    let mut frames = Frames::new(rt.alloc());
+    for piece in [b"\x00", b"\x00", b"\x00", b"\x01"] {
+        frames.feed(piece)?;
+        assert!(&rt; is_nothing(frames.next()));
+    }
+    frames.feed(b"\x01")?;
+    assert!(&rt; is_message(frames.next(), b"\x01"));
+    assert!(&rt; is_nothing(frames.next()));
+    Ok(())
+}
+
+#[test]
+fn a_long_length_is_refused_for_good(rt: HostRuntime) -> Result<(), Fail> {
+    let mut frames = Frames::new(rt.alloc());
+    frames.feed(b"\x00\x02\x00\x01")?;
+    assert!(&rt; is_refused(frames.next(), Refusal::TooLong));
+    frames.feed(b"\x01")?;
+    assert!(&rt; is_refused(frames.next(), Refusal::TooLong));
+    Ok(())
+}
+
+fn is_nothing(next: Result<Option<Vec<u8>>, Refusal>) -> bool {
+    match next {
+        Ok(None) => true,
+        Ok(Some(_message)) => false,
+        Err(_refusal) => false,
+    }
+}
+
+fn is_message(next: Result<Option<Vec<u8>>, Refusal>, bytes: &[u8]) -> bool {
+    match next {
+        Ok(Some(message)) => message.as_slice() == bytes,
+        Ok(None) => false,
+        Err(_refusal) => false,
+    }
+}
+
+fn is_refused(next: Result<Option<Vec<u8>>, Refusal>, refusal: Refusal) -> bool {
+    match next {
+        Err(other) => other == refusal,
+        Ok(Some(_message)) => false,
+        Ok(None) => false,
+    }
 }

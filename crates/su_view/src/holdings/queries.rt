@@ -107,7 +107,12 @@ impl Holding {
             ⊎ (plan self.old.roster (tree_of_list self.old) self.old.user command.now ≡ Err e)) }
         ensures same { self.new ≡ self.old }
     {
-        plan(self.alloc, &mut self.keeping.desk, self.keeping.user, command)
+        plan(
+            self.alloc,
+            &mut self.keeping.desk,
+            self.keeping.user,
+            command,
+        )
     }
 
     /// Finds the file that a path leads to, as `su_plan::find` does.
