@@ -1,5 +1,5 @@
--- A draft takes what it must, step by step.
-use Rattle.std.proofs.Common.{◌≡◌, ℕ, ◌+◌, Bool, true, false, cond, not, ◌&&◌, ◌||◌, List, [], ◌∷◌, ◌++◌, Result, Ok, Err, refl, sym, ap, ◌∙◌, arith}
+-- A draft takes what it must, and counts its numbers through, step by step.
+use Rattle.std.proofs.Common.{◌≡◌, ℕ, ◌+◌, Bool, true, false, cond, not, ◌&&◌, ◌||◌, List, [], ◌∷◌, ◌++◌, Option, Some, None, Result, Ok, Err, refl, sym, ap, subst, ◌∙◌, arith}
 use Rattle.std.specs.Prelude.{count_by, IfOk}
 use Rattle.std.specs.List.{list_any}
 use Rattle.std.proofs.lemmas.Bool.{false≢true}
@@ -8,6 +8,8 @@ use Rattle.std.proofs.lemmas.List.Sums.{sum_by-append}
 use Rattle.su_bytes.specs.declared.file_ids.FileId.{FileId}
 use Rattle.su_bytes.specs.declared.file_ids.FileId.TheVariants.{User, Group}
 use Rattle.su_bytes.specs.declared.refusals.Refusal.{Refusal}
+use Rattle.su_bytes.specs.declared.refusals.Refusal.TheVariants.{BadNumber}
+use Rattle.std.specs.Option.{ok_or, unwrap_or}
 use Rattle.su_bytes.specs.Place.{Place, file_eq}
 use Rattle.su_table.specs.Tree.{Tree}
 use Rattle.su_op.specs.declared.operations.Op.{Op}
@@ -16,6 +18,11 @@ use Rattle.su_op.proofs.Public.{place_eq-itself, place_eq-same}
 use Rattle.su_plan.specs.Refusable.{◌>>=◌}
 use Rattle.su_plan.specs.Draft.{DraftState, empty_draft, with_operation, takes, needs_take, taken_at, next_body, taken, with_take}
 use Rattle.su_plan.proofs.Spelling.{and_both, not_true}
+use Rattle.su_plan.specs.Number.{free_body, least_free}
+use Rattle.su_table.specs.Query.{is_free_at}
+use Rattle.su_table.specs.Free.{IsLeastFree}
+use Rattle.su_plan.specs.Counting.{number_used, IsNext, CountUp}
+use Rattle.su_plan.proofs.LeastFree.{least_free-least}
 use Rattle.su_plan.specs.Taking.{writes_to, is_held_by_others, TakesWhatItMust}
 
 -- ---- file ids
@@ -76,6 +83,32 @@ unlisted p (op ∷ ops) h =
     let rest = k.1 in
     ap (λ b. b || list_any p ops) (none_counted (p op) first) ∙ unlisted p ops rest
 
+-- ---- numbers
+
+-- the last number that is used
+abbrev last_used : ℕ → List Op → ℕ
+last_used used [] = used
+last_used used (op ∷ ops) = last_used (unwrap_or (number_used op) used) ops
+
+last_used-last : (used : ℕ) (ops : List Op) (op : Op) → last_used used (ops ++ op ∷ []) ≡ unwrap_or (number_used op) (last_used used ops)
+last_used-last used [] op = refl
+last_used-last used (o ∷ ops) op = last_used-last (unwrap_or (number_used o) used) ops op
+
+counts_last : (T : Tree) (a used : ℕ) (ops : List Op) (op : Op) → CountUp T a used ops → IsNext T a (last_used used ops) (number_used op) → CountUp T a used (ops ++ op ∷ [])
+counts_last T a used [] op k h = (h, tt)
+counts_last T a used (o ∷ ops) op k h = (k.0, counts_last T a (unwrap_or (number_used o) used) ops op k.1 h)
+
+found_some : (o : Option ℕ) (e : Refusal) (n : ℕ) → ok_or o e ≡ Ok n → o ≡ Some n
+found_some None e n h = absurd cc
+found_some (Some m) e n h = cc
+
+-- the next number is the least free one above those that are used
+pub next_least : (T : Tree) (d : DraftState) (n : ℕ) → next_body T d ≡ Ok n → IsNext T d.author d.used (Some n)
+unfolding next_body free_body
+next_least T d n h =
+    let free : ℕ → Bool = λ i. is_free_at T (d.author, i) in
+    subst (IsLeastFree free (d.used + 1)) (found_some (least_free free (d.used + 1)) BadNumber n h) (least_free-least free (d.used + 1) (omega arith))
+
 -- ---- drafts
 
 -- one of these is the file
@@ -87,22 +120,36 @@ pub record Fair (T : Tree) (a : ℕ) (files : List FileId) (written : FileId →
   pub author : d.author ≡ a
   pub counted : (f : FileId) → count_by (takes f) d.operations ≡ one (has_file files f && is_held_by_others T a f)
   pub writes : (f : FileId) → list_any (writes_to f) d.operations ≡ written f
+  pub numbers : CountUp T a 0 d.operations
+  pub last : last_used 0 d.operations ≡ d.used
 
 pub fair_empty : (T : Tree) (a : ℕ) → Fair T a [] (λ f. false) (empty_draft a)
-fair_empty T a = record { author = refl; counted = λ f. refl; writes = λ f. refl }
+fair_empty T a = record { author = refl; counted = λ f. refl; writes = λ f. refl; numbers = tt; last = refl }
 
 -- an operation that is no take
-pub fair_more : (T : Tree) (a : ℕ) (files : List FileId) (written : FileId → Bool) (d : DraftState) (op : Op) → ((f : FileId) → takes f op ≡ false)
+pub fair_more : (T : Tree) (a : ℕ) (files : List FileId) (written : FileId → Bool) (d : DraftState) (op : Op) → ((f : FileId) → takes f op ≡ false) → number_used op ≡ None
     → Fair T a files written d → Fair T a files (λ f. written f || writes_to f op) (with_operation d op)
-fair_more T a files written d op h k = record {
+fair_more T a files written d op h none k = record {
   author = k.author;
   counted = λ f. count_by-last (takes f) d.operations op ∙ (let c = k.counted f in let z : one (takes f op) ≡ 0 = ap one (h f) in omega arith);
   writes = λ f. list_any-last (writes_to f) d.operations op ∙ ap (λ b. b || writes_to f op) (k.writes f);
+  numbers = counts_last T a 0 d.operations op k.numbers (subst (IsNext T a (last_used 0 d.operations)) (sym none) tt);
+  last = last_used-last 0 d.operations op ∙ ap (λ (o : Option ℕ). unwrap_or o (last_used 0 d.operations)) none ∙ k.last;
 }
 
--- all that is written was looked at
-pub fair_end : (T : Tree) (a : ℕ) (files : List FileId) (written : FileId → Bool) (d : DraftState) → Fair T a files written d → ((f : FileId) → has_file files f ≡ written f) → TakesWhatItMust T a d.operations
-fair_end T a files written d k h = λ f. k.counted f ∙ ap (λ b. one (b && is_held_by_others T a f)) (h f ∙ sym (k.writes f))
+-- what holds of the operations in the end
+abbrev pub IsFair : Tree → ℕ → List Op → Type 0
+IsFair T a ops = TakesWhatItMust T a ops × CountUp T a 0 ops
+
+-- with the last operation all that is written was looked at
+pub fair_end : (T : Tree) (a : ℕ) (files : List FileId) (written : FileId → Bool) (d : DraftState) (op : Op) → ((f : FileId) → takes f op ≡ false) → IsNext T d.author d.used (number_used op)
+    → Fair T a files written d → ((f : FileId) → has_file files f ≡ (written f || writes_to f op)) → IsFair T a (with_operation d op).operations
+fair_end T a files written d op h next k all = (
+  λ f. count_by-last (takes f) d.operations op
+      ∙ (let c = k.counted f in let z : one (takes f op) ≡ 0 = ap one (h f) in omega (arith, c, z))
+      ∙ ap (λ b. one (b && is_held_by_others T a f)) (all f ∙ ap (λ b. b || writes_to f op) (sym (k.writes f)) ∙ sym (list_any-last (writes_to f) d.operations op)),
+  counts_last T a 0 d.operations op k.numbers (subst (λ (u : ℕ). IsNext T a u (number_used op)) (sym k.last) (subst (λ (n : ℕ). IsNext T n d.used (number_used op)) k.author next)),
+)
 
 -- ---- a take, where one is needed
 
@@ -147,15 +194,17 @@ counted_taken T a files written d g f h k false e =
     let plain : count_by (takes f) d.operations + 0 ≡ count_by (takes f) d.operations = omega arith in
     plain ∙ c ∙ ap (λ b. one (b && is_held_by_others T a f)) (sym (or_false (has_file files f)))
 
-fair_taken : (T : Tree) (a : ℕ) (files : List FileId) (written : FileId → Bool) (d : DraftState) (g : FileId) (n : ℕ) → needs_take T d g ≡ true → Fair T a files written d
+fair_taken : (T : Tree) (a : ℕ) (files : List FileId) (written : FileId → Bool) (d : DraftState) (g : FileId) (n : ℕ) → needs_take T d g ≡ true → next_body T d ≡ Ok n → Fair T a files written d
     → Fair T a (files ++ g ∷ []) written (taken_at d g n)
-fair_taken T a files written d g n h k =
+fair_taken T a files written d g n h e k =
     let op : Op = Take (record { file = g; body = n }) in
     record {
       author = k.author;
       counted = λ f. count_by-last (takes f) d.operations op ∙ counted_taken T a files written d g f h k (file_eq g f) refl
           ∙ ap (λ b. one (b && is_held_by_others T a f)) (sym (list_any-last (λ x. file_eq x f) files g));
       writes = λ f. list_any-last (writes_to f) d.operations op ∙ or_false (list_any (writes_to f) d.operations) ∙ k.writes f;
+      numbers = counts_last T a 0 d.operations op k.numbers (subst (λ (u : ℕ). IsNext T a u (Some n)) (sym k.last) (subst (λ (m : ℕ). IsNext T m d.used (Some n)) k.author (next_least T d n e)));
+      last = last_used-last 0 d.operations op;
     }
 
 -- without a take
@@ -184,6 +233,8 @@ fair_looked T a files written d g h k = record {
   counted = λ f. k.counted f ∙ counted_looked T a files written d g f h k (file_eq g f) refl
       ∙ ap (λ b. one (b && is_held_by_others T a f)) (sym (list_any-last (λ x. file_eq x f) files g));
   writes = k.writes;
+  numbers = k.numbers;
+  last = k.last;
 }
 
 -- ---- steps
@@ -192,13 +243,17 @@ pub bind_has : {A B : Type 0} (r : Result A Refusal) (f : A → Result B Refusal
 bind_has (Ok x) f Q h = h x
 bind_has (Err e) f Q h = tt
 
+pub bind_eq : {A B : Type 0} (r : Result A Refusal) (f : A → Result B Refusal) (Q : B → Type 0) → ((x : A) → r ≡ Ok x → IfOk (f x) Q) → IfOk (r >>= f) Q
+bind_eq (Ok x) f Q h = h x refl
+bind_eq (Err e) f Q h = tt
+
 pub bind_with : {A B : Type 0} (r : Result A Refusal) (P : A → Type 0) (f : A → Result B Refusal) (Q : B → Type 0) → IfOk r P → ((x : A) → P x → IfOk (f x) Q) → IfOk (r >>= f) Q
 bind_with (Ok x) P f Q k h = h x k
 bind_with (Err e) P f Q k h = tt
 
 take_step : (T : Tree) (a : ℕ) (files : List FileId) (written : FileId → Bool) (d : DraftState) (g : FileId) (b : Bool) → needs_take T d g ≡ b → Fair T a files written d
     → IfOk (cond b (taken T d g) (Ok d)) (Fair T a (files ++ g ∷ []) written)
-take_step T a files written d g true h k = bind_has (next_body T d) _ _ (λ n. fair_taken T a files written d g n h k)
+take_step T a files written d g true h k = bind_eq (next_body T d) _ _ (λ n e. fair_taken T a files written d g n h e k)
 take_step T a files written d g false h k = fair_looked T a files written d g h k
 
 pub fair_take : (T : Tree) (a : ℕ) (files : List FileId) (written : FileId → Bool) (d : DraftState) (g : FileId) → Fair T a files written d → IfOk (with_take T d g) (Fair T a (files ++ g ∷ []) written)

@@ -11,4 +11,5 @@ pub mod Link
 pub mod Rename
 pub mod Remove
 pub mod Taking
+pub mod Counting
 pub mod Plan

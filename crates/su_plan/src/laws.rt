@@ -9,6 +9,7 @@ ghost use Rattle.su_plan.specs.declared.commands.Command.{Command};
 ghost use Rattle.su_plan.specs.Number.{least_free};
 ghost use Rattle.su_plan.specs.Plan.{draft};
 ghost use Rattle.su_plan.specs.Taking.{TakesWhatItMust};
+ghost use Rattle.su_plan.specs.Counting.{CountUp};
 
 /// Each list of names is the path of one spelling, and that is read as these names; nothing else is
 /// read.
@@ -28,4 +29,11 @@ pub fn numbers_are_least()
 pub fn files_are_taken_once()
     ensures { (ro : Membership) (T : Tree) (a : ℕ) (command : Command)
         → IfOk (draft ro T a command) (TakesWhatItMust T a) }
+{}
+
+/// Where the operations of a command make a body, they use the free numbers of the author's table
+/// one after another, from the least one on.
+pub fn numbers_are_counted_through()
+    ensures { (ro : Membership) (T : Tree) (a : ℕ) (command : Command)
+        → IfOk (draft ro T a command) (CountUp T a 0) }
 {}

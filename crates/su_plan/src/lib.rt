@@ -16,7 +16,9 @@ mod walks;
 mod write;
 
 pub use commands::Command;
-pub use laws::{files_are_taken_once, numbers_are_least, paths_have_one_spelling};
+pub use laws::{
+    files_are_taken_once, numbers_are_counted_through, numbers_are_least, paths_have_one_spelling,
+};
 pub use plans::{find, plan};
 
 #[cfg(test)]
