@@ -106,7 +106,8 @@ impl<R: Read + Drop, W: Write + Drop> Client<R, W> {
     fn get_item(&mut self, digest: Digest) -> Result<Vec<u8>, Refusal>
         ensures got { IfOk result (λ item. Exchanged (request.Get digest) self.old.link
             self.new.link (reply.Item item.items)) }
-        ensures refused { IfErr result (IsRefusal (request.Get digest) self.old.link self.new.link) }
+        ensures refused { IfErr result
+            (IsRefusal (request.Get digest) self.old.link self.new.link) }
         ensures failures { self.new.failures ≡ self.old.failures }
     {
         let request = Request::Get(digest);
