@@ -10,7 +10,7 @@ use su_bytes::Digest;
 pub const LONGEST_ITEM: usize = 70_000;
 
 /// Whether the bytes may be stored: 1 to 70,000 of them.
-pub(crate) fn is_item(bytes: &[u8]) -> bool
+pub fn is_item(bytes: &[u8]) -> bool
     ensures { result ≡ is_item bytes.now }
 {
     1 <= bytes.len() && bytes.len() <= LONGEST_ITEM

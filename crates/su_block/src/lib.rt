@@ -10,6 +10,6 @@ mod sources;
 
 pub use checked::Checked;
 pub use failures::Failures;
-pub use items::{LONGEST_ITEM, digest_of};
+pub use items::{LONGEST_ITEM, digest_of, is_item};
 pub use memory::MemoryBlocks;
 pub use sources::BlockSource;

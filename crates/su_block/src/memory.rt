@@ -3,6 +3,7 @@ ghost use Rattle.std.specs.Prelude.{◌≡◌, ◌⊎◌, ◌↔◌, ℕ, List, 
 ghost use Rattle.sha2.specs.Sha256.{sha256};
 ghost use Rattle.su_block.specs.Item.{is_item};
 ghost use Rattle.su_block.specs.Failure.{failures_after};
+ghost use Rattle.su_block.specs.Memory.{HasItemOf, held_under, held_with};
 ghost use Rattle.su_bytes.specs.declared.refusals.Refusal.TheVariants.{MissingBlock, TooBig, NoMemory};
 
 use crate::failures::Failures;
@@ -72,12 +73,34 @@ impl MemoryBlocks {
             failures: Failures::none(),
         }
     }
+
+    /// Holds an item under its digest, which the caller has computed. Where one is held there, that
+    /// one stays. `NoMemory` where there is no room for the item; then nothing changes.
+    pub fn hold(&mut self, alloc: Global, digest: Digest, item: &[u8]) -> Result<(), Refusal>
+        requires { sha256 item.now ≡ digest }
+        ensures held { OnOk result (HasItemOf self.new.items digest) }
+        // Under any other digest is held what was.
+        ensures under { OnOk result (held_under self.new.items
+            ≡ held_with (held_under self.old.items) item.now) }
+        ensures kept { (s : List ℕ) → Contains self.old.items s → Contains self.new.items s }
+        ensures more { (s : List ℕ) → Contains self.new.items s
+            → Contains self.old.items s ⊎ (s ≡ item.now) }
+        ensures refused { IfErr result (λ e. e ≡ NoMemory) }
+        ensures err { OnErr result (self.new ≡ self.old) }
+        ensures counted { self.new.failed ≡ self.old.failed }
+    {
+        if self.blocks.contains_key(digest.as_bytes()) {
+            return Ok(());
+        }
+        let copy = Vec::from_slice(alloc, item)?;
+        self.blocks.insert(*digest.as_bytes(), Item::new(copy))?;
+        Ok(())
+    }
 }
 
 /// It is checked, and refuses an item only where it holds none of that digest.
 impl BlockSource for MemoryBlocks {
     ghost use Rattle.std.specs.Prelude.{true, Contains};
-    ghost use Rattle.su_block.specs.Memory.{HasItemOf, held_under, held_with};
 
     ghost may_give = { λ m item. Contains m.items item };
 
@@ -123,11 +146,7 @@ impl BlockSource for MemoryBlocks {
             return Err(Refusal::TooBig);
         }
         let digest = digest_of(item);
-        if self.blocks.contains_key(digest.as_bytes()) {
-            return Ok(digest);
-        }
-        let copy = Vec::from_slice(alloc, item)?;
-        self.blocks.insert(*digest.as_bytes(), Item::new(copy))?;
+        self.hold(alloc, digest, item)?;
         Ok(digest)
     }
 

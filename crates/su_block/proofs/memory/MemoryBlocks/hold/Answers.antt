@@ -7,7 +7,7 @@ use Rattle.std.specs.Map.{values_of, lookup}
 use Rattle.sha2.specs.Sha256.{sha256}
 use Rattle.su_block.specs.Memory.{held_under, held_with}
 use Rattle.su_block.proofs.Holding.{found_has_digest, same_digest, equal_digest, under-insert, held-insert, kept-insert, more-insert, some_found, none_found, held_is, under_same, under_more}
-use Rattle.su_block.proofs.memory.MemoryBlocksBlockSource.put.Goals as goal
+use Rattle.su_block.proofs.memory.MemoryBlocks.hold.Goals as goal
 
 pub returns-then-contains_key-clause-held : goal.returns-then-contains_key-clause-held
 returns-then-contains_key-clause-held c =
@@ -20,13 +20,13 @@ pub invariant_of-self-2 : goal.invariant_of-self-2
 invariant_of-self-2 c =
     let key = c.as_bytes-2.result.now in
     let same = c.new.ensures ∙ c.in_ok-copy.ensures.items in
-    rw c.in_ok-insert.ensures.entries (under-insert (slice_cmp nat_cmp) key c.new.result (equal_digest key) (ap sha256 same ∙ sym c.digest_of-digest.ensures ∙ sym c.as_bytes-2.ensures) c.self.inside.blocks.entries c.self.invariant)
+    rw c.in_ok-insert.ensures.entries (under-insert (slice_cmp nat_cmp) key c.new.result (equal_digest key) (ap sha256 same ∙ c.requires ∙ sym c.as_bytes-2.ensures) c.self.inside.blocks.entries c.self.invariant)
 
 pub returns-clause-held : goal.returns-clause-held
 returns-clause-held c =
     let key = c.as_bytes-2.result.now in
     let same = c.new.ensures ∙ c.in_ok-copy.ensures.items in
-    (c.new.result, rw c.in_ok-insert.ensures.entries (held-insert (slice_cmp nat_cmp) key c.new.result c.self.inside.blocks.entries), ap sha256 same ∙ sym c.digest_of-digest.ensures)
+    (c.new.result, rw c.in_ok-insert.ensures.entries (held-insert (slice_cmp nat_cmp) key c.new.result c.self.inside.blocks.entries), ap sha256 same ∙ c.requires)
 
 pub returns-clause-kept : goal.returns-clause-kept
 returns-clause-kept c = λ s there.
@@ -49,7 +49,7 @@ pub returns-then-contains_key-clause-under : goal.returns-then-contains_key-clau
 returns-then-contains_key-clause-under c =
     let key = c.as_bytes.result.now in
     let some = some_found (lookup (is_at (slice_cmp nat_cmp key)) c.self.inside.blocks.entries) (sym c.contains_key.ensures ∙ c.if-contains_key.true) in
-    let own : sha256 c.args.item.now ≡ key = sym c.digest_of-digest.ensures ∙ sym c.as_bytes.ensures in
+    let own : sha256 c.args.item.now ≡ key = c.requires ∙ sym c.as_bytes.ensures in
     let there : held_under c.args.self.now.items (sha256 c.args.item.now) ≡ Some some.0 =
     ap (held_under c.args.self.now.items) own
     ∙ ap (λ m. held_under m.items key) (sym c.self.view_is)
@@ -61,7 +61,7 @@ pub returns-clause-under : goal.returns-clause-under
 returns-clause-under c =
     let key = c.as_bytes-2.result.now in
     let same = c.new.ensures ∙ c.in_ok-copy.ensures.items in
-    let own : sha256 c.new.result ≡ key = ap sha256 same ∙ sym c.digest_of-digest.ensures ∙ sym c.as_bytes-2.ensures in
+    let own : sha256 c.new.result ≡ key = ap sha256 same ∙ c.requires ∙ sym c.as_bytes-2.ensures in
     let absent = none_found (lookup (is_at (slice_cmp nat_cmp c.as_bytes.result.now)) c.self.inside.blocks.entries) (sym c.contains_key.ensures ∙ c.if-contains_key.false) in
     let none = subst (λ k. lookup (is_at (slice_cmp nat_cmp k)) c.self.inside.blocks.entries ≡ None) (c.as_bytes.ensures ∙ sym c.as_bytes-2.ensures) absent in
     let more = under_more key c.new.result own c.self.inside.blocks.entries c.self.invariant none in
