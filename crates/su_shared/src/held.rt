@@ -6,7 +6,7 @@ ghost use Rattle.su_book.specs.declared.events.Event.TheVariants.{Grant, Give};
 ghost use Rattle.su_book.specs.declared.steps.Act.TheVariants.{Stored};
 ghost use Rattle.su_book.specs.Machine.{Asks, IsRefused, IsRun, Stepped, count_of, stored_by};
 ghost use Rattle.su_shared.specs.Seats.{Learns};
-ghost use Rattle.su_shared.specs.Shares.{kept_of, kept_after, numbered, run_records, receipt_for, learned, IsOrderly, IsFresh, MayMeet, is_grant, Gives, nothing, AreAll, Knows, EachKnows, IsSeat, last_of};
+ghost use Rattle.su_shared.specs.Shares.{kept_of, kept_after, numbered, run_records, receipt_for, learned, IsOrderly, IsFresh, MayMeet, is_grant, Gives, TellsRecords, nothing, AreAll, Knows, EachKnows, IsSeat, last_of};
 
 use crate::cells::{BookName, Cells, Record};
 use crate::notes::{Notes, Receipt};
@@ -110,6 +110,7 @@ impl<N: BookName> Held<N> {
         ensures kept { OnOk result ((seat.old.kept ≡ kept_of seat.old.number self.old.book.journal)
             × (seat.new.kept ≡ kept_of seat.old.number self.new.book.journal)) }
         ensures gives { IfOk result (λ r. Gives event r.0 r.1) }
+        ensures tells { IfOk result (λ r. TellsRecords r.0) }
         ensures learns { IfOk result (λ r.
             IfSome r.1 (λ x. Learns seat.old.known x seat.new.known)) }
         ensures fresh { IfOk result (λ r. IsFresh seat.old.kept.top r.0) }

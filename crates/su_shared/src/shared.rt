@@ -7,7 +7,7 @@ ghost use Rattle.su_chain.specs.ChainEnd.{HasBadKey};
 ghost use Rattle.su_book.specs.declared.events.Event.TheVariants.{Grant};
 ghost use Rattle.su_book.specs.Machine.{IsCapacity, IsRun, count_of};
 ghost use Rattle.su_shared.specs.Seats.{known_at, Learns};
-ghost use Rattle.su_shared.specs.Shares.{nothing, kept_after, after_commit, after_give, learned, Gives, IsFresh, MayMeet, EachStands};
+ghost use Rattle.su_shared.specs.Shares.{nothing, kept_after, after_commit, after_give, learned, Gives, IsFresh, TellsRecords, MayMeet, EachStands};
 
 use crate::cells::{BookName, Cells, Record};
 use crate::held::Held;
@@ -70,6 +70,7 @@ impl<N: BookName> SharedBook<N> {
         seat: &mut Seat<N>,
     ) -> Result<(BookReply, Option<Receipt<N>>), Refusal>
         ensures gives { IfOk result (λ r. Gives Grant r.0 r.1) }
+        ensures tells { IfOk result (λ r. TellsRecords r.0) }
         ensures fresh { IfOk result (λ r. IsFresh seat.old.kept.top r.0) }
         ensures seat { IfOk result (λ r. seat.new ≡ record {
           number = seat.old.number;
