@@ -159,6 +159,13 @@ Tells cs (Stored n _) (reply.Stored number) = number ≡ n
 Tells cs Given reply.Given = Unit {0}
 Tells _ _ _ = ⊥
 
+-- of a grant it tells how many records there are, and the users' last ones
+abbrev pub TellsRecords : BookReply → Type 0
+TellsRecords (reply.Granted count last) =
+    (cs : List Commit) × (count ≡ length cs) × (last.items ≡ last_numbers cs)
+TellsRecords (reply.Stored number) = Unit {0}
+TellsRecords reply.Given = Unit {0}
+
 -- A seat made the step that the event asks for, and was told of it.
 pub record Stepped (b : BookState) (seat : ℕ) (e : Event) (b' : BookState) (r : BookReply)
     : Type 0 where

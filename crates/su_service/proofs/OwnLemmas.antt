@@ -16,10 +16,10 @@ use Rattle.su_book.specs.declared.events.BookReply.{BookReply}
 use Rattle.su_book.specs.declared.events.BookReply.TheVariants as told
 use Rattle.su_book.specs.declared.steps.Act.{Act}
 use Rattle.su_book.specs.declared.steps.Act.TheVariants.{Granted, Stored, Given}
-use Rattle.su_book.specs.Machine.{BookState, records_of, stored_by, Tells, MayAct, Stepped, IsRefused}
+use Rattle.su_book.specs.Machine.{BookState, records_of, stored_by, Tells, TellsRecords, MayAct, Stepped, IsRefused}
 use Rattle.su_book.proofs.Public.{records_push, grant_asks, commit_asks, give_asks}
 use Rattle.su_service.specs.declared.own.TheConstants.{SEAT}
-use Rattle.su_service.specs.Kept.{TellsRecords, bytes_of}
+use Rattle.su_service.specs.Kept.{bytes_of}
 use Rattle.su_service.specs.Own.{Owned, Fetches, record_at, Answers}
 
 -- ---- what is told

@@ -5,7 +5,7 @@ mod laws;
 mod own;
 
 pub use laws::{replies_are_the_machines, what_is_given_is_kept};
-pub use own::{OwnService, SEAT};
+pub use own::{OwnService, SEAT, reply_or_refusal, told};
 
 #[cfg(test)]
 mod tests;

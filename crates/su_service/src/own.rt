@@ -1,8 +1,8 @@
 // A service that owns what it serves.
 ghost use Rattle.std.specs.Prelude.{◌≡◌};
-ghost use Rattle.su_book.specs.Machine.{count_of};
+ghost use Rattle.su_book.specs.Machine.{TellsRecords, count_of};
 ghost use Rattle.su_message.specs.declared.requests.Request.TheVariants as request;
-ghost use Rattle.su_service.specs.Kept.{TellsRecords, said};
+ghost use Rattle.su_service.specs.Kept.{said};
 ghost use Rattle.su_service.specs.Own.{Answers, reply_of};
 
 use std::alloc::Global;
@@ -114,8 +114,8 @@ impl OwnService {
     }
 }
 
-/// The reply that tells what a book tells.
-fn told(reply: BookReply) -> Reply
+/// Returns the reply that tells what a book tells.
+pub fn told(reply: BookReply) -> Reply
     requires { TellsRecords reply }
     ensures { result ≡ reply_of reply }
 {
@@ -126,8 +126,8 @@ fn told(reply: BookReply) -> Reply
     }
 }
 
-/// The reply, or the one that tells of the refusal.
-fn reply_or_refusal(reply: Result<Reply, Refusal>) -> Reply
+/// Returns the reply, or the one that tells of the refusal.
+pub fn reply_or_refusal(reply: Result<Reply, Refusal>) -> Reply
     ensures { result ≡ said reply }
 {
     match reply {

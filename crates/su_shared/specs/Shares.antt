@@ -12,7 +12,7 @@ use Rattle.su_book.specs.declared.events.Event.{Event}
 use Rattle.su_book.specs.declared.events.Event.TheVariants as event
 use Rattle.su_book.specs.declared.events.BookReply.{BookReply}
 use Rattle.su_book.specs.declared.events.BookReply.TheVariants as reply
-use Rattle.su_book.specs.Machine.{BookState, IsRun, records_of, holder_of, count_of, last_numbers}
+use Rattle.su_book.specs.Machine.{BookState, IsRun, records_of, holder_of, count_of}
 use Rattle.su_shared.specs.declared.cells.Record.{Record}
 use Rattle.su_shared.specs.declared.seats.Kept.{Kept}
 use Rattle.su_shared.specs.Seats.{SeatView, known_at}
@@ -87,13 +87,6 @@ Gives (event.Commit bytes) (reply.Stored n) receipt =
     receipt ≡ Some (record { number = n; bytes = bytes.items })
 Gives event.Give reply.Given receipt = receipt ≡ None
 Gives _ _ _ = ⊥
-
--- of a grant it tells how many records there are, and the users' last ones
-abbrev pub TellsRecords : BookReply → Type 0
-TellsRecords (reply.Granted count last) =
-    (cs : List Commit) × (count ≡ length cs) × (last.items ≡ last_numbers cs)
-TellsRecords (reply.Stored number) = Unit {0}
-TellsRecords reply.Given = Unit {0}
 
 -- what a seat knows after a receipt
 abbrev pub learned : List (Option Record) → Option Record → List (Option Record)

@@ -4,9 +4,9 @@ ghost use Rattle.su_bytes.specs.declared.refusals.Refusal.TheVariants.{NoMemory,
 ghost use Rattle.su_version.specs.Commit.{Commit, commit_bytes};
 ghost use Rattle.su_book.specs.declared.events.Event.TheVariants.{Grant, Give};
 ghost use Rattle.su_book.specs.declared.steps.Act.TheVariants.{Stored};
-ghost use Rattle.su_book.specs.Machine.{Asks, IsRefused, IsRun, Stepped, count_of, stored_by};
+ghost use Rattle.su_book.specs.Machine.{Asks, IsRefused, IsRun, Stepped, TellsRecords, count_of, stored_by};
 ghost use Rattle.su_shared.specs.Seats.{Learns};
-ghost use Rattle.su_shared.specs.Shares.{kept_of, kept_after, numbered, run_records, receipt_for, learned, IsOrderly, IsFresh, MayMeet, is_grant, Gives, TellsRecords, nothing, AreAll, Knows, EachKnows, IsSeat, last_of};
+ghost use Rattle.su_shared.specs.Shares.{kept_of, kept_after, numbered, run_records, receipt_for, learned, IsOrderly, IsFresh, MayMeet, is_grant, Gives, nothing, AreAll, Knows, EachKnows, IsSeat, last_of};
 
 use crate::cells::{BookName, Cells, Record};
 use crate::notes::{Notes, Receipt};

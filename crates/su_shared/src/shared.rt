@@ -5,9 +5,9 @@ ghost use Rattle.once_cell.specs.Once.{Agrees};
 ghost use Rattle.su_bytes.specs.declared.refusals.Refusal.TheVariants.{BadNumber, BadKey, NoMemory};
 ghost use Rattle.su_chain.specs.ChainEnd.{HasBadKey};
 ghost use Rattle.su_book.specs.declared.events.Event.TheVariants.{Grant};
-ghost use Rattle.su_book.specs.Machine.{IsCapacity, IsRun, count_of};
+ghost use Rattle.su_book.specs.Machine.{IsCapacity, IsRun, TellsRecords, count_of};
 ghost use Rattle.su_shared.specs.Seats.{known_at, Learns};
-ghost use Rattle.su_shared.specs.Shares.{nothing, kept_after, after_commit, after_give, learned, Gives, IsFresh, TellsRecords, MayMeet, EachStands};
+ghost use Rattle.su_shared.specs.Shares.{nothing, kept_after, after_commit, after_give, learned, Gives, IsFresh, MayMeet, EachStands};
 
 use crate::cells::{BookName, Cells, Record};
 use crate::held::Held;

@@ -1,7 +1,7 @@
 use Rattle.std.proofs.Common.{◌<◌, ◌^◌, subst, sym, arith}
 use Rattle.su_book.specs.declared.events.BookReply.TheVariants.{Granted}
 use Rattle.su_message.specs.LastNumbers.{AreLast}
-use Rattle.su_service.specs.Kept.{TellsRecords}
+use Rattle.su_book.specs.Machine.{TellsRecords}
 use Rattle.su_service.proofs.LastLemmas.{are_last}
 use Rattle.su_service.proofs.own.told.Goals as goal
 
