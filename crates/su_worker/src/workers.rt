@@ -1,0 +1,120 @@
+// The service of a worker.
+ghost use Rattle.std.specs.Prelude.{◌≡◌};
+ghost use Rattle.su_message.specs.declared.requests.Request.TheVariants as request;
+ghost use Rattle.su_service.specs.Kept.{said};
+ghost use Rattle.su_worker.specs.Worker.{Answers};
+
+use std::alloc::Global;
+use std::marker::Model;
+use std::sync::Wait;
+use su_bytes::{Digest, Refusal};
+use su_message::{Bytes, Reply, Request};
+use su_service::{reply_or_refusal, told};
+use su_session::Service;
+use su_shards::SharedBlocks;
+use su_shared::{BookName, Seat, SharedBook};
+
+/// A service over a book and items that are shared, which asks the book from a seat of its own. Its
+/// model is that seat.
+#[derive(Drop)]
+pub struct Worker<'a, N: BookName, R: Wait> {
+    book: &'a SharedBook<N>,
+    blocks: &'a SharedBlocks,
+    seat: Seat<N>,
+    rt: &'a R,
+}
+
+impl<'a, N: BookName, R: Wait> Model for Worker<'a, N, R> {
+    ghost use Rattle.su_shared.specs.Seats.{SeatView};
+
+    ghost Value = { SeatView };
+
+    ghost view = { λ w. w.seat };
+}
+
+impl<'a, N: BookName, R: Wait> Worker<'a, N, R> {
+    /// Makes the service of a seat of this book.
+    pub fn new(
+        rt: &'a R,
+        book: &'a SharedBook<N>,
+        blocks: &'a SharedBlocks,
+        seat: Seat<N>,
+    ) -> Worker<'a, N, R>
+        ensures { result ≡ seat }
+    {
+        Worker {
+            book,
+            blocks,
+            seat,
+            rt,
+        }
+    }
+
+    /// Hands the seat back, with which the book is closed.
+    pub fn into_seat(self) -> Seat<N>
+        ensures { result ≡ self.entry }
+    {
+        self.seat
+    }
+
+    fn grant(&mut self, alloc: Global) -> Result<Reply, Refusal>
+        ensures { Answers self.old request.Grant (said result) self.new }
+    {
+        let (reply, _receipt) = self.book.grant(self.rt, alloc, &mut self.seat)?;
+        Ok(told(reply))
+    }
+
+    fn commit(&mut self, alloc: Global, commit: &Bytes) -> Result<Reply, Refusal>
+        ensures { Answers self.old (request.Commit commit.now) (said result) self.new }
+    {
+        let bytes = commit.as_slice();
+        let (number, _receipt) = self.book.commit(self.rt, alloc, &mut self.seat, bytes)?;
+        Ok(Reply::Stored(number))
+    }
+
+    fn give(&mut self, alloc: Global) -> Result<Reply, Refusal>
+        ensures { Answers self.old request.Give (said result) self.new }
+    {
+        self.book.give(self.rt, alloc, &mut self.seat)?;
+        Ok(Reply::Given)
+    }
+
+    fn fetch(&mut self, alloc: Global, number: u64) -> Result<Reply, Refusal>
+        ensures { Answers self.old (request.Fetch number) (said result) self.new }
+    {
+        let Some(found) = self.book.published(&mut self.seat, number) else {
+            return Ok(Reply::Nothing);
+        };
+        let copy = Bytes::copy_of(alloc, found.bytes())?;
+        Ok(Reply::Kept(copy))
+    }
+
+    fn put(&self, alloc: Global, item: &Bytes) -> Result<Reply, Refusal>
+        ensures { Answers self.now (request.Put item.now) (said result) self.now }
+    {
+        let digest = self.blocks.put(self.rt, alloc, item.as_slice())?;
+        Ok(Reply::PutDone(digest))
+    }
+
+    fn get(&self, alloc: Global, digest: Digest) -> Result<Reply, Refusal>
+        ensures { Answers self.now (request.Get digest) (said result) self.now }
+    {
+        let item = self.blocks.get(self.rt, alloc, digest)?;
+        Ok(Reply::Item(Bytes::new(item)))
+    }
+}
+
+impl<'a, N: BookName, R: Wait> Service for Worker<'a, N, R> {
+    ghost answers = { Answers };
+
+    fn answer(&mut self, alloc: Global, request: &Request) -> Reply {
+        match request {
+            Request::Grant => reply_or_refusal(self.grant(alloc)),
+            Request::Commit(commit) => reply_or_refusal(self.commit(alloc, commit)),
+            Request::Give => reply_or_refusal(self.give(alloc)),
+            Request::Fetch(number) => reply_or_refusal(self.fetch(alloc, *number)),
+            Request::Put(item) => reply_or_refusal(self.put(alloc, item)),
+            Request::Get(digest) => reply_or_refusal(self.get(alloc, *digest)),
+        }
+    }
+}
