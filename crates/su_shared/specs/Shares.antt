@@ -141,6 +141,16 @@ pub record MayMeet (k : Kept) (seat : ℕ) (grant : Bool) (refusal : Refusal) : 
   pub without : k.turn ≡ false → grant ≡ false
       → (refusal ≡ NotYourTurn) ⊎ ((refusal ≡ NoMemory) ⊎ (refusal ≡ BookFull))
 
+-- who takes the turn may be refused because another seat has it, for want of memory, or because the
+-- seat was told something else than is kept for it
+abbrev pub IsGrantRefusal : Refusal → Type 0
+IsGrantRefusal refusal =
+    ((other : ℕ) × (refusal ≡ Busy other)) ⊎ ((refusal ≡ NoMemory) ⊎ (refusal ≡ BookFull))
+
+-- who gives it back, because it hasn't the turn, or for the latter reason
+abbrev pub IsGiveRefusal : Refusal → Type 0
+IsGiveRefusal refusal = (refusal ≡ NotYourTurn) ⊎ (refusal ≡ BookFull)
+
 -- ---- all seats
 
 -- what is known under the number of one of these records is that record

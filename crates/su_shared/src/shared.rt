@@ -7,7 +7,7 @@ ghost use Rattle.su_chain.specs.ChainEnd.{HasBadKey};
 ghost use Rattle.su_book.specs.declared.events.Event.TheVariants.{Grant};
 ghost use Rattle.su_book.specs.Machine.{IsCapacity, IsRun, TellsRecords, count_of};
 ghost use Rattle.su_shared.specs.Seats.{known_at, Learns};
-ghost use Rattle.su_shared.specs.Shares.{nothing, kept_after, after_commit, after_give, learned, Gives, IsFresh, MayMeet, EachStands};
+ghost use Rattle.su_shared.specs.Shares.{nothing, kept_after, after_commit, after_give, learned, Gives, IsFresh, IsGrantRefusal, IsGiveRefusal, MayMeet, EachStands};
 
 use crate::cells::{BookName, Cells, Record};
 use crate::held::Held;
@@ -80,6 +80,7 @@ impl<N: BookName> SharedBook<N> {
         ensures learns { IfOk result (λ r.
             IfSome r.1 (λ x. Learns seat.old.known x seat.new.known)) }
         ensures meets { IfErr result (λ e. MayMeet seat.old.kept seat.old.number true e) }
+        ensures refused { IfErr result IsGrantRefusal }
         ensures err { OnErr result (seat.new ≡ seat.old) }
     {
         self.held
@@ -135,6 +136,7 @@ impl<N: BookName> SharedBook<N> {
         }) }
         ensures holder { OnOk result (seat.old.kept.turn ≡ true) }
         ensures meets { IfErr result (λ e. MayMeet seat.old.kept seat.old.number false e) }
+        ensures refused { IfErr result IsGiveRefusal }
         ensures err { OnErr result (seat.new ≡ seat.old) }
     {
         let (_, _) = self
