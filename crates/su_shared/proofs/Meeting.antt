@@ -1,13 +1,15 @@
 -- What a seat may be refused.
 use Rattle.std.proofs.Common.{◌≡◌, ◌≢◌, ◌⊎◌, ℕ, ◌==◌, Bool, true, false, List, Option, None, Some, refl, ap, sym, ◌∙◌, subst, arith, inl, inr}
 use Rattle.std.proofs.lemmas.Bool.Decides.{nat_tests}
+use Rattle.std.specs.Prelude.{Result, Err}
 use Rattle.su_bytes.specs.declared.refusals.Refusal.{Refusal}
 use Rattle.su_bytes.specs.declared.refusals.Refusal.TheVariants.{Busy, NotYourTurn, BookFull, NoMemory}
 use Rattle.su_book.specs.declared.events.Event.{Event}
 use Rattle.su_book.specs.declared.events.Event.TheVariants as event
 use Rattle.su_book.specs.Machine.{BookState, IsUnfit, IsRefused, holder_of}
 use Rattle.su_shared.specs.declared.seats.Kept.{Kept}
-use Rattle.su_shared.specs.Shares.{MayMeet, is_grant, has_turn}
+use Rattle.std.specs.Global.{Vec}
+use Rattle.su_shared.specs.Shares.{IsCommitRefusal, MayMeet, is_grant, has_turn}
 
 has_no_turn : (seat : ℕ) (h : Option ℕ) → h ≢ Some seat → has_turn seat h ≡ false
 has_no_turn seat None none = refl
@@ -73,3 +75,18 @@ module _ (b : BookState) (seat : ℕ) (k : Kept) (is : k.turn ≡ has_turn seat 
   meets e x (inl refused) = refused_meets e x refused
   meets e x (inr (inl none)) = no_memory_meets k seat (is_grant e) x none.0
   meets e x (inr (inr full)) = full_meets k seat (is_grant e) x full.0
+
+-- ---- the bytes of a commit
+
+-- a seat that isn't the book's is refused so, and one that is as the book or the lock refuses it
+pub refused_commit : {X : Type 0} (b : BookState) (n : ℕ) (same : Vec ℕ) (bytes : List ℕ) (e : Refusal) (Is : Type 0) → same.items ≡ bytes
+    → Is ⊎ (◌≡◌ {A = Result X Refusal} (Err e) (Err BookFull))
+    → (Is → IsRefused b n (event.Commit same) e ⊎
+      (((e ≡ NoMemory) × (event.Commit same ≢ event.Give)) ⊎ ((e ≡ BookFull) × (event.Commit same ≢ event.Grant) × (event.Commit same ≢ event.Give))))
+    → IsCommitRefusal n bytes e
+refused_commit b n same bytes e Is spelled (inr full) refused = let is : e ≡ BookFull = cc in inr (inr is)
+refused_commit b n same bytes e Is spelled (inl is) refused = elim (refused is) [
+  | inl by_book ↦ inl (b, same, spelled, by_book)
+  | inr (inl none) ↦ inr (inl none.0)
+  | inr (inr full) ↦ inr (inr full.0)
+]

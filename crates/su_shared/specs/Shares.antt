@@ -2,6 +2,7 @@
 -- own.)
 use Rattle.std.specs.Prelude.{◌≡◌, ◌≢◌, ◌⊎◌, ℕ, ◌+◌, ◌-◌, ◌<◌, ◌≤◌, ◌==◌, Bool, true, false, List, [], ◌∷◌, length, Option, Some, None, MatchOption, IfSome, slice_get, slice_set, slice_index_or, max, if◌then◌else◌}
 use Rattle.std.specs.List.{sum_by}
+use Rattle.std.specs.Global.{Vec}
 use Rattle.su_bytes.specs.declared.refusals.Refusal.{Refusal}
 use Rattle.su_bytes.specs.declared.refusals.Refusal.TheVariants.{Busy, NotYourTurn, BookFull, NoMemory}
 use Rattle.su_version.specs.Commit.{Commit, commit_bytes}
@@ -12,7 +13,7 @@ use Rattle.su_book.specs.declared.events.Event.{Event}
 use Rattle.su_book.specs.declared.events.Event.TheVariants as event
 use Rattle.su_book.specs.declared.events.BookReply.{BookReply}
 use Rattle.su_book.specs.declared.events.BookReply.TheVariants as reply
-use Rattle.su_book.specs.Machine.{BookState, IsRun, records_of, holder_of, count_of}
+use Rattle.su_book.specs.Machine.{BookState, IsRefused, IsRun, records_of, holder_of, count_of}
 use Rattle.su_shared.specs.declared.cells.Record.{Record}
 use Rattle.su_shared.specs.declared.seats.Kept.{Kept}
 use Rattle.su_shared.specs.Seats.{SeatView, known_at}
@@ -147,7 +148,15 @@ abbrev pub IsGrantRefusal : Refusal → Type 0
 IsGrantRefusal refusal =
     ((other : ℕ) × (refusal ≡ Busy other)) ⊎ ((refusal ≡ NoMemory) ⊎ (refusal ≡ BookFull))
 
--- who gives it back, because it hasn't the turn, or for the latter reason
+-- who hands in the bytes of a commit, as some book refuses them to this seat, or for the latter
+-- reasons
+abbrev pub IsCommitRefusal : ℕ → List ℕ → Refusal → Type 0
+IsCommitRefusal seat bytes refusal =
+    ((b : BookState) × (same : Vec ℕ) × (same.items ≡ bytes)
+    × IsRefused b seat (event.Commit same) refusal)
+    ⊎ ((refusal ≡ NoMemory) ⊎ (refusal ≡ BookFull))
+
+-- who gives the turn back, because it hasn't it, or because the seat was told something else
 abbrev pub IsGiveRefusal : Refusal → Type 0
 IsGiveRefusal refusal = (refusal ≡ NotYourTurn) ⊎ (refusal ≡ BookFull)
 

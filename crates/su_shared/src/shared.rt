@@ -7,7 +7,7 @@ ghost use Rattle.su_chain.specs.ChainEnd.{HasBadKey};
 ghost use Rattle.su_book.specs.declared.events.Event.TheVariants.{Grant};
 ghost use Rattle.su_book.specs.Machine.{IsCapacity, IsRun, TellsRecords, count_of};
 ghost use Rattle.su_shared.specs.Seats.{known_at, Learns};
-ghost use Rattle.su_shared.specs.Shares.{nothing, kept_after, after_commit, after_give, learned, Gives, IsFresh, IsGrantRefusal, IsGiveRefusal, MayMeet, EachStands};
+ghost use Rattle.su_shared.specs.Shares.{nothing, kept_after, after_commit, after_give, learned, Gives, IsFresh, IsGrantRefusal, IsCommitRefusal, IsGiveRefusal, MayMeet, EachStands};
 
 use crate::cells::{BookName, Cells, Record};
 use crate::held::Held;
@@ -108,6 +108,7 @@ impl<N: BookName> SharedBook<N> {
         ensures learns { IfOk result (λ r. Learns seat.old.known r.1 seat.new.known) }
         ensures holder { OnOk result (seat.old.kept.turn ≡ true) }
         ensures meets { IfErr result (λ e. MayMeet seat.old.kept seat.old.number false e) }
+        ensures refused { IfErr result (λ e. IsCommitRefusal seat.old.number bytes.now e) }
         ensures err { OnErr result (seat.new ≡ seat.old) }
     {
         let Ok(bytes) = Vec::from_slice(alloc, bytes) else {

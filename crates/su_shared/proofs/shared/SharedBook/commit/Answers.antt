@@ -1,0 +1,10 @@
+use Rattle.std.proofs.Common.{◌≡◌}
+use Rattle.std.proofs.lemmas.Result.{err_from_is_err_and}
+use Rattle.su_bytes.specs.declared.refusals.Refusal.TheVariants.{BookFull}
+use Rattle.su_shared.proofs.Meeting.{refused_commit}
+use Rattle.su_shared.proofs.shared.SharedBook.commit.Goals as goal
+
+pub returns-in_err-reply-clause-refused : goal.returns-in_err-reply-clause-refused
+returns-in_err-reply-clause-refused g c =
+    let p = err_from_is_err_and c.from_residual.result c.from_residual.ensures.1 in
+    rw (p.1, p.2) (refused_commit c.deref_mut.result.now.book c.args.seat.now.number c.in-Ok.bytes c.args.bytes.now c.in_err-reply.field-0.0 _ c.in-Ok.ensures.items c.in_err-reply.ensures.other c.in_err-reply.ensures.refused)
