@@ -15,7 +15,7 @@ use Rattle.su_message.specs.declared.replies.Reply.TheVariants as reply
 use Rattle.su_session.specs.Answer.{refusal_reply}
 use Rattle.su_shared.specs.declared.cells.Record.{Record}
 use Rattle.su_shared.specs.Seats.{SeatView, known_at, Learns}
-use Rattle.su_shared.specs.Shares.{after_grant, after_commit, after_give, learned, MayMeet}
+use Rattle.su_shared.specs.Shares.{after_grant, after_commit, after_give, learned, IsGrantRefusal, IsCommitRefusal, IsGiveRefusal, MayMeet}
 
 -- ---- the turn and commits
 
@@ -55,9 +55,12 @@ pub record HandsBack (s : SeatView) (r : Reply) (t : SeatView) : Type 0 where
   pub holder : s.kept.turn ≡ true
   pub seat : t ≡ record { number = s.number; kept = after_give s.kept; known = s.known }
 
--- it is refused, as a seat that was told so may be, and the seat stays as it was
-pub record Meets (s : SeatView) (grant : Bool) (r : Reply) (t : SeatView) : Type 0 where
+-- It is refused for a reason of this kind, as a seat that was told so may be, and the seat stays as
+-- it was.
+pub record Meets (s : SeatView) (grant : Bool) (IsReason : Refusal → Type 0) (r : Reply)
+    (t : SeatView) : Type 0 where
   pub refusal : Refusal
+  pub reason : IsReason refusal
   pub meets : MayMeet s.kept s.number grant refusal
   pub reply_is : r ≡ refusal_reply refusal
   pub same : t ≡ s
@@ -97,9 +100,10 @@ Gets digest r =
 
 -- What may be answered: the seat before it, the request, the reply, the seat after it.
 abbrev pub Answers : SeatView → Request → Reply → SeatView → Type 0
-Answers s request.Grant r t = Grants s r t ⊎ Meets s true r t
-Answers s (request.Commit bytes) r t = Stores s bytes r t ⊎ Meets s false r t
-Answers s request.Give r t = HandsBack s r t ⊎ Meets s false r t
+Answers s request.Grant r t = Grants s r t ⊎ Meets s true IsGrantRefusal r t
+Answers s (request.Commit bytes) r t =
+    Stores s bytes r t ⊎ Meets s false (IsCommitRefusal s.number bytes) r t
+Answers s request.Give r t = HandsBack s r t ⊎ Meets s false IsGiveRefusal r t
 Answers s (request.Fetch n) r t = Reads s n r t ⊎ FindsNothing s n r t
 Answers s (request.Put item) r t = Puts (is_item item) item r × (t ≡ s)
 Answers s (request.Get digest) r t = Gets digest r × (t ≡ s)

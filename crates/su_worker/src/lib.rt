@@ -6,3 +6,6 @@ mod workers;
 
 pub use gates::{Gate, Gated, OpenGate};
 pub use workers::Worker;
+
+#[cfg(test)]
+mod tests;
