@@ -32,12 +32,7 @@ impl SharedBlocks {
 
     /// Gets the item of a digest. `MissingBlock` where there is none; `NoMemory` where there is no
     /// room for the item.
-    pub fn get(
-        &self,
-        rt: &impl Wait,
-        alloc: Global,
-        digest: Digest,
-    ) -> Result<Vec<u8>, Refusal>
+    pub fn get(&self, rt: &impl Wait, alloc: Global, digest: Digest) -> Result<Vec<u8>, Refusal>
         ensures checked { IfOk result (λ item. sha256 item.items ≡ digest) }
         ensures refused { IfErr result (λ e. (e ≡ MissingBlock) ⊎ (e ≡ NoMemory)) }
     {

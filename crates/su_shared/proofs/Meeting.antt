@@ -82,7 +82,7 @@ module _ (b : BookState) (seat : ℕ) (k : Kept) (is : k.turn ≡ has_turn seat 
 pub refused_commit : {X : Type 0} (b : BookState) (n : ℕ) (same : Vec ℕ) (bytes : List ℕ) (e : Refusal) (Is : Type 0) → same.items ≡ bytes
     → Is ⊎ (◌≡◌ {A = Result X Refusal} (Err e) (Err BookFull))
     → (Is → IsRefused b n (event.Commit same) e ⊎
-      (((e ≡ NoMemory) × (event.Commit same ≢ event.Give)) ⊎ ((e ≡ BookFull) × (event.Commit same ≢ event.Grant) × (event.Commit same ≢ event.Give))))
+    (((e ≡ NoMemory) × (event.Commit same ≢ event.Give)) ⊎ ((e ≡ BookFull) × (event.Commit same ≢ event.Grant) × (event.Commit same ≢ event.Give))))
     → IsCommitRefusal n bytes e
 refused_commit b n same bytes e Is spelled (inr full) refused = let is : e ≡ BookFull = cc in inr (inr is)
 refused_commit b n same bytes e Is spelled (inl is) refused = elim (refused is) [
