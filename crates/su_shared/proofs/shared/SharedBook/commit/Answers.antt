@@ -1,6 +1,4 @@
-use Rattle.std.proofs.Common.{◌≡◌}
 use Rattle.std.proofs.lemmas.Result.{err_from_is_err_and}
-use Rattle.su_bytes.specs.declared.refusals.Refusal.TheVariants.{BookFull}
 use Rattle.su_shared.proofs.Meeting.{refused_commit}
 use Rattle.su_shared.proofs.shared.SharedBook.commit.Goals as goal
 
