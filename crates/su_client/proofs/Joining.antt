@@ -35,21 +35,31 @@ module _ (x : List ℕ) where
       → IsToldOf waits' known' x → IsToldOf waits known x
   told_before message is waits input waits' None known' next read told = tt
   told_before message is waits input waits' (Some bytes) None next read told = absurd read
-  told_before message is waits input waits' (Some bytes) (Some left) next read (messages, rest, splits, (k, within, is_x)) = (message ∷ messages, rest, record {
-    whole = ap (λ b. waits ++ b) read ∙ sym (append_assoc waits input left) ∙ ap (λ b. b ++ left) next ∙ append_assoc (frame message) waits' left
-        ∙ ap (λ b. frame message ++ b) splits.whole ∙ sym (append_assoc (frame message) (flat_map frame messages) rest);
-    each = All-cons IsMessage message messages is splits.each;
-  }, (suc k, omega (arith, within), is_x))
+  told_before message is waits input waits' (Some bytes) (Some left) next read (messages, rest, splits, (k, within, is_x)) = (
+    message ∷ messages,
+    rest,
+    record {
+      whole = ap (λ b. waits ++ b) read ∙ sym (append_assoc waits input left) ∙ ap (λ b. b ++ left) next ∙ append_assoc (frame message) waits' left
+          ∙ ap (λ b. frame message ++ b) splits.whole ∙ sym (append_assoc (frame message) (flat_map frame messages) rest);
+      each = All-cons IsMessage message messages is splits.each;
+    },
+    (suc k, omega (arith, within), is_x),
+  )
 
   told_now : (message : List ℕ) → IsMessage message → (waits input waits' : List ℕ) (known known' : Option (List ℕ)) → waits ++ input ≡ frame message ++ waits' → Consumes known known' input
       → message ≡ reply_bytes (Item x) → IsToldOf waits known x
   told_now message is waits input waits' None known' next read e = tt
   told_now message is waits input waits' (Some bytes) None next read e = absurd read
-  told_now message is waits input waits' (Some bytes) (Some left) next read e = (message ∷ [], waits' ++ left, record {
-    whole = ap (λ b. waits ++ b) read ∙ sym (append_assoc waits input left) ∙ ap (λ b. b ++ left) next ∙ append_assoc (frame message) waits' left
-        ∙ ap (λ b. b ++ (waits' ++ left)) (sym (append-nil (frame message)));
-    each = All-cons IsMessage message [] is (All-nil IsMessage);
-  }, (0, omega (arith), e))
+  told_now message is waits input waits' (Some bytes) (Some left) next read e = (
+    message ∷ [],
+    waits' ++ left,
+    record {
+      whole = ap (λ b. waits ++ b) read ∙ sym (append_assoc waits input left) ∙ ap (λ b. b ++ left) next ∙ append_assoc (frame message) waits' left
+          ∙ ap (λ b. b ++ (waits' ++ left)) (sym (append-nil (frame message)));
+      each = All-cons IsMessage message [] is (All-nil IsMessage);
+    },
+    (0, omega (arith), e),
+  )
 
   -- what may be given after a call might be given before it
   pub given_before : (q : Request) (a b : LinkState) (r : Reply) → Exchanged q a b r → MayGive b x → MayGive a x

@@ -28,8 +28,12 @@ pub struct Client<R: Read, W: Write> {
 impl<R: Read + Drop, W: Write + Drop> Client<R, W> {
     /// Makes the client over a reader and a writer.
     pub fn new(alloc: Global, reader: R, writer: W) -> Client<R, W>
-        ensures link { result.link ≡ record { known = R.remaining reader;
-            held = W.contents writer; waits = []; failed = false } }
+        ensures link { result.link ≡ record {
+          known = R.remaining reader;
+          held = W.contents writer;
+          waits = [];
+          failed = false;
+        } }
     {
         Client {
             link: Link::new(alloc, reader, writer),

@@ -33,15 +33,23 @@ impl<R: Read, W: Write> Model for Link<R, W> {
 
     ghost Value = { LinkState };
 
-    ghost view = { λ l. record { known = R.remaining l.reader; held = W.contents l.writer;
-        waits = l.frames; failed = l.failed } };
+    ghost view = { λ l. record {
+      known = R.remaining l.reader;
+      held = W.contents l.writer;
+      waits = l.frames;
+      failed = l.failed;
+    } };
 }
 
 impl<R: Read + Drop, W: Write + Drop> Link<R, W> {
     /// Makes the link over a reader and a writer.
     pub fn new(alloc: Global, reader: R, writer: W) -> Link<R, W>
-        ensures { result ≡ record { known = R.remaining reader; held = W.contents writer;
-            waits = []; failed = false } }
+        ensures { result ≡ record {
+          known = R.remaining reader;
+          held = W.contents writer;
+          waits = [];
+          failed = false;
+        } }
     {
         Link {
             reader,

@@ -6,8 +6,11 @@ use su_block::{BlockSource, digest_of};
 use su_bytes::Refusal;
 
 const TURN_TAKEN: &[u8] = b"\x00\x00\x00\x0a\xff\x1f\x00\x00\x00\x00\x00\x00\x00\x07";
+
 const NOT_YOUR_TURN: &[u8] = b"\x00\x00\x00\x0a\xff\x20\x00\x00\x00\x00\x00\x00\x00\x00";
+
 const MISSING: &[u8] = b"\x00\x00\x00\x0a\xff\x05\x00\x00\x00\x00\x00\x00\x00\x00";
+
 const GIVEN: &[u8] = b"\x00\x00\x00\x01\x83";
 
 fn refusal_of<T: Drop>(answer: Result<T, Refusal>) -> Option<Refusal> {

@@ -31,7 +31,7 @@ pub struct Duplex<R, W> {
 impl<R: Read + Drop, W: Write + Drop> Link for Duplex<R, W> {
     ghost runs = { λ answers link s served t. (known' held' : Option (List ℕ))
         × Serves answers s (R.remaining link.reader) (W.contents link.writer)
-            served t known' held' };
+        served t known' held' };
 
     fn run<S: Service>(self, alloc: Global, service: &mut S) -> Served {
         let Duplex {
