@@ -4,9 +4,11 @@
 mod links;
 mod places;
 mod reports;
+mod services;
 mod workers;
 
 pub use links::{Duplex, Link};
+pub use services::Begin;
 pub use workers::{MOST_WORKERS, serve_all};
 
 #[cfg(test)]

@@ -1,5 +1,6 @@
 // Reports in the places of their sessions.
-ghost use Rattle.std.specs.Prelude.{◌≡◌, ℕ, List, map, length, vec_len, take, IfOk, OnOk, All, IsPermutation};
+ghost use Rattle.std.specs.Prelude.{◌≡◌, ◌⊎◌, map, vec_len, IfOk, IfErr, All, IsPermutation};
+ghost use Rattle.su_bytes.specs.declared.refusals.Refusal.TheVariants.{LinkFailed, NoMemory};
 ghost use Rattle.std.specs.List.{range_with_len};
 ghost use Rattle.su_serve.specs.Runs.{RanSo};
 
@@ -22,6 +23,7 @@ pub(crate) fn place<L: Link, S: Service>(
     ensures len { IfOk result (λ all. vec_len all ≡ count) }
     ensures ran { IfOk result (λ all.
         All (λ served. ∥ RanSo (L.runs S.answers) served ∥₁) all.items) }
+    ensures refused { IfErr result (λ e. (e ≡ LinkFailed) ⊎ (e ≡ NoMemory)) }
 {
     reports.sort_unstable_by_key(|report| report.number);
     in_order(alloc, &reports, count)
@@ -39,6 +41,7 @@ fn in_order<L: Link, S: Service>(
     ensures len { IfOk result (λ all. vec_len all ≡ count) }
     ensures ran { IfOk result (λ all.
         All (λ served. ∥ RanSo (L.runs S.answers) served ∥₁) all.items) }
+    ensures refused { IfErr result (λ e. (e ≡ LinkFailed) ⊎ (e ≡ NoMemory)) }
 {
     if reports.len() as u64 != count {
         return Err(Refusal::LinkFailed);

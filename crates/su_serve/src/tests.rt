@@ -1,5 +1,6 @@
 use super::*;
 use std::alloc::Global;
+use std::marker::Model;
 use std::process::Abort;
 use std::sync::Wait;
 use std::test::Fail;
@@ -8,15 +9,32 @@ use su_bytes::Refusal;
 use su_message::{Reply, Request};
 use su_session::{End, Service};
 
-/// Answers each request alike.
+/// Answers each request alike, and counts the sessions that it serves, and their numbers.
 #[derive(Drop)]
-struct Same;
+struct Same {
+    sessions: u64,
+    numbers: u64,
+}
+
+// Of what it counts contracts see nothing: to begin a session changes no answer.
+impl Model for Same {
+    ghost Value = { Unit {0} };
+
+    ghost view = { λ _. tt };
+}
 
 impl Service for Same {
     ghost answers = { λ _ _ _ _. Unit {0} };
 
     fn answer(&mut self, _alloc: Global, _request: &Request) -> Reply {
         Reply::Given
+    }
+}
+
+impl Begin for Same {
+    fn begin(&mut self, session: u64) {
+        self.sessions = self.sessions.saturating_add(1);
+        self.numbers = self.numbers.saturating_add(session);
     }
 }
 
@@ -38,8 +56,12 @@ fn two_sessions<R: Threads + Wait + Abort + Sync>(rt: &R, alloc: Global) -> Resu
         reader: cut,
         writer: Vec::new(alloc),
     })?;
-    let all = serve_all(rt, alloc, sessions.into_iter(), services(alloc, 2)?)?;
+    let (all, back) = serve_all(rt, alloc, sessions.into_iter(), services(alloc, 2)?)?;
     assert_eq!(rt; all.len(), 2);
+    assert_eq!(rt; back.len(), 2);
+    // each number was begun once
+    assert_eq!(rt; back[0].sessions.saturating_add(back[1].sessions), 2);
+    assert_eq!(rt; back[0].numbers.saturating_add(back[1].numbers), 3);
     assert_eq!(rt; all[0].answered, 2);
     assert_eq!(rt; all[0].end_, End::Closed);
     assert_eq!(rt; all[1].answered, 1);
@@ -51,7 +73,25 @@ fn two_sessions<R: Threads + Wait + Abort + Sync>(rt: &R, alloc: Global) -> Resu
 fn services(alloc: Global, count: usize) -> Result<Vec<Same>, Fail> {
     let mut services = Vec::new(alloc);
     for _ in 0..count {
-        services.push(Same)?;
+        services.push(Same {
+            sessions: 0,
+            numbers: 0,
+        })?;
     }
     Ok(services)
+}
+
+#[test]
+fn services_are_1_to_16(rt: HostRuntime) -> Result<(), Fail> {
+    number_of_services(&rt, rt.alloc())
+}
+
+// None and 17 are refused.
+fn number_of_services<R: Threads + Wait + Abort + Sync>(rt: &R, alloc: Global) -> Result<(), Fail> {
+    for count in [0, 17] {
+        let sessions: Vec<Duplex<&[u8], Vec<u8>>> = Vec::new(alloc);
+        let refused = serve_all(rt, alloc, sessions.into_iter(), services(alloc, count)?);
+        assert!(rt; matches!(refused, Err(Refusal::BadNumber)));
+    }
+    Ok(())
 }

@@ -1,12 +1,14 @@
 // Sessions handed to workers, which each have a thread and a service of their own.
-ghost use Rattle.std.specs.Prelude.{◌≡◌, ℕ, List, length, vec_len, IfOk, IfSome, All};
+ghost use Rattle.std.specs.Prelude.{◌≡◌, ◌⊎◌, ℕ, List, length, vec_len, IfOk, IfErr, OnOk, IfSome, All};
 ghost use Rattle.std.specs.Iterator.{IsFinite, Drains};
 ghost use Rattle.std.specs.Thread.{IsSync, IsSend};
-ghost use Rattle.su_serve.specs.Runs.{RanSo};
+ghost use Rattle.su_bytes.specs.declared.refusals.Refusal.TheVariants.{BadNumber, LinkFailed, NoMemory};
+ghost use Rattle.su_serve.specs.Runs.{RanSo, IsWorkerCount};
 
 use crate::links::Link;
 use crate::places::place;
 use crate::reports::Report;
+use crate::services::Begin;
 use crossbeam_channel::{Receiver, Sender, bounded, unbounded};
 use std::alloc::{AllocError, Global};
 use std::sync::Wait;
@@ -27,11 +29,12 @@ struct Job<L: Drop> {
 
 /// Serves the sessions that are handed out, one after another, until no more are. One service
 /// serves them all.
-fn work<R: Wait, L: Link + Drop, S: Service + Drop>(
+fn work<R: Wait, L: Link + Drop, S: Service + Begin + Drop>(
     rt: &R,
     alloc: Global,
     jobs: Receiver<Job<L>>,
     reports: Sender<Report<L, S>>,
+    home: Sender<S>,
     mut service: S,
 ) {
     for _ in rt.forever() {
@@ -39,9 +42,12 @@ fn work<R: Wait, L: Link + Drop, S: Service + Drop>(
             break;
         };
         let Job { number, link } = job;
+        service.begin(number);
         // A report that can't be handed back is missed later.
         let _lost = reports.send(rt, Report::of(alloc, number, link, &mut service));
     }
+    // A service that can't be handed back is missed later.
+    let _lost = home.send(rt, service);
 }
 
 /// Hands the sessions out, numbered from 1, and tells how many came.
@@ -71,40 +77,48 @@ fn hand_out<R: Wait, I: Iterator<Item = L> + Drop, L: Drop>(
 }
 
 /// An end of each channel for one worker more.
-fn ends<J: Drop, T: Drop>(
+fn ends<J: Drop, T: Drop, S: Drop>(
     jobs: &Receiver<J>,
     reports: &Sender<T>,
-) -> Result<(Receiver<J>, Sender<T>), AllocError> {
-    Ok((jobs.clone()?, reports.clone()?))
+    home: &Sender<S>,
+) -> Result<(Receiver<J>, Sender<T>, Sender<S>), AllocError> {
+    Ok((jobs.clone()?, reports.clone()?, home.clone()?))
 }
 
 /// Serves all sessions, each by one of the services, which each have a thread of their own. There
-/// is one `Served` for each session that came, in their order. `BadNumber` where the services
-/// aren't 1 to 16; `LinkFailed` where no thread could be started, or the report of a session came
-/// twice or not at all; `NoMemory`.
+/// is one `Served` for each session that came, in their order; all services come back, in any
+/// order. `BadNumber` where the services aren't 1 to 16; `LinkFailed` where a thread could not be
+/// started, and then no session is served, and where the report of a session came twice or not at
+/// all, or a service didn't come back; `NoMemory`.
 pub fn serve_all<R, I, L, S>(
     rt: &R,
     alloc: Global,
     sessions: I,
     services: Vec<S>,
-) -> Result<Vec<Served>, Refusal>
+) -> Result<(Vec<Served>, Vec<S>), Refusal>
 where
     R: Threads + Wait + Sync,
     I: Iterator<Item = L> + Drop,
     L: Link + Send + Drop,
-    S: Service + Send + Drop,
+    S: Service + Begin + Send + Drop,
     requires can { I.can_next sessions }
     requires ends { IsFinite (I.remaining sessions) }
-    ensures count { IfOk result (λ all.
-        (came : List L) × Drains I.next_gives sessions came × (length came ≡ vec_len all)) }
-    ensures ran { IfOk result (λ all.
-        All (λ served. ∥ RanSo (L.runs S.answers) served ∥₁) all.items) }
+    ensures count { IfOk result (λ r.
+        (came : List L) × Drains I.next_gives sessions came × (length came ≡ vec_len r.0)) }
+    ensures ran { IfOk result (λ r.
+        All (λ served. ∥ RanSo (L.runs S.answers) served ∥₁) r.0.items) }
+    ensures back { IfOk result (λ r. vec_len r.1 ≡ vec_len services) }
+    ensures range { OnOk result (IsWorkerCount (vec_len services)) }
+    ensures refused { IfErr result (λ e. ((e ≡ BadNumber) × ¬ IsWorkerCount (vec_len services))
+        ⊎ (e ≡ LinkFailed) ⊎ (e ≡ NoMemory)) }
 {
-    if services.is_empty() || MOST_WORKERS < services.len() {
+    let workers = services.len();
+    if workers < 1 || MOST_WORKERS < workers {
         return Err(Refusal::BadNumber);
     }
     let (hand, jobs) = bounded(alloc, MOST_WORKERS).map_err(|_| Refusal::NoMemory)?;
     let (tell, reports) = unbounded(alloc).map_err(|_| Refusal::NoMemory)?;
+    let (home, back) = unbounded(alloc).map_err(|_| Refusal::NoMemory)?;
     let count = thread::scope(
         thread::scope_env(),
         rt,
@@ -114,20 +128,16 @@ where
             ensures { IfSome result (λ count.
                 (came : List L) × Drains I.next_gives sessions came × (length came ≡ count)) }
         {
-            let mut started = false;
             for service in services {
-                let Ok((jobs, tell)) = ends(&jobs, &tell) else {
-                    continue;
+                let Ok((jobs, tell, home)) = ends(&jobs, &tell, &home) else {
+                    return None;
                 };
                 if scope
-                    .spawn(move || work(rt, alloc, jobs, tell, service))
-                    .is_ok()
+                    .spawn(move || work(rt, alloc, jobs, tell, home, service))
+                    .is_err()
                 {
-                    started = true;
+                    return None;
                 }
-            }
-            if !started {
-                return None;
             }
             hand_out(rt, sessions, hand)
         },
@@ -136,11 +146,17 @@ where
         return Err(Refusal::LinkFailed);
     };
     let all = collect(rt, alloc, reports)?;
-    place(alloc, all, count)
+    let services = collect(rt, alloc, back)?;
+    if services.len() != workers {
+        return Err(Refusal::LinkFailed);
+    }
+    Ok((place(alloc, all, count)?, services))
 }
 
-/// What was reported.
-fn collect<R: Wait, T: Drop>(rt: &R, alloc: Global, from: Receiver<T>) -> Result<Vec<T>, Refusal> {
+/// What came over a channel, once nobody sends any more.
+fn collect<R: Wait, T: Drop>(rt: &R, alloc: Global, from: Receiver<T>) -> Result<Vec<T>, Refusal>
+    ensures { IfErr result (λ e. e ≡ NoMemory) }
+{
     let mut all = Vec::new(alloc);
     for _ in rt.forever() {
         let Ok(report) = from.recv(rt) else {

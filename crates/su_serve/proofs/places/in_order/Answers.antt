@@ -1,4 +1,4 @@
-use Rattle.std.proofs.Common.{◌≡◌, ◌∙◌, ◌+◌, ◌++◌, ◌∷◌, [], sym, ap, subst, map, take, All, arith}
+use Rattle.std.proofs.Common.{◌∙◌, ◌++◌, ◌∷◌, [], sym, ap, arith}
 use Rattle.su_serve.specs.Runs.{RanSo}
 use Rattle.su_serve.proofs.Placing.{next_place, all_of-map}
 use Rattle.su_serve.proofs.places.in_order.Goals as goal
