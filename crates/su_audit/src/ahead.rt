@@ -38,7 +38,7 @@ impl<R: Read + Drop> Ahead<R> {
         ensures stop { result.stop ≡ None }
     {
         Ahead {
-            log: Log { reader, place: 0 },
+            log: Log::new(reader),
             records: VecDeque::new(alloc),
             stop: None,
         }

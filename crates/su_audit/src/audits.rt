@@ -123,8 +123,8 @@ fn tell_taken<W: Write>(alloc: Global, writer: &mut W, count: u64) -> Ending
     }
 }
 
-/// Prints which commit is refused, and why.
-fn tell_refused<W: Write>(
+/// Prints which commit of a log is refused, and why.
+pub fn tell_refused<W: Write>(
     alloc: Global,
     writer: &mut W,
     number: u64,

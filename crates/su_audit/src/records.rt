@@ -14,11 +14,11 @@ use su_version::Commit;
 
 /// What a log has of a commit, and what is found out of it before its turn comes.
 #[derive(Drop)]
-pub(crate) struct Record {
+pub struct Record {
     /// The bytes of the commit.
-    pub(crate) bytes: Vec<u8>,
+    pub bytes: Vec<u8>,
     /// The item.
-    pub(crate) item: Vec<u8>,
+    pub item: Vec<u8>,
     /// The commit that the bytes spell, or why there is none.
     pub(crate) commit: Result<Commit, Refusal>,
     /// Whether the commit's author signed it; none where that isn't known.
@@ -49,7 +49,7 @@ fn verdict(alloc: Global, roster: &Roster, commit: &Result<Commit, Refusal>) -> 
 
 /// Why no record comes next in a log.
 #[derive(Drop)]
-pub(crate) enum Stop {
+pub enum Stop {
     /// The log ends.
     End,
     /// The number of bytes at this place is cut, or goes past the end.
@@ -60,14 +60,22 @@ pub(crate) enum Stop {
 
 /// A log that is read, and how many bytes of it were.
 #[derive(Drop)]
-pub(crate) struct Log<R> {
+pub struct Log<R> {
     pub(crate) reader: R,
     pub(crate) place: u64,
 }
 
 impl<R: Read + Drop> Log<R> {
+    /// Makes the log that this reader gives, of which nothing is read yet.
+    pub fn new(reader: R) -> Log<R>
+        ensures reader { result.reader ≡ reader }
+        ensures place { result.place ≡ 0 }
+    {
+        Log { reader, place: 0 }
+    }
+
     /// Reads the next record, and the commit that its bytes spell. Fails where there is none.
-    pub(crate) fn next_record(&mut self, alloc: Global) -> Result<Record, Stop>
+    pub fn next_record(&mut self, alloc: Global) -> Result<Record, Stop>
         ensures read { IfOk result (λ r. IsRead r.bytes.items r.commit) }
         ensures next { (input : List ℕ) → R.remaining self.old.reader ≡ Some input
             → ReadsNext result self.old.place input self.new.place

@@ -1,6 +1,7 @@
 // Why a line is no command, in words for whoever wrote it. What a script does never rests on it.
+// A script has tables of the forms of its commands, and tells its mistakes by them.
 use crate::lines::LONGEST_LINE;
-use crate::mistakes::WordKind::{File, Hex, Name, Number, Principal};
+use crate::mistakes::WordKind::{File, FileName, Hex, Name, Number, Path, Principal};
 use crate::parse::{
     CHANGES, QUESTIONS, has_empty_word, read_file, read_number, read_principal, split_words,
 };
@@ -34,6 +35,8 @@ pub enum WordKind {
     File,
     Principal,
     Hex,
+    Path,
+    FileName,
 }
 
 /// A command's own word, and what the words after it are; the last `optional` may be left out.
@@ -43,19 +46,32 @@ pub struct Form<'a> {
     pub optional: usize,
 }
 
-/// Tells the first mistake in a line that is no command.
+/// Tells the first mistake in a line that is no command of a desk script. Fails where there is no
+/// memory for the list of words.
 pub fn mistake_in(alloc: Global, line: &[u8]) -> Result<Mistake, AllocError> {
+    match words_in(alloc, line)? {
+        Ok(words) => Ok(mistake_in_words(words.as_slice())),
+        Err(mistake) => Ok(mistake),
+    }
+}
+
+/// Splits a line into its words, or tells the mistake that it is in any script: it is too long, it
+/// ends in a carriage return, or it has an empty word. Fails where there is no memory for the list.
+pub fn words_in<'a>(
+    alloc: Global,
+    line: &'a [u8],
+) -> Result<Result<Vec<&'a [u8]>, Mistake>, AllocError> {
     if LONGEST_LINE < line.len() {
-        return Ok(Mistake::LongLine);
+        return Ok(Err(Mistake::LongLine));
     }
     if line.last() == Some(&b'\r') {
-        return Ok(Mistake::CarriageReturn);
+        return Ok(Err(Mistake::CarriageReturn));
     }
     let words = split_words(alloc, line)?;
     if has_empty_word(words.as_slice()) {
-        return Ok(Mistake::EmptyWord);
+        return Ok(Err(Mistake::EmptyWord));
     }
-    Ok(mistake_in_words(words.as_slice()))
+    Ok(Ok(words))
 }
 
 /// Tells the first mistake in words of which none is empty.
@@ -70,8 +86,10 @@ fn mistake_in_words(words: &[&[u8]]) -> Mistake {
     }
 }
 
-/// Tells the first mistake in a command and the words after it, of which the first has that number.
-fn mistake_in_command(
+/// Tells the first mistake in a command that is none of those forms, and the words after it, of which
+/// the first has the number `first` in its line. Where they have a form, what they lack is the body
+/// that it leaves out.
+pub fn mistake_in_command(
     forms: &[Form<'_>],
     command: &[u8],
     arguments: &[&[u8]],
@@ -95,11 +113,11 @@ fn mistake_in_command(
     Mistake::NoBody
 }
 
-/// Whether a word is of that kind. Any word is a name, as far as the line goes.
+/// Whether a word is of that kind. Any word is a name or a path, as far as the line goes.
 fn is_of_kind(word: &[u8], kind: WordKind) -> bool {
     match kind {
         Number => read_number(word).is_some(),
-        Name => true,
+        Name | Path | FileName => true,
         File => read_file(word).is_some(),
         Principal => read_principal(word).is_some(),
         Hex => word.len() % 2 == 0 && word.iter().all(|digit| digit.is_ascii_hexdigit()),
@@ -129,6 +147,8 @@ impl fmt::Display for WordKind {
             File => "a file id, as U0:2 or G0:1",
             Principal => "a user or a group, as U0 or G0",
             Hex => "bytes in hex, two digits each",
+            Path => "a path",
+            FileName => "the name of a file",
         };
         f.write_str(text)
     }

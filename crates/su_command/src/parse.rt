@@ -246,15 +246,15 @@ pub fn parse_line<'a>(alloc: Global, line: &'a [u8]) -> Result<Option<RawCommand
     read_words(alloc, words.as_slice())
 }
 
-/// Splits a line at single spaces.
-pub(crate) fn split_words<'a>(alloc: Global, line: &'a [u8]) -> Result<Vec<&'a [u8]>, AllocError>
+/// Splits a line at single spaces. Fails where there is no memory for the list of words.
+pub fn split_words<'a>(alloc: Global, line: &'a [u8]) -> Result<Vec<&'a [u8]>, AllocError>
     ensures { IfOk result (λ words. texts words.items ≡ words_of line.now) }
 {
     line.split(|byte| *byte == b' ').collect(alloc)
 }
 
 /// Whether one of the words is empty.
-pub(crate) fn has_empty_word(words: &[&[u8]]) -> bool
+pub fn has_empty_word(words: &[&[u8]]) -> bool
     ensures { result ≡ list_any (λ word. nat_eq (length word.now) 0) words.now }
 {
     words.iter().any(|word| word.is_empty())
@@ -562,9 +562,10 @@ fn read_single<'a>(arguments: &[&[u8]], command: RawCommand<'a>) -> Option<RawCo
     }
 }
 
-/// Reads a number of 1 to 20 decimal digits. `None` where it doesn't fit 64 bits.
+/// Reads a number of 1 to 20 decimal digits. `None` where the word is no such digits, or the number
+/// doesn't fit 64 bits.
 #[tactic(auto, unfolding(crate::specs::Script::read_number))]
-pub(crate) fn read_number(word: &[u8]) -> Option<u64>
+pub fn read_number(word: &[u8]) -> Option<u64>
     ensures { result ≡ read_number word.now }
 {
     if word.is_empty() || MOST_DIGITS < word.len() {
@@ -613,9 +614,10 @@ fn first_colon(word: &[u8]) -> Option<usize>
     memchr(b':', word)
 }
 
-/// Reads bytes from their hex digits, of either case, two a byte.
+/// Reads bytes from their hex digits, of either case, two a byte. `None` where the word is no such
+/// digits. Fails where there is no memory for the bytes.
 #[tactic(auto, unfolding(crate::specs::Script::read_bytes))]
-fn read_bytes(alloc: Global, word: &[u8]) -> Result<Option<Vec<u8>>, AllocError>
+pub fn read_bytes(alloc: Global, word: &[u8]) -> Result<Option<Vec<u8>>, AllocError>
     ensures { IfOk result (λ bytes. option_map (λ v. v.items) bytes ≡ read_bytes word.now) }
 {
     match hex::decode(alloc, word) {

@@ -1,11 +1,12 @@
 -- Calls of views as events; and a server that shows two lists.
-use Rattle.std.proofs.Common.{◌≡◌, ◌≢◌, ℕ, true, List, [], ◌∷◌, ◌++◌, refl, sym, ap, ◌∙◌, subst, append-nil}
+use Rattle.std.proofs.Common.{◌≡◌, ◌≢◌, ℕ, true, List, [], ◌∷◌, ◌++◌, map, refl, sym, ap, ◌∙◌, subst, append_assoc, append-nil}
 use Rattle.su_version.specs.Version.{Version}
 use Rattle.su_legal.specs.Legal.{Committed, LegalAfter, Legal}
 use Rattle.su_legal.specs.Act.{Act, Act.Takes, Act.Signs}
 use Rattle.su_view.specs.Holding.{HoldingState, Took, MaySign}
+use Rattle.su_view.specs.Acting.{after, Does}
 use Rattle.su_fork.specs.Events.{World, Event, taking, signing, list_of, Run}
-use Rattle.su_fork.specs.Calls.{holding_after, Shown}
+use Rattle.su_fork.specs.Calls.{holding_after, acting, Shown}
 use Rattle.su_fork.proofs.Runs.{run_more, list_own, list_other}
 
 none_held : (k : ℕ) → list_of k [] ≡ []
@@ -30,6 +31,22 @@ signing_runs w es k s r h m =
 
 pub others_stay : (w : World) (es : List Event) (j k : ℕ) (x : Act) → j ≢ k → holding_after w (es ++ record { client = k; act = x } ∷ []) j ≡ holding_after w es j
 others_stay w es j k x n = ap (holding w j) (list_other j k es x n)
+
+-- ---- acts
+
+-- what client k holds after one act more
+after_is : (w : World) (es : List Event) (k : ℕ) (act : Act) → after (holding_after w es k) act ≡ holding_after w (es ++ record { client = k; act = act } ∷ []) k
+after_is w es k (Takes more) = ap (holding w k) (sym (list_own k es (Takes more)))
+after_is w es k (Signs s) = ap (holding w k) (sym (list_own k es (Signs s) ∙ append-nil (list_of k es)))
+
+pub acting_runs : (w : World) (es : List Event) (k : ℕ) (acts : List Act) (v : HoldingState) → Run w es → w.honest (w.user k) ≡ true
+    → Does (holding_after w es k) acts v → Run w (es ++ acting k acts) × (v ≡ holding_after w (es ++ acting k acts) k)
+acting_runs w es k [] v r h is = (subst (λ x. Run w x) (sym (append-nil es)) r, is ∙ ap (λ x. holding_after w x k) (sym (append-nil es)))
+acting_runs w es k (act ∷ acts) v r h (may, rest) =
+    let one : Event = record { client = k; act = act } in
+    let more = acting_runs w (es ++ one ∷ []) k acts v (run_more w es one r h may) h (subst (λ (u : HoldingState). Does u acts v) (after_is w es k act) rest) in
+    let same = append_assoc es (one ∷ []) (acting k acts) in
+    (subst (λ x. Run w x) same more.0, more.1 ∙ ap (λ x. holding_after w x k) same)
 
 -- ---- a server may show any legal lists
 

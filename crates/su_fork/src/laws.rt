@@ -7,13 +7,14 @@ ghost use Rattle.su_version.specs.Commit.{Commit};
 ghost use Rattle.su_legal.specs.Legal.{Committed, author_of, head_of, MayJoin, Legal};
 ghost use Rattle.su_legal.specs.Act.{Act};
 ghost use Rattle.su_view.specs.Holding.{HoldingState, Took, MaySign};
+ghost use Rattle.su_view.specs.Acting.{Does};
 ghost use Rattle.su_view.specs.LastCommits.{last_by, own_last, ShowsOwn};
 ghost use Rattle.su_fork.specs.Numbered.{at, IsFrontOf, ForkAt, Related};
 ghost use Rattle.su_fork.specs.Events.{World, Event, taking, signing, list_of, all_taken, Run, Held};
 ghost use Rattle.su_fork.specs.Premises.{hashed, NoCollision, NoForgery, IsOnlyClient};
 ghost use Rattle.su_fork.specs.Consistency.{SharedUpTo, SharedBefore, AsMade, NotJoined, NeverJoins, NoneAbove};
 ghost use Rattle.su_fork.specs.Noticing.{AreOf, HasUpTo, NoneIsAbove, NoneComparable};
-ghost use Rattle.su_fork.specs.Calls.{holding_after, Shown};
+ghost use Rattle.su_fork.specs.Calls.{holding_after, acting, Shown};
 
 /// What an honest user's client holds, at whatever moment, is a legal list: all that a desk is for
 /// holds of its tree.
@@ -157,4 +158,12 @@ pub fn calls_make_runs()
         × (holding_after w (es ++ signing k s ∷ []) k ≡ holding_after w es k) }
     ensures others { (w : World) (es : List Event) (j k : ℕ) (x : Act) → j ≢ k
         → holding_after w (es ++ record { client = k; act = x } ∷ []) j ≡ holding_after w es j }
+{}
+
+/// What an honest user's client does act by act, as the clause `acts` of a member's calls says it,
+/// makes a run of what came before: what holds of runs holds of a program that does it.
+pub fn acts_make_runs()
+    ensures acts { (w : World) (es : List Event) (k : ℕ) (acts : List Act) (v : HoldingState)
+        → Run w es → w.honest (w.user k) ≡ true → Does (holding_after w es k) acts v
+        → Run w (es ++ acting k acts) × (v ≡ holding_after w (es ++ acting k acts) k) }
 {}

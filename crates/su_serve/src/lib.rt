@@ -4,11 +4,10 @@
 mod links;
 mod places;
 mod reports;
-mod services;
 mod workers;
 
 pub use links::{Duplex, Link};
-pub use services::Begin;
+pub use su_session::Begin;
 pub use workers::{MOST_WORKERS, serve_all};
 
 #[cfg(test)]

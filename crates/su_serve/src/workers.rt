@@ -8,14 +8,13 @@ ghost use Rattle.su_serve.specs.Runs.{RanSo, IsWorkerCount};
 use crate::links::Link;
 use crate::places::place;
 use crate::reports::Report;
-use crate::services::Begin;
 use crossbeam_channel::{Receiver, Sender, bounded, unbounded};
 use std::alloc::{AllocError, Global};
 use std::sync::Wait;
 use std::thread;
 use std::thread::Threads;
 use su_bytes::Refusal;
-use su_session::{Served, Service};
+use su_session::{Begin, Served, Service};
 
 /// How many workers there are at most.
 pub const MOST_WORKERS: usize = 16;

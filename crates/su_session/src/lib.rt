@@ -2,6 +2,7 @@
 //! and the replies are written.
 #![tactic(auto)]
 
+mod begins;
 mod exchanges;
 mod laws;
 mod links;
@@ -9,6 +10,7 @@ mod services;
 mod sessions;
 mod talks;
 
+pub use begins::Begin;
 pub use laws::{all_messages, first_messages};
 pub use services::Service;
 pub use sessions::{End, MOST_READS, Served, serve};

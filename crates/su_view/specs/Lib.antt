@@ -1,4 +1,5 @@
 pub mod Holding
+pub mod Acting
 pub mod Keeping
 pub mod Spelled
 pub mod Entry

@@ -2,6 +2,7 @@
 ghost use Rattle.std.specs.Prelude.{◌≡◌, ◌++◌, Some, IfErr, OnOk, OnErr};
 ghost use Rattle.su_bytes.specs.declared.refusals.Refusal.TheVariants.{NoMemory};
 ghost use Rattle.su_view.specs.Refusal.{view_refusal_text};
+ghost use Rattle.su_view.specs.declared.refusals.ViewRefusal.TheVariants.{Plain};
 
 use std::fmt;
 use su_bytes::{Principal, Refusal};
@@ -44,5 +45,14 @@ impl fmt::Display for ViewRefusal {
             ViewRefusal::Change(refusal) => write!(f, "39 Change {refusal}"),
             ViewRefusal::OwnMissing => write!(f, "40 OwnMissing"),
         }
+    }
+}
+
+/// A refusal that other calls share.
+impl From<Refusal> for ViewRefusal {
+    ghost from_gives = { λ refusal r. r ≡ Plain refusal };
+
+    fn from(refusal: Refusal) -> ViewRefusal {
+        ViewRefusal::Plain(refusal)
     }
 }

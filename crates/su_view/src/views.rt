@@ -168,9 +168,9 @@ impl<S: BlockSource + Drop> View<S> {
         self.holding.join(commit, copy, item)
     }
 
-    /// Takes a commit that is shown by its bytes. The refusals are those of `accept`. A refusal
-    /// leaves the list as it was.
-    fn accept_bytes(&mut self, bytes: &[u8]) -> Result<(), ViewRefusal>
+    /// Takes a commit that is shown by its bytes. The refusals are those of `accept`, for a list of
+    /// this commit alone. A refusal leaves the list as it was.
+    pub fn accept_bytes(&mut self, bytes: &[u8]) -> Result<(), ViewRefusal>
         requires checked { S.is_checked ≡ true }
         ensures took { OnOk result ((c : Committed) × (bytes.now ≡ commit_bytes c.commit)
             × S.may_give self.old.source (item_bytes c.change)

@@ -4,7 +4,7 @@ ghost use Rattle.std.specs.Prelude.{◌≡◌};
 use std::alloc::Global;
 use std::marker::Model;
 use su_message::{Reply, Request};
-use su_session::Service;
+use su_session::{Begin, Service};
 
 /// Is passed before and after each request of a session.
 pub trait Gate {
@@ -51,18 +51,18 @@ impl<'a, S, G: Gate> Gated<'a, S, G> {
         }
     }
 
-    /// Begins the session of this number, under which the gate is passed from then on.
-    pub fn begin(&mut self, session: u64)
-        ensures { self.new ≡ self.old }
-    {
-        self.session = session;
-    }
-
     /// Hands the service back.
     pub fn into_service(self) -> S
         ensures { result ≡ self.entry }
     {
         self.service
+    }
+}
+
+/// The gate is passed under the number of the session that was begun last.
+impl<'a, S, G: Gate> Begin for Gated<'a, S, G> {
+    fn begin(&mut self, session: u64) {
+        self.session = session;
     }
 }
 

@@ -9,7 +9,7 @@ use std::sync::atomic::{AtomicU64, Ordering};
 use std::sync::ledger::Blank;
 use std::test::Fail;
 use su_bytes::{KEY_LENGTH, Refusal, Roster};
-use su_session::{End, Served, Service, serve};
+use su_session::{Begin, End, Served, Service, serve};
 use su_shards::SharedBlocks;
 use su_shared::{BookName, Cells, Seat, SharedBook};
 

@@ -1,0 +1,13 @@
+//! The commands of a client's script: what a line says, and why a line is no command.
+#![tactic(auto)]
+
+mod commands;
+mod lines;
+mod mistakes;
+
+pub use commands::{ClientCommand, ClientLine};
+pub use lines::read_line;
+pub use mistakes::{CLIENT_WORDS, client_mistake_in};
+
+#[cfg(test)]
+mod tests;

@@ -1,0 +1,74 @@
+// Why a key can't be used.
+ghost use Rattle.std.specs.Prelude.{◌≡◌};
+ghost use Rattle.su_kept_key.specs.declared.faults.KeptKeyFault.TheVariants.{NoMemory};
+
+use std::alloc::{AllocError, Global};
+use std::io;
+use su_bytes::Refusal;
+use thiserror::Error;
+
+/// Why a key can't be used: which file or folder stands in the way, and the system's reason.
+#[derive(Debug, Drop, Error)]
+pub enum KeptKeyFault {
+    /// The path ends in no name.
+    #[error("{path} names no file")]
+    NoName { path: String },
+    /// What stands at the path is a folder, a link, a device or a pipe.
+    #[error("{path} is no plain file, and a key is kept in one")]
+    InTheWay { path: String },
+    /// The file has other names, under which the leaves that sign would stay unknown.
+    #[error("{path} has {names} names, and the file of a key has one")]
+    ManyNames { path: String, names: u64 },
+    /// The file beside the key, by which processes take turns, can't be made or locked.
+    #[error("locking {path}: {reason}")]
+    Unlocked { path: String, reason: io::Error },
+    /// Another process uses the key.
+    #[error("another process uses the key {path}")]
+    InUse { path: String },
+    /// There is no file, or it can't be read.
+    #[error("reading {path}: {reason}")]
+    Unread { path: String, reason: io::Error },
+    /// The bytes of the file are those of no key.
+    #[error("{path} is no key file: {refusal}")]
+    NoKey { path: String, refusal: Refusal },
+    /// The folder of the key can't be opened.
+    #[error("the folder {path}: {reason}")]
+    Folder { path: String, reason: io::Error },
+    /// Memory is refused.
+    #[error("out of memory")]
+    NoMemory,
+}
+
+impl KeptKeyFault {
+    /// Returns `Unlocked` of a path.
+    pub fn unlocked(alloc: Global, path: &str, reason: io::Error) -> KeptKeyFault {
+        match String::from_str(alloc, path) {
+            Ok(path) => KeptKeyFault::Unlocked { path, reason },
+            Err(_) => KeptKeyFault::NoMemory,
+        }
+    }
+
+    /// Returns `Unread` of a path.
+    pub fn unread(alloc: Global, path: &str, reason: io::Error) -> KeptKeyFault {
+        match String::from_str(alloc, path) {
+            Ok(path) => KeptKeyFault::Unread { path, reason },
+            Err(_) => KeptKeyFault::NoMemory,
+        }
+    }
+
+    /// Returns `Folder` of a path.
+    pub fn folder(alloc: Global, path: &str, reason: io::Error) -> KeptKeyFault {
+        match String::from_str(alloc, path) {
+            Ok(path) => KeptKeyFault::Folder { path, reason },
+            Err(_) => KeptKeyFault::NoMemory,
+        }
+    }
+}
+
+impl From<AllocError> for KeptKeyFault {
+    ghost from_gives = { λ _ e. e ≡ NoMemory };
+
+    fn from(_refused: AllocError) -> KeptKeyFault {
+        KeptKeyFault::NoMemory
+    }
+}

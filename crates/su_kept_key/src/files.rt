@@ -1,0 +1,136 @@
+// The files of a key: its own, PATH.lock, by which processes take turns, and PATH.next, in which the
+// key is written first.
+ghost use Rattle.std.specs.Prelude.{◌≡◌, ℕ, List, Some, IfOk, OnOk, take};
+ghost use Rattle.std.specs.Io.KnownBytes.{Appends};
+
+use crate::faults::KeptKeyFault;
+use std::alloc::Global;
+use std::fs::{File, OpenFile, OpenOptions, TryLockError};
+use std::io::{ErrorKind, Read, Write};
+use std::os::unix::fs::{MetadataExt, OpenOptionsExt};
+use std::{fs, io};
+use su_lms::KeyFile;
+
+/// Only the owner may read or write.
+const PRIVATE: u32 = 0o600;
+
+/// Splits off the folder of a path. `None` where the path ends in no name.
+pub(crate) fn folder_of(path: &str) -> Option<&str> {
+    match path.rsplit_once('/') {
+        _ if path.ends_with('/') || path.is_empty() => None,
+        None => Some("."),
+        Some(("", _)) => Some("/"),
+        Some((folder, _)) => Some(folder),
+    }
+}
+
+/// Refuses what is no plain file with one name. A rename would replace a link, or one name of
+/// several, and the key would stay behind it with leaves that have signed since.
+pub(crate) fn require_plain(rt: &HostRuntime, path: &str) -> Result<(), KeptKeyFault> {
+    let alloc = rt.alloc();
+    let found = match fs::symlink_metadata(rt, path) {
+        Ok(found) => found,
+        Err(reason) => return Err(KeptKeyFault::unread(alloc, path, reason)),
+    };
+    if !found.is_file() {
+        return Err(KeptKeyFault::InTheWay {
+            path: String::from_str(alloc, path)?,
+        });
+    }
+    let names = found.nlink();
+    if 1 < names {
+        return Err(KeptKeyFault::ManyNames {
+            path: String::from_str(alloc, path)?,
+            names,
+        });
+    }
+    Ok(())
+}
+
+/// Locks a key for as long as the file that is returned is open. The key's own file can't be what is
+/// locked: each signature puts another one in its place, and the lock would stay with the old one.
+pub(crate) fn lock_key(rt: &HostRuntime, path: &str) -> Result<File, KeptKeyFault> {
+    let alloc = rt.alloc();
+    let lock_path = format!(in alloc; "{path}.lock")?;
+    let opened = OpenOptions::new()
+        .write(true)
+        .create(true)
+        .mode(PRIVATE)
+        .open(rt, lock_path.as_str());
+    let lock = match opened {
+        Ok(lock) => lock,
+        Err(reason) => return Err(KeptKeyFault::unlocked(alloc, lock_path.as_str(), reason)),
+    };
+    match lock.try_lock() {
+        Ok(()) => Ok(lock),
+        Err(TryLockError::WouldBlock) => Err(KeptKeyFault::InUse {
+            path: String::from_str(alloc, path)?,
+        }),
+        Err(TryLockError::Error(reason)) => {
+            Err(KeptKeyFault::unlocked(alloc, lock_path.as_str(), reason))
+        }
+    }
+}
+
+/// Reads a key file. No more than 65 bytes are read.
+pub(crate) fn read_key(rt: &HostRuntime, path: &str) -> Result<KeyFile, KeptKeyFault> {
+    let alloc = rt.alloc();
+    let bytes = match File::open(rt, path).and_then(|file| first_bytes(alloc, file)) {
+        Ok(bytes) => bytes,
+        Err(reason) => return Err(KeptKeyFault::unread(alloc, path, reason)),
+    };
+    match KeyFile::decode(bytes.as_slice()) {
+        Ok(file) => Ok(file),
+        Err(refusal) => Err(KeptKeyFault::NoKey {
+            path: String::from_str(alloc, path)?,
+            refusal,
+        }),
+    }
+}
+
+/// Reads to the end, or 65 bytes: one more than a key file has.
+fn first_bytes<F: Read + Drop>(alloc: Global, reader: F) -> io::Result<Vec<u8>>
+    ensures { IfOk result (λ bytes. (input : List ℕ) → F.remaining reader ≡ Some input →
+        bytes.items ≡ take 65 input) }
+{
+    let mut bytes = Vec::new(alloc);
+    reader.take(65).read_to_end(&mut bytes)?;
+    Ok(bytes)
+}
+
+/// Writes a private file at `new`, puts it in the place of `path`, and waits until the disk has it.
+/// What a run that was stopped left at `new` is removed first. After an error the old file stands at
+/// `path`, or the new one.
+pub(crate) fn replace(
+    rt: &HostRuntime,
+    folder: &File,
+    path: &str,
+    new: &str,
+    bytes: &[u8],
+) -> io::Result<()> {
+    remove_old(rt, new)?;
+    let mut file = OpenOptions::new()
+        .write(true)
+        .create_new(true)
+        .mode(PRIVATE)
+        .open(rt, new)?;
+    write_synced(&mut file, bytes)?;
+    fs::rename(rt, new, path)?;
+    folder.sync_all()
+}
+
+/// Removes a file, if it is there.
+fn remove_old(rt: &HostRuntime, path: &str) -> io::Result<()> {
+    match fs::remove_file(rt, path) {
+        Err(reason) if reason.kind() != ErrorKind::NotFound => Err(reason),
+        _ => Ok(()),
+    }
+}
+
+/// Writes these bytes, and waits until the disk has them.
+fn write_synced<F: Write + OpenFile>(file: &mut F, bytes: &[u8]) -> io::Result<()>
+    ensures { OnOk result (Appends (F.contents file.old) (F.contents file.new) bytes.now) }
+{
+    file.write_all(bytes)?;
+    file.sync_all()
+}

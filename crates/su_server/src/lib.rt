@@ -1,0 +1,11 @@
+//! A server: many sessions over one shared book, and the sessions that a listener is offered.
+#![tactic(auto)]
+
+mod connections;
+mod servers;
+
+pub use connections::{Connections, MOST_FAILURES};
+pub use servers::{Report, serve_book};
+
+#[cfg(test)]
+mod tests;

@@ -1,0 +1,194 @@
+// A server over one shared book.
+ghost use Rattle.std.specs.Prelude.{◌≡◌, ◌⊎◌, ◌≤◌, List, length, vec_len, IfOk, IfErr, OnOk, All};
+ghost use Rattle.std.specs.Iterator.{IsFinite, Drains};
+ghost use Rattle.su_bytes.specs.declared.refusals.Refusal.TheVariants.{BadNumber, BadKey, LinkFailed, NoMemory};
+ghost use Rattle.su_book.specs.Machine.{IsCapacity, IsRun, count_of};
+ghost use Rattle.su_chain.specs.ChainEnd.{HasBadKey};
+ghost use Rattle.su_serve.specs.Runs.{RanSo, IsWorkerCount};
+ghost use Rattle.su_worker.specs.Worker.{Answers};
+
+use std::alloc::Global;
+use std::marker::Brand;
+use std::sync::Wait;
+use std::sync::ledger::Blank;
+use std::thread::Threads;
+use su_book::MOST_RECORDS;
+use su_bytes::{Refusal, Roster};
+use su_serve::{Link, MOST_WORKERS, serve_all};
+use su_session::Served;
+use su_shards::SharedBlocks;
+use su_shared::{BookName, Cells, Closed, Seat, SharedBook};
+use su_worker::{Gate, Gated, Worker};
+
+/// How many parts the ledger of a book's steps has: one for each seat, and more.
+const PARTS: u64 = 512;
+
+/// What a server did: what became of each session, in their order, and its book, which is closed.
+#[derive(Drop)]
+pub struct Report {
+    pub sessions: Vec<Served>,
+    pub closed: Closed,
+}
+
+/// The services of all workers, each with a seat of its own.
+type Desks<'a, N, R, G> = Vec<Gated<'a, Worker<'a, N, R>, G>>;
+
+/// Serves all sessions over a new book of so many records for the users of a roster, each session
+/// by one of `workers` workers, which each have a thread and a seat of the book. Before and after
+/// each request the gate is passed, under the number of the session, from 1. `BadNumber` where the
+/// workers aren't 1 to 16 or the capacity isn't 1 to 1,000,000; `BadKey` where a user's key is
+/// none; `LinkFailed` where a thread couldn't be started, and then no session is served, and where
+/// the report of a session or the seat of a worker didn't come back; `NoMemory`.
+pub fn serve_book<R, I, L, G>(
+    rt: &R,
+    alloc: Global,
+    sessions: I,
+    workers: usize,
+    capacity: u64,
+    roster: Roster,
+    gate: &G,
+) -> Result<Report, Refusal>
+where
+    R: Threads + Wait + Sync,
+    I: Iterator<Item = L> + Drop,
+    L: Link + Send + Drop,
+    G: Gate + Sync,
+    requires can { I.can_next sessions }
+    requires ends { IsFinite (I.remaining sessions) }
+    ensures count { IfOk result (λ r. (came : List L) × Drains I.next_gives sessions came
+        × (length came ≡ vec_len r.sessions)) }
+    ensures ran { IfOk result (λ r.
+        All (λ served. ∥ RanSo (L.runs Answers) served ∥₁) r.sessions.items) }
+    ensures run { IfOk result (λ r. IsRun r.closed.book) }
+    ensures records { IfOk result (λ r. r.closed.records ≡ count_of r.closed.book.journal) }
+    ensures calls { IfOk result (λ r. r.closed.calls ≡ length r.closed.book.journal) }
+    ensures range { OnOk result (IsWorkerCount workers × IsCapacity capacity) }
+    ensures refused { IfErr result (λ e.
+        ((e ≡ BadNumber) × ¬ (IsWorkerCount workers × IsCapacity capacity))
+        ⊎ ((e ≡ BadKey) × HasBadKey roster) ⊎ (e ≡ LinkFailed) ⊎ (e ≡ NoMemory)) }
+{
+    let most = MOST_RECORDS;
+    if workers < 1 || MOST_WORKERS < workers || capacity < 1 || most < capacity {
+        return Err(Refusal::BadNumber);
+    }
+    let cells = Cells::new(alloc, capacity)?;
+    let blank = Blank::new(PARTS);
+    serve_named::<Brand, R, I, L, G>(rt, alloc, sessions, workers, cells, roster, blank, gate)
+}
+
+/// The same, over a book of this name.
+fn serve_named<N, R, I, L, G>(
+    rt: &R,
+    alloc: Global,
+    sessions: I,
+    workers: usize,
+    cells: Cells,
+    roster: Roster,
+    blank: Blank,
+    gate: &G,
+) -> Result<Report, Refusal>
+where
+    N: BookName + Send,
+    R: Threads + Wait + Sync,
+    I: Iterator<Item = L> + Drop,
+    L: Link + Send + Drop,
+    G: Gate + Sync,
+    requires can { I.can_next sessions }
+    requires ends { IsFinite (I.remaining sessions) }
+    requires range { IsWorkerCount workers × IsCapacity (length cells) }
+    requires cells { cells ≡ N.cells }
+    requires ledger { (blank.name ≡ N.name) × (blank.parts ≡ N.parts) × (257 ≤ N.parts) }
+    ensures count { IfOk result (λ r. (came : List L) × Drains I.next_gives sessions came
+        × (length came ≡ vec_len r.sessions)) }
+    ensures ran { IfOk result (λ r.
+        All (λ served. ∥ RanSo (L.runs Answers) served ∥₁) r.sessions.items) }
+    ensures run { IfOk result (λ r. IsRun r.closed.book) }
+    ensures records { IfOk result (λ r. r.closed.records ≡ count_of r.closed.book.journal) }
+    ensures calls { IfOk result (λ r. r.closed.calls ≡ length r.closed.book.journal) }
+    ensures refused { IfErr result (λ e.
+        ((e ≡ BadKey) × HasBadKey roster) ⊎ (e ≡ LinkFailed) ⊎ (e ≡ NoMemory)) }
+{
+    let book: SharedBook<N> = SharedBook::new(alloc, cells, roster, blank)?;
+    let (sessions, seats) = serve_at(rt, alloc, sessions, workers, &book, gate)?;
+    let Ok(closed) = book.close(seats) else {
+        return Err(Refusal::LinkFailed);
+    };
+    Ok(Report { sessions, closed })
+}
+
+/// Serves all sessions over this book, and hands the seats back that were made for the workers.
+fn serve_at<N, R, I, L, G>(
+    rt: &R,
+    alloc: Global,
+    sessions: I,
+    workers: usize,
+    book: &SharedBook<N>,
+    gate: &G,
+) -> Result<(Vec<Served>, Vec<Seat<N>>), Refusal>
+where
+    N: BookName + Send,
+    R: Threads + Wait + Sync,
+    I: Iterator<Item = L> + Drop,
+    L: Link + Send + Drop,
+    G: Gate + Sync,
+    requires can { I.can_next sessions }
+    requires ends { IsFinite (I.remaining sessions) }
+    requires range { IsWorkerCount workers }
+    ensures count { IfOk result (λ r. (came : List L) × Drains I.next_gives sessions came
+        × (length came ≡ vec_len r.0)) }
+    ensures ran { IfOk result (λ r. All (λ served. ∥ RanSo (L.runs Answers) served ∥₁) r.0.items) }
+    ensures refused { IfErr result (λ e. (e ≡ LinkFailed) ⊎ (e ≡ NoMemory)) }
+{
+    let blocks = SharedBlocks::new(alloc)?;
+    match desks(rt, alloc, workers, book, &blocks, gate) {
+        Ok(desks) => {
+            let (all, back) = serve_all(rt, alloc, sessions, desks)?;
+            Ok((all, seats_of(alloc, back)?))
+        }
+        Err(refusal) => Err(refusal),
+    }
+}
+
+/// Makes a seat for each worker, and its service behind the gate.
+fn desks<'a, N: BookName, R: Wait, G: Gate>(
+    rt: &'a R,
+    alloc: Global,
+    workers: usize,
+    book: &'a SharedBook<N>,
+    blocks: &'a SharedBlocks,
+    gate: &'a G,
+) -> Result<Desks<'a, N, R, G>, Refusal>
+    ensures len { IfOk result (λ desks. vec_len desks ≡ workers) }
+    ensures refused { IfErr result (λ e. (e ≡ LinkFailed) ⊎ (e ≡ NoMemory)) }
+{
+    let mut desks = Vec::new(alloc);
+    for _ in 0..workers {
+        let seat = match book.seat(rt, alloc) {
+            Ok(seat) => seat,
+            Err(Refusal::NoMemory) => return Err(Refusal::NoMemory),
+            // a book has seats for more workers than there may be
+            Err(_) => return Err(Refusal::LinkFailed),
+        };
+        let desk = Gated::new(Worker::new(rt, book, blocks, seat), gate);
+        if desks.push(desk).is_err() {
+            return Err(Refusal::NoMemory);
+        }
+    }
+    Ok(desks)
+}
+
+/// Takes the seats out of the services.
+fn seats_of<N: BookName, R: Wait, G: Gate>(
+    alloc: Global,
+    desks: Desks<'_, N, R, G>,
+) -> Result<Vec<Seat<N>>, Refusal>
+    ensures { IfErr result (λ e. e ≡ NoMemory) }
+{
+    let mut seats = Vec::new(alloc);
+    for desk in desks {
+        if seats.push(desk.into_service().into_seat()).is_err() {
+            return Err(Refusal::NoMemory);
+        }
+    }
+    Ok(seats)
+}
