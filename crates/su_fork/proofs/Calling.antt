@@ -1,5 +1,5 @@
 -- Calls of views as events; and a server that shows two lists.
-use Rattle.std.proofs.Common.{◌≡◌, ◌≢◌, ℕ, true, List, [], ◌∷◌, ◌++◌, map, refl, sym, ap, ◌∙◌, subst, append_assoc, append-nil}
+use Rattle.std.proofs.Common.{◌≡◌, ◌≢◌, ℕ, true, List, [], ◌∷◌, ◌++◌, refl, sym, ap, ◌∙◌, subst, append_assoc, append-nil}
 use Rattle.su_version.specs.Version.{Version}
 use Rattle.su_legal.specs.Legal.{Committed, LegalAfter, Legal}
 use Rattle.su_legal.specs.Act.{Act, Act.Takes, Act.Signs}
