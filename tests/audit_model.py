@@ -108,43 +108,69 @@ def commit_in(data):
     return logs.Version(author, prev, change, handle, groups, vector), signature
 
 
-class View:
-    """What a client holds. It takes a commit, or raises why it refuses it."""
+class Chain:
+    """The end of a list of commits, which tells the commit that may come next."""
 
     def __init__(self, publics):
         self.publics = publics
-        self.items = {}
-        self.maker = logs.Maker([Unsigning(public) for public in publics])
+        self.prev = sha256(logs.roster_bytes(publics))
+        self.vector = [0] * (len(publics) + 2)
+        self.count = 0
         self.last_leaf = {}
-
-    def put(self, item):
-        demand(1 <= len(item) <= LONGEST_ITEM, "22 TooBig")
-        self.items[sha256(item)] = item
-
-    def accept(self, commit):
-        version, signature = commit_in(commit)
-        self.check_next(version, signature)
-        demand(version.change in self.items, "5 MissingBlock")
-        change, wanted = self.within(version)
-        demand(version.handle == wanted.handle, f"38 WrongHandle U{version.author}")
-        self.check_groups(dict(version.groups), dict(wanted.groups))
-        self.maker.take(version.author, change, version, commit)
-        self.last_leaf[version.author] = int.from_bytes(signature[:4], "big")
 
     def check_next(self, version, signature):
         is_user = version.author < len(self.publics)
         is_signed = is_user and verify(self.publics[version.author], version.encode(), signature)
         demand(is_signed, "33 BadSignature")
-        demand(version.prev == self.maker.prev, f"34 WrongPrev {len(self.maker.records)}")
+        demand(version.prev == self.prev, f"34 WrongPrev {self.count}")
         carried = [group for group, _ in version.groups]
-        is_next = set(carried) <= {0, 1} and version.vector == self.maker.raised(version.author, carried)
+        is_next = set(carried) <= {0, 1} and version.vector == logs.raised(self.vector, len(self.publics), version.author, carried)
         demand(is_next, "35 WrongVector")
-        demand(int.from_bytes(signature[:4], "big") > self.last_leaf.get(version.author, -1), "36 KeyReuse")
+        demand(leaf_of(signature) > self.last_leaf.get(version.author, -1), "36 KeyReuse")
 
-    def within(self, version):
-        """The change that a commit names, and the version structure that it should have then."""
+    def add(self, commit):
+        """Adds a commit that may come next."""
+        version, signature = commit_in(commit)
+        self.prev, self.vector = sha256(commit), version.vector
+        self.count += 1
+        self.last_leaf[version.author] = leaf_of(signature)
+
+
+def leaf_of(signature):
+    """The leaf that signed."""
+    return int.from_bytes(signature[:4], "big")
+
+
+class View:
+    """What a client holds. It takes a commit, or raises why it refuses it."""
+
+    def __init__(self, publics):
+        self.items = {}
+        self.maker = logs.Maker([Unsigning(public) for public in publics])
+        self.chain = Chain(publics)
+
+    def put(self, item):
+        demand(1 <= len(item) <= LONGEST_ITEM, "22 TooBig")
+        self.items[sha256(item)] = item
+
+    def item(self, digest):
+        """The item of that digest."""
+        demand(digest in self.items, "5 MissingBlock")
+        return self.items[digest]
+
+    def accept(self, commit):
+        version, signature = commit_in(commit)
+        self.chain.check_next(version, signature)
+        change, wanted = self.within(version, self.item(version.change))
+        demand(version.handle == wanted.handle, f"38 WrongHandle U{version.author}")
+        self.check_groups(dict(version.groups), dict(wanted.groups))
+        self.maker.take(version.author, change, version, commit)
+        self.chain.add(commit)
+
+    def within(self, version, item):
+        """The change of the item that a commit names, and the version structure that it should have then."""
         try:
-            change = change_in(self.items[version.change])
+            change = change_in(item)
             return change, self.maker.version(version.author, change)
         except Refused as why:
             raise Refused(f"39 Change {why}") from None

@@ -1,9 +1,11 @@
 #!/usr/bin/env python3
 """Tries what `sundr keygen` leaves on the disk: whole pairs over what stood there, nothing where something else is in the way,
-two key makers at once, and a key maker that is killed at each of its system calls (by strace; without it these are skipped).
+two key makers at once, keys that another process uses, and a key maker that is killed at each of its system calls (by strace;
+without it these are skipped).
 
 Prints a line for each case that isn't as it should be, and last 'N passed, M failed'.
 """
+import fcntl
 import os
 import random
 import re
@@ -16,6 +18,9 @@ import tempfile
 TOP = os.path.dirname(os.path.dirname(os.path.abspath(__file__)))
 PROGRAM = f"{TOP}/crates/sundr/out/sundr"
 PAIRS_AT_ONCE = 200
+
+# What a key maker leaves: the pair, and the file by which the processes that use its key take turns.
+MADE = ["key", "key.lock", "key.pub"]
 
 
 class Room:
@@ -83,7 +88,8 @@ def modes(room):
     room.write("key.pub", b"old")
     os.chmod(room.path("key"), 0o666)
     printed = room.keygen(1).stdout
-    yield "over_an_old_pair", room.standing() == room.pair(1) and room.names() == ["key", "key.pub"]
+    yield "over_an_old_pair", room.standing() == room.pair(1) and room.names() == MADE
+    yield "an_empty_lock_for_its_owner", (room.read("key.lock"), os.stat(room.path("key.lock")).st_mode & 0o777) == (b"", 0o600)
     yield "for_its_owner_over_an_open_file", os.stat(room.path("key")).st_mode & 0o777 == 0o600
     yield "prints_the_public_key", printed == room.pair(1)[1].hex() + "\n"
 
@@ -134,7 +140,7 @@ def faults(room):
     limited = ["bash", "-c", 'trap "" XFSZ; ulimit -f 0; exec "$@"', "", *room.words(1)]
     full = subprocess.run(limited, stdout=subprocess.PIPE, stderr=subprocess.PIPE, text=True)
     yield "no_room", full.returncode == 1 and f"writing {room.path('key')}.part." in full.stderr
-    yield "faults_leave_the_pair", room.standing() == (b"old", b"old") and room.names() == ["key", "key.pub"]
+    yield "faults_leave_the_pair", room.standing() == (b"old", b"old") and room.names() == MADE
     by_pipe = subprocess.run(
         ["bash", "-c", '"$1" keygen --entropy <(cat "$2") --out "$3" --height 5 --width 4', "", PROGRAM, room.entropy(1),
          room.path("key")], capture_output=True, text=True)
@@ -152,12 +158,74 @@ def at_once(room):
         both = [subprocess.Popen(room.words(seed), stdout=subprocess.PIPE, stderr=subprocess.PIPE) for seed in seeds]
         printed = [it.communicate()[0] for it in both]
         mixed += room.standing() not in pairs
-        left += room.names() != ["key", "key.pub"]
+        left += room.names() != MADE
         told = [room.pair(seed)[1].hex().encode() + b"\n" for seed in seeds]
         untold += printed != told or [it.returncode for it in both] != [0, 0]
     yield f"at_once_{mixed}_of_{PAIRS_AT_ONCE}_mixed", mixed == 0
     yield f"at_once_{left}_left_files", left == 0
     yield f"at_once_{untold}_of_{PAIRS_AT_ONCE}_ended_otherwise", untold == 0
+
+
+class InUse:
+    """Uses a key as a client does, by the lock of the file beside it, until the block ends."""
+
+    def __init__(self, room, how=fcntl.LOCK_EX):
+        self.path, self.how = room.path("key.lock"), how
+
+    def __enter__(self):
+        self.file = open(self.path, "ab")
+        fcntl.flock(self.file, self.how | fcntl.LOCK_NB)
+
+    def __exit__(self, *_):
+        self.file.close()
+
+
+def is_refused(room, status, printed, told):
+    return (status, printed) == (1, "") and told.splitlines()[-1] == f"sundr: another process uses the key {room.path('key')}"
+
+
+def keys_in_use(room):
+    """No key maker replaces a key that another process uses, or waits for it; the lock's file stays the same one."""
+    room.keygen(1)
+    lock = os.stat(room.path("key.lock")).st_ino
+    room.write("key.part.7", b"of a run that was stopped")
+    for what, how in (("alone", fcntl.LOCK_EX), ("shared", fcntl.LOCK_SH)):
+        with InUse(room, how):
+            made = room.keygen(2, timeout=60)
+        yield f"in_use_{what}_is_refused", is_refused(room, made.returncode, made.stdout, made.stderr)
+        yield f"in_use_{what}_is_left", room.standing() == room.pair(1) and room.names() == sorted([*MADE, "key.part.7"])
+    with InUse(room):
+        both = [subprocess.Popen(room.words(seed), stdout=subprocess.PIPE, stderr=subprocess.PIPE, text=True) for seed in (2, 3)]
+        told = [it.communicate() for it in both]
+        yield "in_use_by_two_is_refused", all(is_refused(room, it.returncode, *texts) for it, texts in zip(both, told))
+        yield "in_use_by_two_is_left", room.standing() == room.pair(1)
+        made = room.keygen(2, "other")
+        yield "in_use_is_one_key_alone", made.returncode == 0 and room.read("other") == room.pair(2)[0]
+    yield "let_go_is_replaced", room.keygen(2).returncode == 0 and room.standing() == room.pair(2)
+    yield "the_lock_stays", os.stat(room.path("key.lock")).st_ino == lock
+    with InUse(room):
+        os.remove(room.path("key"))
+        made = room.keygen(3)
+    yield "in_use_and_removed_is_refused", is_refused(room, made.returncode, made.stdout, made.stderr)
+    yield "in_use_and_removed_is_left", room.standing() == (None, room.pair(2)[1])
+    os.remove(room.path("key.lock"))
+    os.mkdir(room.path("key.lock"))
+    made = room.keygen(3)
+    yield "a_folder_as_lock", made.returncode == 1 and f"sundr: locking {room.path('key.lock')}: Is a directory" in made.stderr
+    yield "a_folder_as_lock_is_left", room.standing() == (None, room.pair(2)[1])
+
+
+def a_user_that_is_killed(room):
+    """A lock ends with its process, however that ends."""
+    room.keygen(1)
+    hold = "import fcntl, sys, time; held = open(sys.argv[1]); fcntl.flock(held, fcntl.LOCK_EX); print(flush=True); time.sleep(60)"
+    holder = subprocess.Popen([sys.executable, "-c", hold, room.path("key.lock")], stdout=subprocess.PIPE)
+    holder.stdout.readline()
+    made = room.keygen(2)
+    yield "held_by_a_process", is_refused(room, made.returncode, made.stdout, made.stderr)
+    holder.kill()
+    holder.wait()
+    yield "let_go_by_a_kill", room.keygen(2).returncode == 0 and room.standing() == room.pair(2)
 
 
 def traced(words, *how):
@@ -166,9 +234,17 @@ def traced(words, *how):
 
 
 def calls_of(room):
-    """Returns the system calls of a key maker, each with which one of its name it is."""
-    log, counts = f"{room.at}/trace", {}
+    """Returns the system calls of a key maker over an old pair, each with which one of its name it is."""
+    log = f"{room.at}/trace"
+    room.clear()
+    room.keygen(1)
     traced(room.words(1), "-o", log)
+    return calls_in(log)
+
+
+def calls_in(log):
+    """Returns the system calls of a trace, each with which one of its name it is."""
+    counts = {}
     with open(log, encoding="utf-8") as file:
         for line in file:
             call = re.match(r"(?:\d+ +)?(\w+)\(", line)
@@ -186,11 +262,11 @@ def disturbed(room, call, which, how):
     old, new = room.pair(1), room.pair(2)
     states = {old: "old", new: "new", (old[0], None): "old alone", (new[0], None): "new alone"}
     state = states.get(room.standing(), "mixed")
-    left = [it for it in room.names() if it not in ("key", "key.pub")]
+    left = [it for it in room.names() if it not in MADE]
     is_secret = all(os.stat(room.path(it)).st_mode & 0o77 == 0 for it in left if ".pub" not in it)
     after = room.keygen(3)
     is_told = all(f"removed its {room.path(it)}" in after.stderr for it in left)
-    is_mended = after.returncode == 0 and room.standing() == room.pair(3) and room.names() == ["key", "key.pub"]
+    is_mended = after.returncode == 0 and room.standing() == room.pair(3) and room.names() == MADE
     return ended, state, left, is_secret and is_told and is_mended
 
 
@@ -210,7 +286,8 @@ def failures(room):
     public key (the first `unlink`); from there on it is as after a kill."""
     is_late = False
     for call, which in list(calls_of(room)):
-        if call not in ("fsync", "statx", "getdents64", "write", "unlink", "rename") and (call, which) != ("flock", 2):
+        is_lock = (call, which) in (("flock", 2), ("flock", 3))
+        if call not in ("fsync", "statx", "getdents64", "write", "unlink", "rename") and not is_lock:
             continue
         ended, state, left, is_mended = disturbed(room, call, which, "error=EIO")
         is_told = ended.returncode == 1 and "Input/output error" in ended.stderr
@@ -225,7 +302,7 @@ def main():
         print("keys: the program isn't built: run ./sundr first")
         print("0 passed, 1 failed")
         return 1
-    parts = [modes, in_the_way, faults, at_once]
+    parts = [modes, in_the_way, faults, at_once, keys_in_use, a_user_that_is_killed]
     if shutil.which("strace"):
         parts += [kills, failures]
     else:

@@ -73,6 +73,12 @@ class Version:
         return fixed + u8(len(self.groups)) + groups + u8(len(self.vector)) + numbers
 
 
+def raised(vector, users, user, groups):
+    """The vector of so many users, with the numbers of a user and of these groups one higher."""
+    higher = {user, *(users + group for group in groups)}
+    return [number + (n in higher) for n, number in enumerate(vector)]
+
+
 def commit_of(version, signature):
     return version.encode() + u32(len(signature)) + signature
 
@@ -145,9 +151,7 @@ class Maker:
         return Version(user, self.prev, sha256(item_of(change)), handles.of("U", user), groups, vector)
 
     def raised(self, user, groups):
-        """The vector, with the numbers of a user and of these groups one higher."""
-        higher = {user, *(len(self.keys) + group for group in groups)}
-        return [number + (n in higher) for n, number in enumerate(self.vector)]
+        return raised(self.vector, len(self.keys), user, groups)
 
     def sign(self, version, signer=None, leaf=None):
         """A commit of a version structure, signed by its author with the author's next leaf."""

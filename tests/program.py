@@ -14,6 +14,7 @@ import subprocess
 import sys
 import tempfile
 
+import client_model
 import desk_model
 
 HERE = os.path.dirname(os.path.abspath(__file__))
@@ -55,9 +56,11 @@ CASES = {
     "a_key_without_a_width": (keygen(5, 8)[:-2], "", "", 2),
     "a_key_of_no_entropy": (keygen(5, 4, entropy="nothing"), "", "", 1),
     "a_key_in_no_folder": (keygen(5, 4, out="nowhere/key"), "", "", 1),
-    "help": (["--help"], "", ("desk", "keygen"), 0),
+    "help": (["--help"], "", ("desk", "keygen", "audit", "serve", "client"), 0),
     "help_of_the_desk": (["desk", "--help"], "", ("undo_last", "--users"), 0),
     "help_of_keys": (["keygen", "--help"], "", ("--entropy <FILE>",), 0),
+    "help_of_the_server": (["serve", "--help"], "", ("--port", "--workers", "--capacity", "--sessions"), 0),
+    "help_of_the_client": (["client", "--help"], "", ("undo_last", "save FILE", "--user", "--key", "--log", "--tries"), 0),
     "version": (["-V"], "", "sundr 0.1.0\n", 0),
 }
 
@@ -111,16 +114,21 @@ def keys(room):
 
 
 def help_texts(room):
-    """Lines of at most 80 columns, each refusal that a desk can answer, and the kit that is there."""
-    texts = {" ".join(words): run([*words, "--help"])[0] for words in ([], ["desk"], ["keygen"], ["audit"])}
+    """Lines of at most 80 columns, each command and refusal that a desk or a client can answer, and the kit that is there."""
+    texts = {word: run([word, "--help"][not word:])[0] for word in ("", "desk", "keygen", "audit", "serve", "client")}
     for words, text in texts.items():
         wide = [line for line in text.split("\n") if len(line) > 80]
         yield f"help_of_{words or 'sundr'}_fits: {wide}", wide == []
     source = open(f"{TOP}/crates/su_bytes/src/refusals.rt", encoding="utf-8").read()
     numbers = {int(number): name for name, number in re.findall(r"Refusal::(\w+)(?:\(\.\.\))? => (\d+),", source)}
-    listed = dict(re.findall(r"(?m)^ {2,3}(\d+) (\w+)", texts["desk"]))
-    wanted = [2, 3, *range(12, 29), 30]
-    yield "help_lists_the_refusals", {int(number): name for number, name in listed.items()} == {n: numbers[n] for n in wanted}
+    numbers |= {38: "WrongHandle", 39: "Change", 40: "OwnMissing"}  # refusals of a view alone
+    listed, of_client = ({int(n): name for n, name in re.findall(r"(?m)^ {2,3}(\d+) (\w+)", texts[it])} for it in ("desk", "client"))
+    yield "help_lists_the_refusals", listed == {n: numbers[n] for n in [2, 3, *range(12, 29), 30]}
+    wrong = {n: name for n, name in of_client.items() if numbers.get(n) != name}
+    missing = {8, 10, 18, 29, 31, 37, 39, 40, 43} - set(of_client)
+    yield f"help_lists_the_refusals_of_a_client: {wrong} {missing}", not wrong and not missing
+    for command in client_model.FORMS:
+        yield f"help_has_{command.decode()}", re.search(rf"(?m)^ +{command.decode()}\b", texts["client"]) is not None
     kit = subprocess.run(["rt", "version"], capture_output=True, text=True).stdout
     yield "version_tells_the_kit", run(["--version"])[0] == f"sundr 0.1.0\nproved with {kit}"
 

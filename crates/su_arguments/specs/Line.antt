@@ -1,13 +1,20 @@
 -- What a command line says.
-use Rattle.std.specs.Prelude.{◌≤◌, ⊤, length}
+use Rattle.std.specs.Prelude.{⊤, length}
 use Rattle.su_lms.specs.ParameterSets.{CanBeMade}
 use Rattle.su_arguments.specs.declared.line.Line.{Line}
-use Rattle.su_arguments.specs.declared.line.Line.TheVariants.{Desk, Keygen, Audit, Text}
+use Rattle.su_arguments.specs.declared.line.Line.TheVariants.{Desk, Keygen, Audit, Serve, Client, Text}
+use Rattle.su_arguments.specs.Ranges.{IsUserCount, IsUser, IsPort, IsWorkerCount, IsCapacity}
+use Rattle.su_arguments.specs.Ranges.{IsSessionCount, IsTryCount}
 
--- each number is in its range: a desk has 1 to 64 users, a key is of a kind that can be made, and an
--- audit has the keys of 1 to 64 users
+-- each number is in its range, there are the keys of 1 to 64 users, and a key to be made is of a kind
+-- that can be made
 abbrev pub HasGoodNumbers : Line → Type 0
-HasGoodNumbers (Desk users) = (1 ≤ users) × (users ≤ 64)
+HasGoodNumbers (Desk users) = IsUserCount users
 HasGoodNumbers (Keygen entropy out params) = CanBeMade params.lms params.ots
-HasGoodNumbers (Audit log keys) = (1 ≤ length keys.items) × (length keys.items ≤ 64)
+HasGoodNumbers (Audit log keys) = IsUserCount (length keys.items)
+HasGoodNumbers (Serve port workers capacity sessions keys) =
+    IsPort port × IsWorkerCount workers × IsCapacity capacity × IsSessionCount sessions
+    × IsUserCount (length keys.items)
+HasGoodNumbers (Client port user key log tries keys) =
+    IsPort port × IsUser user × IsTryCount tries × IsUserCount (length keys.items)
 HasGoodNumbers (Text text) = ⊤

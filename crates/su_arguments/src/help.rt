@@ -8,8 +8,8 @@ pub const ABOUT: &str = "A shared file store of which each operation can be undo
 
 Exit status:
   0  what was asked for was done, refusals among the answers of a script
-  1  a log was refused, which is printed; or a file or stream failed, or there
-     was no memory, and standard error says which
+  1  a log was refused, which is printed; or a file, a stream or a link failed,
+     or there was no memory, and standard error says which
   2  a wrong command line, or a line of a script that is no command";
 
 pub const DESK_ABOUT: &str = "Runs a script from standard input, and answers it on standard output
@@ -96,3 +96,87 @@ Refusals:
   36 KeyReuse           its author's key signed with this leaf, or a later one
   38 WrongHandle P      it holds another i-handle of P than the tree has then
   39 Change NUMBER ..   its change is refused so, or its item spells none";
+
+pub const SERVE_ABOUT: &str = "Serves a shared folder to the users with these public keys
+
+It stores their commits, in order, each signed by its author, and the items that
+these name. All is kept in memory: with its end it is gone, but for what clients
+saved. The keys are those of the users 0, 1 and so on; group 0 has all of them,
+group 1 has user 0. So
+
+    sundr serve --port 7000 --workers 4 --capacity 1000 --sessions 20 \\
+        0.pub 1.pub
+
+serves 20 connections, four at a time, and ends. It listens on all addresses of
+this machine. Whoever connects can read, and can take the turn: a session that
+takes it and then says nothing keeps it, and its worker, until it ends. Standard
+error tells when it listens, and at its end what it served.";
+
+pub const CLIENT_ABOUT: &str = "Runs a script from standard input against a server, and answers it
+
+The server need not be trusted: what it shows is checked, and nothing is taken
+that breaks the rules or that its author did not sign. For each command the
+client asks for the turn, takes the commits that came since, and looks at the
+tree that they make, or signs and stores changes of its own. The keys are those
+of the users 0, 1 and so on; group 0 has all of them, group 1 has user 0. So
+
+    sundr client --port 7000 --user 1 --key 1 0.pub 1.pub
+
+works as user 1, with the key that `sundr keygen --out 1` made. One process at a
+time can use a key. The server is on this machine, or is reached through a
+tunnel, such as ssh makes with `-L 7000:localhost:7000`.
+
+A script has a command a line. Each is answered before the next line is read. A
+run knows no commits but those of its `--log`: without one any list that follows
+the rules is taken, and with one a server is refused that lacks the user's own
+last commit.";
+
+/// What a client prints, after its commands.
+pub const CLIENT_ANSWERS: &str =
+    "OFF, LEN and SIZE are numbers of bytes. An empty line is passed over.
+
+Answers:
+  ok N               commit N is stored, which is one operation of the command
+  no NUMBER NAME ..  the command is refused here, and what is stored stays
+  line N: bad        line N is no command, and the script ends
+ls prints a line NAME FILE for each name, for example `f G0:3`; of a name each
+byte below 0x20, each 0x7f and each backslash is shown as \\xHH. cat prints the
+bytes in hex digits. save prints nothing.
+
+Refusals:
+   1 Malformed AT       what the server shows is no commit, from byte AT on
+   3 BadNumber          a number is out of its range, or no number is left
+   5 MissingBlock       the server lacks an item
+   6 WrongBlock         the server gave another item than it was asked for
+   7 SourceFailed       the link failed where an item was asked for
+   8 KeySpent           each leaf of the key has signed
+  10 KeyFileFault       the key file could not be written
+  11 NotOrdered I J     of the users' last commits that the server shows none of
+                        these two comes after the other
+  13 NotMember G        the user is not in group G
+  15 WrongKind FILE     it is a file and not a directory, or the other way round
+  16 NotHolder U        it is a file of user U alone
+  18 NoName             the name is not there
+  19 Exists             the name is there already
+  20 NotEmpty           the directory has names
+  21 DirMove            a directory stays in its directory
+  22 TooBig             a file has at most 1,048,576 bytes
+  23 TooManyLinks       a file has at most 255 names
+  29 BadPath            it is no path, or / where a name is needed
+  30 NoMemory           memory was refused
+  31 Busy S             the client at seat S kept the turn
+  33 BadSignature       a commit is not signed by its author, or the key is not
+                        that of the user
+  34 WrongPrev N        a commit does not follow commit N, the last one
+  35 WrongVector        its version numbers are not those that come next
+  36 KeyReuse           its author's key signed with this leaf, or a later one
+  37 BookFull           the server keeps no more commits
+  38 WrongHandle P      it holds another i-handle of P than the tree has then
+  39 Change NUMBER ..   a change is refused so, an undo for example by one of
+         24 NoOperation N      there is no commit N
+         25 NotOperation N     commit N is an undo
+         26 AlreadyUndone N M  commit N was undone by commit M
+         27 NotAuthor U        the commit is user U's, who alone can undo it
+         28 Blocked N          commit N rests on it: undo that one first
+  40 OwnMissing         the server hides the user's own last commit
+  43 LinkFailed         the link to the server failed";

@@ -3,5 +3,7 @@
 
 mod help;
 mod line;
+mod options;
+mod serving;
 
 pub use line::{Line, LineFault, line_of};

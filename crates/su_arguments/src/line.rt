@@ -6,8 +6,11 @@ ghost use Rattle.su_arguments.specs.declared.line.LineFault.TheVariants.{NoMemor
 ghost use Rattle.su_arguments.specs.Line.{HasGoodNumbers};
 
 use crate::help::{
-    ABOUT, AUDIT_ABOUT, AUDIT_ANSWERS, DESK_ABOUT, DESK_ANSWERS, KEYGEN_ABOUT, LONG_VERSION,
+    ABOUT, AUDIT_ABOUT, AUDIT_ANSWERS, CLIENT_ANSWERS, DESK_ABOUT, DESK_ANSWERS, KEYGEN_ABOUT,
+    LONG_VERSION,
 };
+use crate::options::{keys_of, needed, needed_keys, usage};
+use crate::serving::{client_command, client_of, serve_command, serve_of};
 use clap::{Arg, ArgMatches, Command};
 use std::alloc::{AllocError, Global};
 use su_lms::Params;
@@ -29,6 +32,26 @@ pub enum Line {
     /// Audits the log in a file, of users with the public keys in these files, 1 to 64 of them.
     Audit {
         log: String,
+        keys: Vec<String>,
+    },
+    /// Serves so many sessions, 1 to 1,000,000, on a port, 1 to 65535, by 1 to 16 workers, over a
+    /// book of 1 to 1,000,000 commits of users with the public keys in these files, 1 to 64 of them.
+    Serve {
+        port: u16,
+        workers: usize,
+        capacity: u64,
+        sessions: u32,
+        keys: Vec<String>,
+    },
+    /// Runs a script for a user, 0 to 63, with the key in a file, at the server on a port, 1 to
+    /// 65535, of users with the public keys in these files, 1 to 64 of them. The commits of a log are
+    /// taken first. So often, 1 to 1,000,000 times, a turn that another has is asked for.
+    Client {
+        port: u16,
+        user: u8,
+        key: String,
+        log: Option<String>,
+        tries: u32,
         keys: Vec<String>,
     },
     /// A text for the standard output: help, or the version.
@@ -54,12 +77,20 @@ impl From<AllocError> for LineFault {
 }
 
 /// Reads what these words ask for, the first of which is the program's own name. `Usage` where they
-/// make no command line. `commands` is the text on a script's commands in the help of `desk`.
-pub fn line_of<'a>(alloc: Global, commands: &str, words: &'a [&'a str]) -> Result<Line, LineFault>
+/// make no command line, `NoMemory` where memory is refused. The texts on the commands of a desk's
+/// script and of a client's are shown in the help of `desk` and of `client`.
+pub fn line_of<'a>(
+    alloc: Global,
+    desk_words: &str,
+    client_words: &str,
+    words: &'a [&'a str],
+) -> Result<Line, LineFault>
     ensures { IfOk result HasGoodNumbers }
 {
-    let desk_help = format!(in alloc; "{commands}\n\n{DESK_ANSWERS}")?;
-    let matches = match program(alloc, desk_help.as_str())?.try_get_matches_from(words) {
+    let desk_help = format!(in alloc; "{desk_words}\n\n{DESK_ANSWERS}")?;
+    let client_help = format!(in alloc; "{client_words}\n\n{CLIENT_ANSWERS}")?;
+    let program = program(alloc, desk_help.as_str(), client_help.as_str())?;
+    let matches = match program.try_get_matches_from(words) {
         Ok(matches) => matches,
         Err(error) => return shown(alloc, &error),
     };
@@ -67,12 +98,18 @@ pub fn line_of<'a>(alloc: Global, commands: &str, words: &'a [&'a str]) -> Resul
         Some(("desk", values)) => desk(alloc, values),
         Some(("keygen", values)) => keygen(alloc, values),
         Some(("audit", values)) => audit(alloc, values),
-        _ => Err(LineFault::Usage(String::from_str(alloc, "error: no such subcommand")?)),
+        Some(("serve", values)) => serve_of(alloc, values),
+        Some(("client", values)) => client_of(alloc, values),
+        _ => Err(usage(alloc, "error: no such subcommand")),
     }
 }
 
-/// Builds the whole command line, with a help text of the desk.
-fn program<'a>(alloc: Global, desk_help: &'a str) -> Result<Command<'a>, AllocError> {
+/// Builds the whole command line, with help texts on the scripts of a desk and of a client.
+fn program<'a>(
+    alloc: Global,
+    desk_help: &'a str,
+    client_help: &'a str,
+) -> Result<Command<'a>, AllocError> {
     Command::new(alloc, "sundr")
         .long_about(ABOUT)
         .version("0.1.0")
@@ -80,7 +117,9 @@ fn program<'a>(alloc: Global, desk_help: &'a str) -> Result<Command<'a>, AllocEr
         .subcommand_required(true)
         .subcommand(desk_command(alloc, desk_help)?)?
         .subcommand(keygen_command(alloc)?)?
-        .subcommand(audit_command(alloc)?)
+        .subcommand(audit_command(alloc)?)?
+        .subcommand(serve_command(alloc)?)?
+        .subcommand(client_command(alloc, client_help)?)
 }
 
 fn desk_command<'a>(alloc: Global, help: &'a str) -> Result<Command<'a>, AllocError> {
@@ -119,25 +158,12 @@ fn keygen_command<'a>(alloc: Global) -> Result<Command<'a>, AllocError> {
 
 fn audit_command<'a>(alloc: Global) -> Result<Command<'a>, AllocError> {
     let log = needed(alloc, "log", "FILE").help("The log");
-    let keys = Arg::new(alloc, "keys")
-        .value_name("PUB")
-        .required(true)
-        .num_args(1..=64)
-        .help("The users' public keys: of user 0, of user 1, and so on");
     Command::new(alloc, "audit")
         .about("Audits a log of commits")
         .long_about(AUDIT_ABOUT)
         .after_help(AUDIT_ANSWERS)
         .arg(log)?
-        .arg(keys)
-}
-
-/// Builds an option that has to be given.
-fn needed<'a>(alloc: Global, name: &'a str, value: &'a str) -> Arg<'a> {
-    Arg::new(alloc, name)
-        .long(name)
-        .value_name(value)
-        .required(true)
+        .arg(needed_keys(alloc))
 }
 
 const HEIGHTS: [&str; 2] = ["5", "10"];
@@ -164,10 +190,7 @@ fn desk(alloc: Global, values: &ArgMatches<'_>) -> Result<Line, LineFault>
 {
     match values.get_one::<u8>("users") {
         Some(users) if (1..=64).contains(&users) => Ok(Line::Desk { users }),
-        _ => Err(LineFault::Usage(String::from_str(
-            alloc,
-            "error: the number of users is 1 to 64",
-        )?)),
+        _ => Err(usage(alloc, "error: the number of users is 1 to 64")),
     }
 }
 
@@ -181,13 +204,10 @@ fn keygen(alloc: Global, values: &ArgMatches<'_>) -> Result<Line, LineFault>
         values.get_str("height"),
         values.get_str("width"),
     ) else {
-        return Err(LineFault::Usage(String::from_str(alloc, "error: an option is missing")?));
+        return Err(usage(alloc, "error: an option is missing"));
     };
     let Some(params) = params_of(height, width) else {
-        return Err(LineFault::Usage(String::from_str(
-            alloc,
-            "error: the height is 5 or 10, the width 4 or 8",
-        )?));
+        return Err(usage(alloc, "error: the height is 5 or 10, the width 4 or 8"));
     };
     Ok(Line::Keygen {
         entropy: String::from_str(alloc, entropy)?,
@@ -200,32 +220,14 @@ fn keygen(alloc: Global, values: &ArgMatches<'_>) -> Result<Line, LineFault>
 fn audit(alloc: Global, values: &ArgMatches<'_>) -> Result<Line, LineFault>
     ensures { IfOk result HasGoodNumbers }
 {
-    let (Some(log), Some(paths)) = (values.get_str("log"), values.get_strs("keys")) else {
-        return Err(LineFault::Usage(String::from_str(alloc, "error: an option is missing")?));
+    let Some(log) = values.get_str("log") else {
+        return Err(usage(alloc, "error: an option is missing"));
     };
-    let keys = copies(alloc, paths)?;
-    if keys.is_empty() || 64 < keys.len() {
-        return Err(LineFault::Usage(String::from_str(
-            alloc,
-            "error: there are 1 to 64 public keys",
-        )?));
-    }
+    let keys = keys_of(alloc, values)?;
     Ok(Line::Audit {
         log: String::from_str(alloc, log)?,
         keys,
     })
-}
-
-/// Copies texts.
-fn copies(alloc: Global, texts: &[&str]) -> Result<Vec<String>, AllocError> {
-    let mut copies = Vec::with_capacity(alloc, texts.len())?;
-    for text in texts {
-        let copy = String::from_str(alloc, text)?;
-        if copies.push(copy).is_err() {
-            return Err(AllocError);
-        }
-    }
-    Ok(copies)
 }
 
 /// Returns the parameter set of a tree of that height and coefficients of that width, by the type

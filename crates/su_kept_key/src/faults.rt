@@ -2,6 +2,7 @@
 ghost use Rattle.std.specs.Prelude.{◌≡◌};
 ghost use Rattle.su_kept_key.specs.declared.faults.KeptKeyFault.TheVariants.{NoMemory};
 
+use crate::locks::LockFault;
 use std::alloc::{AllocError, Global};
 use std::io;
 use su_bytes::Refusal;
@@ -19,12 +20,9 @@ pub enum KeptKeyFault {
     /// The file has other names, under which the leaves that sign would stay unknown.
     #[error("{path} has {names} names, and the file of a key has one")]
     ManyNames { path: String, names: u64 },
-    /// The file beside the key, by which processes take turns, can't be made or locked.
-    #[error("locking {path}: {reason}")]
-    Unlocked { path: String, reason: io::Error },
-    /// Another process uses the key.
-    #[error("another process uses the key {path}")]
-    InUse { path: String },
+    /// The key can't be locked.
+    #[error(transparent)]
+    Lock(#[from] LockFault),
     /// There is no file, or it can't be read.
     #[error("reading {path}: {reason}")]
     Unread { path: String, reason: io::Error },
@@ -40,14 +38,6 @@ pub enum KeptKeyFault {
 }
 
 impl KeptKeyFault {
-    /// Returns `Unlocked` of a path.
-    pub fn unlocked(alloc: Global, path: &str, reason: io::Error) -> KeptKeyFault {
-        match String::from_str(alloc, path) {
-            Ok(path) => KeptKeyFault::Unlocked { path, reason },
-            Err(_) => KeptKeyFault::NoMemory,
-        }
-    }
-
     /// Returns `Unread` of a path.
     pub fn unread(alloc: Global, path: &str, reason: io::Error) -> KeptKeyFault {
         match String::from_str(alloc, path) {

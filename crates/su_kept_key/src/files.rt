@@ -1,18 +1,17 @@
-// The files of a key: its own, PATH.lock, by which processes take turns, and PATH.next, in which the
-// key is written first.
+// The files of a key: its own, and PATH.next, in which it is written first.
 ghost use Rattle.std.specs.Prelude.{◌≡◌, ℕ, List, Some, IfOk, OnOk, take};
 ghost use Rattle.std.specs.Io.KnownBytes.{Appends};
 
 use crate::faults::KeptKeyFault;
 use std::alloc::Global;
-use std::fs::{File, OpenFile, OpenOptions, TryLockError};
+use std::fs::{File, OpenFile, OpenOptions};
 use std::io::{ErrorKind, Read, Write};
 use std::os::unix::fs::{MetadataExt, OpenOptionsExt};
 use std::{fs, io};
 use su_lms::KeyFile;
 
 /// Only the owner may read or write.
-const PRIVATE: u32 = 0o600;
+pub(crate) const PRIVATE: u32 = 0o600;
 
 /// Splits off the folder of a path. `None` where the path ends in no name.
 pub(crate) fn folder_of(path: &str) -> Option<&str> {
@@ -45,31 +44,6 @@ pub(crate) fn require_plain(rt: &HostRuntime, path: &str) -> Result<(), KeptKeyF
         });
     }
     Ok(())
-}
-
-/// Locks a key for as long as the file that is returned is open. The key's own file can't be what is
-/// locked: each signature puts another one in its place, and the lock would stay with the old one.
-pub(crate) fn lock_key(rt: &HostRuntime, path: &str) -> Result<File, KeptKeyFault> {
-    let alloc = rt.alloc();
-    let lock_path = format!(in alloc; "{path}.lock")?;
-    let opened = OpenOptions::new()
-        .write(true)
-        .create(true)
-        .mode(PRIVATE)
-        .open(rt, lock_path.as_str());
-    let lock = match opened {
-        Ok(lock) => lock,
-        Err(reason) => return Err(KeptKeyFault::unlocked(alloc, lock_path.as_str(), reason)),
-    };
-    match lock.try_lock() {
-        Ok(()) => Ok(lock),
-        Err(TryLockError::WouldBlock) => Err(KeptKeyFault::InUse {
-            path: String::from_str(alloc, path)?,
-        }),
-        Err(TryLockError::Error(reason)) => {
-            Err(KeptKeyFault::unlocked(alloc, lock_path.as_str(), reason))
-        }
-    }
 }
 
 /// Reads a key file. No more than 65 bytes are read.

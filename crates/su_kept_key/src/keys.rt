@@ -7,7 +7,8 @@ ghost use Rattle.su_lms.specs.KeyFile.{private_key_of};
 ghost use Rattle.su_bytes.specs.declared.refusals.Refusal.TheVariants.{NoMemory};
 
 use crate::faults::KeptKeyFault;
-use crate::files::{folder_of, lock_key, read_key, replace, require_plain};
+use crate::files::{folder_of, read_key, replace, require_plain};
+use crate::locks::lock_key;
 use std::alloc::Global;
 use std::fs::File;
 use std::io;
@@ -48,8 +49,9 @@ impl<'a> Model for KeptKey<'a> {
 
 impl<'a> KeptKey<'a> {
     /// Opens the key file at a path, and locks the key. Faults in order: `NoName`; `Unread` where
-    /// nothing stands there; `InTheWay`; `ManyNames`; `Unlocked`; `InUse`; `Unread`; `NoKey`;
-    /// `Folder`. `NoMemory` can come at any time. Beside the file `PATH.lock` is made and stays.
+    /// nothing stands there; `InTheWay`; `ManyNames`; `Lock`, as `lock_key` answers; `Unread`;
+    /// `NoKey`; `Folder`. `NoMemory` can come at any time. Beside the file `PATH.lock` is made and
+    /// stays.
     pub fn open(rt: &'a HostRuntime, path: &str) -> Result<KeptKey<'a>, KeptKeyFault>
         ensures path { IfOk result (λ kept. kept.path ≡ path.now) }
         ensures failures { IfOk result (λ kept. kept.failures ≡ 0) }

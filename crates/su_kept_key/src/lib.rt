@@ -4,6 +4,8 @@
 mod faults;
 mod files;
 mod keys;
+mod locks;
 
 pub use faults::KeptKeyFault;
 pub use keys::{KeptKey, signer_of};
+pub use locks::{LockFault, lock_key};

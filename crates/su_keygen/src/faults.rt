@@ -4,6 +4,7 @@ ghost use Rattle.su_keygen.specs.declared.faults.KeygenFault.TheVariants.{NoMemo
 
 use std::alloc::{AllocError, Global};
 use std::io;
+use su_kept_key::LockFault;
 use thiserror::Error;
 
 /// Why no key was made: which file or folder stood in the way, and the system's reason.
@@ -24,6 +25,9 @@ pub enum KeygenFault {
     /// What stands at the path is a folder, a link, a device or a pipe, which no key replaces.
     #[error("{path} is no plain file, and is left as it is")]
     InTheWay { path: String },
+    /// Another process uses the key at the path, or its lock can't be had.
+    #[error(transparent)]
+    Lock(#[from] LockFault),
     /// The folder of the key can't be opened, locked, listed or synced.
     #[error("the folder {path}: {reason}")]
     Folder { path: String, reason: io::Error },

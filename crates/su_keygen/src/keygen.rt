@@ -50,8 +50,9 @@ struct NewKey {
 }
 
 /// Makes the key of a file of 48 bytes of entropy. Writes it to the file `out`, and its public key
-/// to `out.pub`, over plain files that stood there. The faults of the entropy come first, and then
-/// nothing was written.
+/// to `out.pub`, over plain files that stood there, unless another process uses the key. The faults
+/// of the entropy come first, and then nothing was written. Beside the key `out.lock` is made and
+/// stays.
 pub fn make_key(
     rt: &HostRuntime,
     entropy: &str,

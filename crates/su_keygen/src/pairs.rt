@@ -4,13 +4,14 @@
 // 1. The folder is locked, so that key makers take turns in it, and synced, so that one that can't
 //    be is met before anything is changed.
 // 2. Where something else than a plain file stands at FILE or FILE.pub, all is left as it is.
-// 3. What a run that was stopped left is removed, and standard error tells of it.
-// 4. Both are written whole under names of this run: the old pair stands, and perhaps these.
-// 5. The old public key is removed: the old key stands alone.
-// 6. The new key takes its name: the new key stands alone.
-// 7. The new public key takes its name: the new pair stands.
+// 3. The key is locked, as each process does that signs with it, so that no key in use is replaced.
+// 4. What a run that was stopped left is removed, and standard error tells of it.
+// 5. Both are written whole under names of this run: the old pair stands, and perhaps these.
+// 6. The old public key is removed: the old key stands alone.
+// 7. The new key takes its name: the new key stands alone.
+// 8. The new public key takes its name: the new pair stands.
 //
-// After each step the disk has it. Wherever a key stands alone, files of step 4 stand there too, by
+// After each step the disk has it. Wherever a key stands alone, files of step 5 stand there too, by
 // which the next run knows that one was stopped.
 
 ghost use Rattle.std.specs.Prelude.{◌≡◌, ◌++◌, true, IfSome, OnOk};
@@ -25,6 +26,7 @@ use std::fs::{DirEntry, File, OpenFile, OpenOptions, TryLockError};
 use std::io::{ErrorKind, Write};
 use std::os::unix::fs::OpenOptionsExt;
 use std::{fs, io, process};
+use su_kept_key::lock_key;
 
 /// Only the owner may read or write.
 const PRIVATE: u32 = 0o600;
@@ -54,8 +56,10 @@ impl Places {
 }
 
 /// Writes a key to the file `out`, and its public key to `out.pub`, over what stood there. A fault
-/// before the old public key is removed leaves the old pair and nothing else; a later one leaves
-/// what a run does that is stopped there.
+/// before the old public key is removed leaves the old pair, and besides at most `out.lock`; a later
+/// one leaves what a run does that is stopped there. Faults in order: `NoName`; `Folder`;
+/// `InTheWay`; `Lock`, where another process uses the key or its lock can't be had; `Unwritten`.
+/// `NoMemory` can come at any time, and so can `Folder`.
 pub fn keep_pair(
     rt: &HostRuntime,
     out: &str,
@@ -73,6 +77,7 @@ pub fn keep_pair(
     let locked = lock_folder(rt, folder).map_err(in_folder)?;
     leave_others(rt, places.key.as_str())?;
     leave_others(rt, places.public.as_str())?;
+    let _key_lock = lock_key(rt, places.key.as_str())?;
     remove_left(rt, folder, name).map_err(in_folder)?;
     let prepared = write_new(rt, places.new_key.as_str(), key, PRIVATE)
         .and_then(|()| write_new(rt, places.new_public.as_str(), public, PUBLIC))

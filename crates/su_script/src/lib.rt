@@ -7,5 +7,5 @@ mod session;
 mod tests;
 
 pub use desk::{Ending, Fault, Status, run_desk};
-pub use session::{bad, in_hex};
+pub use session::{answered, bad, in_hex};
 pub use su_command::{DESK_WORDS, Mistake};

@@ -31,7 +31,7 @@ pub struct Report {
 }
 
 /// The services of all workers, each with a seat of its own.
-type Desks<'a, N, R, G> = Vec<Gated<'a, Worker<'a, N, R>, G>>;
+type Services<'a, N, R, G> = Vec<Gated<'a, Worker<'a, N, R>, G>>;
 
 /// Serves all sessions over a new book of so many records for the users of a roster, each session
 /// by one of `workers` workers, which each have a thread and a seat of the book. Before and after
@@ -140,9 +140,9 @@ where
     ensures refused { IfErr result (λ e. (e ≡ LinkFailed) ⊎ (e ≡ NoMemory)) }
 {
     let blocks = SharedBlocks::new(alloc)?;
-    match desks(rt, alloc, workers, book, &blocks, gate) {
-        Ok(desks) => {
-            let (all, back) = serve_all(rt, alloc, sessions, desks)?;
+    match services_of(rt, alloc, workers, book, &blocks, gate) {
+        Ok(services) => {
+            let (all, back) = serve_all(rt, alloc, sessions, services)?;
             Ok((all, seats_of(alloc, back)?))
         }
         Err(refusal) => Err(refusal),
@@ -150,18 +150,18 @@ where
 }
 
 /// Makes a seat for each worker, and its service behind the gate.
-fn desks<'a, N: BookName, R: Wait, G: Gate>(
+fn services_of<'a, N: BookName, R: Wait, G: Gate>(
     rt: &'a R,
     alloc: Global,
     workers: usize,
     book: &'a SharedBook<N>,
     blocks: &'a SharedBlocks,
     gate: &'a G,
-) -> Result<Desks<'a, N, R, G>, Refusal>
-    ensures len { IfOk result (λ desks. vec_len desks ≡ workers) }
+) -> Result<Services<'a, N, R, G>, Refusal>
+    ensures len { IfOk result (λ services. vec_len services ≡ workers) }
     ensures refused { IfErr result (λ e. (e ≡ LinkFailed) ⊎ (e ≡ NoMemory)) }
 {
-    let mut desks = Vec::new(alloc);
+    let mut services = Vec::new(alloc);
     for _ in 0..workers {
         let seat = match book.seat(rt, alloc) {
             Ok(seat) => seat,
@@ -169,24 +169,24 @@ fn desks<'a, N: BookName, R: Wait, G: Gate>(
             // a book has seats for more workers than there may be
             Err(_) => return Err(Refusal::LinkFailed),
         };
-        let desk = Gated::new(Worker::new(rt, book, blocks, seat), gate);
-        if desks.push(desk).is_err() {
+        let service = Gated::new(Worker::new(rt, book, blocks, seat), gate);
+        if services.push(service).is_err() {
             return Err(Refusal::NoMemory);
         }
     }
-    Ok(desks)
+    Ok(services)
 }
 
 /// Takes the seats out of the services.
 fn seats_of<N: BookName, R: Wait, G: Gate>(
     alloc: Global,
-    desks: Desks<'_, N, R, G>,
+    services: Services<'_, N, R, G>,
 ) -> Result<Vec<Seat<N>>, Refusal>
     ensures { IfErr result (λ e. e ≡ NoMemory) }
 {
     let mut seats = Vec::new(alloc);
-    for desk in desks {
-        if seats.push(desk.into_service().into_seat()).is_err() {
+    for service in services {
+        if seats.push(service.into_service().into_seat()).is_err() {
             return Err(Refusal::NoMemory);
         }
     }

@@ -1,7 +1,7 @@
 -- What the program prints for a command line, and how it ends.
-use Rattle.std.specs.Prelude.{◌≡◌, ℕ, List, ◌++◌, Option, Some, string_bytes}
+use Rattle.std.specs.Prelude.{◌≡◌, ◌≢◌, ℕ, List, ◌++◌, Option, Some, string_bytes}
 use Rattle.su_arguments.specs.declared.line.Line.{Line}
-use Rattle.su_arguments.specs.declared.line.Line.TheVariants.{Desk, Keygen, Audit, Text}
+use Rattle.su_arguments.specs.declared.line.Line.TheVariants.{Desk, Keygen, Audit, Serve, Client, Text}
 use Rattle.su_arguments.specs.declared.line.LineFault.{LineFault}
 use Rattle.su_arguments.specs.declared.line.LineFault.TheVariants.{Usage, NoMemory}
 use Rattle.su_script.specs.declared.desk.Status.{Status}
@@ -24,18 +24,29 @@ PrintsUnlessFault P before after Finished =
 PrintsUnlessFault P before after Fault = Unit {0}
 PrintsUnlessFault P before after BadLine = ⊥
 
+-- unless a fault ended the run, the writer holds what it held, and then some text
+abbrev pub AddsUnlessFault : List ℕ → Option (List ℕ) → Status → Type 0
+AddsUnlessFault before after Finished = (text : List ℕ) × (after ≡ Some (before ++ text))
+AddsUnlessFault before after BadLine = (text : List ℕ) × (after ≡ Some (before ++ text))
+AddsUnlessFault before after Fault = Unit {0}
+
 -- `ok N` for some N
 abbrev pub IsTakenLine : List ℕ → Type 0
 IsTakenLine text = (n : ℕ) × (text ≡ taken_text n)
 
 -- a desk prints the transcript of its script, a key maker the line of a public key, and a text
 -- itself; an audit that ends well prints how many commits it took (of which log no clause can say, as
--- it stands in a file)
+-- it stands in a file); a server prints nothing; of what a client prints a clause can only say that
+-- it comes after what was there, as it rests on what the server shows
 abbrev pub CarriesOut : Line → List ℕ → List ℕ → Option (List ℕ) → Status → Type 0
 CarriesOut (Desk users) input before after status = Prints users input before after status
 CarriesOut (Keygen entropy out params) input before after status =
     PrintsUnlessFault (IsPublicLine params) before after status
 CarriesOut (Audit log keys) input before after status =
     PrintsUnlessFault IsTakenLine before after status
+CarriesOut (Serve port workers capacity sessions keys) input before after status =
+    (after ≡ Some before) × (status ≢ BadLine)
+CarriesOut (Client port user key log tries keys) input before after status =
+    AddsUnlessFault before after status
 CarriesOut (Text text) input before after status =
     PrintsUnlessFault (λ t. t ≡ string_bytes text) before after status

@@ -1,12 +1,14 @@
 // Auditing a log.
-ghost use Rattle.std.specs.Prelude.{◌≡◌, ◌≤◌, ℕ, List, Some, length};
+ghost use Rattle.std.specs.Prelude.{◌≡◌, ℕ, List, Some, length};
+ghost use Rattle.su_arguments.specs.Ranges.{IsUserCount};
 ghost use Rattle.sundr.specs.Run.{PrintsUnlessFault, IsTakenLine};
 
+use crate::faults::tell_fault;
+use crate::rosters::read_roster;
 use std::fs::File;
 use std::io::{BufReader, ErrorKind, IsTerminal, Write};
 use std::thread::Threads;
-use su_audit::{Ending, Fault, KeyFault, Watcher, read_keys, run_audit};
-use su_bytes::Roster;
+use su_audit::{Ending, Fault, Watcher, run_audit};
 use su_script::Status;
 
 /// Audits the log in a file, of users with the public keys in these files, 1 to 64 of them. A
@@ -18,55 +20,37 @@ pub(crate) fn audit<T: Threads + Sync, W: Write>(
     keys: &[String],
     writer: &mut W,
 ) -> Status
-    requires { (1 ≤ length keys.now) × (length keys.now ≤ 64) }
+    requires { IsUserCount (length keys.now) }
     ensures { (before : List ℕ) → W.contents writer.old ≡ Some before
         → PrintsUnlessFault IsTakenLine before (W.contents writer.new) result }
 {
     let alloc = rt.alloc();
-    let roster = match read_keys(rt, keys) {
-        Ok(keys) => match Roster::of_keys(alloc, keys.as_slice()) {
-            Ok(roster) => roster,
-            Err(_) => {
-                tell_key_fault(rt, &KeyFault::NoMemory);
-                return Status::Fault;
-            }
-        },
-        Err(reason) => {
-            tell_key_fault(rt, &reason);
-            return Status::Fault;
-        }
+    let roster = match read_roster(rt, keys) {
+        Ok(roster) => roster,
+        Err(reason) => return tell_fault(rt, reason),
     };
     let reader = match File::open(rt, log).and_then(|file| BufReader::new(alloc, file)) {
         Ok(reader) => reader,
-        Err(reason) => {
-            let _ = eprintln!(rt; "sundr: reading {log}: {reason}");
-            return Status::Fault;
-        }
+        Err(reason) => return tell_fault(rt, format_args!("reading {log}: {reason}")),
     };
     let mut progress = Progress::new(rt);
     match run_audit(threads, alloc, reader, writer, roster, &mut progress) {
         Ending::Taken => Status::Finished,
         Ending::Refused => Status::Fault,
-        Ending::Failed(reason) => {
-            tell_fault(rt, log, &reason);
-            Status::Fault
-        }
+        Ending::Failed(reason) => tell_ending(rt, log, &reason),
     }
-}
-
-/// Tells on standard error why a key can't be read.
-fn tell_key_fault(rt: &HostRuntime, reason: &KeyFault) {
-    let _ = eprintln!(rt; "sundr: {reason}");
 }
 
 /// Tells on standard error what failed in the audit of a log; nothing where nobody reads what it
 /// prints.
-fn tell_fault(rt: &HostRuntime, log: &str, reason: &Fault) {
-    let _ = match reason {
-        Fault::Reading(reason) => eprintln!(rt; "sundr: reading {log}: {reason}"),
-        Fault::Writing(error) if error.kind() == ErrorKind::BrokenPipe => Ok(()),
-        reason => eprintln!(rt; "sundr: {reason}"),
-    };
+fn tell_ending(rt: &HostRuntime, log: &str, reason: &Fault) -> Status
+    ensures { result ≡ Status.Fault }
+{
+    match reason {
+        Fault::Reading(reason) => tell_fault(rt, format_args!("reading {log}: {reason}")),
+        Fault::Writing(error) if error.kind() == ErrorKind::BrokenPipe => Status::Fault,
+        reason => tell_fault(rt, reason),
+    }
 }
 
 /// Shows on standard error, where that is a terminal, how many commits were taken so far.

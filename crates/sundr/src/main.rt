@@ -1,6 +1,8 @@
 //! `sundr desk` reads a script on standard input, a command a line, and prints an answer for each.
 //! `sundr keygen` makes a key for signatures.
 //! `sundr audit` reads a log of commits, and tells whether all of them are taken.
+//! `sundr serve` serves a shared folder to the clients of its users.
+//! `sundr client` runs a script against a server.
 #![tactic(auto)]
 
 ghost use Rattle.std.specs.Prelude.{◌≡◌, ℕ, List, Some, IfOk, ◌≤◌, length, string_bytes};
@@ -10,13 +12,25 @@ ghost use Rattle.sundr.specs.Key.{IsPublicLine};
 ghost use Rattle.sundr.specs.Run.{CarriesOut, PrintsUnlessFault, refused_status};
 
 mod audits;
+mod client_faults;
+mod clients;
+mod faults;
+mod rosters;
+mod savers;
+mod servers;
 
 use audits::audit;
+use clients::{Options, client};
+use faults::tell_fault;
+use servers::serve;
 use std::io::{ErrorKind, IsTerminal, Read, Write};
+use std::net::{Net, TcpListener, TcpStream};
 use std::process::ExitCode;
+use std::sync::Wait;
 use std::thread::Threads;
 use std::{env, io};
 use su_arguments::{Line, LineFault, line_of};
+use su_client_command::CLIENT_WORDS;
 use su_keygen::{KeygenFault, make_key};
 use su_lms::Params;
 use su_script::{DESK_WORDS, Ending, Fault, Status, run_desk};
@@ -46,17 +60,19 @@ fn command_line(rt: &HostRuntime) -> Result<Line, LineFault>
     };
     let texts: Vec<String> = arguments.collect(alloc)?;
     let words: Vec<&str> = texts.iter().map(|text| text.as_str()).collect(alloc)?;
-    line_of(alloc, DESK_WORDS, words.as_slice())
+    line_of(alloc, DESK_WORDS, CLIENT_WORDS, words.as_slice())
 }
 
 /// Carries out a command line with this input and output. A fault is told on standard error.
-fn carry_out<T: Threads + Sync, R: Read + Drop, W: Write>(
+fn carry_out<T, R: Read + Drop, W: Write>(
     rt: &HostRuntime,
-    threads: &T,
+    host: &T,
     line: Line,
     reader: R,
     writer: &mut W,
 ) -> Status
+where
+    T: Net<Listener = TcpListener, Stream = TcpStream> + Threads + Wait + Sync,
     requires { HasGoodNumbers line }
     ensures { (input before : List ℕ)
         → R.remaining reader ≡ Some input → W.contents writer.old ≡ Some before
@@ -69,7 +85,32 @@ fn carry_out<T: Threads + Sync, R: Read + Drop, W: Write>(
             out,
             params,
         } => new_key(rt, entropy.as_str(), out.as_str(), params, writer),
-        Line::Audit { log, keys } => audit(rt, threads, log.as_str(), keys.as_slice(), writer),
+        Line::Audit { log, keys } => audit(rt, host, log.as_str(), keys.as_slice(), writer),
+        Line::Serve {
+            port,
+            workers,
+            capacity,
+            sessions,
+            keys,
+        } => serve(rt, host, port, workers, capacity, sessions, keys.as_slice()),
+        Line::Client {
+            port,
+            user,
+            key,
+            log,
+            tries,
+            keys,
+        } => {
+            let options = Options {
+                port,
+                user,
+                key: key.as_str(),
+                log: log.as_ref().map(|path| path.as_str()),
+                tries,
+                keys: keys.as_slice(),
+            };
+            client(rt, host, options, reader, writer)
+        }
         Line::Text(text) => print(rt, text.as_str(), writer),
     }
 }
@@ -118,10 +159,7 @@ fn new_key<W: Write>(
 {
     match public_line(rt, entropy, out, params) {
         Ok(text) => print(rt, text.as_str(), writer),
-        Err(fault) => {
-            let _ = eprintln!(rt; "sundr: {fault}");
-            Status::Fault
-        }
+        Err(fault) => tell_fault(rt, fault),
     }
 }
 

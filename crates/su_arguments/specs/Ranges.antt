@@ -1,0 +1,30 @@
+-- The ranges of the numbers of a command line.
+use Rattle.std.specs.Prelude.{ℕ, ◌≤◌}
+
+-- how many users there may be
+abbrev pub IsUserCount : ℕ → Type 0
+IsUserCount n = (1 ≤ n) × (n ≤ 64)
+
+-- the number of a user
+abbrev pub IsUser : ℕ → Type 0
+IsUser n = n ≤ 63
+
+-- a port that can be listened on
+abbrev pub IsPort : ℕ → Type 0
+IsPort n = (1 ≤ n) × (n ≤ 65535)
+
+-- how many workers a server may have
+abbrev pub IsWorkerCount : ℕ → Type 0
+IsWorkerCount n = (1 ≤ n) × (n ≤ 16)
+
+-- how many commits a server may keep
+abbrev pub IsCapacity : ℕ → Type 0
+IsCapacity n = (1 ≤ n) × (n ≤ 1000000)
+
+-- how many sessions a server may serve
+abbrev pub IsSessionCount : ℕ → Type 0
+IsSessionCount n = (1 ≤ n) × (n ≤ 1000000)
+
+-- how often a client may ask for a turn
+abbrev pub IsTryCount : ℕ → Type 0
+IsTryCount n = (1 ≤ n) × (n ≤ 1000000)

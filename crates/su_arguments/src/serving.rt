@@ -1,0 +1,155 @@
+// The command lines of a server and of its clients.
+ghost use Rattle.std.specs.Prelude.{IfOk, IfSome};
+ghost use Rattle.su_arguments.specs.Line.{HasGoodNumbers};
+ghost use Rattle.su_arguments.specs.Ranges.{IsPort, IsUser, IsWorkerCount, IsCapacity, IsSessionCount, IsTryCount};
+
+use crate::help::{CLIENT_ABOUT, SERVE_ABOUT};
+use crate::line::{Line, LineFault};
+use crate::options::{copy, keys_of, needed, needed_keys, usage};
+use clap::{Arg, ArgMatches, Command};
+use std::alloc::{AllocError, Global};
+
+pub(crate) fn serve_command<'a>(alloc: Global) -> Result<Command<'a>, AllocError> {
+    let port = needed_port(alloc).help("The port that it listens on, 1 to 65535");
+    let workers = needed(alloc, "workers", "W")
+        .value_parser(clap::value_parser!(usize).range(1..17))
+        .help("How many sessions it serves at a time, 1 to 16");
+    let capacity = needed(alloc, "capacity", "C")
+        .value_parser(clap::value_parser!(u64).range(1..1_000_001))
+        .help("How many commits it keeps, 1 to 1,000,000");
+    let sessions = needed(alloc, "sessions", "N")
+        .value_parser(clap::value_parser!(u32).range(1..1_000_001))
+        .help("How many sessions it serves until it ends, 1 to 1,000,000");
+    Command::new(alloc, "serve")
+        .about("Serves a shared folder")
+        .long_about(SERVE_ABOUT)
+        .arg(port)?
+        .arg(workers)?
+        .arg(capacity)?
+        .arg(sessions)?
+        .arg(needed_keys(alloc))
+}
+
+/// Builds the client's command line, with a text on a script's commands and answers.
+pub(crate) fn client_command<'a>(alloc: Global, help: &'a str) -> Result<Command<'a>, AllocError> {
+    let port = needed_port(alloc).help("The server's port on this machine, 1 to 65535");
+    let user = needed(alloc, "user", "U")
+        .value_parser(clap::value_parser!(u8).range(0..64))
+        .help("The user who works, 0 to 63");
+    let key = needed(alloc, "key", "FILE").help("The user's key file");
+    let log = Arg::new(alloc, "log")
+        .long("log")
+        .value_name("FILE")
+        .help("A saved log, whose commits are taken first");
+    let tries = Arg::new(alloc, "tries")
+        .long("tries")
+        .value_name("T")
+        .value_parser(clap::value_parser!(u32).range(1..1_000_001))
+        .default_value("1000")
+        .help("How often it asks for a turn that another has, 1 to 1,000,000");
+    Command::new(alloc, "client")
+        .about("Runs a script from standard input against a server")
+        .long_about(CLIENT_ABOUT)
+        .after_help(help)
+        .arg(port)?
+        .arg(user)?
+        .arg(key)?
+        .arg(log)?
+        .arg(tries)?
+        .arg(needed_keys(alloc))
+}
+
+fn needed_port<'a>(alloc: Global) -> Arg<'a> {
+    needed(alloc, "port", "P").value_parser(clap::value_parser!(u16).range(1..65_536))
+}
+
+/// `serve --port P --workers W --capacity C --sessions N PUB..`
+pub(crate) fn serve_of(alloc: Global, values: &ArgMatches<'_>) -> Result<Line, LineFault>
+    ensures { IfOk result HasGoodNumbers }
+{
+    let (Some(port), Some(workers), Some(capacity), Some(sessions)) = (
+        port_of(values),
+        workers_of(values),
+        capacity_of(values),
+        sessions_of(values),
+    ) else {
+        return Err(usage(
+            alloc,
+            "error: an option is missing, or its number out of range",
+        ));
+    };
+    let keys = keys_of(alloc, values)?;
+    Ok(Line::Serve {
+        port,
+        workers,
+        capacity,
+        sessions,
+        keys,
+    })
+}
+
+/// `client --port P --user U --key FILE [--log FILE] [--tries T] PUB..`
+pub(crate) fn client_of(alloc: Global, values: &ArgMatches<'_>) -> Result<Line, LineFault>
+    ensures { IfOk result HasGoodNumbers }
+{
+    let (Some(port), Some(user), Some(key), Some(tries)) = (
+        port_of(values),
+        user_of(values),
+        values.get_str("key"),
+        tries_of(values),
+    ) else {
+        return Err(usage(
+            alloc,
+            "error: an option is missing, or its number out of range",
+        ));
+    };
+    let keys = keys_of(alloc, values)?;
+    Ok(Line::Client {
+        port,
+        user,
+        key: String::from_str(alloc, key)?,
+        log: copy(alloc, values.get_str("log"))?,
+        tries,
+        keys,
+    })
+}
+
+fn port_of(values: &ArgMatches<'_>) -> Option<u16>
+    ensures { IfSome result IsPort }
+{
+    values.get_one::<u16>("port").filter(|port| 1 <= *port)
+}
+
+fn workers_of(values: &ArgMatches<'_>) -> Option<usize>
+    ensures { IfSome result IsWorkerCount }
+{
+    let workers = values.get_one::<usize>("workers");
+    workers.filter(|workers| 1 <= *workers && *workers <= 16)
+}
+
+fn capacity_of(values: &ArgMatches<'_>) -> Option<u64>
+    ensures { IfSome result IsCapacity }
+{
+    let capacity = values.get_one::<u64>("capacity");
+    capacity.filter(|capacity| 1 <= *capacity && *capacity <= 1_000_000)
+}
+
+fn sessions_of(values: &ArgMatches<'_>) -> Option<u32>
+    ensures { IfSome result IsSessionCount }
+{
+    let sessions = values.get_one::<u32>("sessions");
+    sessions.filter(|sessions| 1 <= *sessions && *sessions <= 1_000_000)
+}
+
+fn user_of(values: &ArgMatches<'_>) -> Option<u8>
+    ensures { IfSome result IsUser }
+{
+    values.get_one::<u8>("user").filter(|user| *user <= 63)
+}
+
+fn tries_of(values: &ArgMatches<'_>) -> Option<u32>
+    ensures { IfSome result IsTryCount }
+{
+    let tries = values.get_one::<u32>("tries");
+    tries.filter(|tries| 1 <= *tries && *tries <= 1_000_000)
+}

@@ -1,0 +1,37 @@
+// A server at a port of the loopback.
+use crate::clients::roster;
+use std::alloc::Global;
+use std::net::{Ipv4Addr, Net, SocketAddr, TcpListener, TcpStream};
+use std::sync::Wait;
+use std::test::Fail;
+use std::thread::Threads;
+use su_bytes::Refusal;
+use su_server::{Connections, Report, serve_book};
+use su_worker::OpenGate;
+
+/// How many sessions are served at once.
+const WORKERS: usize = 2;
+
+/// How many records a book has room for.
+const CAPACITY: u64 = 16;
+
+/// Listens at a port of the loopback that the system picks.
+pub(crate) fn listen<R>(rt: &R) -> Result<TcpListener, Fail>
+where
+    R: Net<Listener = TcpListener, Stream = TcpStream>,
+{
+    let any = SocketAddr::from((Ipv4Addr::LOCALHOST, 0));
+    Ok(TcpListener::bind(rt, any)?)
+}
+
+/// Serves so many connections of a listener, over a new book.
+pub(crate) fn serve<R: Threads + Wait + Sync>(
+    rt: &R,
+    alloc: Global,
+    listener: &TcpListener,
+    sessions: u32,
+) -> Result<Report, Refusal> {
+    let came = Connections::new(listener, sessions);
+    let roster = roster(alloc)?;
+    serve_book(rt, alloc, came, WORKERS, CAPACITY, roster, &OpenGate)
+}

@@ -1,0 +1,5 @@
+pub mod Taking
+pub mod Working
+pub mod SavedLogs
+pub mod LastLive
+pub mod Public

@@ -1,0 +1,4 @@
+pub mod Member
+pub mod Work
+pub mod Publishing
+pub mod SavedLog

@@ -1,0 +1,11 @@
+//! A client at work: it takes the turn at a server, checks and takes the commits that this shows,
+//! and then looks at the tree of its list, or commits a change of its user's own.
+#![tactic(auto)]
+
+mod changes;
+mod logs;
+mod members;
+mod questions;
+
+pub use logs::{LogFault, take_log};
+pub use members::Member;

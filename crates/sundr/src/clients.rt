@@ -1,0 +1,252 @@
+// A client at work on a script.
+ghost use Rattle.std.specs.Prelude.{◌≡◌, ℕ, List, Some, true, length};
+ghost use Rattle.su_arguments.specs.Ranges.{IsUserCount};
+ghost use Rattle.sundr.specs.Run.{AddsUnlessFault};
+
+use crate::client_faults::ClientFault;
+use crate::faults::tell_fault;
+use crate::rosters::read_roster;
+use crate::savers::FileSaver;
+use std::alloc::Global;
+use std::fs::File;
+use std::io;
+use std::io::{BufReader, ErrorKind, Read, Write};
+use std::net::{Ipv4Addr, Net, TcpListener, TcpStream};
+use su_audit::tell_refused;
+use su_block::{BlockSource, Checked, MemoryBlocks};
+use su_bytes::{Roster, User};
+use su_client::Client;
+use su_client_script::{Ending, Fault, run_client};
+use su_kept_key::{KeptKey, signer_of};
+use su_lms::Signer;
+use su_member::{LogFault, Member, take_log};
+use su_script::Status;
+use su_view::View;
+
+/// A link to a server.
+type Link = Client<BufReader<TcpStream>, TcpStream>;
+
+/// What a client is told by its command line.
+#[derive(Clone, Copy)]
+pub(crate) struct Options<'a> {
+    pub port: u16,
+    pub user: u8,
+    pub key: &'a str,
+    pub log: Option<&'a str>,
+    pub tries: u32,
+    pub keys: &'a [String],
+}
+
+/// Runs a script at a server, for a user with a key. Where there is a log, its commits are taken
+/// first, and a refused one is printed as an audit does. `Fault` where the client can't begin: for
+/// want of a public key of the user, by the key file, by a public key, by the log, by the port, in
+/// this order. Standard error tells that, and at the end why a leaf of the key couldn't be stored.
+// The client runs in the first thread, whose stack is what the shell allows (`ulimit -s`, mostly
+// 8 MiB), as a desk does; the deepest names need 2 MiB at most.
+pub(crate) fn client<T, R: Read + Drop, W: Write>(
+    rt: &HostRuntime,
+    host: &T,
+    options: Options<'_>,
+    reader: R,
+    writer: &mut W,
+) -> Status
+where
+    T: Net<Listener = TcpListener, Stream = TcpStream>,
+    requires { IsUserCount (length options.entry.keys.now) }
+    ensures { (before : List ℕ) → W.contents writer.old ≡ Some before
+        → AddsUnlessFault before (W.contents writer.new) result }
+{
+    match member_of(rt, host, options) {
+        Ok(member) => work(rt, options.key, member, reader, writer),
+        Err(fault) => tell_client_fault(rt, writer, &fault),
+    }
+}
+
+/// Runs the script.
+fn work<R: Read + Drop, W: Write>(
+    rt: &HostRuntime,
+    key: &str,
+    mut member: Member<BufReader<TcpStream>, TcpStream, KeptKey<'_>>,
+    reader: R,
+    writer: &mut W,
+) -> Status
+    ensures { (before : List ℕ) → W.contents writer.old ≡ Some before
+        → AddsUnlessFault before (W.contents writer.new) result }
+{
+    let mut saver = FileSaver::new(rt);
+    let ending = run_client(rt, rt.alloc(), reader, writer, &mut member, &mut saver);
+    if let Some(reason) = member.store().fault() {
+        tell_fault(rt, format_args!("writing {key}: {reason}"));
+    }
+    tell_ending(rt, &ending);
+    ending.status()
+}
+
+/// Makes the client, whose list are the commits of the log.
+fn member_of<'a, T: Net<Listener = TcpListener, Stream = TcpStream>>(
+    rt: &'a HostRuntime,
+    host: &T,
+    options: Options<'_>,
+) -> Result<Member<BufReader<TcpStream>, TcpStream, KeptKey<'a>>, ClientFault>
+    requires { IsUserCount (length options.entry.keys.now) }
+{
+    let alloc = rt.alloc();
+    let user = user_of(options)?;
+    let signer = open_signer(rt, options.key)?;
+    let roster = read_roster(rt, options.keys)?;
+    let log = open_log(rt, options.log)?;
+    match connect(alloc, host, options.port) {
+        Ok(link) => {
+            let view = view_of(alloc, roster, user, link, log)?;
+            Ok(Member::new(alloc, view, signer, options.tries))
+        }
+        Err(reason) => {
+            check_log(alloc, roster, user, log)?;
+            let port = options.port;
+            Err(ClientFault::Unlinked { port, reason })
+        }
+    }
+}
+
+/// Returns the user, of whom there has to be a public key.
+fn user_of(options: Options<'_>) -> Result<User, ClientFault> {
+    match User::new(u64::from(options.user)) {
+        Ok(user) if usize::from(options.user) < options.keys.len() => Ok(user),
+        _ => Err(ClientFault::NoUser { user: options.user }),
+    }
+}
+
+/// Opens the key file, and makes the signer of its key.
+fn open_signer<'a>(rt: &'a HostRuntime, key: &str) -> Result<Signer<KeptKey<'a>>, ClientFault> {
+    let kept = KeptKey::open(rt, key)?;
+    Ok(signer_of(rt.alloc(), kept)?)
+}
+
+/// A log that is open.
+#[derive(Drop)]
+struct OpenLog<'a> {
+    path: &'a str,
+    reader: BufReader<File>,
+}
+
+/// Opens the log, if there is one.
+fn open_log<'a>(
+    rt: &HostRuntime,
+    log: Option<&'a str>,
+) -> Result<Option<OpenLog<'a>>, ClientFault> {
+    let Some(path) = log else {
+        return Ok(None);
+    };
+    match File::open(rt, path).and_then(|file| BufReader::new(rt.alloc(), file)) {
+        Ok(reader) => Ok(Some(OpenLog { path, reader })),
+        Err(reason) => Err(unread(rt.alloc(), path, reason)),
+    }
+}
+
+/// Takes the commits of a log in a view.
+fn take<S: BlockSource + Drop>(
+    alloc: Global,
+    log: OpenLog<'_>,
+    view: &mut View<S>,
+) -> Result<(), ClientFault>
+    requires { S.is_checked ≡ true }
+{
+    match take_log(alloc, log.reader, view) {
+        Ok(_) => Ok(()),
+        Err(LogFault::Refused { number, refusal }) => {
+            Err(ClientFault::RefusedLog { number, refusal })
+        }
+        Err(LogFault::Unread(reason)) => Err(unread(alloc, log.path, reason)),
+    }
+}
+
+/// Returns that a log can't be read.
+fn unread(alloc: Global, path: &str, reason: io::Error) -> ClientFault {
+    match String::from_str(alloc, path) {
+        Ok(path) => ClientFault::UnreadLog { path, reason },
+        Err(_) => ClientFault::NoMemory,
+    }
+}
+
+/// Connects to the server on that port of this machine. Small requests leave at once.
+fn connect<T: Net<Listener = TcpListener, Stream = TcpStream>>(
+    alloc: Global,
+    host: &T,
+    port: u16,
+) -> io::Result<Link> {
+    let writer = TcpStream::connect(host, (Ipv4Addr::LOCALHOST, port))?;
+    writer.set_nodelay(true)?;
+    let reader = BufReader::new(alloc, writer.try_clone()?)?;
+    Ok(Client::new(alloc, reader, writer))
+}
+
+/// Makes the view of a user, and takes the commits of the log, whose items go to the server.
+fn view_of(
+    alloc: Global,
+    roster: Roster,
+    user: User,
+    link: Link,
+    log: Option<OpenLog<'_>>,
+) -> Result<View<Checked<Link>>, ClientFault> {
+    let mut view = View::new(alloc, roster, user, Checked::new(link))?;
+    let Some(log) = log else {
+        return Ok(view);
+    };
+    let taken = take(alloc, log, &mut view);
+    if view.source_mut().source_mut().has_failed() {
+        return Err(ClientFault::LinkFailed);
+    }
+    taken?;
+    Ok(view)
+}
+
+/// Takes the commits of the log without a server, only to see whether all can be taken.
+fn check_log(
+    alloc: Global,
+    roster: Roster,
+    user: User,
+    log: Option<OpenLog<'_>>,
+) -> Result<(), ClientFault> {
+    let Some(log) = log else {
+        return Ok(());
+    };
+    let mut view = View::new(alloc, roster, user, MemoryBlocks::new(alloc))?;
+    take(alloc, log, &mut view)
+}
+
+/// Tells why a client can't begin: a refused log on standard output, anything else on standard
+/// error.
+fn tell_client_fault<W: Write>(rt: &HostRuntime, writer: &mut W, fault: &ClientFault) -> Status
+    ensures { result ≡ Status.Fault }
+{
+    match fault {
+        ClientFault::RefusedLog { number, refusal } => {
+            tell_log(rt, tell_refused(rt.alloc(), writer, *number, refusal))
+        }
+        fault => tell_fault(rt, fault),
+    }
+}
+
+/// Tells on standard error why a refused log couldn't be printed, if so.
+fn tell_log(rt: &HostRuntime, ending: su_audit::Ending) -> Status
+    ensures { result ≡ Status.Fault }
+{
+    match ending {
+        su_audit::Ending::Failed(fault) => tell_fault(rt, fault),
+        _ => Status::Fault,
+    }
+}
+
+/// Tells on standard error why a run ended before its input did; nothing where nobody reads the
+/// answers any more.
+fn tell_ending(rt: &HostRuntime, ending: &Ending) {
+    let _ = match ending {
+        Ending::BadLine {
+            number,
+            mistake: Some(mistake),
+        } => eprintln!(rt; "sundr: line {number}: {mistake}"),
+        Ending::Failed(Fault::Writing(error)) if error.kind() == ErrorKind::BrokenPipe => Ok(()),
+        Ending::Failed(fault) => eprintln!(rt; "sundr: {fault}"),
+        _ => Ok(()),
+    };
+}

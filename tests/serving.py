@@ -1,0 +1,1102 @@
+#!/usr/bin/env python3
+"""Tries `sundr serve` and `sundr client` over loopback: a walk of two users, what each line of a script prints, faults and statuses,
+keys and kills, a turn that is held, a server that lies (bad_server.py), sessions and workers, a full book, the example, and scripts of
+two users by chance, all against what is written here or against the second client of client_model.py.
+
+usage: serving.py [--models] [PART..]    with --models it tries the models instead (model_program.py), without the built program
+
+Prints a line for each case that isn't as it should be, and last 'N passed, M failed'.
+"""
+import os
+import pty
+import queue
+import random
+import re
+import shutil
+import signal
+import socket
+import subprocess
+import sys
+import tempfile
+import threading
+import time
+
+import audit_model
+import bad_server
+import client_model
+import desk_model
+import lms
+import logs
+import model_server
+import wire
+from keys import calls_in
+
+HERE = os.path.dirname(os.path.abspath(__file__))
+TOP = os.path.dirname(HERE)
+PROGRAM = [os.environ.get("SUNDR", f"{TOP}/crates/sundr/out/sundr")]
+MODEL = [sys.executable, "-B", f"{HERE}/model_program.py"]
+WAIT = 30  # seconds that an answer, or the end of a program, is waited for at most
+CHANCE_SCRIPTS, CHANCE_LINES = 30, 30
+KILLS = 24
+MOST_CALLS = 100  # at which a client is killed
+BARRIER = b"undo 18446744073709551615"
+BARRIER_ANSWER = b"no 39 Change 24 NoOperation 18446744073709551615"
+
+program = PROGRAM
+
+
+# ---- programs at work
+
+class Lines:
+    """The lines of a stream, as they come."""
+
+    def __init__(self, stream):
+        self.lines = queue.Queue()
+        threading.Thread(target=self.read, args=(stream,), daemon=True).start()
+
+    def read(self, stream):
+        for line in stream:
+            self.lines.put(line.removesuffix(b"\n"))
+        self.lines.put(None)
+        stream.close()
+
+    def next(self):
+        """The next line; None where the stream has ended, or none comes in time."""
+        try:
+            line = self.lines.get(timeout=WAIT)
+        except queue.Empty:
+            return None
+        if line is None:
+            self.lines.put(None)
+        return line
+
+    def rest(self):
+        return list(iter(self.next, None))
+
+
+class Running:
+    """A program that runs, and is killed in the end if it still does."""
+
+    def __init__(self, words, **how):
+        streams = {name: subprocess.PIPE for name in ("stdin", "stdout", "stderr")}
+        self.process = subprocess.Popen([*program, *map(str, words)], **streams, **how)
+        self.printed, self.told = Lines(self.process.stdout), Lines(self.process.stderr)
+
+    def __enter__(self):
+        return self
+
+    def __exit__(self, *_):
+        self.kill()
+
+    def kill(self):
+        if self.process.poll() is None:
+            self.process.kill()
+        self.process.wait()
+
+    def end(self):
+        """What is still printed and told, and the status; the status is None where the program doesn't end in time."""
+        self.close_input()
+        try:
+            status = self.process.wait(WAIT)
+        except subprocess.TimeoutExpired:
+            self.kill()
+            status = None
+        return self.printed.rest(), self.told.rest(), status
+
+    def close_input(self):
+        try:
+            self.process.stdin.close()
+        except BrokenPipeError:
+            pass
+
+    def write(self, data):
+        try:
+            self.process.stdin.write(data)
+            self.process.stdin.flush()
+        except BrokenPipeError:  # it has ended, as what it printed will show
+            pass
+
+
+class Client(Running):
+    """A client whose script is written line by line."""
+
+    def say(self, line):
+        """What is printed of a line."""
+        self.write(line + b"\n" + BARRIER + b"\n")
+        lines = []
+        for printed in iter(self.printed.next, None):
+            if printed == BARRIER_ANSWER:
+                return lines
+            lines.append(printed)
+        return [*lines, b"(no further answer)"]
+
+
+def free_port():
+    with socket.create_server(("127.0.0.1", 0)) as listener:
+        return listener.getsockname()[1]
+
+
+class Server(Running):
+    """A server, which listens once this is made."""
+
+    def __init__(self, room, workers=4, capacity=1000, sessions=1000, port=None):
+        self.port = port or free_port()
+        numbers = ("--port", self.port, "--workers", workers, "--capacity", capacity, "--sessions", sessions)
+        super().__init__(["serve", *numbers, *room.publics])
+        self.said = self.told.next()
+
+
+class Room:
+    """A folder with the keys of some users."""
+
+    def __init__(self, at, users=2, width=4, signing=None):
+        """Of the users these have whole keys; all, unless they are given."""
+        self.at, self.names = at, 0
+        leaves = [None if signing is None or user in signing else 1 for user in range(users)]
+        self.keys = [logs.key_of(f"serving {user}", width=width, leaves=count) for user, count in enumerate(leaves)]
+        self.key_files = [self.file(key.file()) for key in self.keys]
+        self.publics = [self.file(key.public()) for key in self.keys]
+        self.public_keys = [key.public() for key in self.keys]
+
+    def path(self):
+        self.names += 1
+        return f"{self.at}/{self.names}"
+
+    def file(self, data):
+        """The path of a new file with these bytes."""
+        path = self.path()
+        with open(path, "wb") as file:
+            file.write(data)
+        return path
+
+    def words(self, port, user, *more, key=None):
+        key = self.key_files[user] if key is None else key
+        return ["client", "--port", port, "--user", user, "--key", key, *more, *self.publics]
+
+    def client(self, port, user, *more, **how):
+        return Client(self.words(port, user, *more, **how))
+
+    def run(self, port, user, script, *more, **how):
+        """What a client prints and tells of a whole script, and its status."""
+        with Running(self.words(port, user, *more, **how)) as client:
+            client.write(script)
+            return client.end()
+
+    def log(self, text):
+        """The log of these lines of a desk script, and its maker."""
+        maker = logs.Maker(self.keys)
+        for line in text.split("; "):
+            maker.say(line)
+        return maker
+
+
+def read(path):
+    with open(path, "rb") as file:
+        return file.read()
+
+
+def is_told(told, *parts):
+    """Whether one line is told, with these parts."""
+    return len(told) == 1 and all(it.encode() in told[0] for it in ("sundr: ", *parts)) and told[0].startswith(b"sundr: ")
+
+
+def history_of(log):
+    """The authors and changes of a log, as the second desk has them."""
+    data, at, parts = read(log), 0, []
+    while at < len(data):
+        part, at = audit_model.piece(data, at)
+        parts.append(part)
+    return [(audit_model.commit_in(commit)[0].author, audit_model.change_in(item)) for commit, item in zip(parts[::2], parts[1::2])]
+
+
+def audit(room, log):
+    with Running(["audit", "--log", log, *room.publics]) as running:
+        return running.end()
+
+
+# ---- a walk of two users
+
+def walk(at):
+    room, saved = Room(at), f"{at}/saved"
+    with Server(room, workers=2, capacity=10, sessions=2) as server:
+        yield "it_listens", server.said.startswith(b"sundr: ") and b":%d" % server.port in server.said
+        with room.client(server.port, 0) as zero, room.client(server.port, 1) as one:
+            for name, client, line, wanted in (
+                    ("makes_a_directory", zero, b"mkdir /d", [b"ok 1"]),
+                    ("takes_it_over", one, b"create /d/f", [b"ok 2", b"ok 3"]),
+                    ("sees_the_file", zero, b"ls /d", [b"f G0:3"]),
+                    ("is_blocked", zero, b"undo 1", [b"no 39 Change 28 Blocked 3"]),
+                    ("saves", zero, b"save " + saved.encode(), [])):
+                said = client.say(line)
+                yield f"walk_{name}: {said}", said == wanted
+            for user, client in enumerate((zero, one)):
+                ended = client.end()
+                yield f"client_{user}_ends: {ended}", ended == ([], [], 0)
+        printed, told, status = server.end()
+        yield f"the_server_ends: {told}", (printed, len(told), status) == ([], 1, 0) and told[0].startswith(b"sundr: ")
+    yield "the_saved_log_is_good", audit(room, saved) == ([b"ok 3"], [], 0)
+    yield "and_is_whole", audit_model.audit(room.public_keys, read(saved)) == ("ok 3\n", 0)
+    with Server(room) as server:
+        forgotten = room.run(server.port, 1, b"ls /\n", "--log", saved)
+        yield f"a_new_server_has_forgotten: {forgotten}", forgotten == ([b"no 40 OwnMissing"], [], 0)
+        anew = room.run(server.port, 1, b"ls /\n")
+        yield f"without_the_log_nothing: {anew}", anew == ([], [], 0)
+
+
+# ---- logs that are saved
+
+def logs_taken_up(at):
+    """Clients go on with a log, the one who saved it and another one, from wherever it ends."""
+    room, saved = Room(at), f"{at}/saved"
+    save = b"save %s\n" % saved.encode()
+    with Server(room) as server:
+        room.run(server.port, 1, save)
+        yield "goes_on_with_an_empty_log", room.run(server.port, 0, b"mkdir /a\n", "--log", saved) == ([b"ok 1"], [], 0)
+        ended = room.run(server.port, 0, b"mkdir /b\n" + save + b"mkdir /c\n")
+        yield f"saves_in_the_middle: {ended}", ended == ([b"ok 2", b"ok 3"], [], 0) and audit(room, saved) == ([b"ok 2"], [], 0)
+        for user, wanted in ((0, [b"a G0:2", b"b G0:3", b"c G0:4", b"ok 4"]), (1, [b"a G0:2", b"b G0:3", b"c G0:4", b"ok 5", b"ok 6"])):
+            ended = room.run(server.port, user, b"ls /\nmkdir /a/%d\n" % user, "--log", saved)
+            yield f"goes_on_with_the_log_{user}: {ended}", ended == (wanted, [], 0)
+
+
+def operations(at):
+    """A saved log has the operations that commands become."""
+    room, saved = Room(at), f"{at}/saved"
+    root, folder, file, other = (desk_model.group_file(0, number) for number in range(1, 5))
+    with Server(room) as server:
+        for user, line in (
+                (1, b"mkdir /d"), (0, b"create /d/f"), (0, b"rename /d/f /f"), (1, b"create /d/g"), (1, b"rename /f /d/g"),
+                (0, b"link /d/g /h"), (0, b"save " + saved.encode())):
+            room.run(server.port, user, line)
+    wanted = [
+        (1, ("take", root, 1)), (1, ("create", "mkdir", root, b"d", folder, 2)),
+        (0, ("take", folder, 2)), (0, ("create", "create", folder, b"f", file, 3)),
+        (0, ("take", root, 4)), (0, ("rename", folder, b"f", root, b"f", file)),
+        (1, ("take", folder, 3)), (1, ("create", "create", folder, b"g", other, 4)),
+        (1, ("take", root, 5)), (1, ("unlink", folder, b"g", other)), (1, ("rename", root, b"f", folder, b"g", file)),
+        (0, ("take", root, 5)), (0, ("link", root, b"h", file))]
+    history = history_of(saved)
+    yield f"operations_of_commands: {[it for it in zip(history, wanted) if it[0] != it[1]][:1]}", history == wanted
+
+
+# ---- users at once
+
+def at_once(at):
+    """Three users who work at once: each commit is told to one of them. A plan of two operations may meet what came between them."""
+    room, saved = Room(at, 3), f"{at}/saved"
+    script = b"".join(b"mkdir /%d\nls /\nundo_last\nmkdir /%d\n" % (n, n) for n in range(3))
+    with Server(room) as server:
+        clients = [room.client(server.port, user, "--tries", 100000) for user in range(3)]
+        for client in clients:
+            client.write(script)
+        ends = [client.end() for client in clients]
+        yield "at_once_ends", [ended[1:] for ended in ends] == [([], 0)] * 3
+        said = [line.decode() for ended in ends for line in ended[0]]
+        done = sorted(int(line.split(" ")[1]) for line in said if line.startswith("ok "))
+        yield f"at_once_each_commit_is_told_once: {done}", len(done) >= 9 and done == list(range(1, len(done) + 1))
+        met = re.compile(r"ok \d+|\d G0:\d+|no 19 Exists|no 39 Change (16|17|18|19|27|28) .+")
+        odd = [line for line in said if not met.fullmatch(line)]
+        yield f"at_once_nothing_else_is_met: {odd}", odd == []
+        room.run(server.port, 0, b"save " + saved.encode())
+        yield "at_once_log", audit(room, saved) == ([b"ok %d" % len(done)], [], 0)
+
+
+def many_users(at):
+    room = Room(at, 64, signing=(0, 63))
+    with Server(room, workers=16) as server:
+        ended = room.run(server.port, 63, b"mkdir /a\nundo 1\nls /\n")
+        yield f"the_last_user: {ended}", ended == ([b"ok 1", b"ok 2", b"no 39 Change 28 Blocked 2", b"a G0:2"], [], 0)
+        ended = room.run(server.port, 0, b"create /a/f\nls /a\n")
+        yield f"the_first_of_many: {ended}", ended == ([b"ok 3", b"ok 4", b"f G0:3"], [], 0)
+
+
+# ---- a client at a keyboard
+
+def at_a_keyboard(at):
+    """A prompt where somebody types, on a terminal."""
+    if program == MODEL:
+        return
+    room = Room(at)
+    with Server(room) as server:
+        terminal, end = pty.openpty()
+        started = subprocess.Popen([*program, *map(str, room.words(server.port, 0))], stdin=end, stdout=end, stderr=end)
+        os.close(end)
+        os.write(terminal, b"mkdir /a\nls /\n\x04")
+        seen = typed(terminal)
+        is_right = seen.count(b"> ") == 3 and b"ok 1" in seen and b"a G0:2" in seen
+        yield f"a_prompt_for_each_line: {seen}", is_right and started.wait(WAIT) == 0
+
+
+def typed(terminal):
+    """All that is seen on a terminal."""
+    seen = b""
+    try:
+        while more := os.read(terminal, 4096):
+            seen += more
+    except OSError:  # the program has closed its end
+        pass
+    os.close(terminal)
+    return seen
+
+
+# ---- what lines print
+
+LINES = (
+    # of user 0, who holds the root
+    (0, "mkdir /d", "ok 1"), (0, "create /d/f", "ok 2"), (0, "write /d/f 0 68656C6c6f", "ok 3"), (0, "cat /d/f 0 99", "68656c6c6f"),
+    (0, "cat /d/f 1 3", "656c6c"), (0, "cat /d/f 5 1", ""), (0, "cat /d/f 18446744073709551615 18446744073709551615", ""),
+    (0, "write /d/f 5000 00000000000000000001", "ok 4"), (0, "cat /d/f 4999 20", "0000000000000000000001"),
+    (0, "truncate /d/f 2", "ok 5"), (0, "cat /d/f 0 99", "6865"), (0, "link /d/f /g", "ok 6"), (0, "ls /", "d G0:2|g G0:3"),
+    (0, "rename /g /h", "ok 7"), (0, "rename /h /h", ""), (0, "remove /d/f", "ok 8"), (0, "cat /h 0 9", "6865"),
+    (0, "undo 8", "ok 9"), (0, "undo_last", "ok 10"), (0, "ls /", "d G0:2|g G0:3"), (0, "ls /d", "f G0:3"),
+    # refusals, in the order in which they come
+    (0, "mkdir d", "no 29 BadPath"), (0, "mkdir /", "no 29 BadPath"), (0, "ls //", "no 29 BadPath"), (0, "ls /d/", "no 29 BadPath"),
+    (0, "ls /.", "no 29 BadPath"), (0, "create /..", "no 29 BadPath"), (0, "create /" + "n" * 256, "no 29 BadPath"),
+    (0, "rename /x y", "no 29 BadPath"), (0, "remove /", "no 29 BadPath"), (0, "ls /x", "no 18 NoName"), (0, "ls /x/y", "no 18 NoName"),
+    (0, "remove /x", "no 18 NoName"), (0, "rename /x /g/y", "no 18 NoName"), (0, "ls /g", "no 15 WrongKind G0:3"),
+    (0, "ls /g/x", "no 15 WrongKind G0:3"), (0, "cat /d 0 1", "no 15 WrongKind G0:2"), (0, "write / 0 41", "no 15 WrongKind G0:1"),
+    (0, "write /d 0 41", "no 15 WrongKind G0:2"), (0, "truncate /d 1", "no 15 WrongKind G0:2"), (0, "link / /x", "no 15 WrongKind G0:1"),
+    (0, "create /d", "no 19 Exists"), (0, "link /g /d/f", "no 19 Exists"), (0, "remove /d", "no 20 NotEmpty"),
+    (0, "rename /d /d/x", "no 21 DirMove"), (0, "rename /g /d", "no 20 NotEmpty"), (0, "truncate /g 1048577", "no 22 TooBig"),
+    (0, "truncate /g 4294967295", "no 22 TooBig"), (0, "truncate /g 4294967296", "no 3 BadNumber"),
+    (0, "write /g 18446744073709551615 41", "no 3 BadNumber"), (0, "write /g 4294967295 41", "no 22 TooBig"),
+    (0, "write /g 0 " + "41" * 65537, "no 3 BadNumber"), (0, "undo 0", "no 39 Change 24 NoOperation 0"),
+    (0, "undo 11", "no 39 Change 24 NoOperation 11"), (0, "undo 9", "no 39 Change 25 NotOperation 9"),
+    (0, "undo 8", "no 39 Change 26 AlreadyUndone 8 9"), (0, "undo 1", "no 39 Change 28 Blocked 2"), (0, "", ""),
+    # of user 1, who takes over what he writes
+    (1, "undo 1", "no 39 Change 27 NotAuthor 0"), (1, "undo_last", "no 39 Change 27 NotAuthor 0"), (1, "write /g 0 42", "ok 11|ok 12"),
+    (1, "write /g 0 43", "ok 13"), (0, "write /g 0 44", "ok 14|ok 15"), (1, "rename /g /d/f", "ok 16|ok 17|ok 18|ok 19|ok 20"),
+    (1, "ls /d", "f G0:3"), (1, "ls /", "d G0:2"), (1, "cat /d/f 0 9", "4465"),
+    # the largest write, and names that could forge a line
+    (0, "write /d/f 0 " + "5a" * 65536, "ok 21|ok 22"), (0, "cat /d/f 65530 9", "5a" * 6),
+    (0, "create /d/\x01\\\x7f\t\u00e9", "ok 23|ok 24"), (0, "ls /d", "\\x01\\x5c\\x7f\\x09\u00e9 G0:4|f G0:3"),
+)
+
+BAD_LINES = (
+    "hello", "mkdir", "mkdir /a /b", " mkdir /a", "mkdir /a ", "mkdir  /a", "Mkdir /a", "0 mkdir /a", "ls", "cat /a", "cat /a 0",
+    "cat /a x 1", "cat /a 0 18446744073709551616", "cat /a 0 000000000000000000001", "write /a 0", "write /a 0 4", "write /a 0 4x",
+    "write /a -1 41", "write /a 4294967296 4", "truncate /a", "truncate /a 1 1", "link /a", "rename /a", "remove", "undo", "undo x",
+    "undo -1", "undo_last 1", "save", "save a b", "stat /a", "versions", "undo 1\r", "write /a 0 " + "41" * 70000,
+)
+
+
+def lines(at):
+    room = Room(at)
+    team = client_model.Team(2, leaves=32)
+    with Server(room) as server, room.client(server.port, 0) as zero, room.client(server.port, 1) as one:
+        for number, (user, line, wanted) in enumerate(LINES):
+            wanted = [it.encode() for it in wanted.split("|") if it or line.startswith("cat")]
+            line = line.encode()
+            by_model = list(client_model.answers(team.member(user), line)) if line else []
+            said = (zero, one)[user].say(line)
+            yield f"line_{number}: {line[:60]} {said}, and not {wanted} {by_model}", said == wanted == by_model
+        yield "lines_end", [it.end() for it in (zero, one)] == [([], [], 0)] * 2
+        for number, line in enumerate(BAD_LINES):
+            printed, told, status = room.run(server.port, 0, b"\n\nls /x\n" + line.encode() + b"\nls /x\n")
+            is_right = (printed, status) == ([b"no 18 NoName", b"line 4: bad"], 2) and is_told(told, "line 4: ")
+            yield f"bad_line_{number}: {line[:60]} {printed} {told} {status}", is_right
+        ended = room.run(server.port, 0, b"ls /x")
+        yield f"a_last_line_without_an_end: {ended}", ended == ([b"no 18 NoName"], [], 0)
+        yield "no_lines", room.run(server.port, 0, b"") == ([], [], 0)
+
+
+# ---- faults and statuses
+
+def saves(at):
+    """A log is put in the place of what stands there, whole; where it can't be, the run ends."""
+    room, log = Room(at), f"{at}/log"
+    os.mkdir(f"{at}/folder")
+    with Server(room) as server:
+        for n in range(2):
+            ended = room.run(server.port, 0, b"mkdir /%d\nsave %b\n" % (n, log.encode()))
+            yield f"saved_{n}: {ended}", ended == ([b"ok %d" % (n + 1)], [], 0)
+            yield f"saved_whole_{n}", audit_model.audit(room.public_keys, read(log)) == (f"ok {n + 1}\n", 0)
+        before = read(log)
+        for name, path in (("no_folder", f"{at}/nowhere/log"), ("a_folder", f"{at}/folder"), ("a_file_as_folder", f"{log}/log")):
+            printed, told, status = room.run(server.port, 0, b"mkdir /%b\nsave %b\nls /x\n" % (name.encode(), path.encode()))
+            is_right = len(printed) == 1 and printed[0].startswith(b"ok ") and status == 1 and is_told(told, path)
+            yield f"saving_to_{name}: {printed} {told} {status}", is_right
+        printed, told, status = room.run(server.port, 0, b"save " + f"{at}/".encode() + b"\xff\n")
+        yield f"saving_to_no_text: {printed} {told} {status}", printed == [] and (status == 0 and told == [] or status == 1 and is_told(told))
+        yield "the_old_log_stays", read(log) == before and not [it for it in os.listdir(at) if it.startswith("log.")]
+    with Server(room) as server:
+        ended = room.run(server.port, 0, b"save %b\n" % log.encode())
+        yield f"no_commits_saved: {ended}", ended == ([], [], 0) and read(log) == b""
+
+
+def streams(at):
+    """Standard input and output that fail."""
+    room = Room(at)
+    with Server(room) as server:
+        words = [*program, *map(str, room.words(server.port, 0))]
+
+        def run(**how):
+            how = {"stdin": subprocess.DEVNULL, "stdout": subprocess.PIPE, **how}
+            ended = subprocess.run(words, stderr=subprocess.PIPE, timeout=WAIT, **how)
+            return ended.stdout, ended.stderr.splitlines(), ended.returncode
+
+        with open(room.file(b"ls /x\n")) as script, open("/dev/full", "w") as full:
+            _, told, status = run(stdin=script, stdout=full)
+            yield f"a_full_disk: {told}", status == 1 and is_told(told, "No space left")
+        reader, writer = os.pipe()
+        os.close(reader)
+        with open(room.file(b"ls /x\n")) as script:
+            yield "a_reader_gone", run(stdin=script, stdout=writer)[1:] == ([], 1)
+        os.close(writer)
+        if program == MODEL:  # Python itself wants no folder there
+            return
+        folder = os.open("/", os.O_RDONLY)
+        printed, told, status = run(stdin=folder)
+        os.close(folder)
+        yield f"a_folder_as_script: {told}", (printed, status) == (b"", 1) and is_told(told, "Is a directory")
+
+
+def faults(at):
+    """Each fault with all that are looked for later beside it."""
+    room = Room(at)
+    key, bad = room.key_files[0], room.file(b"bad")
+    nowhere, port = f"{at}/nowhere", free_port()
+    log = room.log("0 create G0:1 a U0:2; 1 take G0:1 1").log()
+    cut, good = room.file(log[:-1]), room.file(log)
+    publics = room.publics
+
+    def client(user=0, key=key, log=None, publics=publics, port=port, more=()):
+        return ["client", "--port", port, "--user", user, "--key", key, *(["--log", log] if log else []), *more, *publics]
+
+    def serve(workers=1, capacity=1, sessions=1, port=port, publics=publics):
+        numbers = ("--port", port, "--workers", workers, "--capacity", capacity, "--sessions", sessions)
+        return ["serve", *numbers, *publics]
+
+    wrong = {
+        "no_words": ["client"], "a_port_of_0": client(port=0), "a_port_too_large": client(port=65536), "a_user_too_large": client(64),
+        "no_tries": client(more=["--tries", 0]), "too_many_tries": client(more=["--tries", 1000001]), "no_keys": client(publics=[]),
+        "tries_of_no_number": client(more=["--tries", "x"]), "too_many_keys": client(publics=publics[:1] * 65),
+        "another_option": client(more=["--width", 4]), "a_user_of_no_number": client("x"), "serve_without_words": ["serve"],
+        "no_workers": serve(0), "too_many_workers": serve(17), "no_capacity": serve(capacity=0), "serve_a_port_of_0": serve(port=0),
+        "too_much_capacity": serve(capacity=1000001), "no_sessions": serve(sessions=0), "too_many_sessions": serve(sessions=1000001),
+        "serve_a_port_too_large": serve(port=65536), "serve_no_keys": serve(publics=[]), "serve_many_keys": serve(publics=publics[:1] * 65),
+        "bad_numbers_before_all": client(64, nowhere, cut, [bad]),
+    }
+    for name, words in wrong.items():
+        with Running(words) as running:
+            printed, told, status = running.end()
+        yield f"wrong_line_{name}: {told} {status}", (printed, status) == ([], 2) and told != []
+    told_of = {
+        "no_public_key_of_the_user": (client(2, nowhere, cut, [bad, nowhere]), "2"),
+        "the_last_user": (client(63, nowhere, cut, [bad]), "63"),
+        "no_key_file": (client(0, nowhere, cut, [bad]), nowhere),
+        "a_folder_as_key": (client(0, at, cut, [bad]), at),
+        "a_bad_key_file": (client(0, bad, cut, [bad]), bad),
+        "a_public_key_as_key": (client(0, publics[0], cut, [bad]), publics[0]),
+        "no_public_key": (client(0, key, cut, [publics[0], nowhere, bad]), nowhere),
+        "a_bad_public_key": (client(0, key, cut, [publics[0], bad, nowhere]), bad),
+        "no_log": (client(0, key, nowhere), nowhere),
+        "no_server": (client(0, key, good), str(port)),
+        "serve_no_public_key": (serve(publics=[publics[0], nowhere, bad]), nowhere),
+        "serve_a_bad_public_key": (serve(publics=[bad, nowhere]), bad),
+    }
+    for name, (words, part) in told_of.items():
+        with Running(words) as running:
+            printed, told, status = running.end()
+        yield f"fault_{name}: {printed} {told} {status}", (printed, status) == ([], 1) and is_told(told, part)
+    for name, (log, wanted) in refused_logs(room).items():
+        path = room.file(log)
+        with Server(room) as server:
+            for there, to in (("at_a_server", server.port), ("without_one", port)):
+                ended = Running(client(log=path, port=to)).end()
+                yield f"log_{name}_{there}: {ended}", ended == (wanted, [], 1)
+    with Server(room) as server:
+        ended = Running(serve(port=server.port)).end()
+        yield f"fault_a_port_in_use: {ended}", (ended[0], ended[2]) == ([], 1) and is_told(ended[1], str(server.port))
+        ended = room.run(server.port, 0, b"ls /\n", "--log", good)
+        yield f"a_good_log_at_a_new_server: {ended}", ended == ([b"no 40 OwnMissing"], [], 0)
+
+
+def refused_logs(room):
+    """Logs that are refused, and what is printed of each."""
+    maker = room.log("0 create G0:1 a U0:2; 1 take G0:1 1")
+    log, (first, second) = maker.log(), maker.records
+    place = len(log) - 4 - len(second[1])
+    return {
+        "cut": (log[:-1], [b"at 2", b"no 1 Malformed %d" % place]),
+        "unsigned": (logs.log_bytes(bad_server.forge([first, second], 1)), [b"at 1", b"no 33 BadSignature"]),
+        "without_the_first": (logs.log_bytes([second]), [b"at 1", b"no 34 WrongPrev 0"]),
+        "of_another_item": (logs.log_bytes([first, (second[0], b"junk")]), [b"at 2", b"no 5 MissingBlock"]),
+        "of_no_item": (logs.log_bytes([(first[0], b"")]), [b"at 1", b"no 22 TooBig"]),
+    }
+
+
+# ---- keys
+
+def next_leaf(path):
+    return int.from_bytes(read(path)[60:], "big")
+
+
+class Watched(model_server.Service):
+    """Keeps each commit that is handed in."""
+
+    def __init__(self, publics):
+        super().__init__(publics)
+        self.seen = []
+
+    def commit(self, seat, data):
+        self.seen.append(data)
+        return super().commit(seat, data)
+
+    def leaves(self):
+        """The leaf of each signature that was seen, with what it signs; each once."""
+        parts = [audit_model.commit_in(data) for data in self.seen]
+        return sorted({(audit_model.leaf_of(signature), version.encode()) for version, signature in parts})
+
+
+def keys(at):
+    room = Room(at)
+    with Server(room) as server:
+        with room.client(server.port, 0) as first:
+            yield "a_key_at_work", first.say(b"mkdir /a") == [b"ok 1"]
+            printed, told, status = room.run(server.port, 0, b"mkdir /b\n")
+            yield f"a_key_in_use: {told}", (printed, status) == ([], 1) and is_told(told, room.key_files[0])
+            yield "the_first_goes_on", first.say(b"mkdir /b") == [b"ok 2"]
+        ended = room.run(server.port, 0, b"mkdir /c\n")
+        yield f"a_key_free_again: {ended}", ended == ([b"ok 3"], [], 0)
+        yield "its_next_leaf", next_leaf(room.key_files[0]) == 3
+        ended = room.run(server.port, 0, b"mkdir /d\nls /\n", key=room.key_files[1])
+        wanted = [b"no 33 BadSignature", b"a G0:2", b"b G0:3", b"c G0:4"]
+        yield f"the_key_of_another: {ended}", ended == (wanted, [], 0) and next_leaf(room.key_files[1]) == 0
+        yield from spent(room, server)
+        yield from unkept(room, server)
+        for make in (os.symlink, os.link):
+            path = room.path()
+            make(room.key_files[1], path)
+            printed, told, status = room.run(server.port, 1, b"ls /\n", key=path)
+            yield f"a_key_by_{make.__name__}: {told}", (printed, status) == ([], 1) and is_told(told, path) or program == MODEL
+            os.remove(path)
+        older = room.file(room.keys[0].file(0))
+        ended = room.run(server.port, 0, b"mkdir /e\nls /x\n", key=older)
+        yield f"an_older_copy_of_a_key: {ended}", ended == ([b"no 36 KeyReuse", b"no 18 NoName"], [], 0)
+
+
+def spent(room, server):
+    last = room.file(room.keys[1].file(31))
+    ended = room.run(server.port, 1, b"create /x\nls /x\nundo 0\ncreate /y\n", key=last)
+    wanted = [b"ok 4", b"no 8 KeySpent", b"no 18 NoName", b"no 39 Change 24 NoOperation 0", b"no 8 KeySpent"]
+    yield f"a_key_is_spent: {ended}", ended == (wanted, [], 0) and next_leaf(last) == 32
+    ended = room.run(server.port, 1, b"undo 4\n", key=last)
+    yield f"a_spent_key: {ended}", ended == ([b"no 8 KeySpent"], [], 0)
+    over = room.file(room.keys[1].file(33))
+    printed, told, status = room.run(server.port, 1, b"", key=over)
+    yield f"a_key_past_its_last_leaf: {told}", (printed, status) == ([], 1) and is_told(told, over)
+
+
+def unkept(room, server):
+    """A key file that can't be written: what is in the way stands where the next leaf is written first."""
+    path = room.file(room.keys[0].file(5))
+    with room.client(server.port, 0, key=path) as client:
+        os.mkdir(f"{path}.next")
+        said = client.say(b"create /u")
+        yield f"a_key_that_cannot_be_kept: {said}", said[-1:] == [b"no 10 KeyFileFault"] and next_leaf(path) == 5
+        os.rmdir(f"{path}.next")
+        said = client.say(b"ls /u")
+        yield f"nothing_was_signed: {said}", said == [b"no 18 NoName"]
+        said = client.say(b"create /u")
+        yield f"and_can_again: {said}", said[-1:] != [b"no 10 KeyFileFault"] and said[-1].startswith(b"ok ") and next_leaf(path) >= 6
+        printed, told, status = client.end()
+        yield f"why_it_could_not: {told}", (printed, status) == ([], 0) and (program == MODEL or is_told(told, path))
+
+
+def kills(at):
+    """A client is killed while it signs, many times over: no leaf signs two things, and the key file is always past each leaf that
+    anybody saw."""
+    room = Room(at)
+    key, seed = room.key_files[0], random.Random("kills")
+    service = Watched(room.public_keys)
+    torn, behind, stuck = [], [], []
+    with model_server.Server(service) as server:
+        script = b"create /a\n" + b"".join(b"write /a 0 %02x\n" % n for n in range(100))
+        for n in range(KILLS):
+            with Running(room.words(server.port, 0)) as client:
+                client.write(script)
+                client.close_input()
+                started = client.printed.next()
+                stuck += [] if started is not None else [n]
+                time.sleep(seed.random() * 0.02)
+                client.process.send_signal(signal.SIGKILL)
+                client.process.wait(WAIT)
+            data = read(key)
+            torn += [] if len(data) == 64 and data[:60] == room.keys[0].file()[:60] else [n]
+            behind += [n] if service.seen and next_leaf(key) <= service.leaves()[-1][0] else []
+            if next_leaf(key) > 24:  # another key, before this one is spent
+                yield from check_leaves(n, service)
+                service.book, service.seen = model_server.Book(room.public_keys, 1000), []
+                with open(key, "wb") as file:
+                    file.write(room.keys[0].file())
+    if service.seen:
+        yield from check_leaves("last", service)
+    yield f"killed_keys_are_whole: {torn}", torn == []
+    yield f"killed_keys_are_not_behind: {behind}", behind == []
+    yield f"killed_keys_are_taken_up_again: {stuck}", stuck == []
+
+
+def kills_at_calls(at):
+    """The same at each system call of a client that signs twice (where it has many, at some of them). By strace, if there is one."""
+    if not shutil.which("strace"):
+        print("serving: there is no strace, so no client is killed at each of its calls")
+        return
+    room, script = Room(at), f"{at}/script"
+    key, fresh = room.key_files[0], room.keys[0].file()
+    with open(script, "w") as file:
+        file.write("create /a\nwrite /a 0 41\n")
+    service = Watched(room.public_keys)
+
+    def traced(*how):
+        """A run of a client by strace, with a new book and the key as it was made."""
+        service.book, service.seen = model_server.Book(room.public_keys, 1000), []
+        with open(key, "wb") as file:
+            file.write(fresh)
+        with open(script, "rb") as given:
+            words = ["strace", "-f", "-qq", *how, *program, *map(str, room.words(server.port, 0))]
+            return subprocess.run(words, stdin=given, stdout=subprocess.PIPE, stderr=subprocess.PIPE, timeout=WAIT)
+
+    with model_server.Server(service) as server:
+        traced("-o", f"{at}/trace")
+        calls = list(calls_in(f"{at}/trace"))
+        for call, which in calls[::-(-len(calls) // MOST_CALLS)]:
+            traced("-o", "/dev/null", "-e", f"inject={call}:signal=KILL:when={which}")
+            data, leaves = read(key), [leaf for leaf, _ in service.leaves()]
+            is_kept = len(data) == 64 and data[:60] == fresh[:60] and next_leaf(key) > max(leaves, default=-1)
+            ended = room.run(server.port, 0, b"create /b\n")
+            is_right = is_kept and (ended[0], ended[2]) == ([b"ok %d" % len(service.book.records)], 0)
+            yield f"killed_at_{call}_{which}: {leaves} {ended}", is_right
+            yield from check_leaves(f"at_{call}_{which}", service)
+
+
+def check_leaves(name, service):
+    leaves = [leaf for leaf, _ in service.leaves()]
+    yield f"killed_signs_no_leaf_twice_{name}: {leaves}", len(leaves) == len(set(leaves)) > 0
+
+
+# ---- a turn that another has
+
+def raw(port):
+    """A link of our own."""
+    return wire.connect(port)
+
+
+def reply_to(link, request):
+    return wire.reply_in(link.ask(request))
+
+
+def busy(at):
+    room = Room(at)
+    with Server(room, workers=3) as server:
+        holder, other = raw(server.port), raw(server.port)
+        yield "the_turn_is_granted", reply_to(holder, wire.GRANT) == ("granted", (0, {}))
+        yield "and_again_to_who_has_it", reply_to(holder, wire.GRANT) == ("granted", (0, {}))
+        name, seat = reply_to(other, wire.GRANT)
+        yield f"another_is_told_the_seat: {seat}", name == "refused" and re.fullmatch(r"31 Busy [0-2]", seat) is not None
+        with room.client(server.port, 0, "--tries", 3) as client:
+            for line in (b"mkdir /a", b"ls /", b"undo 1", b"undo_last", b"cat /a 0 1", b"save " + f"{at}/busy".encode()):
+                client.write(line + b"\n")
+                said = client.printed.next()
+                yield f"busy_{line.decode().split()[0]}: {said}", said == f"no {seat}".encode()
+            yield "what_needs_no_turn", (client.write(b"truncate /a 4294967296\n"), client.printed.next())[1] == b"no 3 BadNumber"
+            yield "nothing_was_saved", not os.path.exists(f"{at}/busy")
+            yield "the_turn_is_given_back", reply_to(holder, wire.GIVE) == ("given", None)
+            yield "then_it_can", client.say(b"mkdir /a") == [b"ok 1"]
+            yield "the_turn_is_held_again", reply_to(holder, wire.GRANT) == ("granted", (1, {0: 1}))
+            started = time.monotonic()
+            client.write(b"ls /\n")
+            yield "busy_again", client.printed.next() == f"no {seat}".encode()
+            yield "and_was_told_soon", time.monotonic() - started < 5
+            holder.close()
+            yield "who_goes_has_no_turn", client.say(b"ls /") == [b"a G0:2"]
+            yield "busy_ends", client.end() == ([], [], 0)
+        waiting = room.client(server.port, 1)
+        yield "the_other_has_it", reply_to(other, wire.GRANT) == ("granted", (1, {0: 1}))
+        waiting.write(b"ls /\n")
+        time.sleep(0.1)
+        yield "it_is_given_in_time", reply_to(other, wire.GIVE) == ("given", None)
+        yield "so_it_was_waited_for", waiting.printed.next() == b"a G0:2"
+        yield "waiting_ends", waiting.end() == ([], [], 0)
+        other.close()
+
+
+def turns(at):
+    """A client that stays has given the turn back after each line, whatever came of it."""
+    room = Room(at)
+    with Server(room) as server, room.client(server.port, 0) as zero, room.client(server.port, 1) as one:
+        for line in (
+                b"mkdir /a", b"create /a/f", b"ls /", b"ls x", b"ls /x", b"ls /a/f", b"cat /a/f 0 1", b"cat /a 0 1", b"mkdir /a", b"mkdir x",
+                b"remove /a", b"rename /a /a", b"undo 0", b"undo_last", b"undo 1", b"undo 9", b"write /a 0 41", f"save {at}/log".encode()):
+            for user, client in enumerate((zero, one)):
+                client.say(line)
+                client.write(line + b"\ntruncate / 4294967296\n")
+                for said in iter(client.printed.next, None):
+                    if said == b"no 3 BadNumber":
+                        break
+                yield f"turn_of_{user}_after_{line.decode()}", is_free(server.port)
+        yield "turns_end", [it.end() for it in (zero, one)] == [([], [], 0)] * 2
+
+
+def is_free(port):
+    """Whether nobody has the turn."""
+    link = raw(port)
+    name, _ = reply_to(link, wire.GRANT)
+    if name == "granted":
+        reply_to(link, wire.GIVE)
+    link.close()
+    return name == "granted"
+
+
+# ---- a server that lies
+
+STORY = "0 create G0:1 a U0:2; 0 write U0:2 0 41; 1 take G0:1 1; 1 create G0:1 b U1:2; 0 write U0:2 0 42; 1 write U1:2 0 43"
+OTHER = "0 create G0:1 a U0:2; 0 write U0:2 0 41; 1 take G0:1 1; 1 create G0:1 c U1:2; 0 write U0:2 0 44; 1 write U1:2 0 45"
+
+
+def lies(at):
+    room = Room(at)
+    records, others = room.log(STORY).records, room.log(OTHER).records
+    publics, turns_kept = room.public_keys, []
+
+    def told(service, script, held, user=0):
+        """What a client of the user prints of a script, that holds so many of the records."""
+        log = room.file(logs.log_bytes(records[:held]))
+        key = room.file(room.keys[user].file(8))
+        with bad_server.Server(service) as server:
+            ended = room.run(server.port, user, script, "--log", log, "--tries", 3, key=key)
+        if service.is_held and ended[2] == 0:
+            turns_kept.append((service, script))
+        return ended
+
+    def show(shown, held=0, **how):
+        return told(bad_server.Show(publics, shown, **how), b"ls /\ncat /a 0 9\n", held)
+
+    whole, other = [b"a U0:2", b"b U1:2", b"42"], [b"a U0:2", b"c U1:2", b"44"]
+    missing, unsigned, malformed = [b"no 40 OwnMissing"] * 2, [b"no 33 BadSignature"] * 2, [b"no 1 Malformed 0"] * 2
+    junk = bad_server.change(records, 6, lambda _: b"junk")
+
+    def misses(number):
+        return [b"no 34 WrongPrev %d" % number] * 2
+
+    cases = {
+        "the_truth": (show(records), whole), "the_truth_to_who_knows_it": (show(records, 6), whole),
+        "another_truth": (show(others), other),
+        "own_rolled_back": (show(bad_server.roll_back(records, 2), 6), missing),
+        "all_rolled_back": (show([], 6), missing),
+        "others_rolled_back": (show(bad_server.roll_back(records, 1), 6), whole),
+        "a_fork_behind_what_is_held": (show(bad_server.fork(records, 4, others), 2), other),
+        "a_fork_at_what_is_held": (show(bad_server.fork(records, 4, others), 6), missing),
+        "a_fork_of_others_at_what_is_held": (show(bad_server.fork(records, 4, others), 4), misses(4)),
+        "records_exchanged": (show(bad_server.swap(records, 2, 3)), misses(1)),
+        "a_record_dropped": (show(bad_server.drop(records, 4), 3), misses(3)),
+        "the_first_dropped": (show(bad_server.drop(records, 1)), misses(0)),
+        "a_forged_signature": (show(bad_server.forge(records, 2)), unsigned),
+        "a_forged_last_commit": (show(bad_server.forge(records, 6)), unsigned),
+        "more_than_there_are": (show(records, 6, count=9), whole),
+        "fewer_than_there_are": (show(records, count=4, last={0: 2, 1: 4}), [b"a U0:2", b"b U1:2", b"41"]),
+        "own_last_left_out": (show(records, 6, last={1: 6}), missing),
+        "no_last_to_who_has_none": (show(records, last={}), whole[:2] + missing[:1]),
+        "an_older_last": (show(records, 6, last={0: 2, 1: 6}), missing),
+        "the_last_of_another": (show(records, 6, last={0: 6, 1: 5}), whole),
+        "a_last_that_is_not_there": (show(records, 6, last={0: 99, 1: 6}), missing),
+        "a_commit_of_junk": (show(junk, last={0: 5}), malformed), "a_last_commit_of_junk": (show(junk, last={0: 5, 1: 6}), malformed),
+    }
+    for name, (ended, wanted) in cases.items():
+        yield f"lie_{name}: {ended}", ended == (wanted, [], 0)
+    yield from lying_items(publics, records, told)
+    yield from lying_on_the_turn(publics, records, told)
+    yield from lying_replies(publics, records, told)
+    yield f"who_is_lied_to_keeps_no_turn: {turns_kept}", turns_kept == []
+    yield from forks(room)
+
+
+def lying_on_the_turn(publics, records, told):
+    script = b"write /a 0 45\nls /\n"
+    for service, wanted in (
+            (bad_server.Refuses, [b"no 36 KeyReuse", b"a U0:2", b"b U1:2"]), (bad_server.Swallows, [b"ok 7", b"no 40 OwnMissing"]),
+            (bad_server.KeepsTurn, [b"ok 7", b"no 32 NotYourTurn"]), (bad_server.AlwaysBusy, [b"no 31 Busy 9"] * 2)):
+        ended = told(service(publics, records), script, 6)
+        yield f"lie_{service.__name__}: {ended}", ended == (wanted, [], 0)
+
+
+def forks(room):
+    """Two clients at work, which are shown different lists from some number on, and then each other's."""
+    service = bad_server.Forks(room.public_keys, 1)
+    with bad_server.Server(service) as server, room.client(server.port, 0) as zero, room.client(server.port, 1) as one:
+        for client, line, wanted in (
+                (zero, b"mkdir /a", [b"ok 1"]), (one, b"ls /", [b"a G0:2"]), (zero, b"mkdir /b", [b"ok 2"]),
+                (one, b"mkdir /c", [b"ok 2", b"ok 3"]), (zero, b"ls /", [b"a G0:2", b"b G0:3"]), (one, b"ls /", [b"a G0:2", b"c G0:3"])):
+            said = client.say(line)
+            yield f"forked_{line.decode()}: {said}", said == wanted
+        service.are_exchanged = True
+        for client, line in ((zero, b"ls /\n"), (one, b"mkdir /d\n")):
+            client.write(line)
+            said = client.printed.next()
+            yield f"forked_and_shown_the_other: {said}", said == b"no 40 OwnMissing"
+
+
+def lying_items(publics, records, told):
+    script = b"ls /\nmkdir /d\n"
+    for name, service, held, wanted in (
+            ("other_bytes", bad_server.WrongItem, 0, [b"no 6 WrongBlock"] * 2),
+            ("no_bytes", bad_server.NoItem, 0, [b"no 5 MissingBlock"] * 2)):
+        ended = told(service(publics, records), script, held)
+        yield f"lie_items_of_{name}: {ended}", ended == (wanted, [], 0)
+    ended = told(bad_server.WrongDigest(publics, []), script, 0)
+    yield f"lie_items_of_another_digest: {ended}", ended == ([b"no 7 SourceFailed"], [], 0)
+    ended = told(bad_server.WrongNumber(publics, records), b"write /a 0 45\nwrite /a 0 46\n", 6)
+    yield f"lie_another_number: {ended}", ended == ([b"ok 7", b"ok 8"], [], 0)
+
+
+def is_failed(ended, before=(), refusal=b"no 43 LinkFailed"):
+    """Whether a client ended with a link that failed, after it printed these lines and the refusal that its command met."""
+    printed, told, status = ended
+    return (printed, status) == ([*before, refusal], 1) and is_told(told)
+
+
+def lying_replies(publics, records, told):
+    script = b"write /a 0 45\nwrite /a 0 46\nls /\n"
+    for name, data in bad_server.NO_REPLIES.items():
+        ended = told(bad_server.Replies(publics, records, "grant", data), script, 6)
+        yield f"lie_grant_{name}: {ended}", is_failed(ended)
+    for request in ("fetch", "put", "commit", "get", "give"):
+        for name in ("nothing", "a_cut_frame", "too_long_a_frame", "an_unknown_tag"):
+            held = 3 if request == "get" else 6
+            at = held + 1 if request in ("put", "get") else 1  # behind the items of the log
+            service = bad_server.Replies(publics, records, request, bad_server.NO_REPLIES[name], at)
+            ended = told(service, b"ls /x\n" + script if request == "give" else script, held)
+            refusal = b"no 7 SourceFailed" if request in ("put", "get") else b"no 43 LinkFailed"
+            yield f"lie_{request}_{name}: {ended}", is_failed(ended, refusal=refusal)
+    for request in ("put", "get"):
+        service = bad_server.Replies(publics, records, request, b"", at=2)
+        printed, tale, status = told(service, script, 3)
+        yield f"lie_{request}_in_the_log: {printed} {tale}", (printed, status) == ([], 1) and is_told(tale)
+    service = bad_server.Replies(publics, records, "grant", b"", at=3)
+    ended = told(service, script, 6)
+    yield f"lie_mute_after_two: {ended}", is_failed(ended, [b"ok 7", b"ok 8"])
+
+
+# ---- sessions and workers
+
+def sessions(at):
+    room = Room(at)
+    with Server(room, workers=2, sessions=4) as server:
+        silent = raw(server.port)
+        for user in (0, 1):
+            ended = room.run(server.port, user, b"mkdir /%d\nls /\n" % user)
+            yield f"beside_a_silent_session_{user}: {ended}", ended[2] == 0 and ended[0][-1].endswith(b" G0:%d" % (2 + user))
+        with room.client(server.port, 0) as client:
+            yield "a_fourth_session", client.say(b"ls /") == [b"0 G0:2", b"1 G0:3"]
+            silent.close()
+            time.sleep(0.05)
+            yield "others_go_on_when_it_ends", client.say(b"ls /0") == [] and server.process.poll() is None
+        printed, told, status = server.end()
+        yield f"so_many_sessions_and_then_none: {told}", (printed, len(told), status) == ([], 1, 0)
+        yield "nobody_listens_any_more", is_refused(server.port)
+    with Server(room, workers=16, sessions=1) as server:
+        ended = room.run(server.port, 0, b"ls /\n")
+        yield f"more_workers_than_sessions: {ended}", ended == ([], [], 0) and server.end()[2] == 0
+    with Server(room, workers=1, sessions=3) as server:
+        first = raw(server.port)
+        yield "one_worker_serves_the_first", reply_to(first, wire.fetch(1)) == ("nothing", None)
+        with room.client(server.port, 0) as client:
+            client.write(b"mkdir /d\n")
+            time.sleep(0.1)
+            yield "the_second_waits", client.printed.lines.empty()
+            first.close()
+            yield "until_the_first_goes", client.printed.next() == b"ok 1"
+        yield from lines_of_bytes(server.port)
+    yield from links_cut(room)
+
+
+def links_cut(room):
+    """Clients that go in the middle of a message leave the worker and the turn to others; and a server that goes fails its clients."""
+    with Server(room, workers=1) as server:
+        for cut in (b"", b"\0\0", b"\0\0\0\1", b"\0\0\0\2\1", b"\0\0\0\1\1", b"\0\0\0\1\1\0\0\0\2\1"):
+            link = raw(server.port)
+            link.write(cut)
+            link.close()
+            ended = room.run(server.port, 0, b"ls /\n")
+            yield f"after_a_session_of_{cut}: {ended}", ended == ([], [], 0)
+        with room.client(server.port, 0) as client:
+            yield "a_server_at_work", client.say(b"mkdir /a") == [b"ok 1"]
+            server.kill()
+            client.write(b"mkdir /b\nls /\n")
+            ended = client.end()
+            yield f"a_server_that_goes: {ended}", is_failed(ended)
+
+
+def is_refused(port):
+    try:
+        socket.create_connection(("127.0.0.1", port), 1).close()
+    except ConnectionRefusedError:
+        return True
+    return False
+
+
+def lines_of_bytes(port):
+    """What one session is replied, byte by byte."""
+    link = raw(port)
+
+    def refusal(number, argument=0):
+        return b"\0\0\0\x0a\xff" + bytes([number]) + argument.to_bytes(8, "big")
+
+    for name, sent, wanted in (
+            ("an_unknown_tag", b"\0\0\0\1\x99", refusal(42)), ("a_byte_more", b"\0\0\0\2\1\0", refusal(1, 1)),
+            ("a_give_without_a_turn", b"\0\0\0\1\3", refusal(32)), ("a_commit_without_a_turn", b"\0\0\0\2\2x", refusal(32)),
+            ("the_turn", b"\0\0\0\1\1", b"\0\0\0\x13\x81" + bytes(7) + b"\1\1\0" + bytes(7) + b"\1"),
+            ("no_commit", b"\0\0\0\1\2", refusal(1, 0)), ("no_item", b"\0\0\0\1\5", refusal(22)),
+            ("an_item_that_is_not_there", b"\0\0\0\x21\6" + bytes(32), refusal(5)),
+            ("half_a_digest", b"\0\0\0\x11\6" + bytes(16), refusal(1, 1)), ("a_record_of_0", b"\0\0\0\x09\4" + bytes(8), b"\0\0\0\1\x85"),
+            ("a_record_too_far", b"\0\0\0\x09\4" + b"\xff" * 8, b"\0\0\0\1\x85"), ("the_turn_given_back", b"\0\0\0\1\3", b"\0\0\0\1\x83"),
+            ("the_longest_item", wire.frame(wire.put(b"x" * 70000)), wire.frame(wire.put_done(desk_model.sha256(b"x" * 70000)))),
+            ("an_item_too_long", wire.frame(wire.put(b"x" * 70001)), refusal(22)),
+            ("the_longest_message", wire.frame(wire.put(b"x" * 131071)), refusal(22))):
+        for part in (sent[:3], sent[3:]):
+            link.write(part)
+        replied = link.read(len(wanted))
+        yield f"bytes_{name}: {replied[:40]}", replied == wanted
+    link.write(b"\0\2\0\1")
+    replied = link.read(14)
+    yield f"bytes_of_a_message_too_long: {replied}", replied == refusal(41) and is_ended(link)
+    link.close()
+
+
+def is_ended(link):
+    try:
+        link.read(1)
+    except wire.LinkEnded:
+        return True
+    return False
+
+
+# ---- a full book
+
+def book(at):
+    room = Room(at)
+    with Server(room, capacity=2) as server, room.client(server.port, 0) as zero, room.client(server.port, 1) as one:
+        for name, client, line, wanted in (
+                ("takes_the_first", zero, b"mkdir /a", [b"ok 1"]),
+                ("takes_the_first_of_two", one, b"mkdir /b", [b"ok 2", b"no 37 BookFull"]),
+                ("is_full_but_plans", zero, b"write /a 0 41", [b"no 15 WrongKind G0:2"]),
+                ("is_full_but_checks", zero, b"undo 1", [b"no 39 Change 28 Blocked 2"]),
+                ("is_full_for_an_undo", one, b"undo 2", [b"no 37 BookFull"]), ("can_be_read", zero, b"ls /", [b"a G0:2"]),
+                ("has_its_turn_back", one, b"ls /", [b"a G0:2"]), ("is_full_again", one, b"undo_last", [b"no 37 BookFull"])):
+            said = client.say(line)
+            yield f"book_{name}: {said}", said == wanted
+        yield "its_clients_end", [it.end() for it in (zero, one)] == [([], [], 0)] * 2
+    yield "a_leaf_of_each_commit_is_gone", [next_leaf(it) for it in room.key_files] == [1, 4]
+
+
+# ---- the example
+
+def example(at):
+    """The example's script prints what it should."""
+    run, wanted = f"{TOP}/examples/share", f"{TOP}/examples/share.out"
+    script = f"{at}/sundr"
+    with open(script, "w") as file:
+        file.write("#!/bin/sh\nexec " + " ".join(program) + ' "$@"\n')
+    os.chmod(script, 0o755)
+    ended = subprocess.run([run, script], capture_output=True, text=True, timeout=4 * WAIT)
+    yield f"example_share: {ended}", (ended.stdout, ended.stderr, ended.returncode) == (open(wanted).read(), "", 0)
+
+
+# ---- scripts by chance
+
+class Dice:
+    """Lines by chance over few names, so that they have to do with each other."""
+
+    def __init__(self, seed):
+        self.random = random.Random(f"serving {seed}")
+
+    def pick(self, *choices):
+        return self.random.choice(choices)
+
+    def path(self, depth=2):
+        names = [self.pick("a", "b", "c", "d") for _ in range(self.random.randint(1, depth))]
+        odd = self.random.random() < 0.05
+        return self.pick("/", "/a/", "a", "/..", "//a", "/" + "n" * 255) if odd else "/" + "/".join(names)
+
+    def number(self):
+        return self.pick(0, 1, 2, 5, 4095, 4096, 4097, 8192, self.pick(1048575, 1048576, 4294967295, 4294967296))
+
+    def line(self, count):
+        p, n = self.path(), self.random.randint(1, count + 2)
+        usual = (
+            "mkdir {0}", "create {0}", "create {0}", "write {0} {1} {2}", "write {0} {1} {2}", "truncate {0} {1}", "link {0} {3}",
+            "rename {0} {3}", "rename {0} {3}", "remove {0}", "mkdir {0}", "create {0}", "undo {4}", "undo {4}", "undo_last", "ls {0}",
+            "ls /", "cat {0} {1} 9")
+        data = bytes([self.random.randrange(256)] * self.pick(1, 2, 4096)).hex()
+        return self.pick(*usual).format(p, self.number(), data, self.path(), n).encode()
+
+
+def by_chance(at):
+    """Of two users at once, one line after the other. Some books get full, and some keys are spent."""
+    seen = set()
+    for seed in range(CHANCE_SCRIPTS):
+        folder = f"{at}/{seed}"
+        os.mkdir(folder)
+        room, dice = Room(folder), Dice(seed)
+        capacity, left = (8 if seed % 5 == 0 else 1000), (5 if seed % 5 == 1 else 32)
+        keys = [room.file(key.file(32 - left)) for key in room.keys]
+        team = client_model.Team(2, left, capacity)
+        script = []
+        with Server(room, capacity=capacity) as server:
+            with room.client(server.port, 0, key=keys[0]) as zero, room.client(server.port, 1, key=keys[1]) as one:
+                for _ in range(CHANCE_LINES):
+                    user, line = dice.random.randrange(2), dice.line(len(team.desk.history))
+                    script.append((user, line[:80]))
+                    wanted, said = list(client_model.answers(team.member(user), line)), (zero, one)[user].say(line)
+                    seen |= {int(word) for it in said for word in it.split()[1:4:2] if it.startswith(b"no ") and word.isdigit()}
+                    if said != wanted:
+                        break
+                yield f"chance_{seed}: {script} {said}, and not {wanted}", said == wanted
+                yield from same_log(seed, folder, room, zero, team)
+    yield f"chance_meets_most_refusals: {sorted(seen)}", len(seen) >= 14
+
+
+def same_log(seed, folder, room, client, team):
+    """The log that is saved has the history, change by change."""
+    path = f"{folder}/log"
+    client.say(b"save " + path.encode())
+    printed = audit_model.audit(room.public_keys, read(path)) if os.path.exists(path) else None
+    yield f"chance_{seed}_log: {printed}", printed == (f"ok {len(team.desk.history)}\n", 0)
+    yield f"chance_{seed}_history", printed is not None and history_of(path) == team.desk.history
+
+
+PARTS = (
+    walk, logs_taken_up, operations, at_once, many_users, at_a_keyboard, lines, saves, streams, faults, keys, kills, kills_at_calls, busy,
+    turns, lies, sessions, book, example, by_chance)
+
+
+def main():
+    global program
+    words = sys.argv[1:]
+    if "--models" in words:
+        words.remove("--models")
+        program = MODEL
+    elif not os.path.exists(PROGRAM[0]):
+        print("serving: the program isn't built: run ./sundr first")
+        print("0 passed, 1 failed")
+        return 1
+    results = {}
+    for part in PARTS:
+        if words and part.__name__ not in words:
+            continue
+        started = time.monotonic()
+        with tempfile.TemporaryDirectory() as at:
+            for name, right in part(at):
+                results[name] = results.get(name, True) and right
+        if words:
+            print(f"serving: {part.__name__} took {time.monotonic() - started:.1f} s")
+    for name, right in results.items():
+        if not right:
+            print(f"serving: {name}")
+    passed = sum(results.values())
+    print(f"{passed} passed, {len(results) - passed} failed")
+    return 0 if passed == len(results) else 1
+
+
+if __name__ == "__main__":
+    sys.exit(main())
