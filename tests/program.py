@@ -114,10 +114,11 @@ def keys(room):
 
 
 def help_texts(room):
-    """Lines of at most 80 columns, each command and refusal that a desk or a client can answer, and the kit that is there."""
+    """Lines of at most 80 columns (but for a usage, which `clap` never breaks), each command and refusal that a desk or a
+    client can answer, and the kit that is there."""
     texts = {word: run([word, "--help"][not word:])[0] for word in ("", "desk", "keygen", "audit", "serve", "client")}
     for words, text in texts.items():
-        wide = [line for line in text.split("\n") if len(line) > 80]
+        wide = [line for line in text.split("\n") if len(line) > 80 and not line.startswith("Usage: ")]
         yield f"help_of_{words or 'sundr'}_fits: {wide}", wide == []
     source = open(f"{TOP}/crates/su_bytes/src/refusals.rt", encoding="utf-8").read()
     numbers = {int(number): name for name, number in re.findall(r"Refusal::(\w+)(?:\(\.\.\))? => (\d+),", source)}
