@@ -52,7 +52,7 @@ pub(crate) fn client<T, R: Read + Drop, W: Write>(
 ) -> Status
 where
     T: Net<Listener = TcpListener, Stream = TcpStream>,
-    requires { IsUserCount (length options.entry.keys.now) }
+    requires { IsUserCount (length options.keys.now) }
     ensures { (before : List ℕ) → W.contents writer.old ≡ Some before
         → AddsUnlessFault before (W.contents writer.new) result }
 {
@@ -88,7 +88,7 @@ fn member_of<'a, T: Net<Listener = TcpListener, Stream = TcpStream>>(
     host: &T,
     options: Options<'_>,
 ) -> Result<Member<BufReader<TcpStream>, TcpStream, KeptKey<'a>>, ClientFault>
-    requires { IsUserCount (length options.entry.keys.now) }
+    requires { IsUserCount (length options.keys.now) }
 {
     let alloc = rt.alloc();
     let user = user_of(options)?;
