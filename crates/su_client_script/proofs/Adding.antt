@@ -1,6 +1,5 @@
 -- What comes behind some text.
-use Rattle.std.proofs.Common.{◌≡◌, ℕ, List, [], ◌++◌, Option, Some, Result, Ok, Err, sym, ap, ◌∙◌, append_assoc, append-nil}
-use Rattle.std.specs.Prelude.{OnOk}
+use Rattle.std.proofs.Common.{◌≡◌, ℕ, List, [], ◌++◌, Option, Some, sym, ap, ◌∙◌, append_assoc, append-nil}
 use Rattle.su_client_script.specs.Run.{Adds}
 
 pub adds_none : (a b : Option (List ℕ)) → b ≡ a → Adds a b

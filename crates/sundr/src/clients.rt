@@ -221,17 +221,18 @@ fn tell_client_fault<W: Write>(rt: &HostRuntime, writer: &mut W, fault: &ClientF
 {
     match fault {
         ClientFault::RefusedLog { number, refusal } => {
-            tell_log(rt, tell_refused(rt.alloc(), writer, *number, refusal))
+            let told = tell_refused(rt.alloc(), writer, *number, refusal);
+            tell_log(rt, &told)
         }
         fault => tell_fault(rt, fault),
     }
 }
 
 /// Tells on standard error why a refused log couldn't be printed, if so.
-fn tell_log(rt: &HostRuntime, ending: su_audit::Ending) -> Status
+fn tell_log(rt: &HostRuntime, told: &su_audit::Ending) -> Status
     ensures { result ≡ Status.Fault }
 {
-    match ending {
+    match told {
         su_audit::Ending::Failed(fault) => tell_fault(rt, fault),
         _ => Status::Fault,
     }

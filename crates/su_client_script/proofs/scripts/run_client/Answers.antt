@@ -12,7 +12,7 @@ returns-in-Err-clause-works g c =
 
 pub loop-number-preserved : goal.loop-number-preserved
 loop-number-preserved g c = (
-      works_then c.args.member.now c.loop-number.member c.next_step.new.member c.loop-number.invariant.0 c.next_step.ensures.works,
-      adds_then (g.O.Write.contents c.args.output.now) (g.O.Write.contents c.loop-number.output) (g.O.Write.contents c.next_step.new.output)
-          c.loop-number.invariant.1 c.in-Ok-GoesOn.ensures.adds,
-    )
+  works_then c.args.member.now c.loop-number.member c.next_step.new.member c.loop-number.invariant.0 c.next_step.ensures.works,
+  adds_then (g.O.Write.contents c.args.output.now) (g.O.Write.contents c.loop-number.output) (g.O.Write.contents c.next_step.new.output)
+      c.loop-number.invariant.1 c.in-Ok-GoesOn.ensures.adds,
+)

@@ -17,7 +17,7 @@ returns-then-not-goes_on-clause-adds g c =
 
 pub loop-operation-preserved : goal.loop-operation-preserved
 loop-operation-preserved g c = (
-      works_then c.args.member.now c.loop-operation.member c.commit_one.new.member c.loop-operation.invariant.0 c.commit_one.ensures.works,
-      adds_then (g.O.Write.contents c.args.output.now) (g.O.Write.contents c.loop-operation.output) (g.O.Write.contents c.commit_one.new.output)
-          c.loop-operation.invariant.1 c.in_ok-goes_on.ensures.adds,
-    )
+  works_then c.args.member.now c.loop-operation.member c.commit_one.new.member c.loop-operation.invariant.0 c.commit_one.ensures.works,
+  adds_then (g.O.Write.contents c.args.output.now) (g.O.Write.contents c.loop-operation.output) (g.O.Write.contents c.commit_one.new.output)
+      c.loop-operation.invariant.1 c.in_ok-goes_on.ensures.adds,
+)
