@@ -353,9 +353,9 @@ class LogRefused(Exception):
     """A commit of a log is refused: what is printed of that."""
 
 
-# the refusals that fit a request
+# the refusals that fit a request (of an item that is put none: its size was looked at before)
 FITTING = {
-    "grant": (31,), "commit": (1, 32, 33, 34, 35, 36, 37), "give": (32,), "fetch": (), "put": (22,), "get": (5,),
+    "grant": (31,), "commit": (1, 32, 33, 34, 35, 36, 37), "give": (32,), "fetch": (), "put": (), "get": (5,),
 }
 
 
@@ -373,7 +373,9 @@ class LinkedView(View):
 
     def put(self, item):
         demand(1 <= len(item) <= audit_model.LONGEST_ITEM, "22 TooBig")
-        demand(self.client.ask(wire.put(item), "put", "put_done") == sha256(item), "7 SourceFailed")
+        if self.client.ask(wire.put(item), "put", "put_done") != sha256(item):
+            self.client.has_failed = True
+            raise LinkFailed("7 SourceFailed")
 
     def own_last(self, user):
         own = [commit for commit, _ in self.maker.records if audit_model.commit_in(commit)[0].author == user]
