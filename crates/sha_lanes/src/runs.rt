@@ -1,5 +1,5 @@
 // Runs of steps of chains.
-ghost use Rattle.std.specs.Prelude.{◌≤◌, ◌+◌};
+ghost use Rattle.std.specs.Prelude.{◌≡◌, ◌≤◌, ◌+◌};
 ghost use Rattle.sha_lanes.specs.Chain.{AreBytes};
 
 /// A run of steps of a chain (RFC 8554, Section 4.3): where the chain stands in its key, the value
@@ -22,4 +22,20 @@ pub struct ChainRun {
     // What the types say, for clauses on runs in a list.
     pub ghost id_bytes: { AreBytes 16 id },
     pub ghost value_bytes: { AreBytes 32 value },
+}
+
+impl ChainRun {
+    /// A run of no step.
+    pub fn idle() -> ChainRun
+        ensures { result.left ≡ 0 }
+    {
+        ChainRun {
+            id: [0; 16],
+            leaf: 0,
+            chain: 0,
+            step: 0,
+            left: 0,
+            value: [0; 32],
+        }
+    }
 }
