@@ -2,7 +2,10 @@
 use Rattle.std.proofs.Common.{◌≡◌, ℕ, zero, suc, ◌+◌, ◌*◌, ◌≤◌, ◌<◌, List, [], ◌++◌, length, take, drop, refl, ap, sym, ◌∙◌, inl, inr, arith, add-one}
 use Rattle.std.proofs.lemmas.List.{append_assoc, length-append, take_at, drop_at}
 use Rattle.std.proofs.lemmas.Bool.{cases_lt}
-use Rattle.su_lms.specs.Strings.{joined, sum_below}
+use Rattle.sha2.specs.Sha256.{sha256}
+use Rattle.su_lms.specs.ParameterSets.{chain_count}
+use Rattle.su_lms.specs.Strings.{joined, sum_below, u16str, u32str}
+use Rattle.su_lms.specs.OneTime.{hash_of_ends}
 
 pub joined_more : (n : ℕ) (string : ℕ → List ℕ) → joined (n + 1) string ≡ joined n string ++ string n
 unfolding joined
@@ -59,3 +62,8 @@ pub sum_below_le : (n : ℕ) (number : ℕ → ℕ) (most : ℕ) → ((i : ℕ) 
 unfolding sum_below
 sum_below_le zero number most small = omega arith
 sum_below_le (suc n) number most small = omega (arith, sum_below_le n number most small, small n)
+
+-- the one-time key of equal ends
+pub hash_of_ends_same : (ots : ℕ) (id : List ℕ) (q : ℕ) (f g : ℕ → List ℕ) → ((i : ℕ) → i < chain_count ots → f i ≡ g i) → hash_of_ends ots id q f ≡ hash_of_ends ots id q g
+unfolding hash_of_ends
+hash_of_ends_same ots id q f g same = ap (λ s. sha256 (id ++ u32str q ++ u16str 0x8080 ++ s)) (joined_same (chain_count ots) f g same)

@@ -1,3 +1,4 @@
+pub mod ChainRuns
 pub mod Chaining
 pub mod Joining
 pub mod Widths

@@ -1,6 +1,7 @@
 pub mod ParameterSets
 pub mod Strings
 pub mod OneTime
+pub mod Runs
 pub mod MerkleTree
 pub mod Signature
 pub mod PrivateKey

@@ -1,21 +1,10 @@
 -- LM-OTS, the one-time signatures of RFC 8554, Section 4.
-use Rattle.std.specs.Prelude.{ℕ, zero, suc, ◌+◌, ◌*◌, ◌-◌, ◌/◌, ◌^◌, List, [], ◌∷◌, ◌++◌}
+use Rattle.std.specs.Prelude.{ℕ, ◌*◌, ◌-◌, ◌/◌, ◌^◌, List, [], ◌∷◌, ◌++◌}
 use Rattle.sha2.specs.Sha256.{sha256}
+unfoldable pub use Rattle.sha_lanes.specs.Chain.{chain}
+pub use Rattle.sha_lanes.specs.Chain.{chain_place, chain_step}
 use Rattle.su_lms.specs.ParameterSets.{width_of, chain_count, checksum_shift}
 use Rattle.su_lms.specs.Strings.{u16str, u32str, coef, joined, sum_below}
-
--- where in the key a chain stands: I || u32str(q) || u16str(i), of chain i of leaf q (Section 4.3)
-abbrev pub chain_place : List ℕ → ℕ → ℕ → List ℕ
-chain_place id q i = id ++ u32str q ++ u16str i
-
--- step j of a chain (Section 4.3)
-abbrev pub chain_step : List ℕ → ℕ → List ℕ → List ℕ
-chain_step place j value = sha256 (place ++ j ∷ [] ++ value)
-
--- the step applied a number of times: steps `from`, `from` + 1, and so on (Sections 4.3, 4.5 and 4.6)
-unfoldable pub chain : List ℕ → ℕ → ℕ → List ℕ → List ℕ
-chain place from zero value = value
-chain place from (suc count) value = chain_step place (from + count) (chain place from count value)
 
 -- x_q[i], where chain i of leaf q begins, made from SEED (Appendix A)
 unfoldable pub private_value : List ℕ → List ℕ → ℕ → ℕ → List ℕ

@@ -1,28 +1,65 @@
 // One-time keys and signatures (RFC 8554, Section 4).
-ghost use Rattle.std.specs.Prelude.{◌≡◌, ◌≤◌, ◌+◌, ◌*◌, length};
+ghost use Rattle.std.specs.Prelude.{◌≡◌, ◌≤◌, ◌<◌, ◌+◌, ◌*◌, ◌^◌, ℕ, [], length, slice_index_or};
+ghost use Rattle.sha_lanes.specs.Run.{run_at};
 ghost use Rattle.su_lms.specs.ParameterSets.{IsOneTimeType, chain_count};
-ghost use Rattle.su_lms.specs.OneTime.{one_time_key, message_hash};
+ghost use Rattle.su_lms.specs.OneTime.{hash_of_ends, message_hash, one_time_key, one_time_key_from};
 ghost use Rattle.su_lms.specs.PrivateKey.{randomizer};
-ghost use Rattle.su_lms.specs.Signature.{candidate_key};
+ghost use Rattle.su_lms.specs.Signature.{candidate_key, chain_value_of, leaf_of};
 
-use crate::chains::{chain_on, secret_chain};
-use crate::digits::{coef, with_checksum};
-use crate::parameters::{chain_count, step_count};
-use crate::strings::{MESSAGE, PUBLIC_KEY, hasher_of, number_at, part_at};
+use crate::chains::{key_of_ends, run_whole, set_private_values, set_signed_values};
+use crate::digits::with_checksum;
+use crate::parameters::chain_count;
+use crate::strings::{MESSAGE, hasher_of, number_at, part_at};
+use sha_lanes::{ChainRun, run_chains};
 use sha2::{Digest, Sha256};
 
-/// The one-time public key of leaf q (RFC 8554, Section 4.3).
-pub fn one_time_key(ots: u32, id: &[u8; 16], seed: &[u8; 32], q: u32) -> [u8; 32]
-    requires { IsOneTimeType ots }
-    ensures { result ≡ one_time_key ots id.now seed.now q }
+/// The one-time public keys of leaf q and the seven behind it (RFC 8554, Section 4.3).
+pub fn one_time_keys(ots: u32, id: &[u8; 16], seed: &[u8; 32], q: u32) -> [[u8; 32]; 8]
+    requires listed { (3 ≤ ots) × (ots ≤ 4) }
+    requires leaves { q < 2 ^ 25 }
+    ensures { (l : ℕ) → l < 8 → slice_index_or result l [] ≡ one_time_key ots id.now seed.now (q + l) }
 {
-    let last = step_count(ots);
-    let mut hasher = hasher_of(id, q, PUBLIC_KEY);
-    for i in 0..chain_count(ots) {
-        let end = secret_chain(id, seed, q, i, last);
-        hasher.update(end);
+    let count = usize::from(chain_count(ots));
+    let mut runs = [ChainRun::idle(); 536];
+    whole_keys(&mut runs[..8 * count], ots, id, seed, q, count)
+}
+
+// The same, by the chains of eight leaves.
+fn whole_keys(
+    runs: &mut [ChainRun],
+    ots: u32,
+    id: &[u8; 16],
+    seed: &[u8; 32],
+    q: u32,
+    count: usize,
+) -> [[u8; 32]; 8]
+    requires listed { IsOneTimeType ots }
+    requires leaves { q < 2 ^ 25 }
+    requires count { count ≡ chain_count ots }
+    requires size { length runs.old ≡ 8 * count }
+    requires some { 1 ≤ count }
+    requires few { count ≤ 265 }
+    ensures { (l : ℕ) → l < 8 → slice_index_or result l [] ≡ one_time_key ots id.now seed.now (q + l) }
+{
+    set_private_values(runs, id, seed, q, count);
+    run_whole(runs, ots);
+    keys_of_ends(ots, id, q, runs, count)
+}
+
+// The one-time public keys of eight leaves, of the values at which their chains end.
+fn keys_of_ends(ots: u32, id: &[u8; 16], q: u32, ends: &[ChainRun], count: usize) -> [[u8; 32]; 8]
+    requires leaves { q < 2 ^ 25 }
+    requires count { count ≡ chain_count ots }
+    requires size { length ends.now ≡ 8 * count }
+    requires few { count ≤ 265 }
+    ensures { (l : ℕ) → l < 8 → slice_index_or result l [] ≡ hash_of_ends ots id.now (q + l) (λ i. (run_at ends.now (l * count + i)).value) }
+{
+    let mut keys = [[0u8; 32]; 8];
+    for l in 0..8usize {
+        let first = l * count;
+        keys[l] = key_of_ends(ots, id, q + l as u32, &ends[first..first + count]);
     }
-    hasher.finalize()
+    keys
 }
 
 /// The hash of a message with its randomizer (RFC 8554, Section 4.5).
@@ -57,12 +94,26 @@ pub fn candidate_key(ots: u32, id: &[u8; 16], message: &[u8], signature: &[u8]) 
     let q = number_at(signature, 0);
     let hash = message_hash(id, q, &part_at(signature, 8), message);
     let digits = with_checksum(ots, &hash);
-    let last = step_count(ots);
-    let mut hasher = hasher_of(id, q, PUBLIC_KEY);
-    for i in 0..chain_count(ots) {
-        let value = part_at(signature, 40 + 32 * usize::from(i));
-        let end = chain_on(id, q, i, coef(&digits, i, ots), last, &value);
-        hasher.update(end);
-    }
-    hasher.finalize()
+    let mut runs = [ChainRun::idle(); 265];
+    let count = usize::from(chain_count(ots));
+    signed_key(&mut runs[..count], ots, id, &digits, signature)
+}
+
+// The same, by the chains of the signature's leaf and the coefficients.
+fn signed_key(
+    runs: &mut [ChainRun],
+    ots: u32,
+    id: &[u8; 16],
+    digits: &[u8; 34],
+    signature: &[u8],
+) -> [u8; 32]
+    requires listed { IsOneTimeType ots }
+    requires few { length runs.old ≤ 265 }
+    requires count { length runs.old ≡ chain_count ots }
+    requires size { 40 + 32 * chain_count ots ≤ length signature.now }
+    ensures { result ≡ one_time_key_from ots id.now (leaf_of signature.now) digits.now (chain_value_of signature.now) }
+{
+    set_signed_values(runs, ots, id, digits, signature);
+    run_chains(runs);
+    key_of_ends(ots, id, number_at(signature, 0), runs)
 }

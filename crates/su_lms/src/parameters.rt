@@ -1,5 +1,5 @@
 // The parameter sets, by their type numbers.
-ghost use Rattle.std.specs.Prelude.{◌≡◌, ◌≤◌, ◌↔◌, ◌^◌, ◌-◌, ◌+◌, ◌*◌, IfOk, IsOk, IfErr};
+ghost use Rattle.std.specs.Prelude.{◌≡◌, ◌≤◌, ◌↔◌, ◌^◌, ◌-◌, ◌+◌, ◌*◌, ◌%◌, IfOk, IsOk, IfErr};
 ghost use Rattle.su_lms.specs.ParameterSets.{IsOneTimeType, IsTreeType, width_of, chain_count, checksum_shift, height_of, CanBeMade};
 ghost use Rattle.su_bytes.specs.declared.refusals.Refusal.TheVariants.{BadKey};
 
@@ -51,6 +51,7 @@ pub fn leaf_count(lms: u32) -> u32
     requires { IsTreeType lms }
     ensures value { result ≡ 2 ^ height_of lms }
     ensures range { result ≤ 2 ^ 25 }
+    ensures groups { result % 8 ≡ 0 }
 {
     match lms {
         5 => 32,
@@ -80,7 +81,8 @@ pub fn step_count(ots: u32) -> u8
 pub fn chain_count(ots: u32) -> u16
     requires { IsOneTimeType ots }
     ensures value { result ≡ chain_count ots }
-    ensures range { result ≤ 265 }
+    ensures range { (1 ≤ result) × (result ≤ 265) }
+    ensures made { 3 ≤ ots → result ≤ 67 }
 {
     match ots {
         1 => 265,

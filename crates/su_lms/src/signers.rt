@@ -1,21 +1,23 @@
 // Signers: a private key with its tree, which uses each leaf at most once.
 ghost use Rattle.std.specs.Prelude.{◌≡◌, ◌≢◌, ◌≤◌, ◌<◌, ◌+◌, ◌*◌, ◌-◌, ◌^◌, ◌++◌, ◌⊎◌, ◌↔◌, [], ℕ, IfOk, OnOk, IfErr, OnErr, IsErrOf, length, vec_len, vec_capacity, slice_index_or};
+ghost use Rattle.sha_lanes.specs.Run.{run_at};
 ghost use Rattle.su_lms.specs.ParameterSets.{chain_count, height_of, CanBeMade};
 ghost use Rattle.su_lms.specs.Strings.{joined};
 ghost use Rattle.su_lms.specs.Signature.{IsSigned, leaf_of, signature_size};
-ghost use Rattle.su_lms.specs.PrivateKey.{leaf_count, key_of, one_time_signature, signature_of, path_at};
+ghost use Rattle.su_lms.specs.PrivateKey.{leaf_count, key_of, one_time_signature, signature_of, signed_value, path_at};
 ghost use Rattle.su_lms.specs.KeyFile.{made_key, private_key_of};
 ghost use Rattle.su_lms.specs.NodeTable.{IsNodeTable};
 ghost use Rattle.su_bytes.specs.declared.refusals.Refusal.TheVariants.{BadKey, KeyFileFault, KeySpent, NoMemory};
 
-use crate::chains::secret_chain;
-use crate::digits::{coef, with_checksum};
+use crate::chains::{run_signed, set_private_values};
+use crate::digits::with_checksum;
 use crate::key_files::KeyFile;
 use crate::one_time::{message_hash, randomizer};
 use crate::parameters::{Params, chain_count, height_of, leaf_count};
 use crate::public_keys::PublicKey;
 use crate::stores::KeyStore;
 use crate::trees::{grow, sibling_of};
+use sha_lanes::ChainRun;
 use std::alloc::Global;
 use std::marker::Model;
 use su_bytes::Refusal;
@@ -169,7 +171,8 @@ fn append(out: &mut Vec<u8>, bytes: &[u8])
 
 // Appends the one-time signature of the message by leaf q (RFC 8554, Section 4.5).
 fn append_one_time(out: &mut Vec<u8>, file: &KeyFile, q: u32, message: &[u8])
-    requires { vec_len out.old + (36 + 32 * chain_count file.now.params.ots) ≤ vec_capacity out.old }
+    requires leaf { q < 2 ^ height_of file.now.params.lms }
+    requires room { vec_len out.old + (36 + 32 * chain_count file.now.params.ots) ≤ vec_capacity out.old }
     ensures items { out.new.items ≡ out.old.items ++ one_time_signature (private_key_of file.now) q message.now }
     ensures len { vec_len out.new ≡ vec_len out.old + (36 + 32 * chain_count file.now.params.ots) }
     ensures room { vec_capacity out.old ≤ vec_capacity out.new }
@@ -179,9 +182,42 @@ fn append_one_time(out: &mut Vec<u8>, file: &KeyFile, q: u32, message: &[u8])
     let digits = with_checksum(ots, &message_hash(&file.id, q, &randomizer, message));
     append(out, &ots.to_be_bytes());
     append(out, &randomizer);
-    for i in 0..chain_count(ots) {
-        let value = secret_chain(&file.id, &file.seed, q, i, coef(&digits, i, ots));
-        append(out, &value);
+    let mut runs = [ChainRun::idle(); 67];
+    let count = usize::from(chain_count(ots));
+    append_values(out, &mut runs[..count], file, q, &digits);
+}
+
+// Appends the values of the chains of leaf q, as far as the coefficients say (RFC 8554, Section 4.5).
+fn append_values(
+    out: &mut Vec<u8>,
+    runs: &mut [ChainRun],
+    file: &KeyFile,
+    q: u32,
+    digits: &[u8; 34],
+)
+    requires leaf { q < 2 ^ 25 }
+    requires count { length runs.old ≡ chain_count file.now.params.ots }
+    requires few { length runs.old ≤ 67 }
+    requires some { 1 ≤ length runs.old }
+    requires room { vec_len out.old + 32 * length runs.old ≤ vec_capacity out.old }
+    ensures items { out.new.items ≡ out.old.items ++ joined (chain_count file.now.params.ots) (signed_value (private_key_of file.now) q digits.now) }
+    ensures len { vec_len out.new ≡ vec_len out.old + 32 * length runs.old }
+    ensures room { vec_capacity out.old ≤ vec_capacity out.new }
+{
+    set_private_values(runs, &file.id, &file.seed, q, runs.len());
+    run_signed(runs, file.params.ots, digits);
+    append_ends(out, runs);
+}
+
+// Appends the values at which the chains end.
+fn append_ends(out: &mut Vec<u8>, ends: &[ChainRun])
+    requires { vec_len out.old + 32 * length ends.now ≤ vec_capacity out.old }
+    ensures items { out.new.items ≡ out.old.items ++ joined (length ends.now) (λ i. (run_at ends.now i).value) }
+    ensures len { vec_len out.new ≡ vec_len out.old + 32 * length ends.now }
+    ensures room { vec_capacity out.old ≤ vec_capacity out.new }
+{
+    for end in ends {
+        append(out, &end.value);
     }
 }
 

@@ -1,5 +1,5 @@
 // The tree over the one-time public keys (RFC 8554, Section 5.3).
-ghost use Rattle.std.specs.Prelude.{◌≡◌, ◌≤◌, ◌<◌, ◌*◌, ◌+◌, ◌^◌, ℕ, [], IfOk, IfErr, length, slice_index_or};
+ghost use Rattle.std.specs.Prelude.{◌≡◌, ◌≤◌, ◌<◌, ◌*◌, ◌+◌, ◌%◌, ◌^◌, ℕ, [], IfOk, IfErr, length, slice_index_or};
 ghost use Rattle.su_lms.specs.ParameterSets.{height_of};
 ghost use Rattle.su_lms.specs.MerkleTree.{leaf_value, inner_value, parent_value, sibling_of};
 ghost use Rattle.su_lms.specs.PrivateKey.{leaf_at};
@@ -8,7 +8,7 @@ ghost use Rattle.su_lms.specs.NodeTable.{IsNodeTable};
 ghost use Rattle.su_bytes.specs.declared.refusals.Refusal.TheVariants.{NoMemory};
 
 use crate::key_files::KeyFile;
-use crate::one_time::one_time_key;
+use crate::one_time::one_time_keys;
 use crate::parameters::leaf_count;
 use crate::strings::{INNER, LEAF, hasher_of};
 use sha2::Digest;
@@ -71,6 +71,7 @@ pub fn grow(alloc: Global, file: &KeyFile) -> Result<Vec<[u8; 32]>, Refusal>
 fn set_nodes(nodes: &mut [[u8; 32]], file: &KeyFile, leaves: u32)
     requires leaves { leaves ≡ 2 ^ height_of file.now.params.lms }
     requires small { leaves ≤ 2 ^ 25 }
+    requires groups { leaves % 8 ≡ 0 }
     requires size { length nodes.old ≡ 2 * leaves }
     ensures { IsNodeTable (private_key_of file.now) nodes.new }
 {
@@ -82,12 +83,28 @@ fn set_nodes(nodes: &mut [[u8; 32]], file: &KeyFile, leaves: u32)
 fn set_leaves(nodes: &mut [[u8; 32]], file: &KeyFile, leaves: u32)
     requires leaves { leaves ≡ 2 ^ height_of file.now.params.lms }
     requires small { leaves ≤ 2 ^ 25 }
+    requires groups { leaves % 8 ≡ 0 }
     requires size { length nodes.old ≡ 2 * leaves }
     ensures { (r : ℕ) → leaves ≤ r → r < 2 * leaves → slice_index_or nodes.new r [] ≡ leaf_at (private_key_of file.now) r }
 {
-    for q in 0..leaves {
-        let key = one_time_key(file.params.ots, &file.id, &file.seed, q);
-        nodes[(leaves + q) as usize] = leaf_value(&file.id, leaves + q, &key);
+    for group in 0..leaves / 8 {
+        set_eight_leaves(nodes, file, leaves, 8 * group);
+    }
+}
+
+// Puts the values of leaf q and the seven behind it at their places.
+fn set_eight_leaves(nodes: &mut [[u8; 32]], file: &KeyFile, leaves: u32, q: u32)
+    requires leaves { leaves ≡ 2 ^ height_of file.now.params.lms }
+    requires small { leaves ≤ 2 ^ 25 }
+    requires size { length nodes.old ≡ 2 * leaves }
+    requires inside { q + 8 ≤ leaves }
+    ensures set { (r : ℕ) → leaves + q ≤ r → r < leaves + q + 8 → slice_index_or nodes.new r [] ≡ leaf_at (private_key_of file.now) r }
+    ensures others { (r : ℕ) → r < leaves + q → slice_index_or nodes.new r [] ≡ slice_index_or nodes.old r [] }
+{
+    let keys = one_time_keys(file.params.ots, &file.id, &file.seed, q);
+    for l in 0..8u32 {
+        let r = leaves + q + l;
+        nodes[r as usize] = leaf_value(&file.id, r, &keys[l as usize]);
     }
 }
 

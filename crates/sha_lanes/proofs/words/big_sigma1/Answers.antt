@@ -1,0 +1,8 @@
+use Rattle.std.proofs.Common.{bit_xor}
+use Rattle.sha_lanes.proofs.LaneLemmas.{reads_itself, reads_op, reads_rotated}
+use Rattle.sha_lanes.proofs.words.big_sigma1.Goals as goal
+
+pub returns : goal.returns
+returns c =
+    let x = reads_itself c.args.x c.fits-x.0 in
+    (reads_op bit_xor (reads_op bit_xor (reads_rotated 6 26 x) (reads_rotated 11 21 x)) (reads_rotated 25 7 x)).lane
