@@ -1,0 +1,5 @@
+pub mod Shared
+pub mod RowLemmas
+pub mod CreateLemmas
+pub mod RecordLemmas
+pub mod BlockLemmas

@@ -1,0 +1,37 @@
+-- What is common to the statements.
+use Rattle.std.proofs.Common.{◌≡◌, ◌⊎◌, inl, inr, ℤ, Bool, true, false, cond, IsTrue, Ok, Err, Result, refl}
+use Rattle.sqlite.specs.declared.types.Value.{Value}
+use Rattle.sqlite.specs.declared.types.Value.TheVariants.{Null, Int}
+use Rattle.sqlite.specs.Ops.{unary}
+use Rattle.sqlite.specs.Kind.TheVariants.{Integer}
+use Rattle.sqlite.specs.Cast.{cast}
+use Rattle.sqlite.specs.Tree.{Trees}
+use Rattle.sqlite.specs.State.{State}
+use Rattle.su_store.specs.Tables.{store_schema}
+
+pub either : (b : Bool) (x : Value) → cond b x x ≡ x
+either true x = refl
+either false x = refl
+
+pub cast_number : (n : ℤ) → cast Integer (Int n) ≡ Int n
+unfolding unary
+cast_number n = either _ (Int n)
+
+pub cast_null : cast Integer Null ≡ Null
+unfolding unary
+cast_null = either _ Null
+
+-- a part that gave a value did not stop on the way
+pub went : {B E R : Type 0} {b : B} {Stops : E → Type 0} → ((stop : E) × Stops stop × (Ok b ≡ Err stop)) ⊎ R → R
+went (inl stopped) = absurd (let e = stopped.2 in cc)
+went (inr on) = on
+
+pub same_value : {B E : Type 0} {a b : B} → ◌≡◌ {A = Result B E} (Ok a) (Ok b) → a ≡ b
+same_value e = cc
+
+-- what a statement inside a transaction makes of the tables, and what it leaves
+pub record Ran (Makes : Trees → Trees → Type 0) (old new : State) : Type 0 where
+  pub made : Makes old.now.trees new.now.trees
+  pub schema : new.now.schema ≡ store_schema
+  pub begun : IsTrue new.in_transaction
+  pub committed : new.committed ≡ old.committed

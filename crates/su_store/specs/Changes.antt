@@ -1,0 +1,28 @@
+-- What a call makes of what is kept. Each says: whatever the tables stood for, they now stand for ..
+use Rattle.std.specs.Prelude.{◌≡◌, ℕ, List, [], ◌∷◌, ◌++◌, length}
+use Rattle.sqlite.specs.Tree.{Trees}
+use Rattle.su_store.specs.Kept.{Kept, with_block, with_blocks, with_record}
+use Rattle.su_store.specs.Tables.{Stands}
+
+-- one more record at the end, and the blocks that it needs
+abbrev pub Extends : List ℕ → List (List ℕ) → Trees → Trees → Type 0
+Extends bytes blocks old new = (kept : Kept) → Stands kept old → Stands (with_record kept bytes blocks) new
+
+-- one more record at the end, which has this number
+abbrev pub PutsRecord : ℕ → List ℕ → Trees → Trees → Type 0
+PutsRecord number bytes old new = (kept : Kept) → length kept.records ≡ number → Stands kept old → Stands (record kept { records = kept.records ++ bytes ∷ [] }) new
+
+-- one more block, with a digest that no other has
+abbrev pub PutsBlock : List ℕ → Trees → Trees → Type 0
+PutsBlock block old new = (kept : Kept) → Stands kept old → Stands (record kept { blocks = kept.blocks ++ block ∷ [] }) new
+
+-- one more block, unless one of its digest is kept
+abbrev pub HoldsBlock : List ℕ → Trees → Trees → Type 0
+HoldsBlock block old new = (kept : Kept) → Stands kept old → Stands (record kept { blocks = with_block kept.blocks block }) new
+
+abbrev pub HoldsBlocks : List (List ℕ) → Trees → Trees → Type 0
+HoldsBlocks blocks old new = (kept : Kept) → Stands kept old → Stands (record kept { blocks = with_blocks kept.blocks blocks }) new
+
+-- the file has so many records
+abbrev pub HasRecords : ℕ → Trees → Type 0
+HasRecords count db = (kept : Kept) → Stands kept db → length kept.records ≡ count

@@ -1,0 +1,40 @@
+// The two tables of a file.
+ghost use Rattle.std.specs.Prelude.{◌≡◌, false, [], OnOk};
+ghost use Rattle.sqlite.specs.State.{HasCleanDisk, Survives};
+ghost use Rattle.sqlite.specs.Held.{state};
+ghost use Rattle.su_store.specs.Tables.{no_schema, half_schema, store_schema};
+
+use sqlite::{Alter, Connection, Error};
+
+/// Makes the table of records, with none.
+pub fn create_records<S: Alter>(conn: &mut Connection<S>) -> Result<usize, Error>
+    requires { HasCleanDisk (state S.Store conn.old)
+        → (state S.Store conn.old).now.schema ≡ no_schema }
+    ensures schema { HasCleanDisk (state S.Store conn.new)
+        → OnOk result ((state S.Store conn.new).now.schema ≡ half_schema) }
+    ensures empty { HasCleanDisk (state S.Store conn.new)
+        → OnOk result ((state S.Store conn.new).now.trees 0 ≡ []) }
+{
+    conn.execute(
+        "CREATE TABLE record (number INTEGER PRIMARY KEY, bytes BLOB NOT NULL) STRICT",
+        &[],
+    )
+}
+
+/// Makes the table of blocks, with none.
+pub fn create_blocks<S: Alter>(conn: &mut Connection<S>) -> Result<usize, Error>
+    requires { HasCleanDisk (state S.Store conn.old)
+        → (state S.Store conn.old).now.schema ≡ half_schema }
+    ensures schema { HasCleanDisk (state S.Store conn.new)
+        → OnOk result ((state S.Store conn.new).now.schema ≡ store_schema) }
+    ensures empty { HasCleanDisk (state S.Store conn.new)
+        → OnOk result ((state S.Store conn.new).now.trees 1 ≡ []) }
+    ensures kept { HasCleanDisk (state S.Store conn.new)
+        → OnOk result ((state S.Store conn.new).now.trees 0
+            ≡ (state S.Store conn.old).now.trees 0) }
+{
+    conn.execute(
+        "CREATE TABLE block (digest BLOB PRIMARY KEY NOT NULL, bytes BLOB NOT NULL) STRICT",
+        &[],
+    )
+}
