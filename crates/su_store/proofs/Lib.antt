@@ -3,3 +3,4 @@ pub mod RowLemmas
 pub mod CreateLemmas
 pub mod RecordLemmas
 pub mod BlockLemmas
+pub mod SearchLemmas

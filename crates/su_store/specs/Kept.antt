@@ -15,7 +15,7 @@ nothing = record { records = []; blocks = [] }
 
 -- whether a block lies under the digest
 abbrev pub lies_under : List ℕ → List ℕ → Bool
-lies_under digest block = bytes_eq digest (sha256 block)
+lies_under digest block = bytes_eq (sha256 block) digest
 
 -- whether the map has a block under the digest
 abbrev pub has_block : List ℕ → List (List ℕ) → Bool
