@@ -19,9 +19,9 @@ use Rattle.sqlite.specs.Effect.{Database}
 use Rattle.sqlite.specs.State.{State, mode_of, ExecutesInside}
 use Rattle.sqlite.proofs.Callers.{IsPlain, command_of, statement_of, runs_as, one_step}
 use Rattle.su_store.specs.Tables.{store_schema, record_table, record_row}
-use Rattle.su_store.specs.Changes.{PutsRecord}
+use Rattle.su_store.specs.Changes.{PutsRecord, MakesInside}
 use Rattle.su_store.proofs.RowLemmas.{put_last-record}
-use Rattle.su_store.proofs.Shared.{cast_number, cast_null, went, same_value, Ran}
+use Rattle.su_store.proofs.Shared.{cast_number, cast_null, went, same_value}
 
 abbrev pub insert_text : List ℕ
 insert_text = codes "INSERT INTO record (number, bytes) VALUES (?1, ?2)"
@@ -74,7 +74,7 @@ module _ (n : ℕ) (bytes : List ℕ) where
         };
       }
 
-  pub puts : (old new : State) (r : Result ℕ Error) → old.now.schema ≡ store_schema → IsTrue old.in_transaction → ExecutesInside 0 insert_text values old new r → OnOk r (Ran (PutsRecord n bytes) old new)
+  pub puts : (old new : State) (r : Result ℕ Error) → old.now.schema ≡ store_schema → IsTrue old.in_transaction → ExecutesInside 0 insert_text values old new r → OnOk r (MakesInside (PutsRecord n bytes) old new)
   puts old new (Err e) has begun h = tt
   puts old new (Ok count) has begun h =
       let w = runs_as insert_text values old new store_schema has command insert_is insert_plain count h.0 in

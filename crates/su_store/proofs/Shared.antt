@@ -1,13 +1,10 @@
 -- What is common to the statements.
-use Rattle.std.proofs.Common.{◌≡◌, ◌⊎◌, inl, inr, ℤ, Bool, true, false, cond, IsTrue, Ok, Err, Result, refl}
+use Rattle.std.proofs.Common.{◌≡◌, ◌⊎◌, inl, inr, ℤ, Bool, true, false, cond, Ok, Err, Result, OnOk, refl}
 use Rattle.sqlite.specs.declared.types.Value.{Value}
 use Rattle.sqlite.specs.declared.types.Value.TheVariants.{Null, Int}
 use Rattle.sqlite.specs.Ops.{unary}
 use Rattle.sqlite.specs.Kind.TheVariants.{Integer}
 use Rattle.sqlite.specs.Cast.{cast}
-use Rattle.sqlite.specs.Tree.{Trees}
-use Rattle.sqlite.specs.State.{State}
-use Rattle.su_store.specs.Tables.{store_schema}
 
 pub either : (b : Bool) (x : Value) → cond b x x ≡ x
 either true x = refl
@@ -29,9 +26,6 @@ went (inr on) = on
 pub same_value : {B E : Type 0} {a b : B} → ◌≡◌ {A = Result B E} (Ok a) (Ok b) → a ≡ b
 same_value e = cc
 
--- what a statement inside a transaction makes of the tables, and what it leaves
-pub record Ran (Makes : Trees → Trees → Type 0) (old new : State) : Type 0 where
-  pub made : Makes old.now.trees new.now.trees
-  pub schema : new.now.schema ≡ store_schema
-  pub begun : IsTrue new.in_transaction
-  pub committed : new.committed ≡ old.committed
+pub on_ok : {T E : Type 0} {P : Type 0} (r : Result T E) → P → OnOk r P
+on_ok (Ok x) p = p
+on_ok (Err e) p = tt

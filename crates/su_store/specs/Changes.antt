@@ -1,8 +1,9 @@
 -- What a call makes of what is kept. Each says: whatever the tables stood for, they now stand for ..
-use Rattle.std.specs.Prelude.{◌≡◌, ℕ, List, [], ◌∷◌, ◌++◌, length}
+use Rattle.std.specs.Prelude.{◌≡◌, ℕ, List, [], ◌∷◌, ◌++◌, length, IsTrue}
 use Rattle.sqlite.specs.Tree.{Trees}
+use Rattle.sqlite.specs.State.{State}
 use Rattle.su_store.specs.Kept.{Kept, with_block, with_blocks, with_record}
-use Rattle.su_store.specs.Tables.{Stands}
+use Rattle.su_store.specs.Tables.{Stands, store_schema}
 
 -- one more record at the end, and the blocks that it needs
 abbrev pub Extends : List ℕ → List (List ℕ) → Trees → Trees → Type 0
@@ -26,3 +27,10 @@ HoldsBlocks blocks old new = (kept : Kept) → Stands kept old → Stands (recor
 -- the file has so many records
 abbrev pub HasRecords : ℕ → Trees → Type 0
 HasRecords count db = (kept : Kept) → Stands kept db → length kept.records ≡ count
+
+-- The change is made inside a transaction, which goes on, and nothing is committed.
+pub record MakesInside (Change : Trees → Trees → Type 0) (old new : State) : Type 0 where
+  pub made : Change old.now.trees new.now.trees
+  pub schema : new.now.schema ≡ store_schema
+  pub begun : IsTrue new.in_transaction
+  pub committed : new.committed ≡ old.committed

@@ -1,3 +1,4 @@
 pub mod Kept
 pub mod Tables
 pub mod Changes
+pub mod Lookups
