@@ -4,3 +4,4 @@ pub mod CreateLemmas
 pub mod RecordLemmas
 pub mod BlockLemmas
 pub mod SearchLemmas
+pub mod AppendLemmas

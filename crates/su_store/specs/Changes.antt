@@ -1,5 +1,5 @@
 -- What a call makes of what is kept. Each says: whatever the tables stood for, they now stand for ..
-use Rattle.std.specs.Prelude.{◌≡◌, ℕ, List, [], ◌∷◌, ◌++◌, length, IsTrue}
+use Rattle.std.specs.Prelude.{◌≡◌, ℕ, List, [], ◌∷◌, ◌++◌, length, IsTrue, false}
 use Rattle.sqlite.specs.Tree.{Trees}
 use Rattle.sqlite.specs.State.{State}
 use Rattle.su_store.specs.Kept.{Kept, with_block, with_blocks, with_record}
@@ -34,3 +34,12 @@ pub record MakesInside (Change : Trees → Trees → Type 0) (old new : State) :
   pub schema : new.now.schema ≡ store_schema
   pub begun : IsTrue new.in_transaction
   pub committed : new.committed ≡ old.committed
+
+-- The change is made and committed, so each crash from now on leaves it, and another call may follow.
+pub record Keeps (Change : Trees → Trees → Type 0) (old new : State) : Type 0 where
+  pub kept : Change old.now.trees new.committed.trees
+  pub durable : (db : Trees) → new.may_leave db → Change old.now.trees db
+  pub same : new.now ≡ new.committed
+  pub schema : new.now.schema ≡ store_schema
+  pub alone : new.in_transaction ≡ false
+  pub is_open : IsTrue new.is_open

@@ -1,14 +1,14 @@
 // A record and the blocks that it needs, in one transaction.
-ghost use Rattle.std.specs.Prelude.{◌≡◌, IsTrue, OnOk, map};
+ghost use Rattle.std.specs.Prelude.{◌≡◌, IsTrue, OnOk, IfOk, map};
 ghost use Rattle.sha2.specs.Sha256.{sha256};
 ghost use Rattle.sqlite.specs.State.{HasCleanDisk, Survives};
 ghost use Rattle.sqlite.specs.Held.{state};
 ghost use Rattle.su_store.specs.Tables.{store_schema};
-ghost use Rattle.su_store.specs.Changes.{PutsRecord, PutsBlock, HoldsBlock, HoldsBlocks, MakesInside};
+ghost use Rattle.su_store.specs.Changes.{PutsRecord, PutsBlock, HoldsBlock, HoldsBlocks, MakesInside, HasRecords, Extends, Keeps};
 
 use crate::lookups::is_held;
 use sha2::Sha256;
-use sqlite::{Alter, Error, Transaction, params};
+use sqlite::{Alter, Connection, Error, Transaction, params};
 
 /// Puts a record under the next number.
 fn put_record<S: Alter>(
@@ -94,4 +94,34 @@ fn hold_blocks<S: Alter>(tx: &mut Transaction<'_, S>, blocks: &[Vec<u8>]) -> Res
         hold_block(tx, block.as_slice())?;
     }
     Ok(())
+}
+
+/// Keeps one more record and the blocks that it needs, all or nothing. `number` is that of the
+/// record: how many there are. At `Ok` they are on the disk. `false` where a transaction is open.
+pub(crate) fn append<S: Alter>(
+    conn: &mut Connection<S>,
+    number: u32,
+    bytes: &[u8],
+    blocks: &[Vec<u8>],
+) -> Result<bool, Error>
+    requires schema { HasCleanDisk (state S.Store conn.old)
+        → (state S.Store conn.old).now.schema ≡ store_schema }
+    requires numbered { HasCleanDisk (state S.Store conn.old)
+        → HasRecords number (state S.Store conn.old).now.trees }
+    ensures kept { HasCleanDisk (state S.Store conn.new) → IfOk result (λ done. IsTrue done →
+        Keeps (Extends bytes.now (map (λ b. b.items) blocks.now))
+            (state S.Store conn.old) (state S.Store conn.new)) }
+
+    // A crash at any moment of the call leaves what it could leave before, or all of this.
+    ensures crash { Survives (state S.Store conn.old) (state S.Store conn.new)
+        (Extends bytes.now (map (λ b. b.items) blocks.now) (state S.Store conn.old).now.trees) }
+{
+    if !conn.is_autocommit() {
+        return Ok(false);
+    }
+    let mut tx = conn.transaction();
+    hold_blocks(&mut tx, blocks)?;
+    put_record(&mut tx, number, bytes)?;
+    tx.commit()?;
+    Ok(true)
 }
