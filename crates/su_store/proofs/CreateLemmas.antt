@@ -6,6 +6,7 @@ use Rattle.sqlite.specs.Command.TheVariants.{CreateTable}
 use Rattle.sqlite.specs.Compile.{table_defined_by}
 use Rattle.sqlite.specs.Change.{created, next_tree, KeepsRows}
 use Rattle.sqlite.specs.Does.{Tally, lacks_sequence}
+use Rattle.std.specs.Fmt.{digits}
 use Rattle.sqlite_tied.specs.Compute.{everything}
 use Rattle.sqlite.specs.declared.error.Error.{Error}
 use Rattle.sqlite.specs.Listing.{understood}
@@ -39,6 +40,10 @@ block_is : Makes half_schema block_text block_table × (table_defined_by block_t
 unfolding understood everything
 block_is = (record { is = refl; whole = refl; plain = (refl, refl); lacks = refl }, refl)
 
+made_both : created half_schema block_table ≡ store_schema
+unfolding digits
+made_both = refl
+
 module _ (old new : State) (r : Result ℕ Error) where
   pub makes_records : old.now.schema ≡ no_schema → Executes record_text [] old new r → OnOk r ((new.now.schema ≡ half_schema) × (new.now.trees 0 ≡ []))
   makes_records = go r
@@ -69,8 +74,8 @@ module _ (old new : State) (r : Result ℕ Error) where
           let made = first.1 in
           let both : Ok made.table ≡ Ok (record block_table { tree = 0 }) = sym made.defined ∙ block_is.1 in
           let same : made.table ≡ record block_table { tree = 0 } = cc in
-          let schema : first.0.schema ≡ store_schema = made.is ∙ ap (λ s. created s made.table) has ∙ ap (created half_schema) same in
-          let plain : lacks_sequence first.0.schema ≡ false = ap lacks_sequence schema ∙ block_is.0.lacks in
+          let schema : first.0.schema ≡ store_schema = made.is ∙ ap (λ s. created s made.table) has ∙ ap (created half_schema) same ∙ made_both in
+          let plain : lacks_sequence first.0.schema ≡ false = ap lacks_sequence schema ∙ ap lacks_sequence (sym made_both) ∙ block_is.0.lacks in
           let now : new.now ≡ first.0 = ap (λ (p : Tally × Database). p.1) (same_value all.2) ∙ same_value (rw plain at first.2) in
           let kept = subst (λ (s : Schema). KeepsRows s.tables old.now.trees first.0.trees) has made.others in (
             ap (λ (d : Database). d.schema) now ∙ schema,

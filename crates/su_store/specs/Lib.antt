@@ -2,3 +2,4 @@ pub mod Kept
 pub mod Tables
 pub mod Changes
 pub mod Lookups
+pub mod Schemas

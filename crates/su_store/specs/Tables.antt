@@ -8,7 +8,6 @@ use Rattle.sqlite.specs.Table.{Table}
 use Rattle.sqlite.specs.Schema.{Schema}
 use Rattle.sqlite_schema.specs.declared.schema.Column.{Column}
 use Rattle.sqlite_schema.specs.declared.schema.Index.{Index}
-use Rattle.sqlite.specs.Change.{created}
 use Rattle.sqlite.specs.Tree.{Trees}
 use Rattle.sqlite.specs.Kind.{Kind}
 use Rattle.sqlite.specs.Kind.TheVariants.{Integer, Blob}
@@ -70,7 +69,7 @@ abbrev pub half_schema : Schema
 half_schema = record { tables = record_table ∷ []; indexes = []; views = [] }
 
 abbrev pub store_schema : Schema
-store_schema = created half_schema block_table
+store_schema = record { tables = record_table ∷ block_table ∷ []; indexes = block_index ∷ []; views = [] }
 
 -- A record's row: its number, which is the row's own, and its bytes.
 abbrev pub record_row : ℕ → List ℕ → Row

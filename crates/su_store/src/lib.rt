@@ -3,4 +3,5 @@
 
 mod lookups;
 mod records;
+mod schemas;
 mod tables;
