@@ -3,3 +3,4 @@ pub mod Tables
 pub mod Changes
 pub mod Lookups
 pub mod Schemas
+pub mod Files

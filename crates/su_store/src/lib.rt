@@ -1,7 +1,12 @@
 //! Records and blocks in a file, each kept before it is acknowledged.
 #![tactic(auto)]
 
+mod faults;
 mod lookups;
+mod record_files;
 mod records;
 mod schemas;
 mod tables;
+
+pub use faults::{FileFault, StoreFault};
+pub use record_files::{MOST_RECORDS, RecordFile};

@@ -5,6 +5,7 @@ ghost use Rattle.sqlite.specs.State.{HasCleanDisk, Survives, IsUnchanged};
 ghost use Rattle.sqlite.specs.Held.{state};
 ghost use Rattle.su_store.specs.Tables.{store_schema};
 ghost use Rattle.su_store.specs.Lookups.{IsRecord, IsBlock, TellsHeld, IsFirst};
+ghost use Rattle.su_store.specs.Changes.{HasRecords};
 
 use sqlite::{Alter, Connection, Error, Row, Transaction, params};
 
@@ -82,4 +83,23 @@ pub(crate) fn is_held<S: Alter>(
         params![digest],
     )?;
     Ok(!rows.as_slice().is_empty())
+}
+
+/// Whether the record of this number would be the next: there is none of it, and one of each below.
+pub(crate) fn is_next<S: Alter>(conn: &mut Connection<S>, number: u32) -> Result<bool, Error>
+    requires { HasCleanDisk (state S.Store conn.old)
+        → (state S.Store conn.old).now.schema ≡ store_schema }
+    ensures next { HasCleanDisk (state S.Store conn.new) → IfOk result (λ is. IsTrue is →
+        HasRecords number (state S.Store conn.old).now.trees) }
+    ensures same { HasCleanDisk (state S.Store conn.new)
+        → OnOk result (IsUnchanged (state S.Store conn.old) (state S.Store conn.new)) }
+    ensures crash { Survives (state S.Store conn.old) (state S.Store conn.new) (λ _. ⊥) }
+{
+    if find_record(conn, number)?.is_some() {
+        return Ok(false);
+    }
+    match number.checked_sub(1) {
+        None => Ok(true),
+        Some(last) => Ok(find_record(conn, last)?.is_some()),
+    }
 }

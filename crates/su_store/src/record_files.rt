@@ -1,0 +1,90 @@
+// One file of records and blocks.
+ghost use Rattle.std.specs.Prelude.{◌≡◌, ◌+◌, ◌≤◌, true, false, IsTrue, IfOk, OnOk, OnErr, IfSome, map, option_map};
+ghost use Rattle.sha2.specs.Sha256.{sha256};
+ghost use Rattle.sqlite.specs.State.{HasCleanDisk, Survives};
+ghost use Rattle.sqlite.specs.Held.{state};
+ghost use Rattle.su_store.specs.Changes.{Extends, Keeps};
+ghost use Rattle.su_store.specs.Lookups.{IsRecord, IsBlock};
+ghost use Rattle.su_store.specs.Files.{BeginsFrom};
+
+use crate::faults::FileFault;
+use crate::lookups::{find_block, find_record, is_next};
+use crate::records::append;
+use crate::tables::prepare;
+use sha2::Sha256;
+use sqlite::{Alter, Connection};
+use std::marker::Model;
+use su_bytes::Digest;
+
+/// The most records of a file: more would make its next open slow, since that reads it whole.
+pub const MOST_RECORDS: u32 = 100_000;
+
+/// An open file of records, numbered from 0, and of the blocks that they need. Once a call has
+/// failed for the disk, memory or damage it is spent: every later call answers `Spent`, and what
+/// was kept is found by the next open.
+#[derive(Drop)]
+pub struct RecordFile<S: Alter> {
+    connection: Connection<S>,
+    count: u32,
+    is_spent: bool,
+}
+
+impl<S: Alter> Model for RecordFile<S> {
+    ghost use Rattle.su_store.specs.Files.{File, IsReady};
+
+    ghost Value = { File S };
+
+    ghost view = { λ f. record { held = f.connection; count = f.count; is_spent = f.is_spent } };
+
+    ghost invariant = { λ f. IsReady S.Store f.connection f.is_spent };
+}
+
+impl<S: Alter> RecordFile<S> {
+    /// How many records there are: the number of the next.
+    pub fn len(&self) -> u32
+        ensures { result ≡ self.now.count }
+    {
+        self.count
+    }
+
+    /// Whether there is no record.
+    pub fn is_empty(&self) -> bool
+        ensures { IsTrue result → self.now.count ≡ 0 }
+    {
+        self.count == 0
+    }
+
+    /// Keeps one more record and the blocks that it needs, all or nothing, and returns its number.
+    /// At `Ok` they are on the disk. `Full` at 100,000 records, and then nothing changes.
+    pub fn append(&mut self, record: &[u8], blocks: &[Vec<u8>]) -> Result<u32, FileFault>
+        ensures kept { HasCleanDisk (state S.Store self.new.held) → OnOk result
+            (Keeps (Extends record.now (map (λ b. b.items) blocks.now))
+                (state S.Store self.old.held) (state S.Store self.new.held)) }
+
+        // A crash at any moment of the call leaves what it could leave before, or all of this.
+        ensures crash { Survives (state S.Store self.old.held) (state S.Store self.new.held)
+            (Extends record.now (map (λ b. b.items) blocks.now)
+                (state S.Store self.old.held).now.trees) }
+        ensures number { IfOk result (λ number. number ≡ self.old.count) }
+        ensures count { OnOk result (self.new.count ≡ self.old.count + 1) }
+        ensures unspent { OnOk result (self.new.is_spent ≡ false) }
+    {
+        if self.is_spent {
+            return Err(FileFault::Spent);
+        }
+        let number = self.count;
+        if MOST_RECORDS <= number {
+            return Err(FileFault::Full);
+        }
+        self.is_spent = true;
+        if !is_next(&mut self.connection, number)? {
+            return Err(FileFault::DamagedRecord(number));
+        }
+        if !append(&mut self.connection, number, record, blocks)? {
+            return Err(FileFault::Spent);
+        }
+        self.count = number + 1;
+        self.is_spent = false;
+        Ok(number)
+    }
+}
