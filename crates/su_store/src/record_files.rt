@@ -30,9 +30,11 @@ pub struct RecordFile<S: Alter> {
 }
 
 impl<S: Alter> Model for RecordFile<S> {
-    ghost use Rattle.su_store.specs.Files.{File, IsReady};
+    ghost use Rattle.su_store.specs.Files.{File, IsReady, file_code};
 
     ghost Value = { File S };
+
+    ghost coded = { file_code S.code };
 
     ghost view = { λ f. record { held = f.connection; count = f.count; is_spent = f.is_spent } };
 
