@@ -39,6 +39,9 @@ pub enum FileFault {
     /// The file has as many records as a file may have.
     #[error("full: begin another file")]
     Full,
+    /// The file has more records than a file may have.
+    #[error("longer than any that is made here: put the store's own file in its place")]
+    TooLong,
     /// An earlier call failed, so the file has to be opened again.
     #[error("an earlier call has failed: open the file again")]
     Spent,

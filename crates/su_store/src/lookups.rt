@@ -1,5 +1,5 @@
 // Looking for a record by its number, and for a block by its digest.
-ghost use Rattle.std.specs.Prelude.{◌≡◌, ◌≢◌, false, IsTrue, IfOk, OnOk, IfSome, option_map};
+ghost use Rattle.std.specs.Prelude.{◌≡◌, ◌<◌, ◌≤◌, ◌^◌, false, IsTrue, IfOk, OnOk, option_map};
 ghost use Rattle.sha2.specs.Sha256.{sha256};
 ghost use Rattle.sqlite.specs.State.{HasCleanDisk, Survives, IsUnchanged};
 ghost use Rattle.sqlite.specs.Held.{state};
@@ -102,4 +102,32 @@ pub(crate) fn is_next<S: Alter>(conn: &mut Connection<S>, number: u32) -> Result
         None => Ok(true),
         Some(last) => Ok(find_record(conn, last)?.is_some()),
     }
+}
+
+/// Counts the records, of which there are none or one of each number from 0 on, up to `most`. More
+/// than `most` count as `most` and one.
+pub(crate) fn count_records<S: Alter>(
+    conn: &mut Connection<S>,
+    most: u32,
+) -> Result<u32, Error>
+    requires schema { HasCleanDisk (state S.Store conn.old)
+        → (state S.Store conn.old).now.schema ≡ store_schema }
+    requires room { most < 2 ^ 31 }
+    ensures counted { HasCleanDisk (state S.Store conn.new) → IfOk result (λ count.
+        count ≤ most → HasRecords count (state S.Store conn.old).now.trees) }
+    ensures same { HasCleanDisk (state S.Store conn.new) → OnOk result
+        ((state S.Store conn.new).now ≡ (state S.Store conn.old).now) }
+    ensures crash { Survives (state S.Store conn.old) (state S.Store conn.new) (λ _. ⊥) }
+{
+    let mut low = 0;
+    let mut high = most + 1;
+    'halves: while low < high {
+        let middle = low + (high - low) / 2;
+        if find_record(conn, middle)?.is_some() {
+            low = middle + 1;
+        } else {
+            high = middle;
+        }
+    }
+    Ok(low)
 }

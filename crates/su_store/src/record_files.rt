@@ -3,12 +3,12 @@ ghost use Rattle.std.specs.Prelude.{◌≡◌, ◌+◌, ◌≤◌, true, false, 
 ghost use Rattle.sha2.specs.Sha256.{sha256};
 ghost use Rattle.sqlite.specs.State.{HasCleanDisk, Survives};
 ghost use Rattle.sqlite.specs.Held.{state};
-ghost use Rattle.su_store.specs.Changes.{Extends, Keeps};
+ghost use Rattle.su_store.specs.Changes.{Extends, Keeps, HasRecords};
 ghost use Rattle.su_store.specs.Lookups.{IsRecord, IsBlock};
 ghost use Rattle.su_store.specs.Files.{BeginsFrom};
 
 use crate::faults::FileFault;
-use crate::lookups::{find_block, find_record, is_next};
+use crate::lookups::{count_records, find_block, find_record, is_next};
 use crate::records::append;
 use crate::tables::prepare;
 use sha2::Sha256;
@@ -39,6 +39,30 @@ impl<S: Alter> Model for RecordFile<S> {
     ghost view = { λ f. record { held = f.connection; count = f.count; is_spent = f.is_spent } };
 
     ghost invariant = { λ f. IsReady S.Store f.connection f.is_spent };
+}
+
+impl<S: Alter + Drop> RecordFile<S> {
+    /// Takes over a connection: a store's file, or a new one, in which it makes the tables. An
+    /// SQLite file of something else is refused with `Foreign`, and is left as it is.
+    pub fn over(connection: Connection<S>) -> Result<RecordFile<S>, FileFault>
+        ensures begun { IfOk result (λ f. HasCleanDisk (state S.Store f.held) →
+            BeginsFrom (state S.Store connection) (state S.Store f.held)) }
+        ensures count { IfOk result (λ f. HasCleanDisk (state S.Store f.held) →
+            HasRecords f.count (state S.Store f.held).now.trees) }
+        ensures unspent { IfOk result (λ f. f.is_spent ≡ false) }
+    {
+        let mut connection = connection;
+        prepare(&mut connection)?;
+        let count = count_records(&mut connection, MOST_RECORDS)?;
+        if MOST_RECORDS < count {
+            return Err(FileFault::TooLong);
+        }
+        Ok(RecordFile {
+            connection,
+            count,
+            is_spent: false,
+        })
+    }
 }
 
 impl<S: Alter> RecordFile<S> {
@@ -88,5 +112,58 @@ impl<S: Alter> RecordFile<S> {
         self.count = number + 1;
         self.is_spent = false;
         Ok(number)
+    }
+
+    /// Reads the record of a number. `None` from the count on. `DamagedRecord` where one below it
+    /// isn't there.
+    pub fn record(&mut self, number: u32) -> Result<Option<Vec<u8>>, FileFault>
+        ensures found { HasCleanDisk (state S.Store self.new.held) → IfOk result (λ found.
+            IsRecord number (option_map (λ b. b.items) found)
+                (state S.Store self.old.held).now.trees) }
+        ensures same { HasCleanDisk (state S.Store self.new.held) → OnOk result
+            ((state S.Store self.new.held).now ≡ (state S.Store self.old.held).now) }
+        ensures crash { Survives (state S.Store self.old.held) (state S.Store self.new.held)
+            (λ _. ⊥) }
+        ensures count { self.new.count ≡ self.old.count }
+        ensures unspent { OnOk result (self.new.is_spent ≡ false) }
+    {
+        if self.is_spent {
+            return Err(FileFault::Spent);
+        }
+        self.is_spent = true;
+        let found = find_record(&mut self.connection, number)?;
+        if found.is_none() && number < self.count {
+            return Err(FileFault::DamagedRecord(number));
+        }
+        self.is_spent = false;
+        Ok(found)
+    }
+
+    /// Reads the block of a digest, with which its bytes are compared. `None` where there is none.
+    /// `DamagedBlock` where the bytes have another digest.
+    pub fn block(&mut self, digest: Digest) -> Result<Option<Vec<u8>>, FileFault>
+        ensures hashes { IfOk result (λ found. IfSome found (λ b. sha256 b.items ≡ digest)) }
+        ensures found { HasCleanDisk (state S.Store self.new.held) → IfOk result (λ found.
+            IsBlock digest (option_map (λ b. b.items) found)
+                (state S.Store self.old.held).now.trees) }
+        ensures same { HasCleanDisk (state S.Store self.new.held) → OnOk result
+            ((state S.Store self.new.held).now ≡ (state S.Store self.old.held).now) }
+        ensures crash { Survives (state S.Store self.old.held) (state S.Store self.new.held)
+            (λ _. ⊥) }
+        ensures count { self.new.count ≡ self.old.count }
+        ensures unspent { OnOk result (self.new.is_spent ≡ false) }
+    {
+        if self.is_spent {
+            return Err(FileFault::Spent);
+        }
+        self.is_spent = true;
+        let found = find_block(&mut self.connection, digest.as_bytes())?;
+        if let Some(bytes) = &found {
+            if <Sha256 as sha2::Digest>::digest(bytes.as_slice()) != *digest.as_bytes() {
+                return Err(FileFault::DamagedBlock(digest));
+            }
+        }
+        self.is_spent = false;
+        Ok(found)
     }
 }
