@@ -4,3 +4,4 @@ pub mod Changes
 pub mod Lookups
 pub mod Schemas
 pub mod Files
+pub mod Opening

@@ -3,6 +3,7 @@
 
 mod faults;
 mod lookups;
+mod opening;
 mod record_files;
 mod records;
 mod schemas;
@@ -10,3 +11,4 @@ mod tables;
 
 pub use faults::{FileFault, StoreFault};
 pub use record_files::{MOST_RECORDS, RecordFile};
+pub use opening::open;

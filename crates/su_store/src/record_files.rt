@@ -45,6 +45,8 @@ impl<S: Alter + Drop> RecordFile<S> {
     /// Takes over a connection: a store's file, or a new one, in which it makes the tables. An
     /// SQLite file of something else is refused with `Foreign`, and is left as it is.
     pub fn over(connection: Connection<S>) -> Result<RecordFile<S>, FileFault>
+        ensures clean { IfOk result (λ f. HasCleanDisk (state S.Store f.held) →
+            HasCleanDisk (state S.Store connection)) }
         ensures begun { IfOk result (λ f. HasCleanDisk (state S.Store f.held) →
             BeginsFrom (state S.Store connection) (state S.Store f.held)) }
         ensures count { IfOk result (λ f. HasCleanDisk (state S.Store f.held) →
@@ -66,6 +68,17 @@ impl<S: Alter + Drop> RecordFile<S> {
 }
 
 impl<S: Alter> RecordFile<S> {
+    pub(crate) fn into_connection(self) -> Connection<S>
+        ensures { result ≡ self.held }
+    {
+        let RecordFile {
+            connection,
+            count: _,
+            is_spent: _,
+        } = self;
+        connection
+    }
+
     /// How many records there are: the number of the next.
     pub fn len(&self) -> u32
         ensures { result ≡ self.now.count }

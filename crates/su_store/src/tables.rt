@@ -49,6 +49,7 @@ fn create_blocks<S: Alter>(conn: &mut Connection<S>) -> Result<usize, Error>
 pub(crate) fn prepare<S: Alter>(conn: &mut Connection<S>) -> Result<(), FileFault>
     ensures begun { HasCleanDisk (state S.Store conn.new) → OnOk result
         (BeginsFrom (state S.Store conn.old) (state S.Store conn.new)) }
+    ensures clean { HasCleanDisk (state S.Store conn.new) → HasCleanDisk (state S.Store conn.old) }
 {
     if is_store(conn.schema()) {
         return Ok(());
