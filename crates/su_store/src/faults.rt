@@ -1,8 +1,7 @@
 // Why a file of the store can't be used.
-ghost use Rattle.std.specs.Prelude.{◌≡◌};
 
 use sqlite::{Error as SqlError, ErrorCode};
-use std::alloc::{AllocError, Global};
+use std::alloc::{AllocError, AllocFailed, Global};
 use su_bytes::Digest;
 use thiserror::Error;
 
@@ -85,6 +84,12 @@ impl From<SqlError> for FileFault {
 
 impl From<AllocError> for FileFault {
     fn from(_refused: AllocError) -> FileFault {
+        FileFault::NoMemory
+    }
+}
+
+impl<T: Drop> From<AllocFailed<T>> for FileFault {
+    fn from(_refused: AllocFailed<T>) -> FileFault {
         FileFault::NoMemory
     }
 }

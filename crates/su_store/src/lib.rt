@@ -10,5 +10,8 @@ mod schemas;
 mod tables;
 
 pub use faults::{FileFault, StoreFault};
-pub use record_files::{MOST_RECORDS, RecordFile};
 pub use opening::open;
+pub use record_files::{MOST_RECORDS, RecordFile};
+
+#[cfg(test)]
+mod tests;

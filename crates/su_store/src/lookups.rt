@@ -57,18 +57,12 @@ pub(crate) fn find_block<S: Alter>(
     ensures mode { conn.old.in_transaction ≡ false → conn.new.in_transaction ≡ false }
     ensures crash { Survives (state S.Store conn.old) (state S.Store conn.new) (λ _. ⊥) }
 {
-    let rows = conn.query_all(
-        "SELECT bytes FROM block WHERE digest = ?1",
-        params![digest],
-    )?;
+    let rows = conn.query_all("SELECT bytes FROM block WHERE digest = ?1", params![digest])?;
     first_bytes(rows.as_slice())
 }
 
 /// Whether a block of the digest is kept, as the transaction sees it.
-pub(crate) fn is_held<S: Alter>(
-    tx: &mut Transaction<'_, S>,
-    digest: &[u8],
-) -> Result<bool, Error>
+pub(crate) fn is_held<S: Alter>(tx: &mut Transaction<'_, S>, digest: &[u8]) -> Result<bool, Error>
     requires { HasCleanDisk (state S.Store tx.old.conn.now)
         → (state S.Store tx.old.conn.now).now.schema ≡ store_schema }
     ensures same_reference { tx.new.conn.ghost_name ≡ tx.old.conn.ghost_name }
@@ -78,10 +72,7 @@ pub(crate) fn is_held<S: Alter>(
         (IsUnchanged (state S.Store tx.old.conn.now) (state S.Store tx.new.conn.now)) }
     ensures crash { Survives (state S.Store tx.old.conn.now) (state S.Store tx.new.conn.now) (λ _. ⊥) }
 {
-    let rows = tx.query_all(
-        "SELECT bytes FROM block WHERE digest = ?1",
-        params![digest],
-    )?;
+    let rows = tx.query_all("SELECT bytes FROM block WHERE digest = ?1", params![digest])?;
     Ok(!rows.as_slice().is_empty())
 }
 
@@ -106,10 +97,7 @@ pub(crate) fn is_next<S: Alter>(conn: &mut Connection<S>, number: u32) -> Result
 
 /// Counts the records, of which there are none or one of each number from 0 on, up to `most`. More
 /// than `most` count as `most` and one.
-pub(crate) fn count_records<S: Alter>(
-    conn: &mut Connection<S>,
-    most: u32,
-) -> Result<u32, Error>
+pub(crate) fn count_records<S: Alter>(conn: &mut Connection<S>, most: u32) -> Result<u32, Error>
     requires schema { HasCleanDisk (state S.Store conn.old)
         → (state S.Store conn.old).now.schema ≡ store_schema }
     requires room { most < 2 ^ 31 }

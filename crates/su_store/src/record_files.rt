@@ -98,12 +98,12 @@ impl<S: Alter> RecordFile<S> {
     pub fn append(&mut self, record: &[u8], blocks: &[Vec<u8>]) -> Result<u32, FileFault>
         ensures kept { HasCleanDisk (state S.Store self.new.held) → OnOk result
             (Keeps (Extends record.now (map (λ b. b.items) blocks.now))
-                (state S.Store self.old.held) (state S.Store self.new.held)) }
+            (state S.Store self.old.held) (state S.Store self.new.held)) }
 
         // A crash at any moment of the call leaves what it could leave before, or all of this.
         ensures crash { Survives (state S.Store self.old.held) (state S.Store self.new.held)
             (Extends record.now (map (λ b. b.items) blocks.now)
-                (state S.Store self.old.held).now.trees) }
+            (state S.Store self.old.held).now.trees) }
         ensures number { IfOk result (λ number. number ≡ self.old.count) }
         ensures count { OnOk result (self.new.count ≡ self.old.count + 1) }
         ensures unspent { OnOk result (self.new.is_spent ≡ false) }
@@ -132,7 +132,7 @@ impl<S: Alter> RecordFile<S> {
     pub fn record(&mut self, number: u32) -> Result<Option<Vec<u8>>, FileFault>
         ensures found { HasCleanDisk (state S.Store self.new.held) → IfOk result (λ found.
             IsRecord number (option_map (λ b. b.items) found)
-                (state S.Store self.old.held).now.trees) }
+            (state S.Store self.old.held).now.trees) }
         ensures same { HasCleanDisk (state S.Store self.new.held) → OnOk result
             ((state S.Store self.new.held).now ≡ (state S.Store self.old.held).now) }
         ensures crash { Survives (state S.Store self.old.held) (state S.Store self.new.held)
@@ -158,7 +158,7 @@ impl<S: Alter> RecordFile<S> {
         ensures hashes { IfOk result (λ found. IfSome found (λ b. sha256 b.items ≡ digest)) }
         ensures found { HasCleanDisk (state S.Store self.new.held) → IfOk result (λ found.
             IsBlock digest (option_map (λ b. b.items) found)
-                (state S.Store self.old.held).now.trees) }
+            (state S.Store self.old.held).now.trees) }
         ensures same { HasCleanDisk (state S.Store self.new.held) → OnOk result
             ((state S.Store self.new.held).now ≡ (state S.Store self.old.held).now) }
         ensures crash { Survives (state S.Store self.old.held) (state S.Store self.new.held)

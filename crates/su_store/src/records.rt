@@ -23,7 +23,7 @@ fn put_record<S: Alter>(
     ensures same_reference { tx.new.conn.ghost_name ≡ tx.old.conn.ghost_name }
     ensures put { HasCleanDisk (state S.Store tx.new.conn.now) → OnOk result
         (MakesInside (PutsRecord number bytes.now)
-            (state S.Store tx.old.conn.now) (state S.Store tx.new.conn.now)) }
+        (state S.Store tx.old.conn.now) (state S.Store tx.new.conn.now)) }
     ensures crash { Survives (state S.Store tx.old.conn.now) (state S.Store tx.new.conn.now)
         (λ _. ⊥) }
 {
@@ -47,7 +47,7 @@ fn put_block<S: Alter>(
     ensures same_reference { tx.new.conn.ghost_name ≡ tx.old.conn.ghost_name }
     ensures put { HasCleanDisk (state S.Store tx.new.conn.now) → OnOk result
         (MakesInside (PutsBlock bytes.now)
-            (state S.Store tx.old.conn.now) (state S.Store tx.new.conn.now)) }
+        (state S.Store tx.old.conn.now) (state S.Store tx.new.conn.now)) }
     ensures crash { Survives (state S.Store tx.old.conn.now) (state S.Store tx.new.conn.now)
         (λ _. ⊥) }
 {
@@ -66,7 +66,7 @@ fn hold_block<S: Alter>(tx: &mut Transaction<'_, S>, bytes: &[u8]) -> Result<(),
     ensures same_reference { tx.new.conn.ghost_name ≡ tx.old.conn.ghost_name }
     ensures held { HasCleanDisk (state S.Store tx.new.conn.now) → OnOk result
         (MakesInside (HoldsBlock bytes.now)
-            (state S.Store tx.old.conn.now) (state S.Store tx.new.conn.now)) }
+        (state S.Store tx.old.conn.now) (state S.Store tx.new.conn.now)) }
     ensures crash { Survives (state S.Store tx.old.conn.now) (state S.Store tx.new.conn.now)
         (λ _. ⊥) }
 {
@@ -86,7 +86,7 @@ fn hold_blocks<S: Alter>(tx: &mut Transaction<'_, S>, blocks: &[Vec<u8>]) -> Res
     ensures same_reference { tx.new.conn.ghost_name ≡ tx.old.conn.ghost_name }
     ensures held { HasCleanDisk (state S.Store tx.new.conn.now) → OnOk result
         (MakesInside (HoldsBlocks (map (λ b. b.items) blocks.now))
-            (state S.Store tx.old.conn.now) (state S.Store tx.new.conn.now)) }
+        (state S.Store tx.old.conn.now) (state S.Store tx.new.conn.now)) }
     ensures crash { Survives (state S.Store tx.old.conn.now) (state S.Store tx.new.conn.now)
         (λ _. ⊥) }
 {
@@ -110,7 +110,7 @@ pub(crate) fn append<S: Alter>(
         → HasRecords number (state S.Store conn.old).now.trees }
     ensures kept { HasCleanDisk (state S.Store conn.new) → IfOk result (λ done. IsTrue done →
         Keeps (Extends bytes.now (map (λ b. b.items) blocks.now))
-            (state S.Store conn.old) (state S.Store conn.new)) }
+        (state S.Store conn.old) (state S.Store conn.new)) }
 
     // A crash at any moment of the call leaves what it could leave before, or all of this.
     ensures crash { Survives (state S.Store conn.old) (state S.Store conn.new)

@@ -13,12 +13,12 @@ use sqlite_value::value::Value;
 
 fn is_column(column: &Column, name: &[u8], kind: Kind, not_null: bool) -> bool
     ensures { IsTrue result → column.now ≡ record {
-        name = name.now;
-        kind = kind;
-        is_strict = true;
-        not_null = not_null;
-        default = Null;
-        collation = Binary;
+      name = name.now;
+      kind = kind;
+      is_strict = true;
+      not_null = not_null;
+      default = Null;
+      collation = Binary;
     } }
 {
     column.name.as_slice() == name

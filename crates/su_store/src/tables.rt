@@ -35,7 +35,7 @@ fn create_blocks<S: Alter>(conn: &mut Connection<S>) -> Result<usize, Error>
         → OnOk result ((state S.Store conn.new).now.trees 1 ≡ []) }
     ensures kept { HasCleanDisk (state S.Store conn.new)
         → OnOk result ((state S.Store conn.new).now.trees 0
-            ≡ (state S.Store conn.old).now.trees 0) }
+        ≡ (state S.Store conn.old).now.trees 0) }
     ensures clean { HasCleanDisk (state S.Store conn.new) → HasCleanDisk (state S.Store conn.old) }
 {
     conn.execute(

@@ -24,12 +24,12 @@ loop-block-preserved g c = record {
   same_reference = c.hold_block.ensures.same_reference ∙ c.loop-block.invariant.same_reference;
   crash = survives_both (state g.S.Store c.args.tx.now.conn.now) (state g.S.Store c.loop-block.tx.conn.now) (state g.S.Store c.hold_block.new.tx.conn.now) c.loop-block.invariant.crash c.hold_block.ensures.crash;
   held = λ clean.
-    let mid : HasCleanDisk (state g.S.Store c.loop-block.tx.conn.now) = omega (arith, clean, c.hold_block.ensures.crash.clean) in
-    let old = state g.S.Store c.args.tx.now.conn.now in
-    let new = state g.S.Store c.hold_block.new.tx.conn.now in
-    let block = rw c.as_slice.ensures.value at (c.in_ok-hold_block.ensures.held clean) in
-    let low : c.loop-block.block-index < length c.args.blocks.now = omega arith in
-    let first = take_more (λ b. b.items) c.args.blocks.now c.loop-block.block-index c.block-item.result low c.block-item.is in
-    let step = ap (λ k. map (λ b. b.items) (take k c.args.blocks.now)) (add-one c.loop-block.block-index) ∙ first in
-    subst (λ all. MakesInside (HoldsBlocks all) old new) (sym step) (holds_more (map (λ b. b.items) (take c.loop-block.block-index c.args.blocks.now)) c.block-item.result.items old _ new (c.loop-block.invariant.held mid) block);
+      let mid : HasCleanDisk (state g.S.Store c.loop-block.tx.conn.now) = omega (arith, clean, c.hold_block.ensures.crash.clean) in
+      let old = state g.S.Store c.args.tx.now.conn.now in
+      let new = state g.S.Store c.hold_block.new.tx.conn.now in
+      let block = rw c.as_slice.ensures.value at (c.in_ok-hold_block.ensures.held clean) in
+      let low : c.loop-block.block-index < length c.args.blocks.now = omega arith in
+      let first = take_more (λ b. b.items) c.args.blocks.now c.loop-block.block-index c.block-item.result low c.block-item.is in
+      let step = ap (λ k. map (λ b. b.items) (take k c.args.blocks.now)) (add-one c.loop-block.block-index) ∙ first in
+      subst (λ all. MakesInside (HoldsBlocks all) old new) (sym step) (holds_more (map (λ b. b.items) (take c.loop-block.block-index c.args.blocks.now)) c.block-item.result.items old _ new (c.loop-block.invariant.held mid) block);
 }
