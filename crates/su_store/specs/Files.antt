@@ -16,12 +16,14 @@ pub record File (S : Type 0) : Type 0 where
 -- how a proof tells two files apart
 abbrev pub file_code : {S : Type 0} → Coded S → Coded (File S)
 file_code {S} store =
-    code_by (Held S × (ℕ × Bool)) (coded× (held_code store) (coded× coded_ℕ coded_bool)) (λ f. (f.held, (f.count, f.is_spent)))
+    code_by (Held S × (ℕ × Bool)) (coded× (held_code store) (coded× coded_ℕ coded_bool))
+    (λ f. (f.held, (f.count, f.is_spent)))
     (λ p. record { held = p.0; count = p.1.0; is_spent = p.1.1 }) (λ _. refl)
 
 -- a file that isn't spent has the two tables
 abbrev pub IsReady : {S : Type 0} → Ghosts S → Held S → Bool → Type 0
-IsReady g held is_spent = is_spent ≡ false → HasCleanDisk (state g held) → (state g held).now.schema ≡ store_schema
+IsReady g held is_spent =
+    is_spent ≡ false → HasCleanDisk (state g held) → (state g held).now.schema ≡ store_schema
 
 -- A store's file is left as it is, and a new one keeps nothing yet.
 pub record BeginsFrom (old new : State) : Type 0 where

@@ -1,5 +1,6 @@
 -- What a look-up gives, whatever the tables stand for.
-use Rattle.std.specs.Prelude.{◌≡◌, ℕ, Bool, false, List, ◌∷◌, [], Contains, Option, Some, None, slice_get}
+use Rattle.std.specs.Prelude.{◌≡◌, ℕ, Bool, false, List, ◌∷◌, [], Contains}
+use Rattle.std.specs.Prelude.{Option, Some, None, slice_get}
 use Rattle.sha2.specs.Sha256.{sha256}
 use Rattle.sqlite.specs.Tree.{Trees}
 use Rattle.sqlite.specs.Order.{Row, column}
@@ -27,4 +28,5 @@ TellsHeld digest held db = (kept : Kept) → Stands kept db → held ≡ has_blo
 -- the bytes of the first row, or there is no row
 abbrev pub IsFirst : Option (List ℕ) → List Row → Type 0
 IsFirst None rows = rows ≡ []
-IsFirst (Some bytes) rows = (row : Row) × (more : List Row) × (rows ≡ row ∷ more) × (column row 0 ≡ Blob bytes)
+IsFirst (Some bytes) rows =
+    (row : Row) × (more : List Row) × (rows ≡ row ∷ more) × (column row 0 ≡ Blob bytes)

@@ -9,7 +9,8 @@ use Rattle.su_store.specs.Files.{BeginsFrom}
 
 -- The open found the database that the files held. It begins from there: a store's is as it was,
 -- and where there was none, nothing is kept yet.
-pub record OpensFrom {D : Type 0} {g : Ghosts D} (start : Image) (now : Held (FileStore D g)) : Type 0 where
+pub record OpensFrom {D : Type 0} {g : Ghosts D} (start : Image)
+    (now : Held (FileStore D g)) : Type 0 where
   pub was : Held (FileStore D g)
   pub opened : IsOpened was
   pub found : FindsIn start (file_state was)

@@ -1,5 +1,5 @@
 -- The tables in which a file keeps its records and blocks.
-use Rattle.std.specs.Prelude.{◌≡◌, true, false, [], ◌∷◌, Some, None, codes, length, List, ℕ, pos, suc}
+use Rattle.std.specs.Prelude.{◌≡◌, Bool, true, false, [], ◌∷◌, Some, None, codes, List, ℕ, pos, suc}
 use Rattle.sha2.specs.Sha256.{sha256}
 use Rattle.sqlite.specs.Collation.TheVariants.{Binary}
 use Rattle.sqlite.specs.declared.types.Value.TheVariants.{Null, Int, Blob as Bytes}
@@ -14,13 +14,23 @@ use Rattle.sqlite.specs.Kind.TheVariants.{Integer, Blob}
 use Rattle.sqlite_value.specs.Keys.{plain}
 use Rattle.su_store.specs.Kept.{Kept}
 
+-- a column that takes values of its type alone
+abbrev pub strict_column : List ℕ → Kind → Bool → Column
+strict_column name kind not_null = record {
+  name = name;
+  kind = kind;
+  is_strict = true;
+  not_null = not_null;
+  default = Null;
+  collation = Binary;
+}
+
 -- CREATE TABLE record (number INTEGER PRIMARY KEY, bytes BLOB NOT NULL) STRICT
 abbrev pub record_table : Table
 record_table = record {
   name = codes "record";
   tree = 0;
-  columns = (record { name = codes "number"; kind = Integer; is_strict = true; not_null = false; default = Null; collation = Binary })
-      ∷ (record { name = codes "bytes"; kind = Blob; is_strict = true; not_null = true; default = Null; collation = Binary }) ∷ [];
+  columns = strict_column (codes "number") Integer false ∷ strict_column (codes "bytes") Blob true ∷ [];
   key = Some 0;
   primary = 0 ∷ [];
   uniques = [];
@@ -37,8 +47,7 @@ abbrev pub block_table : Table
 block_table = record {
   name = codes "block";
   tree = 1;
-  columns = (record { name = codes "digest"; kind = Blob; is_strict = true; not_null = true; default = Null; collation = Binary })
-      ∷ (record { name = codes "bytes"; kind = Blob; is_strict = true; not_null = true; default = Null; collation = Binary }) ∷ [];
+  columns = strict_column (codes "digest") Blob true ∷ strict_column (codes "bytes") Blob true ∷ [];
   key = None;
   primary = 1 ∷ [];
   uniques = (1 ∷ []) ∷ [];
@@ -69,7 +78,11 @@ abbrev pub half_schema : Schema
 half_schema = record { tables = record_table ∷ []; indexes = []; views = [] }
 
 abbrev pub store_schema : Schema
-store_schema = record { tables = record_table ∷ block_table ∷ []; indexes = block_index ∷ []; views = [] }
+store_schema = record {
+  tables = record_table ∷ block_table ∷ [];
+  indexes = block_index ∷ [];
+  views = [];
+}
 
 -- A record's row: its number, which is the row's own, and its bytes.
 abbrev pub record_row : ℕ → List ℕ → Row

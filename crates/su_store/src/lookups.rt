@@ -1,6 +1,5 @@
 // Looking for a record by its number, and for a block by its digest.
 ghost use Rattle.std.specs.Prelude.{◌≡◌, ◌<◌, ◌≤◌, ◌^◌, false, IsTrue, IfOk, OnOk, option_map};
-ghost use Rattle.sha2.specs.Sha256.{sha256};
 ghost use Rattle.sqlite.specs.State.{HasCleanDisk, Survives, IsUnchanged};
 ghost use Rattle.sqlite.specs.Held.{state};
 ghost use Rattle.su_store.specs.Tables.{store_schema};
@@ -70,7 +69,8 @@ pub(crate) fn is_held<S: Alter>(tx: &mut Transaction<'_, S>, digest: &[u8]) -> R
         TellsHeld digest.now held (state S.Store tx.old.conn.now).now.trees) }
     ensures same { HasCleanDisk (state S.Store tx.new.conn.now) → OnOk result
         (IsUnchanged (state S.Store tx.old.conn.now) (state S.Store tx.new.conn.now)) }
-    ensures crash { Survives (state S.Store tx.old.conn.now) (state S.Store tx.new.conn.now) (λ _. ⊥) }
+    ensures crash { Survives (state S.Store tx.old.conn.now) (state S.Store tx.new.conn.now)
+        (λ _. ⊥) }
 {
     let rows = tx.query_all("SELECT bytes FROM block WHERE digest = ?1", params![digest])?;
     Ok(!rows.as_slice().is_empty())

@@ -4,7 +4,8 @@ ghost use Rattle.sha2.specs.Sha256.{sha256};
 ghost use Rattle.sqlite.specs.State.{HasCleanDisk, Survives};
 ghost use Rattle.sqlite.specs.Held.{state};
 ghost use Rattle.su_store.specs.Tables.{store_schema};
-ghost use Rattle.su_store.specs.Changes.{PutsRecord, PutsBlock, HoldsBlock, HoldsBlocks, MakesInside, HasRecords, Extends, Keeps};
+ghost use Rattle.su_store.specs.Changes.{PutsRecord, PutsBlock, HoldsBlock, HoldsBlocks};
+ghost use Rattle.su_store.specs.Changes.{MakesInside, HasRecords, Extends, Keeps};
 
 use crate::lookups::is_held;
 use sha2::Sha256;

@@ -1,9 +1,8 @@
 // Whether the schema of a file is a store's.
 ghost use Rattle.std.specs.Prelude.{◌≡◌, IsTrue, true, false, [], ◌∷◌};
-ghost use Rattle.sqlite_value.specs.declared.value.Value.TheVariants.{Null};
-ghost use Rattle.sqlite_value.specs.declared.keys.Collation.TheVariants.{Binary};
 ghost use Rattle.sqlite_value.specs.Keys.{plain};
-ghost use Rattle.su_store.specs.Tables.{record_table, block_table, block_index, no_schema, half_schema, store_schema};
+ghost use Rattle.su_store.specs.Tables.{strict_column, record_table, block_table, block_index};
+ghost use Rattle.su_store.specs.Tables.{no_schema, half_schema, store_schema};
 ghost use Rattle.su_store.specs.Schemas.{HasNoRules, HasRecordKeys, HasBlockKeys, IsOverDigests};
 
 use sqlite_items::Items;
@@ -12,14 +11,7 @@ use sqlite_value::keys::{Collation, Order};
 use sqlite_value::value::Value;
 
 fn is_column(column: &Column, name: &[u8], kind: Kind, not_null: bool) -> bool
-    ensures { IsTrue result → column.now ≡ record {
-      name = name.now;
-      kind = kind;
-      is_strict = true;
-      not_null = not_null;
-      default = Null;
-      collation = Binary;
-    } }
+    ensures { IsTrue result → column.now ≡ strict_column name.now kind not_null }
 {
     column.name.as_slice() == name
         && column.kind == kind
