@@ -1,6 +1,10 @@
+ghost use Rattle.std.specs.Prelude.{IsTrue};
+ghost use Rattle.sqlite_disk.specs.Memory.{memory_is_usable};
+
 use crate::{FileFault, RecordFile, open};
 use sha2::Sha256;
-use sqlite::{Alter, Connection, Unknown};
+use sqlite::{Alter, Connection, FileStore, Files, Options, Unknown};
+use sqlite_disk::{Crash, Memory};
 use std::alloc::Global;
 use std::fs;
 use std::test::Fail;
@@ -117,5 +121,34 @@ fn a_fault_names_its_file_and_says_what_to_do(rt: HostRuntime) -> Result<(), Fai
         format!(in alloc; "{fault}")?.as_str(),
         "store/0.db: damaged at record 7: put a copy of the file in its place"
     );
+    Ok(())
+}
+
+fn over_memory(
+    alloc: Global,
+    log: Memory,
+    db: Memory,
+) -> Result<RecordFile<FileStore<Memory>>, FileFault>
+    requires { IsTrue (memory_is_usable log) × IsTrue (memory_is_usable db) }
+{
+    match Connection::open_files_with(alloc, Files { log, db }, Options::new(7), true) {
+        Ok(connection) => RecordFile::over(connection),
+        Err((error, _)) => Err(FileFault::from(error)),
+    }
+}
+
+#[test]
+fn a_crash_leaves_what_was_answered(rt: HostRuntime) -> Result<(), Fail> {
+    let alloc = rt.alloc();
+    let mut file = over_memory(alloc, Memory::new(alloc), Memory::new(alloc))?;
+    keep(alloc, &mut file, &[1, 2], &[7])?;
+    keep(alloc, &mut file, &[3], &[8])?;
+    let Files { mut log, mut db } = file.into_store().close();
+    log.crash();
+    db.crash();
+    let mut again = over_memory(alloc, log, db)?;
+    assert_eq!(rt; again.len(), 2);
+    assert!(rt; has_record(&mut again, 1, &[3])?);
+    assert!(rt; has_block(&mut again, &[8])?);
     Ok(())
 }
