@@ -1,0 +1,7 @@
+pub mod Shared
+pub mod RowLemmas
+pub mod CreateLemmas
+pub mod RecordLemmas
+pub mod BlockLemmas
+pub mod SearchLemmas
+pub mod AppendLemmas

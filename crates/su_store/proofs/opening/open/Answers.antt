@@ -1,0 +1,15 @@
+use Rattle.std.proofs.Common.{Ok, Err, Result, IfOk}
+use Rattle.su_store.proofs.opening.open.Goals as goal
+
+joined : {X Y : Type 0} (r : Result X Y) (P Q R : X → Type 0) → ((x : X) → P x → Q x → R x) → IfOk r P → IfOk r Q → IfOk r R
+joined (Ok x) P Q R f p q = f x p q
+joined (Err e) P Q R f p q = tt
+
+pub returns-in-Ok : goal.returns-in-Ok
+returns-in-Ok g c =
+    joined c.over.result _ _ _ (λ f clean begun late. record {
+      was = c.in-Ok.connection;
+      opened = c.in-Ok.ensures.opened (clean late);
+      found = c.in-Ok.ensures.found (clean late);
+      begun = begun late;
+    }) c.over.ensures.clean c.over.ensures.begun

@@ -1,0 +1,42 @@
+// A file of the store at a path, and what a crash leaves of its files.
+ghost use Rattle.std.specs.Prelude.{IfOk};
+ghost use Rattle.sqlite.specs.Tree.{Trees};
+ghost use Rattle.sqlite_trees.specs.View.{IsClean};
+ghost use Rattle.sqlite.specs.State.{HasCleanDisk};
+ghost use Rattle.sqlite.specs.Files.{file_state, HoldsDatabase};
+ghost use Rattle.sqlite.specs.WalFiles.{image_at};
+ghost use Rattle.sqlite_store.specs.FileStore.{state as files_state, view};
+ghost use Rattle.su_store.specs.Opening.{OpensFrom};
+
+use crate::faults::FileFault;
+use crate::record_files::RecordFile;
+use sqlite::{Connection, FileFrom, FileStore, Start};
+use sqlite_disk::Disk;
+
+/// Opens the store's file at a path, or makes it with a sum at the end of each page. `start` says
+/// how a crash is read: `Wary` syncs twice a record, `Unknown` once, where a write that a crash
+/// tears leaves each byte old or new. The log beside the file is part of it.
+pub fn open<T: Start>(
+    rt: &HostRuntime,
+    path: &str,
+    start: T,
+) -> Result<RecordFile<FileStore<FileFrom<T>>>, FileFault>
+    ensures { IfOk result (λ f. HasCleanDisk (file_state f.held) →
+        OpensFrom (image_at T.Start) f.held) }
+{
+    match Connection::open_from(rt, path, true, start) {
+        Ok(connection) => RecordFile::over(connection),
+        Err((error, _left)) => Err(FileFault::from(error)),
+    }
+}
+
+impl<D: Disk + Drop> RecordFile<FileStore<D>> {
+    /// Gives up the file. Whatever a crash leaves of its two files holds one of the databases that
+    /// a crash could leave of this file, and the next open finds that one.
+    pub fn into_store(self) -> FileStore<D>
+        ensures { IsClean (view result) → (left : _) → (files_state result).may_leave left
+            → ∥ ((db : Trees) × HoldsDatabase left db × (file_state self.held).may_leave db) ∥₁ }
+    {
+        self.into_connection().into_store()
+    }
+}

@@ -1,0 +1,182 @@
+// One file of records and blocks.
+ghost use Rattle.std.specs.Prelude.{◌≡◌, ◌+◌, false, IsTrue, IfOk, OnOk, IfSome, map, option_map};
+ghost use Rattle.sha2.specs.Sha256.{sha256};
+ghost use Rattle.sqlite.specs.State.{HasCleanDisk, Survives};
+ghost use Rattle.sqlite.specs.Held.{state};
+ghost use Rattle.su_store.specs.Changes.{Extends, Keeps, HasRecords};
+ghost use Rattle.su_store.specs.Lookups.{IsRecord, IsBlock};
+ghost use Rattle.su_store.specs.Files.{BeginsFrom};
+
+use crate::faults::FileFault;
+use crate::lookups::{count_records, find_block, find_record, is_next};
+use crate::records::append;
+use crate::tables::prepare;
+use sha2::Sha256;
+use sqlite::{Alter, Connection};
+use std::marker::Model;
+use su_bytes::Digest;
+
+/// The most records of a file: more would make its next open slow, since that reads it whole.
+pub const MOST_RECORDS: u32 = 100_000;
+
+/// An open file of records, numbered from 0, and of the blocks that they need. Once a call has
+/// failed for the disk, memory or damage it is spent: every later call answers `Spent`, and what
+/// was kept is found by the next open.
+#[derive(Drop)]
+pub struct RecordFile<S: Alter> {
+    connection: Connection<S>,
+    count: u32,
+    is_spent: bool,
+}
+
+impl<S: Alter> Model for RecordFile<S> {
+    ghost use Rattle.su_store.specs.Files.{File, IsReady, file_code};
+
+    ghost Value = { File S };
+
+    ghost coded = { file_code S.code };
+
+    ghost view = { λ f. record { held = f.connection; count = f.count; is_spent = f.is_spent } };
+
+    ghost invariant = { λ f. IsReady S.Store f.connection f.is_spent };
+}
+
+impl<S: Alter + Drop> RecordFile<S> {
+    /// Takes over a connection: a store's file, or a new one, in which it makes the tables. An
+    /// SQLite file of something else is refused with `Foreign`, and is left as it is.
+    pub fn over(connection: Connection<S>) -> Result<RecordFile<S>, FileFault>
+        ensures clean { IfOk result (λ f. HasCleanDisk (state S.Store f.held) →
+            HasCleanDisk (state S.Store connection)) }
+        ensures begun { IfOk result (λ f. HasCleanDisk (state S.Store f.held) →
+            BeginsFrom (state S.Store connection) (state S.Store f.held)) }
+        ensures count { IfOk result (λ f. HasCleanDisk (state S.Store f.held) →
+            HasRecords f.count (state S.Store f.held).now.trees) }
+        ensures unspent { IfOk result (λ f. f.is_spent ≡ false) }
+    {
+        let mut connection = connection;
+        prepare(&mut connection)?;
+        let count = count_records(&mut connection, MOST_RECORDS)?;
+        if MOST_RECORDS < count {
+            return Err(FileFault::TooLong);
+        }
+        Ok(RecordFile {
+            connection,
+            count,
+            is_spent: false,
+        })
+    }
+}
+
+impl<S: Alter> RecordFile<S> {
+    pub(crate) fn into_connection(self) -> Connection<S>
+        ensures { result ≡ self.held }
+    {
+        let RecordFile {
+            connection,
+            count: _,
+            is_spent: _,
+        } = self;
+        connection
+    }
+
+    /// How many records there are: the number of the next.
+    pub fn len(&self) -> u32
+        ensures { result ≡ self.now.count }
+    {
+        self.count
+    }
+
+    /// Whether there is no record.
+    pub fn is_empty(&self) -> bool
+        ensures { IsTrue result → self.now.count ≡ 0 }
+    {
+        self.count == 0
+    }
+
+    /// Keeps one more record and the blocks that it needs, all or nothing, and returns its number.
+    /// At `Ok` they are on the disk. `Full` at 100,000 records, and then nothing changes.
+    pub fn append(&mut self, record: &[u8], blocks: &[Vec<u8>]) -> Result<u32, FileFault>
+        ensures kept { HasCleanDisk (state S.Store self.new.held) → OnOk result
+            (Keeps (Extends record.now (map (λ b. b.items) blocks.now))
+            (state S.Store self.old.held) (state S.Store self.new.held)) }
+
+        // A crash at any moment of the call leaves what it could leave before, or all of this.
+        ensures crash { Survives (state S.Store self.old.held) (state S.Store self.new.held)
+            (Extends record.now (map (λ b. b.items) blocks.now)
+            (state S.Store self.old.held).now.trees) }
+        ensures number { IfOk result (λ number. number ≡ self.old.count) }
+        ensures count { OnOk result (self.new.count ≡ self.old.count + 1) }
+        ensures unspent { OnOk result (self.new.is_spent ≡ false) }
+    {
+        if self.is_spent {
+            return Err(FileFault::Spent);
+        }
+        let number = self.count;
+        if MOST_RECORDS <= number {
+            return Err(FileFault::Full);
+        }
+        self.is_spent = true;
+        if !is_next(&mut self.connection, number)? {
+            return Err(FileFault::DamagedRecord(number));
+        }
+        if !append(&mut self.connection, number, record, blocks)? {
+            return Err(FileFault::Spent);
+        }
+        self.count = number + 1;
+        self.is_spent = false;
+        Ok(number)
+    }
+
+    /// Reads the record of a number. `None` from the count on. `DamagedRecord` where one below it
+    /// isn't there.
+    pub fn record(&mut self, number: u32) -> Result<Option<Vec<u8>>, FileFault>
+        ensures found { HasCleanDisk (state S.Store self.new.held) → IfOk result (λ found.
+            IsRecord number (option_map (λ b. b.items) found)
+            (state S.Store self.old.held).now.trees) }
+        ensures same { HasCleanDisk (state S.Store self.new.held) → OnOk result
+            ((state S.Store self.new.held).now ≡ (state S.Store self.old.held).now) }
+        ensures crash { Survives (state S.Store self.old.held) (state S.Store self.new.held)
+            (λ _. ⊥) }
+        ensures count { self.new.count ≡ self.old.count }
+        ensures unspent { OnOk result (self.new.is_spent ≡ false) }
+    {
+        if self.is_spent {
+            return Err(FileFault::Spent);
+        }
+        self.is_spent = true;
+        let found = find_record(&mut self.connection, number)?;
+        if found.is_none() && number < self.count {
+            return Err(FileFault::DamagedRecord(number));
+        }
+        self.is_spent = false;
+        Ok(found)
+    }
+
+    /// Reads the block of a digest, with which its bytes are compared. `None` where there is none.
+    /// `DamagedBlock` where the bytes have another digest.
+    pub fn block(&mut self, digest: Digest) -> Result<Option<Vec<u8>>, FileFault>
+        ensures hashes { IfOk result (λ found. IfSome found (λ b. sha256 b.items ≡ digest)) }
+        ensures found { HasCleanDisk (state S.Store self.new.held) → IfOk result (λ found.
+            IsBlock digest (option_map (λ b. b.items) found)
+            (state S.Store self.old.held).now.trees) }
+        ensures same { HasCleanDisk (state S.Store self.new.held) → OnOk result
+            ((state S.Store self.new.held).now ≡ (state S.Store self.old.held).now) }
+        ensures crash { Survives (state S.Store self.old.held) (state S.Store self.new.held)
+            (λ _. ⊥) }
+        ensures count { self.new.count ≡ self.old.count }
+        ensures unspent { OnOk result (self.new.is_spent ≡ false) }
+    {
+        if self.is_spent {
+            return Err(FileFault::Spent);
+        }
+        self.is_spent = true;
+        let found = find_block(&mut self.connection, digest.as_bytes())?;
+        if let Some(bytes) = &found {
+            if <Sha256 as sha2::Digest>::digest(bytes.as_slice()) != *digest.as_bytes() {
+                return Err(FileFault::DamagedBlock(digest));
+            }
+        }
+        self.is_spent = false;
+        Ok(found)
+    }
+}
