@@ -20,8 +20,8 @@ use su_bytes::Digest;
 pub const MOST_RECORDS: u32 = 100_000;
 
 /// An open file of records, numbered from 0, and of the blocks that they need. Once a call has
-/// failed for the disk, memory or damage it is spent: every later call answers `Spent`, and what
-/// was kept is found by the next open.
+/// failed for the disk or memory, or an append for damage, it is spent: every later call answers
+/// `Spent`, and what was kept is found by the next open.
 #[derive(Drop)]
 pub struct RecordFile<S: Alter> {
     connection: Connection<S>,
@@ -145,10 +145,10 @@ impl<S: Alter> RecordFile<S> {
         }
         self.is_spent = true;
         let found = find_record(&mut self.connection, number)?;
+        self.is_spent = false;
         if found.is_none() && number < self.count {
             return Err(FileFault::DamagedRecord(number));
         }
-        self.is_spent = false;
         Ok(found)
     }
 
@@ -171,12 +171,12 @@ impl<S: Alter> RecordFile<S> {
         }
         self.is_spent = true;
         let found = find_block(&mut self.connection, digest.as_bytes())?;
+        self.is_spent = false;
         if let Some(bytes) = &found {
             if <Sha256 as sha2::Digest>::digest(bytes.as_slice()) != *digest.as_bytes() {
                 return Err(FileFault::DamagedBlock(digest));
             }
         }
-        self.is_spent = false;
         Ok(found)
     }
 }

@@ -52,7 +52,10 @@ fn make_other(rt: &HostRuntime, path: &str) -> Result<(), sqlite::Error> {
 
 fn opens_as(rt: &HostRuntime, path: &str) -> Option<FileFault> {
     match open(rt, path, Unknown) {
-        Ok(_) => None,
+        Ok(file) => {
+            drop(file);
+            None
+        }
         Err(fault) => Some(fault),
     }
 }
