@@ -4,17 +4,12 @@ use sha2::{Digest, Sha256};
 
 // A run that is unlike each other.
 fn run_of(number: u8) -> ChainRun {
-    let value = Sha256::digest([number]);
-    let mut id = [0u8; 16];
-    id.copy_from_slice(&value[..16]);
-    ChainRun {
-        id,
-        leaf: 0x0102_0304 + u32::from(number),
-        chain: 0x0506 + u16::from(number),
-        step: u16::from(number % 100),
-        left: u16::from(number % 50),
-        value,
-    }
+    let mut run = ChainRun::idle();
+    run.leaf = 0x0102_0304 + u32::from(number);
+    run.chain = 0x0506 + u16::from(number);
+    run.step = u16::from(number % 100);
+    run.left = u16::from(number % 50);
+    run
 }
 
 fn end_of(run: &ChainRun) -> [u8; 32] {

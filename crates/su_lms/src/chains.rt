@@ -25,7 +25,8 @@ pub fn set_private_values(
     requires some { 1 ≤ count }
     requires few { length runs.old ≤ 2120 }
     requires leaves { q + length runs.old < 2 ^ 32 }
-    ensures { (k : ℕ) → k < length runs.old → AtPrivateValue id.now seed.now (q + k / count) (k % count) (run_at runs.new k) }
+    ensures { (k : ℕ) → k < length runs.old
+        → AtPrivateValue id.now seed.now (q + k / count) (k % count) (run_at runs.new k) }
 {
     for k in 0..runs.len() {
         runs[k] = ChainRun {
@@ -44,7 +45,8 @@ pub fn set_private_values(
 pub fn run_whole(runs: &mut [ChainRun], ots: u32)
     requires listed { IsOneTimeType ots }
     requires few { length runs.old ≤ 2120 }
-    ensures { (k : ℕ) → k < length runs.old → (run_at runs.new k).value ≡ value_after (run_at runs.old k) (2 ^ width_of ots - 1) }
+    ensures { (k : ℕ) → k < length runs.old
+        → (run_at runs.new k).value ≡ value_after (run_at runs.old k) (2 ^ width_of ots - 1) }
 {
     let last = step_count(ots);
     for k in 0..runs.len() {
@@ -59,7 +61,8 @@ pub fn run_signed(runs: &mut [ChainRun], ots: u32, digits: &[u8; 34])
     requires listed { IsOneTimeType ots }
     requires few { length runs.old ≤ 265 }
     requires count { length runs.old ≡ chain_count ots }
-    ensures { (i : ℕ) → i < length runs.old → (run_at runs.new i).value ≡ value_after (run_at runs.old i) (coef digits.now i (width_of ots)) }
+    ensures { (i : ℕ) → i < length runs.old → (run_at runs.new i).value
+        ≡ value_after (run_at runs.old i) (coef digits.now i (width_of ots)) }
 {
     for i in 0..runs.len() {
         runs[i] = from_start(&runs[i], coef(digits, i as u16, ots));
@@ -94,7 +97,8 @@ pub fn set_signed_values(
     requires few { length runs.old ≤ 265 }
     requires count { length runs.old ≡ chain_count ots }
     requires size { 40 + 32 * chain_count ots ≤ length signature.now }
-    ensures { (i : ℕ) → i < chain_count ots → end_of (run_at runs.new i) ≡ end_from ots id.now (leaf_of signature.now) digits.now i (chain_value_of signature.now i) }
+    ensures { (i : ℕ) → i < chain_count ots → end_of (run_at runs.new i)
+        ≡ end_from ots id.now (leaf_of signature.now) digits.now i (chain_value_of signature.now i) }
 {
     let leaf = number_at(signature, 0);
     let last = step_count(ots);

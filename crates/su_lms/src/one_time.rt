@@ -52,7 +52,8 @@ fn keys_of_ends(ots: u32, id: &[u8; 16], q: u32, ends: &[ChainRun], count: usize
     requires count { count ≡ chain_count ots }
     requires size { length ends.now ≡ 8 * count }
     requires few { count ≤ 265 }
-    ensures { (l : ℕ) → l < 8 → slice_index_or result l [] ≡ hash_of_ends ots id.now (q + l) (λ i. (run_at ends.now (l * count + i)).value) }
+    ensures { (l : ℕ) → l < 8 → slice_index_or result l []
+        ≡ hash_of_ends ots id.now (q + l) (λ i. (run_at ends.now (l * count + i)).value) }
 {
     let mut keys = [[0u8; 32]; 8];
     for l in 0..8usize {
@@ -111,7 +112,8 @@ fn signed_key(
     requires few { length runs.old ≤ 265 }
     requires count { length runs.old ≡ chain_count ots }
     requires size { 40 + 32 * chain_count ots ≤ length signature.now }
-    ensures { result ≡ one_time_key_from ots id.now (leaf_of signature.now) digits.now (chain_value_of signature.now) }
+    ensures { let signature = signature.now in
+        result ≡ one_time_key_from ots id.now (leaf_of signature) digits.now (chain_value_of signature) }
 {
     set_signed_values(runs, ots, id, digits, signature);
     run_chains(runs);

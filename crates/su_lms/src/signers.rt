@@ -200,7 +200,8 @@ fn append_values(
     requires few { length runs.old ≤ 67 }
     requires some { 1 ≤ length runs.old }
     requires room { vec_len out.old + 32 * length runs.old ≤ vec_capacity out.old }
-    ensures items { out.new.items ≡ out.old.items ++ joined (chain_count file.now.params.ots) (signed_value (private_key_of file.now) q digits.now) }
+    ensures items { let key = private_key_of file.now in
+        out.new.items ≡ out.old.items ++ joined (chain_count key.ots) (signed_value key q digits.now) }
     ensures len { vec_len out.new ≡ vec_len out.old + 32 * length runs.old }
     ensures room { vec_capacity out.old ≤ vec_capacity out.new }
 {

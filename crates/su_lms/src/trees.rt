@@ -98,7 +98,8 @@ fn set_eight_leaves(nodes: &mut [[u8; 32]], file: &KeyFile, leaves: u32, q: u32)
     requires small { leaves ≤ 2 ^ 25 }
     requires size { length nodes.old ≡ 2 * leaves }
     requires inside { q + 8 ≤ leaves }
-    ensures set { (r : ℕ) → leaves + q ≤ r → r < leaves + q + 8 → slice_index_or nodes.new r [] ≡ leaf_at (private_key_of file.now) r }
+    ensures set { (r : ℕ) → leaves + q ≤ r → r < leaves + q + 8
+        → slice_index_or nodes.new r [] ≡ leaf_at (private_key_of file.now) r }
     ensures others { (r : ℕ) → r < leaves + q → slice_index_or nodes.new r [] ≡ slice_index_or nodes.old r [] }
 {
     let keys = one_time_keys(file.params.ots, &file.id, &file.seed, q);
