@@ -1,5 +1,5 @@
 -- A record and its blocks, put in one transaction that is committed.
-use Rattle.std.proofs.Common.{◌≡◌, ℕ, List, [], false, IsTrue, sym, ap, subst, ◌∙◌}
+use Rattle.std.proofs.Common.{◌≡◌, ℕ, List, false, sym, ap, subst, ◌∙◌}
 use Rattle.sqlite.specs.Tree.{Trees}
 use Rattle.sqlite.specs.Effect.{Database}
 use Rattle.sqlite.specs.State.{State, Shows}

@@ -1,5 +1,5 @@
 -- What the statement that puts a block does.
-use Rattle.std.proofs.Common.{◌≡◌, IsTrue, arith, inl, inr, ℕ, ℤ, ◌+◌, ◌++◌, ◌<◌, length, map, take, get_or, suc, zero, List, [], ◌∷◌, codes, true, false, None, Option, Ok, Err, Result, OnOk, refl, sym, ap, subst, ◌∙◌}
+use Rattle.std.proofs.Common.{◌≡◌, IsTrue, arith, ℕ, ℤ, ◌+◌, ◌++◌, ◌<◌, length, map, take, get_or, suc, zero, List, [], ◌∷◌, codes, true, false, None, Option, Ok, Err, Result, OnOk, refl, sym, ap, subst, ◌∙◌}
 use Rattle.sqlite.specs.declared.types.Value.TheVariants.{Null, Int, Blob}
 use Rattle.sqlite.specs.Order.{Row}
 use Rattle.sqlite.specs.Term.{Term, lit, col}
@@ -17,7 +17,7 @@ use Rattle.sqlite.specs.declared.run.Mode.{Mode}
 use Rattle.sqlite.specs.Listing.{understood}
 use Rattle.sqlite.specs.Effect.{Database}
 use Rattle.sqlite.specs.State.{State, mode_of, ExecutesInside, IsUnchanged}
-use Rattle.su_store.specs.Kept.{Kept, has_block, with_block}
+use Rattle.su_store.specs.Kept.{with_block}
 use Rattle.su_store.specs.Lookups.{TellsHeld}
 use Rattle.sqlite.proofs.Callers.{IsPlain, command_of, statement_of, runs_as, one_step}
 use Rattle.sha2.specs.Sha256.{sha256}

@@ -1,5 +1,5 @@
 -- What the statement that puts a record does.
-use Rattle.std.proofs.Common.{◌≡◌, ◌<ℤ◌, suc, ◌+◌, ◌++◌, ◌<◌, length, IsTrue, arith, inl, inr, ℕ, pos, List, [], ◌∷◌, codes, false, None, Option, Ok, Err, Result, OnOk, refl, sym, ap, subst, ◌∙◌}
+use Rattle.std.proofs.Common.{◌≡◌, IsTrue, arith, ℕ, pos, List, [], ◌∷◌, codes, None, Option, Ok, Err, Result, OnOk, refl, ap, subst, ◌∙◌}
 use Rattle.sqlite.specs.declared.types.Value.TheVariants.{Null, Int, Blob}
 use Rattle.sqlite.specs.Order.{Row}
 use Rattle.sqlite.specs.Term.{Term, lit, col}

@@ -1,5 +1,5 @@
 -- The rows of numbered items, and the next of them.
-use Rattle.std.proofs.Common.{◌≡◌, ◌<ℤ◌, ◌+ℤ◌, suc, ◌+◌, ◌++◌, ◌<◌, length, arith, ℕ, ℤ, pos, List, [], ◌∷◌, fold, refl, sym, ap, subst, ◌∙◌, add-one}
+use Rattle.std.proofs.Common.{◌≡◌, ◌<ℤ◌, ◌+ℤ◌, suc, ◌+◌, ◌++◌, ◌<◌, length, arith, ℕ, ℤ, pos, List, [], ◌∷◌, fold, sym, ap, subst, ◌∙◌, add-one}
 use Rattle.sqlite.specs.declared.types.Value.TheVariants.{Int}
 use Rattle.sqlite.specs.Order.{Row}
 use Rattle.sqlite_value.specs.Order.{value_cmp}

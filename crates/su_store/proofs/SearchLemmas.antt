@@ -1,10 +1,9 @@
 -- What the statements that look for a block or a record show.
-use Rattle.std.proofs.Common.{◌≡◌, ◌<◌, ◌+◌, ℕ, suc, zero, pos, negsuc, List, [], ◌∷◌, map, codes, Bool, true, false, cond, None, Some, Option, inl, inr, refl, sym, ap, subst, ◌∙◌, arith, filter, nat_eq, slice_get, ◌++◌, eq-eqb, length, ◌≤◌, not, ◌==◌, IsTrue}
+use Rattle.std.proofs.Common.{◌≡◌, ◌<◌, ◌+◌, ℕ, suc, zero, pos, negsuc, List, [], ◌∷◌, map, codes, Bool, true, false, cond, None, Some, Option, inl, inr, refl, sym, ap, subst, ◌∙◌, arith, filter, nat_eq, slice_get, eq-eqb, length, not, ◌==◌}
 use Rattle.std.proofs.lemmas.List.{length-map}
 use Rattle.std.proofs.lemmas.Slice.Eq.{bytes_eq-Decides}
 use Rattle.sqlite_trees.proofs.ListLemmas.{all-permutation}
-use Rattle.std.proofs.lemmas.Bool.Decides.{nat_tests, same_from_decides, Decides-eqb, Decides-at}
-use Rattle.std.specs.Cmp.{signed_Decides}
+use Rattle.std.proofs.lemmas.Bool.Decides.{nat_tests}
 use Rattle.std.specs.Str.{bytes_eq}
 use Rattle.std.specs.Ordering.{int_cmp}
 use Rattle.std.specs.List.{list_any, Contains, AllByRecursion}
@@ -17,7 +16,6 @@ use Rattle.sha2.specs.Sha256.{sha256}
 use Rattle.sqlite_sql.specs.Ops.{binary, is_true, from_truth}
 use Rattle.sqlite_sql.specs.Query.{matches}
 use Rattle.sqlite_value.proofs.OrderLemmas.{value_cmp-Blob, value_cmp-Int}
-use Rattle.sqlite.specs.Tree.{Trees}
 use Rattle.sqlite.specs.declared.types.Value.{Value}
 use Rattle.sqlite.specs.declared.types.Value.TheVariants.{Null, Int, Blob}
 use Rattle.sqlite.specs.Collation.TheVariants.{Binary}

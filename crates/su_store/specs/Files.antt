@@ -4,7 +4,7 @@ use Rattle.std.specs.Coded.{Coded, code_by, coded×, coded_ℕ, coded_bool}
 use Rattle.sqlite.specs.Store.{Ghosts}
 use Rattle.sqlite.specs.Held.{Held, state, held_code}
 use Rattle.sqlite.specs.State.{State, HasCleanDisk}
-use Rattle.su_store.specs.Kept.{Kept, nothing}
+use Rattle.su_store.specs.Kept.{nothing}
 use Rattle.su_store.specs.Tables.{Stands, no_schema, store_schema}
 
 -- the connection, how many records there are, and whether a failed call has spent it

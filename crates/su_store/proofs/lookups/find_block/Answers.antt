@@ -1,7 +1,7 @@
-use Rattle.std.proofs.Common.{List, [], ◌∷◌, pos, arith, option_map}
+use Rattle.std.proofs.Common.{[], ◌∷◌, arith}
 use Rattle.std.proofs.lemmas.Result.{IfOk-weaker}
 use Rattle.sqlite.specs.declared.types.Value.TheVariants.{Blob}
-use Rattle.sqlite.specs.State.{HasCleanDisk, Shown}
+use Rattle.sqlite.specs.State.{Shown}
 use Rattle.sqlite.specs.Held.{state}
 use Rattle.su_store.proofs.Shared.{on_ok}
 use Rattle.su_store.proofs.SearchLemmas.{block_text, block_plain, block_plainly, finds_block, block_found, unchanged, commits_nothing}

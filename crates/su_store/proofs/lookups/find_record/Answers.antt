@@ -1,7 +1,7 @@
-use Rattle.std.proofs.Common.{List, [], ◌∷◌, pos, arith, option_map}
+use Rattle.std.proofs.Common.{[], ◌∷◌, pos, arith}
 use Rattle.std.proofs.lemmas.Result.{IfOk-weaker}
 use Rattle.sqlite.specs.declared.types.Value.TheVariants.{Int}
-use Rattle.sqlite.specs.State.{HasCleanDisk, Shown}
+use Rattle.sqlite.specs.State.{Shown}
 use Rattle.sqlite.specs.Held.{state}
 use Rattle.su_store.proofs.Shared.{on_ok}
 use Rattle.su_store.proofs.SearchLemmas.{record_text, record_plain, record_plainly, finds_record, record_found, unchanged, commits_nothing}

@@ -1,6 +1,6 @@
-use Rattle.std.proofs.Common.{List, [], ◌∷◌, arith}
+use Rattle.std.proofs.Common.{[], ◌∷◌, arith}
 use Rattle.sqlite.specs.declared.types.Value.TheVariants.{Blob}
-use Rattle.sqlite.specs.State.{HasCleanDisk, Shown}
+use Rattle.sqlite.specs.State.{Shown}
 use Rattle.sqlite.specs.Held.{state}
 use Rattle.su_store.proofs.SearchLemmas.{block_text, block_plain, finds_block, tells, unchanged}
 use Rattle.su_store.proofs.lookups.is_held.Goals as goal

@@ -1,8 +1,6 @@
-use Rattle.std.proofs.Common.{◌≡◌, arith, rules, sym, subst, true, false}
-use Rattle.sha2.specs.Sha256.{sha256}
+use Rattle.std.proofs.Common.{◌≡◌, arith, rules, true, false}
 use Rattle.sqlite.specs.State.{HasCleanDisk}
 use Rattle.sqlite.specs.Held.{state}
-use Rattle.su_store.specs.Lookups.{TellsHeld}
 use Rattle.su_store.proofs.BlockLemmas.{holds_there, holds_new}
 use Rattle.su_store.proofs.records.hold_block.Goals as goal
 

@@ -1,4 +1,4 @@
-use Rattle.std.proofs.Common.{◌≡◌, ◌+◌, ◌<◌, arith, refl, sym, ap, subst, ◌∙◌, add-one, length, map, take}
+use Rattle.std.proofs.Common.{◌<◌, arith, refl, sym, ap, subst, ◌∙◌, add-one, length, map, take}
 use Rattle.sqlite.specs.State.{HasCleanDisk}
 use Rattle.sqlite.specs.Held.{state}
 use Rattle.su_store.specs.Changes.{HoldsBlocks, MakesInside}
