@@ -1,0 +1,25 @@
+// A keeper for a server that serves from memory.
+use crate::keepers::{Keeper, NotKept};
+use std::alloc::Global;
+
+/// Keeps nothing that outlasts the process, and never fails.
+#[derive(Clone, Copy, Debug, Drop, PartialEq, Eq)]
+pub struct Forgetful;
+
+impl Keeper for Forgetful {
+    ghost holds = { λ _ _. Unit {0} };
+
+    ghost is_at_end = { λ _. Unit {0} };
+
+    ghost may_fail = { ⊥ };
+
+    fn keep(&mut self, _alloc: Global, _commit: &[u8]) -> Result<(), NotKept> {
+        Ok(())
+    }
+
+    fn next(&mut self, _alloc: Global) -> Result<Option<Vec<u8>>, NotKept> {
+        Ok(None)
+    }
+
+    fn stop(&mut self) {}
+}

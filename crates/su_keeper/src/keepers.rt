@@ -1,0 +1,44 @@
+// What a keeper promises.
+ghost use Rattle.std.specs.Prelude.{◌≡◌, ◌∷◌, ◌++◌, List, ℕ, [], None, IfOk, OnOk, OnErr};
+
+use std::alloc::Global;
+
+/// A record couldn't be kept, or what is kept couldn't be read. What a keeper says of it, it says
+/// by itself.
+#[derive(Clone, Copy, Debug, PartialEq, Eq)]
+pub struct NotKept;
+
+/// Keeps the records of a book, one after another, so that they outlast the process. Those that it
+/// finds from an earlier process stand behind each other, and are kept anew one by one, before
+/// others come.
+pub trait Keeper: Drop {
+    // It keeps these records, the first of all that it keeps, whatever becomes of the process.
+    ghost holds: { Self → List (List ℕ) → Type 0 };
+
+    // It keeps no others than those that were kept since the process began.
+    ghost is_at_end: { Self → Type 0 };
+
+    // Whether it can fail at all is a matter of its type.
+    ghost may_fail: { Type 0 };
+
+    /// Keeps one more record behind those that it holds. Where it found one there, this has to be
+    /// that one. After a failure it keeps no more.
+    fn keep(&mut self, alloc: Global, commit: &[u8]) -> Result<(), NotKept>
+        ensures kept { (records : List (List ℕ)) → holds self.old records
+            → OnOk result (holds self.new (records ++ commit.now ∷ [])) }
+        ensures held { (records : List (List ℕ)) → holds self.old records
+            → OnErr result (holds self.new records) }
+        ensures failed { OnErr result may_fail };
+
+    /// Reads the record that it found behind those that it holds, if there is one.
+    fn next(&mut self, alloc: Global) -> Result<Option<Vec<u8>>, NotKept>
+        ensures held { (records : List (List ℕ)) → holds self.old records
+            → holds self.new records }
+        ensures end { IfOk result (λ found. found ≡ None → is_at_end self.new) }
+        ensures failed { OnErr result may_fail };
+
+    /// Keeps no more from now on. The last record that was kept need not stand in the book.
+    fn stop(&mut self)
+        ensures held { (records : List (List ℕ)) (last : List ℕ)
+            → holds self.old (records ++ last ∷ []) → holds self.new records };
+}
