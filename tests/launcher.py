@@ -16,6 +16,7 @@ TOP = os.path.dirname(os.path.dirname(os.path.abspath(__file__)))
 # Of a crate it prints what rt prints; `rt run` writes the program, which has the first line of the source in it.
 RT = r"""#!/usr/bin/env bash
 echo "$1 $(basename "$PWD")" >> "$CALLS"
+[ "$1" != run ] || echo "$*" > "$CALLS.run"
 echo "so far: 3 of 7 functions checked"
 sleep "${RT_SLEEPS:-0}"
 [ ! -e ../../refuse ] || { echo "error: not proved"; exit 1; }
@@ -71,12 +72,21 @@ class Tree:
         return lines
 
 
+def has_v3():
+    """Whether this machine's processor has what x86-64-v3 asks for."""
+    with open("/proc/cpuinfo", encoding="utf-8") as file:
+        flags = next((line.split() for line in file if line.startswith("flags")), [])
+    return {"avx2", "bmi1", "bmi2", "fma", "f16c", "movbe", "abm"} <= set(flags)
+
+
 ALL = ["lib low", "lib middle", "run sundr"]
 
 
 def first_run(tree):
     printed, told, status = tree.run("desk", "a  b", given="in\n")
     yield "builds_at_first", tree.calls() == ALL
+    with open(f"{tree.calls_file}.run", encoding="utf-8") as file:
+        yield "builds_for_the_processor", (" --cpu x86-64-v3 -- " in file.read()) == has_v3()
     yield "prints_what_the_program_prints", (printed, status) == ("first: desk a  b\nin\n", 7)
     yield "tells_how_far_it_is", "sundr: proving middle, crate 2 of 3: 3 of 7 functions, minute 0" in told
     printed, told, status = tree.run("desk")

@@ -37,7 +37,7 @@ def arguments():
     keygen.add_argument("--width", type=int, choices=(4, 8), required=True)
     serve = programs.add_parser("serve")
     for name, last in (("port", 65535), ("workers", 16), ("capacity", 1000000), ("sessions", 1000000)):
-        serve.add_argument(f"--{name}", type=in_range(1, last), required=True)
+        serve.add_argument(f"--{name}", type=in_range(1, last), required=name != "sessions")
     client = programs.add_parser("client")
     client.add_argument("--port", type=in_range(1, 65535), required=True)
     client.add_argument("--user", type=in_range(0, 63), required=True)

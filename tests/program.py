@@ -59,7 +59,7 @@ CASES = {
     "help": (["--help"], "", ("desk", "keygen", "audit", "serve", "client"), 0),
     "help_of_the_desk": (["desk", "--help"], "", ("undo_last", "--users"), 0),
     "help_of_keys": (["keygen", "--help"], "", ("--entropy <FILE>",), 0),
-    "help_of_the_server": (["serve", "--help"], "", ("--port", "--workers", "--capacity", "--sessions"), 0),
+    "help_of_the_server": (["serve", "--help"], "", ("--port", "--workers", "--capacity", "--sessions", "--store"), 0),
     "help_of_the_client": (["client", "--help"], "", ("undo_last", "save FILE", "--user", "--key", "--log", "--tries"), 0),
     "version": (["-V"], "", "sundr 0.1.0\n", 0),
 }

@@ -1,5 +1,5 @@
 -- What a command line says.
-use Rattle.std.specs.Prelude.{⊤, length}
+use Rattle.std.specs.Prelude.{⊤, length, IfSome}
 use Rattle.su_lms.specs.ParameterSets.{CanBeMade}
 use Rattle.su_arguments.specs.declared.line.Line.{Line}
 use Rattle.su_arguments.specs.declared.line.Line.TheVariants.{Desk, Keygen, Audit, Serve, Client, Text}
@@ -12,8 +12,8 @@ abbrev pub HasGoodNumbers : Line → Type 0
 HasGoodNumbers (Desk users) = IsUserCount users
 HasGoodNumbers (Keygen entropy out params) = CanBeMade params.lms params.ots
 HasGoodNumbers (Audit log keys) = IsUserCount (length keys.items)
-HasGoodNumbers (Serve port workers capacity sessions keys) =
-    IsPort port × IsWorkerCount workers × IsCapacity capacity × IsSessionCount sessions
+HasGoodNumbers (Serve port workers capacity sessions store keys) =
+    IsPort port × IsWorkerCount workers × IsCapacity capacity × IfSome sessions IsSessionCount
     × IsUserCount (length keys.items)
 HasGoodNumbers (Client port user key log tries keys) =
     IsPort port × IsUser user × IsTryCount tries × IsUserCount (length keys.items)

@@ -2,7 +2,7 @@
 
 /// The version, and the kit that proved it (`rt version`).
 pub const LONG_VERSION: &str = "0.1.0
-proved with rattle-kit-13b logic dac8208d650f15bf";
+proved with rattle-kit-13f logic dac8208d650f15bf";
 
 pub const ABOUT: &str = "A shared file store of which each operation can be undone
 
@@ -100,17 +100,21 @@ Refusals:
 pub const SERVE_ABOUT: &str = "Serves a shared folder to the users with these public keys
 
 It stores their commits, in order, each signed by its author, and the items that
-these name. All is kept in memory: with its end it is gone, but for what clients
-saved. The keys are those of the users 0, 1 and so on; group 0 has all of them,
-group 1 has user 0. So
+these name. The keys are those of the users 0, 1 and so on; group 0 has all of
+them, group 1 has user 0. So
 
-    sundr serve --port 7000 --workers 4 --capacity 1000 --sessions 20 \\
+    sundr serve --port 7000 --workers 4 --capacity 100000 --store folder \\
         0.pub 1.pub
 
-serves 20 connections, four at a time, and ends. It listens on all addresses of
-this machine. Whoever connects can read, and can take the turn: a session that
-takes it and then says nothing keeps it, and its worker, until it ends. Standard
-error tells when it listens, and at its end what it served.";
+serves four connections at a time until it is ended (^C), keeps what it stores
+in the folder `folder`, and goes on from there when it is started again. A
+commit is on the disk before anybody is told of it. Without --store all is kept
+in memory: with its end it is gone, but for what clients saved.
+
+It listens on all addresses of this machine. Whoever connects can read, and can
+take the turn: a session that takes it and then says nothing keeps it, and its
+worker, until it ends. Standard error tells when it listens, and at its end what
+it served.";
 
 pub const CLIENT_ABOUT: &str = "Runs a script from standard input against a server, and answers it
 

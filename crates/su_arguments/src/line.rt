@@ -34,13 +34,15 @@ pub enum Line {
         log: String,
         keys: Vec<String>,
     },
-    /// Serves so many sessions, 1 to 1,000,000, on a port, 1 to 65535, by 1 to 16 workers, over a
-    /// book of 1 to 1,000,000 commits of users with the public keys in these files, 1 to 64 of them.
+    /// Serves sessions on a port, 1 to 65535, by 1 to 16 workers, over a book of 1 to 1,000,000
+    /// commits of users with the public keys in these files, 1 to 64 of them: so many sessions, 1 to
+    /// 1,000,000, or until it is ended. What is stored is kept in a folder, or in memory alone.
     Serve {
         port: u16,
         workers: usize,
         capacity: u64,
-        sessions: u32,
+        sessions: Option<u32>,
+        store: Option<String>,
         keys: Vec<String>,
     },
     /// Runs a script for a user, 0 to 63, with the key in a file, at the server on a port, 1 to

@@ -9,6 +9,9 @@ use crate::options::{copy, keys_of, needed, needed_keys, usage};
 use clap::{Arg, ArgMatches, Command};
 use std::alloc::{AllocError, Global};
 
+/// How many commits a server with a store keeps at most: those of one file of it.
+const MOST_STORED: u64 = 100_000;
+
 pub(crate) fn serve_command<'a>(alloc: Global) -> Result<Command<'a>, AllocError> {
     let port = needed_port(alloc).help("The port that it listens on, 1 to 65535");
     let workers = needed(alloc, "workers", "W")
@@ -17,9 +20,15 @@ pub(crate) fn serve_command<'a>(alloc: Global) -> Result<Command<'a>, AllocError
     let capacity = needed(alloc, "capacity", "C")
         .value_parser(clap::value_parser!(u64).range(1..1_000_001))
         .help("How many commits it keeps, 1 to 1,000,000");
-    let sessions = needed(alloc, "sessions", "N")
+    let sessions = Arg::new(alloc, "sessions")
+        .long("sessions")
+        .value_name("N")
         .value_parser(clap::value_parser!(u32).range(1..1_000_001))
-        .help("How many sessions it serves until it ends, 1 to 1,000,000");
+        .help("It ends after so many sessions, 1 to 1,000,000; else when it is ended");
+    let store = Arg::new(alloc, "store")
+        .long("store")
+        .value_name("DIR")
+        .help("The folder in which it keeps all that is stored, up to 100,000 commits");
     Command::new(alloc, "serve")
         .about("Serves a shared folder")
         .long_about(SERVE_ABOUT)
@@ -27,6 +36,7 @@ pub(crate) fn serve_command<'a>(alloc: Global) -> Result<Command<'a>, AllocError
         .arg(workers)?
         .arg(capacity)?
         .arg(sessions)?
+        .arg(store)?
         .arg(needed_keys(alloc))
 }
 
@@ -63,27 +73,34 @@ fn needed_port<'a>(alloc: Global) -> Arg<'a> {
     needed(alloc, "port", "P").value_parser(clap::value_parser!(u16).range(1..65_536))
 }
 
-/// `serve --port P --workers W --capacity C --sessions N PUB..`
+/// `serve --port P --workers W --capacity C [--sessions N] [--store DIR] PUB..`
 pub(crate) fn serve_of(alloc: Global, values: &ArgMatches<'_>) -> Result<Line, LineFault>
     ensures { IfOk result HasGoodNumbers }
 {
-    let (Some(port), Some(workers), Some(capacity), Some(sessions)) = (
+    let (Some(port), Some(workers), Some(capacity)) = (
         port_of(values),
         workers_of(values),
         capacity_of(values),
-        sessions_of(values),
     ) else {
         return Err(usage(
             alloc,
             "error: an option is missing, or its number out of range",
         ));
     };
+    let store = copy(alloc, values.get_str("store"))?;
+    if store.is_some() && MOST_STORED < capacity {
+        return Err(usage(
+            alloc,
+            "error: with --store a server keeps at most 100,000 commits",
+        ));
+    }
     let keys = keys_of(alloc, values)?;
     Ok(Line::Serve {
         port,
         workers,
         capacity,
-        sessions,
+        sessions: sessions_of(values),
+        store,
         keys,
     })
 }

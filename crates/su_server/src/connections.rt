@@ -2,18 +2,25 @@
 ghost use Rattle.std.specs.Prelude.{◌≡◌};
 ghost use Rattle.std.specs.Iterator.{at_most};
 
+use crate::stops::{Stop, Watched};
 use std::io;
 use std::net::{OpenListener, OpenStream};
+use std::time::Duration;
 use su_serve::Duplex;
 
 /// How many connections in a row may fail before no more are awaited.
 pub const MOST_FAILURES: u32 = 1000;
 
+/// How long a read waits for bytes before it looks whether the server is to end.
+const LOOKS_AFTER: Duration = Duration::from_millis(500);
+
 /// The connections that a listener is offered, as sessions: so many, and then no more. What fails
-/// while it is accepted is no session; after `MOST_FAILURES` such failures in a row no more come.
+/// while it is accepted is no session; after `MOST_FAILURES` such failures in a row no more come,
+/// nor once the server is to end.
 #[derive(Drop)]
 pub struct Connections<'a, L> {
     listener: &'a L,
+    stop: &'a Stop,
     left: u32,
 }
 
@@ -22,21 +29,23 @@ where
     L::Stream: OpenStream,
 {
     /// Makes the sessions of the next `count` connections.
-    pub fn new(listener: &'a L, count: u32) -> Connections<'a, L>
+    pub fn new(listener: &'a L, stop: &'a Stop, count: u32) -> Connections<'a, L>
         ensures { result.left ≡ count }
     {
         Connections {
             listener,
+            stop,
             left: count,
         }
     }
 
     /// Waits for the next connection. Small replies leave at once, and the two ends of a session
     /// are two handles of one stream.
-    fn accept(&self) -> io::Result<Duplex<L::Stream, L::Stream>> {
+    fn accept(&self) -> io::Result<Duplex<Watched<'a, L::Stream>, L::Stream>> {
         let (writer, _peer) = self.listener.accept()?;
         writer.set_nodelay(true)?;
-        let reader = writer.try_clone()?;
+        writer.set_read_timeout(Some(LOOKS_AFTER))?;
+        let reader = Watched::new(writer.try_clone()?, self.stop);
         Ok(Duplex { reader, writer })
     }
 }
@@ -45,17 +54,21 @@ impl<'a, L: OpenListener> Iterator for Connections<'a, L>
 where
     L::Stream: OpenStream,
 {
-    type Item = Duplex<L::Stream, L::Stream>;
+    type Item = Duplex<Watched<'a, L::Stream>, L::Stream>;
 
     ghost remaining = { λ s. at_most s.left };
 
-    fn next(&mut self) -> Option<Duplex<L::Stream, L::Stream>> {
+    fn next(&mut self) -> Option<Duplex<Watched<'a, L::Stream>, L::Stream>> {
         if self.left == 0 {
             return None;
         }
         self.left -= 1;
         for _ in 0..MOST_FAILURES {
-            if let Ok(link) = self.accept() {
+            let accepted = self.accept();
+            if self.stop.is_set() {
+                break;
+            }
+            if let Ok(link) = accepted {
                 return Some(link);
             }
         }

@@ -3,9 +3,11 @@
 
 mod connections;
 mod servers;
+mod stops;
 
 pub use connections::{Connections, MOST_FAILURES};
 pub use servers::{Report, serve_book};
+pub use stops::{Stop, Stopping, Watched};
 
 #[cfg(test)]
 mod tests;

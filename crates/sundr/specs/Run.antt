@@ -44,7 +44,7 @@ CarriesOut (Keygen entropy out params) input before after status =
     PrintsUnlessFault (IsPublicLine params) before after status
 CarriesOut (Audit log keys) input before after status =
     PrintsUnlessFault IsTakenLine before after status
-CarriesOut (Serve port workers capacity sessions keys) input before after status =
+CarriesOut (Serve port workers capacity sessions store keys) input before after status =
     (after ≡ Some before) × (status ≢ BadLine)
 CarriesOut (Client port user key log tries keys) input before after status =
     AddsUnlessFault before after status

@@ -91,8 +91,18 @@ where
             workers,
             capacity,
             sessions,
+            store,
             keys,
-        } => serve(rt, host, port, workers, capacity, sessions, keys.as_slice()),
+        } => {
+            let options = su_serving::Options {
+                port,
+                workers,
+                capacity,
+                sessions,
+                store: store.as_ref().map(|folder| folder.as_str()),
+            };
+            serve(rt, host, options, keys.as_slice())
+        }
         Line::Client {
             port,
             user,

@@ -1,0 +1,231 @@
+// Serving a shared folder at a port.
+ghost use Rattle.std.specs.Prelude.{◌≡◌, false, []};
+ghost use Rattle.sqlite.specs.State.{HasCleanDisk};
+ghost use Rattle.sqlite.specs.Files.{file_state, over_files};
+ghost use Rattle.su_store.specs.Files.{IsAtRest};
+
+use crate::doors::Door;
+use crate::guards::Guard;
+use crate::stores::{DiskFile, open_file};
+use std::fmt::Display;
+use std::marker::Brand;
+use std::net::{Ipv4Addr, Net, TcpListener, TcpStream};
+use std::sync::Wait;
+use std::thread::Threads;
+use su_archive::{Archive, ArchiveName};
+use su_bytes::Roster;
+use su_keeper::{Forgetful, Keeper};
+use su_server::{Connections, Report, Stop, serve_book};
+use su_session::End;
+use su_shards::SharedBlocks;
+use su_shared::BookFault;
+use su_store::RecordFile;
+
+/// The name of a store's file in its folder.
+const FILE: &str = "records.db";
+
+/// What a server is asked for: its port, how many workers it has and commits it may store, after
+/// how many sessions it ends, if so, and the folder in which it keeps what is stored, if there is
+/// one.
+#[derive(Clone, Copy)]
+pub struct Options<'a> {
+    pub port: u16,
+    pub workers: usize,
+    pub capacity: u64,
+    pub sessions: Option<u32>,
+    pub store: Option<&'a str>,
+}
+
+/// Serves the sessions of a port over a book for the users of a roster, and returns whether it ended
+/// without a fault. With a store the book goes on from what is kept there, and each commit is on the
+/// disk before anybody is told of it. Standard error tells when it listens, what it served, and each
+/// fault: of the store's file, of the port, of a record that isn't taken up again, of a commit that
+/// couldn't be kept, after which it ends, and where fewer connections came than were asked for.
+pub fn serve<T>(rt: &HostRuntime, host: &T, options: Options<'_>, roster: Roster) -> bool
+where
+    T: Net<Listener = TcpListener, Stream = TcpStream> + Threads + Wait + Sync,
+{
+    let Ok(blocks) = SharedBlocks::new(rt.alloc()) else {
+        return tell_fault(rt, "out of memory");
+    };
+    let stop = Stop::new();
+    match options.store {
+        Some(folder) => serve_kept(rt, host, options, roster, &blocks, &stop, folder),
+        None => {
+            let (good, _) = serve_over(rt, host, options, roster, &blocks, &stop, Forgetful);
+            good
+        }
+    }
+}
+
+/// Serves over what is kept in a folder.
+fn serve_kept<T>(
+    rt: &HostRuntime,
+    host: &T,
+    options: Options<'_>,
+    roster: Roster,
+    blocks: &SharedBlocks,
+    stop: &Stop,
+    folder: &str,
+) -> bool
+where
+    T: Net<Listener = TcpListener, Stream = TcpStream> + Threads + Wait + Sync,
+{
+    let Ok(path) = format!(in rt.alloc(); "{folder}/{FILE}") else {
+        return tell_fault(rt, "out of memory");
+    };
+    match open_file(rt, folder, path.as_str()) {
+        Ok(file) => {
+            let over = Folder {
+                blocks,
+                stop,
+                path: path.as_str(),
+            };
+            serve_named::<Brand, T>(rt, host, options, roster, over, file)
+        }
+        Err(fault) => tell_fault(rt, format_args!("{path}: {fault}")),
+    }
+}
+
+/// What a server with a store shares: its items, whether it is to end, and where its file is.
+#[derive(Clone, Copy)]
+struct Folder<'a> {
+    blocks: &'a SharedBlocks,
+    stop: &'a Stop,
+    path: &'a str,
+}
+
+/// The same, over a file whose tables have this name. In the end all is copied from the log into
+/// the file.
+fn serve_named<N, T>(
+    rt: &HostRuntime,
+    host: &T,
+    options: Options<'_>,
+    roster: Roster,
+    over: Folder<'_>,
+    file: RecordFile<DiskFile>,
+) -> bool
+where
+    N: ArchiveName + Send,
+    T: Net<Listener = TcpListener, Stream = TcpStream> + Threads + Wait + Sync,
+    requires named { N.found ≡ (file_state file.held).now.trees }
+    requires rest { HasCleanDisk (file_state file.held) → IsAtRest over_files file }
+{
+    let Folder { blocks, stop, path } = over;
+    let archive: Archive<'_, N, DiskFile, T> = Archive::new(host, file, blocks);
+    let guard = Guard::new(rt, archive, path, stop);
+    let (good, keeper) = serve_over(rt, host, options, roster, blocks, stop, guard);
+    let Some(guard) = keeper else {
+        return good;
+    };
+    if stop.is_set() {
+        return false;
+    }
+    match guard.into_keeper().into_file().close() {
+        Ok(_files) => good,
+        Err(fault) => tell_fault(rt, format_args!("{path}: {fault}")),
+    }
+}
+
+/// Serves over a new book with this keeper, which is handed back unless the book was refused.
+fn serve_over<K, T>(
+    rt: &HostRuntime,
+    host: &T,
+    options: Options<'_>,
+    roster: Roster,
+    blocks: &SharedBlocks,
+    stop: &Stop,
+    keeper: K,
+) -> (bool, Option<K>)
+where
+    K: Keeper + Send,
+    T: Net<Listener = TcpListener, Stream = TcpStream> + Threads + Wait + Sync,
+    requires { K.holds keeper [] }
+{
+    let port = options.port;
+    let listener = match TcpListener::bind(host, (Ipv4Addr::UNSPECIFIED, port)) {
+        Ok(listener) => listener,
+        Err(reason) => {
+            let fault = format_args!("listening on port {port}: {reason}");
+            return (tell_fault(rt, fault), Some(keeper));
+        }
+    };
+    let sessions = options.sessions;
+    let connections = Connections::new(&listener, stop, sessions.unwrap_or(u32::MAX));
+    let door = Door {
+        rt,
+        host,
+        stop,
+        port,
+        sessions,
+    };
+    match serve_book(
+        host,
+        rt.alloc(),
+        connections,
+        options.workers,
+        options.capacity,
+        roster,
+        blocks,
+        keeper,
+        &door,
+    ) {
+        Ok(report) => {
+            let all_came = tell_report(rt, sessions, &report);
+            let good = all_came && !stop.is_set();
+            if !all_came && !stop.is_set() {
+                tell_fault(rt, "connections could not be accepted");
+            }
+            (good, Some(report.closed.keeper))
+        }
+        Err(fault) => (tell_book(rt, stop, &fault), None),
+    }
+}
+
+/// Tells on standard error why a book isn't opened, unless its keeper told it.
+fn tell_book(rt: &HostRuntime, stop: &Stop, fault: &BookFault) -> bool {
+    if stop.is_set() {
+        return false;
+    }
+    match fault {
+        BookFault::Refused(refusal) => tell_fault(rt, format_args!("serving: {refusal}")),
+        BookFault::Record(number, refusal) => {
+            let fault = format_args!(
+                "record {number} of the store is refused, so it is not this roster's, or it is \
+                 damaged, or the capacity is too small: {refusal}"
+            );
+            tell_fault(rt, fault)
+        }
+    }
+}
+
+/// Tells on standard error what was served, and returns whether all sessions came.
+fn tell_report<K>(rt: &HostRuntime, sessions: Option<u32>, report: &Report<K>) -> bool {
+    let served = &report.sessions;
+    let failed = served.iter().filter(|one| one.end_ != End::Closed).count();
+    let answered = answered_in(report);
+    let count = served.len();
+    let records = report.closed.records;
+    let _ = eprintln!(rt;
+        "sundr: served {count} sessions, of which {failed} ended by a fault: {answered} requests \
+         answered, {records} commits stored"
+    );
+    count == sessions.unwrap_or(u32::MAX) as usize
+}
+
+/// Counts the requests that were answered in all sessions.
+fn answered_in<K>(report: &Report<K>) -> u64 {
+    let mut answered = 0u64;
+    for served in &report.sessions {
+        answered = answered.saturating_add(served.answered);
+    }
+    answered
+}
+
+/// Tells a fault on standard error, in a line of its own; a server with one doesn't end well.
+fn tell_fault<F: Display + Drop>(rt: &HostRuntime, fault: F) -> bool
+    ensures { result ≡ false }
+{
+    let _ = eprintln!(rt; "sundr: {fault}");
+    false
+}
