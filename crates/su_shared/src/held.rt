@@ -326,9 +326,9 @@ fn store<N: BookName, K: Keeper>(
     let Ok(entry) = Box::new(alloc, Record::new(*number, bytes, commit)) else {
         return Err(Refusal::NoMemory);
     };
-    if keeper.keep(alloc, entry.bytes()).is_err() {
+    let Ok(()) = keeper.keep(alloc, entry.bytes()) else {
         return Err(Refusal::SourceFailed);
-    }
+    };
     let Ok(receipt) = cells.publish(keeper, entry) else {
         keeper.stop();
         return Err(Refusal::BookFull);
