@@ -1,6 +1,7 @@
 -- What one more step does to what the lock keeps.
 use Rattle.std.proofs.Common.{◌≡◌, ◌≢◌, ℕ, zero, suc, ◌+◌, ◌-◌, ◌<◌, ◌≤◌, ◌==◌, true, false, cond, List, [], ◌∷◌, ◌++◌, length, map, Option, Some, None, get_or, refl, ap, sym, ◌∙◌, subst, arith, inl, inr, slice_get, length-append, MatchOption, get_or-set_other, option_to_list}
 use Rattle.std.proofs.Math.ListN.{set}
+use Rattle.std.proofs.Math.Logic.{∥∥₁_map}
 use Rattle.std.proofs.lemmas.List.{append-nil, get_or_default, map-append}
 use Rattle.std.proofs.lemmas.List.Sums.{sum_by-set, get_or-le-sum_by}
 use Rattle.std.proofs.lemmas.Bool.{cases_eq}
@@ -19,7 +20,7 @@ use Rattle.su_book.specs.Machine.{BookState, MayAct, Asks, Tells, with_step, sto
 use Rattle.su_book.proofs.Public.{run_push, records_push}
 use Rattle.su_shared.specs.declared.cells.Record.{Record}
 use Rattle.su_shared.specs.declared.seats.Kept.{Kept}
-use Rattle.su_shared.specs.Shares.{IsHeld, nothing, after_grant, after_commit, kept_after, kept_by, kept_from, kept_of, numbered, run_records, record_bytes, IsStorable, last_of, receipt_for, Gives}
+use Rattle.su_shared.specs.Shares.{IsHeld, nothing, after_grant, after_commit, kept_after, kept_by, kept_from, kept_of, numbered, run_records, record_bytes, HoldsLast, last_of, receipt_for, Gives}
 
 abbrev pub step_of : ℕ → Act → Step
 step_of seat act = record { seat = seat; act = act }
@@ -217,13 +218,13 @@ gives b seat e act r asks may tells =
 
 -- ---- what a keeper holds
 
--- of what was asked for, only a commit is stored
-pub storable : (b : BookState) (seat : ℕ) (e : Event) (act : Act) → Asks e act → MayAct b seat act → e ≢ event.Grant → e ≢ event.Give → IsStorable b seat e
-storable b seat event.Grant act asks may grant give = absurd (grant refl)
-storable b seat event.Give act asks may grant give = absurd (give refl)
-storable b seat (event.Commit bytes) (Granted n) asks may grant give = absurd asks
-storable b seat (event.Commit bytes) (Stored n c) asks may grant give = (n, c, asks, may)
-storable b seat (event.Commit bytes) Given asks may grant give = absurd asks
+-- what was just kept is held last
+pub kept_last : {K : Type 0} (holds : K → List (List ℕ) → Type 0) (old new : K) (bytes kept : List ℕ) → (records : List (List ℕ)) × ∥ holds old records ∥₁
+    → ((records : List (List ℕ)) → holds old records → holds new (records ++ kept ∷ [])) → kept ≡ bytes → HoldsLast holds new bytes
+kept_last holds old new bytes kept (records, held) keeps same = record {
+  earlier = records;
+  held = ∥∥₁_map held (λ h. subst (λ (b : List ℕ). holds new (records ++ b ∷ [])) same (keeps records h));
+}
 
 -- the keeper that kept what the act stores holds the records after it
 module _ {K : Type 0} (holds : K → List (List ℕ) → Type 0) (old new : K) (j : List Step) (seat : ℕ) where

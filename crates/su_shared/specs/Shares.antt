@@ -76,9 +76,10 @@ abbrev pub record_bytes : List Step → List (List ℕ)
 record_bytes steps = map commit_bytes (records_of steps)
 
 -- the keeper holds these bytes behind all others that it holds
-abbrev pub HoldsLast : {K : Type 0} → (K → List (List ℕ) → Type 0) → K → List ℕ → Type 0
-HoldsLast holds keeper bytes =
-    (earlier : List (List ℕ)) × ∥ holds keeper (earlier ++ bytes ∷ []) ∥₁
+pub record HoldsLast {K : Type 0} (holds : K → List (List ℕ) → Type 0) (keeper : K) (bytes : List ℕ)
+    : Type 0 where
+  pub earlier : List (List ℕ)
+  pub held : ∥ holds keeper (earlier ++ bytes ∷ []) ∥₁
 
 abbrev pub last_of : {X : Type 0} → List X → Option X
 last_of xs = if length xs == 0 then None else slice_get xs (length xs - 1)

@@ -14,9 +14,9 @@ use once_cell::race::{Note, OnceBox};
 use std::alloc::{AllocError, Global};
 use std::marker::{Brand, Model};
 use std::sync::ledger::Ledger;
-use su_keeper::Keeper;
 use su_book::{HashedCommit, MOST_RECORDS};
 use su_bytes::{Digest, Refusal, User};
+use su_keeper::Keeper;
 
 /// A record of the book: the bytes of a commit, with its number, from 1, and what is asked of it
 /// often. Its model is the number and the bytes.

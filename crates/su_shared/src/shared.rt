@@ -166,9 +166,7 @@ impl<N: BookName, K: Keeper> SharedBook<N, K> {
         let locked = &mut *self.locked.lock(rt);
         let keeper = &mut locked.keeper;
         let commit = Event::Commit(bytes);
-        let (reply, receipt) = locked
-            .held
-            .step(alloc, &self.cells, keeper, seat, commit)?;
+        let (reply, receipt) = locked.held.step(alloc, &self.cells, keeper, seat, commit)?;
         let BookReply::Stored { number } = reply else {
             unreachable!()
         };

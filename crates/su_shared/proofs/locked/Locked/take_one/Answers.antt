@@ -1,4 +1,4 @@
-use Rattle.std.proofs.Common.{◌≡◌, ◌∙◌, ℕ, ap, refl, sym, subst, inr, arith}
+use Rattle.std.proofs.Common.{◌≡◌, ◌∙◌, ℕ, ap, refl, subst, inr, arith}
 use Rattle.std.proofs.Math.Logic.{∥∥₁_map}
 use Rattle.std.proofs.lemmas.Result.{err_from_is_err_and}
 use Rattle.su_bytes.specs.declared.refusals.Refusal.{Refusal}
@@ -43,9 +43,13 @@ returns-clause-taken g c =
     let number : c.step.new.seat.number ≡ c.args.seat.now.number = ap (λ (s : SeatView). s.number) c.in_ok-step.ensures.seat in
     let between : BookState = c.step.new.self.book in
     let after : BookState = c.step-2.new.self.book in
-    let stored = subst (λ (r : BookReply). Stepped between c.step.new.seat.number (event.Commit c.in-Some.bytes) after r) c.in-Stored.is c.in_ok-reply.ensures.book in
-    (between, c.in_ok-step.field-0-0, c.in-Some.bytes, c.in_ok-step.ensures.book,
-    subst (λ (n : ℕ). Stepped between n (event.Commit c.in-Some.bytes) after (reply.Stored c.in-Stored.number)) number stored)
+    let stored = subst (λ (r : BookReply). Stepped between c.step.new.seat.number (event.Commit c.in-Some.bytes) after r) c.in-Stored.is c.in_ok-reply.ensures.book in (
+      between,
+      c.in_ok-step.field-0-0,
+      c.in-Some.bytes,
+      c.in_ok-step.ensures.book,
+      subst (λ (n : ℕ). Stepped between n (event.Commit c.in-Some.bytes) after (reply.Stored c.in-Stored.number)) number stored,
+    )
 
 pub returns-clause-count : goal.returns-clause-count
 returns-clause-count g c =
