@@ -1,7 +1,8 @@
 -- What one more step does to what the lock keeps.
-use Rattle.std.proofs.Common.{◌≡◌, ◌≢◌, ℕ, zero, suc, ◌+◌, ◌-◌, ◌<◌, ◌≤◌, ◌==◌, true, false, cond, List, [], ◌∷◌, ◌++◌, length, Option, Some, None, get_or, refl, ap, sym, ◌∙◌, subst, arith, inl, inr, slice_get, length-append, MatchOption, get_or-set_other, option_to_list}
+use Rattle.std.proofs.Common.{◌≡◌, ◌≢◌, ℕ, zero, suc, ◌+◌, ◌-◌, ◌<◌, ◌≤◌, ◌==◌, true, false, cond, List, [], ◌∷◌, ◌++◌, length, map, Option, Some, None, get_or, refl, ap, sym, ◌∙◌, subst, arith, inl, inr, slice_get, length-append, MatchOption, get_or-set_other, option_to_list}
 use Rattle.std.proofs.Math.ListN.{set}
-use Rattle.std.proofs.lemmas.List.{append-nil, get_or_default}
+use Rattle.std.proofs.Math.Logic.{∥∥₁_map}
+use Rattle.std.proofs.lemmas.List.{append-nil, get_or_default, map-append}
 use Rattle.std.proofs.lemmas.List.Sums.{sum_by-set, get_or-le-sum_by}
 use Rattle.std.proofs.lemmas.Bool.{cases_eq}
 use Rattle.std.proofs.lemmas.Option.{slice_get_read}
@@ -19,7 +20,7 @@ use Rattle.su_book.specs.Machine.{BookState, MayAct, Asks, Tells, with_step, sto
 use Rattle.su_book.proofs.Public.{run_push, records_push}
 use Rattle.su_shared.specs.declared.cells.Record.{Record}
 use Rattle.su_shared.specs.declared.seats.Kept.{Kept}
-use Rattle.su_shared.specs.Shares.{IsHeld, nothing, after_grant, after_commit, kept_after, kept_by, kept_from, kept_of, numbered, run_records, last_of, receipt_for, Gives}
+use Rattle.su_shared.specs.Shares.{IsHeld, nothing, after_grant, after_commit, kept_after, kept_by, kept_from, kept_of, numbered, run_records, record_bytes, HoldsLast, last_of, receipt_for, Gives}
 
 abbrev pub step_of : ℕ → Act → Step
 step_of seat act = record { seat = seat; act = act }
@@ -214,3 +215,33 @@ pub gives : (b : BookState) (seat : ℕ) (e : Event) (act : Act) (r : BookReply)
 gives b seat e act r asks may tells =
     subst (λ (l : List Commit). Gives e r (receipt_for r (numbered 1 l))) (sym (records_push b.journal (step_of seat act)))
     (gives_in (records_of b.journal) e act r asks (counts b seat act may) tells)
+
+-- ---- what a keeper holds
+
+-- what was just kept is held last
+pub kept_last : {K : Type 0} (holds : K → List (List ℕ) → Type 0) (old new : K) (bytes kept : List ℕ) → (records : List (List ℕ)) × ∥ holds old records ∥₁
+    → ((records : List (List ℕ)) → holds old records → holds new (records ++ kept ∷ [])) → kept ≡ bytes → HoldsLast holds new bytes
+kept_last holds old new bytes kept (records, held) keeps same = record {
+  earlier = records;
+  held = ∥∥₁_map held (λ h. subst (λ (b : List ℕ). holds new (records ++ b ∷ [])) same (keeps records h));
+}
+
+-- the keeper that kept what the act stores holds the records after it
+module _ {K : Type 0} (holds : K → List (List ℕ) → Type 0) (old new : K) (j : List Step) (seat : ℕ) where
+  pub holds_step : (act : Act) → ∥ holds old (record_bytes j) ∥₁ → (stored_by act ≡ [] → new ≡ old)
+      → ((n : ℕ) (c : Commit) → act ≡ Stored n c → ∥ holds new (record_bytes j ++ commit_bytes c ∷ []) ∥₁)
+      → ∥ holds new (record_bytes (j ++ step_of seat act ∷ [])) ∥₁
+  holds_step act held same kept = subst (λ (l : List (List ℕ)). ∥ holds new l ∥₁) (sym (bytes_more act)) (held_now act held same kept)
+    where
+      bytes_more : (a : Act) → record_bytes (j ++ step_of seat a ∷ []) ≡ record_bytes j ++ map commit_bytes (stored_by a)
+      bytes_more a = ap (map commit_bytes) (records_push j (step_of seat a)) ∙ map-append commit_bytes (records_of j) (stored_by a)
+
+      idle : ∥ holds old (record_bytes j) ∥₁ → new ≡ old → ∥ holds new (record_bytes j ++ []) ∥₁
+      idle was is = subst (λ (k : K). ∥ holds k (record_bytes j ++ []) ∥₁) (sym is) (subst (λ (l : List (List ℕ)). ∥ holds old l ∥₁) (sym (append-nil (record_bytes j))) was)
+
+      held_now : (a : Act) → ∥ holds old (record_bytes j) ∥₁ → (stored_by a ≡ [] → new ≡ old)
+          → ((n : ℕ) (c : Commit) → a ≡ Stored n c → ∥ holds new (record_bytes j ++ commit_bytes c ∷ []) ∥₁)
+          → ∥ holds new (record_bytes j ++ map commit_bytes (stored_by a)) ∥₁
+      held_now (Granted n) was is now = idle was (is refl)
+      held_now (Stored n c) was is now = now n c refl
+      held_now Given was is now = idle was (is refl)

@@ -3,3 +3,4 @@ pub mod Keeping
 pub mod Orders
 pub mod Closing
 pub mod Meeting
+pub mod TakingUp

@@ -3,13 +3,13 @@ use Rattle.std.proofs.Common.{◌≡◌, ◌≢◌, ◌⊎◌, ℕ, ◌==◌, Bo
 use Rattle.std.proofs.lemmas.Bool.Decides.{nat_tests}
 use Rattle.std.specs.Prelude.{Result, Err}
 use Rattle.su_bytes.specs.declared.refusals.Refusal.{Refusal}
-use Rattle.su_bytes.specs.declared.refusals.Refusal.TheVariants.{Busy, NotYourTurn, BookFull, NoMemory}
+use Rattle.su_bytes.specs.declared.refusals.Refusal.TheVariants.{Busy, NotYourTurn, BookFull, NoMemory, SourceFailed}
 use Rattle.su_book.specs.declared.events.Event.{Event}
 use Rattle.su_book.specs.declared.events.Event.TheVariants as event
 use Rattle.su_book.specs.Machine.{BookState, IsUnfit, IsRefused, holder_of}
 use Rattle.su_shared.specs.declared.seats.Kept.{Kept}
 use Rattle.std.specs.Global.{Vec}
-use Rattle.su_shared.specs.Shares.{IsCommitRefusal, MayMeet, is_grant, has_turn}
+use Rattle.su_shared.specs.Shares.{IsCommitRefusal, IsStorable, MayMeet, is_grant, has_turn}
 
 has_no_turn : (seat : ℕ) (h : Option ℕ) → h ≢ Some seat → has_turn seat h ≡ false
 has_no_turn seat None none = refl
@@ -46,10 +46,10 @@ no_memory_meets k seat grant x is = record { busy = λ n other. absurd cc; not_t
 pub full_meets : (k : Kept) (seat : ℕ) (grant : Bool) (x : Refusal) → x ≡ BookFull → MayMeet k seat grant x
 full_meets k seat grant x is = record { busy = λ n other. absurd cc; not_turn = λ other. absurd cc; without = λ _ _. inr (inr is) }
 
-module _ (b : BookState) (seat : ℕ) (k : Kept) (is : k.turn ≡ has_turn seat (holder_of b.journal)) where
+module _ (b : BookState) (seat : ℕ) (k : Kept) (told : k.turn ≡ has_turn seat (holder_of b.journal)) where
   refused_meets : (e : Event) (x : Refusal) → IsRefused b seat e x → MayMeet k seat (is_grant e) x
   refused_meets event.Grant x (other, busy, holder, apart) =
-      let none : k.turn ≡ false = is ∙ has_no_turn seat (holder_of b.journal) (λ same. apart (cc)) in
+      let none : k.turn ≡ false = told ∙ has_no_turn seat (holder_of b.journal) (λ same. apart (cc)) in
       record {
         busy = λ n again. let same : n ≡ other = cc in (none, subst (λ (m : ℕ). m ≢ seat) (sym same) apart, refl);
         not_turn = λ turn. absurd cc;
@@ -57,7 +57,7 @@ module _ (b : BookState) (seat : ℕ) (k : Kept) (is : k.turn ≡ has_turn seat 
       }
   refused_meets (event.Commit bytes) x (inl (turn, none)) = record {
     busy = λ n busy. absurd cc;
-    not_turn = λ _. (is ∙ has_no_turn seat (holder_of b.journal) none, refl);
+    not_turn = λ _. (told ∙ has_no_turn seat (holder_of b.journal) none, refl);
     without = λ _ _. inl turn;
   }
   refused_meets (event.Commit bytes) x (inr (has, unfit)) = record {
@@ -67,26 +67,41 @@ module _ (b : BookState) (seat : ℕ) (k : Kept) (is : k.turn ≡ has_turn seat 
   }
   refused_meets event.Give x (turn, none) = record {
     busy = λ n busy. absurd cc;
-    not_turn = λ _. (is ∙ has_no_turn seat (holder_of b.journal) none, refl);
+    not_turn = λ _. (told ∙ has_no_turn seat (holder_of b.journal) none, refl);
     without = λ _ _. inl turn;
   }
 
-  pub meets : (e : Event) (x : Refusal) → IsRefused b seat e x ⊎ (((x ≡ NoMemory) × (e ≢ event.Give)) ⊎ ((x ≡ BookFull) × (e ≢ event.Grant) × (e ≢ event.Give))) → MayMeet k seat (is_grant e) x
+  -- whose record isn't kept, has the turn
+  not_kept_meets : (e : Event) (x : Refusal) → x ≡ SourceFailed → IsStorable b seat e → MayMeet k seat (is_grant e) x
+  not_kept_meets event.Grant x is storable = absurd storable
+  not_kept_meets (event.Commit bytes) x is (n, c, spelled, may) =
+      let turn : k.turn ≡ true = told ∙ has_the_turn seat (holder_of b.journal) may.turn in
+      record {
+        busy = λ n busy. absurd cc;
+        not_turn = λ none. absurd cc;
+        without = λ none _. absurd cc;
+      }
+  not_kept_meets event.Give x is storable = absurd storable
+
+  pub meets : {F : Type 0} (e : Event) (x : Refusal) → IsRefused b seat e x ⊎ (((x ≡ NoMemory) × (e ≢ event.Give)) ⊎ (((x ≡ BookFull) × (e ≢ event.Grant) × (e ≢ event.Give)) ⊎ ((x ≡ SourceFailed) × F × IsStorable b seat e))) → MayMeet k seat (is_grant e) x
   meets e x (inl refused) = refused_meets e x refused
   meets e x (inr (inl none)) = no_memory_meets k seat (is_grant e) x none.0
-  meets e x (inr (inr full)) = full_meets k seat (is_grant e) x full.0
+  meets e x (inr (inr (inl full))) = full_meets k seat (is_grant e) x full.0
+  meets e x (inr (inr (inr failed))) = not_kept_meets e x failed.0 failed.2
 
 -- ---- the bytes of a commit
 
 -- a seat that isn't the book's is refused so, and one that is as the book or the lock refuses it
-pub refused_commit : {X : Type 0} (b : BookState) (n : ℕ) (same : Vec ℕ) (bytes : List ℕ) (e : Refusal) (Is : Type 0) → same.items ≡ bytes
+pub refused_commit : {X F : Type 0} (b : BookState) (n : ℕ) (same : Vec ℕ) (bytes : List ℕ) (e : Refusal) (Is : Type 0) → same.items ≡ bytes
     → Is ⊎ (◌≡◌ {A = Result X Refusal} (Err e) (Err BookFull))
     → (Is → IsRefused b n (event.Commit same) e ⊎
-    (((e ≡ NoMemory) × (event.Commit same ≢ event.Give)) ⊎ ((e ≡ BookFull) × (event.Commit same ≢ event.Grant) × (event.Commit same ≢ event.Give))))
-    → IsCommitRefusal n bytes e
-refused_commit b n same bytes e Is spelled (inr full) refused = let is : e ≡ BookFull = cc in inr (inr is)
+    (((e ≡ NoMemory) × (event.Commit same ≢ event.Give)) ⊎
+    (((e ≡ BookFull) × (event.Commit same ≢ event.Grant) × (event.Commit same ≢ event.Give)) ⊎ ((e ≡ SourceFailed) × F × IsStorable b n (event.Commit same)))))
+    → IsCommitRefusal F n bytes e
+refused_commit b n same bytes e Is spelled (inr full) refused = let is : e ≡ BookFull = cc in inr (inr (inl is))
 refused_commit b n same bytes e Is spelled (inl is) refused = elim (refused is) [
   | inl by_book ↦ inl (b, same, spelled, by_book)
   | inr (inl none) ↦ inr (inl none.0)
-  | inr (inr full) ↦ inr (inr full.0)
+  | inr (inr (inl full)) ↦ inr (inr (inl full.0))
+  | inr (inr (inr failed)) ↦ inr (inr (inr (failed.0, failed.1)))
 ]

@@ -1,10 +1,10 @@
 -- What a book under a lock keeps for each seat, and that it is what the steps say. (This project's
 -- own.)
-use Rattle.std.specs.Prelude.{◌≡◌, ◌≢◌, ◌⊎◌, ℕ, ◌+◌, ◌-◌, ◌<◌, ◌≤◌, ◌==◌, Bool, true, false, List, [], ◌∷◌, length, Option, Some, None, MatchOption, IfSome, slice_get, slice_set, slice_index_or, max, if◌then◌else◌}
+use Rattle.std.specs.Prelude.{◌≡◌, ◌≢◌, ◌⊎◌, ℕ, ◌+◌, ◌-◌, ◌<◌, ◌≤◌, ◌==◌, Bool, true, false, List, [], ◌∷◌, ◌++◌, length, map, Option, Some, None, MatchOption, IfSome, slice_get, slice_set, slice_index_or, max, if◌then◌else◌}
 use Rattle.std.specs.List.{sum_by}
 use Rattle.std.specs.Global.{Vec}
 use Rattle.su_bytes.specs.declared.refusals.Refusal.{Refusal}
-use Rattle.su_bytes.specs.declared.refusals.Refusal.TheVariants.{Busy, NotYourTurn, BookFull, NoMemory}
+use Rattle.su_bytes.specs.declared.refusals.Refusal.TheVariants.{Busy, NotYourTurn, BookFull, NoMemory, SourceFailed}
 use Rattle.su_version.specs.Commit.{Commit, commit_bytes}
 use Rattle.su_book.specs.declared.steps.Step.{Step}
 use Rattle.su_book.specs.declared.steps.Act.{Act}
@@ -13,7 +13,7 @@ use Rattle.su_book.specs.declared.events.Event.{Event}
 use Rattle.su_book.specs.declared.events.Event.TheVariants as event
 use Rattle.su_book.specs.declared.events.BookReply.{BookReply}
 use Rattle.su_book.specs.declared.events.BookReply.TheVariants as reply
-use Rattle.su_book.specs.Machine.{BookState, IsRefused, IsRun, records_of, holder_of, count_of}
+use Rattle.su_book.specs.Machine.{BookState, MayBeStored, IsRefused, IsRun, Stepped, records_of, holder_of, count_of}
 use Rattle.su_shared.specs.declared.cells.Record.{Record}
 use Rattle.su_shared.specs.declared.seats.Kept.{Kept}
 use Rattle.su_shared.specs.Seats.{SeatView, known_at}
@@ -70,6 +70,16 @@ numbered n (c ∷ cs) = record { number = n; bytes = commit_bytes c } ∷ number
 -- the records of these steps, with their numbers
 abbrev pub run_records : List Step → List Record
 run_records steps = numbered 1 (records_of steps)
+
+-- the bytes of the records of these steps, in order, as a keeper keeps them
+abbrev pub record_bytes : List Step → List (List ℕ)
+record_bytes steps = map commit_bytes (records_of steps)
+
+-- the keeper holds these bytes behind all others that it holds
+pub record HoldsLast {K : Type 0} (holds : K → List (List ℕ) → Type 0) (keeper : K) (bytes : List ℕ)
+    : Type 0 where
+  pub earlier : List (List ℕ)
+  pub held : ∥ holds keeper (earlier ++ bytes ∷ []) ∥₁
 
 abbrev pub last_of : {X : Type 0} → List X → Option X
 last_of xs = if length xs == 0 then None else slice_get xs (length xs - 1)
@@ -142,6 +152,12 @@ pub record MayMeet (k : Kept) (seat : ℕ) (grant : Bool) (refusal : Refusal) : 
   pub without : k.turn ≡ false → grant ≡ false
       → (refusal ≡ NotYourTurn) ⊎ ((refusal ≡ NoMemory) ⊎ (refusal ≡ BookFull))
 
+-- the bytes are those of a commit that the book takes from this seat
+abbrev pub IsStorable : BookState → ℕ → Event → Type 0
+IsStorable b seat (event.Commit bytes) =
+    (n : ℕ) × (c : Commit) × (bytes.items ≡ commit_bytes c) × MayBeStored b seat n c
+IsStorable b seat _ = ⊥
+
 -- who takes the turn may be refused because another seat has it, for want of memory, or because the
 -- seat was told something else than is kept for it
 abbrev pub IsGrantRefusal : Refusal → Type 0
@@ -149,16 +165,32 @@ IsGrantRefusal refusal =
     ((other : ℕ) × (refusal ≡ Busy other)) ⊎ ((refusal ≡ NoMemory) ⊎ (refusal ≡ BookFull))
 
 -- who hands in the bytes of a commit, as some book refuses them to this seat, or for the latter
--- reasons
-abbrev pub IsCommitRefusal : ℕ → List ℕ → Refusal → Type 0
-IsCommitRefusal seat bytes refusal =
+-- reasons, or because they couldn't be kept, where that may be
+abbrev pub IsCommitRefusal : Type 0 → ℕ → List ℕ → Refusal → Type 0
+IsCommitRefusal may_fail seat bytes refusal =
     ((b : BookState) × (same : Vec ℕ) × (same.items ≡ bytes)
     × IsRefused b seat (event.Commit same) refusal)
-    ⊎ ((refusal ≡ NoMemory) ⊎ (refusal ≡ BookFull))
+    ⊎ ((refusal ≡ NoMemory) ⊎ ((refusal ≡ BookFull) ⊎ ((refusal ≡ SourceFailed) × may_fail)))
 
 -- who gives the turn back, because it hasn't it, or because the seat was told something else
 abbrev pub IsGiveRefusal : Refusal → Type 0
 IsGiveRefusal refusal = (refusal ≡ NotYourTurn) ⊎ (refusal ≡ BookFull)
+
+-- ---- records of an earlier process
+
+-- A seat takes the turn, and stores one more record, which has this number.
+abbrev pub TakesUp : BookState → ℕ → ℕ → BookState → Type 0
+TakesUp b seat number b' =
+    (between : BookState) × (told : BookReply) × (bytes : Vec ℕ)
+    × Stepped b seat event.Grant between told
+    × Stepped between seat (event.Commit bytes) b' (reply.Stored number)
+
+-- why a record isn't taken up: it couldn't be read, or the seat wasn't granted the turn, or the
+-- commit of its bytes is refused
+abbrev pub IsRecordRefusal : Type 0 → ℕ → Refusal → Type 0
+IsRecordRefusal may_fail seat refusal =
+    ((refusal ≡ SourceFailed) × may_fail) ⊎ (IsGrantRefusal refusal
+    ⊎ ((bytes : List ℕ) × IsCommitRefusal may_fail seat bytes refusal))
 
 -- ---- all seats
 

@@ -7,6 +7,7 @@ ghost use Rattle.su_version.specs.Commit.{commit_bytes};
 ghost use Rattle.su_book.specs.Machine.{IsCapacity};
 ghost use Rattle.su_shared.specs.Entry.{IsBy};
 ghost use Rattle.su_shared.specs.Seats.{names_of, known_of};
+ghost use Rattle.su_shared.specs.Shares.{HoldsLast};
 
 use crate::notes::Receipt;
 use once_cell::race::{Note, OnceBox};
@@ -15,6 +16,7 @@ use std::marker::{Brand, Model};
 use std::sync::ledger::Ledger;
 use su_book::{HashedCommit, MOST_RECORDS};
 use su_bytes::{Digest, Refusal, User};
+use su_keeper::Keeper;
 
 /// A record of the book: the bytes of a commit, with its number, from 1, and what is asked of it
 /// often. Its model is the number and the bytes.
@@ -148,23 +150,21 @@ impl Cells {
         Ok(notes)
     }
 
-    /// Sets the cell of a record, and gives a receipt for it. `BookFull` where the cell doesn't
-    /// take it; else only `NoMemory`.
-    pub(crate) fn store<N: BookName>(
+    /// Sets the cell of a record that the keeper holds, and gives a receipt for it. `BookFull` where
+    /// the cell doesn't take it.
+    pub(crate) fn publish<N: BookName, K: Keeper>(
         &self,
-        alloc: Global,
-        entry: Record,
+        keeper: &K,
+        entry: Box<Record>,
     ) -> Result<Receipt<N>, Refusal>
         requires cells { self.now ≡ N.cells }
-        requires number { (0 < entry.number) × (entry.number ≤ length N.cells) }
-        ensures receipt { IfOk result (λ receipt. receipt ≡ entry) }
-        ensures refused { IfErr result (λ e. (e ≡ NoMemory) ⊎ (e ≡ BookFull)) }
+        requires number { (0 < entry.value.number) × (entry.value.number ≤ length N.cells) }
+        requires kept { HoldsLast K.holds keeper.now entry.value.bytes }
+        ensures receipt { IfOk result (λ receipt. receipt ≡ entry.value) }
+        ensures refused { IfErr result (λ e. e ≡ BookFull) }
     {
         let number = entry.number();
         let cell = self.cell((number - 1) as usize);
-        let Ok(entry) = Box::new(alloc, entry) else {
-            return Err(Refusal::NoMemory);
-        };
         let mut note = cell.note();
         if cell.set_as(entry, &mut note).is_err() {
             return Err(Refusal::BookFull);

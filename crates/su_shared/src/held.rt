@@ -1,12 +1,12 @@
 // What lies under the lock.
-ghost use Rattle.std.specs.Prelude.{◌≡◌, ◌≢◌, ◌-◌, ◌+◌, ◌≤◌, ◌<◌, ◌++◌, [], ◌⊎◌, length, true, false, IfSome, IfNone, IfOk, IfErr, OnOk, OnErr, Err, None, Some, vec_len, vec_capacity, option_to_list, replicate, map, slice_get, ℕ, IsPermutation};
-ghost use Rattle.su_bytes.specs.declared.refusals.Refusal.TheVariants.{NoMemory, BookFull, BadNumber};
+ghost use Rattle.std.specs.Prelude.{◌≡◌, ◌≢◌, ◌-◌, ◌+◌, ◌≤◌, ◌<◌, ◌++◌, [], ◌⊎◌, length, true, false, IfSome, IfNone, IfOk, IfErr, OnOk, OnErr, Err, None, Some, vec_len, vec_capacity, option_to_list, replicate, map, slice_get, ℕ, List, ◌∷◌, IsPermutation};
+ghost use Rattle.su_bytes.specs.declared.refusals.Refusal.TheVariants.{NoMemory, BookFull, BadNumber, SourceFailed};
 ghost use Rattle.su_version.specs.Commit.{Commit, commit_bytes};
 ghost use Rattle.su_book.specs.declared.events.Event.TheVariants.{Grant, Give};
 ghost use Rattle.su_book.specs.declared.steps.Act.TheVariants.{Stored};
 ghost use Rattle.su_book.specs.Machine.{Asks, IsRefused, IsRun, Stepped, TellsRecords, count_of, stored_by};
 ghost use Rattle.su_shared.specs.Seats.{Learns};
-ghost use Rattle.su_shared.specs.Shares.{kept_of, kept_after, numbered, run_records, receipt_for, learned, IsOrderly, IsFresh, MayMeet, is_grant, Gives, nothing, AreAll, Knows, EachKnows, IsSeat, last_of};
+ghost use Rattle.su_shared.specs.Shares.{kept_of, kept_after, record_bytes, IsStorable, numbered, run_records, receipt_for, learned, IsOrderly, IsFresh, MayMeet, is_grant, Gives, nothing, AreAll, Knows, EachKnows, IsSeat, last_of};
 
 use crate::cells::{BookName, Cells, Record};
 use crate::notes::{Notes, Receipt};
@@ -16,6 +16,7 @@ use std::marker::Model;
 use std::sync::ledger::{Blank, Book as Tally, Share};
 use su_book::{Act, Book, BookReply, Event};
 use su_bytes::Refusal;
+use su_keeper::Keeper;
 
 /// What lies under the lock: the book, a receipt for each of its records, what each seat was told,
 /// and the ledger of the seats' steps. Its model is the book and the number of seats.
@@ -85,18 +86,22 @@ impl<N: BookName> Held<N> {
         Ok(seat)
     }
 
-    /// Makes the step of the book that a seat asks for, and sets the cell of a record that it
-    /// stores. The refusals are those of `Book::step`; and `BookFull`, before these where what the
-    /// seat was told isn't what is kept for it, and after them where the cell doesn't take the
-    /// record. A refusal changes nothing.
-    pub fn step(
+    /// Makes the step of the book that a seat asks for. A record that it stores is kept before its
+    /// cell is set. The refusals are those of `Book::step`; and `BookFull`, before these where what
+    /// the seat was told isn't what is kept for it, and after them where the cell doesn't take the
+    /// record; and after these `SourceFailed`, where the record couldn't be kept. A refusal changes
+    /// nothing but the keeper.
+    pub fn step<K: Keeper>(
         &mut self,
         alloc: Global,
         cells: &Cells,
+        keeper: &mut K,
         seat: &mut Seat<N>,
         event: Event,
     ) -> Result<(BookReply, Option<Receipt<N>>), Refusal>
-        requires { cells.now ≡ N.cells }
+        requires cells { cells.now ≡ N.cells }
+        requires holds { ∥ K.holds keeper.old (record_bytes self.old.book.journal) ∥₁ }
+        ensures holds { ∥ K.holds keeper.new (record_bytes self.new.book.journal) ∥₁ }
         ensures book { IfOk result (λ r.
             Stepped self.old.book seat.old.number event self.new.book r.0) }
         ensures seats { OnOk result (self.new.seats ≡ self.old.seats) }
@@ -123,7 +128,9 @@ impl<N: BookName> Held<N> {
         ensures refused { IsSeat seat.old self.old → IfErr result (λ e.
             IsRefused self.old.book seat.old.number event e
             ⊎ (((e ≡ NoMemory) × (event ≢ Give))
-            ⊎ ((e ≡ BookFull) × (event ≢ Grant) × (event ≢ Give)))) }
+            ⊎ (((e ≡ BookFull) × (event ≢ Grant) × (event ≢ Give))
+            ⊎ ((e ≡ SourceFailed) × K.may_fail
+            × IsStorable self.old.book seat.old.number event)))) }
     {
         self.orders();
         if !self.is_of(seat) {
@@ -132,6 +139,7 @@ impl<N: BookName> Held<N> {
         let (reply, mut receipt, kept) = self.take(
             alloc,
             cells,
+            keeper,
             seat.number,
             event,
             &mut seat.mark,
@@ -227,17 +235,20 @@ impl<N: BookName> Held<N> {
     }
 
     /// Makes the step that the seat of this number asks for, and counts it in the ledger.
-    fn take(
+    fn take<K: Keeper>(
         &mut self,
         alloc: Global,
         cells: &Cells,
+        keeper: &mut K,
         number: u16,
         event: Event,
         mark: &mut Share<N>,
     ) -> Result<(BookReply, Option<Receipt<N>>, Kept), Refusal>
         requires cells { cells.now ≡ N.cells }
+        requires holds { ∥ K.holds keeper.old (record_bytes self.old.book.journal) ∥₁ }
         requires number { number < self.old.seats }
         requires mark { 0 < mark.old.parts }
+        ensures holds { ∥ K.holds keeper.new (record_bytes self.new.book.journal) ∥₁ }
         ensures mark { OnOk result ((mark.new.parts ≡ mark.old.parts)
             × (mark.new.amount ≡ mark.old.amount + 1)) }
         ensures same { OnErr result (mark.new ≡ mark.old) }
@@ -254,13 +265,14 @@ impl<N: BookName> Held<N> {
         ensures refused { IfErr result (λ e.
             IsRefused self.old.book number event e
             ⊎ (((e ≡ NoMemory) × (event ≢ Give))
-            ⊎ ((e ≡ BookFull) × (event ≢ Grant) × (event ≢ Give)))) }
+            ⊎ (((e ≡ BookFull) × (event ≢ Grant) × (event ≢ Give))
+            ⊎ ((e ≡ SourceFailed) × K.may_fail × IsStorable self.old.book number event)))) }
     {
         let step = self.book.answer(number, &event)?;
         let Ok(reply) = self.book.reply(&step.act) else {
             return Err(Refusal::NoMemory);
         };
-        let mut stored = store(alloc, cells, &mut self.receipts, &step.act, event)?;
+        let mut stored = store(alloc, cells, keeper, &mut self.receipts, &step.act, event)?;
         let Ok(()) = self.book.apply(step) else {
             return Err(Refusal::NoMemory);
         };
@@ -275,10 +287,11 @@ impl<N: BookName> Held<N> {
     }
 }
 
-/// Sets the cell of a new record, and gives a receipt for it. There is room for one more then.
-fn store<N: BookName>(
+/// Keeps a new record, sets its cell, and gives a receipt for it. There is room for one more then.
+fn store<N: BookName, K: Keeper>(
     alloc: Global,
     cells: &Cells,
+    keeper: &mut K,
     receipts: &mut Vec<Receipt<N>>,
     act: &Act,
     event: Event,
@@ -287,13 +300,21 @@ fn store<N: BookName>(
     requires asked { Asks event act.now }
     requires number { (n : ℕ) (c : Commit) → act.now ≡ Stored n c
         → (0 < n) × (n ≤ length N.cells) }
+    requires holds { (records : List (List ℕ)) × ∥ K.holds keeper.old records ∥₁ }
+    ensures kept { (records : List (List ℕ)) → ∥ K.holds keeper.old records ∥₁
+        → (n : ℕ) (c : Commit) → act.now ≡ Stored n c
+        → OnOk result ∥ K.holds keeper.new (records ++ commit_bytes c ∷ []) ∥₁ }
+    ensures same { stored_by act.now ≡ [] → OnOk result (keeper.new ≡ keeper.old) }
+    ensures held { (records : List (List ℕ)) → ∥ K.holds keeper.old records ∥₁
+        → OnErr result ∥ K.holds keeper.new records ∥₁ }
     ensures items { receipts.new.items ≡ receipts.old.items }
     ensures room { IfOk result (λ o.
         IfSome o (λ _. vec_len receipts.new < vec_capacity receipts.new)) }
     ensures none { stored_by act.now ≡ [] → IfOk result (λ o. o ≡ None) }
     ensures stored { (n : ℕ) (c : Commit) → act.now ≡ Stored n c → IfOk result (λ o.
         o ≡ Some (record { number = n; bytes = commit_bytes c })) }
-    ensures refused { IfErr result (λ e. ((e ≡ NoMemory) ⊎ (e ≡ BookFull))
+    ensures refused { IfErr result (λ e.
+        ((e ≡ NoMemory) ⊎ ((e ≡ BookFull) ⊎ ((e ≡ SourceFailed) × K.may_fail)))
         × (event ≢ Grant) × (event ≢ Give)) }
 {
     let (Act::Stored(number, commit), Event::Commit(bytes)) = (act, event) else {
@@ -302,7 +323,17 @@ fn store<N: BookName>(
     if receipts.reserve(1).is_err() {
         return Err(Refusal::NoMemory);
     }
-    Ok(Some(cells.store(alloc, Record::new(*number, bytes, commit))?))
+    let Ok(entry) = Box::new(alloc, Record::new(*number, bytes, commit)) else {
+        return Err(Refusal::NoMemory);
+    };
+    let Ok(()) = keeper.keep(alloc, entry.bytes()) else {
+        return Err(Refusal::SourceFailed);
+    };
+    let Ok(receipt) = cells.publish(keeper, entry) else {
+        keeper.stop();
+        return Err(Refusal::BookFull);
+    };
+    Ok(Some(receipt))
 }
 
 /// Keeps a second receipt of a new record.

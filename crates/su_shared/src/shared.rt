@@ -1,16 +1,20 @@
 // A book that threads share.
-ghost use Rattle.std.specs.Prelude.{◌≡◌, ◌⊎◌, IsPermutation, ◌≤◌, ◌<◌, ◌-◌, length, replicate, true, false, IfSome, IfNone, IfOk, IfErr, OnOk, OnErr, None, Some, slice_set};
+ghost use Rattle.std.specs.Prelude.{◌≡◌, ◌⊎◌, ℕ, [], IsPermutation, ◌≤◌, ◌<◌, ◌-◌, length, replicate, true, false, IfSome, IfNone, IfOk, IfErr, OnOk, OnErr, None, Some, slice_set};
 ghost use Rattle.std.specs.List.{sum_by};
 ghost use Rattle.once_cell.specs.Once.{Agrees};
 ghost use Rattle.su_bytes.specs.declared.refusals.Refusal.TheVariants.{BadNumber, BadKey, NoMemory};
 ghost use Rattle.su_chain.specs.ChainEnd.{HasBadKey};
 ghost use Rattle.su_book.specs.declared.events.Event.TheVariants.{Grant};
 ghost use Rattle.su_book.specs.Machine.{IsCapacity, IsRun, TellsRecords, count_of};
+ghost use Rattle.su_shared.specs.declared.faults.BookFault.TheVariants.{Refused};
+ghost use Rattle.su_shared.specs.Faults.{IsRecordFault};
 ghost use Rattle.su_shared.specs.Seats.{known_at, Learns};
-ghost use Rattle.su_shared.specs.Shares.{nothing, kept_after, after_commit, after_give, learned, Gives, IsFresh, IsGrantRefusal, IsCommitRefusal, IsGiveRefusal, MayMeet, EachStands};
+ghost use Rattle.su_shared.specs.Shares.{nothing, record_bytes, kept_after, after_commit, after_give, learned, Gives, IsFresh, IsGrantRefusal, IsCommitRefusal, IsGiveRefusal, MayMeet, EachStands};
 
 use crate::cells::{BookName, Cells, Record};
+use crate::faults::BookFault;
 use crate::held::Held;
+use crate::locked::Locked;
 use crate::notes::{Notes, Receipt};
 use crate::seats::Seat;
 use std::alloc::Global;
@@ -18,34 +22,76 @@ use std::sync::ledger::Blank;
 use std::sync::{Mutex, Wait};
 use su_book::{Book, BookReply, Event};
 use su_bytes::{Refusal, Roster};
+use su_keeper::Keeper;
 
 /// A book that threads share. Its steps are made under one lock, and its records are read without
-/// it.
+/// it; each is kept before it can be read.
 #[derive(Drop)]
-pub struct SharedBook<N: BookName> {
+pub struct SharedBook<N: BookName, K: Keeper> {
     cells: Cells,
-    held: Mutex<Held<N>>,
+    locked: Mutex<Locked<N, K>>,
     ghost named: { cells ≡ N.cells },
 }
 
-impl<N: BookName> SharedBook<N> {
+impl<N: BookName, K: Keeper> SharedBook<N, K> {
     /// Makes a book without records and seats, which may store as many commits as there are cells.
-    /// `BadNumber` where they aren't 1 to 1,000,000; `BadKey` where a user's key is none; else only
-    /// `NoMemory`.
+    /// The keeper is to hold none yet, and to have found none. `BadNumber` where the cells aren't 1
+    /// to 1,000,000; `BadKey` where a user's key is none; else only `NoMemory`.
     pub fn new(
         alloc: Global,
         cells: Cells,
         roster: Roster,
         blank: Blank,
-    ) -> Result<SharedBook<N>, Refusal>
+        keeper: K,
+    ) -> Result<SharedBook<N, K>, Refusal>
         requires cells { cells ≡ N.cells }
         requires ledger { (blank.name ≡ N.name) × (blank.parts ≡ N.parts) × (257 ≤ N.parts) }
+        requires holds { K.holds keeper [] }
+        requires end { K.is_at_end keeper }
         ensures refused { IfErr result (λ e. ((e ≡ BadNumber) × ¬ IsCapacity (length cells))
             ⊎ ((e ≡ BadKey) × IsCapacity (length cells) × HasBadKey roster) ⊎ (e ≡ NoMemory)) }
     {
         let book = Book::new(alloc, cells.len() as u64, roster)?;
-        let held = Mutex::new(Held::new(alloc, book, blank));
-        Ok(SharedBook { cells, held })
+        let held = Held::new(alloc, book, blank);
+        Ok(SharedBook::share(cells, Locked { held, keeper }))
+    }
+
+    /// Makes a book and its first seat, and takes up each record that the keeper found, as a commit
+    /// of that seat; the number tells how many. The keeper is to hold none yet. The refusals are
+    /// those of `new`; and `Record` with the number of the first record that isn't taken up.
+    pub fn open(
+        alloc: Global,
+        cells: Cells,
+        roster: Roster,
+        blank: Blank,
+        keeper: K,
+    ) -> Result<(SharedBook<N, K>, Seat<N>, u64), BookFault>
+        requires cells { cells ≡ N.cells }
+        requires ledger { (blank.name ≡ N.name) × (blank.parts ≡ N.parts) × (257 ≤ N.parts) }
+        requires holds { K.holds keeper [] }
+        ensures seat { IfOk result (λ r. (r.1.kept.stored ≡ r.2) × (r.1.kept.turn ≡ false)) }
+        ensures refused { IfErr result (λ f.
+            ((f ≡ Refused BadNumber) × ¬ IsCapacity (length cells))
+            ⊎ ((f ≡ Refused BadKey) × IsCapacity (length cells) × HasBadKey roster)
+            ⊎ (f ≡ Refused NoMemory)
+            ⊎ ((n : ℕ) × (0 < n) × IsRecordFault K.may_fail 0 n f)) }
+    {
+        let book = Book::new(alloc, cells.len() as u64, roster)?;
+        let notes = Notes::new(alloc, &cells)?;
+        let mut held = Held::new(alloc, book, blank);
+        let mut seat = held.seat(notes)?;
+        let mut locked = Locked { held, keeper };
+        let count = locked.take_up(alloc, &cells, &mut seat)?;
+        Ok((SharedBook::share(cells, locked), seat, count))
+    }
+
+    /// Shares a book, when all that its keeper found is taken up.
+    fn share(cells: Cells, locked: Locked<N, K>) -> SharedBook<N, K>
+        requires cells { cells ≡ N.cells }
+        requires end { K.is_at_end locked.keeper }
+    {
+        let locked = Mutex::new(locked);
+        SharedBook { cells, locked }
     }
 
     /// Makes the next seat, which was told nothing and knows nothing. `BadNumber` after 256 seats;
@@ -56,7 +102,7 @@ impl<N: BookName> SharedBook<N> {
         ensures refused { IfErr result (λ e. (e ≡ NoMemory) ⊎ (e ≡ BadNumber)) }
     {
         let notes = Notes::new(alloc, &self.cells)?;
-        self.held.lock(rt).seat(notes)
+        self.locked.lock(rt).held.seat(notes)
     }
 
     /// Takes the turn. The count of records is no less than all that the seat was told before; the
@@ -83,9 +129,11 @@ impl<N: BookName> SharedBook<N> {
         ensures refused { IfErr result IsGrantRefusal }
         ensures err { OnErr result (seat.new ≡ seat.old) }
     {
-        self.held
-            .lock(rt)
-            .step(alloc, &self.cells, seat, Event::Grant)
+        let locked = &mut *self.locked.lock(rt);
+        let keeper = &mut locked.keeper;
+        locked
+            .held
+            .step(alloc, &self.cells, keeper, seat, Event::Grant)
     }
 
     /// Stores a commit by its bytes, and gives the turn back. The number is greater than all that
@@ -108,16 +156,17 @@ impl<N: BookName> SharedBook<N> {
         ensures learns { IfOk result (λ r. Learns seat.old.known r.1 seat.new.known) }
         ensures holder { OnOk result (seat.old.kept.turn ≡ true) }
         ensures meets { IfErr result (λ e. MayMeet seat.old.kept seat.old.number false e) }
-        ensures refused { IfErr result (λ e. IsCommitRefusal seat.old.number bytes.now e) }
+        ensures refused { IfErr result (λ e.
+            IsCommitRefusal K.may_fail seat.old.number bytes.now e) }
         ensures err { OnErr result (seat.new ≡ seat.old) }
     {
         let Ok(bytes) = Vec::from_slice(alloc, bytes) else {
             return Err(Refusal::NoMemory);
         };
-        let (reply, receipt) = self
-            .held
-            .lock(rt)
-            .step(alloc, &self.cells, seat, Event::Commit(bytes))?;
+        let locked = &mut *self.locked.lock(rt);
+        let keeper = &mut locked.keeper;
+        let commit = Event::Commit(bytes);
+        let (reply, receipt) = locked.held.step(alloc, &self.cells, keeper, seat, commit)?;
         let BookReply::Stored { number } = reply else {
             unreachable!()
         };
@@ -140,10 +189,11 @@ impl<N: BookName> SharedBook<N> {
         ensures refused { IfErr result IsGiveRefusal }
         ensures err { OnErr result (seat.new ≡ seat.old) }
     {
-        let (_, _) = self
+        let locked = &mut *self.locked.lock(rt);
+        let keeper = &mut locked.keeper;
+        let (_, _) = locked
             .held
-            .lock(rt)
-            .step(alloc, &self.cells, seat, Event::Give)?;
+            .step(alloc, &self.cells, keeper, seat, Event::Give)?;
         Ok(())
     }
 
@@ -163,9 +213,9 @@ impl<N: BookName> SharedBook<N> {
     }
 
     #[tactic(auto, using(crate::proofs::Closing::same_sum))]
-    /// Ends the book. The seats are to be all of its seats, in any order, as they were told; else
-    /// all is handed back.
-    pub fn close(self, seats: Vec<Seat<N>>) -> Result<Closed, (SharedBook<N>, Vec<Seat<N>>)>
+    /// Ends the book, and hands its keeper back, which holds its records. The seats are to be all of
+    /// the book's, in any order, as they were told; else all is handed back.
+    pub fn close(self, seats: Vec<Seat<N>>) -> Result<Closed<K>, (SharedBook<N, K>, Vec<Seat<N>>)>
         ensures run { IfOk result (λ c. IsRun c.book) }
         ensures records { IfOk result (λ c. c.records ≡ count_of c.book.journal) }
         ensures calls { IfOk result (λ c. c.calls ≡ length c.book.journal) }
@@ -173,30 +223,33 @@ impl<N: BookName> SharedBook<N> {
         ensures steps { IfOk result (λ c. c.calls ≡ sum_by (λ s. s.kept.steps) seats.items) }
         ensures seats { IfOk result (λ c. (sorted : _) × IsPermutation seats.items sorted
             × EachStands sorted c.book.journal) }
+        ensures holds { IfOk result (λ c. ∥ K.holds c.keeper (record_bytes c.book.journal) ∥₁) }
         ensures err { IfErr result (λ r. IsPermutation seats.items r.1.items) }
     {
-        let SharedBook { cells, held } = self;
-        let held = held.into_inner();
+        let SharedBook { cells, locked } = self;
+        let Locked { held, keeper } = locked.into_inner();
         held.orders();
         match held.close(seats) {
             Ok(book) => Ok(Closed {
                 records: book.count(),
                 calls: book.len(),
                 book,
+                keeper,
             }),
             Err((held, seats)) => {
-                let held = Mutex::new(held);
-                Err((SharedBook { cells, held }, seats))
+                let locked = Mutex::new(Locked { held, keeper });
+                Err((SharedBook { cells, locked }, seats))
             }
         }
     }
 }
 
-/// A book that has ended: how many commits the seats stored, how many steps they made, and the
-/// book.
+/// A book that has ended: how many commits the seats stored, how many steps they made, the book, and
+/// what keeps its records.
 #[derive(Drop)]
-pub struct Closed {
+pub struct Closed<K: Keeper> {
     pub records: u64,
     pub calls: usize,
     pub book: Book,
+    pub keeper: K,
 }

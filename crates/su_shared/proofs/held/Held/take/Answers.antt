@@ -6,8 +6,8 @@ use Rattle.su_book.specs.declared.events.BookReply.{BookReply}
 use Rattle.su_book.specs.Machine.{BookState, MayAct, with_step, records_of}
 use Rattle.su_shared.specs.declared.cells.Record.{Record}
 use Rattle.su_shared.specs.declared.seats.Kept.{Kept}
-use Rattle.su_shared.specs.Shares.{HeldView, IsHeld, nothing, kept_after, kept_by, kept_of, run_records, receipt_for, Gives}
-use Rattle.su_shared.proofs.Keeping.{step_of, added, added_is, held_step, kept_fits, kept_same, kept_told, gives}
+use Rattle.su_shared.specs.Shares.{HeldView, IsHeld, nothing, kept_after, kept_by, kept_of, run_records, record_bytes, receipt_for, Gives}
+use Rattle.su_shared.proofs.Keeping.{step_of, added, added_is, held_step, kept_fits, kept_same, kept_told, gives, holds_step}
 use Rattle.su_shared.proofs.held.Held.take.Goals as goal
 
 pub after-kept-requires : goal.after-kept-requires
@@ -90,3 +90,16 @@ returns-clause-gives g c =
     let receipt : c.last-receipt.result ≡ receipt_for r (run_records (b.journal ++ step_of i act ∷ [])) =
     returns-clause-receipt g c ∙ ap (λ (v : BookState). receipt_for r (run_records v.journal)) book in
     subst (Gives c.args.event r) (sym receipt) (gives b i c.args.event act r c.in_ok-step.ensures.asked may c.in-Ok.ensures.told)
+
+pub returns-clause-holds : goal.returns-clause-holds
+returns-clause-holds g c =
+    let b : BookState = c.self.inside.book in
+    let i = c.args.number in
+    let act : Act = c.in_ok-step.step.act in
+    let before = c.args.keeper.now in
+    let after = c.store.new.keeper in
+    let book : c.apply.new.self ≡ with_step b (step_of i act) = c.in-Ok-apply.ensures.added ∙ ap (λ (n : ℕ). with_step b (step_of n act)) c.in_ok-step.ensures.seat in
+    let held : ∥ g.K.Keeper.holds before (record_bytes b.journal) ∥₁ =
+    subst (λ (v : HeldView). ∥ g.K.Keeper.holds before (record_bytes v.book.journal) ∥₁) (sym c.self.view_is) c.requires.holds in
+    subst (λ (v : BookState). ∥ g.K.Keeper.holds after (record_bytes v.journal) ∥₁) (sym book)
+    (holds_step g.K.Keeper.holds before after b.journal i act held c.in_ok-stored.ensures.same (c.in_ok-stored.ensures.kept (record_bytes b.journal) held))

@@ -5,4 +5,4 @@ use Rattle.su_shared.proofs.shared.SharedBook.commit.Goals as goal
 pub returns-in_err-reply-clause-refused : goal.returns-in_err-reply-clause-refused
 returns-in_err-reply-clause-refused g c =
     let p = err_from_is_err_and c.from_residual.result c.from_residual.ensures.1 in
-    rw (p.1, p.2) (refused_commit c.deref_mut.result.now.book c.args.seat.now.number c.in-Ok.bytes c.args.bytes.now c.in_err-reply.field-0.0 _ c.in-Ok.ensures.items c.in_err-reply.ensures.other c.in_err-reply.ensures.refused)
+    rw (p.1, p.2) (refused_commit c.deref_mut-locked.result.now.held.book c.args.seat.now.number c.in-Ok.bytes c.args.bytes.now c.in_err-reply.field-0.0 _ c.in-Ok.ensures.items c.in_err-reply.ensures.other c.in_err-reply.ensures.refused)

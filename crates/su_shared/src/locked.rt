@@ -1,0 +1,93 @@
+// The book under the lock, beside its keeper.
+ghost use Rattle.std.specs.Prelude.{◌≡◌, ◌+◌, ◌<◌, [], false, IfSome, IfNone, IfOk, IfErr, OnOk, OnErr};
+ghost use Rattle.su_book.specs.Machine.{count_of};
+ghost use Rattle.su_shared.specs.Shares.{record_bytes, TakesUp, IsRecordRefusal};
+ghost use Rattle.su_shared.specs.Faults.{IsRecordFault};
+
+use crate::cells::{BookName, Cells};
+use crate::faults::BookFault;
+use crate::held::Held;
+use crate::seats::Seat;
+use std::alloc::Global;
+use su_book::{BookReply, Event};
+use su_bytes::Refusal;
+use su_keeper::Keeper;
+
+/// The book under the lock, and what keeps its records: it holds those of the book's steps, in
+/// order.
+#[derive(Drop)]
+pub(crate) struct Locked<N: BookName, K: Keeper> {
+    pub(crate) held: Held<N>,
+    pub(crate) keeper: K,
+    ghost kept: { ∥ K.holds keeper (record_bytes held.book.journal) ∥₁ },
+}
+
+impl<N: BookName, K: Keeper> Locked<N, K> {
+    /// Takes up each record that the keeper found, as a commit of this seat, and returns how many
+    /// there were. `Record` with the number of the first one that isn't taken up.
+    pub(crate) fn take_up(
+        &mut self,
+        alloc: Global,
+        cells: &Cells,
+        seat: &mut Seat<N>,
+    ) -> Result<u64, BookFault>
+        requires cells { cells.now ≡ N.cells }
+        requires none { self.old.held.book.journal ≡ [] }
+        requires turn { seat.old.kept.turn ≡ false }
+        ensures end { OnOk result (K.is_at_end self.new.keeper) }
+        ensures count { IfOk result (λ n. count_of self.new.held.book.journal ≡ n) }
+        ensures seat { IfOk result (λ n. (seat.new.kept.stored ≡ seat.old.kept.stored + n)
+            × (seat.new.kept.turn ≡ false)) }
+        ensures refused { IfErr result (λ f. IsRecordFault K.may_fail seat.old.number
+            (count_of self.new.held.book.journal + 1) f) }
+    {
+        for number in 1..u64::MAX {
+            match self.take_one(alloc, cells, seat) {
+                Ok(Some(_)) => {}
+                Ok(None) => return Ok(number - 1),
+                Err(refusal) => return Err(BookFault::Record(number, refusal)),
+            }
+        }
+        // no book has so many
+        Err(BookFault::Record(u64::MAX, Refusal::BookFull))
+    }
+
+    /// Takes up the next record that the keeper found, and returns its number. `None` where there
+    /// is no more. After a refusal the seat may have the turn.
+    fn take_one(
+        &mut self,
+        alloc: Global,
+        cells: &Cells,
+        seat: &mut Seat<N>,
+    ) -> Result<Option<u64>, Refusal>
+        requires cells { cells.now ≡ N.cells }
+        ensures end { IfOk result (λ o. IfNone o (K.is_at_end self.new.keeper)) }
+        ensures same { IfOk result (λ o. IfNone o
+            ((self.new.held ≡ self.old.held) × (seat.new ≡ seat.old))) }
+        ensures taken { IfOk result (λ o. IfSome o (λ n.
+            TakesUp self.old.held.book seat.old.number n self.new.held.book)) }
+        ensures count { IfOk result (λ o. IfSome o (λ _.
+            count_of self.new.held.book.journal ≡ count_of self.old.held.book.journal + 1)) }
+        ensures number { seat.new.number ≡ seat.old.number }
+        ensures stored { IfOk result (λ o. IfSome o (λ _.
+            (seat.new.kept.stored ≡ seat.old.kept.stored + 1) × (seat.new.kept.turn ≡ false))) }
+        ensures err { OnErr result
+            (count_of self.new.held.book.journal ≡ count_of self.old.held.book.journal) }
+        ensures refused { IfErr result (IsRecordRefusal K.may_fail seat.old.number) }
+    {
+        let Ok(found) = self.keeper.next(alloc) else {
+            return Err(Refusal::SourceFailed);
+        };
+        let Some(bytes) = found else {
+            return Ok(None);
+        };
+        let keeper = &mut self.keeper;
+        let (_, _) = self.held.step(alloc, cells, keeper, seat, Event::Grant)?;
+        let commit = Event::Commit(bytes);
+        let (reply, _) = self.held.step(alloc, cells, keeper, seat, commit)?;
+        let BookReply::Stored { number } = reply else {
+            unreachable!()
+        };
+        Ok(Some(number))
+    }
+}
