@@ -3,9 +3,12 @@ pub mod Chaining
 pub mod Joining
 pub mod Widths
 pub mod Places
+pub mod Parts
 pub mod Climbing
 pub mod Hashing
 pub mod NodeTables
 pub mod Signing
+pub mod Verifying
+pub mod Checking
 pub mod Spelling
 pub mod Decoding

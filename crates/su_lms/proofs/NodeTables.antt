@@ -1,5 +1,5 @@
 -- The tree in memory: made from its leaves, and read along a path.
-use Rattle.std.proofs.Common.{◌≡◌, ℕ, zero, suc, ◌+◌, ◌-◌, ◌*◌, ◌/◌, ◌%◌, ◌^◌, ◌≤◌, ◌<◌, List, [], length, get_or, inl, inr, ap, ◌∙◌, arith}
+use Rattle.std.proofs.Common.{◌≡◌, ℕ, zero, suc, ◌+◌, ◌-◌, ◌*◌, ◌/◌, ◌%◌, ◌^◌, ◌≤◌, ◌<◌, List, [], length, get_or, inl, inr, ap, sym, ◌∙◌, arith}
 use Rattle.std.proofs.lemmas.Bool.{cases_eq}
 use Rattle.std.proofs.lemmas.List.{get_or_read}
 use Rattle.std.proofs.lemmas.Nat.{pow_pos, pow-add, le-div, div_below}
@@ -8,7 +8,7 @@ use Rattle.std.proofs.Math.Pow.{pow_mono}
 use Rattle.su_lms.specs.ParameterSets.{height_of}
 use Rattle.su_lms.specs.MerkleTree.{inner_value, node_value, sibling_of}
 use Rattle.su_lms.specs.PrivateKey.{PrivateKey, leaf_count, leaf_at, node_at, path_at}
-use Rattle.su_lms.specs.NodeTable.{IsNodeTable}
+use Rattle.su_lms.specs.NodeTable.{AreLeaves, IsNodeTable}
 
 -- a level has half as many nodes as the one below it
 pub level_below : (h level : ℕ) → suc level ≤ h → 2 ^ (h - level) ≡ 2 * 2 ^ (h - suc level)
@@ -72,3 +72,7 @@ root_in_table key nodes root table read =
     let some : 0 < leaf_count key = pow_pos (height_of key.lms) in
     let inside : 1 < length nodes = omega (arith, table.size) in
     get_or_read nodes 1 root inside read [] ∙ table.each (height_of key.lms) 1 (omega arith) (omega arith) (omega arith)
+
+-- a value that stands among those of some leaves is that of its leaf
+pub among_leaves : (key : PrivateKey) (q offset k : ℕ) (part : List (List ℕ)) (value : List ℕ) → AreLeaves key q part → offset < length part → q + offset ≡ k → get_or part offset [] ≡ value → value ≡ leaf_at key (leaf_count key + 0 + k)
+among_leaves key q offset k part value leaves inside place read = sym read ∙ leaves offset inside ∙ ap (leaf_at key) (omega arith)

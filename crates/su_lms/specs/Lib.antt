@@ -4,6 +4,7 @@ pub mod OneTime
 pub mod Runs
 pub mod MerkleTree
 pub mod Signature
+pub mod Check
 pub mod PrivateKey
 pub mod KeyFile
 pub mod NodeTable

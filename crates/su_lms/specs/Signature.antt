@@ -2,7 +2,7 @@
 use Rattle.std.specs.Prelude.{ℕ, ◌≡◌, ◌<◌, ◌+◌, ◌*◌, ◌^◌, List, take, drop, length}
 use Rattle.su_lms.specs.ParameterSets.{IsOneTimeType, IsTreeType, chain_count, height_of}
 use Rattle.su_lms.specs.Strings.{number_at, part_at}
-use Rattle.su_lms.specs.OneTime.{message_hash, with_checksum, one_time_key_from}
+use Rattle.su_lms.specs.OneTime.{message_hash, with_checksum, end_from, one_time_key_from}
 use Rattle.su_lms.specs.MerkleTree.{leaf_value, climb}
 
 -- The public key: u32str(LMS type) || u32str(LM-OTS type) || I || T[1] (Section 5.3)
@@ -52,17 +52,36 @@ path_value_of ots signature k = part_at (44 + 32 * chain_count ots + 32 * k) sig
 abbrev pub signature_size : ℕ → ℕ → ℕ
 signature_size lms ots = 44 + 32 * chain_count ots + 32 * height_of lms
 
+-- Q || Cksm(Q) of the message (Section 4.6)
+abbrev pub candidate_digits : ℕ → List ℕ → List ℕ → List ℕ → List ℕ
+candidate_digits ots id message signature =
+    with_checksum ots (message_hash id (leaf_of signature) (randomizer_of signature) message)
+
+-- z[i], the end of chain i that the signature of a message leads to (Section 4.6)
+abbrev pub candidate_end : ℕ → List ℕ → List ℕ → List ℕ → ℕ → List ℕ
+candidate_end ots id message signature i =
+    end_from ots id (leaf_of signature) (candidate_digits ots id message signature) i (chain_value_of signature i)
+
+-- the chains end where the signature of the message leads to
+abbrev pub AreEnds : List ℕ → List ℕ → List ℕ → (ℕ → List ℕ) → Type 0
+AreEnds key message signature end =
+    (i : ℕ) → i < chain_count (ots_of key) → end i ≡ candidate_end (ots_of key) (id_of key) message signature i
+
 -- Kc, the one-time public key that the signature of a message leads to (Section 4.6)
 unfoldable pub candidate_key : ℕ → List ℕ → List ℕ → List ℕ → List ℕ
 candidate_key ots id message signature =
-    one_time_key_from ots id (leaf_of signature)
-    (with_checksum ots (message_hash id (leaf_of signature) (randomizer_of signature) message)) (chain_value_of signature)
+    one_time_key_from ots id (leaf_of signature) (candidate_digits ots id message signature) (chain_value_of signature)
+
+-- the root that the one-time public key of the signature's leaf leads to (Section 5.4.2)
+abbrev pub root_from : ℕ → ℕ → List ℕ → List ℕ → List ℕ → List ℕ
+root_from lms ots id signature key =
+    climb id (path_value_of ots signature) (2 ^ height_of lms + leaf_of signature)
+    (leaf_value id (2 ^ height_of lms + leaf_of signature) key) (height_of lms)
 
 -- Tc, the root that the signature of a message leads to (Section 5.4.2)
 unfoldable pub candidate_root : ℕ → ℕ → List ℕ → List ℕ → List ℕ → List ℕ
 candidate_root lms ots id message signature =
-    climb id (path_value_of ots signature) (2 ^ height_of lms + leaf_of signature)
-    (leaf_value id (2 ^ height_of lms + leaf_of signature) (candidate_key ots id message signature)) (height_of lms)
+    root_from lms ots id signature (candidate_key ots id message signature)
 
 -- the signature's length and types are those of the key, and its leaf is one of the tree (Section 5.4.2)
 pub record HasShape (key signature : List ℕ) : Type 0 where

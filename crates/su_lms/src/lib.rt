@@ -3,6 +3,7 @@
 #![tactic(auto)]
 
 mod chains;
+mod checks;
 mod digits;
 mod key_files;
 mod one_time;
@@ -13,6 +14,7 @@ mod stores;
 mod strings;
 mod trees;
 
+pub use checks::{Check, verify_all};
 pub use key_files::KeyFile;
 pub use parameters::Params;
 pub use public_keys::PublicKey;

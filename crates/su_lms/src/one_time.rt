@@ -2,15 +2,13 @@
 ghost use Rattle.std.specs.Prelude.{◌≡◌, ◌≤◌, ◌<◌, ◌+◌, ◌*◌, ◌^◌, ℕ, [], length, slice_index_or};
 ghost use Rattle.sha_lanes.specs.Run.{run_at};
 ghost use Rattle.su_lms.specs.ParameterSets.{IsOneTimeType, chain_count};
-ghost use Rattle.su_lms.specs.OneTime.{hash_of_ends, message_hash, one_time_key, one_time_key_from};
+ghost use Rattle.su_lms.specs.OneTime.{hash_of_ends, message_hash, one_time_key};
 ghost use Rattle.su_lms.specs.PrivateKey.{randomizer};
-ghost use Rattle.su_lms.specs.Signature.{candidate_key, chain_value_of, leaf_of};
 
-use crate::chains::{key_of_ends, run_whole, set_private_values, set_signed_values};
-use crate::digits::with_checksum;
+use crate::chains::{key_of_ends, run_whole, set_private_values};
 use crate::parameters::chain_count;
-use crate::strings::{MESSAGE, hasher_of, number_at, part_at};
-use sha_lanes::{ChainRun, run_chains};
+use crate::strings::{MESSAGE, hasher_of};
+use sha_lanes::ChainRun;
 use sha2::{Digest, Sha256};
 
 /// The one-time public keys of leaf q and the seven behind it (RFC 8554, Section 4.3).
@@ -84,38 +82,4 @@ pub fn randomizer(seed: &[u8; 32], q: u32) -> [u8; 32]
     hasher.update(b"C");
     hasher.update(q.to_be_bytes());
     hasher.finalize()
-}
-
-/// The one-time public key that a signature of the message leads to (RFC 8554, Section 4.6).
-pub fn candidate_key(ots: u32, id: &[u8; 16], message: &[u8], signature: &[u8]) -> [u8; 32]
-    requires listed { IsOneTimeType ots }
-    requires size { 40 + 32 * chain_count ots ≤ length signature.now }
-    ensures { result ≡ candidate_key ots id.now message.now signature.now }
-{
-    let q = number_at(signature, 0);
-    let hash = message_hash(id, q, &part_at(signature, 8), message);
-    let digits = with_checksum(ots, &hash);
-    let mut runs = [ChainRun::idle(); 265];
-    let count = usize::from(chain_count(ots));
-    signed_key(&mut runs[..count], ots, id, &digits, signature)
-}
-
-// The same, by the chains of the signature's leaf and the coefficients.
-fn signed_key(
-    runs: &mut [ChainRun],
-    ots: u32,
-    id: &[u8; 16],
-    digits: &[u8; 34],
-    signature: &[u8],
-) -> [u8; 32]
-    requires listed { IsOneTimeType ots }
-    requires few { length runs.old ≤ 265 }
-    requires count { length runs.old ≡ chain_count ots }
-    requires size { 40 + 32 * chain_count ots ≤ length signature.now }
-    ensures { let signature = signature.now in
-        result ≡ one_time_key_from ots id.now (leaf_of signature) digits.now (chain_value_of signature) }
-{
-    set_signed_values(runs, ots, id, digits, signature);
-    run_chains(runs);
-    key_of_ends(ots, id, number_at(signature, 0), runs)
 }

@@ -1,5 +1,5 @@
 // The parameter sets, by their type numbers.
-ghost use Rattle.std.specs.Prelude.{◌≡◌, ◌≤◌, ◌↔◌, ◌^◌, ◌-◌, ◌+◌, ◌*◌, ◌%◌, IfOk, IsOk, IfErr};
+ghost use Rattle.std.specs.Prelude.{◌≡◌, ◌≤◌, ◌↔◌, ◌^◌, ◌-◌, ◌+◌, ◌*◌, IfOk, IsOk, IfErr};
 ghost use Rattle.su_lms.specs.ParameterSets.{IsOneTimeType, IsTreeType, width_of, chain_count, checksum_shift, height_of, CanBeMade};
 ghost use Rattle.su_bytes.specs.declared.refusals.Refusal.TheVariants.{BadKey};
 
@@ -51,7 +51,6 @@ pub fn leaf_count(lms: u32) -> u32
     requires { IsTreeType lms }
     ensures value { result ≡ 2 ^ height_of lms }
     ensures range { result ≤ 2 ^ 25 }
-    ensures groups { result % 8 ≡ 0 }
 {
     match lms {
         5 => 32,

@@ -1,14 +1,18 @@
 // Public keys, and the verification of signatures.
-ghost use Rattle.std.specs.Prelude.{◌≡◌, ◌≤◌, ◌<◌, ◌+◌, ◌^◌, ◌++◌, ◌↔◌, IsTrue, IsOk, IfOk, IfErr, length};
-ghost use Rattle.su_lms.specs.ParameterSets.{IsOneTimeType, IsTreeType, height_of};
+ghost use Rattle.std.specs.Prelude.{◌≡◌, ◌≤◌, ◌<◌, ◌+◌, ◌^◌, ◌++◌, ◌↔◌, ℕ, List, IsTrue, IsOk, IfOk, IfErr, length, take, drop};
+ghost use Rattle.sha_lanes.specs.Run.{end_of, run_at};
+ghost use Rattle.su_lms.specs.ParameterSets.{IsOneTimeType, IsTreeType, chain_count, height_of};
 ghost use Rattle.su_lms.specs.Strings.{u32str};
-ghost use Rattle.su_lms.specs.Signature.{IsPublicKey, IsSigned, HasShape, signature_size, leaf_of, candidate_root};
+ghost use Rattle.su_lms.specs.Signature.{AreEnds, IsPublicKey, IsSigned, HasShape, id_of, ots_of, signature_size, leaf_of, root_from};
 ghost use Rattle.su_bytes.specs.declared.refusals.Refusal.TheVariants.{BadKey};
 
-use crate::one_time::candidate_key;
+use crate::chains::{key_of_ends, set_signed_values};
+use crate::digits::with_checksum;
+use crate::one_time::message_hash;
 use crate::parameters::{chain_count, height_of, leaf_count};
 use crate::strings::{number_at, part_at, write_at};
 use crate::trees::{leaf_value, parent_value};
+use sha_lanes::{ChainRun, run_chains};
 use std::marker::Model;
 use su_bytes::Refusal;
 
@@ -83,21 +87,71 @@ impl PublicKey {
         if !has_shape(key, signature) {
             return false;
         }
-        let mut id = [0u8; 16];
-        id.copy_from_slice(&key[8..24]);
-        let root = candidate_root(
-            number_at(key, 0),
-            number_at(key, 4),
-            &id,
-            message,
-            signature,
-        );
-        root == part_at(key, 24)
+        let mut runs = [ChainRun::idle(); 265];
+        let count = usize::from(chain_count(number_at(key, 4)));
+        ends_at_root(&mut runs[..count], key, message, signature)
     }
 }
 
-// Whether the signature has the key's length and types, and a leaf of its tree.
-fn has_shape(key: &[u8; 56], signature: &[u8]) -> bool
+// Whether the signature of the message leads to the key's root, by its chains.
+fn ends_at_root(runs: &mut [ChainRun], key: &[u8; 56], message: &[u8], signature: &[u8]) -> bool
+    requires public_key { IsPublicKey key.now }
+    requires shape { HasShape key.now signature.now }
+    requires count { length runs.old ≡ chain_count (ots_of key.now) }
+    requires few { length runs.old ≤ 265 }
+    ensures { IsTrue result ↔ IsSigned key.now message.now signature.now }
+{
+    set_chains(runs, key, message, signature);
+    run_chains(runs);
+    leads_to_root(runs, key, signature)
+}
+
+/// Puts the chains of a signature of the message at its values.
+pub(crate) fn set_chains(runs: &mut [ChainRun], key: &[u8; 56], message: &[u8], signature: &[u8])
+    requires public_key { IsPublicKey key.now }
+    requires shape { HasShape key.now signature.now }
+    requires count { length runs.old ≡ chain_count (ots_of key.now) }
+    requires few { length runs.old ≤ 265 }
+    ensures { AreEnds key.now message.now signature.now (λ i. end_of (run_at runs.new i)) }
+{
+    let ots = number_at(key, 4);
+    let id = id_of(key);
+    let hash = message_hash(
+        &id,
+        number_at(signature, 0),
+        &part_at(signature, 8),
+        message,
+    );
+    set_signed_values(runs, ots, &id, &with_checksum(ots, &hash), signature);
+}
+
+/// Whether a signature leads to the key's root: that of each message at whose ends the chains are.
+pub(crate) fn leads_to_root(ends: &[ChainRun], key: &[u8; 56], signature: &[u8]) -> bool
+    requires public_key { IsPublicKey key.now }
+    requires shape { HasShape key.now signature.now }
+    requires count { length ends.now ≡ chain_count (ots_of key.now) }
+    ensures { (message : List ℕ)
+        → AreEnds key.now message signature.now (λ i. (run_at ends.now i).value)
+        → (IsTrue result ↔ IsSigned key.now message signature.now) }
+{
+    let ots = number_at(key, 4);
+    let id = id_of(key);
+    let one_time_key = key_of_ends(ots, &id, number_at(signature, 0), ends);
+    let root = root_from(number_at(key, 0), ots, &id, signature, &one_time_key);
+    root == part_at(key, 24)
+}
+
+// I, by which keys are told apart.
+fn id_of(key: &[u8; 56]) -> [u8; 16]
+    ensures { result ≡ id_of key.now }
+{
+    let mut id = [0u8; 16];
+    id.copy_from_slice(&key[8..24]);
+    id
+}
+
+/// Whether the signature has the key's length and types, and a leaf of its tree.
+pub(crate) fn has_shape(key: &[u8; 56], signature: &[u8]) -> bool
     requires { IsPublicKey key.now }
     ensures { IsTrue result ↔ HasShape key.now signature.now }
 {
@@ -112,17 +166,17 @@ fn has_shape(key: &[u8; 56], signature: &[u8]) -> bool
         && number_at(signature, 0) < leaf_count(lms)
 }
 
-// The root that the signature leads to.
-fn candidate_root(lms: u32, ots: u32, id: &[u8; 16], message: &[u8], signature: &[u8]) -> [u8; 32]
+// The root that the one-time public key of the signature's leaf leads to.
+fn root_from(lms: u32, ots: u32, id: &[u8; 16], signature: &[u8], key: &[u8; 32]) -> [u8; 32]
     requires tree_type { IsTreeType lms }
     requires one_time_type { IsOneTimeType ots }
     requires size { length signature.now ≡ signature_size lms ots }
     requires leaf { leaf_of signature.now < 2 ^ height_of lms }
-    ensures { result ≡ candidate_root lms ots id.now message.now signature.now }
+    ensures { result ≡ root_from lms ots id.now signature.now key.now }
 {
     let leaf = leaf_count(lms) + number_at(signature, 0);
     let path = 44 + 32 * usize::from(chain_count(ots));
-    let mut value = leaf_value(id, leaf, &candidate_key(ots, id, message, signature));
+    let mut value = leaf_value(id, leaf, key);
     for level in 0..height_of(lms) {
         let sibling = part_at(signature, path + 32 * level as usize);
         value = parent_value(id, leaf >> level, &sibling, &value);

@@ -1,5 +1,5 @@
 // Signers: a private key with its tree, which uses each leaf at most once.
-ghost use Rattle.std.specs.Prelude.{◌≡◌, ◌≢◌, ◌≤◌, ◌<◌, ◌+◌, ◌*◌, ◌-◌, ◌^◌, ◌++◌, ◌⊎◌, ◌↔◌, [], ℕ, IfOk, OnOk, IfErr, OnErr, IsErrOf, length, vec_len, vec_capacity, slice_index_or};
+ghost use Rattle.std.specs.Prelude.{◌≡◌, ◌≢◌, ◌≤◌, ◌<◌, ◌+◌, ◌*◌, ◌-◌, ◌^◌, ◌++◌, ◌⊎◌, ◌↔◌, [], ℕ, IfOk, OnOk, IfErr, OnErr, IsErr, IsErrOf, length, vec_len, vec_capacity, slice_index_or};
 ghost use Rattle.sha_lanes.specs.Run.{run_at};
 ghost use Rattle.su_lms.specs.ParameterSets.{chain_count, height_of, CanBeMade};
 ghost use Rattle.su_lms.specs.Strings.{joined};
@@ -16,10 +16,11 @@ use crate::one_time::{message_hash, randomizer};
 use crate::parameters::{Params, chain_count, height_of, leaf_count};
 use crate::public_keys::PublicKey;
 use crate::stores::KeyStore;
-use crate::trees::{grow, sibling_of};
+use crate::trees::{grow, grow_in_threads, sibling_of};
 use sha_lanes::ChainRun;
 use std::alloc::Global;
 use std::marker::Model;
+use std::thread::Threads;
 use su_bytes::Refusal;
 
 /// A private key that signs with each leaf at most once, lowest first (RFC 8554, Section 5.4.1). It
@@ -57,14 +58,24 @@ impl<S: KeyStore> Signer<S> {
         ensures store { IfOk result (λ signer. signer.store ≡ store) }
         ensures refused { IfErr result (λ e. e ≡ NoMemory) }
     {
-        let file = KeyFile {
-            params,
-            id,
-            seed,
-            next: 0,
-        };
-        let nodes = grow(alloc, &file)?;
-        Ok(Signer { file, nodes, store })
+        Signer::resume(alloc, params, id, seed, 0, store)
+    }
+
+    /// The same, with the leaves of its tree made on all cores. Only `NoMemory` can come.
+    pub fn generate_in_threads<R: Threads + Sync>(
+        rt: &R,
+        alloc: Global,
+        params: Params,
+        id: [u8; 16],
+        seed: [u8; 32],
+        store: S,
+    ) -> Result<Signer<S>, Refusal>
+        ensures key { IfOk result (λ signer. signer.key ≡ made_key params id seed) }
+        ensures next { IfOk result (λ signer. signer.next ≡ 0) }
+        ensures store { IfOk result (λ signer. signer.store ≡ store) }
+        ensures refused { IfErr result (λ e. e ≡ NoMemory) }
+    {
+        Signer::resume_in_threads(rt, alloc, params, id, seed, 0, store)
     }
 
     /// The signer of a key of which the leaves before `next` may have signed. `BadKey` where `next`
@@ -83,16 +94,30 @@ impl<S: KeyStore> Signer<S> {
         ensures bad { IsErrOf result BadKey ↔ (2 ^ height_of params.lms < next) }
         ensures refused { IfErr result (λ e. (e ≡ BadKey) ⊎ (e ≡ NoMemory)) }
     {
-        if leaf_count(params.lms) < next {
-            return Err(Refusal::BadKey);
-        }
-        let file = KeyFile {
-            params,
-            id,
-            seed,
-            next,
-        };
+        let file = kept_key(params, id, seed, next)?;
         let nodes = grow(alloc, &file)?;
+        Ok(Signer { file, nodes, store })
+    }
+
+    /// The same, with the leaves of its tree made on all cores. `BadKey` where `next` is above the
+    /// number of leaves; else only `NoMemory` can come.
+    pub fn resume_in_threads<R: Threads + Sync>(
+        rt: &R,
+        alloc: Global,
+        params: Params,
+        id: [u8; 16],
+        seed: [u8; 32],
+        next: u32,
+        store: S,
+    ) -> Result<Signer<S>, Refusal>
+        ensures key { IfOk result (λ signer. signer.key ≡ made_key params id seed) }
+        ensures next { IfOk result (λ signer. signer.next ≡ next) }
+        ensures store { IfOk result (λ signer. signer.store ≡ store) }
+        ensures bad { IsErrOf result BadKey ↔ (2 ^ height_of params.lms < next) }
+        ensures refused { IfErr result (λ e. (e ≡ BadKey) ⊎ (e ≡ NoMemory)) }
+    {
+        let file = kept_key(params, id, seed, next)?;
+        let nodes = grow_in_threads(rt, alloc, &file)?;
         Ok(Signer { file, nodes, store })
     }
 
@@ -157,6 +182,24 @@ impl<S: KeyStore> Signer<S> {
         append_path(&mut signature, &self.file, &self.nodes, q);
         Ok(signature)
     }
+}
+
+// The key with the leaf that signs next. `BadKey` where that is above the number of leaves.
+fn kept_key(params: Params, id: [u8; 16], seed: [u8; 32], next: u32) -> Result<KeyFile, Refusal>
+    ensures key { IfOk result (λ file. private_key_of file ≡ made_key params id seed) }
+    ensures next { IfOk result (λ file. file.next ≡ next) }
+    ensures bad { IsErr result ↔ (2 ^ height_of params.lms < next) }
+    ensures refused { IfErr result (λ e. e ≡ BadKey) }
+{
+    if leaf_count(params.lms) < next {
+        return Err(Refusal::BadKey);
+    }
+    Ok(KeyFile {
+        params,
+        id,
+        seed,
+        next,
+    })
 }
 
 // Appends bytes for which there is room.

@@ -2,9 +2,8 @@
 ghost use Rattle.std.specs.Prelude.{◌≡◌, ◌≤◌, ◌<◌, ◌*◌, ◌+◌, ◌%◌, ◌^◌, ℕ, [], IfOk, IfErr, length, slice_index_or};
 ghost use Rattle.su_lms.specs.ParameterSets.{height_of};
 ghost use Rattle.su_lms.specs.MerkleTree.{leaf_value, inner_value, parent_value, sibling_of};
-ghost use Rattle.su_lms.specs.PrivateKey.{leaf_at};
-ghost use Rattle.su_lms.specs.KeyFile.{made_key, private_key_of};
-ghost use Rattle.su_lms.specs.NodeTable.{IsNodeTable};
+ghost use Rattle.su_lms.specs.KeyFile.{private_key_of};
+ghost use Rattle.su_lms.specs.NodeTable.{AreLeaves, HasLeaves, IsNodeTable};
 ghost use Rattle.su_bytes.specs.declared.refusals.Refusal.TheVariants.{NoMemory};
 
 use crate::key_files::KeyFile;
@@ -13,6 +12,8 @@ use crate::parameters::leaf_count;
 use crate::strings::{INNER, LEAF, hasher_of};
 use sha2::Digest;
 use std::alloc::Global;
+use std::thread;
+use std::thread::Threads;
 use su_bytes::Refusal;
 
 /// The value of leaf node r, from its one-time public key.
@@ -63,54 +64,123 @@ pub fn grow(alloc: Global, file: &KeyFile) -> Result<Vec<[u8; 32]>, Refusal>
 {
     let leaves = leaf_count(file.params.lms);
     let mut nodes = vec![in alloc; [0u8; 32]; 2 * leaves as usize]?;
-    set_nodes(&mut nodes, file, leaves);
+    set_all_leaves(&mut nodes, file, leaves);
+    set_inner_nodes(&mut nodes, file, leaves);
     Ok(nodes)
 }
 
-// Puts the value of each node at its place.
-fn set_nodes(nodes: &mut [[u8; 32]], file: &KeyFile, leaves: u32)
-    requires leaves { leaves ≡ 2 ^ height_of file.now.params.lms }
-    requires small { leaves ≤ 2 ^ 25 }
-    requires groups { leaves % 8 ≡ 0 }
-    requires size { length nodes.old ≡ 2 * leaves }
-    ensures { IsNodeTable (private_key_of file.now) nodes.new }
+/// The same, with the leaves made on all cores.
+pub fn grow_in_threads<R: Threads + Sync>(
+    rt: &R,
+    alloc: Global,
+    file: &KeyFile,
+) -> Result<Vec<[u8; 32]>, Refusal>
+    ensures value { IfOk result (λ nodes. IsNodeTable (private_key_of file.now) nodes.items) }
+    ensures refused { IfErr result (λ e. e ≡ NoMemory) }
 {
-    set_leaves(nodes, file, leaves);
-    set_inner_nodes(nodes, &file.id, leaves);
+    let leaves = leaf_count(file.params.lms);
+    let mut nodes = vec![in alloc; [0u8; 32]; 2 * leaves as usize]?;
+    set_all_leaves_in_threads(rt, &mut nodes, file, leaves);
+    set_inner_nodes(&mut nodes, file, leaves);
+    Ok(nodes)
 }
 
 // Puts the value of each leaf at its place.
-fn set_leaves(nodes: &mut [[u8; 32]], file: &KeyFile, leaves: u32)
+fn set_all_leaves(nodes: &mut [[u8; 32]], file: &KeyFile, leaves: u32)
     requires leaves { leaves ≡ 2 ^ height_of file.now.params.lms }
     requires small { leaves ≤ 2 ^ 25 }
-    requires groups { leaves % 8 ≡ 0 }
     requires size { length nodes.old ≡ 2 * leaves }
-    ensures { (r : ℕ) → leaves ≤ r → r < 2 * leaves → slice_index_or nodes.new r [] ≡ leaf_at (private_key_of file.now) r }
+    ensures { HasLeaves (private_key_of file.now) nodes.new }
 {
-    for group in 0..leaves / 8 {
-        set_eight_leaves(nodes, file, leaves, 8 * group);
+    set_leaves(&mut nodes[leaves as usize..], file, leaves, 0);
+}
+
+// The same, on all cores: each thread makes the leaves of some groups of eight.
+fn set_all_leaves_in_threads<R: Threads + Sync>(
+    rt: &R,
+    nodes: &mut [[u8; 32]],
+    file: &KeyFile,
+    leaves: u32,
+)
+    requires leaves { leaves ≡ 2 ^ height_of file.now.params.lms }
+    requires small { leaves ≤ 2 ^ 25 }
+    requires size { length nodes.old ≡ 2 * leaves }
+    ensures { HasLeaves (private_key_of file.now) nodes.new }
+{
+    let threads = match thread::available_parallelism(rt) {
+        Ok(threads) => threads.get(),
+        Err(_) => 1,
+    };
+    let groups = leaves.div_ceil(8) as usize;
+    let size = 8 * groups.div_ceil(threads);
+    set_leaves_in_parts(rt, &mut nodes[leaves as usize..], file, leaves, size);
+}
+
+// Puts the value of each leaf at its place, those of the next `size` in a thread of their own.
+fn set_leaves_in_parts<R: Threads + Sync>(
+    rt: &R,
+    part: &mut [[u8; 32]],
+    file: &KeyFile,
+    leaves: u32,
+    size: usize,
+)
+    requires leaves { leaves ≡ 2 ^ height_of file.now.params.lms }
+    requires small { leaves ≤ 2 ^ 25 }
+    requires all { length part.old ≡ leaves }
+    requires size { 0 < size }
+    ensures { AreLeaves (private_key_of file.now) 0 part.new }
+{
+    let set = |q: usize, part: &mut [[u8; 32]]|
+        requires { (leaves ≡ 2 ^ height_of file.now.params.lms) × (leaves ≤ 2 ^ 25)
+            × (q + length part.now ≤ leaves) }
+        ensures { (length part.exit.now ≡ length part.entry.now)
+            × AreLeaves (private_key_of file.entry.now) q part.exit.now }
+    { set_leaves(part, file, leaves, q as u32) };
+    thread::for_each_chunk_mut(rt, part, size, &set);
+}
+
+// Puts the values of leaf q and those behind it at their places.
+fn set_leaves(part: &mut [[u8; 32]], file: &KeyFile, leaves: u32, q: u32)
+    requires leaves { leaves ≡ 2 ^ height_of file.now.params.lms }
+    requires small { leaves ≤ 2 ^ 25 }
+    requires inside { q + length part.old ≤ leaves }
+    ensures { AreLeaves (private_key_of file.now) q part.new }
+{
+    for group in 0..part.len().div_ceil(8) {
+        let first = 8 * group;
+        let end = part.len().min(first + 8);
+        set_eight_leaves(&mut part[first..end], file, leaves, q + first as u32);
     }
 }
 
-// Puts the values of leaf q and the seven behind it at their places.
-fn set_eight_leaves(nodes: &mut [[u8; 32]], file: &KeyFile, leaves: u32, q: u32)
+// Puts the values of leaf q and at most seven behind it at their places.
+fn set_eight_leaves(part: &mut [[u8; 32]], file: &KeyFile, leaves: u32, q: u32)
     requires leaves { leaves ≡ 2 ^ height_of file.now.params.lms }
     requires small { leaves ≤ 2 ^ 25 }
-    requires size { length nodes.old ≡ 2 * leaves }
-    requires inside { q + 8 ≤ leaves }
-    ensures set { (r : ℕ) → leaves + q ≤ r → r < leaves + q + 8
-        → slice_index_or nodes.new r [] ≡ leaf_at (private_key_of file.now) r }
-    ensures others { (r : ℕ) → r < leaves + q → slice_index_or nodes.new r [] ≡ slice_index_or nodes.old r [] }
+    requires inside { q + length part.old ≤ leaves }
+    requires some { q < leaves }
+    requires few { length part.old ≤ 8 }
+    ensures { AreLeaves (private_key_of file.now) q part.new }
 {
     let keys = one_time_keys(file.params.ots, &file.id, &file.seed, q);
-    for l in 0..8u32 {
-        let r = leaves + q + l;
-        nodes[r as usize] = leaf_value(&file.id, r, &keys[l as usize]);
+    for l in 0..part.len() {
+        part[l] = leaf_value(&file.id, leaves + q + l as u32, &keys[l]);
     }
 }
 
-// Puts the value of each inner node at its place, the lowest first.
-fn set_inner_nodes(nodes: &mut [[u8; 32]], id: &[u8; 16], leaves: u32)
+// Puts the value of each inner node at its place.
+fn set_inner_nodes(nodes: &mut [[u8; 32]], file: &KeyFile, leaves: u32)
+    requires leaves { leaves ≡ 2 ^ height_of file.now.params.lms }
+    requires small { leaves ≤ 2 ^ 25 }
+    requires size { length nodes.old ≡ 2 * leaves }
+    requires set { HasLeaves (private_key_of file.now) nodes.old }
+    ensures { IsNodeTable (private_key_of file.now) nodes.new }
+{
+    set_parents(nodes, &file.id, leaves);
+}
+
+// The same, from the values of the leaves, the lowest first.
+fn set_parents(nodes: &mut [[u8; 32]], id: &[u8; 16], leaves: u32)
     requires small { leaves ≤ 2 ^ 25 }
     requires size { length nodes.old ≡ 2 * leaves }
     ensures leaves { (r : ℕ) → leaves ≤ r → slice_index_or nodes.new r [] ≡ slice_index_or nodes.old r [] }

@@ -1,7 +1,7 @@
 -- The inner nodes from r on stand at their places, and the leaves are as they were.
 use Rattle.std.proofs.Common.{◌≡◌, ℕ, ◌≤◌, ◌<◌, ◌+◌, ◌*◌, [], length, get_or}
 use Rattle.su_lms.specs.MerkleTree.{inner_value}
-use Rattle.su_lms.proofs.trees.set_inner_nodes.Given as goal
+use Rattle.su_lms.proofs.trees.set_parents.Given as goal
 
 abbrev pub invariant-loop-r : goal.invariant-loop-r
 invariant-loop-r l = record {

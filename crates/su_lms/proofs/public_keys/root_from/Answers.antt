@@ -2,8 +2,8 @@ use Rattle.std.proofs.Common.{◌≡◌, ℕ, ◌+◌, ◌*◌, ◌/◌, ◌^◌
 use Rattle.su_lms.specs.ParameterSets.{height_of}
 use Rattle.su_lms.specs.Strings.{part_at}
 use Rattle.su_lms.specs.MerkleTree.{leaf_value, parent_value, climb}
-use Rattle.su_lms.specs.Signature.{candidate_root, candidate_key, path_value_of, leaf_of}
-use Rattle.su_lms.proofs.public_keys.candidate_root.Goals as goal
+use Rattle.su_lms.specs.Signature.{path_value_of, leaf_of}
+use Rattle.su_lms.proofs.public_keys.root_from.Goals as goal
 
 pub loop-level-init : goal.loop-level-init
 unfolding climb
@@ -23,16 +23,14 @@ loop-level-preserved c =
     ∙ ap (λ n. climb id (path_value_of c.args.ots c.args.signature.now) leaf c.leaf_value-value.result n) (sym (add-one level))
 
 pub returns : goal.returns
-unfolding candidate_root
 returns c =
     let id : List ℕ = c.args.id.now in
     let signature : List ℕ = c.args.signature.now in
+    let path : ℕ → List ℕ = path_value_of c.args.ots signature in
     let all : c.loop-level.level ≡ height_of c.args.lms = omega (arith, c.height_of-level-end.ensures.value) in
     let leaf : c.leaf_count.result + c.number_at.result ≡ 2 ^ height_of c.args.lms + leaf_of signature =
     ap (λ n. n + c.number_at.result) c.leaf_count.ensures.value ∙ ap (λ n. 2 ^ height_of c.args.lms + n) c.number_at.ensures in
-    let start : c.leaf_value-value.result ≡ leaf_value id (c.leaf_count.result + c.number_at.result) (candidate_key c.args.ots id c.args.message.now signature) =
-    c.leaf_value-value.ensures ∙ ap (leaf_value id (c.leaf_count.result + c.number_at.result)) c.candidate_key.ensures in
     c.loop-level.invariant
-    ∙ ap (λ v. climb id (path_value_of c.args.ots signature) (c.leaf_count.result + c.number_at.result) v c.loop-level.level) start
-    ∙ ap (λ r. climb id (path_value_of c.args.ots signature) r (leaf_value id r (candidate_key c.args.ots id c.args.message.now signature)) c.loop-level.level) leaf
-    ∙ ap (λ n. climb id (path_value_of c.args.ots signature) (2 ^ height_of c.args.lms + leaf_of signature) (leaf_value id (2 ^ height_of c.args.lms + leaf_of signature) (candidate_key c.args.ots id c.args.message.now signature)) n) all
+    ∙ ap (λ v. climb id path (c.leaf_count.result + c.number_at.result) v c.loop-level.level) c.leaf_value-value.ensures
+    ∙ ap (λ r. climb id path r (leaf_value id r c.args.key.now) c.loop-level.level) leaf
+    ∙ ap (climb id path (2 ^ height_of c.args.lms + leaf_of signature) (leaf_value id (2 ^ height_of c.args.lms + leaf_of signature) c.args.key.now)) all
