@@ -32,6 +32,9 @@ pub enum FileFault {
     /// A record isn't where its number says.
     #[error("damaged at record {0}: put a copy of the file in its place")]
     DamagedRecord(u32),
+    /// The book has another record than the file under this number.
+    #[error("another record {0} than the book's: put a copy of the file in its place")]
+    OtherRecord(u32),
     /// The bytes of a block have another digest.
     #[error("damaged at block {0}: put a copy of the file in its place")]
     DamagedBlock(Digest),

@@ -105,10 +105,15 @@ pub(crate) fn count_records<S: Alter>(conn: &mut Connection<S>, most: u32) -> Re
         count ≤ most → HasRecords count (state S.Store conn.old).now.trees) }
     ensures same { HasCleanDisk (state S.Store conn.new) → OnOk result
         ((state S.Store conn.new).now ≡ (state S.Store conn.old).now) }
+    ensures is_open { HasCleanDisk (state S.Store conn.new)
+        → OnOk result (IsTrue (state S.Store conn.new).is_open) }
     ensures crash { Survives (state S.Store conn.old) (state S.Store conn.new) (λ _. ⊥) }
 {
+    if find_record(conn, most)?.is_some() {
+        return Ok(most + 1);
+    }
     let mut low = 0;
-    let mut high = most + 1;
+    let mut high = most;
     'halves: while low < high {
         let middle = low + (high - low) / 2;
         if find_record(conn, middle)?.is_some() {

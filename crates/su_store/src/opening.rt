@@ -3,15 +3,18 @@ ghost use Rattle.std.specs.Prelude.{IfOk};
 ghost use Rattle.sqlite.specs.Tree.{Trees};
 ghost use Rattle.sqlite_trees.specs.View.{IsClean};
 ghost use Rattle.sqlite.specs.State.{HasCleanDisk};
-ghost use Rattle.sqlite.specs.Files.{file_state, HoldsDatabase};
+ghost use Rattle.sqlite.specs.Files.{file_state, over_files, HoldsDatabase};
 ghost use Rattle.sqlite.specs.WalFiles.{image_at};
+ghost use Rattle.sqlite.specs.Closing.{IsCopied};
+ghost use Rattle.sqlite.specs.WalReads.{AreClean};
 ghost use Rattle.sqlite_store.specs.FileStore.{state as files_state, view};
+ghost use Rattle.su_store.specs.Files.{IsAtRest};
 ghost use Rattle.su_store.specs.Opening.{OpensFrom};
 
 use crate::faults::FileFault;
 use crate::record_files::RecordFile;
 use sqlite::{Connection, FileFrom, FileStore, Start};
-use sqlite_disk::Disk;
+use sqlite_disk::{Disk, Files};
 
 /// Opens the store's file at a path, or makes it with a sum at the end of each page. `start` says
 /// how a crash is read: `Wary` syncs twice a record, `Unknown` once, where a write that a crash
@@ -21,8 +24,9 @@ pub fn open<T: Start>(
     path: &str,
     start: T,
 ) -> Result<RecordFile<FileStore<FileFrom<T>>>, FileFault>
-    ensures { IfOk result (λ f. HasCleanDisk (file_state f.held) →
+    ensures opened { IfOk result (λ f. HasCleanDisk (file_state f.held) →
         OpensFrom (image_at T.Start) f.held) }
+    ensures rest { IfOk result (λ f. HasCleanDisk (file_state f.held) → IsAtRest over_files f) }
 {
     match Connection::open_from(rt, path, true, start) {
         Ok(connection) => RecordFile::over(connection),
@@ -38,5 +42,17 @@ impl<D: Disk + Drop> RecordFile<FileStore<D>> {
             → ∥ ((db : Trees) × HoldsDatabase left db × (file_state self.held).may_leave db) ∥₁ }
     {
         self.into_connection().into_store()
+    }
+
+    /// Copies the log into the database file, which then holds all that is kept, and gives both
+    /// files back. A file that is dropped leaves it in the log, where the next open reads it.
+    pub fn close(self) -> Result<Files<D>, FileFault>
+        ensures { IfOk result (λ files. AreClean D.Disk files.log files.db →
+            IsCopied self.held files) }
+    {
+        match self.into_connection().close_files() {
+            Ok(files) => Ok(files),
+            Err((error, _left)) => Err(FileFault::from(error)),
+        }
     }
 }

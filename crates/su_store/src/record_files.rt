@@ -1,11 +1,11 @@
 // One file of records and blocks.
-ghost use Rattle.std.specs.Prelude.{◌≡◌, ◌+◌, false, IsTrue, IfOk, OnOk, IfSome, map, option_map};
+ghost use Rattle.std.specs.Prelude.{◌≡◌, ◌+◌, ◌≤◌, None, false, IsTrue, IfOk, OnOk, IfSome, map, option_map};
 ghost use Rattle.sha2.specs.Sha256.{sha256};
 ghost use Rattle.sqlite.specs.State.{HasCleanDisk, Survives};
 ghost use Rattle.sqlite.specs.Held.{state};
-ghost use Rattle.su_store.specs.Changes.{Extends, Keeps, HasRecords};
+ghost use Rattle.su_store.specs.Changes.{Extends, Keeps};
 ghost use Rattle.su_store.specs.Lookups.{IsRecord, IsBlock};
-ghost use Rattle.su_store.specs.Files.{BeginsFrom};
+ghost use Rattle.su_store.specs.Files.{BeginsFrom, IsAtRest};
 
 use crate::faults::FileFault;
 use crate::lookups::{count_records, find_block, find_record, is_next};
@@ -43,19 +43,23 @@ impl<S: Alter> Model for RecordFile<S> {
 
 impl<S: Alter + Drop> RecordFile<S> {
     /// Takes over a connection: a store's file, or a new one, in which it makes the tables. An
-    /// SQLite file of something else is refused with `Foreign`, and is left as it is.
+    /// SQLite file of something else is refused with `Foreign`, and is left as it is. `Spent` where
+    /// the connection is inside a transaction.
     pub fn over(connection: Connection<S>) -> Result<RecordFile<S>, FileFault>
         ensures clean { IfOk result (λ f. HasCleanDisk (state S.Store f.held) →
             HasCleanDisk (state S.Store connection)) }
         ensures begun { IfOk result (λ f. HasCleanDisk (state S.Store f.held) →
             BeginsFrom (state S.Store connection) (state S.Store f.held)) }
-        ensures count { IfOk result (λ f. HasCleanDisk (state S.Store f.held) →
-            HasRecords f.count (state S.Store f.held).now.trees) }
+        ensures rest { IfOk result (λ f. HasCleanDisk (state S.Store f.held) →
+            IsAtRest S.Store f) }
         ensures unspent { IfOk result (λ f. f.is_spent ≡ false) }
     {
         let mut connection = connection;
         prepare(&mut connection)?;
         let count = count_records(&mut connection, MOST_RECORDS)?;
+        if !connection.is_autocommit() {
+            return Err(FileFault::Spent);
+        }
         if MOST_RECORDS < count {
             return Err(FileFault::TooLong);
         }
@@ -137,6 +141,7 @@ impl<S: Alter> RecordFile<S> {
             ((state S.Store self.new.held).now ≡ (state S.Store self.old.held).now) }
         ensures crash { Survives (state S.Store self.old.held) (state S.Store self.new.held)
             (λ _. ⊥) }
+        ensures end { IfOk result (λ found. found ≡ None → self.new.count ≤ number) }
         ensures count { self.new.count ≡ self.old.count }
         ensures unspent { OnOk result (self.new.is_spent ≡ false) }
     {

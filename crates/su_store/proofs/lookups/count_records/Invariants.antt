@@ -1,4 +1,4 @@
-use Rattle.std.proofs.Common.{◌≡◌, ◌+◌, ◌-◌, ◌≤◌, length}
+use Rattle.std.proofs.Common.{◌≡◌, ◌-◌, ◌≤◌, length, IsTrue}
 use Rattle.sqlite.specs.State.{HasCleanDisk, Survives}
 use Rattle.sqlite.specs.Held.{state}
 use Rattle.su_store.specs.Kept.{Kept}
@@ -11,11 +11,12 @@ invariant-halves g l =
     let now = state g.S.Store l.conn in
     record {
       within : l.low ≤ l.high;
-      bound : l.high ≤ l.fn.most + 1;
+      bound : l.high ≤ l.fn.most;
       crash : Survives old now (λ _. ⊥);
       same : HasCleanDisk now → now.now ≡ old.now;
+      is_open : HasCleanDisk now → IsTrue now.is_open;
       below : HasCleanDisk now → (kept : Kept) → Stands kept old.now.trees → l.low ≤ length kept.records;
-      above : HasCleanDisk now → (kept : Kept) → Stands kept old.now.trees → l.high ≤ l.fn.most → length kept.records ≤ l.high;
+      above : HasCleanDisk now → (kept : Kept) → Stands kept old.now.trees → length kept.records ≤ l.high;
     }
 
 abbrev pub decreases-halves : goal.decreases-halves

@@ -5,8 +5,8 @@ joined : {X Y : Type 0} (r : Result X Y) (P Q R : X → Type 0) → ((x : X) →
 joined (Ok x) P Q R f p q = f x p q
 joined (Err e) P Q R f p q = tt
 
-pub returns-in-Ok : goal.returns-in-Ok
-returns-in-Ok g c =
+pub returns-in-Ok-clause-opened : goal.returns-in-Ok-clause-opened
+returns-in-Ok-clause-opened g c =
     joined c.over.result _ _ _ (λ f clean begun late. record {
       was = c.in-Ok.connection;
       opened = c.in-Ok.ensures.opened (clean late);
