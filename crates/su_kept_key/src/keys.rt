@@ -14,6 +14,7 @@ use std::fs::File;
 use std::io;
 use std::io::ErrorKind;
 use std::marker::Model;
+use std::thread::Threads;
 use su_bytes::Refusal;
 use su_lms::{KeyFile, KeyStore, Params, Signer};
 
@@ -166,8 +167,12 @@ fn leaf_count(params: Params) -> u32
     }
 }
 
-/// Makes the signer of a kept key. Only `NoMemory` can come.
-pub fn signer_of<'a>(alloc: Global, kept: KeptKey<'a>) -> Result<Signer<KeptKey<'a>>, Refusal>
+/// Makes the signer of a kept key, on all cores. Only `NoMemory` can come.
+pub fn signer_of<'a, T: Threads + Sync>(
+    host: &T,
+    alloc: Global,
+    kept: KeptKey<'a>,
+) -> Result<Signer<KeptKey<'a>>, Refusal>
     ensures key { IfOk result (λ signer. signer.key ≡ kept.entry.key) }
     ensures next { IfOk result (λ signer. signer.next ≡ kept.entry.next) }
     ensures store { IfOk result (λ signer. signer.store ≡ kept.entry) }
@@ -179,5 +184,5 @@ pub fn signer_of<'a>(alloc: Global, kept: KeptKey<'a>) -> Result<Signer<KeptKey<
         seed,
         next,
     } = *kept.file();
-    Signer::resume(alloc, params, id, seed, next, kept)
+    Signer::resume_in_threads(host, alloc, params, id, seed, next, kept)
 }

@@ -10,6 +10,7 @@ use std::alloc::{AllocError, Global};
 use std::fs::File;
 use std::io;
 use std::io::Read;
+use std::thread::Threads;
 use su_lms::{KeyFile, NoStore, Params, PublicKey, Signer};
 
 /// Bytes of entropy.
@@ -53,28 +54,35 @@ struct NewKey {
 /// to `out.pub`, over plain files that stood there, unless another process uses the key. The faults
 /// of the entropy come first, and then nothing was written. Beside the key `out.lock` is made and
 /// stays.
-pub fn make_key(
+pub fn make_key<T: Threads + Sync>(
     rt: &HostRuntime,
+    host: &T,
     entropy: &str,
     out: &str,
     params: Params,
 ) -> Result<PublicKey, KeygenFault>
     ensures { IfOk result (IsKeyOf params) }
 {
-    let made = new_key(rt.alloc(), params, read_entropy(rt, entropy)?)?;
+    let made = new_key(host, rt.alloc(), params, read_entropy(rt, entropy)?)?;
     keep_pair(rt, out, &made.file, made.public.as_bytes())?;
     Ok(made.public)
 }
 
-/// Makes the key of that entropy, with its first leaf to sign next. Only `NoMemory` can come.
-fn new_key(alloc: Global, params: Params, entropy: Entropy) -> Result<NewKey, AllocError>
+/// Makes the key of that entropy, with its first leaf to sign next, on all cores. Only `NoMemory`
+/// can come.
+fn new_key<T: Threads + Sync>(
+    host: &T,
+    alloc: Global,
+    params: Params,
+    entropy: Entropy,
+) -> Result<NewKey, AllocError>
     ensures file { IfOk result (λ made.
         made.file ≡ key_file_bytes (made_key params entropy.id entropy.seed) 0) }
     ensures public { IfOk result (λ made.
         made.public ≡ key_of (made_key params entropy.id entropy.seed)) }
 {
     let Entropy { id, seed } = entropy;
-    let Ok(signer) = Signer::generate(alloc, params, id, seed, NoStore) else {
+    let Ok(signer) = Signer::generate_in_threads(host, alloc, params, id, seed, NoStore) else {
         return Err(AllocError);
     };
     let file = KeyFile {

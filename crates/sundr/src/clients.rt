@@ -12,6 +12,7 @@ use std::fs::File;
 use std::io;
 use std::io::{BufReader, ErrorKind, Read, Write};
 use std::net::{Ipv4Addr, Net, TcpListener, TcpStream};
+use std::thread::Threads;
 use su_audit::tell_refused;
 use su_block::{BlockSource, Checked, MemoryBlocks};
 use su_bytes::{Roster, User};
@@ -51,7 +52,7 @@ pub(crate) fn client<T, R: Read + Drop, W: Write>(
     writer: &mut W,
 ) -> Status
 where
-    T: Net<Listener = TcpListener, Stream = TcpStream>,
+    T: Net<Listener = TcpListener, Stream = TcpStream> + Threads + Sync,
     requires { IsUserCount (length options.keys.now) }
     ensures { (before : List ℕ) → W.contents writer.old ≡ Some before
         → AddsUnlessFault before (W.contents writer.new) result }
@@ -83,16 +84,18 @@ fn work<R: Read + Drop, W: Write>(
 }
 
 /// Makes the client, whose list are the commits of the log.
-fn member_of<'a, T: Net<Listener = TcpListener, Stream = TcpStream>>(
+fn member_of<'a, T>(
     rt: &'a HostRuntime,
     host: &T,
     options: Options<'_>,
 ) -> Result<Member<BufReader<TcpStream>, TcpStream, KeptKey<'a>>, ClientFault>
+where
+    T: Net<Listener = TcpListener, Stream = TcpStream> + Threads + Sync,
     requires { IsUserCount (length options.keys.now) }
 {
     let alloc = rt.alloc();
     let user = user_of(options)?;
-    let signer = open_signer(rt, options.key)?;
+    let signer = open_signer(rt, host, options.key)?;
     let roster = read_roster(rt, options.keys)?;
     let log = open_log(rt, options.log)?;
     match connect(alloc, host, options.port) {
@@ -117,9 +120,13 @@ fn user_of(options: Options<'_>) -> Result<User, ClientFault> {
 }
 
 /// Opens the key file, and makes the signer of its key.
-fn open_signer<'a>(rt: &'a HostRuntime, key: &str) -> Result<Signer<KeptKey<'a>>, ClientFault> {
+fn open_signer<'a, T: Threads + Sync>(
+    rt: &'a HostRuntime,
+    host: &T,
+    key: &str,
+) -> Result<Signer<KeptKey<'a>>, ClientFault> {
     let kept = KeptKey::open(rt, key)?;
-    Ok(signer_of(rt.alloc(), kept)?)
+    Ok(signer_of(host, rt.alloc(), kept)?)
 }
 
 /// A log that is open.

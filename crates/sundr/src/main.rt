@@ -84,7 +84,7 @@ where
             entropy,
             out,
             params,
-        } => new_key(rt, entropy.as_str(), out.as_str(), params, writer),
+        } => new_key(rt, host, entropy.as_str(), out.as_str(), params, writer),
         Line::Audit { log, keys } => audit(rt, host, log.as_str(), keys.as_slice(), writer),
         Line::Serve {
             port,
@@ -157,8 +157,9 @@ fn tell_ending(rt: &HostRuntime, ending: &Ending) {
 }
 
 /// Makes a key, and prints its public key.
-fn new_key<W: Write>(
+fn new_key<T: Threads + Sync, W: Write>(
     rt: &HostRuntime,
+    host: &T,
     entropy: &str,
     out: &str,
     params: Params,
@@ -167,15 +168,16 @@ fn new_key<W: Write>(
     ensures { (before : List ℕ) → W.contents writer.old ≡ Some before
         → PrintsUnlessFault (IsPublicLine params) before (W.contents writer.new) result }
 {
-    match public_line(rt, entropy, out, params) {
+    match public_line(rt, host, entropy, out, params) {
         Ok(text) => print(rt, text.as_str(), writer),
         Err(fault) => tell_fault(rt, fault),
     }
 }
 
 /// Makes a key, and returns its public key as a line of 112 hex digits.
-fn public_line(
+fn public_line<T: Threads + Sync>(
     rt: &HostRuntime,
+    host: &T,
     entropy: &str,
     out: &str,
     params: Params,
@@ -183,7 +185,7 @@ fn public_line(
     ensures { IfOk result (λ text. IsPublicLine params (string_bytes text)) }
 {
     let alloc = rt.alloc();
-    let public = make_key(rt, entropy, out, params)?;
+    let public = make_key(rt, host, entropy, out, params)?;
     let digits = hex::encode(alloc, public.as_bytes())?;
     Ok(format!(in alloc; "{digits}\n")?)
 }

@@ -16,12 +16,7 @@ use su_serving::Options;
 // The workers' threads have the C library's stacks: as large as the shell allows (`ulimit -s`), or
 // 2 MiB where it sets no limit. A worker holds records and items, and no tree of names, so none of
 // its calls goes deep.
-pub(crate) fn serve<T>(
-    rt: &HostRuntime,
-    host: &T,
-    options: Options<'_>,
-    keys: &[String],
-) -> Status
+pub(crate) fn serve<T>(rt: &HostRuntime, host: &T, options: Options<'_>, keys: &[String]) -> Status
 where
     T: Net<Listener = TcpListener, Stream = TcpStream> + Threads + Wait + Sync,
     requires { IsUserCount (length keys.now) }
