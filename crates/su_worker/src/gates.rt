@@ -6,8 +6,11 @@ use std::marker::Model;
 use su_message::{Reply, Request};
 use su_session::{Begin, Service};
 
-/// Is passed before and after each request of a session.
+/// Is opened before the first session comes, and passed before and after each request of a session.
 pub trait Gate {
+    /// Is opened, once.
+    fn open(&self);
+
     /// Lets a request of this session in.
     fn enter(&self, session: u64);
 
@@ -20,6 +23,8 @@ pub trait Gate {
 pub struct OpenGate;
 
 impl Gate for OpenGate {
+    fn open(&self) {}
+
     fn enter(&self, _session: u64) {}
 
     fn leave(&self, _session: u64) {}

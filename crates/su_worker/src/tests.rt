@@ -82,6 +82,8 @@ struct Sums {
 }
 
 impl Gate for Sums {
+    fn open(&self) {}
+
     fn enter(&self, session: u64) {
         self.entered.fetch_add(session, Ordering::SeqCst);
     }
