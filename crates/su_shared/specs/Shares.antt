@@ -18,7 +18,7 @@ use Rattle.su_shared.specs.declared.cells.Record.{Record}
 use Rattle.su_shared.specs.declared.seats.Kept.{Kept}
 use Rattle.su_shared.specs.Seats.{SeatView, known_at}
 
--- what contracts see of the value under the lock: the book, and how many seats it has
+-- what contracts see of what lies beside the keeper: the book, and how many seats it has
 pub record HeldView : Type 0 where
   pub book : BookState
   pub seats : ℕ

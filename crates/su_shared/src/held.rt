@@ -1,4 +1,4 @@
-// What lies under the lock.
+// What lies under the lock, beside the keeper.
 ghost use Rattle.std.specs.Prelude.{◌≡◌, ◌≢◌, ◌-◌, ◌+◌, ◌≤◌, ◌<◌, ◌++◌, [], ◌⊎◌, length, true, false, IfSome, IfNone, IfOk, IfErr, OnOk, OnErr, Err, None, Some, vec_len, vec_capacity, option_to_list, replicate, map, slice_get, ℕ, List, ◌∷◌, IsPermutation};
 ghost use Rattle.su_bytes.specs.declared.refusals.Refusal.TheVariants.{NoMemory, BookFull, BadNumber, SourceFailed};
 ghost use Rattle.su_version.specs.Commit.{Commit, commit_bytes};
@@ -18,8 +18,9 @@ use su_book::{Act, Book, BookReply, Event};
 use su_bytes::Refusal;
 use su_keeper::Keeper;
 
-/// What lies under the lock: the book, a receipt for each of its records, what each seat was told,
-/// and the ledger of the seats' steps. Its model is the book and the number of seats.
+/// What lies under the lock, beside the keeper: the book, a receipt for each of its records, what
+/// each seat was told, and the ledger of the seats' steps. Its model is the book and the number of
+/// seats.
 #[derive(Drop)]
 pub struct Held<N: BookName> {
     book: Book,

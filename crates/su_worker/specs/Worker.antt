@@ -98,12 +98,13 @@ Gets digest r =
 
 -- ---- all requests
 
--- What may be answered: the seat before it, the request, the reply, the seat after it.
-abbrev pub Answers : SeatView → Request → Reply → SeatView → Type 0
-Answers s request.Grant r t = Grants s r t ⊎ Meets s true IsGrantRefusal r t
-Answers s (request.Commit bytes) r t =
-    Stores s bytes r t ⊎ Meets s false (IsCommitRefusal s.number bytes) r t
-Answers s request.Give r t = HandsBack s r t ⊎ Meets s false IsGiveRefusal r t
-Answers s (request.Fetch n) r t = Reads s n r t ⊎ FindsNothing s n r t
-Answers s (request.Put item) r t = Puts (is_item item) item r × (t ≡ s)
-Answers s (request.Get digest) r t = Gets digest r × (t ≡ s)
+-- What may be answered, where keeping a record may fail so: the seat before it, the request, the
+-- reply, the seat after it.
+abbrev pub Answers : Type 0 → SeatView → Request → Reply → SeatView → Type 0
+Answers may_fail s request.Grant r t = Grants s r t ⊎ Meets s true IsGrantRefusal r t
+Answers may_fail s (request.Commit bytes) r t =
+    Stores s bytes r t ⊎ Meets s false (IsCommitRefusal may_fail s.number bytes) r t
+Answers may_fail s request.Give r t = HandsBack s r t ⊎ Meets s false IsGiveRefusal r t
+Answers may_fail s (request.Fetch n) r t = Reads s n r t ⊎ FindsNothing s n r t
+Answers may_fail s (request.Put item) r t = Puts (is_item item) item r × (t ≡ s)
+Answers may_fail s (request.Get digest) r t = Gets digest r × (t ≡ s)

@@ -9,6 +9,7 @@ use std::sync::atomic::{AtomicU64, Ordering};
 use std::sync::ledger::Blank;
 use std::test::Fail;
 use su_bytes::{KEY_LENGTH, Refusal, Roster};
+use su_keeper::Forgetful;
 use su_session::{Begin, End, Served, Service, serve};
 use su_shards::SharedBlocks;
 use su_shared::{BookName, Cells, Seat, SharedBook};
@@ -124,7 +125,7 @@ fn one_user(alloc: Global) -> Result<Roster, Refusal> {
 fn served_at<N: BookName, R: Wait + Abort, G: Gate>(
     rt: &R,
     alloc: Global,
-    book: &SharedBook<N>,
+    book: &SharedBook<N, Forgetful>,
     gate: &G,
     seat: Seat<N>,
 ) -> Result<(Served, Seat<N>), Fail> {
@@ -145,7 +146,7 @@ fn try_worker<N: BookName, R: Wait + Abort>(
     requires cells { cells ≡ N.cells }
     requires ledger { (blank.name ≡ N.name) × (blank.parts ≡ N.parts) × (257 ≤ N.parts) }
 {
-    let book: SharedBook<N> = SharedBook::new(alloc, cells, roster, blank)?;
+    let book: SharedBook<N, Forgetful> = SharedBook::new(alloc, cells, roster, blank, Forgetful)?;
     let seat = book.seat(rt, alloc)?;
     let gate = Sums {
         entered: AtomicU64::new(0),

@@ -8,6 +8,7 @@ use std::alloc::Global;
 use std::marker::Model;
 use std::sync::Wait;
 use su_bytes::{Digest, Refusal};
+use su_keeper::Keeper;
 use su_message::{Bytes, Reply, Request};
 use su_service::{reply_or_refusal, told};
 use su_session::Service;
@@ -17,14 +18,14 @@ use su_shared::{BookName, Seat, SharedBook};
 /// A service over a book and items that are shared, which asks the book from a seat of its own. Its
 /// model is that seat.
 #[derive(Drop)]
-pub struct Worker<'a, N: BookName, R: Wait> {
-    book: &'a SharedBook<N>,
+pub struct Worker<'a, N: BookName, K: Keeper, R: Wait> {
+    book: &'a SharedBook<N, K>,
     blocks: &'a SharedBlocks,
     seat: Seat<N>,
     rt: &'a R,
 }
 
-impl<'a, N: BookName, R: Wait> Model for Worker<'a, N, R> {
+impl<'a, N: BookName, K: Keeper, R: Wait> Model for Worker<'a, N, K, R> {
     ghost use Rattle.su_shared.specs.Seats.{SeatView};
 
     ghost Value = { SeatView };
@@ -32,14 +33,14 @@ impl<'a, N: BookName, R: Wait> Model for Worker<'a, N, R> {
     ghost view = { λ w. w.seat };
 }
 
-impl<'a, N: BookName, R: Wait> Worker<'a, N, R> {
+impl<'a, N: BookName, K: Keeper, R: Wait> Worker<'a, N, K, R> {
     /// Makes the service of a seat of this book.
     pub fn new(
         rt: &'a R,
-        book: &'a SharedBook<N>,
+        book: &'a SharedBook<N, K>,
         blocks: &'a SharedBlocks,
         seat: Seat<N>,
-    ) -> Worker<'a, N, R>
+    ) -> Worker<'a, N, K, R>
         ensures { result ≡ seat }
     {
         Worker {
@@ -58,14 +59,14 @@ impl<'a, N: BookName, R: Wait> Worker<'a, N, R> {
     }
 
     fn grant(&mut self, alloc: Global) -> Result<Reply, Refusal>
-        ensures { Answers self.old request.Grant (said result) self.new }
+        ensures { Answers K.may_fail self.old request.Grant (said result) self.new }
     {
         let (reply, _receipt) = self.book.grant(self.rt, alloc, &mut self.seat)?;
         Ok(told(reply))
     }
 
     fn commit(&mut self, alloc: Global, commit: &Bytes) -> Result<Reply, Refusal>
-        ensures { Answers self.old (request.Commit commit.now) (said result) self.new }
+        ensures { Answers K.may_fail self.old (request.Commit commit.now) (said result) self.new }
     {
         let bytes = commit.as_slice();
         let (number, _receipt) = self.book.commit(self.rt, alloc, &mut self.seat, bytes)?;
@@ -73,14 +74,14 @@ impl<'a, N: BookName, R: Wait> Worker<'a, N, R> {
     }
 
     fn give(&mut self, alloc: Global) -> Result<Reply, Refusal>
-        ensures { Answers self.old request.Give (said result) self.new }
+        ensures { Answers K.may_fail self.old request.Give (said result) self.new }
     {
         self.book.give(self.rt, alloc, &mut self.seat)?;
         Ok(Reply::Given)
     }
 
     fn fetch(&mut self, alloc: Global, number: u64) -> Result<Reply, Refusal>
-        ensures { Answers self.old (request.Fetch number) (said result) self.new }
+        ensures { Answers K.may_fail self.old (request.Fetch number) (said result) self.new }
     {
         let Some(found) = self.book.published(&mut self.seat, number) else {
             return Ok(Reply::Nothing);
@@ -90,22 +91,22 @@ impl<'a, N: BookName, R: Wait> Worker<'a, N, R> {
     }
 
     fn put(&self, alloc: Global, item: &Bytes) -> Result<Reply, Refusal>
-        ensures { Answers self.now (request.Put item.now) (said result) self.now }
+        ensures { Answers K.may_fail self.now (request.Put item.now) (said result) self.now }
     {
         let digest = self.blocks.put(self.rt, alloc, item.as_slice())?;
         Ok(Reply::PutDone(digest))
     }
 
     fn get(&self, alloc: Global, digest: Digest) -> Result<Reply, Refusal>
-        ensures { Answers self.now (request.Get digest) (said result) self.now }
+        ensures { Answers K.may_fail self.now (request.Get digest) (said result) self.now }
     {
         let item = self.blocks.get(self.rt, alloc, digest)?;
         Ok(Reply::Item(Bytes::new(item)))
     }
 }
 
-impl<'a, N: BookName, R: Wait> Service for Worker<'a, N, R> {
-    ghost answers = { Answers };
+impl<'a, N: BookName, K: Keeper, R: Wait> Service for Worker<'a, N, K, R> {
+    ghost answers = { Answers K.may_fail };
 
     fn answer(&mut self, alloc: Global, request: &Request) -> Reply {
         match request {

@@ -9,10 +9,10 @@ pub returns-in_err-number : goal.returns-in_err-number
 returns-in_err-number g c =
     let p = err_from_is_err_and c.from_residual.result c.from_residual.ensures.1 in
     let e : Refusal = c.in_err-number.field-0.0 in
-    let of_bytes = subst (λ (l : List ℕ). IsCommitRefusal c.self.inside.seat.number l e) c.as_slice-bytes.ensures c.in_err-number.ensures.refused in
+    let of_bytes = subst (λ (l : List ℕ). IsCommitRefusal g.K.Keeper.may_fail c.self.inside.seat.number l e) c.as_slice-bytes.ensures c.in_err-number.ensures.refused in
     rw (p.1, p.2) (inr (record {
       refusal = e;
-      reason = subst (λ (s : SeatView). IsCommitRefusal s.number c.args.commit.now e) c.self.view_is of_bytes;
+      reason = subst (λ (s : SeatView). IsCommitRefusal g.K.Keeper.may_fail s.number c.args.commit.now e) c.self.view_is of_bytes;
       meets = subst (λ (s : SeatView). MayMeet s.kept s.number false e) c.self.view_is c.in_err-number.ensures.meets;
       reply_is = refl;
       same = c.in_err-number.ensures.err ∙ c.self.view_is;
