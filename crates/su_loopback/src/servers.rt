@@ -5,8 +5,9 @@ use std::net::{Ipv4Addr, Net, SocketAddr, TcpListener, TcpStream};
 use std::sync::Wait;
 use std::test::Fail;
 use std::thread::Threads;
-use su_bytes::Refusal;
-use su_server::{Connections, Report, serve_book};
+use su_keeper::Forgetful;
+use su_server::{BookFault, Connections, Report, Stop, serve_book};
+use su_shards::SharedBlocks;
 use su_worker::OpenGate;
 
 /// How many sessions are served at once.
@@ -30,8 +31,13 @@ pub(crate) fn serve<R: Threads + Wait + Sync>(
     alloc: Global,
     listener: &TcpListener,
     sessions: u32,
-) -> Result<Report, Refusal> {
-    let came = Connections::new(listener, sessions);
+) -> Result<Report<Forgetful>, BookFault> {
+    let stop = Stop::new();
+    let came = Connections::new(listener, &stop, sessions);
     let roster = roster(alloc)?;
-    serve_book(rt, alloc, came, WORKERS, CAPACITY, roster, &OpenGate)
+    let blocks = SharedBlocks::new(alloc)?;
+    let (keeper, gate) = (Forgetful, &OpenGate);
+    serve_book(
+        rt, alloc, came, WORKERS, CAPACITY, roster, &blocks, keeper, gate,
+    )
 }

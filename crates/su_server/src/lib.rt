@@ -7,7 +7,8 @@ mod stops;
 
 pub use connections::{Connections, MOST_FAILURES};
 pub use servers::{Report, serve_book};
-pub use stops::{Stop, Stopping, Watched};
+pub use stops::{Stop, Watched};
+pub use su_shared::BookFault;
 
 #[cfg(test)]
 mod tests;

@@ -1,11 +1,7 @@
 // Ending a server from within: once what it stores can't be kept, it serves no more.
-ghost use Rattle.std.specs.Prelude.{◌≡◌};
-
-use std::alloc::Global;
 use std::io;
 use std::io::{ErrorKind, Read};
 use std::sync::atomic::{AtomicBool, Ordering};
-use su_keeper::{Keeper, NotKept};
 
 /// Whether a server is to end.
 #[derive(Drop)]
@@ -29,54 +25,6 @@ impl Stop {
     /// Whether it is set.
     pub fn is_set(&self) -> bool {
         self.is_set.load(Ordering::SeqCst)
-    }
-}
-
-/// A keeper whose first failure stops the server. It holds what the keeper within holds.
-#[derive(Drop)]
-pub struct Stopping<'a, K> {
-    keeper: K,
-    stop: &'a Stop,
-}
-
-impl<'a, K> Stopping<'a, K> {
-    /// Has a keeper stop the server.
-    pub fn new(keeper: K, stop: &'a Stop) -> Stopping<'a, K>
-        ensures { result.keeper ≡ keeper }
-    {
-        Stopping { keeper, stop }
-    }
-
-    /// Hands the keeper back.
-    pub fn into_keeper(self) -> K
-        ensures { result ≡ self.entry.keeper }
-    {
-        self.keeper
-    }
-}
-
-impl<'a, K: Keeper> Keeper for Stopping<'a, K> {
-    ghost holds = { λ s. K.holds s.keeper };
-
-    ghost is_at_end = { λ s. K.is_at_end s.keeper };
-
-    ghost may_fail = { K.may_fail };
-
-    fn keep(&mut self, alloc: Global, commit: &[u8]) -> Result<(), NotKept> {
-        let kept = self.keeper.keep(alloc, commit);
-        if kept.is_err() {
-            self.stop.set();
-        }
-        kept
-    }
-
-    fn next(&mut self, alloc: Global) -> Result<Option<Vec<u8>>, NotKept> {
-        self.keeper.next(alloc)
-    }
-
-    fn stop(&mut self) {
-        self.keeper.stop();
-        self.stop.set();
     }
 }
 

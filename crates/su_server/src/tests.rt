@@ -10,8 +10,10 @@ use std::thread;
 use std::thread::Threads;
 use std::time::{Clock, Duration};
 use su_bytes::{KEY_LENGTH, Refusal, Roster};
+use su_keeper::Forgetful;
 use su_serve::Duplex;
 use su_session::End;
+use su_shards::SharedBlocks;
 use su_worker::{Gate, OpenGate};
 
 /// A session over memory.
@@ -38,6 +40,8 @@ struct Meeting<'a, R> {
 }
 
 impl<'a, R: Clock> Gate for Meeting<'a, R> {
+    fn open(&self) {}
+
     fn enter(&self, session: u64) {
         if self.entered.fetch_add(1, Ordering::SeqCst) != 0 {
             return;
@@ -104,8 +108,19 @@ fn two_workers<R: Threads + Wait + Abort + Clock + Sync>(
         second_left: AtomicBool::new(false),
         missed: AtomicBool::new(false),
     };
+    let blocks = SharedBlocks::new(alloc)?;
     let both = sessions(alloc, &[READS, READS])?.into_iter();
-    let report = serve_book(rt, alloc, both, 2, 1, one_user(alloc, true)?, &gate)?;
+    let report = serve_book(
+        rt,
+        alloc,
+        both,
+        2,
+        1,
+        one_user(alloc, true)?,
+        &blocks,
+        Forgetful,
+        &gate,
+    )?;
     assert!(rt; !gate.missed.load(Ordering::SeqCst));
     assert_eq!(rt; gate.entered.load(Ordering::SeqCst), 4);
     assert_eq!(rt; report.sessions.len(), 2);
@@ -124,8 +139,19 @@ fn turns_are_calls(rt: HostRuntime) -> Result<(), Fail> {
 
 // Two sessions, one after another, take the turn and give it back.
 fn two_turns<R: Threads + Wait + Abort + Sync>(rt: &R, alloc: Global) -> Result<(), Fail> {
+    let blocks = SharedBlocks::new(alloc)?;
     let both = sessions(alloc, &[TURN, TURN])?.into_iter();
-    let report = serve_book(rt, alloc, both, 1, 1, one_user(alloc, true)?, &OpenGate)?;
+    let report = serve_book(
+        rt,
+        alloc,
+        both,
+        1,
+        1,
+        one_user(alloc, true)?,
+        &blocks,
+        Forgetful,
+        &OpenGate,
+    )?;
     assert_eq!(rt; report.sessions.len(), 2);
     assert_eq!(rt; report.closed.records, 0);
     assert_eq!(rt; report.closed.calls, 4);
@@ -135,11 +161,12 @@ fn two_turns<R: Threads + Wait + Abort + Sync>(rt: &R, alloc: Global) -> Result<
 #[test]
 fn numbers_out_of_range_are_refused(rt: HostRuntime) -> Result<(), Fail> {
     let alloc = rt.alloc();
-    let number = Some(Refusal::BadNumber);
+    let number = Some(BookFault::Refused(Refusal::BadNumber));
+    let key = Some(BookFault::Refused(Refusal::BadKey));
     assert_eq!(&rt; refusal(&rt, alloc, 0, 1, true)?, number);
     assert_eq!(&rt; refusal(&rt, alloc, 17, 1, true)?, number);
     assert_eq!(&rt; refusal(&rt, alloc, 1, 0, true)?, number);
-    assert_eq!(&rt; refusal(&rt, alloc, 1, 1, false)?, Some(Refusal::BadKey));
+    assert_eq!(&rt; refusal(&rt, alloc, 1, 1, false)?, key);
     assert_eq!(&rt; refusal(&rt, alloc, 1, 1, true)?, None);
     Ok(())
 }
@@ -151,8 +178,13 @@ fn refusal<R: Threads + Wait + Sync>(
     workers: usize,
     capacity: u64,
     good: bool,
-) -> Result<Option<Refusal>, Fail> {
+) -> Result<Option<BookFault>, Fail> {
     let nobody = sessions(alloc, &[])?.into_iter();
     let roster = one_user(alloc, good)?;
-    Ok(serve_book(rt, alloc, nobody, workers, capacity, roster, &OpenGate).err())
+    let blocks = SharedBlocks::new(alloc)?;
+    let gate = &OpenGate;
+    let served = serve_book(
+        rt, alloc, nobody, workers, capacity, roster, &blocks, Forgetful, gate,
+    );
+    Ok(served.err())
 }

@@ -1,0 +1,71 @@
+// The item of a record's change, between the file and the items that threads share.
+ghost use Rattle.std.specs.Prelude.{◌≡◌, All, Some, IfOk, OnOk};
+ghost use Rattle.sha2.specs.Sha256.{sha256};
+ghost use Rattle.su_version.specs.Commit.{Commit as CommitParts, IsCommit, commit_bytes};
+ghost use Rattle.su_archive.specs.Archived.{OnlyReads, ShowsTheSame};
+
+use sqlite::Alter;
+use std::alloc::Global;
+use std::sync::Wait;
+use su_bytes::{Digest, Refusal};
+use su_shards::SharedBlocks;
+use su_store::{FileFault, RecordFile};
+use su_version::Commit;
+
+/// Returns the digest of the change that a commit signs. `None` where the bytes are no commit's.
+fn change_of(alloc: Global, commit: &[u8]) -> Result<Option<Digest>, FileFault>
+    ensures { IfOk result (λ change. (c : CommitParts) → IsCommit c → commit.now ≡ commit_bytes c
+        → change ≡ Some c.version.change) }
+{
+    match Commit::decode(alloc, commit) {
+        Ok(commit) => Ok(Some(commit.version().change())),
+        Err(Refusal::NoMemory) => Err(FileFault::NoMemory),
+        Err(_) => Ok(None),
+    }
+}
+
+/// Gets the item of a commit's change, or nothing where it isn't shared.
+pub(crate) fn item_of<R: Wait>(
+    rt: &R,
+    alloc: Global,
+    blocks: &SharedBlocks,
+    commit: &[u8],
+) -> Result<Vec<Vec<u8>>, FileFault>
+    ensures { IfOk result (λ items. (c : CommitParts) → IsCommit c → commit.now ≡ commit_bytes c
+        → All (λ item. sha256 item.items ≡ c.version.change) items.items) }
+{
+    let mut items = Vec::new(alloc);
+    let Some(digest) = change_of(alloc, commit)? else {
+        return Ok(items);
+    };
+    match blocks.get(rt, alloc, digest) {
+        Ok(item) => items.push(item)?,
+        Err(Refusal::MissingBlock) => {}
+        Err(_) => return Err(FileFault::NoMemory),
+    }
+    Ok(items)
+}
+
+/// Shares the item of a commit's change, where the file has it. A block that is no item is left
+/// out: no client can have put it.
+pub(crate) fn share_item<S: Alter, R: Wait>(
+    file: &mut RecordFile<S>,
+    rt: &R,
+    alloc: Global,
+    blocks: &SharedBlocks,
+    commit: &[u8],
+) -> Result<(), FileFault>
+    ensures reads { OnlyReads S.Store file.old file.new }
+    ensures same { OnOk result (ShowsTheSame S.Store file.old file.new) }
+{
+    let Some(digest) = change_of(alloc, commit)? else {
+        return Ok(());
+    };
+    let Some(block) = file.block(digest)? else {
+        return Ok(());
+    };
+    match blocks.put(rt, alloc, block.as_slice()) {
+        Ok(_) | Err(Refusal::TooBig) => Ok(()),
+        Err(_) => Err(FileFault::NoMemory),
+    }
+}
