@@ -11,8 +11,8 @@ use su_serve::Duplex;
 /// How many connections in a row may fail before no more are awaited.
 pub const MOST_FAILURES: u32 = 1000;
 
-/// How long a read waits for bytes before it looks whether the server is to end.
-const LOOKS_AFTER: Duration = Duration::from_millis(500);
+/// How many milliseconds a read waits for bytes before it looks whether the server is to end.
+const LOOKS_AFTER_MILLIS: u64 = 500;
 
 /// The connections that a listener is offered, as sessions: so many, and then no more. What fails
 /// while it is accepted is no session; after `MOST_FAILURES` such failures in a row no more come,
@@ -44,7 +44,7 @@ where
     fn accept(&self) -> io::Result<Duplex<Watched<'a, L::Stream>, L::Stream>> {
         let (writer, _peer) = self.listener.accept()?;
         writer.set_nodelay(true)?;
-        writer.set_read_timeout(Some(LOOKS_AFTER))?;
+        writer.set_read_timeout(Some(Duration::from_millis(LOOKS_AFTER_MILLIS)))?;
         let reader = Watched::new(writer.try_clone()?, self.stop);
         Ok(Duplex { reader, writer })
     }
