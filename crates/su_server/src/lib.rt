@@ -6,6 +6,7 @@ mod servers;
 
 pub use connections::{Connections, MOST_FAILURES};
 pub use servers::{Report, serve_book};
+pub use su_shared::BookFault;
 
 #[cfg(test)]
 mod tests;

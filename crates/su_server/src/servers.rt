@@ -1,10 +1,13 @@
 // A server over one shared book.
-ghost use Rattle.std.specs.Prelude.{◌≡◌, ◌⊎◌, ◌≤◌, List, length, vec_len, IfOk, IfErr, OnOk, All};
+ghost use Rattle.std.specs.Prelude.{◌≡◌, ◌⊎◌, ◌≤◌, ◌<◌, ℕ, List, [], length, vec_len, IfOk, IfErr, OnOk, All};
 ghost use Rattle.std.specs.Iterator.{IsFinite, Drains};
 ghost use Rattle.su_bytes.specs.declared.refusals.Refusal.TheVariants.{BadNumber, BadKey, LinkFailed, NoMemory};
 ghost use Rattle.su_book.specs.Machine.{IsCapacity, IsRun, count_of};
 ghost use Rattle.su_chain.specs.ChainEnd.{HasBadKey};
 ghost use Rattle.su_serve.specs.Runs.{RanSo, IsWorkerCount};
+ghost use Rattle.su_shared.specs.declared.faults.BookFault.TheVariants.{Refused};
+ghost use Rattle.su_shared.specs.Faults.{IsRecordFault};
+ghost use Rattle.su_shared.specs.Shares.{record_bytes};
 ghost use Rattle.su_worker.specs.Worker.{Answers};
 
 use std::alloc::Global;
@@ -14,10 +17,11 @@ use std::sync::ledger::Blank;
 use std::thread::Threads;
 use su_book::MOST_RECORDS;
 use su_bytes::{Refusal, Roster};
+use su_keeper::Keeper;
 use su_serve::{Link, MOST_WORKERS, serve_all};
 use su_session::Served;
 use su_shards::SharedBlocks;
-use su_shared::{BookName, Cells, Closed, Seat, SharedBook};
+use su_shared::{BookFault, BookName, Cells, Closed, Seat, SharedBook};
 use su_worker::{Gate, Gated, Worker};
 
 /// How many parts the ledger of a book's steps has: one for each seat, and more.
@@ -25,59 +29,70 @@ const PARTS: u64 = 512;
 
 /// What a server did: what became of each session, in their order, and its book, which is closed.
 #[derive(Drop)]
-pub struct Report {
+pub struct Report<K: Keeper> {
     pub sessions: Vec<Served>,
-    pub closed: Closed,
+    pub closed: Closed<K>,
 }
 
 /// The services of all workers, each with a seat of its own.
-type Services<'a, N, R, G> = Vec<Gated<'a, Worker<'a, N, R>, G>>;
+type Services<'a, N, K, R, G> = Vec<Gated<'a, Worker<'a, N, K, R>, G>>;
 
 /// Serves all sessions over a new book of so many records for the users of a roster, each session
-/// by one of `workers` workers, which each have a thread and a seat of the book. Before and after
-/// each request the gate is passed, under the number of the session, from 1. `BadNumber` where the
-/// workers aren't 1 to 16 or the capacity isn't 1 to 1,000,000; `BadKey` where a user's key is
-/// none; `LinkFailed` where a thread couldn't be started, and then no session is served, and where
-/// the report of a session or the seat of a worker didn't come back; `NoMemory`.
-pub fn serve_book<R, I, L, G>(
+/// by one of `workers` workers, which each have a thread and a seat of the book. The keeper is to
+/// hold no records yet; those that it found are taken up before any session is served. Before and
+/// after each request the gate is passed, under the number of the session, from 1. `BadNumber`
+/// where the workers aren't 1 to 16 or the capacity isn't 1 to 1,000,000; `BadKey` where a user's
+/// key is none; `LinkFailed` where a thread couldn't be started, and then no session is served, and
+/// where the report of a session or the seat of a worker didn't come back; `NoMemory`; and `Record`
+/// with the number of the first record that isn't taken up.
+pub fn serve_book<K, R, I, L, G>(
     rt: &R,
     alloc: Global,
     sessions: I,
     workers: usize,
     capacity: u64,
     roster: Roster,
+    keeper: K,
     gate: &G,
-) -> Result<Report, Refusal>
+) -> Result<Report<K>, BookFault>
 where
+    K: Keeper + Send,
     R: Threads + Wait + Sync,
     I: Iterator<Item = L> + Drop,
     L: Link + Send + Drop,
     G: Gate + Sync,
     requires can { I.can_next sessions }
     requires ends { IsFinite (I.remaining sessions) }
+    requires holds { K.holds keeper [] }
     ensures count { IfOk result (λ r. (came : List L) × Drains I.next_gives sessions came
         × (length came ≡ vec_len r.sessions)) }
     ensures ran { IfOk result (λ r.
-        All (λ served. ∥ RanSo (L.runs Answers) served ∥₁) r.sessions.items) }
+        All (λ served. ∥ RanSo (L.runs (Answers K.may_fail)) served ∥₁) r.sessions.items) }
     ensures run { IfOk result (λ r. IsRun r.closed.book) }
     ensures records { IfOk result (λ r. r.closed.records ≡ count_of r.closed.book.journal) }
     ensures calls { IfOk result (λ r. r.closed.calls ≡ length r.closed.book.journal) }
+    ensures holds { IfOk result (λ r.
+        ∥ K.holds r.closed.keeper (record_bytes r.closed.book.journal) ∥₁) }
     ensures range { OnOk result (IsWorkerCount workers × IsCapacity capacity) }
-    ensures refused { IfErr result (λ e.
-        ((e ≡ BadNumber) × ¬ (IsWorkerCount workers × IsCapacity capacity))
-        ⊎ ((e ≡ BadKey) × HasBadKey roster) ⊎ (e ≡ LinkFailed) ⊎ (e ≡ NoMemory)) }
+    ensures refused { IfErr result (λ f.
+        ((f ≡ Refused BadNumber) × ¬ (IsWorkerCount workers × IsCapacity capacity))
+        ⊎ ((f ≡ Refused BadKey) × HasBadKey roster)
+        ⊎ (f ≡ Refused LinkFailed) ⊎ (f ≡ Refused NoMemory)
+        ⊎ ((n : ℕ) × (0 < n) × IsRecordFault K.may_fail 0 n f)) }
 {
     let most = MOST_RECORDS;
     if workers < 1 || MOST_WORKERS < workers || capacity < 1 || most < capacity {
-        return Err(Refusal::BadNumber);
+        return Err(BookFault::Refused(Refusal::BadNumber));
     }
     let cells = Cells::new(alloc, capacity)?;
     let blank = Blank::new(PARTS);
-    serve_named::<Brand, R, I, L, G>(rt, alloc, sessions, workers, cells, roster, blank, gate)
+    serve_named::<Brand, K, R, I, L, G>(
+        rt, alloc, sessions, workers, cells, roster, blank, keeper, gate,
+    )
 }
 
 /// The same, over a book of this name.
-fn serve_named<N, R, I, L, G>(
+fn serve_named<N, K, R, I, L, G>(
     rt: &R,
     alloc: Global,
     sessions: I,
@@ -85,10 +100,12 @@ fn serve_named<N, R, I, L, G>(
     cells: Cells,
     roster: Roster,
     blank: Blank,
+    keeper: K,
     gate: &G,
-) -> Result<Report, Refusal>
+) -> Result<Report<K>, BookFault>
 where
     N: BookName + Send,
+    K: Keeper + Send,
     R: Threads + Wait + Sync,
     I: Iterator<Item = L> + Drop,
     L: Link + Send + Drop,
@@ -98,35 +115,43 @@ where
     requires range { IsWorkerCount workers × IsCapacity (length cells) }
     requires cells { cells ≡ N.cells }
     requires ledger { (blank.name ≡ N.name) × (blank.parts ≡ N.parts) × (257 ≤ N.parts) }
+    requires holds { K.holds keeper [] }
     ensures count { IfOk result (λ r. (came : List L) × Drains I.next_gives sessions came
         × (length came ≡ vec_len r.sessions)) }
     ensures ran { IfOk result (λ r.
-        All (λ served. ∥ RanSo (L.runs Answers) served ∥₁) r.sessions.items) }
+        All (λ served. ∥ RanSo (L.runs (Answers K.may_fail)) served ∥₁) r.sessions.items) }
     ensures run { IfOk result (λ r. IsRun r.closed.book) }
     ensures records { IfOk result (λ r. r.closed.records ≡ count_of r.closed.book.journal) }
     ensures calls { IfOk result (λ r. r.closed.calls ≡ length r.closed.book.journal) }
-    ensures refused { IfErr result (λ e.
-        ((e ≡ BadKey) × HasBadKey roster) ⊎ (e ≡ LinkFailed) ⊎ (e ≡ NoMemory)) }
+    ensures holds { IfOk result (λ r.
+        ∥ K.holds r.closed.keeper (record_bytes r.closed.book.journal) ∥₁) }
+    ensures refused { IfErr result (λ f.
+        ((f ≡ Refused BadKey) × HasBadKey roster)
+        ⊎ (f ≡ Refused LinkFailed) ⊎ (f ≡ Refused NoMemory)
+        ⊎ ((n : ℕ) × (0 < n) × IsRecordFault K.may_fail 0 n f)) }
 {
-    let book: SharedBook<N> = SharedBook::new(alloc, cells, roster, blank)?;
-    let (sessions, seats) = serve_at(rt, alloc, sessions, workers, &book, gate)?;
+    let (book, first, _) = SharedBook::<N, K>::open(alloc, cells, roster, blank, keeper)?;
+    let (sessions, seats) = serve_at(rt, alloc, sessions, workers, &book, first, gate)?;
     let Ok(closed) = book.close(seats) else {
-        return Err(Refusal::LinkFailed);
+        return Err(BookFault::Refused(Refusal::LinkFailed));
     };
     Ok(Report { sessions, closed })
 }
 
-/// Serves all sessions over this book, and hands the seats back that were made for the workers.
-fn serve_at<N, R, I, L, G>(
+/// Serves all sessions over this book, whose first seat is that of the first worker, and hands the
+/// workers' seats back.
+fn serve_at<N, K, R, I, L, G>(
     rt: &R,
     alloc: Global,
     sessions: I,
     workers: usize,
-    book: &SharedBook<N>,
+    book: &SharedBook<N, K>,
+    first: Seat<N>,
     gate: &G,
 ) -> Result<(Vec<Served>, Vec<Seat<N>>), Refusal>
 where
     N: BookName + Send,
+    K: Keeper + Send,
     R: Threads + Wait + Sync,
     I: Iterator<Item = L> + Drop,
     L: Link + Send + Drop,
@@ -136,11 +161,12 @@ where
     requires range { IsWorkerCount workers }
     ensures count { IfOk result (λ r. (came : List L) × Drains I.next_gives sessions came
         × (length came ≡ vec_len r.0)) }
-    ensures ran { IfOk result (λ r. All (λ served. ∥ RanSo (L.runs Answers) served ∥₁) r.0.items) }
+    ensures ran { IfOk result (λ r.
+        All (λ served. ∥ RanSo (L.runs (Answers K.may_fail)) served ∥₁) r.0.items) }
     ensures refused { IfErr result (λ e. (e ≡ LinkFailed) ⊎ (e ≡ NoMemory)) }
 {
     let blocks = SharedBlocks::new(alloc)?;
-    match services_of(rt, alloc, workers, book, &blocks, gate) {
+    match services_of(rt, alloc, workers, book, &blocks, first, gate) {
         Ok(services) => {
             let (all, back) = serve_all(rt, alloc, sessions, services)?;
             Ok((all, seats_of(alloc, back)?))
@@ -149,20 +175,26 @@ where
     }
 }
 
-/// Makes a seat for each worker, and its service behind the gate.
-fn services_of<'a, N: BookName, R: Wait, G: Gate>(
+/// Makes a seat for each worker but the first, and each one's service behind the gate.
+fn services_of<'a, N: BookName, K: Keeper, R: Wait, G: Gate>(
     rt: &'a R,
     alloc: Global,
     workers: usize,
-    book: &'a SharedBook<N>,
+    book: &'a SharedBook<N, K>,
     blocks: &'a SharedBlocks,
+    first: Seat<N>,
     gate: &'a G,
-) -> Result<Services<'a, N, R, G>, Refusal>
+) -> Result<Services<'a, N, K, R, G>, Refusal>
+    requires { 1 ≤ workers }
     ensures len { IfOk result (λ services. vec_len services ≡ workers) }
     ensures refused { IfErr result (λ e. (e ≡ LinkFailed) ⊎ (e ≡ NoMemory)) }
 {
     let mut services = Vec::new(alloc);
-    for _ in 0..workers {
+    let service = Gated::new(Worker::new(rt, book, blocks, first), gate);
+    if services.push(service).is_err() {
+        return Err(Refusal::NoMemory);
+    }
+    for _ in 1..workers {
         let seat = match book.seat(rt, alloc) {
             Ok(seat) => seat,
             Err(Refusal::NoMemory) => return Err(Refusal::NoMemory),
@@ -178,9 +210,9 @@ fn services_of<'a, N: BookName, R: Wait, G: Gate>(
 }
 
 /// Takes the seats out of the services.
-fn seats_of<N: BookName, R: Wait, G: Gate>(
+fn seats_of<N: BookName, K: Keeper, R: Wait, G: Gate>(
     alloc: Global,
-    services: Services<'_, N, R, G>,
+    services: Services<'_, N, K, R, G>,
 ) -> Result<Vec<Seat<N>>, Refusal>
     ensures { IfErr result (λ e. e ≡ NoMemory) }
 {

@@ -10,6 +10,7 @@ use std::thread;
 use std::thread::Threads;
 use std::time::{Clock, Duration};
 use su_bytes::{KEY_LENGTH, Refusal, Roster};
+use su_keeper::Forgetful;
 use su_serve::Duplex;
 use su_session::End;
 use su_worker::{Gate, OpenGate};
@@ -105,7 +106,16 @@ fn two_workers<R: Threads + Wait + Abort + Clock + Sync>(
         missed: AtomicBool::new(false),
     };
     let both = sessions(alloc, &[READS, READS])?.into_iter();
-    let report = serve_book(rt, alloc, both, 2, 1, one_user(alloc, true)?, &gate)?;
+    let report = serve_book(
+        rt,
+        alloc,
+        both,
+        2,
+        1,
+        one_user(alloc, true)?,
+        Forgetful,
+        &gate,
+    )?;
     assert!(rt; !gate.missed.load(Ordering::SeqCst));
     assert_eq!(rt; gate.entered.load(Ordering::SeqCst), 4);
     assert_eq!(rt; report.sessions.len(), 2);
@@ -125,7 +135,16 @@ fn turns_are_calls(rt: HostRuntime) -> Result<(), Fail> {
 // Two sessions, one after another, take the turn and give it back.
 fn two_turns<R: Threads + Wait + Abort + Sync>(rt: &R, alloc: Global) -> Result<(), Fail> {
     let both = sessions(alloc, &[TURN, TURN])?.into_iter();
-    let report = serve_book(rt, alloc, both, 1, 1, one_user(alloc, true)?, &OpenGate)?;
+    let report = serve_book(
+        rt,
+        alloc,
+        both,
+        1,
+        1,
+        one_user(alloc, true)?,
+        Forgetful,
+        &OpenGate,
+    )?;
     assert_eq!(rt; report.sessions.len(), 2);
     assert_eq!(rt; report.closed.records, 0);
     assert_eq!(rt; report.closed.calls, 4);
@@ -135,11 +154,12 @@ fn two_turns<R: Threads + Wait + Abort + Sync>(rt: &R, alloc: Global) -> Result<
 #[test]
 fn numbers_out_of_range_are_refused(rt: HostRuntime) -> Result<(), Fail> {
     let alloc = rt.alloc();
-    let number = Some(Refusal::BadNumber);
+    let number = Some(BookFault::Refused(Refusal::BadNumber));
+    let key = Some(BookFault::Refused(Refusal::BadKey));
     assert_eq!(&rt; refusal(&rt, alloc, 0, 1, true)?, number);
     assert_eq!(&rt; refusal(&rt, alloc, 17, 1, true)?, number);
     assert_eq!(&rt; refusal(&rt, alloc, 1, 0, true)?, number);
-    assert_eq!(&rt; refusal(&rt, alloc, 1, 1, false)?, Some(Refusal::BadKey));
+    assert_eq!(&rt; refusal(&rt, alloc, 1, 1, false)?, key);
     assert_eq!(&rt; refusal(&rt, alloc, 1, 1, true)?, None);
     Ok(())
 }
@@ -151,8 +171,11 @@ fn refusal<R: Threads + Wait + Sync>(
     workers: usize,
     capacity: u64,
     good: bool,
-) -> Result<Option<Refusal>, Fail> {
+) -> Result<Option<BookFault>, Fail> {
     let nobody = sessions(alloc, &[])?.into_iter();
     let roster = one_user(alloc, good)?;
-    Ok(serve_book(rt, alloc, nobody, workers, capacity, roster, &OpenGate).err())
+    Ok(serve_book(
+        rt, alloc, nobody, workers, capacity, roster, Forgetful, &OpenGate,
+    )
+    .err())
 }
