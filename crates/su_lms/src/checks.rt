@@ -17,7 +17,7 @@ const MOST_CHAINS: usize = 2_120;
 #[derive(Clone, Copy, Debug)]
 pub struct Check<'a> {
     /// The key under which the message may be signed.
-    pub key: PublicKey,
+    pub key: &'a PublicKey,
     /// The message.
     pub message: &'a [u8],
     /// What may be its signature.
@@ -29,7 +29,7 @@ pub struct Check<'a> {
 impl Check<'_> {
     // How many chains a signature under the key has.
     fn chain_count(&self) -> usize
-        ensures value { result ≡ chain_count (ots_of self.now.key) }
+        ensures value { result ≡ chain_count (ots_of self.now.key.now) }
         ensures range { result ≤ 265 }
     {
         usize::from(chain_count(number_at(self.key.as_bytes(), 4)))
@@ -37,7 +37,7 @@ impl Check<'_> {
 
     // Puts the chains of the signature at its values, if its shape is the key's.
     fn set_chains(&self, runs: &mut [ChainRun])
-        requires { chain_count (ots_of self.now.key) ≤ length runs.old }
+        requires { chain_count (ots_of self.now.key.now) ≤ length runs.old }
         ensures { EndsSo self.now (λ i. end_of (run_at runs.new i)) }
     {
         let key = self.key.as_bytes();
@@ -49,9 +49,9 @@ impl Check<'_> {
 
     // Whether the message is signed so, by the ends of the chains.
     fn verdict(&self, ends: &[ChainRun]) -> bool
-        requires room { chain_count (ots_of self.now.key) ≤ length ends.now }
+        requires room { chain_count (ots_of self.now.key.now) ≤ length ends.now }
         requires ends { EndsSo self.now (λ i. (run_at ends.now i).value) }
-        ensures { IsTrue result ↔ IsSigned self.now.key self.now.message.now self.now.signature.now }
+        ensures { IsTrue result ↔ IsSigned self.now.key.now self.now.message.now self.now.signature.now }
     {
         let key = self.key.as_bytes();
         if !has_shape(key, self.signature) {

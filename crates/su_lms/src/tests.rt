@@ -5,11 +5,11 @@ mod vectors;
 ghost use Rattle.std.specs.Prelude.{◌≡◌};
 
 use crate::digits::coef;
-use crate::{KeyStore, NoStore, Params, PublicKey, Signer};
+use crate::{Check, KeyStore, NoStore, Params, PublicKey, Signer, verify_all};
 use sha2::{Digest as _, Sha256};
 use std::alloc::{AllocError, Global};
 use std::test::Fail;
-use su_bytes::Refusal;
+use su_bytes::{FileId, Refusal};
 use vectors::*;
 
 const MESSAGE: &[u8] = b"sundr: a message to sign";
@@ -125,6 +125,52 @@ fn known_signatures_verify(rt: HostRuntime) -> Result<(), Fail> {
     Ok(())
 }
 
+fn check<'a>(key: &'a PublicKey, message: &'a [u8], signature: &'a [u8]) -> Check<'a> {
+    Check {
+        key,
+        message,
+        signature,
+        is_signed: false,
+    }
+}
+
+#[test]
+fn many_signatures_are_verified_together(rt: HostRuntime) -> Result<(), Fail> {
+    // names the type for the prover (docs/ARCHITECTURE.md, "Forms the kit wants")
+    let _file: Option<FileId> = None;
+    let alloc = rt.alloc();
+    let key = PublicKey::parse(&bytes_of(alloc, W4_H5_KEY)?)?;
+    let wide = PublicKey::parse(&bytes_of(alloc, OTHER_W1_H25_KEY)?)?;
+    let first = bytes_of(alloc, W4_H5_FIRST)?;
+    let last = bytes_of(alloc, W4_H5_LAST)?;
+    let long = bytes_of(alloc, OTHER_W1_H25)?;
+    let spoiled = changed(alloc, &last, 100)?;
+    let mut cut = bytes_of(alloc, W4_H5_FIRST)?;
+    let _ = cut.pop();
+    let mut checks = [
+        check(&key, MESSAGE, &first),
+        check(&key, b"another", &first),
+        check(&wide, MESSAGE, &long),
+        check(&wide, MESSAGE, &first),
+        check(&key, MESSAGE, &spoiled),
+        check(&key, MESSAGE, &last),
+        check(&key, MESSAGE, &cut),
+        check(&key, MESSAGE, &long),
+        check(&key, MESSAGE, &last),
+        check(&wide, b"another", &long),
+        check(&key, MESSAGE, &first),
+    ];
+    verify_all(&mut checks);
+    let verdicts = checks.map(|check| check.is_signed);
+    assert_eq!(rt;
+        verdicts,
+        [
+            true, false, true, false, false, true, false, false, true, false, true
+        ]
+    );
+    Ok(())
+}
+
 #[test]
 fn our_keys_are_the_known_ones(rt: HostRuntime) {
     let alloc = rt.alloc();
@@ -132,6 +178,16 @@ fn our_keys_are_the_known_ones(rt: HostRuntime) {
     assert_eq!(rt; is_made(alloc, 5, 3, W4_H5_KEY), Ok(true));
     assert_eq!(rt; is_made(alloc, 6, 4, W8_H10_KEY), Ok(true));
     assert_eq!(rt; is_made(alloc, 6, 3, W4_H10_KEY), Ok(true));
+}
+
+#[test]
+fn a_key_made_in_threads_is_the_known_one(rt: HostRuntime) -> Result<(), Fail> {
+    let alloc = rt.alloc();
+    let params = Params::new(5, 3)?;
+    let signer = Signer::generate_in_threads(&rt, alloc, params, ID, SEED, NoStore)?;
+    let spelled = bytes_of(alloc, W4_H5_KEY)?;
+    assert!(rt; signer.public().as_bytes().as_slice() == spelled.as_slice());
+    Ok(())
 }
 
 // Whether the signature by that leaf of the key of height 5 has this SHA-256.

@@ -7,6 +7,6 @@ use Rattle.su_lms.proofs.checks.most_chains.Given as goal
 
 abbrev pub invariant-loop-check : goal.invariant-loop-check
 invariant-loop-check l = record {
-  most : (k : ℕ) (d : Check) → k < l.check-index → chain_count (ots_of (get_or l.checks k d).key) ≤ l.most;
+  most : (k : ℕ) (d : Check) → k < l.check-index → chain_count (ots_of (get_or l.checks k d).key.now) ≤ l.most;
   range : l.most ≤ 265;
 }
