@@ -197,20 +197,35 @@ fn sent<T: Send>(value: T) -> T {
 }
 
 /// Keeps a record by an archive that threads may share.
-fn keep_shared<N: ArchiveName + Send, R: Wait + Abort + Sync>(
+fn keep_shared<N: ArchiveName + Send, S: Alter + Drop + Send, R: Wait + Abort + Sync>(
+    rt: &R,
+    alloc: Global,
+    file: RecordFile<S>,
+) -> Result<RecordFile<S>, Fail>
+    requires named { N.found ≡ (state S.Store file.held).now.trees }
+    requires rest { HasCleanDisk (state S.Store file.held) → IsAtRest S.Store file }
+{
+    let blocks = SharedBlocks::new(alloc)?;
+    let archive: Archive<'_, N, S, R> = Archive::new(rt, file, &blocks);
+    let shared = Mutex::new(sent(archive));
+    assert!(rt; is_kept(alloc, &mut *shared.lock(rt), b"first"));
+    Ok(shared.into_inner().into_file())
+}
+
+/// Keeps a record in a file, and closes it.
+fn keep_in_file<R: Wait + Abort + Sync>(
     rt: &R,
     alloc: Global,
     file: RecordFile<FileStore<FileFrom<Unknown>>>,
 ) -> Result<(), Fail>
-    requires named { N.found ≡ (file_state file.held).now.trees }
-    requires rest { HasCleanDisk (file_state file.held) → IsAtRest over_files file }
+    requires { HasCleanDisk (file_state file.held) → IsAtRest over_files file }
 {
-    let blocks = SharedBlocks::new(alloc)?;
-    let archive: Archive<'_, N, FileStore<FileFrom<Unknown>>, R> = Archive::new(rt, file, &blocks);
-    let shared = Mutex::new(sent(archive));
-    assert!(rt; is_kept(alloc, &mut *shared.lock(rt), b"first"));
-    shared.into_inner().into_file().close()?;
+    keep_shared::<Brand, _, _>(rt, alloc, file)?.close()?;
     Ok(())
+}
+
+fn records_of(rt: &HostRuntime, path: &str) -> Result<u32, FileFault> {
+    Ok(open(rt, path, Unknown)?.len())
 }
 
 #[test]
@@ -218,8 +233,8 @@ fn threads_may_share_an_archive_of_a_file(rt: HostRuntime) -> Result<(), Fail> {
     let _ = fs::remove_dir_all(&rt, "su_archive_files");
     fs::create_dir(&rt, "su_archive_files")?;
     let path = "su_archive_files/records.db";
-    keep_shared::<Brand, _>(&rt, rt.alloc(), open(&rt, path, Unknown)?)?;
-    assert_eq!(rt; open(&rt, path, Unknown)?.len(), 1);
+    keep_in_file(&rt, rt.alloc(), open(&rt, path, Unknown)?)?;
+    assert_eq!(rt; records_of(&rt, path)?, 1);
     fs::remove_dir_all(&rt, "su_archive_files")?;
     Ok(())
 }
