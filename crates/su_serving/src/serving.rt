@@ -200,7 +200,7 @@ fn tell_book(rt: &HostRuntime, stop: &Stop, fault: &BookFault) -> bool {
 }
 
 /// Tells on standard error what was served, and returns whether all sessions came.
-fn tell_report<K>(rt: &HostRuntime, sessions: Option<u32>, report: &Report<K>) -> bool {
+fn tell_report<K: Keeper>(rt: &HostRuntime, sessions: Option<u32>, report: &Report<K>) -> bool {
     let served = &report.sessions;
     let failed = served.iter().filter(|one| one.end_ != End::Closed).count();
     let answered = answered_in(report);
@@ -214,7 +214,7 @@ fn tell_report<K>(rt: &HostRuntime, sessions: Option<u32>, report: &Report<K>) -
 }
 
 /// Counts the requests that were answered in all sessions.
-fn answered_in<K>(report: &Report<K>) -> u64 {
+fn answered_in<K: Keeper>(report: &Report<K>) -> u64 {
     let mut answered = 0u64;
     for served in &report.sessions {
         answered = answered.saturating_add(served.answered);
