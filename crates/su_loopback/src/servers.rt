@@ -5,8 +5,8 @@ use std::net::{Ipv4Addr, Net, SocketAddr, TcpListener, TcpStream};
 use std::sync::Wait;
 use std::test::Fail;
 use std::thread::Threads;
-use su_bytes::Refusal;
-use su_server::{Connections, Report, serve_book};
+use su_keeper::Forgetful;
+use su_server::{BookFault, Connections, Report, serve_book};
 use su_worker::OpenGate;
 
 /// How many sessions are served at once.
@@ -30,8 +30,10 @@ pub(crate) fn serve<R: Threads + Wait + Sync>(
     alloc: Global,
     listener: &TcpListener,
     sessions: u32,
-) -> Result<Report, Refusal> {
+) -> Result<Report<Forgetful>, BookFault> {
     let came = Connections::new(listener, sessions);
     let roster = roster(alloc)?;
-    serve_book(rt, alloc, came, WORKERS, CAPACITY, roster, &OpenGate)
+    serve_book(
+        rt, alloc, came, WORKERS, CAPACITY, roster, Forgetful, &OpenGate,
+    )
 }

@@ -9,6 +9,7 @@ use std::test::Fail;
 use std::thread::{Threads, join};
 use std::time::Clock;
 use su_audit::{Ending, Watcher, run_audit};
+use su_keeper::Forgetful;
 use su_server::Report;
 use su_session::End;
 
@@ -56,7 +57,7 @@ where
 }
 
 // So many sessions were ended by their clients.
-fn ended_well(rt: &impl Abort, report: &Report, sessions: usize) {
+fn ended_well(rt: &impl Abort, report: &Report<Forgetful>, sessions: usize) {
     assert_eq!(rt; report.sessions.len(), sessions);
     for served in &report.sessions {
         assert_eq!(rt; served.end_, End::Closed);

@@ -11,13 +11,14 @@ use std::sync::ledger::Blank;
 use std::test::Fail;
 use su_book::BookReply;
 use su_bytes::{Refusal, Roster};
+use su_keeper::Forgetful;
 use su_shared::{BookName, Cells, Seat, SharedBook};
 
 /// The number of records that a grant tells, and that of the record of its receipt.
 fn granted<N: BookName>(
     rt: &impl Wait,
     alloc: Global,
-    book: &SharedBook<N>,
+    book: &SharedBook<N, Forgetful>,
     seat: &mut Seat<N>,
 ) -> Result<Option<(u64, Option<u64>)>, Refusal> {
     let (reply, receipt) = book.grant(rt, alloc, seat)?;
@@ -35,7 +36,7 @@ fn granted<N: BookName>(
 fn stored<N: BookName>(
     rt: &impl Wait,
     alloc: Global,
-    book: &SharedBook<N>,
+    book: &SharedBook<N, Forgetful>,
     seat: &mut Seat<N>,
     bytes: &[u8],
 ) -> Result<(u64, u64), Refusal> {
@@ -63,7 +64,7 @@ fn one_commit<N: BookName, R: Wait + Abort>(
     requires cells { cells ≡ N.cells }
     requires ledger { (blank.name ≡ N.name) × (blank.parts ≡ N.parts) × (257 ≤ N.parts) }
 {
-    let book: SharedBook<N> = SharedBook::new(alloc, cells, roster, blank)?;
+    let book: SharedBook<N, Forgetful> = SharedBook::new(alloc, cells, roster, blank, Forgetful)?;
     let mut zero = book.seat(rt, alloc)?;
     let mut one = book.seat(rt, alloc)?;
     turns(rt, alloc, &book, &mut zero, &mut one, &commits.first)?;
@@ -75,7 +76,7 @@ fn one_commit<N: BookName, R: Wait + Abort>(
 fn turns<N: BookName, R: Wait + Abort>(
     rt: &R,
     alloc: Global,
-    book: &SharedBook<N>,
+    book: &SharedBook<N, Forgetful>,
     zero: &mut Seat<N>,
     one: &mut Seat<N>,
     first: &[u8],
@@ -94,7 +95,7 @@ fn turns<N: BookName, R: Wait + Abort>(
 fn room<N: BookName, R: Wait + Abort>(
     rt: &R,
     alloc: Global,
-    book: &SharedBook<N>,
+    book: &SharedBook<N, Forgetful>,
     one: &mut Seat<N>,
     commits: &Commits,
 ) -> Result<(), Fail> {
@@ -112,7 +113,7 @@ fn room<N: BookName, R: Wait + Abort>(
 fn full<N: BookName, R: Wait + Abort>(
     rt: &R,
     alloc: Global,
-    book: &SharedBook<N>,
+    book: &SharedBook<N, Forgetful>,
     zero: &mut Seat<N>,
     commits: &Commits,
 ) -> Result<(), Fail> {
@@ -148,7 +149,7 @@ fn two_commits<N: BookName, R: Wait + Abort>(
     requires cells { cells ≡ N.cells }
     requires ledger { (blank.name ≡ N.name) × (blank.parts ≡ N.parts) × (257 ≤ N.parts) }
 {
-    let book: SharedBook<N> = SharedBook::new(alloc, cells, roster, blank)?;
+    let book: SharedBook<N, Forgetful> = SharedBook::new(alloc, cells, roster, blank, Forgetful)?;
     let mut seat = book.seat(rt, alloc)?;
     two_stored(rt, alloc, &book, &mut seat, commits)?;
     all_seats(rt, alloc, &book)
@@ -157,7 +158,7 @@ fn two_commits<N: BookName, R: Wait + Abort>(
 fn two_stored<N: BookName, R: Wait + Abort>(
     rt: &R,
     alloc: Global,
-    book: &SharedBook<N>,
+    book: &SharedBook<N, Forgetful>,
     seat: &mut Seat<N>,
     commits: &Commits,
 ) -> Result<(), Fail> {
@@ -176,7 +177,7 @@ fn two_stored<N: BookName, R: Wait + Abort>(
 fn all_seats<N: BookName, R: Wait + Abort>(
     rt: &R,
     alloc: Global,
-    book: &SharedBook<N>,
+    book: &SharedBook<N, Forgetful>,
 ) -> Result<(), Fail> {
     for number in 1..256u16 {
         assert_eq!(rt; book.seat(rt, alloc)?.number(), number);
@@ -204,5 +205,5 @@ fn refused<N: BookName>(
     requires cells { cells ≡ N.cells }
     requires ledger { (blank.name ≡ N.name) × (blank.parts ≡ N.parts) × (257 ≤ N.parts) }
 {
-    SharedBook::<N>::new(alloc, cells, roster, blank).err()
+    SharedBook::<N, _>::new(alloc, cells, roster, blank, Forgetful).err()
 }

@@ -12,6 +12,7 @@ use std::sync::ledger::Blank;
 use std::test::Fail;
 use std::thread::{Threads, join};
 use su_bytes::Roster;
+use su_keeper::Forgetful;
 use su_shared::{BookName, Cells, Receipt, Seat, SharedBook};
 
 #[test]
@@ -35,7 +36,7 @@ fn hand_over<N: BookName + Send + Sync, R: Threads + Wait + Abort + Sync>(
     requires cells { cells ≡ N.cells }
     requires ledger { (blank.name ≡ N.name) × (blank.parts ≡ N.parts) × (257 ≤ N.parts) }
 {
-    let book: SharedBook<N> = SharedBook::new(alloc, cells, roster, blank)?;
+    let book: SharedBook<N, Forgetful> = SharedBook::new(alloc, cells, roster, blank, Forgetful)?;
     let shared = &book;
     let zero = shared.seat(rt, alloc)?;
     let one = shared.seat(rt, alloc)?;
@@ -65,7 +66,7 @@ fn hand_over<N: BookName + Send + Sync, R: Threads + Wait + Abort + Sync>(
 fn store<N: BookName, R: Wait + Abort>(
     rt: &R,
     alloc: Global,
-    book: &SharedBook<N>,
+    book: &SharedBook<N, Forgetful>,
     mut seat: Seat<N>,
     commit: &[u8],
     to: Sender<Receipt<N>>,
@@ -80,7 +81,7 @@ fn store<N: BookName, R: Wait + Abort>(
 
 fn read<N: BookName, R: Wait + Abort>(
     rt: &R,
-    book: &SharedBook<N>,
+    book: &SharedBook<N, Forgetful>,
     mut seat: Seat<N>,
     commit: &[u8],
     from: Receiver<Receipt<N>>,
