@@ -5,6 +5,7 @@ use su_worker::Gate;
 
 /// The gate of a server: it tells on standard error when sessions may come, and ends the wait for
 /// the next one once the server is to end.
+#[derive(Drop)]
 pub(crate) struct Door<'a, T> {
     pub rt: &'a HostRuntime,
     pub host: &'a T,

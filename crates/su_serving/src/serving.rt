@@ -59,13 +59,13 @@ where
 }
 
 /// Serves over what is kept in a folder.
-fn serve_kept<T>(
-    rt: &HostRuntime,
-    host: &T,
+fn serve_kept<'a, T>(
+    rt: &'a HostRuntime,
+    host: &'a T,
     options: Options<'_>,
     roster: Roster,
-    blocks: &SharedBlocks,
-    stop: &Stop,
+    blocks: &'a SharedBlocks,
+    stop: &'a Stop,
     folder: &str,
 ) -> bool
 where
@@ -76,33 +76,23 @@ where
     };
     match open_file(rt, folder, path.as_str()) {
         Ok(file) => {
-            let over = Folder {
-                blocks,
-                stop,
-                path: path.as_str(),
-            };
-            serve_named::<Brand, T>(rt, host, options, roster, over, file)
+            let path = path.as_str();
+            serve_named::<Brand, T>(rt, host, options, roster, blocks, stop, path, file)
         }
         Err(fault) => tell_fault(rt, format_args!("{path}: {fault}")),
     }
 }
 
-/// What a server with a store shares: its items, whether it is to end, and where its file is.
-#[derive(Clone, Copy)]
-struct Folder<'a> {
+/// The same, over a file whose tables have this name. In the end all is copied from the log into
+/// the file.
+fn serve_named<'a, N, T>(
+    rt: &'a HostRuntime,
+    host: &'a T,
+    options: Options<'_>,
+    roster: Roster,
     blocks: &'a SharedBlocks,
     stop: &'a Stop,
     path: &'a str,
-}
-
-/// The same, over a file whose tables have this name. In the end all is copied from the log into
-/// the file.
-fn serve_named<N, T>(
-    rt: &HostRuntime,
-    host: &T,
-    options: Options<'_>,
-    roster: Roster,
-    over: Folder<'_>,
     file: RecordFile<DiskFile>,
 ) -> bool
 where
@@ -111,7 +101,6 @@ where
     requires named { N.found ≡ (file_state file.held).now.trees }
     requires rest { HasCleanDisk (file_state file.held) → IsAtRest over_files file }
 {
-    let Folder { blocks, stop, path } = over;
     let archive: Archive<'_, N, DiskFile, T> = Archive::new(host, file, blocks);
     let guard = Guard::new(rt, archive, path, stop);
     let (good, keeper) = serve_over(rt, host, options, roster, blocks, stop, guard);
@@ -128,13 +117,13 @@ where
 }
 
 /// Serves over a new book with this keeper, which is handed back unless the book was refused.
-fn serve_over<K, T>(
-    rt: &HostRuntime,
-    host: &T,
+fn serve_over<'a, K, T>(
+    rt: &'a HostRuntime,
+    host: &'a T,
     options: Options<'_>,
     roster: Roster,
-    blocks: &SharedBlocks,
-    stop: &Stop,
+    blocks: &'a SharedBlocks,
+    stop: &'a Stop,
     keeper: K,
 ) -> (bool, Option<K>)
 where
