@@ -11,7 +11,8 @@ pub record IsNodeTable (key : PrivateKey) (nodes : List (List ℕ)) : Type 0 whe
 -- each leaf stands at its number
 abbrev pub HasLeaves : PrivateKey → List (List ℕ) → Type 0
 HasLeaves key nodes =
-    (r : ℕ) → leaf_count key ≤ r → r < 2 * leaf_count key → slice_index_or nodes r [] ≡ leaf_at key r
+    (r : ℕ) → leaf_count key ≤ r → r < 2 * leaf_count key
+    → slice_index_or nodes r [] ≡ leaf_at key r
 
 -- the values of leaf q and of those behind it
 abbrev pub AreLeaves : PrivateKey → ℕ → List (List ℕ) → Type 0

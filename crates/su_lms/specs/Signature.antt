@@ -60,17 +60,20 @@ candidate_digits ots id message signature =
 -- z[i], the end of chain i that the signature of a message leads to (Section 4.6)
 abbrev pub candidate_end : ℕ → List ℕ → List ℕ → List ℕ → ℕ → List ℕ
 candidate_end ots id message signature i =
-    end_from ots id (leaf_of signature) (candidate_digits ots id message signature) i (chain_value_of signature i)
+    end_from ots id (leaf_of signature) (candidate_digits ots id message signature) i
+    (chain_value_of signature i)
 
 -- the chains end where the signature of the message leads to
 abbrev pub AreEnds : List ℕ → List ℕ → List ℕ → (ℕ → List ℕ) → Type 0
 AreEnds key message signature end =
-    (i : ℕ) → i < chain_count (ots_of key) → end i ≡ candidate_end (ots_of key) (id_of key) message signature i
+    (i : ℕ) → i < chain_count (ots_of key)
+    → end i ≡ candidate_end (ots_of key) (id_of key) message signature i
 
 -- Kc, the one-time public key that the signature of a message leads to (Section 4.6)
 unfoldable pub candidate_key : ℕ → List ℕ → List ℕ → List ℕ → List ℕ
 candidate_key ots id message signature =
-    one_time_key_from ots id (leaf_of signature) (candidate_digits ots id message signature) (chain_value_of signature)
+    one_time_key_from ots id (leaf_of signature) (candidate_digits ots id message signature)
+    (chain_value_of signature)
 
 -- the root that the one-time public key of the signature's leaf leads to (Section 5.4.2)
 abbrev pub root_from : ℕ → ℕ → List ℕ → List ℕ → List ℕ → List ℕ

@@ -51,7 +51,8 @@ impl Check<'_> {
     fn verdict(&self, ends: &[ChainRun]) -> bool
         requires room { chain_count (ots_of self.now.key.now) ≤ length ends.now }
         requires ends { EndsSo self.now (λ i. (run_at ends.now i).value) }
-        ensures { IsTrue result ↔ IsSigned self.now.key.now self.now.message.now self.now.signature.now }
+        ensures { IsTrue result
+            ↔ IsSigned self.now.key.now self.now.message.now self.now.signature.now }
     {
         let key = self.key.as_bytes();
         if !has_shape(key, self.signature) {
@@ -61,8 +62,8 @@ impl Check<'_> {
     }
 }
 
-/// Verifies each signature, as `verify` does, and sets its `is_signed`. It takes no memory, and is
-/// faster than as many calls of `verify`.
+/// Verifies each signature, as `verify` does, and sets its `is_signed`. It takes no memory. The
+/// chains of eight signatures run side by side, so it is faster than as many calls of `verify`.
 pub fn verify_all(checks: &mut [Check<'_>])
     ensures { (k : ℕ) (d : Check) → k < length checks.old
         → IsChecked (slice_index_or checks.old k d) (slice_index_or checks.new k d) }

@@ -125,7 +125,7 @@ pub(crate) fn set_chains(runs: &mut [ChainRun], key: &[u8; 56], message: &[u8], 
     set_signed_values(runs, ots, &id, &with_checksum(ots, &hash), signature);
 }
 
-/// Whether a signature leads to the key's root: that of each message at whose ends the chains are.
+/// Whether a signature leads to the key's root, by the ends of its chains.
 pub(crate) fn leads_to_root(ends: &[ChainRun], key: &[u8; 56], signature: &[u8]) -> bool
     requires public_key { IsPublicKey key.now }
     requires shape { HasShape key.now signature.now }
