@@ -27,13 +27,13 @@ impl<'a, N: ArchiveName, S: Alter, R: Wait> HasFault for Archive<'a, N, S, R> {
 pub(crate) struct Guard<'a, K> {
     keeper: K,
     rt: &'a HostRuntime,
-    path: &'a str,
+    path: &'a String,
     stop: &'a Stop,
 }
 
 impl<'a, K> Guard<'a, K> {
     /// Guards the keeper over the file at a path.
-    pub fn new(rt: &'a HostRuntime, keeper: K, path: &'a str, stop: &'a Stop) -> Guard<'a, K>
+    pub fn new(rt: &'a HostRuntime, keeper: K, path: &'a String, stop: &'a Stop) -> Guard<'a, K>
         ensures { result.keeper ≡ keeper }
     {
         Guard {
