@@ -242,13 +242,19 @@ def calls_of(room):
     return calls_in(log)
 
 
+# Calls by which threads begin, wait and end, and find memory. How many there are, and which comes first, differs from run to run,
+# so a run can't be disturbed at the same one again; no file is changed at them.
+OF_THREADS = {"clone3", "exit", "futex", "madvise", "mmap", "mprotect", "munmap", "rseq", "rt_sigprocmask", "sched_getaffinity",
+              "set_robust_list"}
+
+
 def calls_in(log):
-    """Returns the system calls of a trace, each with which one of its name it is."""
+    """Returns the system calls of a trace but for those of threads, each with which one of its name it is."""
     counts = {}
     with open(log, encoding="utf-8") as file:
         for line in file:
             call = re.match(r"(?:\d+ +)?(\w+)\(", line)
-            if call and call[1] not in ("execve", "exit_group"):
+            if call and call[1] not in {"execve", "exit_group"} | OF_THREADS:
                 counts[call[1]] = counts.get(call[1], 0) + 1
                 yield call[1], counts[call[1]]
 

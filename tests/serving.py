@@ -294,7 +294,7 @@ def at_once(at):
         said = [line.decode() for ended in ends for line in ended[0]]
         done = sorted(int(line.split(" ")[1]) for line in said if line.startswith("ok "))
         yield f"at_once_each_commit_is_told_once: {done}", len(done) >= 9 and done == list(range(1, len(done) + 1))
-        met = re.compile(r"ok \d+|\d G0:\d+|no 19 Exists|no 39 Change (16|17|18|19|27|28) .+")
+        met = re.compile(r"ok \d+|\d G0:\d+|no 19 Exists|no 39 Change (16|17|18|19|24|27|28) .+")
         odd = [line for line in said if not met.fullmatch(line)]
         yield f"at_once_nothing_else_is_met: {odd}", odd == []
         room.run(server.port, 0, b"save " + saved.encode())

@@ -18,12 +18,28 @@ import threading
 import time
 
 import serving
-from serving import Room, Running, free_port, is_told, read
+from serving import Running, free_port, is_told, read
 
 KILLS = 50
 MOST_SECONDS = 90  # for the kills of servers
-LONGEST_ROUND = 0.35  # seconds, before a kill
+LONGEST_ROUND = 0.3  # seconds from the first commit of a round to its kill, at most
 FILE = "records.db"
+LIMIT = 5_000_000  # bytes of a file where there is no room: the log that is written first has 4 MiB
+
+
+class Room(serving.Room):
+    """A folder with the keys of some users, of 1,024 leaves each."""
+
+    def __init__(self, at, users=2):
+        self.at, self.names, self.key_files, self.publics = at, 0, [], []
+        for user in range(users):
+            key = f"{at}/key {user}"
+            entropy = self.file(random.Random(f"storing {user}").randbytes(48))
+            words = ["keygen", "--entropy", entropy, "--out", key, "--height", 10, "--width", 4]
+            with Running(words) as made:
+                made.end()
+            self.key_files.append(key)
+            self.publics.append(f"{key}.pub")
 
 
 class Keeping(Running):
@@ -41,10 +57,9 @@ def names_in(lines):
     return {line.split(b" ")[0] for line in lines}
 
 
-def sums(store):
-    """What the files of a store hold, but for a log of no bytes that an open may leave."""
-    files = {name: read(f"{store}/{name}") for name in sorted(os.listdir(store))}
-    return {name: hashlib.sha256(data).hexdigest() for name, data in files.items() if data}
+def bytes_of(store):
+    """What the file of a store holds. (A log may be made beside it.)"""
+    return hashlib.sha256(read(f"{store}/{FILE}")).hexdigest()
 
 
 # ---- what is stored stays
@@ -66,7 +81,7 @@ def ends(at):
             bob.end()
         with room.client(server.port, 0, "--log", log) as ann:
             yield "undoes_what_was_stored_before", ann.say(b"undo 3") == [b"ok 6"]
-            yield "blocks_as_before", ann.say(b"undo 1") == [b"no 39 Change 28 Blocked 2"]
+            yield "blocks_as_before", ann.say(b"undo 1") == [b"no 39 Change 28 Blocked 4"]
             ann.end()
         with room.client(server.port, 1, "--log", log) as bob:
             yield "serves_a_saved_log", names_in(bob.say(b"ls /")) == {b"d", b"e"}
@@ -93,63 +108,77 @@ def two_servers(at):
 # ---- kills
 
 class Writer(threading.Thread):
-    """A user's client that makes files until the link fails, and saves its log after each."""
+    """A user's client that makes files in the user's own directory until the link fails, and saves its log after each."""
 
     def __init__(self, room, port, user, first):
         super().__init__()
         self.room, self.port, self.user, self.made = room, port, user, first
-        self.log = f"{room.at}/log {user}"
-        self.listed, self.acknowledged, self.others = set(), [], []
+        self.log, self.ready = f"{room.at}/log_{user}", threading.Event()
+        self.listed, self.acknowledged, self.others = None, [], []
 
     def run(self):
-        log = ("--log", self.log) if os.path.exists(self.log) else ()
-        with self.room.client(self.port, self.user, *log) as client:
-            self.listed = names_in(client.say(b"ls /"))
+        with self.room.client(self.port, self.user, "--log", self.log) as client:
+            printed = client.say(b"ls /%d" % self.user)
+            self.ready.set()
+            if any(line.startswith(b"no ") for line in printed):
+                self.others.append(printed)
+                return
+            self.listed = names_in(printed)
             while True:
-                name = b"%d_%d" % (self.user, self.made)
+                name = b"%d" % self.made
                 self.made += 1
-                printed = client.say(b"create /" + name)
-                if printed and all(line.startswith(b"ok ") for line in printed):
-                    self.acknowledged.append(name)
-                    client.say(b"save " + self.log.encode())
-                elif any(b"LinkFailed" in line or b"SourceFailed" in line or b"answer" in line for line in printed):
+                printed = client.say(b"create /%d/%b" % (self.user, name))
+                if len(printed) != 1 or not printed[0].startswith(b"ok "):
+                    if not any(b"Failed" in line or b"answer" in line for line in printed):
+                        self.others.append(printed)
                     return
-                else:
-                    self.others.append(printed)
-                    return
+                self.acknowledged.append(name)
+                client.say(b"save " + self.log.encode())
+
+
+def round_of(chance, room, store, first):
+    """A server that is killed while two clients commit, and these."""
+    with Keeping(room, store) as server:
+        writers = [Writer(room, server.port, user, first[user]) for user in range(2)]
+        for writer in writers:
+            writer.start()
+        for writer in writers:
+            writer.ready.wait(serving.WAIT)
+        time.sleep(chance.random() * LONGEST_ROUND)
+        server.kill()
+        for writer in writers:
+            writer.join()
+    return server, writers
 
 
 def kills(at):
     chance, room, store = random.Random(7), Room(at), f"{at}/store"
-    acknowledged, lost, refused, rounds, first = set(), set(), [], 0, [0, 0]
-    until = time.monotonic() + MOST_SECONDS
-    while rounds < KILLS and time.monotonic() < until:
+    acknowledged, lost, refused, first = [set(), set()], set(), [], [0, 0]
+    with Keeping(room, store, sessions=2) as server:
+        for user in range(2):
+            save = b"mkdir /%d\nsave %b\n" % (user, f"{at}/log_{user}".encode())
+            room.run(server.port, user, save)
+    rounds, until = 0, time.monotonic() + MOST_SECONDS
+    while rounds < KILLS and time.monotonic() < until and not refused:
         rounds += 1
-        with Keeping(room, store) as server:
-            if not server.said or b"listening" not in server.said:
-                refused.append(server.said)
-                break
-            writers = [Writer(room, server.port, user, first[user]) for user in range(2)]
-            before = set(acknowledged)
-            for writer in writers:
-                writer.start()
-            time.sleep(0.15 + chance.random() * LONGEST_ROUND)
-            server.kill()
-            for writer in writers:
-                writer.join()
+        server, writers = round_of(chance, room, store, first)
+        if not server.said or b"listening" not in server.said:
+            refused.append(server.said)
         for writer in writers:
+            if writer.listed is not None:
+                lost |= acknowledged[writer.user] - writer.listed
             first[writer.user] = writer.made
-            acknowledged.update(writer.acknowledged)
+            acknowledged[writer.user].update(writer.acknowledged)
             refused += writer.others
-            if writer.listed and not any(b"no" == it for it in writer.listed):
-                lost |= before - writer.listed
     with Keeping(room, store, sessions=1) as server:
-        with room.client(server.port, 0, "--log", f"{at}/log 0") as ann:
-            lost |= acknowledged - names_in(ann.say(b"ls /"))
-    print(f"storing: {rounds} kills of the server, {len(acknowledged)} files acknowledged, {len(lost)} lost")
+        with room.client(server.port, 0, "--log", f"{at}/log_0") as ann:
+            for user in range(2):
+                lost |= acknowledged[user] - names_in(ann.say(b"ls /%d" % user))
+    count = sum(map(len, acknowledged))
+    print(f"storing: {rounds} kills of the server, {count} files acknowledged, {len(lost)} lost")
     yield f"nothing_acknowledged_is_lost: {sorted(lost)[:5]}", not lost
     yield f"no_client_refuses_the_server: {refused[:3]}", not refused
-    yield f"kills_enough: {rounds} rounds, {len(acknowledged)} files", rounds >= KILLS // 2 and len(acknowledged) >= rounds
+    yield f"kills_while_clients_commit: {rounds} rounds, {count} files", rounds >= 10 and count >= rounds
 
 
 # ---- no room
@@ -159,26 +188,29 @@ def no_room(at):
 
     def limited():
         signal.signal(signal.SIGXFSZ, signal.SIG_IGN)
-        resource.setrlimit(resource.RLIMIT_FSIZE, (200_000, 200_000))
+        resource.setrlimit(resource.RLIMIT_FSIZE, (LIMIT, LIMIT))
 
-    made = []
+    def line_of(number):
+        """A write of 60,000 bytes, which tell its number."""
+        return b"write /f 0 " + b"%08x" % number * 15000
+
     with Keeping(room, store, preexec_fn=limited) as server:
         with room.client(server.port, 0) as ann, room.client(server.port, 1) as bob:
             bob.say(b"ls /")
-            for number in range(500):
-                printed = ann.say(b"create /f%d" % number)
-                if printed != [b"ok %d" % (number + 1)]:
-                    break
-                made.append(b"f%d" % number)
-            yield f"stores_while_there_is_room: {len(made)}", made
+            ann.say(b"create /f")
+            number, printed = -1, []
+            while printed in ([], [b"ok %d" % (number + 2)]) and number < 300:
+                number += 1
+                printed = ann.say(line_of(number))
+            yield f"stores_while_there_is_room: {number}", number > 3
             yield f"the_link_fails_then: {printed}", any(b"LinkFailed" in line for line in printed)
             yield "the_client_ends_with_a_fault", ann.end()[2] == 1
             printed, told, status = server.end()
-            yield f"the_server_ends_and_tells_why: {told}", (printed, status) == ([], 1) and any(b"records.db" in it for it in told)
+            yield f"the_server_ends_and_tells_why: {told} {status}", (printed, status) == ([], 1) and any(FILE.encode() in it for it in told)
     with Keeping(room, store, sessions=1) as server:
         with room.client(server.port, 1) as bob:
-            names = names_in(bob.say(b"ls /"))
-            yield f"all_that_was_acknowledged_is_there: {len(names)}", names >= set(made)
+            kept = bob.say(b"cat /f 0 4")
+            yield f"all_that_was_acknowledged_is_there: {kept} {number}", kept in ([b"%08x" % (number - 1)], [b"%08x" % number])
             yield "and_it_goes_on", bob.say(b"mkdir /more")[-1].startswith(b"ok ")
 
 
@@ -195,12 +227,12 @@ def filled(at):
 
 def refuses(room, store, name, *parts):
     """A server refuses these files with one line that has these parts, and leaves them."""
-    before = sums(store)
+    before = bytes_of(store)
     with Keeping(room, store) as server:
         printed, told, status = server.end()
         told = [server.said, *told]
     yield f"{name}_is_refused: {told}", (printed, status) == ([], 1) and is_told(told, *parts)
-    yield f"{name}_is_left", sums(store) == before
+    yield f"{name}_is_left", bytes_of(store) == before
 
 
 def bad_files(at):
