@@ -1,5 +1,5 @@
 //! Measures key generation, signing and verification of `su_lms` on one core, beside what the hash
-//! function allows. It measures where it is given the argument `run`, and else says so: what it
+//! function allows, and key generation on all cores. It measures where it is given the argument `run`, and else says so: what it
 //! measures is another thing each time.
 #![tactic(auto)]
 
@@ -8,7 +8,8 @@ mod measures;
 
 use measures::{Fault, Pair, measure};
 use std::env::Env;
-use std::time::CpuClock;
+use std::thread::Threads;
+use std::time::{Clock, CpuClock};
 use std::{env, io};
 
 fn main(rt: HostRuntime) -> Result<(), Fault> {
@@ -31,7 +32,10 @@ fn is_asked(rt: &(impl Env + AllocGlobal)) -> io::Result<bool> {
     Ok(is_asked)
 }
 
-fn run<R: CpuClock + Print + AllocGlobal>(rt: &R) -> Result<(), Fault> {
+fn run<R>(rt: &R) -> Result<(), Fault>
+where
+    R: CpuClock + Clock + Threads + Sync + Print + AllocGlobal,
+{
     measure(rt, &Pair::new("w=4, h=5", 5, 3))?;
     measure(rt, &Pair::new("w=8, h=5", 5, 4))?;
     measure(rt, &Pair::new("w=4, h=10", 6, 3))?;
