@@ -11,6 +11,7 @@ use sqlite::Alter;
 use std::alloc::Global;
 use std::marker::{Brand, Model, PhantomData};
 use std::sync::Wait;
+use su_bytes::Digest;
 use su_keeper::{Keeper, NotKept};
 use su_shards::SharedBlocks;
 use su_store::{FileFault, RecordFile};
@@ -208,6 +209,16 @@ impl<'a, N: ArchiveName, S: Alter + Drop, R: Wait> Keeper for Archive<'a, N, S, 
             return Err(NotKept);
         }
         match self.read_next(alloc) {
+            Ok(found) => Ok(found),
+            Err(fault) => Err(self.fail(fault)),
+        }
+    }
+
+    fn item(&mut self, _alloc: Global, digest: Digest) -> Result<Option<Vec<u8>>, NotKept> {
+        if self.is_stopped {
+            return Err(NotKept);
+        }
+        match self.file.block(digest) {
             Ok(found) => Ok(found),
             Err(fault) => Err(self.fail(fault)),
         }

@@ -1,6 +1,7 @@
 // A keeper for a server that serves from memory.
 use crate::keepers::{Keeper, NotKept};
 use std::alloc::Global;
+use su_bytes::Digest;
 
 /// Keeps nothing that outlasts the process, and never fails.
 #[derive(Clone, Copy, Debug, Drop, PartialEq, Eq)]
@@ -18,6 +19,10 @@ impl Keeper for Forgetful {
     }
 
     fn next(&mut self, _alloc: Global) -> Result<Option<Vec<u8>>, NotKept> {
+        Ok(None)
+    }
+
+    fn item(&mut self, _alloc: Global, _digest: Digest) -> Result<Option<Vec<u8>>, NotKept> {
         Ok(None)
     }
 

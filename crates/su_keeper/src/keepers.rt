@@ -1,15 +1,17 @@
 // What a keeper promises.
-ghost use Rattle.std.specs.Prelude.{◌≡◌, ◌∷◌, ◌++◌, List, ℕ, [], None, IfOk, OnOk, OnErr};
+ghost use Rattle.std.specs.Prelude.{◌≡◌, ◌∷◌, ◌++◌, List, ℕ, [], None, IfOk, IfSome, OnOk, OnErr};
+ghost use Rattle.sha2.specs.Sha256.{sha256};
 
 use std::alloc::Global;
+use su_bytes::Digest;
 
 /// A record couldn't be kept, or what is kept couldn't be read. What a keeper says of it, it says
 /// by itself.
 #[derive(Clone, Copy, Debug, PartialEq, Eq)]
 pub struct NotKept;
 
-/// Keeps the records of a book, one after another, so that they outlast the process. Those that it
-/// finds from an earlier process stand behind each other, and are kept anew one by one, before
+/// Keeps the records of a book, one after another, so that they outlast the process, with the items
+/// that they need. Those that it finds from an earlier process stand behind each other, and are kept anew one by one, before
 /// others come.
 pub trait Keeper: Drop {
     // It keeps these records, the first of all that it keeps, whatever becomes of the process.
@@ -35,6 +37,13 @@ pub trait Keeper: Drop {
         ensures held { (records : List (List ℕ)) → holds self.old records
             → holds self.new records }
         ensures end { IfOk result (λ found. found ≡ None → is_at_end self.new) }
+        ensures failed { OnErr result may_fail };
+
+    /// Reads the item of a digest, if it keeps one.
+    fn item(&mut self, alloc: Global, digest: Digest) -> Result<Option<Vec<u8>>, NotKept>
+        ensures hashes { IfOk result (λ found. IfSome found (λ item. sha256 item.items ≡ digest)) }
+        ensures held { (records : List (List ℕ)) → holds self.old records
+            → holds self.new records }
         ensures failed { OnErr result may_fail };
 
     /// Keeps no more from now on. The last record that was kept need not stand in the book.

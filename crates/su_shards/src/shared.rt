@@ -55,6 +55,18 @@ impl SharedBlocks {
         Ok(digest)
     }
 
+    /// Puts an item that is kept elsewhere too, as `put` does.
+    pub fn share(&self, rt: &impl Wait, alloc: Global, item: &[u8]) -> Result<Digest, Refusal>
+        ensures digest { IfOk result (λ digest. digest ≡ sha256 item.now) }
+        ensures too_big { (result ≡ Err TooBig) ↔ (is_item item.now ≡ false) }
+        ensures refused { IfErr result (λ e. (e ≡ TooBig) ⊎ (e ≡ NoMemory)) }
+    {
+        self.put(rt, alloc, item)
+    }
+
+    /// Tells that the item of a digest is kept elsewhere too.
+    pub fn release(&self, _rt: &impl Wait, _alloc: Global, _digest: Digest) {}
+
     /// Lends the shard of a digest.
     fn shard(&self, digest: &Digest) -> &Mutex<MemoryBlocks> {
         let first = digest.as_bytes()[0];
