@@ -1,5 +1,6 @@
 #!/usr/bin/env python3
-"""What it costs to keep what is stored. Run by hand: `bench/store.py [RECORDS]`, some minutes. The folder is TMPDIR's.
+"""What it costs to keep what is stored. Run by hand: `bench/store.py [FOLDER]`, some ten minutes. Stores lie in TMPDIR's folder; the
+log of 100,000 commits that is fed to a server is kept in FOLDER for the next time, if one is given.
 
 Keys have 4 bits a coefficient and stand in memory (/dev/shm), so that what is measured is the server's disk and not the keys'. In one
 run it prints
@@ -8,8 +9,8 @@ run it prints
 - commits a second that `git` makes of such files on the same disk, with what it writes synced, and bare appends of as many bytes, each
   synced, which no store with one sync a record can pass;
 - bytes on the disk for each operation, once the server has ended;
-- seconds that a server takes to start from a store of 1,000, of 10,000 and of RECORDS records (30,000 by default; keys of at most 64
-  users sign 65,536), and the memory that it has then.
+- seconds that a server takes to start from a store of 10,000 and of 100,000 records, and the memory that it has then. Their author's
+  key has a tree of height 20 (bench/audit.py makes it), since the keys of `sundr keygen` sign 1,024 times.
 
 SUNDR names another program to measure.
 """
@@ -23,12 +24,14 @@ import time
 HERE = os.path.dirname(os.path.abspath(__file__))
 TOP = os.path.dirname(HERE)
 sys.path.insert(0, f"{TOP}/tests")
+sys.path.insert(0, HERE)
 
+import audit  # noqa: E402
 import serving  # noqa: E402
 import storing  # noqa: E402
+import wire  # noqa: E402
 
 PROGRAM = serving.PROGRAM[0]
-LEAVES = 1024
 OPERATIONS = 200  # of each writer
 APPENDS, COMMITS = 500, 100
 RECORD = 2700  # bytes of a commit and its item
@@ -118,25 +121,35 @@ def append_rate(at):
         return APPENDS / (time.monotonic() - started)
 
 
-def fill(users, store, records):
-    """Has the users store so many commits."""
-    with storing.Keeping(users, store) as server:
-        made = 0
-        for user in range(len(users.files)):
-            with users.client(server.port, user) as client:
-                made += say(client, b"mkdir /%d" % user)
-                count = min(LEAVES - 40, records - made)
-                write(client, user, max(0, count), [])
-                made += max(0, count)
-            if made >= records:
-                return made
-    return made
+class Roster:
+    """The public keys of users, as a server is given them."""
+
+    def __init__(self, *publics):
+        self.publics = publics
 
 
-def start(users, store):
+def feed(roster, store, log, count):
+    """Has a server store so many commits of a log."""
+    with storing.Keeping(roster, store) as server, open(log, "rb") as file:
+        link = wire.connect(server.port)
+        for _ in range(count):
+            commit, item = part(file), part(file)
+            for request, name in ((wire.GRANT, "granted"), (wire.put(item), "put_done"), (wire.commit(commit), "stored")):
+                answered = wire.reply_in(link.ask(request))
+                if answered[0] != name:
+                    sys.exit(f"bench/store.py: the server answers {answered}")
+        link.close()
+
+
+def part(file):
+    """A part of a log: its length, and so many bytes."""
+    return file.read(int.from_bytes(file.read(4), "big"))
+
+
+def start(roster, store):
     """Seconds until a server listens, and megabytes that it has then."""
     started = time.monotonic()
-    with storing.Keeping(users, store, sessions=1) as server:
+    with storing.Keeping(roster, store, sessions=1) as server:
         took = time.monotonic() - started
         with open(f"/proc/{server.process.pid}/status", encoding="utf-8") as file:
             peak = next(int(line.split()[1]) for line in file if line.startswith("VmHWM"))
@@ -144,7 +157,6 @@ def start(users, store):
 
 
 def main():
-    records = int(sys.argv[1]) if len(sys.argv) > 1 else 30000
     with tempfile.TemporaryDirectory() as at:
         os.makedirs(f"{at}/git")
         stores = iter(f"{at}/store {n}" for n in range(100))
@@ -157,13 +169,13 @@ def main():
             print(f"{name:24} {one:8.0f} operations a second by one client, {four:8.0f} by four", flush=True)
         print(f"{'git':24} {git_rate(at + '/git'):8.0f} commits a second")
         print(f"{'bare synced appends':24} {append_rate(at):8.0f} a second", flush=True)
-        for count in (1000, 10000, records):
-            with tempfile.TemporaryDirectory(dir="/dev/shm") as keys:
-                users, store = Users(keys, -(-count // (LEAVES - 100))), next(stores)
-                made = fill(users, store, count)
-                size = sum(os.path.getsize(f"{store}/{name}") for name in os.listdir(store))
-                took, peak = start(users, store)
-                print(f"{made:6} records: {size / made:6.0f} bytes each; a server starts in {took:6.2f} s, and has {peak:5.0f} MB", flush=True)
+        log = audit.make(sys.argv[1] if len(sys.argv) > 1 else at, "writes_4", 4, 1000, 99000)
+        for count in (10000, 100000):
+            roster, store = Roster(f"{log}.pub"), next(stores)
+            feed(roster, store, log, count)
+            size = sum(os.path.getsize(f"{store}/{name}") for name in os.listdir(store))
+            took, peak = start(roster, store)
+            print(f"{count:6} records: {size / count:6.0f} bytes each; a server starts in {took:6.2f} s, and has {peak:5.0f} MB", flush=True)
 
 
 if __name__ == "__main__":
