@@ -1,7 +1,10 @@
 //! Items that threads share: byte strings in memory, each under its digest.
 #![tactic(auto)]
 
+mod items;
+mod shard;
 mod shared;
+mod spare;
 
 pub use shared::SharedBlocks;
 

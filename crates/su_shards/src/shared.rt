@@ -4,9 +4,10 @@ ghost use Rattle.sha2.specs.Sha256.{sha256};
 ghost use Rattle.su_block.specs.Item.{is_item};
 ghost use Rattle.su_bytes.specs.declared.refusals.Refusal.TheVariants.{MissingBlock, TooBig, NoMemory};
 
+use crate::shard::Shard;
 use std::alloc::{AllocError, Global};
 use std::sync::{Mutex, Wait};
-use su_block::{BlockSource, MemoryBlocks, digest_of, is_item};
+use su_block::{digest_of, is_item};
 use su_bytes::{Digest, Refusal};
 
 /// How many shards there are.
@@ -14,34 +15,49 @@ const SHARDS: usize = 16;
 
 /// Items that threads share, in shards of which each has a lock of its own. The low four bits of a
 /// digest's first byte tell in which one an item is.
+///
+/// An item that was put stays, until it is told that it is kept elsewhere. Such items, and those
+/// that came by `share`, take a bounded room in each shard: where there is none for another one,
+/// those go that were asked for longest ago.
 #[derive(Drop)]
 pub struct SharedBlocks {
-    shards: Vec<Mutex<MemoryBlocks>>,
+    shards: Vec<Mutex<Shard>>,
     ghost count: { vec_len shards ≡ 16 },
 }
 
 impl SharedBlocks {
-    /// Makes shards without items. Fails where there is no memory.
+    /// Makes shards without items, with room for all. Fails where there is no memory.
     pub fn new(alloc: Global) -> Result<SharedBlocks, AllocError> {
+        SharedBlocks::with_rooms(alloc, usize::MAX)
+    }
+
+    /// Makes shards without items, where those that are kept elsewhere too may take so many bytes
+    /// in all, a sixteenth in each shard. Fails where there is no memory.
+    pub fn with_room(alloc: Global, room: usize) -> Result<SharedBlocks, AllocError> {
+        SharedBlocks::with_rooms(alloc, room / SHARDS)
+    }
+
+    /// Makes shards with this room each.
+    fn with_rooms(alloc: Global, room: usize) -> Result<SharedBlocks, AllocError> {
         let mut shards = Vec::with_capacity(alloc, SHARDS)?;
         for _ in 0..SHARDS {
-            shards.push(Mutex::new(MemoryBlocks::new(alloc)))?;
+            shards.push(Mutex::new(Shard::new(alloc, room)?))?;
         }
         Ok(SharedBlocks { shards })
     }
 
-    /// Gets the item of a digest. `MissingBlock` where there is none; `NoMemory` where there is no
-    /// room for the item.
+    /// Gets the item of a digest, which is the newest from then on. `MissingBlock` where there is
+    /// none; `NoMemory` where there is no room for the item.
     pub fn get(&self, rt: &impl Wait, alloc: Global, digest: Digest) -> Result<Vec<u8>, Refusal>
         ensures checked { IfOk result (λ item. sha256 item.items ≡ digest) }
         ensures refused { IfErr result (λ e. (e ≡ MissingBlock) ⊎ (e ≡ NoMemory)) }
     {
-        self.shard(&digest).lock(rt).get(alloc, digest)
+        self.shard(&digest).lock(rt).get(alloc, &digest)
     }
 
-    /// Puts an item, and answers its digest, which is computed before a lock is taken. `TooBig`
-    /// where it has not 1 to 70,000 bytes, and just there; `NoMemory` where there is no room for
-    /// it. Putting what is there changes nothing.
+    /// Puts an item, which stays from then on, and answers its digest, which is computed before a
+    /// lock is taken. `TooBig` where it has not 1 to 70,000 bytes, and just there; `NoMemory` where
+    /// there is no room for it. Putting what stays already changes nothing.
     pub fn put(&self, rt: &impl Wait, alloc: Global, item: &[u8]) -> Result<Digest, Refusal>
         ensures digest { IfOk result (λ digest. digest ≡ sha256 item.now) }
         ensures too_big { (result ≡ Err TooBig) ↔ (is_item item.now ≡ false) }
@@ -51,24 +67,35 @@ impl SharedBlocks {
             return Err(Refusal::TooBig);
         }
         let digest = digest_of(item);
-        self.shard(&digest).lock(rt).hold(alloc, digest, item)?;
+        self.shard(&digest).lock(rt).put(alloc, &digest, item)?;
         Ok(digest)
     }
 
-    /// Puts an item that is kept elsewhere too, as `put` does.
+    /// Puts an item that is kept elsewhere too, as the newest of those that may go, and answers its
+    /// digest. It isn't held where it has more bytes than there is room for at all. The refusals
+    /// are those of `put`. Where the item is there already, whether it stays doesn't change.
     pub fn share(&self, rt: &impl Wait, alloc: Global, item: &[u8]) -> Result<Digest, Refusal>
         ensures digest { IfOk result (λ digest. digest ≡ sha256 item.now) }
         ensures too_big { (result ≡ Err TooBig) ↔ (is_item item.now ≡ false) }
         ensures refused { IfErr result (λ e. (e ≡ TooBig) ⊎ (e ≡ NoMemory)) }
     {
-        self.put(rt, alloc, item)
+        if !is_item(item) {
+            return Err(Refusal::TooBig);
+        }
+        let digest = digest_of(item);
+        self.shard(&digest).lock(rt).share(alloc, &digest, item)?;
+        Ok(digest)
     }
 
-    /// Tells that the item of a digest is kept elsewhere too.
-    pub fn release(&self, _rt: &impl Wait, _alloc: Global, _digest: Digest) {}
+    /// Tells that the item of a digest is kept elsewhere too. It is the newest of those that may go
+    /// from then on, or is gone, where there is no room or no memory for that. Nothing changes
+    /// where there is no such item, or where that was told before.
+    pub fn release(&self, rt: &impl Wait, _alloc: Global, digest: Digest) {
+        self.shard(&digest).lock(rt).release(&digest);
+    }
 
     /// Lends the shard of a digest.
-    fn shard(&self, digest: &Digest) -> &Mutex<MemoryBlocks> {
+    fn shard(&self, digest: &Digest) -> &Mutex<Shard> {
         let first = digest.as_bytes()[0];
         &self.shards[usize::from(first) % SHARDS]
     }

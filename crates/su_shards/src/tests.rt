@@ -4,6 +4,7 @@ use std::process::Abort;
 use std::sync::Wait;
 use std::test::Fail;
 use std::thread::{Threads, join};
+use su_block::digest_of;
 use su_bytes::{Digest, Refusal};
 
 #[test]
@@ -34,6 +35,10 @@ fn put<R: Wait>(rt: &R, alloc: Global, blocks: &SharedBlocks, item: &[u8]) -> Op
     blocks.put(rt, alloc, item).ok()
 }
 
+fn share<R: Wait>(rt: &R, alloc: Global, blocks: &SharedBlocks, item: &[u8]) -> bool {
+    blocks.share(rt, alloc, item).is_ok()
+}
+
 fn is_held<R: Wait>(
     rt: &R,
     alloc: Global,
@@ -45,4 +50,103 @@ fn is_held<R: Wait>(
         Ok(held) => held.as_slice() == item,
         Err(_) => false,
     }
+}
+
+// Whether an item is there. It is the newest from then on.
+fn has<R: Wait>(rt: &R, alloc: Global, blocks: &SharedBlocks, item: &[u8]) -> bool {
+    is_held(rt, alloc, blocks, digest_of(item), item)
+}
+
+// Four items of three bytes, which lie in one shard.
+const ABC: &[u8] = b"abc";
+
+const SEA: &[u8] = b"sea";
+
+const BAT: &[u8] = b"bat";
+
+const LIP: &[u8] = b"lip";
+
+// Room for two of them in each of the 16 shards.
+const TWO: usize = 96;
+
+#[test]
+fn the_one_asked_for_longest_ago_goes(rt: HostRuntime) -> Result<(), Fail> {
+    let alloc = rt.alloc();
+    let blocks = SharedBlocks::with_room(alloc, TWO)?;
+    assert!(rt; share(&rt, alloc, &blocks, ABC));
+    assert!(rt; share(&rt, alloc, &blocks, SEA));
+    assert!(rt; has(&rt, alloc, &blocks, ABC));
+    assert!(rt; share(&rt, alloc, &blocks, BAT));
+    assert!(rt; !has(&rt, alloc, &blocks, SEA));
+    assert!(rt; has(&rt, alloc, &blocks, ABC));
+    assert!(rt; has(&rt, alloc, &blocks, BAT));
+    assert!(rt; share(&rt, alloc, &blocks, ABC));
+    assert!(rt; share(&rt, alloc, &blocks, LIP));
+    assert!(rt; !has(&rt, alloc, &blocks, BAT));
+    assert!(rt; has(&rt, alloc, &blocks, ABC));
+    Ok(())
+}
+
+#[test]
+fn items_that_were_put_stay(rt: HostRuntime) -> Result<(), Fail> {
+    let alloc = rt.alloc();
+    let blocks = SharedBlocks::with_room(alloc, TWO)?;
+    assert!(rt; put(&rt, alloc, &blocks, ABC).is_some());
+    assert!(rt; put(&rt, alloc, &blocks, SEA).is_some());
+    assert!(rt; put(&rt, alloc, &blocks, BAT).is_some());
+    assert!(rt; share(&rt, alloc, &blocks, LIP));
+    assert!(rt; has(&rt, alloc, &blocks, ABC));
+    assert!(rt; has(&rt, alloc, &blocks, SEA));
+    assert!(rt; has(&rt, alloc, &blocks, BAT));
+    assert!(rt; has(&rt, alloc, &blocks, LIP));
+    Ok(())
+}
+
+#[test]
+fn a_released_item_may_go(rt: HostRuntime) -> Result<(), Fail> {
+    let alloc = rt.alloc();
+    let blocks = SharedBlocks::with_room(alloc, TWO)?;
+    let abc = put(&rt, alloc, &blocks, ABC).ok_or("not put")?;
+    blocks.release(&rt, alloc, abc);
+    assert!(rt; has(&rt, alloc, &blocks, ABC));
+    assert!(rt; share(&rt, alloc, &blocks, SEA));
+    blocks.release(&rt, alloc, abc);
+    assert!(rt; share(&rt, alloc, &blocks, BAT));
+    assert!(rt; !has(&rt, alloc, &blocks, ABC));
+    Ok(())
+}
+
+#[test]
+fn an_item_that_is_put_again_stays(rt: HostRuntime) -> Result<(), Fail> {
+    let alloc = rt.alloc();
+    let blocks = SharedBlocks::with_room(alloc, TWO)?;
+    let abc = put(&rt, alloc, &blocks, ABC).ok_or("not put")?;
+    blocks.release(&rt, alloc, abc);
+    assert!(rt; put(&rt, alloc, &blocks, ABC).is_some());
+    assert!(rt; share(&rt, alloc, &blocks, SEA));
+    assert!(rt; share(&rt, alloc, &blocks, BAT));
+    assert!(rt; share(&rt, alloc, &blocks, LIP));
+    assert!(rt; has(&rt, alloc, &blocks, ABC));
+    assert!(rt; !has(&rt, alloc, &blocks, SEA));
+    assert!(rt; has(&rt, alloc, &blocks, BAT));
+    Ok(())
+}
+
+#[test]
+fn none_may_stay_where_there_is_no_room(rt: HostRuntime) -> Result<(), Fail> {
+    let alloc = rt.alloc();
+    let none = SharedBlocks::with_room(alloc, 0)?;
+    assert!(rt; share(&rt, alloc, &none, ABC));
+    assert!(rt; !has(&rt, alloc, &none, ABC));
+    let sea = put(&rt, alloc, &none, SEA).ok_or("not put")?;
+    assert!(rt; has(&rt, alloc, &none, SEA));
+    none.release(&rt, alloc, sea);
+    assert!(rt; !has(&rt, alloc, &none, SEA));
+    let all = SharedBlocks::new(alloc)?;
+    assert!(rt; share(&rt, alloc, &all, ABC));
+    let sea = put(&rt, alloc, &all, SEA).ok_or("not put")?;
+    all.release(&rt, alloc, sea);
+    assert!(rt; has(&rt, alloc, &all, ABC));
+    assert!(rt; has(&rt, alloc, &all, SEA));
+    Ok(())
 }
