@@ -11,7 +11,7 @@ mod shut_files;
 mod tables;
 
 pub use faults::{FileFault, StoreFault};
-pub use opening::open;
+pub use opening::{make, open};
 pub use record_files::{MOST_RECORDS, RecordFile};
 pub use shut_files::ShutFile;
 

@@ -5,12 +5,14 @@ ghost use Rattle.sqlite.specs.State.{HasCleanDisk, Survives};
 ghost use Rattle.sqlite.specs.Held.{state};
 ghost use Rattle.su_store.specs.Changes.{Extends, Keeps};
 ghost use Rattle.su_store.specs.Lookups.{IsRecord, IsBlock};
+ghost use Rattle.su_store.specs.Kept.{nothing};
+ghost use Rattle.su_store.specs.Tables.{Stands};
 ghost use Rattle.su_store.specs.Files.{BeginsFrom, IsAtRest};
 
 use crate::faults::FileFault;
 use crate::lookups::{count_records, find_block, find_record, is_next};
 use crate::records::append;
-use crate::schemas::is_store;
+use crate::schemas::{is_new, is_store};
 use crate::tables::prepare;
 use sha2::Sha256;
 use sqlite::{Alter, Connection};
@@ -69,6 +71,21 @@ impl<S: Alter + Drop> RecordFile<S> {
             count,
             is_spent: false,
         })
+    }
+
+    /// Makes the tables of a new file, which keeps nothing. `Foreign` where it has a table already,
+    /// and then it is left as it is.
+    pub fn make(connection: Connection<S>) -> Result<RecordFile<S>, FileFault>
+        ensures fresh { IfOk result (λ f. HasCleanDisk (state S.Store f.held) →
+            Stands nothing (state S.Store f.held).now.trees) }
+        ensures rest { IfOk result (λ f. HasCleanDisk (state S.Store f.held) →
+            IsAtRest S.Store f) }
+        ensures unspent { IfOk result (λ f. f.is_spent ≡ false) }
+    {
+        if !is_new(connection.schema()) {
+            return Err(FileFault::Foreign);
+        }
+        RecordFile::over(connection)
     }
 
     /// Takes over a connection to a store's file. It is given back where the file is none.

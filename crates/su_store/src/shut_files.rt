@@ -43,6 +43,8 @@ impl<D: Disk + Drop> RecordFile<FileStore<D>> {
             HasCleanDisk (file_state self.held)) }
         ensures rests { IfOk result (λ shut. AreClean D.Disk shut.files.log shut.files.db →
             Rests D.Disk shut.files (file_state self.held).now.trees) }
+        ensures stays { IfOk result (λ shut. AreClean D.Disk shut.files.log shut.files.db →
+            (file_state self.held).may_leave (file_state self.held).now.trees) }
         ensures doubt { IfErr result (λ e. IsClean (view e.1) →
             HasCleanDisk (file_state self.held)) }
         ensures left { IfErr result (λ e. (db : Trees) → recovers e.1 db →
