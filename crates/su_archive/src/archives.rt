@@ -6,7 +6,7 @@ ghost use Rattle.su_store.specs.Files.{IsAtRest};
 ghost use Rattle.su_store.specs.Lookups.{IsRecord};
 ghost use Rattle.su_archive.specs.Archived.{Holds, stopped, OnlyReads, ShowsTheSame};
 
-use crate::items::{item_of, share_item};
+use crate::items::{change_of, item_of, release_item, share_item};
 use sqlite::Alter;
 use std::alloc::Global;
 use std::marker::{Brand, Model, PhantomData};
@@ -136,7 +136,8 @@ impl<'a, N: ArchiveName, S: Alter, R: Wait> Archive<'a, N, S, R> {
         Ok(())
     }
 
-    /// Puts the record behind those of the file, with the item of its change.
+    /// Puts the record behind those of the file, with the item of its change, which need not stay
+    /// in memory from then on.
     fn keep_new(&mut self, alloc: Global, commit: &[u8]) -> Result<(), FileFault>
         requires running { self.old.is_stopped ≡ false }
         requires all { self.old.file.count ≤ self.old.kept }
@@ -145,9 +146,11 @@ impl<'a, N: ArchiveName, S: Alter, R: Wait> Archive<'a, N, S, R> {
         ensures held { (records : List (List ℕ)) → Holds S.Store N.found self.old records
             → OnErr result (Holds S.Store N.found (stopped self.new) records) }
     {
-        let items = item_of(self.rt, alloc, self.blocks, commit)?;
+        let change = change_of(alloc, commit)?;
+        let items = item_of(self.rt, alloc, self.blocks, change.as_ref())?;
         self.file.append(commit, &items)?;
         self.kept = self.file.len();
+        release_item(self.rt, alloc, self.blocks, change.as_ref(), &items);
         Ok(())
     }
 

@@ -1,5 +1,5 @@
 // The item of a record's change, between the file and the items that threads share.
-ghost use Rattle.std.specs.Prelude.{◌≡◌, All, Some, IfOk, OnOk};
+ghost use Rattle.std.specs.Prelude.{◌≡◌, All, Some, IfOk, OnOk, option_copied};
 ghost use Rattle.sha2.specs.Sha256.{sha256};
 ghost use Rattle.su_version.specs.Commit.{Commit as CommitParts, IsCommit, commit_bytes};
 ghost use Rattle.su_archive.specs.Archived.{OnlyReads, ShowsTheSame};
@@ -13,7 +13,7 @@ use su_store::{FileFault, RecordFile};
 use su_version::Commit;
 
 /// Returns the digest of the change that a commit signs. `None` where the bytes are no commit's.
-fn change_of(alloc: Global, commit: &[u8]) -> Result<Option<Digest>, FileFault>
+pub(crate) fn change_of(alloc: Global, commit: &[u8]) -> Result<Option<Digest>, FileFault>
     ensures { IfOk result (λ change. (c : CommitParts) → IsCommit c → commit.now ≡ commit_bytes c
         → change ≡ Some c.version.change) }
 {
@@ -24,26 +24,41 @@ fn change_of(alloc: Global, commit: &[u8]) -> Result<Option<Digest>, FileFault>
     }
 }
 
-/// Gets the item of a commit's change, or nothing where it isn't shared.
+/// Gets the item of a change, or nothing where it isn't shared.
 pub(crate) fn item_of<R: Wait>(
     rt: &R,
     alloc: Global,
     blocks: &SharedBlocks,
-    commit: &[u8],
+    change: Option<&Digest>,
 ) -> Result<Vec<Vec<u8>>, FileFault>
-    ensures { IfOk result (λ items. (c : CommitParts) → IsCommit c → commit.now ≡ commit_bytes c
-        → All (λ item. sha256 item.items ≡ c.version.change) items.items) }
+    ensures { IfOk result (λ items. All (λ item. option_copied change.entry ≡ Some (sha256 item.items)) items.items) }
 {
     let mut items = Vec::new(alloc);
-    let Some(digest) = change_of(alloc, commit)? else {
+    let Some(digest) = change else {
         return Ok(items);
     };
-    match blocks.get(rt, alloc, digest) {
+    match blocks.get(rt, alloc, *digest) {
         Ok(item) => items.push(item)?,
         Err(Refusal::MissingBlock) => {}
         Err(_) => return Err(FileFault::NoMemory),
     }
     Ok(items)
+}
+
+/// Tells that the item of a change is kept, where there was one to keep.
+pub(crate) fn release_item<R: Wait>(
+    rt: &R,
+    alloc: Global,
+    blocks: &SharedBlocks,
+    change: Option<&Digest>,
+    items: &[Vec<u8>],
+) {
+    let Some(digest) = change else {
+        return;
+    };
+    if !items.is_empty() {
+        blocks.release(rt, alloc, *digest);
+    }
 }
 
 /// Shares the item of a commit's change, where the file has it. A block that is no item is left
@@ -64,7 +79,7 @@ pub(crate) fn share_item<S: Alter, R: Wait>(
     let Some(block) = file.block(digest)? else {
         return Ok(());
     };
-    match blocks.put(rt, alloc, block.as_slice()) {
+    match blocks.share(rt, alloc, block.as_slice()) {
         Ok(_) | Err(Refusal::TooBig) => Ok(()),
         Err(_) => Err(FileFault::NoMemory),
     }

@@ -47,6 +47,15 @@ fn is_shared<R: Wait>(rt: &R, alloc: Global, blocks: &SharedBlocks, item: &[u8])
     }
 }
 
+/// Whether the keeper reads the item of a digest as it was kept.
+fn keeps_item<K: Keeper>(alloc: Global, keeper: &mut K, item: &[u8]) -> bool {
+    let digest = Digest::new(<Sha256 as sha2::Digest>::digest(item));
+    match keeper.item(alloc, digest) {
+        Ok(Some(found)) => found.as_slice() == item,
+        _ => false,
+    }
+}
+
 /// The bytes of a commit of the change that has this item.
 fn commit_of(alloc: Global, item: &[u8]) -> Result<Vec<u8>, AllocError> {
     let mut bytes = Vec::from_slice(alloc, b"SV01")?;
@@ -91,6 +100,27 @@ fn keep_all<N: ArchiveName, S: Alter + Drop, R: Wait + Abort>(
     }
     assert!(rt; is_kept(alloc, &mut archive, b"no commit"));
     assert!(rt; is_at_end(alloc, &mut archive));
+    Ok(archive.into_file())
+}
+
+/// Keeps a record with its item, which is read again after it was released.
+fn read_items<N: ArchiveName, S: Alter + Drop, R: Wait + Abort>(
+    rt: &R,
+    alloc: Global,
+    file: RecordFile<S>,
+) -> Result<RecordFile<S>, Fail>
+    requires named { N.found ≡ (state S.Store file.held).now.trees }
+    requires rest { HasCleanDisk (state S.Store file.held) → IsAtRest S.Store file }
+{
+    let blocks = SharedBlocks::new(alloc)?;
+    let mut archive: Archive<'_, N, S, R> = Archive::new(rt, file, &blocks);
+    blocks.put(rt, alloc, ITEMS[0])?;
+    blocks.put(rt, alloc, ITEMS[1])?;
+    assert!(rt; is_kept(alloc, &mut archive, &commit_of(alloc, ITEMS[0])?));
+    assert!(rt; keeps_item(alloc, &mut archive, ITEMS[0]));
+    assert!(rt; !keeps_item(alloc, &mut archive, ITEMS[1]));
+    archive.stop();
+    assert!(rt; !keeps_item(alloc, &mut archive, ITEMS[0]));
     Ok(archive.into_file())
 }
 
@@ -167,6 +197,15 @@ fn what_was_kept_is_found_after_a_crash(rt: HostRuntime) -> Result<(), Fail> {
     let again = over_memory(alloc, log, db)?;
     let file = find_all::<Brand, _, _>(&rt, alloc, again)?;
     assert_eq!(rt; file.len(), 5);
+    Ok(())
+}
+
+#[test]
+fn an_item_is_read_from_the_file(rt: HostRuntime) -> Result<(), Fail> {
+    let alloc = rt.alloc();
+    let new = RecordFile::over(Connection::open_in_memory(alloc)?)?;
+    let file = read_items::<Brand, _, _>(&rt, alloc, new)?;
+    assert_eq!(rt; file.len(), 1);
     Ok(())
 }
 

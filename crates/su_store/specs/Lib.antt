@@ -5,3 +5,4 @@ pub mod Lookups
 pub mod Schemas
 pub mod Files
 pub mod Opening
+pub mod Shut

@@ -7,11 +7,13 @@ mod opening;
 mod record_files;
 mod records;
 mod schemas;
+mod shut_files;
 mod tables;
 
 pub use faults::{FileFault, StoreFault};
-pub use opening::open;
+pub use opening::{make, open};
 pub use record_files::{MOST_RECORDS, RecordFile};
+pub use shut_files::ShutFile;
 
 #[cfg(test)]
 mod tests;

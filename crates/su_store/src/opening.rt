@@ -8,6 +8,8 @@ ghost use Rattle.sqlite.specs.WalFiles.{image_at};
 ghost use Rattle.sqlite.specs.Closing.{IsCopied};
 ghost use Rattle.sqlite.specs.WalReads.{AreClean};
 ghost use Rattle.sqlite_store.specs.FileStore.{state as files_state, view};
+ghost use Rattle.su_store.specs.Kept.{nothing};
+ghost use Rattle.su_store.specs.Tables.{Stands};
 ghost use Rattle.su_store.specs.Files.{IsAtRest};
 ghost use Rattle.su_store.specs.Opening.{OpensFrom};
 
@@ -30,6 +32,23 @@ pub fn open<T: Start>(
 {
     match Connection::open_from(rt, path, true, start) {
         Ok(connection) => RecordFile::over(connection),
+        Err((error, _left)) => Err(FileFault::from(error)),
+    }
+}
+
+/// Makes the store's file at a path, which keeps nothing yet, with a sum at the end of each page.
+/// `Foreign` where the file that is there has a table. `start` is as for `open`.
+pub fn make<T: Start>(
+    rt: &HostRuntime,
+    path: &str,
+    start: T,
+) -> Result<RecordFile<FileStore<FileFrom<T>>>, FileFault>
+    ensures fresh { IfOk result (λ f. HasCleanDisk (file_state f.held) →
+        Stands nothing (file_state f.held).now.trees) }
+    ensures rest { IfOk result (λ f. HasCleanDisk (file_state f.held) → IsAtRest over_files f) }
+{
+    match Connection::open_from(rt, path, true, start) {
+        Ok(connection) => RecordFile::make(connection),
         Err((error, _left)) => Err(FileFault::from(error)),
     }
 }

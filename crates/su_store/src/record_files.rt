@@ -1,15 +1,18 @@
 // One file of records and blocks.
-ghost use Rattle.std.specs.Prelude.{◌≡◌, ◌+◌, ◌≤◌, None, false, IsTrue, IfOk, OnOk, IfSome, map, option_map};
+ghost use Rattle.std.specs.Prelude.{◌≡◌, ◌+◌, ◌≤◌, None, false, IsTrue, IfOk, IfErr, OnOk, IfSome, map, option_map};
 ghost use Rattle.sha2.specs.Sha256.{sha256};
 ghost use Rattle.sqlite.specs.State.{HasCleanDisk, Survives};
 ghost use Rattle.sqlite.specs.Held.{state};
 ghost use Rattle.su_store.specs.Changes.{Extends, Keeps};
 ghost use Rattle.su_store.specs.Lookups.{IsRecord, IsBlock};
+ghost use Rattle.su_store.specs.Kept.{nothing};
+ghost use Rattle.su_store.specs.Tables.{Stands};
 ghost use Rattle.su_store.specs.Files.{BeginsFrom, IsAtRest};
 
 use crate::faults::FileFault;
 use crate::lookups::{count_records, find_block, find_record, is_next};
 use crate::records::append;
+use crate::schemas::{is_new, is_store};
 use crate::tables::prepare;
 use sha2::Sha256;
 use sqlite::{Alter, Connection};
@@ -62,6 +65,56 @@ impl<S: Alter + Drop> RecordFile<S> {
         }
         if MOST_RECORDS < count {
             return Err(FileFault::TooLong);
+        }
+        Ok(RecordFile {
+            connection,
+            count,
+            is_spent: false,
+        })
+    }
+
+    /// Makes the tables of a new file, which keeps nothing. `Foreign` where it has a table already,
+    /// and then it is left as it is.
+    pub fn make(connection: Connection<S>) -> Result<RecordFile<S>, FileFault>
+        ensures fresh { IfOk result (λ f. HasCleanDisk (state S.Store f.held) →
+            Stands nothing (state S.Store f.held).now.trees) }
+        ensures rest { IfOk result (λ f. HasCleanDisk (state S.Store f.held) →
+            IsAtRest S.Store f) }
+        ensures unspent { IfOk result (λ f. f.is_spent ≡ false) }
+    {
+        if !is_new(connection.schema()) {
+            return Err(FileFault::Foreign);
+        }
+        RecordFile::over(connection)
+    }
+
+    /// Takes over a connection to a store's file. It is given back where the file is none.
+    pub(crate) fn resume(
+        connection: Connection<S>,
+    ) -> Result<RecordFile<S>, (FileFault, Connection<S>)>
+        ensures clean { IfOk result (λ f. HasCleanDisk (state S.Store f.held) →
+            HasCleanDisk (state S.Store connection)) }
+        ensures same { IfOk result (λ f. HasCleanDisk (state S.Store f.held) →
+            (state S.Store f.held).now ≡ (state S.Store connection).now) }
+        ensures rest { IfOk result (λ f. HasCleanDisk (state S.Store f.held) →
+            IsAtRest S.Store f) }
+        ensures unspent { IfOk result (λ f. f.is_spent ≡ false) }
+        ensures left { IfErr result (λ e.
+            Survives (state S.Store connection) (state S.Store e.1) (λ _. ⊥)) }
+    {
+        let mut connection = connection;
+        if !is_store(connection.schema()) {
+            return Err((FileFault::Foreign, connection));
+        }
+        let count = match count_records(&mut connection, MOST_RECORDS) {
+            Ok(count) => count,
+            Err(error) => return Err((FileFault::from(error), connection)),
+        };
+        if !connection.is_autocommit() {
+            return Err((FileFault::Spent, connection));
+        }
+        if MOST_RECORDS < count {
+            return Err((FileFault::TooLong, connection));
         }
         Ok(RecordFile {
             connection,
