@@ -1,1 +1,2 @@
 pub mod Shard
+pub mod Section

@@ -2,6 +2,7 @@
 #![tactic(auto)]
 
 mod items;
+mod sections;
 mod shard;
 mod shared;
 mod spare;

@@ -4,7 +4,7 @@ ghost use Rattle.sha2.specs.Sha256.{sha256};
 ghost use Rattle.su_block.specs.Item.{is_item};
 ghost use Rattle.su_bytes.specs.declared.refusals.Refusal.TheVariants.{MissingBlock, TooBig, NoMemory};
 
-use crate::shard::Shard;
+use crate::sections::Section;
 use std::alloc::{AllocError, Global};
 use std::sync::{Mutex, Wait};
 use su_block::{digest_of, is_item};
@@ -16,12 +16,13 @@ const SHARDS: usize = 16;
 /// Items that threads share, in shards of which each has a lock of its own. The low four bits of a
 /// digest's first byte tell in which one an item is.
 ///
-/// An item that was put stays, until it is told that it is kept elsewhere. Such items, and those
-/// that came by `share`, take a bounded room in each shard: where there is none for another one,
-/// those go that were asked for longest ago.
+/// An item that was put stays, until it is told that it is kept elsewhere. Such items, those that
+/// came by `share`, and those of either kind that are put once more take a bounded room in each
+/// shard: where there is none for another one, those go that were asked for longest ago. Which items
+/// are kept elsewhere is remembered by their digests.
 #[derive(Drop)]
 pub struct SharedBlocks {
-    shards: Vec<Mutex<Shard>>,
+    shards: Vec<Mutex<Section>>,
     ghost count: { vec_len shards ≡ 16 },
 }
 
@@ -41,7 +42,7 @@ impl SharedBlocks {
     fn with_rooms(alloc: Global, room: usize) -> Result<SharedBlocks, AllocError> {
         let mut shards = Vec::with_capacity(alloc, SHARDS)?;
         for _ in 0..SHARDS {
-            shards.push(Mutex::new(Shard::new(alloc, room)?))?;
+            shards.push(Mutex::new(Section::new(alloc, room)?))?;
         }
         Ok(SharedBlocks { shards })
     }
@@ -55,9 +56,10 @@ impl SharedBlocks {
         self.shard(&digest).lock(rt).get(alloc, &digest)
     }
 
-    /// Puts an item, which stays from then on, and answers its digest, which is computed before a
-    /// lock is taken. `TooBig` where it has not 1 to 70,000 bytes, and just there; `NoMemory` where
-    /// there is no room for it. Putting what stays already changes nothing.
+    /// Puts an item, which stays from then on unless it is kept elsewhere too, and answers its
+    /// digest, which is computed before a lock is taken. `TooBig` where it has not 1 to 70,000
+    /// bytes, and just there; `NoMemory` where there is no room for it. Putting what stays already
+    /// changes nothing.
     pub fn put(&self, rt: &impl Wait, alloc: Global, item: &[u8]) -> Result<Digest, Refusal>
         ensures digest { IfOk result (λ digest. digest ≡ sha256 item.now) }
         ensures too_big { (result ≡ Err TooBig) ↔ (is_item item.now ≡ false) }
@@ -95,7 +97,7 @@ impl SharedBlocks {
     }
 
     /// Lends the shard of a digest.
-    fn shard(&self, digest: &Digest) -> &Mutex<Shard> {
+    fn shard(&self, digest: &Digest) -> &Mutex<Section> {
         let first = digest.as_bytes()[0];
         &self.shards[usize::from(first) % SHARDS]
     }
