@@ -1,5 +1,7 @@
 // The book under the lock, beside its keeper.
 ghost use Rattle.std.specs.Prelude.{◌≡◌, ◌+◌, ◌<◌, [], false, IfSome, IfNone, IfOk, IfErr, OnOk, OnErr};
+ghost use Rattle.sha2.specs.Sha256.{sha256};
+ghost use Rattle.su_bytes.specs.declared.refusals.Refusal.TheVariants.{SourceFailed};
 ghost use Rattle.su_book.specs.Machine.{count_of};
 ghost use Rattle.su_shared.specs.Shares.{record_bytes, TakesUp, IsRecordRefusal};
 ghost use Rattle.su_shared.specs.Faults.{IsRecordFault};
@@ -10,7 +12,7 @@ use crate::held::Held;
 use crate::seats::Seat;
 use std::alloc::Global;
 use su_book::{BookReply, Event};
-use su_bytes::Refusal;
+use su_bytes::{Digest, Refusal};
 use su_keeper::Keeper;
 
 /// The book under the lock, and what keeps its records: it holds those of the book's steps, in
@@ -89,5 +91,17 @@ impl<N: BookName, K: Keeper> Locked<N, K> {
             unreachable!()
         };
         Ok(Some(number))
+    }
+
+    /// Reads the item of a digest, if the keeper keeps one. `SourceFailed` where it fails.
+    pub(crate) fn item(&mut self, alloc: Global, digest: Digest) -> Result<Option<Vec<u8>>, Refusal>
+        ensures hashes { IfOk result (λ found. IfSome found (λ item. sha256 item.items ≡ digest)) }
+        ensures refused { IfErr result (λ e. (e ≡ SourceFailed) × K.may_fail) }
+        ensures held { self.new.held ≡ self.old.held }
+    {
+        let Ok(found) = self.keeper.item(alloc, digest) else {
+            return Err(Refusal::SourceFailed);
+        };
+        Ok(found)
     }
 }

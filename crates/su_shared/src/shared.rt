@@ -2,7 +2,8 @@
 ghost use Rattle.std.specs.Prelude.{◌≡◌, ◌⊎◌, ℕ, [], IsPermutation, ◌≤◌, ◌<◌, ◌-◌, length, replicate, true, false, IfSome, IfNone, IfOk, IfErr, OnOk, OnErr, None, Some, slice_set};
 ghost use Rattle.std.specs.List.{sum_by};
 ghost use Rattle.once_cell.specs.Once.{Agrees};
-ghost use Rattle.su_bytes.specs.declared.refusals.Refusal.TheVariants.{BadNumber, BadKey, NoMemory};
+ghost use Rattle.sha2.specs.Sha256.{sha256};
+ghost use Rattle.su_bytes.specs.declared.refusals.Refusal.TheVariants.{BadNumber, BadKey, SourceFailed, NoMemory};
 ghost use Rattle.su_chain.specs.ChainEnd.{HasBadKey};
 ghost use Rattle.su_book.specs.declared.events.Event.TheVariants.{Grant};
 ghost use Rattle.su_book.specs.Machine.{IsCapacity, IsRun, TellsRecords, count_of};
@@ -21,7 +22,7 @@ use std::alloc::Global;
 use std::sync::ledger::Blank;
 use std::sync::{Mutex, Wait};
 use su_book::{Book, BookReply, Event};
-use su_bytes::{Refusal, Roster};
+use su_bytes::{Digest, Refusal, Roster};
 use su_keeper::Keeper;
 
 /// A book that threads share. Its steps are made under one lock, and its records are read without
@@ -210,6 +211,20 @@ impl<N: BookName, K: Keeper> SharedBook<N, K> {
         ensures learns { IfSome result (λ r. Learns seat.old.known r.now seat.new.known) }
     {
         seat.read(&self.cells, number)
+    }
+
+    /// Reads the item of a digest, if the book's keeper keeps one, under the lock. `SourceFailed`
+    /// where the keeper fails.
+    pub fn item(
+        &self,
+        rt: &impl Wait,
+        alloc: Global,
+        digest: Digest,
+    ) -> Result<Option<Vec<u8>>, Refusal>
+        ensures hashes { IfOk result (λ found. IfSome found (λ item. sha256 item.items ≡ digest)) }
+        ensures refused { IfErr result (λ e. (e ≡ SourceFailed) × K.may_fail) }
+    {
+        self.locked.lock(rt).item(alloc, digest)
     }
 
     #[tactic(auto, using(crate::proofs::Closing::same_sum))]
