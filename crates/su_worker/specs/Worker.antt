@@ -4,7 +4,7 @@ use Rattle.std.specs.Prelude.{◌≡◌, ◌⊎◌, ℕ, ◌<◌, ◌≤◌, Boo
 use Rattle.once_cell.specs.Once.{Agrees}
 use Rattle.sha2.specs.Sha256.{sha256}
 use Rattle.su_bytes.specs.declared.refusals.Refusal.{Refusal}
-use Rattle.su_bytes.specs.declared.refusals.Refusal.TheVariants.{MissingBlock, TooBig, NoMemory}
+use Rattle.su_bytes.specs.declared.refusals.Refusal.TheVariants.{MissingBlock, SourceFailed, TooBig, NoMemory}
 use Rattle.su_version.specs.Commit.{Commit}
 use Rattle.su_block.specs.Item.{is_item}
 use Rattle.su_book.specs.Machine.{last_numbers}
@@ -96,9 +96,13 @@ Gets digest r =
     ((item : List ℕ) × (r ≡ reply.Item item) × (sha256 item ≡ digest))
     ⊎ ((r ≡ refusal_reply MissingBlock) ⊎ (r ≡ refusal_reply NoMemory))
 
+-- the item is kept elsewhere, and couldn't be read, where that may be
+abbrev pub FailsToRead : Type 0 → Reply → Type 0
+FailsToRead may_fail r = (r ≡ refusal_reply SourceFailed) × may_fail
+
 -- ---- all requests
 
--- What may be answered, where keeping a record may fail so: the seat before it, the request, the
+-- What may be answered, where keeping and reading may fail so: the seat before it, the request, the
 -- reply, the seat after it.
 abbrev pub Answers : Type 0 → SeatView → Request → Reply → SeatView → Type 0
 Answers may_fail s request.Grant r t = Grants s r t ⊎ Meets s true IsGrantRefusal r t
@@ -107,4 +111,4 @@ Answers may_fail s (request.Commit bytes) r t =
 Answers may_fail s request.Give r t = HandsBack s r t ⊎ Meets s false IsGiveRefusal r t
 Answers may_fail s (request.Fetch n) r t = Reads s n r t ⊎ FindsNothing s n r t
 Answers may_fail s (request.Put item) r t = Puts (is_item item) item r × (t ≡ s)
-Answers may_fail s (request.Get digest) r t = Gets digest r × (t ≡ s)
+Answers may_fail s (request.Get digest) r t = (Gets digest r ⊎ FailsToRead may_fail r) × (t ≡ s)

@@ -8,8 +8,10 @@ use std::sync::Wait;
 use std::sync::atomic::{AtomicU64, Ordering};
 use std::sync::ledger::Blank;
 use std::test::Fail;
-use su_bytes::{KEY_LENGTH, Refusal, Roster};
-use su_keeper::Forgetful;
+use su_block::digest_of;
+use su_bytes::{Digest, KEY_LENGTH, Refusal, Roster};
+use su_keeper::{Forgetful, Keeper, NotKept};
+use su_message::{Reply, Request};
 use su_session::{Begin, End, Served, Service, serve};
 use su_shards::SharedBlocks;
 use su_shared::{BookName, Cells, Seat, SharedBook};
@@ -172,4 +174,79 @@ fn all_requests_are_answered_behind_a_gate(rt: HostRuntime) -> Result<(), Fail> 
     let cells = Cells::new(alloc, 2)?;
     let roster = one_user(alloc)?;
     try_worker::<Brand, _>(&rt, alloc, cells, roster, Blank::new(512))
+}
+
+/// Keeps one item, which it gives once.
+#[derive(Drop)]
+struct GivesOnce {
+    given: bool,
+}
+
+impl Keeper for GivesOnce {
+    ghost holds = { λ _ _. Unit {0} };
+
+    ghost is_at_end = { λ _. Unit {0} };
+
+    ghost may_fail = { ⊥ };
+
+    fn keep(&mut self, _alloc: Global, _commit: &[u8]) -> Result<(), NotKept> {
+        Ok(())
+    }
+
+    fn next(&mut self, _alloc: Global) -> Result<Option<Vec<u8>>, NotKept> {
+        Ok(None)
+    }
+
+    fn item(&mut self, alloc: Global, digest: Digest) -> Result<Option<Vec<u8>>, NotKept> {
+        let Ok(item) = Vec::from_slice(alloc, b"kept") else {
+            return Ok(None);
+        };
+        if self.given || digest_of(item.as_slice()) != digest {
+            return Ok(None);
+        }
+        self.given = true;
+        Ok(Some(item))
+    }
+
+    fn stop(&mut self) {}
+}
+
+/// Whether the item of a digest is answered.
+fn is_answered<S: Service>(alloc: Global, service: &mut S, digest: Digest, item: &[u8]) -> bool {
+    match service.answer(alloc, &Request::Get(digest)) {
+        Reply::Item(found) => found.as_slice() == item,
+        _ => false,
+    }
+}
+
+fn try_kept_item<N: BookName, R: Wait + Abort>(
+    rt: &R,
+    alloc: Global,
+    cells: Cells,
+    roster: Roster,
+    blank: Blank,
+) -> Result<(), Fail>
+    requires cells { cells ≡ N.cells }
+    requires ledger { (blank.name ≡ N.name) × (blank.parts ≡ N.parts) × (257 ≤ N.parts) }
+{
+    let keeper = GivesOnce { given: false };
+    let book: SharedBook<N, GivesOnce> = SharedBook::new(alloc, cells, roster, blank, keeper)?;
+    let blocks = SharedBlocks::new(alloc)?;
+    let seat = book.seat(rt, alloc)?;
+    let mut worker = Worker::new(rt, &book, &blocks, seat);
+    let other = digest_of(b"another");
+    assert!(rt; !is_answered(alloc, &mut worker, other, b"another"));
+    let kept = digest_of(b"kept");
+    assert!(rt; is_answered(alloc, &mut worker, kept, b"kept"));
+    // the keeper gives it no more
+    assert!(rt; is_answered(alloc, &mut worker, kept, b"kept"));
+    Ok(())
+}
+
+#[test]
+fn an_item_that_is_kept_is_shared(rt: HostRuntime) -> Result<(), Fail> {
+    let alloc = rt.alloc();
+    let cells = Cells::new(alloc, 2)?;
+    let roster = one_user(alloc)?;
+    try_kept_item::<Brand, _>(&rt, alloc, cells, roster, Blank::new(512))
 }

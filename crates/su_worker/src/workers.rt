@@ -1,5 +1,7 @@
 // The service of a worker.
-ghost use Rattle.std.specs.Prelude.{◌≡◌};
+ghost use Rattle.std.specs.Prelude.{◌≡◌, ◌⊎◌, IfOk, IfErr};
+ghost use Rattle.sha2.specs.Sha256.{sha256};
+ghost use Rattle.su_bytes.specs.declared.refusals.Refusal.TheVariants.{MissingBlock, SourceFailed};
 ghost use Rattle.su_message.specs.declared.requests.Request.TheVariants as request;
 ghost use Rattle.su_service.specs.Kept.{said};
 ghost use Rattle.su_worker.specs.Worker.{Answers};
@@ -100,8 +102,29 @@ impl<'a, N: BookName, K: Keeper, R: Wait> Worker<'a, N, K, R> {
     fn get(&self, alloc: Global, digest: Digest) -> Result<Reply, Refusal>
         ensures { Answers K.may_fail self.now (request.Get digest) (said result) self.now }
     {
-        let item = self.blocks.get(self.rt, alloc, digest)?;
+        let item = match self.blocks.get(self.rt, alloc, digest) {
+            Ok(item) => item,
+            Err(Refusal::MissingBlock) => self.kept_item(alloc, digest)?,
+            Err(refusal) => return Err(refusal),
+        };
         Ok(Reply::Item(Bytes::new(item)))
+    }
+
+    /// Reads an item that the book's keeper keeps, and shares it, where there is memory for that.
+    /// `MissingBlock` where it keeps none, or one that can't be an item; `SourceFailed` where it
+    /// fails.
+    fn kept_item(&self, alloc: Global, digest: Digest) -> Result<Vec<u8>, Refusal>
+        ensures checked { IfOk result (λ item. sha256 item.items ≡ digest) }
+        ensures refused { IfErr result (λ e.
+            (e ≡ MissingBlock) ⊎ ((e ≡ SourceFailed) × K.may_fail)) }
+    {
+        let Some(item) = self.book.item(self.rt, alloc, digest)? else {
+            return Err(Refusal::MissingBlock);
+        };
+        match self.blocks.share(self.rt, alloc, item.as_slice()) {
+            Err(Refusal::TooBig) => Err(Refusal::MissingBlock),
+            _ => Ok(item),
+        }
     }
 }
 
