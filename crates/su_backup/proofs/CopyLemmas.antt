@@ -1,11 +1,10 @@
 -- What is copied, with one record more.
-use Rattle.std.proofs.Common.{◌≡◌, ◌⊎◌, ℕ, ◌+◌, ◌<◌, ◌≤◌, List, [], ◌∷◌, ◌++◌, length, Option, Some, None, get_or, refl, ap, sym, ◌∙◌, subst, arith, inl, inr, slice_get}
+use Rattle.std.proofs.Common.{◌≡◌, ◌⊎◌, ℕ, ◌+◌, ◌<◌, ◌≤◌, List, [], ◌∷◌, ◌++◌, length, Some, None, get_or, refl, ap, sym, ◌∙◌, subst, arith, inl, inr, slice_get}
 use Rattle.std.proofs.lemmas.Option.{none-some, slice_get_within, slice_get_cases, get_or_from_slice_get, slice_get-get_or}
 use Rattle.std.proofs.lemmas.List.{length_push, get_or_push, get_or_append_left}
 use Rattle.su_client.specs.Link.{LinkState}
-use Rattle.su_shared.specs.declared.cells.Record.{Record}
-use Rattle.su_shared.specs.Seats.{SeatView, known_at, Learns}
-use Rattle.su_backup.specs.Copied.{Gives, GivesAll, StillKnows, Keeps, StoresOne, StoresAll, CopiesOne, CopiesSome, CopiesSomeAndKeeps}
+use Rattle.su_shared.specs.Seats.{SeatView, known_at}
+use Rattle.su_backup.specs.Copied.{Gives, GivesAll, Keeps, StoresOne, StoresAll, CopiesOne, CopiesSome, CopiesSomeAndKeeps}
 
 pushed_by : (xs : List (List ℕ)) (y x : List ℕ) (k : ℕ) → slice_get (xs ++ y ∷ []) k ≡ Some x
     → ((w : List ℕ) × (k < length xs) × (slice_get xs k ≡ Some w) × (get_or xs k w ≡ w))

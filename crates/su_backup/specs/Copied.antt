@@ -1,10 +1,13 @@
 -- What is copied of a server's records, over a link, from a seat of a book. (This project's own.)
-use Rattle.std.specs.Prelude.{◌≡◌, ◌⊎◌, ◌≤◌, ◌+◌, ℕ, List, [], ◌∷◌, length, Some, slice_get}
+use Rattle.std.specs.Prelude.{◌≡◌, ◌⊎◌, ◌≤◌, ◌+◌, ◌-◌, ℕ, List, [], ◌∷◌, length, Some, slice_get}
 use Rattle.su_message.specs.declared.requests.Request.TheVariants.{Fetch}
 use Rattle.su_message.specs.declared.replies.Reply.TheVariants.{Kept, Nothing}
 use Rattle.su_client.specs.Link.{LinkState, Exchanged, MayGive}
 use Rattle.su_shared.specs.declared.cells.Record.{Record}
 use Rattle.su_shared.specs.Seats.{SeatView, known_at, Learns}
+use Rattle.su_shared.specs.Shares.{record_bytes}
+use Rattle.su_book.specs.declared.steps.Step.{Step}
+use Rattle.su_book.specs.Machine.{count_of}
 
 -- ---- the server's side
 
@@ -82,9 +85,41 @@ pub record CopiesSomeAndKeeps (a : LinkState) (s u : SeatView) : Type 0 where
   pub keeps : Keeps seat u
 
 -- where the seat stored any, the server gives the record of the last one's number, and it is that of
--- the book
+-- the book; where it stored none, nothing is asked
 abbrev pub IsLastOf : SeatView → LinkState → LinkState → SeatView → Type 0
 IsLastOf s a b t =
-    (s.kept.stored ≡ 0) ⊎ ((bytes : List ℕ)
+    ((s.kept.stored ≡ 0) × (b ≡ a)) ⊎ ((bytes : List ℕ)
     × Exchanged (Fetch s.kept.stored) a b (Kept bytes)
     × (known_at t.known s.kept.stored ≡ Some (record { number = s.kept.stored; bytes = bytes })))
+
+-- The server gives the last record that the seat stored, and then so many more, which the seat stores.
+pub record GoesOn (count : ℕ) (a b : LinkState) (s t : SeatView) : Type 0 where
+  pub first : LinkState
+  pub seat : SeatView
+  pub last : IsLastOf s a first seat
+  pub kept : seat.kept ≡ s.kept
+  pub copies : CopiesAll count first b seat t
+
+-- ---- the copy
+
+-- The server gives the record of this number, and it is that of the book; where the number is 0,
+-- nothing is asked.
+abbrev pub GivesLast : ℕ → List Step → LinkState → LinkState → Type 0
+GivesLast number steps a b =
+    ((number ≡ 0) × (b ≡ a)) ⊎ ((bytes : List ℕ) × Exchanged (Fetch number) a b (Kept bytes)
+    × (slice_get (record_bytes steps) (number - 1) ≡ Some bytes))
+
+-- The records of a book, up to some number, were there, and the server gave the last of them. It gave
+-- those behind them, so many, each under its number, and then said that there are no more.
+pub record IsCopied (count : ℕ) (a b : LinkState) (steps : List Step) : Type 0 where
+  pub before : ℕ
+  pub counted : count_of steps ≡ before + count
+  pub first : LinkState
+  pub shown : GivesLast before steps a first
+  pub records : List (List ℕ)
+  pub number : length records ≡ count
+  pub last : LinkState
+  pub given : GivesAll (before + 1) records first last
+  pub kept : (k : ℕ) (bytes : List ℕ) → slice_get records k ≡ Some bytes
+      → slice_get (record_bytes steps) (before + k) ≡ Some bytes
+  pub end : EndsAt (before + count + 1) last b

@@ -1,11 +1,12 @@
 // A copy of a server's records in a book of its own.
-ghost use Rattle.std.specs.Prelude.{◌≡◌, ◌⊎◌, ◌+◌, ◌<◌, ◌≤◌, ℕ, [], length, IfOk, IfErr};
+ghost use Rattle.std.specs.Prelude.{◌≡◌, ◌⊎◌, ◌<◌, ◌≤◌, ℕ, [], length, IfOk, IfErr};
 ghost use Rattle.su_book.specs.Machine.{IsCapacity, IsRun, count_of};
 ghost use Rattle.su_bytes.specs.declared.refusals.Refusal.TheVariants.{BadKey, NoMemory};
 ghost use Rattle.su_chain.specs.ChainEnd.{HasBadKey};
 ghost use Rattle.su_shared.specs.declared.faults.BookFault.TheVariants.{Refused};
 ghost use Rattle.su_shared.specs.Faults.{IsRecordFault};
 ghost use Rattle.su_shared.specs.Shares.{record_bytes};
+ghost use Rattle.su_backup.specs.Copied.{GoesOn, IsCopied};
 
 use crate::copiers::Copier;
 use crate::faults::BackupFault;
@@ -55,7 +56,8 @@ where
     ensures records { IfOk result (λ c. c.closed.records ≡ count_of c.closed.book.journal) }
     ensures holds { IfOk result (λ c.
         ∥ K.holds c.closed.keeper (record_bytes c.closed.book.journal) ∥₁) }
-    ensures new { IfOk result (λ c. IfOk c.new (λ n. n ≤ c.closed.records)) }
+    ensures copied { IfOk result (λ c. IfOk c.new (λ n. IsCopied n client.old.source.link
+        client.new.source.link c.closed.book.journal)) }
     ensures refused { IfErr result (λ f.
         ((f ≡ Refused BadKey) × HasBadKey roster) ⊎ (f ≡ Refused NoMemory)
         ⊎ ((n : ℕ) × (0 < n) × IsRecordFault K.may_fail 0 n f)) }
@@ -90,7 +92,8 @@ where
     ensures records { IfOk result (λ c. c.closed.records ≡ count_of c.closed.book.journal) }
     ensures holds { IfOk result (λ c.
         ∥ K.holds c.closed.keeper (record_bytes c.closed.book.journal) ∥₁) }
-    ensures new { IfOk result (λ c. IfOk c.new (λ n. n ≤ c.closed.records)) }
+    ensures copied { IfOk result (λ c. IfOk c.new (λ n. IsCopied n client.old.source.link
+        client.new.source.link c.closed.book.journal)) }
     ensures refused { IfErr result (λ f.
         ((f ≡ Refused BadKey) × HasBadKey roster) ⊎ (f ≡ Refused NoMemory)
         ⊎ ((n : ℕ) × (0 < n) × IsRecordFault K.may_fail 0 n f)) }
@@ -112,7 +115,8 @@ fn copy_behind<N: BookName, K: Keeper, T: Wait, R: Read + Drop, W: Write + Drop>
     copier: &mut Copier<'_, N, K, T>,
     client: &mut Checked<Client<R, W>>,
 ) -> Result<u64, BackupFault>
-    ensures { IfOk result (λ n. copier.new.kept.stored ≡ copier.old.kept.stored + n) }
+    ensures { IfOk result (λ n. GoesOn n client.old.source.link client.new.source.link
+        copier.old copier.new) }
 {
     copier.check_last(client)?;
     copier.copy_records(client)

@@ -1,4 +1,4 @@
-use Rattle.std.proofs.Common.{◌≡◌, ◌+◌, refl, ap, sym, ◌∙◌, arith, rules}
+use Rattle.std.proofs.Common.{◌≡◌, ◌+◌, ap, sym, ◌∙◌, rules}
 use Rattle.su_backup.specs.Copied.{CopiesOne}
 use Rattle.su_backup.proofs.CopyLemmas.{copies_more}
 use Rattle.su_backup.proofs.copiers.Copier.copy_records.Goals as goal
