@@ -21,7 +21,7 @@ returns-clause-copied g c =
     let seat = c.copy_behind-new.new.copier in
     let (sorted, same, stands) = c.in-Ok-close.ensures.seats in
     let all : c.in-Ok.seats.items ≡ seat ∷ [] =
-        c.in-Ok.ensures.items ∙ ap (λ (s : SeatView). s ∷ []) c.into_seat.ensures in
+    c.in-Ok.ensures.items ∙ ap (λ (s : SeatView). s ∷ []) c.into_seat.ensures in
     let total = ap (sum_by (λ (s : SeatView). s.kept.stored)) all in
     copied_in c.copy_behind-new.result c.new-copier.result seat c.args.client.now.source.link
     c.copy_behind-new.new.client.source.link c.in-Ok-close.closed.records
