@@ -357,7 +357,7 @@ def backs_up(at):
 def backup_kills(at):
     chance, room, store, folder = random.Random(8), Room(at), f"{at}/store", f"{at}/copy"
     with Keeping(room, store) as server:
-        count, killed, counts = 150, 0, []
+        count, killed = 150, 0
         made = room.run(server.port, 0, b"".join(b"create /%d\n" % number for number in range(count)))
         yield "stores", made == ([b"ok %d" % (number + 1) for number in range(count)], [], 0)
         for _ in range(BACKUP_KILLS):
