@@ -33,6 +33,10 @@ def keygen(height, width, entropy="entropy", out="key"):
     return ["keygen", "--entropy", entropy, "--out", out, "--height", str(height), "--width", str(width)]
 
 
+def served(*more):
+    return ["serve", "--port", "1", "--workers", "1", "--capacity", "1", *more, "nothing"]
+
+
 # name: (arguments, standard input, what is printed or a tuple of parts of it, exit status)
 CASES = {
     "no_lines": (["desk"], "", "", 0),
@@ -56,10 +60,24 @@ CASES = {
     "a_key_without_a_width": (keygen(5, 8)[:-2], "", "", 2),
     "a_key_of_no_entropy": (keygen(5, 4, entropy="nothing"), "", "", 1),
     "a_key_in_no_folder": (keygen(5, 4, out="nowhere/key"), "", "", 1),
-    "help": (["--help"], "", ("desk", "keygen", "audit", "serve", "client"), 0),
+    "a_copy_of_no_words": (["backup"], "", "", 2),
+    "a_copy_to_nowhere": (["backup", "--port", "1", "key"], "", "", 2),
+    "a_copy_without_a_port": (["backup", "--to", "copy", "key"], "", "", 2),
+    "a_copy_at_port_0": (["backup", "--port", "0", "--to", "copy", "key"], "", "", 2),
+    "a_copy_at_a_large_port": (["backup", "--port", "65536", "--to", "copy", "key"], "", "", 2),
+    "a_copy_of_no_users": (["backup", "--port", "1", "--to", "copy"], "", "", 2),
+    "a_copy_of_too_many_users": (["backup", "--port", "1", "--to", "copy", *["key"] * 65], "", "", 2),
+    "a_copy_with_no_such_key": (["backup", "--port", "1", "--to", "copy", "nothing"], "", "", 1),
+    "a_cache_of_nothing": (served("--store", "store", "--cache", "0"), "", "", 2),
+    "too_large_a_cache": (served("--store", "store", "--cache", "1000001"), "", "", 2),
+    "a_cache_that_is_no_number": (served("--store", "store", "--cache", "x"), "", "", 2),
+    "a_cache_without_a_store": (served("--cache", "256"), "", "", 2),
+    "a_cache_and_no_such_key": (served("--store", "store", "--cache", "1000000"), "", "", 1),
+    "help": (["--help"], "", ("desk", "keygen", "audit", "serve", "client", "backup"), 0),
     "help_of_the_desk": (["desk", "--help"], "", ("undo_last", "--users"), 0),
     "help_of_keys": (["keygen", "--help"], "", ("--entropy <FILE>",), 0),
-    "help_of_the_server": (["serve", "--help"], "", ("--port", "--workers", "--capacity", "--sessions", "--store"), 0),
+    "help_of_the_server": (["serve", "--help"], "", ("--port", "--workers", "--capacity", "--sessions", "--store", "--cache"), 0),
+    "help_of_backups": (["backup", "--help"], "", ("--port", "--to", "ok N new M"), 0),
     "help_of_the_client": (["client", "--help"], "", ("undo_last", "save FILE", "--user", "--key", "--log", "--tries"), 0),
     "version": (["-V"], "", "sundr 0.1.0\n", 0),
 }
@@ -116,7 +134,7 @@ def keys(room):
 def help_texts(room):
     """Lines of at most 80 columns (but for a usage, which `clap` never breaks), each command and refusal that a desk or a
     client can answer, and the kit that is there."""
-    texts = {word: run([word, "--help"][not word:])[0] for word in ("", "desk", "keygen", "audit", "serve", "client")}
+    texts = {word: run([word, "--help"][not word:])[0] for word in ("", "desk", "keygen", "audit", "serve", "client", "backup")}
     for words, text in texts.items():
         wide = [line for line in text.split("\n") if len(line) > 80 and not line.startswith("Usage: ")]
         yield f"help_of_{words or 'sundr'}_fits: {wide}", wide == []

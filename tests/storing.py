@@ -1,6 +1,8 @@
 #!/usr/bin/env python3
 """Tries `sundr serve --store` over loopback: what is stored is there after the server was ended, killed at random moments, or had no
-room; files that are none of a store, or of another one, are refused with one line and left as they are.
+room; files that are none of a store, or of another one, are refused with one line and left as they are. And `sundr backup`: a copy
+that is made while clients commit has all that was acknowledged before, whatever became of it between, and can be served in the
+place of the server; what is no server of the copy's list is told of, and changes nothing.
 
 usage: storing.py [PART..]
 
@@ -10,6 +12,7 @@ import hashlib
 import os
 import random
 import resource
+import shutil
 import signal
 import sqlite3
 import sys
@@ -17,14 +20,17 @@ import tempfile
 import threading
 import time
 
+import bad_server
 import serving
 from serving import Running, free_port, is_told, read
 
 KILLS = 50
+BACKUP_KILLS = 10
 MOST_SECONDS = 90  # for the kills of servers
 LONGEST_ROUND = 0.3  # seconds from the first commit of a round to its kill, at most
 FILE = "records.db"
 LIMIT = 5_000_000  # bytes of a file where there is no room: the log that is written first has 4 MiB
+SMALL = 40_000  # bytes of a file where there is no room for three records
 
 
 class Room(serving.Room):
@@ -108,13 +114,14 @@ def two_servers(at):
 # ---- kills
 
 class Writer(threading.Thread):
-    """A user's client that makes files in the user's own directory until the link fails, and saves its log after each."""
+    """A user's client that makes files in the user's own directory until the link fails or that is over, and saves its log after
+    each."""
 
     def __init__(self, room, port, user, first):
         super().__init__()
         self.room, self.port, self.user, self.made = room, port, user, first
         self.log, self.ready = f"{room.at}/log_{user}", threading.Event()
-        self.listed, self.acknowledged, self.others = None, [], []
+        self.listed, self.acknowledged, self.others, self.is_over = None, [], [], threading.Event()
 
     def run(self):
         with self.room.client(self.port, self.user, "--log", self.log) as client:
@@ -124,7 +131,7 @@ class Writer(threading.Thread):
                 self.others.append(printed)
                 return
             self.listed = names_in(printed)
-            while True:
+            while not self.is_over.is_set():
                 name = b"%d" % self.made
                 self.made += 1
                 printed = client.say(b"create /%d/%b" % (self.user, name))
@@ -183,18 +190,22 @@ def kills(at):
 
 # ---- no room
 
-def no_room(at):
-    room, store = Room(at), f"{at}/store"
-
+def limits(size):
+    """What lets a program write no more than so many bytes of a file."""
     def limited():
         signal.signal(signal.SIGXFSZ, signal.SIG_IGN)
-        resource.setrlimit(resource.RLIMIT_FSIZE, (LIMIT, LIMIT))
+        resource.setrlimit(resource.RLIMIT_FSIZE, (size, size))
+    return limited
+
+
+def no_room(at):
+    room, store = Room(at), f"{at}/store"
 
     def line_of(number):
         """A write of 60,000 bytes, which tell its number."""
         return b"write /f 0 " + b"%08x" % number * 15000
 
-    with Keeping(room, store, preexec_fn=limited) as server:
+    with Keeping(room, store, preexec_fn=limits(LIMIT)) as server:
         with room.client(server.port, 0) as ann, room.client(server.port, 1) as bob:
             bob.say(b"ls /")
             ann.say(b"create /f")
@@ -275,7 +286,156 @@ def refuses_a_capacity(room, store):
     yield f"too_small_a_capacity_is_refused: {told}", (printed, status) == ([], 1) and is_told(told, "record 3")
 
 
-PARTS = (ends, two_servers, kills, no_room, bad_files)
+# ---- copies
+
+def backup(room, port, folder, publics=None, **how):
+    """What a backup prints and tells, and its status."""
+    with Running(["backup", "--port", port, "--to", folder, *(publics or room.publics)], **how) as running:
+        return running.end()
+
+
+def copied(ended):
+    """How many records a copy has, and how many of them are new, as a backup that ended well prints it."""
+    printed, told, status = ended
+    words = printed[0].split(b" ") if len(printed) == 1 else []
+    if (told, status) != ([], 0) or len(words) != 4 or (words[0], words[2]) != (b"ok", b"new"):
+        return None
+    return int(words[1]), int(words[3])
+
+
+def at_work(room, port):
+    """Two clients that commit, each in a directory of its own, once each has had a few commits acknowledged; and how many commits
+    the directories took."""
+    made = 0
+    for user in range(2):
+        made += len(room.run(port, user, b"mkdir /%d\nsave %b\n" % (user, f"{room.at}/log_{user}".encode()))[0])
+    writers = [Writer(room, port, user, 0) for user in range(2)]
+    for writer in writers:
+        writer.start()
+    until = time.monotonic() + serving.WAIT
+    while time.monotonic() < until and any(len(writer.acknowledged) < 3 for writer in writers):
+        time.sleep(0.01)
+    return writers, made
+
+
+def shows(room, folder, *more):
+    """What is in the directories of the users, as a server over a copy shows it."""
+    with Keeping(room, folder, sessions=2) as server:
+        return [names_in(room.run(server.port, user, b"ls /%d\n" % user, *more)[0]) for user in range(2)]
+
+
+def backs_up(at):
+    room, store, folder, early = Room(at), f"{at}/store", f"{at}/copy", f"{at}/early"
+    with Keeping(room, store) as server:
+        writers, made = at_work(room, server.port)
+        before = [set(writer.acknowledged) for writer in writers]
+        first = copied(backup(room, server.port, folder))
+        yield f"a_copy_while_clients_commit: {first}", first is not None and first[0] == first[1] >= 8
+        shutil.copytree(folder, early)
+        for writer in writers:
+            writer.is_over.set()
+            writer.join()
+        yield f"no_client_fails: {[writer.others for writer in writers]}", not any(writer.others for writer in writers)
+        again = copied(backup(room, server.port, folder))
+        count = made + sum(len(writer.acknowledged) for writer in writers)
+        yield f"only_the_new_ones_come: {first} {again} {count}", again == (count, count - first[0])
+        yield "none_is_new_then", copied(backup(room, server.port, folder)) == (count, 0)
+        server.kill()
+    for user, listed in enumerate(shows(room, early)):
+        yield f"what_was_acknowledged_before_is_copied: {user}", before[user] <= listed
+    for user, listed in enumerate(shows(room, folder)):
+        yield f"all_is_copied: {user}", listed == set(writers[user].acknowledged)
+    with Keeping(room, folder, sessions=4) as server:
+        for user in range(2):
+            with room.client(server.port, user, "--log", f"{at}/log_{user}") as client:
+                said = client.say(b"ls /%d" % user)
+                yield f"who_has_a_log_goes_on: {user} {said[:3]}", names_in(said) == set(writers[user].acknowledged)
+                said = client.say(b"create /%d/more" % user)
+                yield f"and_stores: {user} {said}", said == [b"ok %d" % (count + 1 + user)]
+
+
+def backup_kills(at):
+    chance, room, store, folder = random.Random(8), Room(at), f"{at}/store", f"{at}/copy"
+    with Keeping(room, store) as server:
+        count, killed = 150, 0
+        made = room.run(server.port, 0, b"".join(b"create /%d\n" % number for number in range(count)))
+        yield "stores", made == ([b"ok %d" % (number + 1) for number in range(count)], [], 0)
+        for _ in range(BACKUP_KILLS):
+            with Running(["backup", "--port", server.port, "--to", folder, *room.publics]) as running:
+                time.sleep(chance.random() * LONGEST_ROUND)
+                killed += running.process.poll() is None
+        last = copied(backup(room, server.port, folder))
+        print(f"storing: {killed} kills of a backup, {last and last[0] - last[1]} records copied before the last one")
+        yield f"goes_on_after_kills: {last}", last is not None and last[0] == count and killed >= BACKUP_KILLS // 2
+    with Keeping(room, folder, sessions=1) as server:
+        listed = names_in(room.run(server.port, 1, b"ls /\n")[0])
+        yield "nothing_is_missing", listed == {b"%d" % number for number in range(count)}
+
+
+def refuses_a_copy(name, room, port, folder, *parts, **how):
+    """A backup ends with one line that has these parts, and leaves the folder as it is."""
+    before = bytes_of(folder) if os.path.exists(folder) else None
+    printed, told, status = backup(room, port, folder, **how)
+    yield f"{name}_is_told: {told}", (printed, status) == ([], 1) and is_told(told, *parts)
+    yield f"{name}_changes_nothing", (bytes_of(folder) if os.path.exists(folder) else None) == before
+
+
+def bad_backups(at):
+    room, store = filled(at)
+    copy, others = f"{at}/copy", room.publics[::-1]
+    with Keeping(room, store) as server:
+        yield "a_copy", copied(backup(room, server.port, copy)) == (3, 3)
+        yield from refuses_a_copy("another_roster", room, server.port, copy, "record 1 of the copy", publics=others)
+        made = backup(room, server.port, f"{at}/new", publics=others)
+        yield f"another_roster_of_a_new_copy: {made}", made[::2] == ([], 1) and is_told(made[1], "record 1 of the server")
+        yield from refuses_a_copy("no_folder", room, server.port, f"{at}/nowhere/copy", f"{at}/nowhere/copy/{FILE}")
+        with Keeping(room, copy):
+            yield from refuses_a_copy("a_folder_in_use", room, server.port, copy, f"{copy}/{FILE}", "in use")
+        made = backup(room, server.port, f"{at}/small", preexec_fn=limits(SMALL))
+        yield f"no_room_is_told: {made}", made[::2] == ([], 1) and is_told(made[1], f"{at}/small/{FILE}")
+        yield "and_goes_on_with_room", copied(backup(room, server.port, f"{at}/small"))[0] == 3
+    with serving.Server(room) as server:
+        yield from refuses_a_copy("an_empty_server", room, server.port, copy, "record 3 of the copy")
+        room.run(server.port, 1, b"create /x\nmkdir /y\ncreate /z\ncreate /more\n")
+        yield from refuses_a_copy("another_list", room, server.port, copy, "record 3 of the copy")
+    port = free_port()
+    yield from refuses_a_copy("no_server", room, port, copy, f"port {port}")
+    yield from refuses_a_copy("no_server_of_a_new_copy", room, port, f"{at}/none", f"port {port}")
+    with Keeping(room, store) as server:
+        yield "the_copy_goes_on", copied(backup(room, server.port, copy)) == (3, 0)
+
+
+def copies_of_lies(at):
+    """Servers that show what they should not: the copy has what came before it, and goes on where the truth is shown."""
+    room = serving.Room(at)
+    records, publics = room.log(serving.STORY).records, room.public_keys
+    count = len(records)
+
+    def copy_of(service, folder):
+        with bad_server.Server(service) as server:
+            return backup(room, server.port, folder)
+
+    lies = {
+        "a_forged_signature": (bad_server.Show(publics, bad_server.forge(records, 2)), "record 2 of the server", 1),
+        "records_exchanged": (bad_server.Show(publics, bad_server.swap(records, 2, 3)), "record 2 of the server", 1),
+        "a_commit_of_junk": (bad_server.Show(publics, bad_server.change(records, 6, lambda _: b"junk")), "record 6", 5),
+        "another_item": (bad_server.WrongItem(publics, records), "another item", 0),
+        "a_reply_of_nothing": (bad_server.Replies(publics, records, "fetch", b""), "link", None),
+        "no_item_in_the_end": (bad_server.Replies(publics, records, "get", b"", at=4), "link", 3),
+    }
+    for name, (service, part, before) in lies.items():
+        folder = f"{at}/{name}"
+        printed, told, status = copy_of(service, folder)
+        yield f"{name}_is_told: {told}", (printed, status) == ([], 1) and is_told(told, part)
+        made = copied(copy_of(bad_server.Show(publics, records), folder))
+        yield f"{name}_then_the_truth: {made}", made == (count, count - before if before is not None else made[1])
+    fewer = copied(copy_of(bad_server.Show(publics, bad_server.drop(records, 4)), f"{at}/fewer"))
+    yield f"up_to_what_is_not_shown: {fewer}", fewer == (3, 3)
+    without = copied(copy_of(bad_server.NoItem(publics, records), f"{at}/without"))
+    yield f"an_item_that_is_not_there_is_left_out: {without}", without == (count, count)
+
+
+PARTS = (ends, two_servers, kills, no_room, bad_files, backs_up, backup_kills, bad_backups, copies_of_lies)
 
 
 def main():

@@ -25,6 +25,10 @@ IsCapacity n = (1 ≤ n) × (n ≤ 1000000)
 abbrev pub IsSessionCount : ℕ → Type 0
 IsSessionCount n = (1 ≤ n) × (n ≤ 1000000)
 
+-- how many MiB of items a server may have in memory
+abbrev pub IsCacheSize : ℕ → Type 0
+IsCacheSize n = (1 ≤ n) × (n ≤ 1000000)
+
 -- how often a client may ask for a turn
 abbrev pub IsTryCount : ℕ → Type 0
 IsTryCount n = (1 ≤ n) × (n ≤ 1000000)

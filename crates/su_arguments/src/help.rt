@@ -9,7 +9,8 @@ pub const ABOUT: &str = "A shared file store of which each operation can be undo
 Exit status:
   0  what was asked for was done, refusals among the answers of a script
   1  a log was refused, which is printed; or a file, a stream or a link failed,
-     or there was no memory, and standard error says which
+     a record of a server was refused, or there was no memory, and standard
+     error says which
   2  a wrong command line, or a line of a script that is no command";
 
 pub const DESK_ABOUT: &str = "Runs a script from standard input, and answers it on standard output
@@ -115,6 +116,35 @@ It listens on all addresses of this machine. Whoever connects can read, and can
 take the turn: a session that takes it and then says nothing keeps it, and its
 worker, until it ends. Standard error tells when it listens, and at its end what
 it served.";
+
+pub const BACKUP_ABOUT: &str = "Copies what a running server has stored into a folder
+
+The records are read through the server on this machine, while it serves, one by
+one, each with the item of its change. Each is checked as those that come to a
+server, and kept as `sundr serve --store` keeps them. The keys are those of the
+users 0, 1 and so on; group 0 has all of them, group 1 has user 0. So
+
+    sundr backup --port 7000 --to copy 0.pub 1.pub
+
+makes the folder `copy`, and later goes on with it: only what is new is copied.
+All that was acknowledged before it began is in the copy when it ends, and
+perhaps some that came since. `sundr serve --store copy` serves it. It can be
+ended at any moment, and be begun again.
+
+It takes no turn, and one of the server's workers serves it until it ends. No
+server and no other backup may have the folder open.";
+
+/// What a backup prints, and why it ends before all is copied.
+pub const BACKUP_ANSWERS: &str = "Answer:
+  ok N new M         the copy has N records, of which M are new
+
+After a fault the copy has all that it had, and what came before the fault:
+  no connection, or a link that failed
+  a folder that another server or program uses, or that can't be kept in
+  a record of the copy that is not of these users, or is damaged
+  a last record of the copy that the server does not show: it has another list
+  a record of the server that does not come next, or is not of these users
+  an item of the server with another digest than was asked for";
 
 pub const CLIENT_ABOUT: &str = "Runs a script from standard input against a server, and answers it
 

@@ -7,3 +7,4 @@ mod options;
 mod serving;
 
 pub use line::{Line, LineFault, line_of};
+pub use serving::{ClientArgs, ServeArgs};

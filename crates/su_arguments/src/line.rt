@@ -10,7 +10,10 @@ use crate::help::{
     LONG_VERSION,
 };
 use crate::options::{keys_of, needed, needed_keys, usage};
-use crate::serving::{client_command, client_of, serve_command, serve_of};
+use crate::serving::{
+    ClientArgs, ServeArgs, backup_command, backup_of, client_command, client_of, serve_command,
+    serve_of,
+};
 use clap::{Arg, ArgMatches, Command};
 use std::alloc::{AllocError, Global};
 use su_lms::Params;
@@ -34,26 +37,15 @@ pub enum Line {
         log: String,
         keys: Vec<String>,
     },
-    /// Serves sessions on a port, 1 to 65535, by 1 to 16 workers, over a book of 1 to 1,000,000
-    /// commits of users with the public keys in these files, 1 to 64 of them: so many sessions, 1 to
-    /// 1,000,000, or until it is ended. What is stored is kept in a folder, or in memory alone.
-    Serve {
+    /// Serves sessions on a port.
+    Serve(ServeArgs),
+    /// Runs a script for a user at a server.
+    Client(ClientArgs),
+    /// Copies into a folder what the server on a port, 1 to 65535, has stored, of users with the
+    /// public keys in these files, 1 to 64 of them.
+    Backup {
         port: u16,
-        workers: usize,
-        capacity: u64,
-        sessions: Option<u32>,
-        store: Option<String>,
-        keys: Vec<String>,
-    },
-    /// Runs a script for a user, 0 to 63, with the key in a file, at the server on a port, 1 to
-    /// 65535, of users with the public keys in these files, 1 to 64 of them. The commits of a log are
-    /// taken first. So often, 1 to 1,000,000 times, a turn that another has is asked for.
-    Client {
-        port: u16,
-        user: u8,
-        key: String,
-        log: Option<String>,
-        tries: u32,
+        to: String,
         keys: Vec<String>,
     },
     /// A text for the standard output: help, or the version.
@@ -102,6 +94,7 @@ pub fn line_of<'a>(
         Some(("audit", values)) => audit(alloc, values),
         Some(("serve", values)) => serve_of(alloc, values),
         Some(("client", values)) => client_of(alloc, values),
+        Some(("backup", values)) => backup_of(alloc, values),
         _ => Err(usage(alloc, "error: no such subcommand")),
     }
 }
@@ -121,7 +114,8 @@ fn program<'a>(
         .subcommand(keygen_command(alloc)?)?
         .subcommand(audit_command(alloc)?)?
         .subcommand(serve_command(alloc)?)?
-        .subcommand(client_command(alloc, client_help)?)
+        .subcommand(client_command(alloc, client_help)?)?
+        .subcommand(backup_command(alloc)?)
 }
 
 fn desk_command<'a>(alloc: Global, help: &'a str) -> Result<Command<'a>, AllocError> {

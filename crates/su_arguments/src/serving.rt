@@ -1,9 +1,9 @@
-// The command lines of a server and of its clients.
+// The command lines of a server, of its clients, and of its backups.
 ghost use Rattle.std.specs.Prelude.{IfOk, IfSome};
 ghost use Rattle.su_arguments.specs.Line.{HasGoodNumbers};
-ghost use Rattle.su_arguments.specs.Ranges.{IsPort, IsUser, IsWorkerCount, IsCapacity, IsSessionCount, IsTryCount};
+ghost use Rattle.su_arguments.specs.Ranges.{IsPort, IsUser, IsWorkerCount, IsCapacity, IsSessionCount, IsCacheSize, IsTryCount};
 
-use crate::help::{CLIENT_ABOUT, SERVE_ABOUT};
+use crate::help::{BACKUP_ABOUT, BACKUP_ANSWERS, CLIENT_ABOUT, SERVE_ABOUT};
 use crate::line::{Line, LineFault};
 use crate::options::{copy, keys_of, needed, needed_keys, usage};
 use clap::{Arg, ArgMatches, Command};
@@ -11,6 +11,37 @@ use std::alloc::{AllocError, Global};
 
 /// How many commits a server with a store keeps at most: those of one file of it.
 const MOST_STORED: u64 = 100_000;
+
+/// How many MiB of items a server with a store has in memory at most, where nothing else is asked.
+const CACHE: u32 = 256;
+
+/// A server on a port, 1 to 65535, with 1 to 16 workers, over a book of 1 to 1,000,000 commits of users
+/// with the public keys in these files, 1 to 64 of them: for so many sessions, 1 to 1,000,000, or until
+/// it is ended. What is stored is kept in a folder, or in memory alone; with a folder so many MiB of
+/// items are in memory at most, 1 to 1,000,000.
+#[derive(Debug, Drop)]
+pub struct ServeArgs {
+    pub port: u16,
+    pub workers: usize,
+    pub capacity: u64,
+    pub sessions: Option<u32>,
+    pub store: Option<String>,
+    pub cache: u32,
+    pub keys: Vec<String>,
+}
+
+/// A client of a user, 0 to 63, with the key in a file, at the server on a port, 1 to 65535, of users
+/// with the public keys in these files, 1 to 64 of them. The commits of a log are taken first. So often,
+/// 1 to 1,000,000 times, a turn that another has is asked for.
+#[derive(Debug, Drop)]
+pub struct ClientArgs {
+    pub port: u16,
+    pub user: u8,
+    pub key: String,
+    pub log: Option<String>,
+    pub tries: u32,
+    pub keys: Vec<String>,
+}
 
 pub(crate) fn serve_command<'a>(alloc: Global) -> Result<Command<'a>, AllocError> {
     let port = needed_port(alloc).help("The port that it listens on, 1 to 65535");
@@ -29,6 +60,11 @@ pub(crate) fn serve_command<'a>(alloc: Global) -> Result<Command<'a>, AllocError
         .long("store")
         .value_name("DIR")
         .help("The folder in which it keeps all that is stored, up to 100,000 commits");
+    let cache = Arg::new(alloc, "cache")
+        .long("cache")
+        .value_name("MIB")
+        .value_parser(clap::value_parser!(u32).range(1..1_000_001))
+        .help("With --store: how many MiB of items it has in memory, 1 to 1,000,000; else 256");
     Command::new(alloc, "serve")
         .about("Serves a shared folder")
         .long_about(SERVE_ABOUT)
@@ -37,6 +73,7 @@ pub(crate) fn serve_command<'a>(alloc: Global) -> Result<Command<'a>, AllocError
         .arg(capacity)?
         .arg(sessions)?
         .arg(store)?
+        .arg(cache)?
         .arg(needed_keys(alloc))
 }
 
@@ -69,11 +106,23 @@ pub(crate) fn client_command<'a>(alloc: Global, help: &'a str) -> Result<Command
         .arg(needed_keys(alloc))
 }
 
+pub(crate) fn backup_command<'a>(alloc: Global) -> Result<Command<'a>, AllocError> {
+    let port = needed_port(alloc).help("The server's port on this machine, 1 to 65535");
+    let to = needed(alloc, "to", "DIR").help("The folder of the copy");
+    Command::new(alloc, "backup")
+        .about("Copies what a running server has stored into a folder")
+        .long_about(BACKUP_ABOUT)
+        .after_help(BACKUP_ANSWERS)
+        .arg(port)?
+        .arg(to)?
+        .arg(needed_keys(alloc))
+}
+
 fn needed_port<'a>(alloc: Global) -> Arg<'a> {
     needed(alloc, "port", "P").value_parser(clap::value_parser!(u16).range(1..65_536))
 }
 
-/// `serve --port P --workers W --capacity C [--sessions N] [--store DIR] PUB..`
+/// `serve --port P --workers W --capacity C [--sessions N] [--store DIR [--cache MIB]] PUB..`
 pub(crate) fn serve_of(alloc: Global, values: &ArgMatches<'_>) -> Result<Line, LineFault>
     ensures { IfOk result HasGoodNumbers }
 {
@@ -94,13 +143,36 @@ pub(crate) fn serve_of(alloc: Global, values: &ArgMatches<'_>) -> Result<Line, L
             "error: with --store a server keeps at most 100,000 commits",
         ));
     }
+    let cache = cache_of(values);
+    if store.is_none() && cache.is_some() {
+        return Err(usage(alloc, "error: --cache is for a server with --store"));
+    }
     let keys = keys_of(alloc, values)?;
-    Ok(Line::Serve {
+    Ok(Line::Serve(ServeArgs {
         port,
         workers,
         capacity,
         sessions: sessions_of(values),
         store,
+        cache: cache.unwrap_or(CACHE),
+        keys,
+    }))
+}
+
+/// `backup --port P --to DIR PUB..`
+pub(crate) fn backup_of(alloc: Global, values: &ArgMatches<'_>) -> Result<Line, LineFault>
+    ensures { IfOk result HasGoodNumbers }
+{
+    let (Some(port), Some(to)) = (port_of(values), values.get_str("to")) else {
+        return Err(usage(
+            alloc,
+            "error: an option is missing, or its number out of range",
+        ));
+    };
+    let keys = keys_of(alloc, values)?;
+    Ok(Line::Backup {
+        port,
+        to: String::from_str(alloc, to)?,
         keys,
     })
 }
@@ -121,14 +193,14 @@ pub(crate) fn client_of(alloc: Global, values: &ArgMatches<'_>) -> Result<Line, 
         ));
     };
     let keys = keys_of(alloc, values)?;
-    Ok(Line::Client {
+    Ok(Line::Client(ClientArgs {
         port,
         user,
         key: String::from_str(alloc, key)?,
         log: copy(alloc, values.get_str("log"))?,
         tries,
         keys,
-    })
+    }))
 }
 
 fn port_of(values: &ArgMatches<'_>) -> Option<u16>
@@ -156,6 +228,13 @@ fn sessions_of(values: &ArgMatches<'_>) -> Option<u32>
 {
     let sessions = values.get_one::<u32>("sessions");
     sessions.filter(|sessions| 1 <= *sessions && *sessions <= 1_000_000)
+}
+
+fn cache_of(values: &ArgMatches<'_>) -> Option<u32>
+    ensures { IfSome result IsCacheSize }
+{
+    let cache = values.get_one::<u32>("cache");
+    cache.filter(|cache| 1 <= *cache && *cache <= 1_000_000)
 }
 
 fn user_of(values: &ArgMatches<'_>) -> Option<u8>

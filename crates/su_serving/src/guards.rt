@@ -5,6 +5,7 @@ use sqlite::Alter;
 use std::alloc::Global;
 use std::sync::Wait;
 use su_archive::{Archive, ArchiveName};
+use su_bytes::Digest;
 use su_keeper::{Keeper, NotKept};
 use su_server::Stop;
 use su_store::FileFault;
@@ -24,16 +25,16 @@ impl<'a, N: ArchiveName, S: Alter, R: Wait> HasFault for Archive<'a, N, S, R> {
 /// A keeper whose first failure is told on standard error, and stops the server. It holds what the
 /// keeper within holds.
 #[derive(Drop)]
-pub(crate) struct Guard<'a, K> {
+pub(crate) struct Guard<'a, 'p, K> {
     keeper: K,
     rt: &'a HostRuntime,
-    path: &'a String,
+    path: &'p String,
     stop: &'a Stop,
 }
 
-impl<'a, K> Guard<'a, K> {
+impl<'a, 'p, K> Guard<'a, 'p, K> {
     /// Guards the keeper over the file at a path.
-    pub fn new(rt: &'a HostRuntime, keeper: K, path: &'a String, stop: &'a Stop) -> Guard<'a, K>
+    pub fn new(rt: &'a HostRuntime, keeper: K, path: &'p String, stop: &'a Stop) -> Guard<'a, 'p, K>
         ensures { result.keeper ≡ keeper }
     {
         Guard {
@@ -52,7 +53,7 @@ impl<'a, K> Guard<'a, K> {
     }
 }
 
-impl<'a, K: HasFault> Guard<'a, K> {
+impl<'a, 'p, K: HasFault> Guard<'a, 'p, K> {
     /// Tells of the keeper's fault, once, and stops the server.
     fn alarm(&self) {
         if let Some(fault) = self.keeper.fault() {
@@ -65,7 +66,7 @@ impl<'a, K: HasFault> Guard<'a, K> {
     }
 }
 
-impl<'a, K: Keeper + HasFault> Keeper for Guard<'a, K> {
+impl<'a, 'p, K: Keeper + HasFault> Keeper for Guard<'a, 'p, K> {
     ghost holds = { λ g. K.holds g.keeper };
 
     ghost is_at_end = { λ g. K.is_at_end g.keeper };
@@ -82,6 +83,14 @@ impl<'a, K: Keeper + HasFault> Keeper for Guard<'a, K> {
 
     fn next(&mut self, alloc: Global) -> Result<Option<Vec<u8>>, NotKept> {
         let found = self.keeper.next(alloc);
+        if found.is_err() {
+            self.alarm();
+        }
+        found
+    }
+
+    fn item(&mut self, alloc: Global, digest: Digest) -> Result<Option<Vec<u8>>, NotKept> {
+        let found = self.keeper.item(alloc, digest);
         if found.is_err() {
             self.alarm();
         }

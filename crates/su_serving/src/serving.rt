@@ -1,14 +1,15 @@
 // Serving a shared folder at a port.
-ghost use Rattle.std.specs.Prelude.{◌≡◌, false, []};
+ghost use Rattle.std.specs.Prelude.{◌≡◌, []};
 ghost use Rattle.sqlite.specs.State.{HasCleanDisk};
 ghost use Rattle.sqlite.specs.Held.{state};
 ghost use Rattle.su_store.specs.Files.{IsAtRest};
 
 use crate::doors::Door;
+use crate::faults::tell_fault;
 use crate::guards::Guard;
-use crate::stores::{DiskFile, open_file};
+use crate::settings::Setting;
+use crate::stores::{DiskFile, close_file, open_file, path_in};
 use sqlite::Alter;
-use std::fmt::Display;
 use std::marker::Brand;
 use std::net::{Ipv4Addr, Net, TcpListener, TcpStream};
 use std::sync::Wait;
@@ -22,12 +23,9 @@ use su_shards::SharedBlocks;
 use su_shared::{BookFault, Closed};
 use su_store::RecordFile;
 
-/// The name of a store's file in its folder.
-const FILE: &str = "records.db";
-
 /// What a server is asked for: its port, how many workers it has and commits it may store, after
-/// how many sessions it ends, if so, and the folder in which it keeps what is stored, if there is
-/// one.
+/// how many sessions it ends, if so, the folder in which it keeps what is stored, if there is one, and
+/// how many MiB of items it has in memory then. (All of them, so far: the number isn't used yet.)
 #[derive(Clone, Copy)]
 pub struct Options<'a> {
     pub port: u16,
@@ -35,6 +33,7 @@ pub struct Options<'a> {
     pub capacity: u64,
     pub sessions: Option<u32>,
     pub store: Option<&'a str>,
+    pub cache: u32,
 }
 
 /// The same, without the folder.
@@ -65,60 +64,48 @@ where
         capacity: options.capacity,
         sessions: options.sessions,
     };
+    let setting = Setting {
+        rt,
+        host,
+        blocks: &blocks,
+        stop: &stop,
+    };
     match options.store {
-        Some(folder) => serve_kept(rt, host, terms, roster, &blocks, &stop, folder),
+        Some(folder) => serve_kept(&setting, terms, roster, folder),
         None => {
-            let (good, _) = serve_over(rt, host, terms, roster, &blocks, &stop, Forgetful);
+            let (good, _) = serve_over(&setting, terms, roster, Forgetful);
             good
         }
     }
 }
 
 /// Serves over what is kept in a folder. In the end all is copied from the log into the file.
-fn serve_kept<'a, T>(
-    rt: &'a HostRuntime,
-    host: &'a T,
-    terms: Terms,
-    roster: Roster,
-    blocks: &'a SharedBlocks,
-    stop: &'a Stop,
-    folder: &str,
-) -> bool
+fn serve_kept<T>(setting: &Setting<'_, T>, terms: Terms, roster: Roster, folder: &str) -> bool
 where
     T: Net<Listener = TcpListener, Stream = TcpStream> + Threads + Wait + Sync,
 {
-    let Ok(path) = format!(in rt.alloc(); "{folder}/{FILE}") else {
+    let rt = setting.rt;
+    let Ok(path) = path_in(rt, folder) else {
         return tell_fault(rt, "out of memory");
     };
     let file = match open_file(rt, folder, path.as_str()) {
         Ok(file) => file,
         Err(fault) => return tell_fault(rt, format_args!("{path}: {fault}")),
     };
-    let (good, file) = serve_named::<Brand, DiskFile, T>(
-        rt, host, terms, roster, blocks, stop, &path, file,
-    );
+    let (good, file) = serve_named::<Brand, DiskFile, T>(setting, terms, roster, &path, file);
     let Some(file) = file else {
         return good;
     };
-    if stop.is_set() {
-        return false;
-    }
-    match file.close() {
-        Ok(_files) => good,
-        Err(fault) => tell_fault(rt, format_args!("{path}: {fault}")),
-    }
+    !setting.stop.is_set() && close_file(rt, &path, file) && good
 }
 
 /// The same, over a file whose tables have this name, which is handed back unless the book was
 /// refused.
-fn serve_named<'a, N, S, T>(
-    rt: &'a HostRuntime,
-    host: &'a T,
+fn serve_named<N, S, T>(
+    setting: &Setting<'_, T>,
     terms: Terms,
     roster: Roster,
-    blocks: &'a SharedBlocks,
-    stop: &'a Stop,
-    path: &'a String,
+    path: &String,
     file: RecordFile<S>,
 ) -> (bool, Option<RecordFile<S>>)
 where
@@ -128,9 +115,9 @@ where
     requires named { N.found ≡ (state S.Store file.held).now.trees }
     requires rest { HasCleanDisk (state S.Store file.held) → IsAtRest S.Store file }
 {
-    let archive: Archive<'_, N, S, T> = Archive::new(host, file, blocks);
-    let guard = Guard::new(rt, archive, path, stop);
-    let (good, guard) = serve_over(rt, host, terms, roster, blocks, stop, guard);
+    let archive: Archive<'_, N, S, T> = Archive::new(setting.host, file, setting.blocks);
+    let guard = Guard::new(setting.rt, archive, path, setting.stop);
+    let (good, guard) = serve_over(setting, terms, roster, guard);
     match guard {
         Some(guard) => (good, Some(guard.into_keeper().into_file())),
         None => (good, None),
@@ -139,13 +126,10 @@ where
 
 /// Listens, and serves over a new book with this keeper, which is handed back unless the book was
 /// refused.
-fn serve_over<'a, K, T>(
-    rt: &'a HostRuntime,
-    host: &'a T,
+fn serve_over<K, T>(
+    setting: &Setting<'_, T>,
     terms: Terms,
     roster: Roster,
-    blocks: &'a SharedBlocks,
-    stop: &'a Stop,
     keeper: K,
 ) -> (bool, Option<K>)
 where
@@ -154,24 +138,21 @@ where
     requires { K.holds keeper [] }
 {
     let port = terms.port;
-    match TcpListener::bind(host, (Ipv4Addr::UNSPECIFIED, port)) {
-        Ok(listener) => serve_at(rt, host, terms, roster, blocks, stop, &listener, keeper),
+    match TcpListener::bind(setting.host, (Ipv4Addr::UNSPECIFIED, port)) {
+        Ok(listener) => serve_at(setting, terms, roster, &listener, keeper),
         Err(reason) => {
             let fault = format_args!("listening on port {port}: {reason}");
-            (tell_fault(rt, fault), Some(keeper))
+            (tell_fault(setting.rt, fault), Some(keeper))
         }
     }
 }
 
 /// The same, at this listener.
-fn serve_at<'a, K, T>(
-    rt: &'a HostRuntime,
-    host: &'a T,
+fn serve_at<K, T>(
+    setting: &Setting<'_, T>,
     terms: Terms,
     roster: Roster,
-    blocks: &'a SharedBlocks,
-    stop: &'a Stop,
-    listener: &'a TcpListener,
+    listener: &TcpListener,
     keeper: K,
 ) -> (bool, Option<K>)
 where
@@ -179,6 +160,7 @@ where
     T: Net<Listener = TcpListener, Stream = TcpStream> + Threads + Wait + Sync,
     requires { K.holds keeper [] }
 {
+    let (rt, host, stop) = (setting.rt, setting.host, setting.stop);
     let sessions = terms.sessions;
     let connections = Connections::new(listener, stop, sessions.unwrap_or(u32::MAX));
     let door = Door {
@@ -197,26 +179,22 @@ where
         workers,
         capacity,
         roster,
-        blocks,
+        setting.blocks,
         keeper,
         &door,
     ) {
         Ok(report) => {
             let good = tell_report(rt, stop, sessions, &report);
-            (good, Some(keeper_of(report)))
+            (good, Some(keeper_of(report.closed)))
         }
         Err(fault) => (tell_book(rt, stop, &fault), None),
     }
 }
 
-/// Takes the keeper out of what a server did.
-fn keeper_of<K: Keeper>(report: Report<K>) -> K
-    ensures { result ≡ report.closed.keeper }
+/// Takes the keeper out of a book that has ended.
+pub(crate) fn keeper_of<K: Keeper>(closed: Closed<K>) -> K
+    ensures { result ≡ closed.keeper }
 {
-    let Report {
-        sessions: _,
-        closed,
-    } = report;
     let Closed {
         records: _,
         calls: _,
@@ -276,12 +254,4 @@ fn answered_in<K: Keeper>(report: &Report<K>) -> u64 {
         answered = answered.saturating_add(served.answered);
     }
     answered
-}
-
-/// Tells a fault on standard error, in a line of its own; a server with one doesn't end well.
-fn tell_fault<F: Display + Drop>(rt: &HostRuntime, fault: F) -> bool
-    ensures { result ≡ false }
-{
-    let _ = eprintln!(rt; "sundr: {fault}");
-    false
 }

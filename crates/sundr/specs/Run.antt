@@ -1,7 +1,8 @@
 -- What the program prints for a command line, and how it ends.
-use Rattle.std.specs.Prelude.{◌≡◌, ◌≢◌, ℕ, List, ◌++◌, Option, Some, string_bytes}
+use Rattle.std.specs.Prelude.{◌≡◌, ◌≢◌, ℕ, List, ◌++◌, Option, Some, string_bytes, [], ◌∷◌, codes}
+use Rattle.std.specs.Fmt.{decimal}
 use Rattle.su_arguments.specs.declared.line.Line.{Line}
-use Rattle.su_arguments.specs.declared.line.Line.TheVariants.{Desk, Keygen, Audit, Serve, Client, Text}
+use Rattle.su_arguments.specs.declared.line.Line.TheVariants.{Desk, Keygen, Audit, Serve, Client, Backup, Text}
 use Rattle.su_arguments.specs.declared.line.LineFault.{LineFault}
 use Rattle.su_arguments.specs.declared.line.LineFault.TheVariants.{Usage, NoMemory}
 use Rattle.su_script.specs.declared.desk.Status.{Status}
@@ -34,19 +35,31 @@ AddsUnlessFault before after Fault = Unit {0}
 abbrev pub IsTakenLine : List ℕ → Type 0
 IsTakenLine text = (n : ℕ) × (text ≡ taken_text n)
 
+-- `ok 12 new 3`
+abbrev pub copied_text : ℕ → ℕ → List ℕ
+copied_text records new =
+    codes "ok " ++ (decimal records ++ (codes " new " ++ (decimal new ++ 10 ∷ [])))
+
+-- `ok N new M` for some N and M
+abbrev pub IsCopiedLine : List ℕ → Type 0
+IsCopiedLine text = (records new : ℕ) × (text ≡ copied_text records new)
+
 -- a desk prints the transcript of its script, a key maker the line of a public key, and a text
 -- itself; an audit that ends well prints how many commits it took (of which log no clause can say, as
 -- it stands in a file); a server prints nothing; of what a client prints a clause can only say that
--- it comes after what was there, as it rests on what the server shows
+-- it comes after what was there, as it rests on what the server shows; a backup that ends well prints
+-- how many records the copy has and how many are new
 abbrev pub CarriesOut : Line → List ℕ → List ℕ → Option (List ℕ) → Status → Type 0
 CarriesOut (Desk users) input before after status = Prints users input before after status
 CarriesOut (Keygen entropy out params) input before after status =
     PrintsUnlessFault (IsPublicLine params) before after status
 CarriesOut (Audit log keys) input before after status =
     PrintsUnlessFault IsTakenLine before after status
-CarriesOut (Serve port workers capacity sessions store keys) input before after status =
+CarriesOut (Serve args) input before after status =
     (after ≡ Some before) × (status ≢ BadLine)
-CarriesOut (Client port user key log tries keys) input before after status =
+CarriesOut (Client args) input before after status =
     AddsUnlessFault before after status
+CarriesOut (Backup port to keys) input before after status =
+    PrintsUnlessFault IsCopiedLine before after status
 CarriesOut (Text text) input before after status =
     PrintsUnlessFault (λ t. t ≡ string_bytes text) before after status

@@ -11,54 +11,42 @@ use std::alloc::Global;
 use std::fs::File;
 use std::io;
 use std::io::{BufReader, ErrorKind, Read, Write};
-use std::net::{Ipv4Addr, Net, TcpListener, TcpStream};
+use std::net::{Net, TcpListener, TcpStream};
 use std::thread::Threads;
+use su_arguments::ClientArgs;
 use su_audit::tell_refused;
 use su_block::{BlockSource, Checked, MemoryBlocks};
 use su_bytes::{Roster, User};
-use su_client::Client;
 use su_client_script::{Ending, Fault, run_client};
 use su_kept_key::{KeptKey, signer_of};
 use su_lms::Signer;
 use su_member::{LogFault, Member, take_log};
 use su_script::Status;
+use su_serving::{Link, connect};
 use su_view::View;
 
-/// A link to a server.
-type Link = Client<BufReader<TcpStream>, TcpStream>;
-
-/// What a client is told by its command line.
-#[derive(Clone, Copy)]
-pub(crate) struct Options<'a> {
-    pub port: u16,
-    pub user: u8,
-    pub key: &'a str,
-    pub log: Option<&'a str>,
-    pub tries: u32,
-    pub keys: &'a [String],
-}
-
-/// Runs a script at a server, for a user with a key. Where there is a log, its commits are taken
-/// first, and a refused one is printed as an audit does. `Fault` where the client can't begin: for
-/// want of a public key of the user, by the key file, by a public key, by the log, by the port, in
-/// this order. Standard error tells that, and at the end why a leaf of the key couldn't be stored.
+/// Runs a script at a server, for a user with a key, as the command line asks for it. Where there is
+/// a log, its commits are taken first, and a refused one is printed as an audit does. `Fault` where
+/// the client can't begin: for want of a public key of the user, by the key file, by a public key, by
+/// the log, by the port, in this order. Standard error tells that, and at the end why a leaf of the
+/// key couldn't be stored.
 // The client runs in the first thread, whose stack is what the shell allows (`ulimit -s`, mostly
 // 8 MiB), as a desk does; the deepest names need 2 MiB at most.
 pub(crate) fn client<T, R: Read + Drop, W: Write>(
     rt: &HostRuntime,
     host: &T,
-    options: Options<'_>,
+    args: &ClientArgs,
     reader: R,
     writer: &mut W,
 ) -> Status
 where
     T: Net<Listener = TcpListener, Stream = TcpStream> + Threads + Sync,
-    requires { IsUserCount (length options.keys.now) }
+    requires { IsUserCount (length args.now.keys.items) }
     ensures { (before : List ℕ) → W.contents writer.old ≡ Some before
         → AddsUnlessFault before (W.contents writer.new) result }
 {
-    match member_of(rt, host, options) {
-        Ok(member) => work(rt, options.key, member, reader, writer),
+    match member_of(rt, host, args) {
+        Ok(member) => work(rt, args.key.as_str(), member, reader, writer),
         Err(fault) => tell_client_fault(rt, writer, &fault),
     }
 }
@@ -87,35 +75,35 @@ fn work<R: Read + Drop, W: Write>(
 fn member_of<'a, T>(
     rt: &'a HostRuntime,
     host: &T,
-    options: Options<'_>,
+    args: &ClientArgs,
 ) -> Result<Member<BufReader<TcpStream>, TcpStream, KeptKey<'a>>, ClientFault>
 where
     T: Net<Listener = TcpListener, Stream = TcpStream> + Threads + Sync,
-    requires { IsUserCount (length options.keys.now) }
+    requires { IsUserCount (length args.now.keys.items) }
 {
     let alloc = rt.alloc();
-    let user = user_of(options)?;
-    let signer = open_signer(rt, host, options.key)?;
-    let roster = read_roster(rt, options.keys)?;
-    let log = open_log(rt, options.log)?;
-    match connect(alloc, host, options.port) {
+    let user = user_of(args)?;
+    let signer = open_signer(rt, host, args.key.as_str())?;
+    let roster = read_roster(rt, args.keys.as_slice())?;
+    let log = open_log(rt, args.log.as_ref().map(|path| path.as_str()))?;
+    match connect(alloc, host, args.port) {
         Ok(link) => {
             let view = view_of(alloc, roster, user, link, log)?;
-            Ok(Member::new(alloc, view, signer, options.tries))
+            Ok(Member::new(alloc, view, signer, args.tries))
         }
         Err(reason) => {
             check_log(alloc, roster, user, log)?;
-            let port = options.port;
+            let port = args.port;
             Err(ClientFault::Unlinked { port, reason })
         }
     }
 }
 
 /// Returns the user, of whom there has to be a public key.
-fn user_of(options: Options<'_>) -> Result<User, ClientFault> {
-    match User::new(u64::from(options.user)) {
-        Ok(user) if usize::from(options.user) < options.keys.len() => Ok(user),
-        _ => Err(ClientFault::NoUser { user: options.user }),
+fn user_of(args: &ClientArgs) -> Result<User, ClientFault> {
+    match User::new(u64::from(args.user)) {
+        Ok(user) if usize::from(args.user) < args.keys.len() => Ok(user),
+        _ => Err(ClientFault::NoUser { user: args.user }),
     }
 }
 
@@ -173,18 +161,6 @@ fn unread(alloc: Global, path: &str, reason: io::Error) -> ClientFault {
         Ok(path) => ClientFault::UnreadLog { path, reason },
         Err(_) => ClientFault::NoMemory,
     }
-}
-
-/// Connects to the server on that port of this machine. Small requests leave at once.
-fn connect<T: Net<Listener = TcpListener, Stream = TcpStream>>(
-    alloc: Global,
-    host: &T,
-    port: u16,
-) -> io::Result<Link> {
-    let writer = TcpStream::connect(host, (Ipv4Addr::LOCALHOST, port))?;
-    writer.set_nodelay(true)?;
-    let reader = BufReader::new(alloc, writer.try_clone()?)?;
-    Ok(Client::new(alloc, reader, writer))
 }
 
 /// Makes the view of a user, and takes the commits of the log, whose items go to the server.

@@ -3,6 +3,7 @@
 //! `sundr audit` reads a log of commits, and tells whether all of them are taken.
 //! `sundr serve` serves a shared folder to the clients of its users.
 //! `sundr client` runs a script against a server.
+//! `sundr backup` copies what a running server has stored.
 #![tactic(auto)]
 
 ghost use Rattle.std.specs.Prelude.{◌≡◌, ℕ, List, Some, IfOk, ◌≤◌, length, string_bytes};
@@ -12,16 +13,20 @@ ghost use Rattle.sundr.specs.Key.{IsPublicLine};
 ghost use Rattle.sundr.specs.Run.{CarriesOut, PrintsUnlessFault, refused_status};
 
 mod audits;
+mod backups;
 mod client_faults;
 mod clients;
 mod faults;
+mod printing;
 mod rosters;
 mod savers;
 mod servers;
 
 use audits::audit;
-use clients::{Options, client};
+use backups::backup;
+use clients::client;
 use faults::tell_fault;
+use printing::print;
 use servers::serve;
 use std::io::{ErrorKind, IsTerminal, Read, Write};
 use std::net::{Net, TcpListener, TcpStream};
@@ -86,41 +91,16 @@ where
             params,
         } => new_key(rt, host, entropy.as_str(), out.as_str(), params, writer),
         Line::Audit { log, keys } => audit(rt, host, log.as_str(), keys.as_slice(), writer),
-        Line::Serve {
+        Line::Serve(args) => serve(rt, host, &args),
+        Line::Client(args) => client(rt, host, &args, reader, writer),
+        Line::Backup { port, to, keys } => backup(
+            rt,
+            host,
             port,
-            workers,
-            capacity,
-            sessions,
-            store,
-            keys,
-        } => {
-            let options = su_serving::Options {
-                port,
-                workers,
-                capacity,
-                sessions,
-                store: store.as_ref().map(|folder| folder.as_str()),
-            };
-            serve(rt, host, options, keys.as_slice())
-        }
-        Line::Client {
-            port,
-            user,
-            key,
-            log,
-            tries,
-            keys,
-        } => {
-            let options = Options {
-                port,
-                user,
-                key: key.as_str(),
-                log: log.as_ref().map(|path| path.as_str()),
-                tries,
-                keys: keys.as_slice(),
-            };
-            client(rt, host, options, reader, writer)
-        }
+            to.as_str(),
+            keys.as_slice(),
+            writer,
+        ),
         Line::Text(text) => print(rt, text.as_str(), writer),
     }
 }
@@ -188,22 +168,6 @@ fn public_line<T: Threads + Sync>(
     let public = make_key(rt, host, entropy, out, params)?;
     let digits = hex::encode(alloc, public.as_bytes())?;
     Ok(format!(in alloc; "{digits}\n")?)
-}
-
-/// Prints a text. That it isn't read to its end is no fault to be told.
-fn print<W: Write>(rt: &HostRuntime, text: &str, writer: &mut W) -> Status
-    ensures { (before : List ℕ) → W.contents writer.old ≡ Some before
-        → PrintsUnlessFault (λ t. t ≡ text.now) before (W.contents writer.new) result }
-{
-    match writer.write_all(text.as_bytes()) {
-        Ok(()) => Status::Finished,
-        Err(reason) => {
-            if reason.kind() != ErrorKind::BrokenPipe {
-                let _ = eprintln!(rt; "sundr: writing to standard output: {reason}");
-            }
-            Status::Fault
-        }
-    }
 }
 
 /// Tells on standard error why there is nothing to do.

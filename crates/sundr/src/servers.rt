@@ -7,24 +7,33 @@ use crate::rosters::read_roster;
 use std::net::{Net, TcpListener, TcpStream};
 use std::sync::Wait;
 use std::thread::Threads;
+use su_arguments::ServeArgs;
 use su_script::Status;
 use su_serving::Options;
 
-/// Serves a shared folder to the users with the public keys in these files, 1 to 64 of them.
+/// Serves a shared folder, as the command line asks for it.
 /// `Fault` where a key can't be read, and where `su_serving` ends with a fault, which standard error
 /// tells.
 // The workers' threads have the C library's stacks: as large as the shell allows (`ulimit -s`), or
 // 2 MiB where it sets no limit. A worker holds records and items, and no tree of names, so none of
 // its calls goes deep.
-pub(crate) fn serve<T>(rt: &HostRuntime, host: &T, options: Options<'_>, keys: &[String]) -> Status
+pub(crate) fn serve<T>(rt: &HostRuntime, host: &T, args: &ServeArgs) -> Status
 where
     T: Net<Listener = TcpListener, Stream = TcpStream> + Threads + Wait + Sync,
-    requires { IsUserCount (length keys.now) }
+    requires { IsUserCount (length args.now.keys.items) }
     ensures { result ≢ Status.BadLine }
 {
-    let roster = match read_roster(rt, keys) {
+    let roster = match read_roster(rt, args.keys.as_slice()) {
         Ok(roster) => roster,
         Err(reason) => return tell_fault(rt, reason),
+    };
+    let options = Options {
+        port: args.port,
+        workers: args.workers,
+        capacity: args.capacity,
+        sessions: args.sessions,
+        store: args.store.as_ref().map(|folder| folder.as_str()),
+        cache: args.cache,
     };
     if su_serving::serve(rt, host, options, roster) {
         Status::Finished

@@ -1,0 +1,125 @@
+-- What is copied of a server's records, over a link, from a seat of a book. (This project's own.)
+use Rattle.std.specs.Prelude.{◌≡◌, ◌⊎◌, ◌≤◌, ◌+◌, ◌-◌, ℕ, List, [], ◌∷◌, length, Some, slice_get}
+use Rattle.su_message.specs.declared.requests.Request.TheVariants.{Fetch}
+use Rattle.su_message.specs.declared.replies.Reply.TheVariants.{Kept, Nothing}
+use Rattle.su_client.specs.Link.{LinkState, Exchanged, MayGive}
+use Rattle.su_shared.specs.declared.cells.Record.{Record}
+use Rattle.su_shared.specs.Seats.{SeatView, known_at, Learns}
+use Rattle.su_shared.specs.Shares.{record_bytes}
+use Rattle.su_book.specs.declared.steps.Step.{Step}
+use Rattle.su_book.specs.Machine.{count_of}
+
+-- ---- the server's side
+
+-- Of a link over which an item was asked for: it gives no items that it might not have given.
+abbrev pub OnlyItems : LinkState → LinkState → Type 0
+OnlyItems a b = (item : List ℕ) → MayGive b item → MayGive a item
+
+-- The server was asked for the record of this number, and gave these bytes; then for an item at most.
+pub record Gives (number : ℕ) (bytes : List ℕ) (a b : LinkState) : Type 0 where
+  pub between : LinkState
+  pub fetched : Exchanged (Fetch number) a between (Kept bytes)
+  pub item : OnlyItems between b
+
+-- the server gave these records one after another, each under its number, the first under this one
+abbrev pub GivesAll : ℕ → List (List ℕ) → LinkState → LinkState → Type 0
+GivesAll number [] a b = b ≡ a
+GivesAll number (bytes ∷ more) a c =
+    (b : LinkState) × Gives number bytes a b × GivesAll (number + 1) more b c
+
+-- the server was asked for the record of this number, and said that it has none
+abbrev pub EndsAt : ℕ → LinkState → LinkState → Type 0
+EndsAt number a b = Exchanged (Fetch number) a b Nothing
+
+-- ---- the book's side
+
+-- what the seat knows of a record, it knows from then on
+abbrev pub StillKnows : SeatView → SeatView → Type 0
+StillKnows s t = (n : ℕ) (r : Record) → known_at s.known n ≡ Some r → known_at t.known n ≡ Some r
+
+-- what the seat stored and knows stays
+pub record Keeps (s t : SeatView) : Type 0 where
+  pub stored : s.kept.stored ≤ t.kept.stored
+  pub known : StillKnows s t
+
+-- the seat stores one commit more, of these bytes, and knows it under this number
+pub record StoresOne (number : ℕ) (bytes : List ℕ) (s t : SeatView) : Type 0 where
+  pub stored : t.kept.stored ≡ s.kept.stored + 1
+  pub learns : Learns s.known (record { number = number; bytes = bytes }) t.known
+
+-- the seat stores so many commits more as there are records, and knows each under its number, the
+-- first under this one
+pub record StoresAll (number : ℕ) (records : List (List ℕ)) (s t : SeatView) : Type 0 where
+  pub stored : t.kept.stored ≡ s.kept.stored + length records
+  pub known : StillKnows s t
+  pub knows : (k : ℕ) (bytes : List ℕ) → slice_get records k ≡ Some bytes
+      → known_at t.known (number + k) ≡ Some (record { number = number + k; bytes = bytes })
+
+-- ---- both
+
+-- the server gives the record of this number, and the seat stores it
+abbrev pub CopiesOne : ℕ → LinkState → LinkState → SeatView → SeatView → Type 0
+CopiesOne number a b s t =
+    (bytes : List ℕ) × Gives number bytes a b × StoresOne number bytes s t
+
+-- The server gives some records behind those that the seat stored, and the seat stores just these, in
+-- their order.
+pub record CopiesSome (a b : LinkState) (s t : SeatView) : Type 0 where
+  pub records : List (List ℕ)
+  pub given : GivesAll (s.kept.stored + 1) records a b
+  pub stores : StoresAll (s.kept.stored + 1) records s t
+
+-- The server gives so many records, and the seat stores them; then the server says that there are no
+-- more.
+pub record CopiesAll (count : ℕ) (a b : LinkState) (s t : SeatView) : Type 0 where
+  pub counted : t.kept.stored ≡ s.kept.stored + count
+  pub last : LinkState
+  pub copies : CopiesSome a last s t
+  pub end : EndsAt (t.kept.stored + 1) last b
+
+-- The server gives some records, and the seat stores them and keeps them, whatever comes then.
+pub record CopiesSomeAndKeeps (a : LinkState) (s u : SeatView) : Type 0 where
+  pub last : LinkState
+  pub seat : SeatView
+  pub copies : CopiesSome a last s seat
+  pub keeps : Keeps seat u
+
+-- where the seat stored any, the server gives the record of the last one's number, and it is that of
+-- the book; where it stored none, nothing is asked
+abbrev pub IsLastOf : SeatView → LinkState → LinkState → SeatView → Type 0
+IsLastOf s a b t =
+    ((s.kept.stored ≡ 0) × (b ≡ a)) ⊎ ((bytes : List ℕ)
+    × Exchanged (Fetch s.kept.stored) a b (Kept bytes)
+    × (known_at t.known s.kept.stored ≡ Some (record { number = s.kept.stored; bytes = bytes })))
+
+-- The server gives the last record that the seat stored, and then so many more, which the seat stores.
+pub record GoesOn (count : ℕ) (a b : LinkState) (s t : SeatView) : Type 0 where
+  pub first : LinkState
+  pub seat : SeatView
+  pub last : IsLastOf s a first seat
+  pub kept : seat.kept ≡ s.kept
+  pub copies : CopiesAll count first b seat t
+
+-- ---- the copy
+
+-- The server gives the record of this number, and it is that of the book; where the number is 0,
+-- nothing is asked.
+abbrev pub GivesLast : ℕ → List Step → LinkState → LinkState → Type 0
+GivesLast number steps a b =
+    ((number ≡ 0) × (b ≡ a)) ⊎ ((bytes : List ℕ) × Exchanged (Fetch number) a b (Kept bytes)
+    × (slice_get (record_bytes steps) (number - 1) ≡ Some bytes))
+
+-- The records of a book, up to some number, were there, and the server gave the last of them. It gave
+-- those behind them, so many, each under its number, and then said that there are no more.
+pub record IsCopied (count : ℕ) (a b : LinkState) (steps : List Step) : Type 0 where
+  pub before : ℕ
+  pub counted : count_of steps ≡ before + count
+  pub first : LinkState
+  pub shown : GivesLast before steps a first
+  pub records : List (List ℕ)
+  pub number : length records ≡ count
+  pub last : LinkState
+  pub given : GivesAll (before + 1) records first last
+  pub kept : (k : ℕ) (bytes : List ℕ) → slice_get records k ≡ Some bytes
+      → slice_get (record_bytes steps) (before + k) ≡ Some bytes
+  pub end : EndsAt (before + count + 1) last b
