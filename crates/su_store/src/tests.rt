@@ -1,7 +1,7 @@
 ghost use Rattle.std.specs.Prelude.{IsTrue};
 ghost use Rattle.sqlite_disk.specs.Memory.{memory_is_usable};
 
-use crate::{FileFault, RecordFile, open};
+use crate::{FileFault, RecordFile, ShutFile, make, open};
 use sha2::Sha256;
 use sqlite::{Alter, Connection, FileStore, Files, Options, Unknown};
 use sqlite_disk::{Crash, Memory};
@@ -52,6 +52,16 @@ fn make_other(rt: &HostRuntime, path: &str) -> Result<(), sqlite::Error> {
 
 fn opens_as(rt: &HostRuntime, path: &str) -> Option<FileFault> {
     match open(rt, path, Unknown) {
+        Ok(file) => {
+            drop(file);
+            None
+        }
+        Err(fault) => Some(fault),
+    }
+}
+
+fn makes_as(rt: &HostRuntime, path: &str) -> Option<FileFault> {
+    match make(rt, path, Unknown) {
         Ok(file) => {
             drop(file);
             None
@@ -138,6 +148,71 @@ fn over_memory(
         Ok(connection) => RecordFile::over(connection),
         Err((error, _)) => Err(FileFault::from(error)),
     }
+}
+
+/// Keeps a record, shuts the file and opens it again.
+fn keep_and_reopen(
+    alloc: Global,
+    log: Memory,
+    db: Memory,
+) -> Result<RecordFile<FileStore<Memory>>, FileFault>
+    requires { IsTrue (memory_is_usable log) × IsTrue (memory_is_usable db) }
+{
+    let mut file = over_memory(alloc, log, db)?;
+    keep(alloc, &mut file, &[1, 2], &[7])?;
+    match file.shut() {
+        Ok(shut) => reopen(alloc, shut),
+        Err((fault, _)) => Err(fault),
+    }
+}
+
+fn reopen(
+    alloc: Global,
+    shut: ShutFile<Memory>,
+) -> Result<RecordFile<FileStore<Memory>>, FileFault> {
+    match shut.open(alloc, Options::new(8)) {
+        Ok(file) => Ok(file),
+        Err((fault, _)) => Err(fault),
+    }
+}
+
+#[test]
+fn a_file_that_was_shut_is_opened_again(rt: HostRuntime) -> Result<(), Fail> {
+    let alloc = rt.alloc();
+    let mut file = keep_and_reopen(alloc, Memory::new(alloc), Memory::new(alloc))?;
+    assert_eq!(rt; file.len(), 1);
+    assert!(rt; has_record(&mut file, 0, &[1, 2])?);
+    assert!(rt; has_block(&mut file, &[7])?);
+    assert_eq!(rt; keep(alloc, &mut file, &[3], &[8])?, 1);
+    assert!(rt; has_record(&mut file, 1, &[3])?);
+    Ok(())
+}
+
+#[test]
+fn what_is_no_file_of_the_store_is_not_opened_again(rt: HostRuntime) -> Result<(), Fail> {
+    let alloc = rt.alloc();
+    let files = Files {
+        log: Memory::new(alloc),
+        db: Memory::new(alloc),
+    };
+    let opened = reopen(alloc, ShutFile::over(files));
+    assert!(rt; matches!(opened, Err(FileFault::Foreign)));
+    Ok(())
+}
+
+#[test]
+fn a_file_is_made_where_there_is_none(rt: HostRuntime) -> Result<(), Fail> {
+    let _ = fs::remove_dir_all(&rt, "su_store_made");
+    fs::create_dir(&rt, "su_store_made")?;
+    let path = "su_store_made/records.db";
+    let mut file = make(&rt, path, Unknown)?;
+    assert!(rt; file.is_empty());
+    assert_eq!(rt; keep(rt.alloc(), &mut file, &[1, 2], &[7])?, 0);
+    drop(file);
+    assert!(rt; matches!(makes_as(&rt, path), Some(FileFault::Foreign)));
+    assert_eq!(rt; open(&rt, path, Unknown)?.len(), 1);
+    fs::remove_dir_all(&rt, "su_store_made")?;
+    Ok(())
 }
 
 #[test]
