@@ -47,7 +47,8 @@ pub fn backup<T>(
 where
     T: Net<Listener = TcpListener, Stream = TcpStream> + Wait + Sync,
 {
-    let Ok(blocks) = SharedBlocks::new(rt.alloc()) else {
+    // an item need not stay once it is kept
+    let Ok(blocks) = SharedBlocks::with_room(rt.alloc(), 0) else {
         return refuse(rt, "out of memory");
     };
     let stop = Stop::new();

@@ -23,9 +23,12 @@ use su_shards::SharedBlocks;
 use su_shared::{BookFault, Closed};
 use su_store::RecordFile;
 
+/// How many bytes a MiB has.
+const MIB: usize = 1_048_576;
+
 /// What a server is asked for: its port, how many workers it has and commits it may store, after
-/// how many sessions it ends, if so, the folder in which it keeps what is stored, if there is one, and
-/// how many MiB of items it has in memory then. (All of them, so far: the number isn't used yet.)
+/// how many sessions it ends, if so, the folder in which it keeps what is stored, if there is one,
+/// and how many MiB those items may take in memory that are kept there too.
 #[derive(Clone, Copy)]
 pub struct Options<'a> {
     pub port: u16,
@@ -54,7 +57,8 @@ pub fn serve<T>(rt: &HostRuntime, host: &T, options: Options<'_>, roster: Roster
 where
     T: Net<Listener = TcpListener, Stream = TcpStream> + Threads + Wait + Sync,
 {
-    let Ok(blocks) = SharedBlocks::new(rt.alloc()) else {
+    let room = (options.cache as usize).saturating_mul(MIB);
+    let Ok(blocks) = SharedBlocks::with_room(rt.alloc(), room) else {
         return tell_fault(rt, "out of memory");
     };
     let stop = Stop::new();
