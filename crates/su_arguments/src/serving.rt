@@ -64,7 +64,7 @@ pub(crate) fn serve_command<'a>(alloc: Global) -> Result<Command<'a>, AllocError
         .long("cache")
         .value_name("MIB")
         .value_parser(clap::value_parser!(u32).range(1..1_000_001))
-        .help("With --store: how many MiB of items it has in memory, 1 to 1,000,000; else 256");
+        .help("With --store: MiB of items in memory at most, 1 to 1,000,000; else 256");
     Command::new(alloc, "serve")
         .about("Serves a shared folder")
         .long_about(SERVE_ABOUT)
