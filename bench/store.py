@@ -9,7 +9,7 @@ run it prints
 - commits a second that `git` makes of such files on the same disk, with what it writes synced, and bare appends of as many bytes, each
   synced, which no store with one sync a record can pass;
 - bytes on the disk for each operation, once the server has ended;
-- seconds that a server takes to start from a store of 10,000 and of 100,000 records, and the memory that it has then. Their author's
+- seconds that a server takes to start from a store of 10,000 and of 100,000 records, in memory, and how much of it that server has then. Their author's
   key has a tree of height 20 (bench/audit.py makes it), since the keys of `sundr keygen` sign 1,024 times.
 
 SUNDR names another program to measure.
@@ -171,11 +171,12 @@ def main():
         print(f"{'bare synced appends':24} {append_rate(at):8.0f} a second", flush=True)
         log = audit.make(sys.argv[1] if len(sys.argv) > 1 else at, "writes_4", 4, 1000, 99000)
         for count in (10000, 100000):
-            roster, store = Roster(f"{log}.pub"), next(stores)
-            feed(roster, store, log, count)
-            size = sum(os.path.getsize(f"{store}/{name}") for name in os.listdir(store))
-            took, peak = start(roster, store)
-            print(f"{count:6} records: {size / count:6.0f} bytes each; a server starts in {took:6.2f} s, and has {peak:5.0f} MB", flush=True)
+            with tempfile.TemporaryDirectory(dir="/dev/shm") as store:
+                roster = Roster(f"{log}.pub")
+                feed(roster, store, log, count)
+                size = sum(os.path.getsize(f"{store}/{name}") for name in os.listdir(store))
+                took, peak = start(roster, store)
+                print(f"{count:6} records: {size / count:6.0f} bytes each; a server starts in {took:6.2f} s, and has {peak:5.0f} MB", flush=True)
 
 
 if __name__ == "__main__":

@@ -1,0 +1,3 @@
+pub mod PlaceLemmas
+pub mod PastLemmas
+pub mod VolumeLemmas
