@@ -31,7 +31,8 @@ pub(crate) fn item_of<R: Wait>(
     blocks: &SharedBlocks,
     change: Option<&Digest>,
 ) -> Result<Vec<Vec<u8>>, FileFault>
-    ensures { IfOk result (λ items. All (λ item. option_copied change.entry ≡ Some (sha256 item.items)) items.items) }
+    ensures { IfOk result (λ items.
+        All (λ item. option_copied change.entry ≡ Some (sha256 item.items)) items.items) }
 {
     let mut items = Vec::new(alloc);
     let Some(digest) = change else {

@@ -162,7 +162,7 @@ fn keep_and_reopen(
     keep(alloc, &mut file, &[1, 2], &[7])?;
     match file.shut() {
         Ok(shut) => reopen(alloc, shut),
-        Err((fault, _)) => Err(fault),
+        Err((fault, _left)) => Err(fault),
     }
 }
 
@@ -172,7 +172,7 @@ fn reopen(
 ) -> Result<RecordFile<FileStore<Memory>>, FileFault> {
     match shut.open(alloc, Options::new(8)) {
         Ok(file) => Ok(file),
-        Err((fault, _)) => Err(fault),
+        Err((fault, _left)) => Err(fault),
     }
 }
 
