@@ -51,10 +51,12 @@ class Room(serving.Room):
 class Keeping(Running):
     """A server with a store, which listens once this is made, or has ended."""
 
-    def __init__(self, room, store, sessions=None, capacity=100000, **how):
+    def __init__(self, room, store, sessions=None, capacity=100000, cache=None, **how):
         self.port = free_port()
         words = ["serve", "--port", self.port, "--workers", 4, "--capacity", capacity, "--store", store]
-        super().__init__([*words, *(("--sessions", sessions) if sessions else ()), *room.publics], **how)
+        options = {"--sessions": sessions, "--cache": cache}
+        more = [word for name, value in options.items() if value for word in (name, value)]
+        super().__init__([*words, *more, *room.publics], **how)
         self.said = self.told.next()
 
 
@@ -223,6 +225,62 @@ def no_room(at):
             kept = bob.say(b"cat /f 0 4")
             yield f"all_that_was_acknowledged_is_there: {kept} {number}", kept in ([b"%08x" % (number - 1)], [b"%08x" % number])
             yield "and_it_goes_on", bob.say(b"mkdir /more")[-1].startswith(b"ok ")
+
+
+# ---- a small cache
+
+WRITES = 400  # of 65,536 bytes, which a cache of 1 MiB has no room for
+MOST_SPARED = 12_000_000  # bytes of items that a small cache may fail to spare: the allocator's own room
+
+
+def large(number):
+    """65,536 bytes that tell a number, as a line has them."""
+    return b"%08x" % number * 16384
+
+
+def most_memory(server):
+    """How many bytes a server had in memory at most."""
+    with open(f"/proc/{server.process.pid}/status", encoding="utf-8") as file:
+        return next(int(line.split()[1]) for line in file if line.startswith("VmHWM")) * 1024
+
+
+def fill_files(room, port):
+    """Makes files of at most 1 MiB by many writes, and tells how many of these were refused."""
+    refused = 0
+    with room.client(port, 0) as client:
+        for n in range(WRITES):
+            if n % 16 == 0:
+                client.say(b"create /%d" % (n // 16))
+            refused += client.say(b"write /%d %d " % (n // 16, n % 16 * 65536) + large(n))[-1:] == []
+        client.end()
+    return refused
+
+
+def shows_files(room, port, *more):
+    """Whether another user's client reads what stands in the files."""
+    with room.client(port, 1, *more) as client:
+        return all(client.say(b"cat /%d %d 4" % (n // 16, n % 16 * 65536)) == [b"%08x" % n] for n in range(0, WRITES, 7))
+
+
+def small_cache(at):
+    memory = {}
+    for cache in (1, 256):
+        room, store, log = Room(at), f"{at}/store {cache}", f"{at}/log {cache}"
+        with Keeping(room, store, cache=cache) as server:
+            yield f"stores_with_{cache}", fill_files(room, server.port) == 0
+            yield f"shows_with_{cache}", shows_files(room, server.port)
+            with room.client(server.port, 0) as ann:
+                yield f"saves_with_{cache}", ann.say(b"save " + log.encode()) == []
+                ann.end()
+            # its items are put once more
+            yield f"shows_to_who_has_a_log_with_{cache}", shows_files(room, server.port, "--log", log)
+            memory[cache] = most_memory(server)
+            server.kill()
+        with Keeping(room, store, cache=cache) as server:
+            yield f"shows_anew_with_{cache}", shows_files(room, server.port)
+    print(f"storing: {WRITES * 65536 // 1000000} MB of items, served in {memory[1] // 1000000} MB with a cache of 1 MiB, "
+          f"in {memory[256] // 1000000} with one of 256")
+    yield f"a_small_cache_spares_memory: {memory}", memory[256] - memory[1] > WRITES * 65536 - MOST_SPARED
 
 
 # ---- what is no store
@@ -435,7 +493,7 @@ def copies_of_lies(at):
     yield f"an_item_that_is_not_there_is_left_out: {without}", without == (count, count)
 
 
-PARTS = (ends, two_servers, kills, no_room, bad_files, backs_up, backup_kills, bad_backups, copies_of_lies)
+PARTS = (ends, two_servers, kills, no_room, small_cache, bad_files, backs_up, backup_kills, bad_backups, copies_of_lies)
 
 
 def main():
