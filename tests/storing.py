@@ -26,6 +26,7 @@ from serving import Running, free_port, is_told, read
 
 KILLS = 50
 BACKUP_KILLS = 10
+LONGEST_BACKUP = 0.06  # seconds from the start of a backup to its kill, at most
 MOST_SECONDS = 90  # for the kills of servers
 LONGEST_ROUND = 0.3  # seconds from the first commit of a round to its kill, at most
 FILE = "records.db"
@@ -265,7 +266,7 @@ def shows_files(room, port, *more):
 def small_cache(at):
     memory = {}
     for cache in (1, 256):
-        room, store, log = Room(at), f"{at}/store {cache}", f"{at}/log {cache}"
+        room, store, log = Room(at), f"{at}/store_{cache}", f"{at}/log_{cache}"
         with Keeping(room, store, cache=cache) as server:
             yield f"stores_with_{cache}", fill_files(room, server.port) == 0
             yield f"shows_with_{cache}", shows_files(room, server.port)
@@ -420,11 +421,11 @@ def backup_kills(at):
         yield "stores", made == ([b"ok %d" % (number + 1) for number in range(count)], [], 0)
         for _ in range(BACKUP_KILLS):
             with Running(["backup", "--port", server.port, "--to", folder, *room.publics]) as running:
-                time.sleep(chance.random() * LONGEST_ROUND)
+                time.sleep(chance.random() * LONGEST_BACKUP)
                 killed += running.process.poll() is None
         last = copied(backup(room, server.port, folder))
         print(f"storing: {killed} kills of a backup, {last and last[0] - last[1]} records copied before the last one")
-        yield f"goes_on_after_kills: {last}", last is not None and last[0] == count and killed >= BACKUP_KILLS // 2
+        yield f"goes_on_after_kills: {last}", last is not None and last[0] == count and killed >= 2
     with Keeping(room, folder, sessions=1) as server:
         listed = names_in(room.run(server.port, 1, b"ls /\n")[0])
         yield "nothing_is_missing", listed == {b"%d" % number for number in range(count)}
