@@ -31,6 +31,8 @@ MOST_SECONDS = 90  # for the kills of servers
 LONGEST_ROUND = 0.3  # seconds from the first commit of a round to its kill, at most
 FILE = "records.db"
 LIMIT = 5_000_000  # bytes of a file where there is no room: the log that is written first has 4 MiB
+FILES = (460, 560, 1060)  # writes of 64 KiB after which there is one file, two, and three
+MOST_OF_FILES = 120_000_000  # bytes of memory over three files, of which two are read at most
 SMALL = 40_000  # bytes of a file where there is no room for three records
 
 
@@ -284,6 +286,88 @@ def small_cache(at):
     yield f"a_small_cache_spares_memory: {memory}", memory[256] - memory[1] > WRITES * 65536 - MOST_SPARED
 
 
+# ---- several files
+
+def in_files(room, port, first, last):
+    """Writes of 64 KiB with these numbers into files of 16 each; how many of them weren't acknowledged."""
+    refused = 0
+    with room.client(port, 0) as client:
+        for n in range(first, last):
+            if n % 16 == 0:
+                client.say(b"create /%d" % (n // 16))
+            refused += not client.say(b"write /%d %d " % (n // 16, n % 16 * 65536) + large(n))[-1].startswith(b"ok ")
+        client.end()
+    return refused
+
+
+def reads_of(room, port, numbers):
+    """Whether another user's client reads what these writes put."""
+    with room.client(port, 1) as client:
+        return all(client.say(b"cat /%d %d 4" % (n // 16, n % 16 * 65536)) == [b"%08x" % n] for n in numbers)
+
+
+def files_of(store):
+    return sorted(name for name in os.listdir(store) if name.endswith(".db"))
+
+
+def several_files(at):
+    room, store, memory = Room(at), f"{at}/store", []
+    with Keeping(room, store, cache=1) as server:
+        yield "stores", in_files(room, server.port, 0, FILES[0]) == 0
+        yield "one_file_at_first", files_of(store) == ["records.db"]
+        yield "stores_more", in_files(room, server.port, FILES[0], FILES[1]) == 0
+        yield f"then_two: {files_of(store)}", files_of(store) == ["records-1.db", "records.db"]
+        yield "reads_from_both", reads_of(room, server.port, (0, 100, FILES[1] - 1))
+        server.kill()
+    for last in (FILES[1], FILES[2]):
+        with Keeping(room, store, cache=1) as server:
+            yield f"begins_anew: {server.said}", b"listening" in server.said
+            yield "reads_from_all", reads_of(room, server.port, (0, 100, FILES[0] + 50, last - 1))
+            yield "goes_on", in_files(room, server.port, last, FILES[2]) == 0
+            memory.append(most_memory(server))
+            server.kill()
+    yield f"then_three: {files_of(store)}", files_of(store) == ["records-1.db", "records-2.db", "records.db"]
+    print(f"storing: {FILES[2] * 65536 // 1000000} MB of items in 3 files, served in {memory[1] // 1000000} MB")
+    yield f"memory_is_bounded: {memory}", memory[1] < MOST_OF_FILES
+    with Keeping(room, store, cache=1) as server:
+        copy = copied(backup(room, server.port, f"{at}/copy"))
+        yield f"a_copy_has_all: {copy}", copy is not None and copy[0] == copy[1]
+        yield "in_as_many_files", files_of(f"{at}/copy") == files_of(store)
+        server.kill()
+    yield from bad_folders(room, f"{at}/copy")
+
+
+def bad_folders(room, store):
+    """A file of several is missing, empty, or none of a store."""
+    def told_of(name, *parts):
+        with Keeping(room, store) as server:
+            printed, told, status = server.end()
+            told = [server.said, *told]
+        return f"{name}_is_refused: {told}", (printed, status) == ([], 1) and is_told(told, *parts)
+
+    for name in ("records-1.db", "records.db"):
+        os.rename(f"{store}/{name}", f"{store}/away")
+        yield told_of(f"without_{name}", name, "missing")
+        yield f"{name}_is_not_made_anew", not os.path.exists(f"{store}/{name}")
+        os.rename(f"{store}/away", f"{store}/{name}")
+    good = read(f"{store}/records-1.db")
+    with open(f"{store}/records-1.db", "wb") as file:
+        file.write(b"no store at all\n" * 300)
+    yield told_of("a_text", "records-1.db")
+    os.remove(f"{store}/records-1.db")
+    with open(f"{store}/records-1.db", "wb") as file:
+        file.write(b"")
+    yield told_of("an_empty_file_before_another", "record")
+    with open(f"{store}/records-1.db", "wb") as file:
+        file.write(good)
+    os.rename(f"{store}/records-2.db", f"{store}/away")
+    with open(f"{store}/records-2.db", "wb") as file:
+        file.write(b"")
+    with Keeping(room, store) as server:
+        yield "an_empty_last_file_is_begun_with", reads_of(room, server.port, (0, FILES[0] + 50))
+        server.kill()
+
+
 # ---- what is no store
 
 def filled(at):
@@ -494,7 +578,7 @@ def copies_of_lies(at):
     yield f"an_item_that_is_not_there_is_left_out: {without}", without == (count, count)
 
 
-PARTS = (ends, two_servers, kills, no_room, small_cache, bad_files, backs_up, backup_kills, bad_backups, copies_of_lies)
+PARTS = (ends, two_servers, kills, no_room, small_cache, several_files, bad_files, backs_up, backup_kills, bad_backups, copies_of_lies)
 
 
 def main():

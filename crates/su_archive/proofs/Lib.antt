@@ -1,1 +1,1 @@
-pub mod HoldLemmas
+pub mod ImageLemmas

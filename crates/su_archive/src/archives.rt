@@ -1,70 +1,82 @@
-// A book's keeper over one file of the store.
-ghost use Rattle.std.specs.Prelude.{◌≡◌, ◌≤◌, ◌<◌, ◌+◌, ◌^◌, ◌++◌, ◌∷◌, [], false, None, Some, IsTrue, List, ℕ, IfOk, OnOk, OnErr, option_map};
+// A book's keeper over the files of a store.
+ghost use Rattle.std.specs.Prelude.{◌≡◌, ◌++◌, ◌∷◌, [], false, None, List, ℕ, IfOk, IfSome, OnOk, OnErr};
+ghost use Rattle.sha2.specs.Sha256.{sha256};
 ghost use Rattle.sqlite.specs.State.{HasCleanDisk};
-ghost use Rattle.sqlite.specs.Held.{state};
+ghost use Rattle.sqlite.specs.Files.{file_state, over_files};
 ghost use Rattle.su_store.specs.Files.{IsAtRest};
-ghost use Rattle.su_store.specs.Lookups.{IsRecord};
-ghost use Rattle.su_archive.specs.Archived.{Holds, stopped, OnlyReads, ShowsTheSame};
+ghost use Rattle.su_volumes.specs.Volumes.{found_with, IsAtEnd, HoldsInTurn};
+ghost use Rattle.su_archive.specs.Archived.{Holds};
 
-use crate::items::{change_of, item_of, release_item, share_item};
-use sqlite::Alter;
+use crate::fills::Fill;
+use crate::items::{change_of, item_of, release_item, share};
+use sqlite::Options;
+use sqlite_disk::Disk;
 use std::alloc::Global;
-use std::marker::{Brand, Model, PhantomData};
+use std::collections::BTreeMap;
+use std::marker::{Brand, PhantomData};
 use std::sync::Wait;
 use su_bytes::Digest;
 use su_keeper::{Keeper, NotKept};
 use su_shards::SharedBlocks;
-use su_store::{FileFault, RecordFile};
+use su_store::{FileFault, ShutFile};
+use su_volumes::{Opened, Shelf, Volumes};
 
-/// Names the tables that an archive's file was found with. Each run of a program picks them.
+/// Names what an archive was found with. Each run of a program picks it.
 pub trait ArchiveName {
-    ghost use Rattle.sqlite.specs.Tree.{Trees};
+    ghost use Rattle.su_volumes.specs.Volumes.{Found};
 
-    ghost found: { Trees };
+    ghost found: { Found };
 }
 
 impl ArchiveName for Brand {
+    ghost use Rattle.std.specs.Prelude.{[]};
     ghost use Rattle.sqlite.specs.Tree.{no_trees};
 
-    ghost found = { no_trees };
+    ghost found = { record { first = no_trees; later = [] } };
 }
 
-/// Keeps the records of a book in a file of the store, each with the item of its change, which it
+/// Keeps the records of a book in the files of a store, each with the item of its change, which it
 /// gets from the items that the server's threads share. The records that it finds go back into the
-/// book one by one, and their items among the shared ones. It begins with none in the book.
+/// book one by one, and their items among the shared ones. It begins with none in the book. One
+/// file is in memory, and a second one once an item was read from it.
 #[derive(Drop)]
-pub struct Archive<'a, N: ArchiveName, S: Alter, R: Wait> {
-    file: RecordFile<S>,
-    kept: u32,
-    is_stopped: bool,
+pub struct Archive<'a, N: ArchiveName, D: Disk, H: Shelf<D>, R: Wait> {
+    volumes: Volumes<D>,
+    shelf: H,
+    fill: Fill,
+    // which file has the item of a digest
+    places: BTreeMap<[u8; 32], usize>,
+    asked: usize,
     fault: Option<FileFault>,
     blocks: &'a SharedBlocks,
     rt: &'a R,
     name: PhantomData<N>,
 }
 
-impl<'a, N: ArchiveName, S: Alter, R: Wait> Model for Archive<'a, N, S, R> {
-    ghost use Rattle.su_archive.specs.Archived.{Archived, archived_code};
-
-    ghost Value = { Archived S };
-
-    ghost coded = { archived_code S.code };
-
-    ghost view = { λ a. record { file = a.file; kept = a.kept; is_stopped = a.is_stopped } };
-}
-
-impl<'a, N: ArchiveName, S: Alter, R: Wait> Archive<'a, N, S, R> {
-    /// Makes the keeper of a book that has no record yet, over a file as its open left it.
-    pub fn new(rt: &'a R, file: RecordFile<S>, blocks: &'a SharedBlocks) -> Archive<'a, N, S, R>
-        requires named { N.found ≡ (state S.Store file.held).now.trees }
-        requires rest { HasCleanDisk (state S.Store file.held) → IsAtRest S.Store file }
-        ensures file { result ≡ record { file = file; kept = 0; is_stopped = false } }
-        ensures begun { Holds S.Store N.found result [] }
+impl<'a, N: ArchiveName, D: Disk + Drop, H: Shelf<D>, R: Wait> Archive<'a, N, D, H, R> {
+    /// Makes the keeper of a book that has no record yet, over the files of a store. A file is full
+    /// with this many bytes of records and items, or at its most records; then the shelf makes the
+    /// next one. `options` are for each open of a file that was shut.
+    pub fn new(
+        rt: &'a R,
+        alloc: Global,
+        options: Options,
+        files: Opened<D>,
+        shelf: H,
+        limit: usize,
+        blocks: &'a SharedBlocks,
+    ) -> Archive<'a, N, D, H, R>
+        requires named { N.found ≡ found_with D.Disk files }
+        requires rest { HasCleanDisk (file_state files.first.held)
+            → IsAtRest over_files files.first }
+        ensures begun { Holds D.Disk N.found result.volumes [] }
     {
         Archive {
-            file,
-            kept: 0,
-            is_stopped: false,
+            volumes: Volumes::new(alloc, options, files),
+            shelf,
+            fill: Fill::new(limit),
+            places: BTreeMap::new(alloc),
+            asked: 0,
             fault: None,
             blocks,
             rt,
@@ -77,128 +89,180 @@ impl<'a, N: ArchiveName, S: Alter, R: Wait> Archive<'a, N, S, R> {
         self.fault.as_ref()
     }
 
-    /// Gives the file away, to be closed.
-    pub fn into_file(self) -> RecordFile<S>
-        ensures { result ≡ self.entry.file }
-    {
-        self.file
+    /// The number of the file that was asked last, counted from 0.
+    pub fn number(&self) -> usize {
+        self.asked
+    }
+
+    /// Shuts all files, each with all that it keeps copied from its log, and returns them: the
+    /// first one last. After a failure the others are left as they are.
+    pub fn close(self) -> Result<Vec<ShutFile<D>>, FileFault> {
+        self.volumes.close()
     }
 
     /// Stops for a fault.
     fn fail(&mut self, fault: FileFault) -> NotKept
-        ensures { self.new ≡ stopped self.old }
+        ensures { (records : List (List ℕ)) → HoldsInTurn D.Disk self.old.volumes records
+            → HoldsInTurn D.Disk self.new.volumes records }
     {
-        self.is_stopped = true;
+        self.volumes.halt();
         self.fault = Some(fault);
         NotKept
+    }
+
+    /// Shares the item of a commit's change, where the current file has it. A block that is no item
+    /// is left out: no client can have put it.
+    fn share_item(&mut self, alloc: Global, commit: &[u8]) -> Result<(), FileFault>
+        requires running { self.old.volumes.is_halted ≡ false }
+        ensures kept { (records : List (List ℕ)) → HoldsInTurn D.Disk self.old.volumes records
+            → OnOk result (HoldsInTurn D.Disk self.new.volumes records) }
+        ensures held { (records : List (List ℕ)) → HoldsInTurn D.Disk self.old.volumes records
+            → OnErr result (HoldsInTurn D.Disk self.new.volumes records) }
+    {
+        self.fill.find(commit.len());
+        let Some(digest) = change_of(alloc, commit)? else {
+            return Ok(());
+        };
+        let Some(item) = self.volumes.item(alloc, self.asked, digest)? else {
+            return Ok(());
+        };
+        self.fill.find(commit.len().saturating_add(item.len()));
+        self.places.insert(*digest.as_bytes(), self.asked)?;
+        share(self.rt, alloc, self.blocks, item.as_slice())
     }
 
     /// Reads the first record that doesn't stand in the book, if there is one, and shares the item
     /// of its change.
     fn read_next(&mut self, alloc: Global) -> Result<Option<Vec<u8>>, FileFault>
-        ensures found { HasCleanDisk (state S.Store self.new.file.held) → IfOk result (λ found.
-            IsRecord self.old.kept (option_map (λ b. b.items) found)
-            (state S.Store self.old.file.held).now.trees) }
-        ensures end { IfOk result (λ found. found ≡ None → self.new.file.count ≤ self.new.kept) }
-        ensures reads { OnlyReads S.Store self.old.file self.new.file }
-        ensures same { OnOk result (ShowsTheSame S.Store self.old.file self.new.file) }
-        ensures kept { self.new ≡ record self.old { file = self.new.file } }
+        requires running { self.old.volumes.is_halted ≡ false }
+        ensures kept { (records : List (List ℕ)) → HoldsInTurn D.Disk self.old.volumes records
+            → OnOk result (HoldsInTurn D.Disk self.new.volumes records) }
+        ensures held { (records : List (List ℕ)) → HoldsInTurn D.Disk self.old.volumes records
+            → OnErr result (HoldsInTurn D.Disk self.new.volumes records) }
+        ensures end { IfOk result (λ found. found ≡ None → IsAtEnd self.new.volumes) }
     {
-        let Some(found) = self.file.record(self.kept)? else {
+        let found = self.volumes.next(alloc)?;
+        self.turn();
+        let Some(commit) = found else {
             return Ok(None);
         };
-        share_item(
-            &mut self.file,
-            self.rt,
-            alloc,
-            self.blocks,
-            found.as_slice(),
-        )?;
-        Ok(Some(found))
+        self.share_item(alloc, commit.as_slice())?;
+        Ok(Some(commit))
     }
 
-    /// Counts the next record of the file as one that stands in the book. `OtherRecord` where it
-    /// isn't this one.
-    fn keep_found(&mut self, commit: &[u8]) -> Result<(), FileFault>
-        requires running { self.old.is_stopped ≡ false }
-        requires found { self.old.kept < self.old.file.count }
-        requires room { self.old.kept + 1 < 2 ^ 32 }
-        ensures kept { (records : List (List ℕ)) → Holds S.Store N.found self.old records
-            → OnOk result (Holds S.Store N.found self.new (records ++ commit.now ∷ [])) }
-        ensures held { (records : List (List ℕ)) → Holds S.Store N.found self.old records
-            → OnErr result (Holds S.Store N.found (stopped self.new) records) }
+    /// Turns to the current file.
+    fn turn(&mut self)
+        ensures { self.new.volumes ≡ self.old.volumes }
     {
-        let number = self.kept;
-        if !is_record(&mut self.file, number, commit)? {
-            return Err(FileFault::OtherRecord(number));
+        self.asked = self.volumes.number();
+        self.fill.turn_to(self.asked);
+    }
+
+    /// Begins a new file where the last one is full.
+    fn make_room(&mut self) -> Result<(), FileFault>
+        requires running { self.old.volumes.is_halted ≡ false }
+        requires end { IsAtEnd self.old.volumes }
+        ensures kept { (records : List (List ℕ)) → HoldsInTurn D.Disk self.old.volumes records
+            → OnOk result (HoldsInTurn D.Disk self.new.volumes records) }
+        ensures held { (records : List (List ℕ)) → HoldsInTurn D.Disk self.old.volumes records
+            → OnErr result (HoldsInTurn D.Disk self.new.volumes records) }
+        ensures running { OnOk result (self.new.volumes.is_halted ≡ false) }
+        ensures end { OnOk result (IsAtEnd self.new.volumes) }
+    {
+        if !self.fill.is_full(self.volumes.kept()) {
+            return Ok(());
         }
-        self.kept = number + 1;
+        self.asked = self.asked.saturating_add(1);
+        self.volumes.begin(&mut self.shelf)?;
+        self.turn();
         Ok(())
     }
 
-    /// Puts the record behind those of the file, with the item of its change, which need not stay
-    /// in memory from then on.
+    /// Puts the record behind those of the last file, with the item of its change, which need not
+    /// stay in memory from then on.
     fn keep_new(&mut self, alloc: Global, commit: &[u8]) -> Result<(), FileFault>
-        requires running { self.old.is_stopped ≡ false }
-        requires all { self.old.file.count ≤ self.old.kept }
-        ensures kept { (records : List (List ℕ)) → Holds S.Store N.found self.old records
-            → OnOk result (Holds S.Store N.found self.new (records ++ commit.now ∷ [])) }
-        ensures held { (records : List (List ℕ)) → Holds S.Store N.found self.old records
-            → OnErr result (Holds S.Store N.found (stopped self.new) records) }
+        requires running { self.old.volumes.is_halted ≡ false }
+        requires end { IsAtEnd self.old.volumes }
+        ensures kept { (records : List (List ℕ)) → HoldsInTurn D.Disk self.old.volumes records
+            → OnOk result (HoldsInTurn D.Disk self.new.volumes (records ++ commit.now ∷ [])) }
+        ensures held { (records : List (List ℕ)) → HoldsInTurn D.Disk self.old.volumes records
+            → OnErr result (HoldsInTurn D.Disk self.new.volumes records) }
     {
         let change = change_of(alloc, commit)?;
         let items = item_of(self.rt, alloc, self.blocks, change.as_ref())?;
-        self.file.append(commit, &items)?;
-        self.kept = self.file.len();
+        self.make_room()?;
+        self.note(commit, change.as_ref(), &items)?;
+        self.volumes.append(commit, &items)?;
         release_item(self.rt, alloc, self.blocks, change.as_ref(), &items);
+        Ok(())
+    }
+
+    /// Counts the bytes of a record and its item, and notes in which file the item is.
+    fn note(
+        &mut self,
+        commit: &[u8],
+        change: Option<&Digest>,
+        items: &[Vec<u8>],
+    ) -> Result<(), FileFault>
+        ensures { self.new.volumes ≡ self.old.volumes }
+    {
+        self.fill.count(commit.len());
+        let (Some(digest), Some(item)) = (change, items.first()) else {
+            return Ok(());
+        };
+        self.fill.count(item.len());
+        self.places.insert(*digest.as_bytes(), self.asked)?;
         Ok(())
     }
 
     /// Keeps one more record: one that was found, or a new one.
     fn keep_next(&mut self, alloc: Global, commit: &[u8]) -> Result<(), FileFault>
-        requires running { self.old.is_stopped ≡ false }
-        ensures kept { (records : List (List ℕ)) → Holds S.Store N.found self.old records
-            → OnOk result (Holds S.Store N.found self.new (records ++ commit.now ∷ [])) }
-        ensures held { (records : List (List ℕ)) → Holds S.Store N.found self.old records
-            → OnErr result (Holds S.Store N.found (stopped self.new) records) }
+        requires running { self.old.volumes.is_halted ≡ false }
+        ensures kept { (records : List (List ℕ)) → HoldsInTurn D.Disk self.old.volumes records
+            → OnOk result (HoldsInTurn D.Disk self.new.volumes (records ++ commit.now ∷ [])) }
+        ensures held { (records : List (List ℕ)) → HoldsInTurn D.Disk self.old.volumes records
+            → OnErr result (HoldsInTurn D.Disk self.new.volumes records) }
     {
-        if self.kept < self.file.len() {
-            self.keep_found(commit)
-        } else {
-            self.keep_new(alloc, commit)
+        self.volumes.take_up(alloc)?;
+        self.turn();
+        if !self.volumes.has_next() {
+            return self.keep_new(alloc, commit);
         }
+        self.volumes.keep_found(commit)?;
+        self.fill.count_found();
+        Ok(())
+    }
+
+    /// Reads the item of a digest from the file that has it, if one does.
+    fn read_item(&mut self, alloc: Global, digest: Digest) -> Result<Option<Vec<u8>>, FileFault>
+        requires running { self.old.volumes.is_halted ≡ false }
+        ensures hashes { IfOk result (λ found. IfSome found (λ b. sha256 b.items ≡ digest)) }
+        ensures kept { (records : List (List ℕ)) → HoldsInTurn D.Disk self.old.volumes records
+            → OnOk result (HoldsInTurn D.Disk self.new.volumes records) }
+        ensures held { (records : List (List ℕ)) → HoldsInTurn D.Disk self.old.volumes records
+            → OnErr result (HoldsInTurn D.Disk self.new.volumes records) }
+    {
+        let Some(number) = self.places.get(digest.as_bytes()) else {
+            return Ok(None);
+        };
+        self.asked = *number;
+        self.volumes.item(alloc, self.asked, digest)
     }
 }
 
-/// Whether the file's record of a number has these bytes.
-fn is_record<S: Alter>(
-    file: &mut RecordFile<S>,
-    number: u32,
-    bytes: &[u8],
-) -> Result<bool, FileFault>
-    ensures found { HasCleanDisk (state S.Store file.new.held) → IfOk result (λ is. IsTrue is →
-        IsRecord number (Some bytes.now) (state S.Store file.old.held).now.trees) }
-    ensures reads { OnlyReads S.Store file.old file.new }
-    ensures same { OnOk result (ShowsTheSame S.Store file.old file.new) }
-{
-    match file.record(number)? {
-        Some(found) => Ok(found.as_slice() == bytes),
-        None => Ok(false),
-    }
-}
-
-impl<'a, N: ArchiveName, S: Alter + Drop, R: Wait> Keeper for Archive<'a, N, S, R> {
-    ghost use Rattle.std.specs.Prelude.{◌≤◌, ⊤};
+impl<'a, N: ArchiveName, D: Disk + Drop, H: Shelf<D>, R: Wait> Keeper for Archive<'a, N, D, H, R> {
+    ghost use Rattle.std.specs.Prelude.{⊤};
+    ghost use Rattle.su_volumes.specs.Volumes.{IsAtEnd};
     ghost use Rattle.su_archive.specs.Archived.{Holds};
 
-    ghost holds = { Holds S.Store N.found };
+    ghost holds = { λ a. Holds D.Disk N.found a.volumes };
 
-    ghost is_at_end = { λ a. a.file.count ≤ a.kept };
+    ghost is_at_end = { λ a. IsAtEnd a.volumes };
 
     ghost may_fail = { ⊤ };
 
     fn keep(&mut self, alloc: Global, commit: &[u8]) -> Result<(), NotKept> {
-        if self.is_stopped {
+        if self.volumes.is_halted() {
             return Err(NotKept);
         }
         match self.keep_next(alloc, commit) {
@@ -208,7 +272,7 @@ impl<'a, N: ArchiveName, S: Alter + Drop, R: Wait> Keeper for Archive<'a, N, S, 
     }
 
     fn next(&mut self, alloc: Global) -> Result<Option<Vec<u8>>, NotKept> {
-        if self.is_stopped {
+        if self.volumes.is_halted() {
             return Err(NotKept);
         }
         match self.read_next(alloc) {
@@ -217,17 +281,17 @@ impl<'a, N: ArchiveName, S: Alter + Drop, R: Wait> Keeper for Archive<'a, N, S, 
         }
     }
 
-    fn item(&mut self, _alloc: Global, digest: Digest) -> Result<Option<Vec<u8>>, NotKept> {
-        if self.is_stopped {
+    fn item(&mut self, alloc: Global, digest: Digest) -> Result<Option<Vec<u8>>, NotKept> {
+        if self.volumes.is_halted() {
             return Err(NotKept);
         }
-        match self.file.block(digest) {
+        match self.read_item(alloc, digest) {
             Ok(found) => Ok(found),
             Err(fault) => Err(self.fail(fault)),
         }
     }
 
     fn stop(&mut self) {
-        self.is_stopped = true;
+        self.volumes.halt();
     }
 }

@@ -1,15 +1,13 @@
-// The item of a record's change, between the file and the items that threads share.
-ghost use Rattle.std.specs.Prelude.{◌≡◌, All, Some, IfOk, OnOk, option_copied};
+// The item of a record's change, between the files and the items that threads share.
+ghost use Rattle.std.specs.Prelude.{◌≡◌, All, Some, IfOk, option_copied};
 ghost use Rattle.sha2.specs.Sha256.{sha256};
 ghost use Rattle.su_version.specs.Commit.{Commit as CommitParts, IsCommit, commit_bytes};
-ghost use Rattle.su_archive.specs.Archived.{OnlyReads, ShowsTheSame};
 
-use sqlite::Alter;
 use std::alloc::Global;
 use std::sync::Wait;
 use su_bytes::{Digest, Refusal};
 use su_shards::SharedBlocks;
-use su_store::{FileFault, RecordFile};
+use su_store::FileFault;
 use su_version::Commit;
 
 /// Returns the digest of the change that a commit signs. `None` where the bytes are no commit's.
@@ -62,25 +60,14 @@ pub(crate) fn release_item<R: Wait>(
     }
 }
 
-/// Shares the item of a commit's change, where the file has it. A block that is no item is left
-/// out: no client can have put it.
-pub(crate) fn share_item<S: Alter, R: Wait>(
-    file: &mut RecordFile<S>,
+/// Shares an item that is kept. A block that is no item is left out: no client can have put it.
+pub(crate) fn share<R: Wait>(
     rt: &R,
     alloc: Global,
     blocks: &SharedBlocks,
-    commit: &[u8],
-) -> Result<(), FileFault>
-    ensures reads { OnlyReads S.Store file.old file.new }
-    ensures same { OnOk result (ShowsTheSame S.Store file.old file.new) }
-{
-    let Some(digest) = change_of(alloc, commit)? else {
-        return Ok(());
-    };
-    let Some(block) = file.block(digest)? else {
-        return Ok(());
-    };
-    match blocks.share(rt, alloc, block.as_slice()) {
+    item: &[u8],
+) -> Result<(), FileFault> {
+    match blocks.share(rt, alloc, item) {
         Ok(_) | Err(Refusal::TooBig) => Ok(()),
         Err(_) => Err(FileFault::NoMemory),
     }

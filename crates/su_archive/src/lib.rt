@@ -1,8 +1,9 @@
-//! The keeper of a server's records: over one file of the store, each record with the item of its
+//! The keeper of a server's records: over the files of a store, each record with the item of its
 //! change.
 #![tactic(auto)]
 
 mod archives;
+mod fills;
 mod items;
 
 pub use archives::{Archive, ArchiveName};

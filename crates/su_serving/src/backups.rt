@@ -1,16 +1,17 @@
 // Copying what a running server has stored into a folder.
 ghost use Rattle.std.specs.Prelude.{◌≡◌};
 ghost use Rattle.sqlite.specs.State.{HasCleanDisk};
-ghost use Rattle.sqlite.specs.Held.{state};
+ghost use Rattle.sqlite.specs.Files.{file_state, over_files};
 ghost use Rattle.su_store.specs.Files.{IsAtRest};
+ghost use Rattle.su_volumes.specs.Volumes.{found_with};
 
 use crate::faults::tell_fault;
 use crate::guards::Guard;
 use crate::links::{Link, connect};
 use crate::serving::keeper_of;
 use crate::settings::Setting;
-use crate::stores::{DiskFile, close_file, open_file, path_in};
-use sqlite::Alter;
+use crate::stores::{DiskFile, FULL, Folder, options};
+use sqlite_disk::Disk;
 use std::fmt::Display;
 use std::marker::Brand;
 use std::net::{Net, TcpListener, TcpStream};
@@ -23,7 +24,7 @@ use su_keeper::Keeper;
 use su_server::Stop;
 use su_shards::SharedBlocks;
 use su_shared::BookFault;
-use su_store::RecordFile;
+use su_volumes::{Opened, Shelf};
 
 /// What a backup made: how many records the copy has, and how many of them are new.
 #[derive(Clone, Copy, Debug, PartialEq, Eq)]
@@ -64,48 +65,56 @@ where
     }
 }
 
-/// Copies over this link into a folder. In the end all is copied from the log into the file.
+/// Copies over this link into a folder. In the end all is copied from the logs into the files.
 fn copy_kept<T: Wait + Sync>(
     setting: &Setting<'_, T>,
     link: Link,
-    folder: &str,
+    name: &str,
     roster: Roster,
 ) -> Option<Copied> {
-    let rt = setting.rt;
-    let Ok(path) = path_in(rt, folder) else {
-        return refuse(rt, "out of memory");
+    let folder = Folder {
+        rt: setting.rt,
+        name,
     };
-    let file = match open_file(rt, folder, path.as_str()) {
-        Ok(file) => file,
-        Err(fault) => return refuse(rt, format_args!("{path}: {fault}")),
-    };
-    let (copied, file) = copy_named::<Brand, DiskFile, T>(setting, link, roster, &path, file);
-    let file = file?;
-    if setting.stop.is_set() || !close_file(rt, &path, file) {
-        return None;
+    match folder.open() {
+        Ok(files) => copy_named::<Brand, DiskFile, Folder<'_, '_>, T>(
+            setting, link, roster, folder, folder, files,
+        ),
+        Err(fault) => refuse(setting.rt, fault),
     }
-    copied
 }
 
-/// The same, over a file whose tables have this name, which is handed back unless one of its records
-/// was refused.
-fn copy_named<N, S, T>(
+/// The same, over files that were found with what this name says.
+fn copy_named<N, D, H, T>(
     setting: &Setting<'_, T>,
     link: Link,
     roster: Roster,
-    path: &String,
-    file: RecordFile<S>,
-) -> (Option<Copied>, Option<RecordFile<S>>)
+    folder: Folder<'_, '_>,
+    shelf: H,
+    files: Opened<D>,
+) -> Option<Copied>
 where
     N: ArchiveName,
-    S: Alter + Drop,
+    D: Disk + Drop,
+    H: Shelf<D>,
     T: Wait,
-    requires named { N.found ≡ (state S.Store file.held).now.trees }
-    requires rest { HasCleanDisk (state S.Store file.held) → IsAtRest S.Store file }
+    requires named { N.found ≡ found_with D.Disk files }
+    requires rest { HasCleanDisk (file_state files.first.held) → IsAtRest over_files files.first }
 {
     let (rt, stop) = (setting.rt, setting.stop);
-    let archive: Archive<'_, N, S, T> = Archive::new(setting.host, file, setting.blocks);
-    let guard = Guard::new(rt, archive, path, stop);
+    let Ok(options) = options(rt) else {
+        return refuse(rt, "out of random bytes");
+    };
+    let archive: Archive<'_, N, D, H, T> = Archive::new(
+        setting.host,
+        rt.alloc(),
+        options,
+        files,
+        shelf,
+        FULL,
+        setting.blocks,
+    );
+    let guard = Guard::new(archive, folder, stop);
     let mut client = Checked::new(link);
     match copy_book(
         setting.host,
@@ -117,14 +126,14 @@ where
     ) {
         Ok(copy) => {
             let copied = tell_copy(rt, stop, &copy);
-            (
-                copied,
-                Some(keeper_of(copy.closed).into_keeper().into_file()),
-            )
+            if stop.is_set() || !keeper_of(copy.closed).close() {
+                return None;
+            }
+            copied
         }
         Err(fault) => {
             tell_book(rt, stop, &fault);
-            (None, None)
+            None
         }
     }
 }

@@ -1,7 +1,9 @@
 // The keeper of a server with a store.
-ghost use Rattle.std.specs.Prelude.{◌≡◌};
+ghost use Rattle.std.specs.Prelude.{List, ℕ};
 
-use sqlite::Alter;
+use crate::faults::tell_fault;
+use crate::stores::Folder;
+use sqlite_disk::Disk;
 use std::alloc::Global;
 use std::sync::Wait;
 use su_archive::{Archive, ArchiveName};
@@ -9,64 +11,94 @@ use su_bytes::Digest;
 use su_keeper::{Keeper, NotKept};
 use su_server::Stop;
 use su_store::FileFault;
+use su_volumes::Shelf;
 
-/// Knows why a call of its own failed.
-pub(crate) trait HasFault {
+/// Works on files of a folder, and knows why a call of its own failed.
+pub(crate) trait HasFiles {
     /// Returns the fault of the call that failed, if one did.
     fn fault(&self) -> Option<&FileFault>;
+
+    /// The number of the file that it asked last.
+    fn number(&self) -> usize;
+
+    /// Shuts the files, when all is copied from their logs.
+    fn close(self) -> Result<(), FileFault>;
 }
 
-impl<'a, N: ArchiveName, S: Alter, R: Wait> HasFault for Archive<'a, N, S, R> {
+impl<'a, N: ArchiveName, D: Disk + Drop, H: Shelf<D>, R: Wait> HasFiles
+    for Archive<'a, N, D, H, R> {
     fn fault(&self) -> Option<&FileFault> {
         Archive::fault(self)
+    }
+
+    fn number(&self) -> usize {
+        Archive::number(self)
+    }
+
+    fn close(self) -> Result<(), FileFault> {
+        Archive::close(self)?;
+        Ok(())
     }
 }
 
 /// A keeper whose first failure is told on standard error, and stops the server. It holds what the
 /// keeper within holds.
 #[derive(Drop)]
-pub(crate) struct Guard<'a, 'p, K> {
+pub(crate) struct Guard<'a, 'f, 'n, K> {
     keeper: K,
-    rt: &'a HostRuntime,
-    path: &'p String,
+    folder: Folder<'f, 'n>,
     stop: &'a Stop,
 }
 
-impl<'a, 'p, K> Guard<'a, 'p, K> {
-    /// Guards the keeper over the file at a path.
-    pub fn new(rt: &'a HostRuntime, keeper: K, path: &'p String, stop: &'a Stop) -> Guard<'a, 'p, K>
-        ensures { result.keeper ≡ keeper }
+impl<'a, 'f, 'n, K: Keeper> Guard<'a, 'f, 'n, K> {
+    /// Guards the keeper over the files of a folder.
+    pub fn new(keeper: K, folder: Folder<'f, 'n>, stop: &'a Stop) -> Guard<'a, 'f, 'n, K>
+        ensures { (records : List (List ℕ)) → K.holds keeper records
+            → K.holds result.keeper records }
     {
         Guard {
             keeper,
-            rt,
-            path,
+            folder,
             stop,
         }
     }
-
-    /// Hands the keeper back.
-    pub fn into_keeper(self) -> K
-        ensures { result ≡ self.entry.keeper }
-    {
-        self.keeper
-    }
 }
 
-impl<'a, 'p, K: HasFault> Guard<'a, 'p, K> {
+impl<'a, 'f, 'n, K: HasFiles> Guard<'a, 'f, 'n, K> {
     /// Tells of the keeper's fault, once, and stops the server.
     fn alarm(&self) {
         if let Some(fault) = self.keeper.fault() {
             if !self.stop.is_set() {
-                let path = self.path;
-                let _ = eprintln!(self.rt; "sundr: {path}: {fault}");
+                self.tell(self.keeper.number(), fault);
             }
         }
         self.stop.set();
     }
+
+    /// Tells a fault of the file of a number.
+    fn tell(&self, number: usize, fault: &FileFault) {
+        let _ = match self.folder.path(number) {
+            Ok(path) => tell_fault(self.folder.rt, format_args!("{path}: {fault}")),
+            Err(_) => tell_fault(self.folder.rt, fault),
+        };
+    }
+
+    /// Shuts the files, when all is copied from their logs, and returns whether they could be.
+    pub fn close(self) -> bool {
+        let Guard {
+            keeper,
+            folder,
+            stop: _,
+        } = self;
+        let name = folder.name;
+        match keeper.close() {
+            Ok(()) => true,
+            Err(fault) => tell_fault(folder.rt, format_args!("{name}: {fault}")),
+        }
+    }
 }
 
-impl<'a, 'p, K: Keeper + HasFault> Keeper for Guard<'a, 'p, K> {
+impl<'a, 'f, 'n, K: Keeper + HasFiles> Keeper for Guard<'a, 'f, 'n, K> {
     ghost holds = { λ g. K.holds g.keeper };
 
     ghost is_at_end = { λ g. K.is_at_end g.keeper };

@@ -1,15 +1,16 @@
 // Serving a shared folder at a port.
 ghost use Rattle.std.specs.Prelude.{◌≡◌, []};
 ghost use Rattle.sqlite.specs.State.{HasCleanDisk};
-ghost use Rattle.sqlite.specs.Held.{state};
+ghost use Rattle.sqlite.specs.Files.{file_state, over_files};
 ghost use Rattle.su_store.specs.Files.{IsAtRest};
+ghost use Rattle.su_volumes.specs.Volumes.{found_with};
 
 use crate::doors::Door;
 use crate::faults::tell_fault;
 use crate::guards::Guard;
 use crate::settings::Setting;
-use crate::stores::{DiskFile, close_file, open_file, path_in};
-use sqlite::Alter;
+use crate::stores::{DiskFile, FULL, Folder, options};
+use sqlite_disk::Disk;
 use std::marker::Brand;
 use std::net::{Ipv4Addr, Net, TcpListener, TcpStream};
 use std::sync::Wait;
@@ -21,7 +22,7 @@ use su_server::{Connections, Report, Stop, serve_book};
 use su_session::End;
 use su_shards::SharedBlocks;
 use su_shared::{BookFault, Closed};
-use su_store::RecordFile;
+use su_volumes::{Opened, Shelf};
 
 /// How many bytes a MiB has.
 const MIB: usize = 1_048_576;
@@ -83,48 +84,57 @@ where
     }
 }
 
-/// Serves over what is kept in a folder. In the end all is copied from the log into the file.
-fn serve_kept<T>(setting: &Setting<'_, T>, terms: Terms, roster: Roster, folder: &str) -> bool
+/// Serves over what is kept in a folder. In the end all is copied from the logs into the files.
+fn serve_kept<T>(setting: &Setting<'_, T>, terms: Terms, roster: Roster, name: &str) -> bool
 where
     T: Net<Listener = TcpListener, Stream = TcpStream> + Threads + Wait + Sync,
 {
-    let rt = setting.rt;
-    let Ok(path) = path_in(rt, folder) else {
-        return tell_fault(rt, "out of memory");
+    let folder = Folder {
+        rt: setting.rt,
+        name,
     };
-    let file = match open_file(rt, folder, path.as_str()) {
-        Ok(file) => file,
-        Err(fault) => return tell_fault(rt, format_args!("{path}: {fault}")),
+    let files = match folder.open() {
+        Ok(files) => files,
+        Err(fault) => return tell_fault(setting.rt, fault),
     };
-    let (good, file) = serve_named::<Brand, DiskFile, T>(setting, terms, roster, &path, file);
-    let Some(file) = file else {
-        return good;
-    };
-    !setting.stop.is_set() && close_file(rt, &path, file) && good
+    serve_named::<Brand, DiskFile, Folder<'_, '_>, T>(setting, terms, roster, folder, folder, files)
 }
 
-/// The same, over a file whose tables have this name, which is handed back unless the book was
-/// refused.
-fn serve_named<N, S, T>(
+/// The same, over files that were found with what this name says.
+fn serve_named<N, D, H, T>(
     setting: &Setting<'_, T>,
     terms: Terms,
     roster: Roster,
-    path: &String,
-    file: RecordFile<S>,
-) -> (bool, Option<RecordFile<S>>)
+    folder: Folder<'_, '_>,
+    shelf: H,
+    files: Opened<D>,
+) -> bool
 where
     N: ArchiveName + Send,
-    S: Alter + Drop + Send,
+    D: Disk + Drop + Send,
+    H: Shelf<D> + Send,
     T: Net<Listener = TcpListener, Stream = TcpStream> + Threads + Wait + Sync,
-    requires named { N.found ≡ (state S.Store file.held).now.trees }
-    requires rest { HasCleanDisk (state S.Store file.held) → IsAtRest S.Store file }
+    requires named { N.found ≡ found_with D.Disk files }
+    requires rest { HasCleanDisk (file_state files.first.held) → IsAtRest over_files files.first }
 {
-    let archive: Archive<'_, N, S, T> = Archive::new(setting.host, file, setting.blocks);
-    let guard = Guard::new(setting.rt, archive, path, setting.stop);
+    let rt = setting.rt;
+    let Ok(options) = options(rt) else {
+        return tell_fault(rt, "out of random bytes");
+    };
+    let archive: Archive<'_, N, D, H, T> = Archive::new(
+        setting.host,
+        rt.alloc(),
+        options,
+        files,
+        shelf,
+        FULL,
+        setting.blocks,
+    );
+    let guard = Guard::new(archive, folder, setting.stop);
     let (good, guard) = serve_over(setting, terms, roster, guard);
     match guard {
-        Some(guard) => (good, Some(guard.into_keeper().into_file())),
-        None => (good, None),
+        Some(guard) => !setting.stop.is_set() && guard.close() && good,
+        None => good,
     }
 }
 

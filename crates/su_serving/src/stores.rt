@@ -4,50 +4,159 @@ ghost use Rattle.sqlite.specs.State.{HasCleanDisk};
 ghost use Rattle.sqlite.specs.Files.{file_state, over_files};
 ghost use Rattle.su_store.specs.Files.{IsAtRest};
 
-use crate::faults::tell_fault;
-use sqlite::{FileFrom, FileStore, Unknown};
-use std::alloc::AllocError;
-use std::fs;
+use sqlite::{FileFrom, FileStore, Options, Unknown};
+use std::alloc::{AllocError, AllocFailed};
 use std::fs::File;
-use su_store::{FileFault, RecordFile, open};
+use std::hash::{BuildHasher, RandomState};
+use std::{fs, io};
+use su_store::{FileFault, RecordFile, ShutFile, make, open};
+use su_volumes::{Opened, Shelf};
+use thiserror::Error;
 
-/// The name of a store's file in its folder.
-const FILE: &str = "records.db";
+/// How many bytes of records and items a file takes, before the next one is begun.
+pub(crate) const FULL: usize = 33_554_432;
 
-/// A file of a store, as the disk has it. A write that a crash tears leaves each byte old or new.
-pub(crate) type DiskFile = FileStore<FileFrom<Unknown>>;
+/// The bytes of a store's file, as the disk has them. A write that a crash tears leaves each byte
+/// old or new.
+pub(crate) type DiskFile = FileFrom<Unknown>;
 
-/// Returns the path of a store's file in a folder.
-pub(crate) fn path_in(rt: &HostRuntime, folder: &str) -> Result<String, AllocError> {
-    format!(in rt.alloc(); "{folder}/{FILE}")
+/// Why a folder isn't opened.
+#[derive(Debug, Drop, Error)]
+pub(crate) enum FolderFault {
+    #[error("out of memory")]
+    NoMemory,
+    #[error("{0}")]
+    Unread(io::Error),
+    #[error("{path}: {fault}")]
+    File { path: String, fault: FileFault },
+    #[error("{0}: the file is missing, and a later one is there; put it back")]
+    Missing(String),
 }
 
-/// Opens the file at a path in a folder; where there is none they are made, and the folder is
-/// synced.
-pub(crate) fn open_file(
-    rt: &HostRuntime,
-    folder: &str,
-    path: &str,
-) -> Result<RecordFile<DiskFile>, FileFault>
-    ensures { IfOk result (λ f. HasCleanDisk (file_state f.held) → IsAtRest over_files f) }
-{
-    let _ = fs::create_dir(rt, folder);
-    let file = open(rt, path, Unknown)?;
-    if sync(rt, folder).is_err() {
-        return Err(FileFault::Unopened);
-    }
-    Ok(file)
-}
-
-/// Closes a file, when all is copied from its log into it, and returns whether it could be.
-pub(crate) fn close_file(rt: &HostRuntime, path: &String, file: RecordFile<DiskFile>) -> bool {
-    match file.close() {
-        Ok(_files) => true,
-        Err(fault) => tell_fault(rt, format_args!("{path}: {fault}")),
+impl From<AllocError> for FolderFault {
+    fn from(_refused: AllocError) -> FolderFault {
+        FolderFault::NoMemory
     }
 }
 
-/// Waits until the disk has the names of a folder.
-fn sync(rt: &HostRuntime, folder: &str) -> std::io::Result<()> {
-    File::open(rt, folder)?.sync_all()
+impl<T: Drop> From<AllocFailed<T>> for FolderFault {
+    fn from(_refused: AllocFailed<T>) -> FolderFault {
+        FolderFault::NoMemory
+    }
+}
+
+impl From<io::Error> for FolderFault {
+    fn from(error: io::Error) -> FolderFault {
+        FolderFault::Unread(error)
+    }
+}
+
+/// The folder of a store, with its files `records.db`, `records-1.db` and so on.
+#[derive(Clone, Copy)]
+pub(crate) struct Folder<'a, 'n> {
+    pub rt: &'a HostRuntime,
+    pub name: &'n str,
+}
+
+impl Folder<'_, '_> {
+    /// Returns the path of the file of a number, counted from 0.
+    pub fn path(&self, number: usize) -> Result<String, AllocError> {
+        let folder = self.name;
+        if number == 0 {
+            format!(in self.rt.alloc(); "{folder}/records.db")
+        } else {
+            format!(in self.rt.alloc(); "{folder}/records-{number}.db")
+        }
+    }
+
+    /// Opens the files that are there; where there are none, the folder and the first one are made.
+    /// None is opened where one is missing before another. Of a file whose making was cut short,
+    /// the making is finished.
+    pub fn open(&self) -> Result<Opened<DiskFile>, FolderFault>
+        ensures { IfOk result (λ files. HasCleanDisk (file_state files.first.held)
+            → IsAtRest over_files files.first) }
+    {
+        let _ = fs::create_dir(self.rt, self.name);
+        let last = self.last()?;
+        self.check_before(last)?;
+        let mut later = Vec::new(self.rt.alloc());
+        for number in (1..=last).rev() {
+            later.push(self.shut_file(number)?)?;
+        }
+        let first = self.open_file(0)?;
+        self.sync()?;
+        Ok(Opened { first, later })
+    }
+
+    /// Returns the highest number of a file that is there; 0 where none is.
+    fn last(&self) -> io::Result<usize> {
+        let mut last = 0;
+        for entry in fs::read_dir(self.rt, self.name)? {
+            if let Some(number) = number_in(entry?.file_name()) {
+                last = last.max(number);
+            }
+        }
+        Ok(last)
+    }
+
+    /// Refuses the folder where a file before the one of that number is missing.
+    fn check_before(&self, last: usize) -> Result<(), FolderFault> {
+        for number in 0..last {
+            let path = self.path(number)?;
+            if !fs::exists(self.rt, path.as_str())? {
+                return Err(FolderFault::Missing(path));
+            }
+        }
+        Ok(())
+    }
+
+    fn open_file(&self, number: usize) -> Result<RecordFile<FileStore<DiskFile>>, FolderFault>
+        ensures { IfOk result (λ f. HasCleanDisk (file_state f.held) → IsAtRest over_files f) }
+    {
+        let path = self.path(number)?;
+        match open(self.rt, path.as_str(), Unknown) {
+            Ok(file) => Ok(file),
+            Err(fault) => Err(FolderFault::File { path, fault }),
+        }
+    }
+
+    /// Opens the file of a number once, and shuts it.
+    fn shut_file(&self, number: usize) -> Result<ShutFile<DiskFile>, FolderFault> {
+        match self.open_file(number)?.shut() {
+            Ok(shut) => Ok(shut),
+            Err((fault, _store)) => Err(FolderFault::File {
+                path: self.path(number)?,
+                fault,
+            }),
+        }
+    }
+
+    /// Waits until the disk has the names of the folder.
+    fn sync(&self) -> io::Result<()> {
+        File::open(self.rt, self.name)?.sync_all()
+    }
+}
+
+impl Shelf<DiskFile> for Folder<'_, '_> {
+    fn make(&mut self, number: usize) -> Result<RecordFile<FileStore<DiskFile>>, FileFault> {
+        let path = self.path(number)?;
+        let file = make(self.rt, path.as_str(), Unknown)?;
+        if self.sync().is_err() {
+            return Err(FileFault::Unopened);
+        }
+        Ok(file)
+    }
+}
+
+/// The number in the name of a store's file, unless it is the first one, or none.
+fn number_in(name: &str) -> Option<usize> {
+    name.strip_prefix("records-")?
+        .strip_suffix(".db")?
+        .parse()
+        .ok()
+}
+
+/// How a file is opened that was shut, with a number by chance for its log.
+pub(crate) fn options(rt: &HostRuntime) -> io::Result<Options> {
+    Ok(Options::new(RandomState::new(rt)?.hash_one(&0u8)))
 }

@@ -1,3 +1,4 @@
 pub mod PlaceLemmas
 pub mod PastLemmas
+pub mod CurrentLemmas
 pub mod VolumeLemmas

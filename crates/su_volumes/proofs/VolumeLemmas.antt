@@ -1,64 +1,87 @@
--- What the current file keeps as it is shut, and as the next one takes its place.
-use Rattle.std.proofs.Common.{◌≡◌, ◌≤◌, ℕ, zero, suc, Bool, false, List, [], ◌∷◌, ◌++◌, length, take, refl, sym, ap, subst, ◌∙◌, arith, append_assoc}
+-- What the files of an archive hold in turn, as the current one changes and as another takes its place.
+use Rattle.std.proofs.Common.{◌≡◌, ◌≤◌, ℕ, Bool, true, false, List, [], ◌∷◌, ◌++◌, Option, None, Some, IfSome, Result, Ok, Err, IfOk, OnOk, OnErr, option_to_list, refl, sym, ap, subst, ◌∙◌, append_assoc}
+use Rattle.std.specs.List.{All}
+use Rattle.std.proofs.Math.Logic.{∥∥₁_elim}
 use Rattle.std.proofs.lemmas.List.{append-nil}
 use Rattle.sqlite_disk.specs.declared.Disk.{Ghosts}
-use Rattle.sqlite.specs.declared.FileStore.{FileStore}
-use Rattle.sqlite.specs.State.{HasCleanDisk}
-use Rattle.sqlite.specs.Files.{file_state, over_files}
-use Rattle.su_store.specs.Tables.{Stands}
-use Rattle.su_store.specs.Files.{File, IsAtRest}
-use Rattle.su_archive.specs.Archived.{IsSettled, Outlasts}
-use Rattle.su_volumes.specs.Places.{StandsFor, KeepsAll, IsShut}
-use Rattle.su_volumes.specs.Volumes.{joined, AreSound, KeepsFirst, IsThrough}
+use Rattle.sqlite.specs.Recovery.{Image}
+use Rattle.sqlite.specs.Tree.{Trees}
+use Rattle.sqlite_trees.specs.Props.{Trees-set}
+use Rattle.sqlite.specs.Files.{image_of, HoldsDatabase}
+use Rattle.su_volumes.specs.Past.{KeepInTurn}
+use Rattle.su_volumes.specs.Current.{KeepsFirst, count_of}
+use Rattle.su_volumes.specs.Volumes.{joined, halted, AreSound, HoldsSound, HoldsInTurn}
 use Rattle.su_volumes.specs.declared.places.Place.{Place}
-use Rattle.su_volumes.specs.declared.places.Place.TheVariants.{Open, Shut, Unopened, Unshut, Away}
-
-take_whole : {X : Type 0} (xs : List X) (n : ℕ) → length xs ≤ n → take n xs ≡ xs
-take_whole [] zero long = refl
-take_whole [] (suc n) long = refl
-take_whole (x ∷ xs) zero long = absurd (omega arith)
-take_whole (x ∷ xs) (suc n) long = ap (λ l. x ∷ l) (take_whole xs n (omega arith))
+use Rattle.su_volumes.specs.declared.past.PastFiles.{PastFiles}
+use Rattle.su_volumes.specs.declared.volumes.Volumes.{Volumes}
+use Rattle.su_volumes.proofs.CurrentLemmas.{stops, on_ok, on_err}
 
 pub joined_more : (lists : List (List (List ℕ))) (own : List (List ℕ)) → joined (lists ++ own ∷ []) ++ [] ≡ joined lists ++ own
 joined_more [] own = append-nil (own ++ []) ∙ append-nil own
 joined_more (list ∷ lists) own = append_assoc list _ _ ∙ ap (λ l. list ++ l) (joined_more lists own) ∙ sym (append_assoc list _ _)
 
-module _ {D : Type 0} (g : Ghosts D) where
-  pub keeps_through : (place : Place D g) (count : ℕ) (records : List (List ℕ)) → IsThrough place count → KeepsFirst g place count false records → KeepsAll g place records
-  keeps_through (Open f) count records through kept = λ clean db may.
-      let step = (kept clean).in_step refl in
-      let all : length step.kept.records ≤ count = omega (arith, step.counted, through) in
-      record {
-        kept = step.kept;
-        stands = subst (Stands step.kept) (sym (step.settled db may)) step.stands;
-        same = sym (take_whole step.kept.records count all) ∙ step.first;
-      }
-  keeps_through (Shut s) count records through kept = kept
-  keeps_through (Unopened left) count records through kept = kept
-  keeps_through (Unshut it) count records through kept = kept
-  keeps_through Away count records through kept = kept
+-- the tables that the two files held are shown
+pub sound_shown : (image : Image) (now : Trees) → HoldsSound image → ((db : Trees) → HoldsDatabase image db → now ≡ db) → AreSound now
+sound_shown image now was shows =
+    let same : now ≡ was.db = ∥∥₁_elim was.held (Trees-set _ _) (shows was.db) in
+    subst AreSound (sym same) was.sound
 
-  pub keeps_shut : (place : Place D g) (count : ℕ) (is_stopped : Bool) (records : List (List ℕ)) → IsShut place → KeepsAll g place records → KeepsFirst g place count is_stopped records
-  keeps_shut (Open f) count is_stopped records shut kept = absurd shut
-  keeps_shut (Shut s) count is_stopped records shut kept = kept
-  keeps_shut (Unopened left) count is_stopped records shut kept = kept
-  keeps_shut (Unshut it) count is_stopped records shut kept = kept
-  keeps_shut Away count is_stopped records shut kept = kept
+pub at_end : {A E : Type 0} {P Q : Type 0} (r : Result (Option A) E) → IfOk r (λ found. found ≡ None → P) → (P → Q) → IfOk r (λ found. found ≡ None → P × Q)
+at_end (Ok x) end then = λ none. let p = end none in (p, then p)
+at_end (Err e) end then = tt
 
-  pub was_shut : (place : Place D g) (count : ℕ) (is_stopped : Bool) (records : List (List ℕ)) → IsShut place → KeepsFirst g place count is_stopped records → KeepsAll g place records
-  was_shut (Open f) count is_stopped records shut kept = absurd shut
-  was_shut (Shut s) count is_stopped records shut kept = kept
-  was_shut (Unopened left) count is_stopped records shut kept = kept
-  was_shut (Unshut it) count is_stopped records shut kept = kept
-  was_shut Away count is_stopped records shut kept = kept
+module _ {D : Type 0} (g : Ghosts D) (v : Volumes D g) (records : List (List ℕ)) where
+  -- what the current one keeps while more are kept
+  pub runs : (held : HoldsInTurn g v records) → v.is_halted ≡ false → KeepsFirst g v.current v.kept false held.own
+  runs held running = subst (λ b. KeepsFirst g v.current v.kept b held.own) running held.current
 
-  -- a file from which no record stands in the book
-  pub begins : (f : File (FileStore D g)) (is_stopped : Bool) → (HasCleanDisk (file_state f.held) → IsAtRest over_files f) → (HasCleanDisk (file_state f.held) → AreSound (file_state f.held).now.trees)
-      → KeepsFirst g (Open f) 0 is_stopped []
-  begins f is_stopped rest sound = λ clean.
-      let was = sound clean in
-      let settled : IsSettled (file_state f.held) = (rest clean).settled in
-      record {
-        crash = λ db may. record { kept = was.kept; stands = subst (Stands was.kept) (sym (settled db may)) was.stands; more = was.kept.records; first = refl };
-        in_step = λ running. record { kept = was.kept; stands = was.stands; counted = (rest clean).counted was.kept was.stands; first = refl; settled = settled };
-      }
+  pub with_current : (held : HoldsInTurn g v records) → v.is_halted ≡ false → (place : Place D g) → KeepsFirst g place v.kept false held.own → HoldsInTurn g (record v { current = place }) records
+  with_current held running place current = record {
+    lists = held.lists;
+    own = held.own;
+    more = held.more;
+    split = held.split;
+    running = held.running;
+    past = held.past;
+    current = subst (λ b. KeepsFirst g place v.kept b held.own) (sym running) current;
+    later = held.later;
+  }
+
+  pub with_past : (held : HoldsInTurn g v records) (past : PastFiles D g) → KeepInTurn g past held.lists → HoldsInTurn g (record v { past = past }) records
+  with_past held past all = record { lists = held.lists; own = held.own; more = held.more; split = held.split; running = held.running; past = all; current = held.current; later = held.later }
+
+  -- one more record of the current file stands in the book
+  pub with_more : (held : HoldsInTurn g v records) → v.is_halted ≡ false → (place : Place D g) (number : ℕ) (commit : List ℕ) → KeepsFirst g place number false (held.own ++ commit ∷ [])
+      → HoldsInTurn g (record v { current = place; kept = number }) (records ++ commit ∷ [])
+  with_more held running place number commit current = record {
+    lists = held.lists;
+    own = held.own ++ commit ∷ [];
+    more = [];
+    split =
+        let whole : records ≡ joined held.lists ++ held.own = sym (append-nil records) ∙ ap (λ m. records ++ m) (sym (held.running running)) ∙ held.split in
+        append-nil (records ++ commit ∷ []) ∙ ap (λ l. l ++ commit ∷ []) whole ∙ append_assoc (joined held.lists) held.own (commit ∷ []);
+    running = λ _. refl;
+    past = held.past;
+    current = subst (λ b. KeepsFirst g place number b (held.own ++ commit ∷ [])) (sym running) current;
+    later = held.later;
+  }
+
+  -- no more are kept, after a call that came to this place
+  pub halts_at : (held : HoldsInTurn g v records) (place : Place D g) → KeepsFirst g place v.kept true held.own → HoldsInTurn g (record v { current = place; is_halted = true }) records
+  halts_at held place current =
+      record { lists = held.lists; own = held.own; more = held.more; split = held.split; running = λ r. absurd cc; past = held.past; current = current; later = held.later }
+
+  pub halts : HoldsInTurn g v records → HoldsInTurn g (halted v) records
+  halts held = halts_at held v.current (stops g v.current v.kept v.is_halted held.own held.current)
+
+  pub halts_before : (last : List ℕ) → HoldsInTurn g v (records ++ last ∷ []) → HoldsInTurn g (halted v) records
+  halts_before last held = record {
+    lists = held.lists;
+    own = held.own;
+    more = last ∷ held.more;
+    split = sym (append_assoc records (last ∷ []) held.more) ∙ held.split;
+    running = λ r. absurd cc;
+    past = held.past;
+    current = stops g v.current v.kept v.is_halted held.own held.current;
+    later = held.later;
+  }

@@ -1,3 +1,4 @@
 pub mod Places
 pub mod Past
+pub mod Current
 pub mod Volumes

@@ -1,17 +1,15 @@
 -- What the files of an archive hold in their order.
-use Rattle.std.specs.Prelude.{◌≡◌, ◌≤◌, ℕ, Bool, List, [], ◌∷◌, ◌++◌, All}
+use Rattle.std.specs.Prelude.{◌≡◌, ◌≤◌, ℕ, Bool, true, false, List, [], ◌∷◌, ◌++◌, map}
+use Rattle.std.specs.List.{All}
 use Rattle.sqlite_disk.specs.declared.Disk.{Ghosts}
 use Rattle.sqlite.specs.Recovery.{Image}
 use Rattle.sqlite.specs.Tree.{Trees}
-use Rattle.sqlite.specs.State.{HasCleanDisk}
-use Rattle.sqlite.specs.Files.{file_state, over_files, image_of, HoldsDatabase}
+use Rattle.sqlite.specs.Files.{file_state, image_of, HoldsDatabase}
 use Rattle.su_store.specs.Kept.{Kept}
 use Rattle.su_store.specs.Tables.{Stands}
-use Rattle.su_archive.specs.Archived.{Outlasts}
-use Rattle.su_volumes.specs.Places.{KeepsAll}
 use Rattle.su_volumes.specs.Past.{KeepInTurn}
-use Rattle.su_volumes.specs.declared.places.Place.{Place}
-use Rattle.su_volumes.specs.declared.places.Place.TheVariants.{Open}
+use Rattle.su_volumes.specs.Current.{KeepsFirst, count_of}
+use Rattle.su_volumes.specs.declared.volumes.Opened.{Opened}
 use Rattle.su_volumes.specs.declared.volumes.Volumes.{Volumes}
 
 -- the lists, one behind another
@@ -30,25 +28,42 @@ pub record HoldsSound (image : Image) : Type 0 where
   pub sound : AreSound db
   pub held : ∥ HoldsDatabase image db ∥₁
 
--- The current file: as long as it is open, these are the first of its records, so many as stand in
--- the book, and they outlast the process. Once it is shut they are all that it keeps.
-abbrev pub KeepsFirst : {D : Type 0} (g : Ghosts D) → Place D g → ℕ → Bool → List (List ℕ) → Type 0
-KeepsFirst g (Open f) count is_stopped records =
-    HasCleanDisk (file_state f.held)
-    → Outlasts over_files (record { file = f; kept = count; is_stopped = is_stopped }) records
-KeepsFirst g place count is_stopped records = KeepsAll g place records
+-- What an archive was found with: what its first file shows, and the files that come later.
+pub record Found : Type 0 where
+  pub first : Trees
+  pub later : List Image
+
+abbrev pub found_with : {D : Type 0} (g : Ghosts D) → Opened D g → Found
+found_with g files = record {
+  first = (file_state files.first.held).now.trees;
+  later = map (λ s. image_of g s.files) files.later.items;
+}
+
+-- each file stood for something
+abbrev pub WasSound : Found → Type 0
+WasSound found = AreSound found.first × All HoldsSound found.later
+
+-- no more are kept from now on
+abbrev pub halted : {D : Type 0} {g : Ghosts D} → Volumes D g → Volumes D g
+halted v = record v { is_halted = true }
 
 -- all records of the current file stand in the book
-abbrev pub IsThrough : {D : Type 0} {g : Ghosts D} → Place D g → ℕ → Type 0
-IsThrough (Open f) count = f.count ≤ count
-IsThrough place count = Unit {0}
+abbrev pub IsThrough : {D : Type 0} {g : Ghosts D} → Volumes D g → Type 0
+IsThrough v = count_of v.current ≤ v.kept
 
--- The records are those of the past files, one after another, and then the current one's.
+-- all records of all files stand in the book
+abbrev pub IsAtEnd : {D : Type 0} {g : Ghosts D} → Volumes D g → Type 0
+IsAtEnd v = IsThrough v × (v.later.items ≡ [])
+
+-- The files keep the records: the past ones all of theirs, one after another, and then the current
+-- one. Once no more are kept, the last that came need not stand in the book.
 pub record HoldsInTurn {D : Type 0} (g : Ghosts D) (v : Volumes D g) (records : List (List ℕ)) :
     Type 0 where
   pub lists : List (List (List ℕ))
   pub own : List (List ℕ)
-  pub split : records ≡ joined lists ++ own
+  pub more : List (List ℕ)
+  pub split : records ++ more ≡ joined lists ++ own
+  pub running : v.is_halted ≡ false → more ≡ []
   pub past : KeepInTurn g v.past lists
-  pub current : KeepsFirst g v.current v.kept v.is_stopped own
+  pub current : KeepsFirst g v.current v.kept v.is_halted own
   pub later : All (λ s. HoldsSound (image_of g s.files)) v.later.items

@@ -7,7 +7,7 @@ use sqlite::Options;
 use sqlite_disk::Disk;
 use std::alloc::{AllocFailed, Global};
 use su_bytes::Digest;
-use su_store::FileFault;
+use su_store::{FileFault, ShutFile};
 
 /// Files whose records all stand in the book. At most one of them is open: the one from which an
 /// item was read last.
@@ -80,5 +80,18 @@ impl<D: Disk + Drop> PastFiles<D> {
             return Ok(None);
         }
         self.places[number].read(alloc, options, digest)
+    }
+
+    /// Shuts the files, and puts them behind those of a list, the last one first.
+    pub(crate) fn close_behind(
+        self,
+        files: Vec<ShutFile<D>>,
+    ) -> Result<Vec<ShutFile<D>>, FileFault> {
+        let PastFiles { places, opened: _ } = self;
+        let mut files = files;
+        for place in places.into_iter().rev() {
+            files.push(place.into_file()?)?;
+        }
+        Ok(files)
     }
 }

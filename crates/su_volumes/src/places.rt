@@ -106,6 +106,18 @@ impl<D: Disk + Drop> Place<D> {
         }
     }
 
+    /// Shuts the file, if it is open, and hands it over. `Spent` where it was lost to a call.
+    pub(crate) fn into_file(self) -> Result<ShutFile<D>, FileFault> {
+        match self {
+            Place::Open(file) => match file.shut() {
+                Ok(shut) => Ok(shut),
+                Err((fault, _store)) => Err(fault),
+            },
+            Place::Shut(shut) => Ok(shut),
+            _ => Err(FileFault::Spent),
+        }
+    }
+
     /// Reads the block of a digest. `Spent` where the file isn't open.
     pub(crate) fn block(&mut self, digest: Digest) -> Result<Option<Vec<u8>>, FileFault>
         ensures hashes { IfOk result (λ found. IfSome found (λ b. sha256 b.items ≡ digest)) }

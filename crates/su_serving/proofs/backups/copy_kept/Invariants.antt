@@ -1,5 +1,5 @@
-use Rattle.sqlite.specs.Files.{file_state}
+use Rattle.su_volumes.specs.Volumes.{found_with}
 use Rattle.su_serving.proofs.backups.copy_kept.Given as goal
 
 abbrev pub ghosts-copy_named : goal.ghosts-copy_named
-ghosts-copy_named g a = record { found = (file_state a.file.held).now.trees }
+ghosts-copy_named g a = record { found = found_with _ a.files }
