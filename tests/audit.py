@@ -19,6 +19,7 @@ import audit_model
 import desk_model
 import lms
 import logs
+import tally
 from desk_model import sha256
 
 HERE = os.path.dirname(os.path.abspath(__file__))
@@ -580,19 +581,12 @@ def example(room):
 
 def main():
     results = {}
-    if not os.path.exists(PROGRAM):
-        print("audit: the program isn't built: run ./sundr first")
-        print("0 passed, 1 failed")
+    if not tally.is_there("audit", PROGRAM):
         return 1
     for part in (keys, good, by_chance, fields, each_byte, orders, ahead, faults, example):
         with tempfile.TemporaryDirectory() as at:
             results.update(part(Room(at)))
-    for name, right in results.items():
-        if not right:
-            print(f"audit: {name}")
-    passed = sum(results.values())
-    print(f"{passed} passed, {len(results) - passed} failed")
-    return 0 if passed == len(results) else 1
+    return tally.told("audit", results)
 
 
 if __name__ == "__main__":

@@ -15,6 +15,8 @@ import subprocess
 import sys
 import tempfile
 
+import tally
+
 TOP = os.path.dirname(os.path.dirname(os.path.abspath(__file__)))
 PROGRAM = f"{TOP}/crates/sundr/out/sundr"
 PAIRS_AT_ONCE = 200
@@ -304,9 +306,7 @@ def failures(room):
 
 def main():
     results = {}
-    if not os.path.exists(PROGRAM):
-        print("keys: the program isn't built: run ./sundr first")
-        print("0 passed, 1 failed")
+    if not tally.is_there("keys", PROGRAM):
         return 1
     parts = [modes, in_the_way, faults, at_once, keys_in_use, a_user_that_is_killed]
     if shutil.which("strace"):
@@ -316,12 +316,7 @@ def main():
     for part in parts:
         with tempfile.TemporaryDirectory() as at:
             results.update(part(Room(at)))
-    for name, right in results.items():
-        if not right:
-            print(f"keys: {name}")
-    passed = sum(results.values())
-    print(f"{passed} passed, {len(results) - passed} failed")
-    return 0 if passed == len(results) else 1
+    return tally.told("keys", results)
 
 
 if __name__ == "__main__":

@@ -11,6 +11,8 @@ import sys
 import tempfile
 import time
 
+import tally
+
 TOP = os.path.dirname(os.path.dirname(os.path.abspath(__file__)))
 
 # Of a crate it prints what rt prints; `rt run` writes the program, which has the first line of the source in it.
@@ -173,12 +175,7 @@ def main():
     with tempfile.TemporaryDirectory() as room:
         for part in (first_run, changes, texts, places, together, faults):
             results.update(part(Tree(room, f"a tree for {part.__name__}")))
-    for name, right in results.items():
-        if not right:
-            print(f"launcher: {name}")
-    passed = sum(results.values())
-    print(f"{passed} passed, {len(results) - passed} failed")
-    return 0 if passed == len(results) else 1
+    return tally.told("launcher", results)
 
 
 if __name__ == "__main__":

@@ -16,6 +16,7 @@ import tempfile
 
 import client_model
 import desk_model
+import tally
 
 HERE = os.path.dirname(os.path.abspath(__file__))
 TOP = os.path.dirname(HERE)
@@ -240,20 +241,13 @@ def deep(_):
 
 
 def main():
-    if not os.path.exists(PROGRAM):
-        print("program: it isn't built: run ./sundr first")
-        print("0 passed, 1 failed")
+    if not tally.is_there("program", PROGRAM):
         return 1
     with tempfile.TemporaryDirectory() as room:
         results = dict(examples())
         for part in (cases, keys, help_texts, faults, at_a_keyboard, deep, by_chance):
             results.update(part(room))
-    for name, right in results.items():
-        if not right:
-            print(f"program: {name}")
-    passed = sum(results.values())
-    print(f"{passed} passed, {len(results) - passed} failed")
-    return 0 if passed == len(results) else 1
+    return tally.told("program", results)
 
 
 if __name__ == "__main__":

@@ -28,6 +28,7 @@ import desk_model
 import lms
 import logs
 import model_server
+import tally
 import wire
 from keys import calls_in
 
@@ -1076,9 +1077,7 @@ def main():
     if "--models" in words:
         words.remove("--models")
         program = MODEL
-    elif not os.path.exists(PROGRAM[0]):
-        print("serving: the program isn't built: run ./sundr first")
-        print("0 passed, 1 failed")
+    elif not tally.is_there("serving", PROGRAM[0]):
         return 1
     results = {}
     for part in PARTS:
@@ -1090,12 +1089,7 @@ def main():
                 results[name] = results.get(name, True) and right
         if words:
             print(f"serving: {part.__name__} took {time.monotonic() - started:.1f} s")
-    for name, right in results.items():
-        if not right:
-            print(f"serving: {name}")
-    passed = sum(results.values())
-    print(f"{passed} passed, {len(results) - passed} failed")
-    return 0 if passed == len(results) else 1
+    return tally.told("serving", results)
 
 
 if __name__ == "__main__":

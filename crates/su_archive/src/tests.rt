@@ -1,7 +1,6 @@
 // What no clause says: that the calls succeed, which file a record goes into, and that items are kept
 // and shared.
-ghost use Rattle.std.specs.Prelude.{◌≡◌, IsTrue, IfOk};
-ghost use Rattle.sqlite_disk.specs.Memory.{memory_is_usable};
+ghost use Rattle.std.specs.Prelude.{◌≡◌, IfOk};
 ghost use Rattle.sqlite.specs.State.{HasCleanDisk};
 ghost use Rattle.sqlite.specs.Files.{file_state, over_files};
 ghost use Rattle.su_store.specs.Files.{IsAtRest};
@@ -10,7 +9,7 @@ ghost use Rattle.su_volumes.specs.Volumes.{found_with};
 use crate::{Archive, ArchiveName};
 use sha2::Sha256;
 use sqlite::{Connection, FileStore, Files, Options};
-use sqlite_disk::Memory;
+use sqlite_disk::{Disk, Memory};
 use std::alloc::{AllocError, Global};
 use std::marker::Brand;
 use std::process::Abort;
@@ -117,22 +116,22 @@ fn open_first(alloc: Global, files: Vec<ShutFile<Memory>>) -> Result<Opened<Memo
 
 /// Keeps a commit for each item, and one whose item isn't shared, each in a file of its own. Items
 /// are read again from whichever file has them.
-fn keep_all<N: ArchiveName, R: Wait + Abort>(
+fn keep_all<N: ArchiveName, D: Disk + Drop, H: Shelf<D>, R: Wait + Abort>(
     rt: &R,
     alloc: Global,
-    files: Opened<Memory>,
-) -> Result<Vec<ShutFile<Memory>>, Fail>
-    requires named { N.found ≡ found_with Memory.Disk files }
+    files: Opened<D>,
+    shelf: H,
+) -> Result<Vec<ShutFile<D>>, Fail>
+    requires named { N.found ≡ found_with D.Disk files }
     requires rest { HasCleanDisk (file_state files.first.held) → IsAtRest over_files files.first }
 {
     let blocks = SharedBlocks::new(alloc)?;
-    let drawer = Drawer { alloc };
-    let mut archive: Archive<'_, N, Memory, Drawer, R> = Archive::new(
+    let mut archive: Archive<'_, N, D, H, R> = Archive::new(
         rt,
         alloc,
         Options::new(7),
         files,
-        drawer,
+        shelf,
         1,
         &blocks,
     );
@@ -151,22 +150,22 @@ fn keep_all<N: ArchiveName, R: Wait + Abort>(
 }
 
 /// Finds what `keep_all` has kept, and keeps one more in the last file.
-fn find_all<N: ArchiveName, R: Wait + Abort>(
+fn find_all<N: ArchiveName, D: Disk + Drop, H: Shelf<D>, R: Wait + Abort>(
     rt: &R,
     alloc: Global,
-    files: Opened<Memory>,
-) -> Result<Vec<ShutFile<Memory>>, Fail>
-    requires named { N.found ≡ found_with Memory.Disk files }
+    files: Opened<D>,
+    shelf: H,
+) -> Result<Vec<ShutFile<D>>, Fail>
+    requires named { N.found ≡ found_with D.Disk files }
     requires rest { HasCleanDisk (file_state files.first.held) → IsAtRest over_files files.first }
 {
     let blocks = SharedBlocks::new(alloc)?;
-    let drawer = Drawer { alloc };
-    let mut archive: Archive<'_, N, Memory, Drawer, R> = Archive::new(
+    let mut archive: Archive<'_, N, D, H, R> = Archive::new(
         rt,
         alloc,
         Options::new(7),
         files,
-        drawer,
+        shelf,
         1000,
         &blocks,
     );
@@ -190,22 +189,22 @@ fn find_all<N: ArchiveName, R: Wait + Abort>(
 }
 
 /// Refuses another record than the first that it finds, and keeps no more.
-fn refuse_other<N: ArchiveName, R: Wait + Abort>(
+fn refuse_other<N: ArchiveName, D: Disk + Drop, H: Shelf<D>, R: Wait + Abort>(
     rt: &R,
     alloc: Global,
-    files: Opened<Memory>,
+    files: Opened<D>,
+    shelf: H,
 ) -> Result<(), Fail>
-    requires named { N.found ≡ found_with Memory.Disk files }
+    requires named { N.found ≡ found_with D.Disk files }
     requires rest { HasCleanDisk (file_state files.first.held) → IsAtRest over_files files.first }
 {
     let blocks = SharedBlocks::new(alloc)?;
-    let drawer = Drawer { alloc };
-    let mut archive: Archive<'_, N, Memory, Drawer, R> = Archive::new(
+    let mut archive: Archive<'_, N, D, H, R> = Archive::new(
         rt,
         alloc,
         Options::new(7),
         files,
-        drawer,
+        shelf,
         1000,
         &blocks,
     );
@@ -218,22 +217,22 @@ fn refuse_other<N: ArchiveName, R: Wait + Abort>(
 }
 
 /// Refuses an empty file before another one.
-fn refuse_empty<N: ArchiveName, R: Wait + Abort>(
+fn refuse_empty<N: ArchiveName, D: Disk + Drop, H: Shelf<D>, R: Wait + Abort>(
     rt: &R,
     alloc: Global,
-    files: Opened<Memory>,
+    files: Opened<D>,
+    shelf: H,
 ) -> Result<(), Fail>
-    requires named { N.found ≡ found_with Memory.Disk files }
+    requires named { N.found ≡ found_with D.Disk files }
     requires rest { HasCleanDisk (file_state files.first.held) → IsAtRest over_files files.first }
 {
     let blocks = SharedBlocks::new(alloc)?;
-    let drawer = Drawer { alloc };
-    let mut archive: Archive<'_, N, Memory, Drawer, R> = Archive::new(
+    let mut archive: Archive<'_, N, D, H, R> = Archive::new(
         rt,
         alloc,
         Options::new(7),
         files,
-        drawer,
+        shelf,
         1000,
         &blocks,
     );
@@ -247,14 +246,14 @@ fn records_of_several_files_are_found(rt: HostRuntime) -> Result<(), Fail> {
     let alloc = rt.alloc();
     let mut one = Vec::new(alloc);
     one.push(empty(alloc)?)?;
-    let files = open_first(alloc, one)?;
-    let kept = keep_all::<Brand, _>(&rt, alloc, files)?;
+    let new = open_first(alloc, one)?;
+    let kept = keep_all::<Brand, _, _, _>(&rt, alloc, new, Drawer { alloc })?;
     assert_eq!(rt; kept.len(), 4);
-    let files = open_first(alloc, kept)?;
-    let found = find_all::<Brand, _>(&rt, alloc, files)?;
+    let again = open_first(alloc, kept)?;
+    let found = find_all::<Brand, _, _, _>(&rt, alloc, again, Drawer { alloc })?;
     assert_eq!(rt; found.len(), 4);
-    let files = open_first(alloc, found)?;
-    refuse_other::<Brand, _>(&rt, alloc, files)
+    let last = open_first(alloc, found)?;
+    refuse_other::<Brand, _, _, _>(&rt, alloc, last, Drawer { alloc })
 }
 
 #[test]
@@ -265,5 +264,5 @@ fn an_empty_file_before_another_is_refused(rt: HostRuntime) -> Result<(), Fail> 
         three.push(empty(alloc)?)?;
     }
     let files = open_first(alloc, three)?;
-    refuse_empty::<Brand, _>(&rt, alloc, files)
+    refuse_empty::<Brand, _, _, _>(&rt, alloc, files, Drawer { alloc })
 }
