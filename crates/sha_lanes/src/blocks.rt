@@ -33,7 +33,8 @@ fn add_start(number: u32, x: u32x8) -> u32x8
 /// The hash values of eight blocks, each after the initial hash value.
 #[inline(always)]
 pub fn hash_blocks(block: &[u32x8; 16]) -> [u32x8; 8]
-    ensures { EachLane (λ l. (b : List ℕ) → HoldsBlock b l block.now → lane l result ≡ compress initial_hash_256 b) }
+    ensures { EachLane (λ l. (b : List ℕ) → HoldsBlock b l block.now
+        → lane l result ≡ compress initial_hash_256 b) }
 {
     let mut window = *block;
     let state = first_four_steps(&window, start(), 0);

@@ -43,7 +43,8 @@ fn run_group(runs: &mut [ChainRun], order: &[u32], first: usize)
     requires inside { first < length runs.old }
     ensures on { (k : ℕ) → RunsOn (run_at runs.old k) (run_at runs.new k) }
     ensures kept { (k : ℕ) → (run_at runs.old k).left ≡ 0 → (run_at runs.new k).left ≡ 0 }
-    ensures ended { (p : ℕ) → first ≤ p → p < first + 8 → (run_at runs.new (place_in order.now p)).left ≡ 0 }
+    ensures ended { (p : ℕ) → first ≤ p → p < first + 8
+        → (run_at runs.new (place_in order.now p)).left ≡ 0 }
 {
     let group = [
         runs[place_in(order, first)],

@@ -29,7 +29,8 @@ fn middle(index: u32x8, step: u32x8, value: u32x8) -> u32x8
 // The last three bytes of one word and the first of the next.
 #[inline(always)]
 fn join(x: u32x8, y: u32x8) -> u32x8
-    ensures { EachLane (λ l. slice_index result l ≡ slice_index x l % 2 ^ 24 * 2 ^ 8 + slice_index y l / 2 ^ 24 % 2 ^ 8) }
+    ensures { EachLane (λ l. slice_index result l
+        ≡ slice_index x l % 2 ^ 24 * 2 ^ 8 + slice_index y l / 2 ^ 24 % 2 ^ 8) }
 {
     (x << 8) + (y >> 24)
 }
@@ -88,16 +89,20 @@ fn step(leaf: &[u32x8; 5], index: u32x8, step: u32x8, value: &[u32x8; 8]) -> [u3
 // else the old one.
 #[inline(always)]
 fn pick_word(left: u32x8, turn: u32, next: u32x8, old: u32x8) -> u32x8
-    ensures goes { EachLane (λ l. turn < slice_index left l → slice_index result l ≡ slice_index next l) }
-    ensures rests { EachLane (λ l. slice_index left l ≤ turn → slice_index result l ≡ slice_index old l) }
+    ensures goes { EachLane (λ l. turn < slice_index left l
+        → slice_index result l ≡ slice_index next l) }
+    ensures rests { EachLane (λ l. slice_index left l ≤ turn
+        → slice_index result l ≡ slice_index old l) }
 {
     left.simd_le(u32x8::splat(turn)).select(old, next)
 }
 
 #[inline(always)]
 fn pick(left: u32x8, turn: u32, next: &[u32x8; 8], old: &[u32x8; 8]) -> [u32x8; 8]
-    ensures goes { EachLane (λ l. turn < slice_index left l → (v : List ℕ) → HoldsValue v l next.now → HoldsValue v l result) }
-    ensures rests { EachLane (λ l. slice_index left l ≤ turn → (v : List ℕ) → HoldsValue v l old.now → HoldsValue v l result) }
+    ensures goes { EachLane (λ l. turn < slice_index left l → (v : List ℕ) → HoldsValue v l next.now
+        → HoldsValue v l result) }
+    ensures rests { EachLane (λ l. slice_index left l ≤ turn → (v : List ℕ) → HoldsValue v l old.now
+        → HoldsValue v l result) }
 {
     let a = pick_word(left, turn, next[0], old[0]);
     let b = pick_word(left, turn, next[1], old[1]);
@@ -120,7 +125,8 @@ pub fn run(
     most: u32,
     value: &[u32x8; 8],
 ) -> [u32x8; 8]
-    ensures { EachLane (λ l. slice_index left l ≤ most → slice_index from l + slice_index left l ≤ 256
+    ensures { EachLane (λ l. slice_index left l ≤ most
+        → slice_index from l + slice_index left l ≤ 256
         → (place start : List ℕ) → HoldsPlace place l leaf.now index → HoldsValue start l value.now
         → HoldsValue (chain place (slice_index from l) (slice_index left l) start) l result) }
 {

@@ -8,14 +8,16 @@ use std::simd::u32x8;
 
 #[inline(always)]
 pub fn ch(x: u32x8, y: u32x8, z: u32x8) -> u32x8
-    ensures { EachLane (λ l. slice_index result l ≡ ch (slice_index x l) (slice_index y l) (slice_index z l)) }
+    ensures { EachLane (λ l. slice_index result l
+        ≡ ch (slice_index x l) (slice_index y l) (slice_index z l)) }
 {
     z ^ (x & (y ^ z))
 }
 
 #[inline(always)]
 pub fn maj(x: u32x8, y: u32x8, z: u32x8) -> u32x8
-    ensures { EachLane (λ l. slice_index result l ≡ maj (slice_index x l) (slice_index y l) (slice_index z l)) }
+    ensures { EachLane (λ l. slice_index result l
+        ≡ maj (slice_index x l) (slice_index y l) (slice_index z l)) }
 {
     y ^ ((x ^ y) & (y ^ z))
 }

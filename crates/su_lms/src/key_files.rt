@@ -47,9 +47,12 @@ impl KeyFile {
     /// bytes, types that are not made here, or a next leaf above the number of leaves.
     pub fn decode(bytes: &[u8]) -> Result<KeyFile, Refusal>
         // What is read is spelled so.
-        ensures found { IfOk result (λ file. bytes.now ≡ key_file_bytes (private_key_of file) file.next) }
+        ensures found { IfOk result (λ file. bytes.now
+            ≡ key_file_bytes (private_key_of file) file.next) }
         // What is spelled so is read.
-        ensures only { (key : PrivateKey) (next : ℕ) → IsKept key next → bytes.now ≡ key_file_bytes key next → IsOkAnd result (λ file. (private_key_of file ≡ key) × (file.next ≡ next)) }
+        ensures only { (key : PrivateKey) (next : ℕ) → IsKept key next
+            → bytes.now ≡ key_file_bytes key next
+            → IsOkAnd result (λ file. (private_key_of file ≡ key) × (file.next ≡ next)) }
         ensures refused { IfErr result (λ e. e ≡ BadKey) }
     {
         if bytes.len() != 64 || number_at(bytes, 0) != MARK {

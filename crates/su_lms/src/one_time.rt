@@ -15,7 +15,8 @@ use sha2::{Digest, Sha256};
 pub fn one_time_keys(ots: u32, id: &[u8; 16], seed: &[u8; 32], q: u32) -> [[u8; 32]; 8]
     requires listed { (3 ≤ ots) × (ots ≤ 4) }
     requires leaves { q < 2 ^ 25 }
-    ensures { (l : ℕ) → l < 8 → slice_index_or result l [] ≡ one_time_key ots id.now seed.now (q + l) }
+    ensures { (l : ℕ) → l < 8
+        → slice_index_or result l [] ≡ one_time_key ots id.now seed.now (q + l) }
 {
     let count = usize::from(chain_count(ots));
     let mut runs = [ChainRun::idle(); 536];
@@ -37,7 +38,8 @@ fn whole_keys(
     requires size { length runs.old ≡ 8 * count }
     requires some { 1 ≤ count }
     requires few { count ≤ 265 }
-    ensures { (l : ℕ) → l < 8 → slice_index_or result l [] ≡ one_time_key ots id.now seed.now (q + l) }
+    ensures { (l : ℕ) → l < 8
+        → slice_index_or result l [] ≡ one_time_key ots id.now seed.now (q + l) }
 {
     set_private_values(runs, id, seed, q, count);
     run_whole(runs, ots);

@@ -147,7 +147,8 @@ impl<S: KeyStore> Signer<S> {
     /// `KeySpent` where each leaf has signed; then `NoMemory`; then `KeyFileFault` where the store
     /// failed. After a refusal nothing was signed, and the next leaf is the same.
     pub fn sign(&mut self, message: &[u8]) -> Result<Vec<u8>, Refusal>
-        ensures signature { IfOk result (λ signature. signature.items ≡ signature_of self.old.key self.old.next message.now) }
+        ensures signature { IfOk result (λ signature. signature.items
+            ≡ signature_of self.old.key self.old.next message.now) }
         ensures signed { IfOk result (λ signature. IsSigned (key_of self.old.key) message.now signature.items) }
 
         ensures leaf { IfOk result (λ signature. leaf_of signature.items ≡ self.old.next) }
@@ -158,8 +159,10 @@ impl<S: KeyStore> Signer<S> {
         ensures key { self.new.key ≡ self.old.key }
 
         ensures spent { IsErrOf result KeySpent ↔ (self.old.next ≡ leaf_count self.old.key) }
-        ensures fault { IsErrOf result KeyFileFault → S.failure_count self.old.store < 2 ^ 64 - 1 → S.failure_count self.old.store < S.failure_count self.new.store }
-        ensures missed { IsErrOf result KeyFileFault → S.misses self.old.store (self.old.next + 1) self.new.store }
+        ensures fault { IsErrOf result KeyFileFault → S.failure_count self.old.store < 2 ^ 64 - 1
+            → S.failure_count self.old.store < S.failure_count self.new.store }
+        ensures missed { IsErrOf result KeyFileFault
+            → S.misses self.old.store (self.old.next + 1) self.new.store }
         ensures unused { OnErr result (self.new.next ≡ self.old.next) }
         ensures untouched { IfErr result (λ e. e ≢ KeyFileFault → self.new.store ≡ self.old.store) }
         ensures refused { IfErr result (λ e. (e ≡ KeySpent) ⊎ (e ≡ NoMemory) ⊎ (e ≡ KeyFileFault)) }
@@ -216,7 +219,8 @@ fn append(out: &mut Vec<u8>, bytes: &[u8])
 fn append_one_time(out: &mut Vec<u8>, file: &KeyFile, q: u32, message: &[u8])
     requires leaf { q < 2 ^ height_of file.now.params.lms }
     requires room { vec_len out.old + (36 + 32 * chain_count file.now.params.ots) ≤ vec_capacity out.old }
-    ensures items { out.new.items ≡ out.old.items ++ one_time_signature (private_key_of file.now) q message.now }
+    ensures items { out.new.items
+        ≡ out.old.items ++ one_time_signature (private_key_of file.now) q message.now }
     ensures len { vec_len out.new ≡ vec_len out.old + (36 + 32 * chain_count file.now.params.ots) }
     ensures room { vec_capacity out.old ≤ vec_capacity out.new }
 {
@@ -256,7 +260,8 @@ fn append_values(
 // Appends the values at which the chains end.
 fn append_ends(out: &mut Vec<u8>, ends: &[ChainRun])
     requires { vec_len out.old + 32 * length ends.now ≤ vec_capacity out.old }
-    ensures items { out.new.items ≡ out.old.items ++ joined (length ends.now) (λ i. (run_at ends.now i).value) }
+    ensures items { out.new.items
+        ≡ out.old.items ++ joined (length ends.now) (λ i. (run_at ends.now i).value) }
     ensures len { vec_len out.new ≡ vec_len out.old + 32 * length ends.now }
     ensures room { vec_capacity out.old ≤ vec_capacity out.new }
 {

@@ -20,7 +20,8 @@ pub trait KeyStore: Drop {
         ensures stored { OnTrue result (stores self.old q self.new) }
         ensures missed { OnFalse result (misses self.old q self.new) }
         ensures rises { failure_count self.old ≤ failure_count self.new }
-        ensures failed { OnFalse result (failure_count self.old < 2 ^ 64 - 1 → failure_count self.old < failure_count self.new) };
+        ensures failed { OnFalse result (failure_count self.old < 2 ^ 64 - 1
+            → failure_count self.old < failure_count self.new) };
 
     /// How many calls have failed; at its last value it stays.
     fn failures(&self) -> u64

@@ -183,7 +183,8 @@ fn set_inner_nodes(nodes: &mut [[u8; 32]], file: &KeyFile, leaves: u32)
 fn set_parents(nodes: &mut [[u8; 32]], id: &[u8; 16], leaves: u32)
     requires small { leaves ≤ 2 ^ 25 }
     requires size { length nodes.old ≡ 2 * leaves }
-    ensures leaves { (r : ℕ) → leaves ≤ r → slice_index_or nodes.new r [] ≡ slice_index_or nodes.old r [] }
+    ensures leaves { (r : ℕ) → leaves ≤ r
+        → slice_index_or nodes.new r [] ≡ slice_index_or nodes.old r [] }
     ensures inner { (r : ℕ) → 1 ≤ r → r < leaves → slice_index_or nodes.new r [] ≡ inner_value id.now r (slice_index_or nodes.new (2 * r) []) (slice_index_or nodes.new (2 * r + 1) []) }
 {
     let mut r = leaves;

@@ -110,7 +110,8 @@ impl Reply {
 
 fn write_granted(writer: &mut Writer, count: u64, last: &LastNumbers) -> Result<(), AllocError>
     ensures { OnOk result
-        (AreLast last.now × (writer.new ≡ writer.old ++ (u64_bytes count ++ users_bytes last.now))) }
+        (AreLast last.now
+        × (writer.new ≡ writer.old ++ (u64_bytes count ++ users_bytes last.now))) }
 {
     writer.put_u64(count)?;
     last.write(writer)

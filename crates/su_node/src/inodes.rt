@@ -156,7 +156,8 @@ impl Inode {
     /// (It looks at the blocks in the range alone.)
     pub fn read_at(&self, off: u64, len: u64) -> Result<Option<Vec<u8>>, Refusal>
         ensures value { IfOk result (λ bytes.
-            option_map (λ v. v.items) bytes ≡ option_map (within off len) (bytes_of (Some self.now))) }
+            option_map (λ v. v.items) bytes
+            ≡ option_map (within off len) (bytes_of (Some self.now))) }
         ensures refused { IfErr result (λ e. e ≡ NoMemory) }
     {
         match &self.content {
@@ -233,7 +234,8 @@ impl Inode {
     /// touches the last block alone, and those that come or go.)
     pub fn resize(&mut self, size: u32) -> Result<(), Refusal>
         ensures ok { OnOk result
-            (inode_after (Resized (size_of self.old.content) size) (Some self.old) ≡ Some self.new) }
+            (inode_after (Resized (size_of self.old.content) size) (Some self.old)
+            ≡ Some self.new) }
         ensures succeeds { size ≤ size_of self.old.content → IsOk result }
         ensures refused { IfErr result (λ e. e ≡ NoMemory) }
         ensures err { OnErr result (self.new ≡ self.old) }

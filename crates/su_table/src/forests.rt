@@ -249,7 +249,8 @@ impl Forest {
     /// room for the bytes.
     pub fn read_at(&self, file: FileId, off: u64, len: u64) -> Result<Vec<u8>, Refusal>
         ensures ok { IfOk result (λ bytes. contents_within self.now file off len ≡ Ok bytes.items) }
-        ensures refused { IfErr result (λ e. (e ≡ NoMemory) ⊎ (contents_within self.now file off len ≡ Err e)) }
+        ensures refused { IfErr result (λ e. (e ≡ NoMemory)
+            ⊎ (contents_within self.now file off len ≡ Err e)) }
     {
         let inode = self.standing(&file)?;
         inode.read_at(off, len)?.ok_or(Refusal::WrongKind(file))
@@ -306,7 +307,8 @@ impl Forest {
     /// Makes a name of the directory at `place` lead to the file. Does nothing where no directory
     /// stands. Takes memory only for a name that isn't there.
     pub fn add_name(&mut self, place: Place, name: Name, file: FileId) -> Result<(), Refusal>
-        ensures ok { OnOk result (self.new ≡ edit self.old (Inodes place (Named name (Some file)))) }
+        ensures ok { OnOk result (self.new
+            ≡ edit self.old (Inodes place (Named name (Some file)))) }
         ensures refused { IfErr result (λ e. e ≡ NoMemory) }
         ensures absent { OnErr result (is_name_free_at self.old place name ≡ true) }
         ensures err { OnErr result (self.new ≡ self.old) }

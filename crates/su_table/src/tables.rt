@@ -65,7 +65,8 @@ impl<V: TreeValue + Drop> Tables<V> {
     pub fn put(&mut self, table: u8, number: Inum, value: V) -> Result<u64, AllocError>
         requires { table < length self.old }
         ensures ok { let pairs = slice_index_or self.old table [] in
-            OnOk result (self.new ≡ slice_set self.old table (with_pair number (Some value) pairs)) }
+            OnOk result (self.new
+            ≡ slice_set self.old table (with_pair number (Some value) pairs)) }
         ensures absent { let pairs = slice_index_or self.old table [] in
             OnErr result (find nat_cmp number pairs ≡ None) }
         ensures err { OnErr result (self.new ≡ self.old) }
