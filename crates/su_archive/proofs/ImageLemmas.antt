@@ -1,5 +1,5 @@
 -- What holds of each image of a list holds so of each item.
-use Rattle.std.proofs.Common.{◌≡◌, List, map, subst, arith}
+use Rattle.std.proofs.Common.{List, map, subst, arith}
 use Rattle.std.specs.List.{All}
 use Rattle.std.proofs.lemmas.List.{get_or-map, length-map}
 

@@ -1,5 +1,5 @@
 -- What the current file keeps as it is read, as records are counted and appended, and as it is shut.
-use Rattle.std.proofs.Common.{◌≡◌, ◌≤◌, IsTrue, Result, Ok, Err, OnOk, OnErr, IfOk, Option, inl, inr, ℕ, zero, suc, ◌+◌, Bool, true, false, List, [], ◌∷◌, ◌++◌, length, take, drop, slice_get, Some, map, take-append-drop, refl, sym, ap, subst, ◌∙◌, arith}
+use Rattle.std.proofs.Common.{◌≡◌, ◌≤◌, IsTrue, Result, Ok, Err, OnOk, OnErr, IfOk, Option, inl, inr, ℕ, zero, suc, ◌+◌, Bool, true, false, List, [], ◌∷◌, ◌++◌, length, take, drop, slice_get, Some, take-append-drop, refl, sym, ap, subst, ◌∙◌, arith}
 use Rattle.std.proofs.lemmas.List.{append-nil}
 use Rattle.sqlite_disk.specs.declared.Disk.{Ghosts}
 use Rattle.sqlite.specs.declared.FileStore.{FileStore}
@@ -12,8 +12,8 @@ use Rattle.su_store.specs.Tables.{Stands}
 use Rattle.su_store.specs.Changes.{Extends, Keeps}
 use Rattle.su_store.specs.Lookups.{IsRecord}
 use Rattle.su_store.specs.Files.{File, IsAtRest}
-use Rattle.su_volumes.specs.Places.{StandsFor, KeepsAll, IsShut}
-use Rattle.su_volumes.specs.Current.{IsSettled, BeginsWith, KeepsFirst, ShowsRecord, count_of}
+use Rattle.su_volumes.specs.Places.{KeepsAll, IsShut}
+use Rattle.su_volumes.specs.Current.{IsSettled, KeepsFirst, ShowsRecord, count_of}
 use Rattle.su_volumes.specs.Volumes.{AreSound}
 use Rattle.su_volumes.specs.declared.places.Place.{Place}
 use Rattle.su_volumes.specs.declared.places.Place.TheVariants.{Open, Shut, Unopened, Unshut, Away}

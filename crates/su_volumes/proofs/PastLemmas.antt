@@ -1,5 +1,5 @@
 -- What files keep in turn, as one of them changes and as one more comes.
-use Rattle.std.proofs.Common.{◌≡◌, ℕ, zero, suc, List, [], ◌∷◌, ◌++◌, get_or, subst, refl}
+use Rattle.std.proofs.Common.{◌≡◌, ℕ, zero, suc, List, [], ◌∷◌, ◌++◌, get_or, subst}
 use Rattle.std.proofs.Math.ListN.{set}
 use Rattle.std.specs.List.{AllZip}
 

@@ -1,5 +1,5 @@
 -- What a file keeps as it is read, shut and opened.
-use Rattle.std.proofs.Common.{◌≡◌, ◌≤◌, inl, inr, ℕ, List, sym, ap, subst, ◌∙◌, arith}
+use Rattle.std.proofs.Common.{◌≡◌, inl, inr, ℕ, List, sym, subst, ◌∙◌, arith}
 use Rattle.std.proofs.Math.Logic.{∥∥₁_elim}
 use Rattle.sqlite_disk.specs.declared.Disk.{Ghosts}
 use Rattle.sqlite_disk.specs.declared.Files.{Files}
@@ -13,7 +13,7 @@ use Rattle.sqlite.specs.State.{HasCleanDisk, Survives}
 use Rattle.sqlite.specs.Files.{file_state, over_files, image_of, HoldsDatabase}
 use Rattle.su_store.specs.Files.{File, IsAtRest}
 use Rattle.su_store.specs.Shut.{Rests}
-use Rattle.su_volumes.specs.Places.{StandsFor, RestsFor, Keeps, KeepsAll}
+use Rattle.su_volumes.specs.Places.{StandsFor, Keeps, KeepsAll}
 use Rattle.su_volumes.specs.declared.places.Place.TheVariants.{Open, Unshut}
 
 module _ {D : Type 0} (g : Ghosts D) (f : File (FileStore D g)) (records : List (List ℕ)) where

@@ -1,20 +1,19 @@
 -- What the files of an archive hold in turn, as the current one changes and as another takes its place.
-use Rattle.std.proofs.Common.{◌≡◌, ◌≤◌, ℕ, Bool, true, false, List, [], ◌∷◌, ◌++◌, Option, None, Some, IfSome, Result, Ok, Err, IfOk, OnOk, OnErr, option_to_list, refl, sym, ap, subst, ◌∙◌, append_assoc}
-use Rattle.std.specs.List.{All}
+use Rattle.std.proofs.Common.{◌≡◌, ℕ, true, false, List, [], ◌∷◌, ◌++◌, Option, None, Result, Ok, Err, IfOk, refl, sym, ap, subst, ◌∙◌, append_assoc}
 use Rattle.std.proofs.Math.Logic.{∥∥₁_elim}
 use Rattle.std.proofs.lemmas.List.{append-nil}
 use Rattle.sqlite_disk.specs.declared.Disk.{Ghosts}
 use Rattle.sqlite.specs.Recovery.{Image}
 use Rattle.sqlite.specs.Tree.{Trees}
 use Rattle.sqlite_trees.specs.Props.{Trees-set}
-use Rattle.sqlite.specs.Files.{image_of, HoldsDatabase}
+use Rattle.sqlite.specs.Files.{HoldsDatabase}
 use Rattle.su_volumes.specs.Past.{KeepInTurn}
-use Rattle.su_volumes.specs.Current.{KeepsFirst, count_of}
+use Rattle.su_volumes.specs.Current.{KeepsFirst}
 use Rattle.su_volumes.specs.Volumes.{joined, halted, AreSound, HoldsSound, HoldsInTurn}
 use Rattle.su_volumes.specs.declared.places.Place.{Place}
 use Rattle.su_volumes.specs.declared.past.PastFiles.{PastFiles}
 use Rattle.su_volumes.specs.declared.volumes.Volumes.{Volumes}
-use Rattle.su_volumes.proofs.CurrentLemmas.{stops, on_ok, on_err}
+use Rattle.su_volumes.proofs.CurrentLemmas.{stops}
 
 pub joined_more : (lists : List (List (List ℕ))) (own : List (List ℕ)) → joined (lists ++ own ∷ []) ++ [] ≡ joined lists ++ own
 joined_more [] own = append-nil (own ++ []) ∙ append-nil own

@@ -1,5 +1,5 @@
 -- What the current file of an archive keeps: the one whose records are taken up or kept now.
-use Rattle.std.specs.Prelude.{◌≡◌, ◌≤◌, ℕ, Bool, false, List, [], ◌∷◌, ◌++◌, length, take, Option}
+use Rattle.std.specs.Prelude.{◌≡◌, ℕ, Bool, false, List, ◌++◌, length, take, Option}
 use Rattle.sqlite_disk.specs.declared.Disk.{Ghosts}
 use Rattle.sqlite.specs.declared.FileStore.{FileStore}
 use Rattle.sqlite.specs.Tree.{Trees}
@@ -11,7 +11,7 @@ use Rattle.su_store.specs.Lookups.{IsRecord}
 use Rattle.su_store.specs.Files.{File}
 use Rattle.su_volumes.specs.Places.{KeepsAll}
 use Rattle.su_volumes.specs.declared.places.Place.{Place}
-use Rattle.su_volumes.specs.declared.places.Place.TheVariants.{Open, Shut, Unopened, Unshut, Away}
+use Rattle.su_volumes.specs.declared.places.Place.TheVariants.{Open}
 
 -- the tables stand for records of which these are the first
 pub record BeginsWith (records : List (List ℕ)) (db : Trees) : Type 0 where

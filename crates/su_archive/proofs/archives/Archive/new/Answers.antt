@@ -1,5 +1,4 @@
-use Rattle.std.proofs.Common.{map, subst}
-use Rattle.std.specs.List.{All}
+use Rattle.std.proofs.Common.{subst}
 use Rattle.sqlite.specs.Files.{image_of}
 use Rattle.su_volumes.specs.Volumes.{WasSound, HoldsSound}
 use Rattle.su_archive.proofs.ImageLemmas.{all_of_map}

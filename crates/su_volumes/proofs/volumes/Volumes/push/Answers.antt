@@ -1,5 +1,4 @@
-use Rattle.std.proofs.Common.{[], ◌∷◌, ◌++◌, sym, ap, subst, ◌∙◌, append_assoc}
-use Rattle.std.proofs.lemmas.List.{append-nil}
+use Rattle.std.proofs.Common.{[], ◌∷◌, ◌++◌, sym, subst, ◌∙◌}
 use Rattle.su_volumes.specs.Places.{KeepsAll}
 use Rattle.su_volumes.specs.Current.{KeepsFirst}
 use Rattle.su_volumes.proofs.CurrentLemmas.{was_shut, begins}
