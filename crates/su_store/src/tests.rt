@@ -7,6 +7,7 @@ use sqlite::{Alter, Connection, FileStore, Files, Options, Unknown};
 use sqlite_disk::{Crash, Memory};
 use std::alloc::Global;
 use std::fs;
+use std::process::Abort;
 use std::test::Fail;
 use su_bytes::Digest;
 
@@ -44,6 +45,53 @@ fn has_block<S: Alter>(file: &mut RecordFile<S>, block: &[u8]) -> Result<bool, F
     }
 }
 
+// Over any store, as a proof over files in memory takes minutes.
+
+/// Keeps three records, the first two with the same block, and reads all of it.
+fn keep_and_read<S: Alter, R: Abort>(
+    rt: &R,
+    alloc: Global,
+    file: &mut RecordFile<S>,
+) -> Result<(), Fail> {
+    assert!(rt; file.is_empty());
+    assert_eq!(rt; keep(alloc, file, &[1, 2], &[7])?, 0);
+    assert_eq!(rt; keep(alloc, file, &[3], &[7])?, 1);
+    assert_eq!(rt; keep(alloc, file, &[], &[])?, 2);
+    assert_eq!(rt; file.len(), 3);
+    assert!(rt; has_record(file, 0, &[1, 2])?);
+    assert!(rt; has_record(file, 1, &[3])?);
+    assert!(rt; has_record(file, 2, &[])?);
+    assert!(rt; !has_record(file, 3, &[])?);
+    assert!(rt; has_block(file, &[7])?);
+    assert!(rt; has_block(file, &[])?);
+    assert!(rt; !has_block(file, &[8])?);
+    Ok(())
+}
+
+/// Keeps two records, each with a block.
+fn keep_two<S: Alter>(alloc: Global, file: &mut RecordFile<S>) -> Result<(), FileFault> {
+    keep(alloc, file, &[1, 2], &[7])?;
+    keep(alloc, file, &[3], &[8])?;
+    Ok(())
+}
+
+/// Looks for what `keep_two` keeps.
+fn has_two<S: Alter, R: Abort>(rt: &R, file: &mut RecordFile<S>) -> Result<(), Fail> {
+    assert_eq!(rt; file.len(), 2);
+    assert!(rt; has_record(file, 0, &[1, 2])?);
+    assert!(rt; has_record(file, 1, &[3])?);
+    assert!(rt; has_block(file, &[7])?);
+    assert!(rt; has_block(file, &[8])?);
+    Ok(())
+}
+
+/// Looks for the first of the two, and keeps the second one.
+fn go_on<S: Alter, R: Abort>(rt: &R, alloc: Global, file: &mut RecordFile<S>) -> Result<(), Fail> {
+    assert_eq!(rt; file.len(), 1);
+    assert_eq!(rt; keep(alloc, file, &[3], &[8])?, 1);
+    has_two(rt, file)
+}
+
 fn make_other(rt: &HostRuntime, path: &str) -> Result<(), sqlite::Error> {
     let mut other = Connection::open(rt, path)?;
     other.execute_batch("CREATE TABLE note (title TEXT NOT NULL) STRICT")?;
@@ -74,19 +122,7 @@ fn makes_as(rt: &HostRuntime, path: &str) -> Option<FileFault> {
 fn what_is_kept_is_read(rt: HostRuntime) -> Result<(), Fail> {
     let alloc = rt.alloc();
     let mut file = RecordFile::over(Connection::open_in_memory(alloc)?)?;
-    assert!(rt; file.is_empty());
-    assert_eq!(rt; keep(alloc, &mut file, &[1, 2], &[7])?, 0);
-    assert_eq!(rt; keep(alloc, &mut file, &[3], &[7])?, 1);
-    assert_eq!(rt; keep(alloc, &mut file, &[], &[])?, 2);
-    assert_eq!(rt; file.len(), 3);
-    assert!(rt; has_record(&mut file, 0, &[1, 2])?);
-    assert!(rt; has_record(&mut file, 1, &[3])?);
-    assert!(rt; has_record(&mut file, 2, &[])?);
-    assert!(rt; !has_record(&mut file, 3, &[])?);
-    assert!(rt; has_block(&mut file, &[7])?);
-    assert!(rt; has_block(&mut file, &[])?);
-    assert!(rt; !has_block(&mut file, &[8])?);
-    Ok(())
+    keep_and_read(&rt, alloc, &mut file)
 }
 
 #[test]
@@ -95,14 +131,11 @@ fn the_next_open_finds_it(rt: HostRuntime) -> Result<(), Fail> {
     fs::create_dir(&rt, "su_store_open")?;
     let path = "su_store_open/records.db";
     let mut file = open(&rt, path, Unknown)?;
-    keep(rt.alloc(), &mut file, &[1, 2], &[7])?;
-    keep(rt.alloc(), &mut file, &[3], &[8])?;
+    keep_two(rt.alloc(), &mut file)?;
     assert!(rt; matches!(opens_as(&rt, path), Some(FileFault::InUse)));
     drop(file);
     let mut again = open(&rt, path, Unknown)?;
-    assert_eq!(rt; again.len(), 2);
-    assert!(rt; has_record(&mut again, 1, &[3])?);
-    assert!(rt; has_block(&mut again, &[7])?);
+    has_two(&rt, &mut again)?;
     drop(again);
     fs::remove_dir_all(&rt, "su_store_open")?;
     Ok(())
@@ -180,12 +213,7 @@ fn reopen(
 fn a_file_that_was_shut_is_opened_again(rt: HostRuntime) -> Result<(), Fail> {
     let alloc = rt.alloc();
     let mut file = keep_and_reopen(alloc, Memory::new(alloc), Memory::new(alloc))?;
-    assert_eq!(rt; file.len(), 1);
-    assert!(rt; has_record(&mut file, 0, &[1, 2])?);
-    assert!(rt; has_block(&mut file, &[7])?);
-    assert_eq!(rt; keep(alloc, &mut file, &[3], &[8])?, 1);
-    assert!(rt; has_record(&mut file, 1, &[3])?);
-    Ok(())
+    go_on(&rt, alloc, &mut file)
 }
 
 #[test]
@@ -219,14 +247,10 @@ fn a_file_is_made_where_there_is_none(rt: HostRuntime) -> Result<(), Fail> {
 fn a_crash_leaves_what_was_answered(rt: HostRuntime) -> Result<(), Fail> {
     let alloc = rt.alloc();
     let mut file = over_memory(alloc, Memory::new(alloc), Memory::new(alloc))?;
-    keep(alloc, &mut file, &[1, 2], &[7])?;
-    keep(alloc, &mut file, &[3], &[8])?;
+    keep_two(alloc, &mut file)?;
     let Files { mut log, mut db } = file.into_store().close();
     log.crash();
     db.crash();
     let mut again = over_memory(alloc, log, db)?;
-    assert_eq!(rt; again.len(), 2);
-    assert!(rt; has_record(&mut again, 1, &[3])?);
-    assert!(rt; has_block(&mut again, &[8])?);
-    Ok(())
+    has_two(&rt, &mut again)
 }
