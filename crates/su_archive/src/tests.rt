@@ -95,7 +95,7 @@ impl Shelf<Memory> for Drawer {
 fn empty(alloc: Global) -> Result<ShutFile<Memory>, FileFault> {
     match RecordFile::make(over_memory(alloc)?)?.shut() {
         Ok(shut) => Ok(shut),
-        Err((fault, _)) => Err(fault),
+        Err((fault, _left)) => Err(fault),
     }
 }
 
@@ -110,7 +110,7 @@ fn open_first(alloc: Global, files: Vec<ShutFile<Memory>>) -> Result<Opened<Memo
     };
     match first.open(alloc, Options::new(7)) {
         Ok(first) => Ok(Opened { first, later }),
-        Err((fault, _)) => Err(fault),
+        Err((fault, _left)) => Err(fault),
     }
 }
 
