@@ -25,8 +25,8 @@ pub(crate) type DiskFile = FileFrom<Unknown>;
 pub(crate) enum FolderFault {
     #[error("out of memory")]
     NoMemory,
-    #[error("{0}")]
-    Unread(io::Error),
+    #[error("{path}: {error}")]
+    Unread { path: String, error: io::Error },
     #[error("{path}: {fault}")]
     File { path: String, fault: FileFault },
     #[error("{0}: the file is missing, and a later one is there; put it back")]
@@ -42,12 +42,6 @@ impl From<AllocError> for FolderFault {
 impl<T: Drop> From<AllocFailed<T>> for FolderFault {
     fn from(_refused: AllocFailed<T>) -> FolderFault {
         FolderFault::NoMemory
-    }
-}
-
-impl From<io::Error> for FolderFault {
-    fn from(error: io::Error) -> FolderFault {
-        FolderFault::Unread(error)
     }
 }
 
@@ -77,14 +71,19 @@ impl Folder<'_, '_> {
             → IsAtRest over_files files.first) }
     {
         let _ = fs::create_dir(self.rt, self.name);
-        let last = self.last()?;
+        let last = match self.last() {
+            Ok(last) => last,
+            Err(error) => return Err(self.unread(error)),
+        };
         self.check_before(last)?;
         let mut later = Vec::new(self.rt.alloc());
         for number in (1..=last).rev() {
             later.push(self.shut_file(number)?)?;
         }
         let first = self.open_file(0)?;
-        self.sync()?;
+        if let Err(error) = self.sync() {
+            return Err(self.unread(error));
+        }
         Ok(Opened { first, later })
     }
 
@@ -103,8 +102,10 @@ impl Folder<'_, '_> {
     fn check_before(&self, last: usize) -> Result<(), FolderFault> {
         for number in 0..last {
             let path = self.path(number)?;
-            if !fs::exists(self.rt, path.as_str())? {
-                return Err(FolderFault::Missing(path));
+            match fs::exists(self.rt, path.as_str()) {
+                Ok(true) => {}
+                Ok(false) => return Err(FolderFault::Missing(path)),
+                Err(error) => return Err(FolderFault::Unread { path, error }),
             }
         }
         Ok(())
@@ -128,6 +129,14 @@ impl Folder<'_, '_> {
                 path: self.path(number)?,
                 fault,
             }),
+        }
+    }
+
+    /// The fault of a folder that isn't read.
+    fn unread(&self, error: io::Error) -> FolderFault {
+        match format!(in self.rt.alloc(); "{}", self.name) {
+            Ok(path) => FolderFault::Unread { path, error },
+            Err(_) => FolderFault::NoMemory,
         }
     }
 
