@@ -536,7 +536,7 @@ def bad_backups(at):
         yield from refuses_a_copy("another_roster", room, server.port, copy, "record 1 of the copy", publics=others)
         made = backup(room, server.port, f"{at}/new", publics=others)
         yield f"another_roster_of_a_new_copy: {made}", made[::2] == ([], 1) and is_told(made[1], "record 1 of the server")
-        yield from refuses_a_copy("no_folder", room, server.port, f"{at}/nowhere/copy", f"{at}/nowhere/copy/{FILE}")
+        yield from refuses_a_copy("no_folder", room, server.port, f"{at}/nowhere/copy", f"{at}/nowhere/copy: ")
         with Keeping(room, copy):
             yield from refuses_a_copy("a_folder_in_use", room, server.port, copy, f"{copy}/{FILE}", "in use")
         made = backup(room, server.port, f"{at}/small", preexec_fn=limits(SMALL))
