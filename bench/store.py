@@ -151,9 +151,7 @@ def start(roster, store):
     started = time.monotonic()
     with storing.Keeping(roster, store, sessions=1) as server:
         took = time.monotonic() - started
-        with open(f"/proc/{server.process.pid}/status", encoding="utf-8") as file:
-            peak = next(int(line.split()[1]) for line in file if line.startswith("VmHWM"))
-        return took, peak / 1024
+        return took, serving.memory(server, "VmHWM") / 2**20
 
 
 def main():

@@ -739,6 +739,29 @@ def turns(at):
         yield "turns_end", [it.end() for it in (zero, one)] == [([], [], 0)] * 2
 
 
+TURNS = 20_000  # each of which is two steps of the server's book
+
+
+def many_turns(at):
+    """Turns that are taken and given back leave nothing in the server's memory."""
+    room = Room(at)
+    with Server(room) as server:
+        link = raw(server.port)
+        answered = {reply_to(link, request)[0] for _ in range(100) for request in (wire.GRANT, wire.GIVE)}
+        before = memory(server, "VmRSS")
+        answered |= {reply_to(link, request)[0] for _ in range(TURNS) for request in (wire.GRANT, wire.GIVE)}
+        grown = memory(server, "VmRSS") - before
+        link.close()
+        yield f"each_turn_is_taken_and_given_back: {answered}", answered == {"granted", "given"}
+        yield f"turns_stay_in_no_memory: {grown}", grown < 500_000
+
+
+def memory(server, line):
+    """How many bytes a server has in memory, now (VmRSS) or at its highest (VmHWM)."""
+    with open(f"/proc/{server.process.pid}/status", encoding="utf-8") as file:
+        return next(int(it.split()[1]) for it in file if it.startswith(line)) * 1024
+
+
 def is_free(port):
     """Whether nobody has the turn."""
     link = raw(port)
@@ -1068,7 +1091,7 @@ def same_log(seed, folder, room, client, team):
 
 PARTS = (
     walk, logs_taken_up, operations, at_once, many_users, at_a_keyboard, lines, saves, streams, faults, keys, kills, kills_at_calls, busy,
-    turns, lies, sessions, book, example, by_chance)
+    turns, many_turns, lies, sessions, book, example, by_chance)
 
 
 def main():

@@ -241,12 +241,6 @@ def large(number):
     return b"%08x" % number * 16384
 
 
-def most_memory(server):
-    """How many bytes a server had in memory at most."""
-    with open(f"/proc/{server.process.pid}/status", encoding="utf-8") as file:
-        return next(int(line.split()[1]) for line in file if line.startswith("VmHWM")) * 1024
-
-
 def fill_files(room, port):
     """Makes files of at most 1 MiB by many writes, and tells how many of these were refused."""
     refused = 0
@@ -277,7 +271,7 @@ def small_cache(at):
                 ann.end()
             # its items are put once more
             yield f"shows_to_who_has_a_log_with_{cache}", shows_files(room, server.port, "--log", log)
-            memory[cache] = most_memory(server)
+            memory[cache] = serving.memory(server, "VmHWM")
             server.kill()
         with Keeping(room, store, cache=cache) as server:
             yield f"shows_anew_with_{cache}", shows_files(room, server.port)
@@ -324,12 +318,12 @@ def several_files(at):
         yield "reads_from_both_again", reads_of(room, server.port, (0, 100, FILES[1] - 1))
         # one key doesn't sign so many
         yield "goes_on", in_files(room, server.port, 1, FILES[1], FILES[2]) == 0
-        memory.append(most_memory(server))
+        memory.append(serving.memory(server, "VmHWM"))
         server.kill()
     with Keeping(room, store, cache=1) as server:
         yield f"begins_with_three: {server.said}", b"listening" in server.said
         yield "reads_from_all", reads_of(room, server.port, (0, 100, FILES[0] + 50, FILES[1], FILES[2] - 1))
-        memory.append(most_memory(server))
+        memory.append(serving.memory(server, "VmHWM"))
         server.kill()
     yield f"then_three: {files_of(store)}", files_of(store) == ["records-1.db", "records-2.db", "records.db"]
     print(f"storing: {FILES[2] * 65536 // 1000000} MB of items in 3 files, served in {memory[1] // 1000000} MB")

@@ -1,5 +1,5 @@
 -- How a book is kept.
-use Rattle.std.specs.Prelude.{◌≡◌, ◌≢◌, ◌≤◌, ◌<◌, ◌+◌, ℕ, true, List, length, Option, None, get_or, vec_len, vec_capacity}
+use Rattle.std.specs.Prelude.{◌≡◌, ◌≢◌, ◌≤◌, ◌<◌, ◌+◌, ◌^◌, ℕ, true, List, length, Option, None, get_or}
 use Rattle.su_bytes.specs.Principal.{is_user}
 use Rattle.su_bytes.specs.Membership.{Membership}
 use Rattle.su_version.specs.Commit.{Commit}
@@ -22,18 +22,18 @@ pub record AreLast (cs : List Commit) (last : List (Option ℕ)) : Type 0 where
 
 -- what is kept so
 abbrev pub book_of : Keeping → BookState
-book_of k = record { capacity = k.capacity; roster = k.roster; journal = k.journal.items }
+book_of k = record { capacity = k.capacity; roster = k.roster; journal = k.journal }
 
--- The steps are a run, and what else is kept is what they come to. While a seat has the turn there
--- is room for the step that ends it.
+-- The steps are a run, and what else is kept is what they come to. While a seat has the turn the
+-- step that ends it can be counted.
 pub record IsKeeping (k : Keeping) : Type 0 where
   pub limit : IsCapacity k.capacity
   pub run : IsRun (book_of k)
-  pub holder : k.holder ≡ holder_of k.journal.items
-  pub end_is : IsEndOf k.roster (records_of k.journal.items) k.end
-  pub within : count_of k.journal.items ≤ k.capacity
-  pub last_is : AreLast (records_of k.journal.items) k.last.items
-  pub room : k.holder ≢ None → vec_len k.journal < vec_capacity k.journal
+  pub holder : k.holder ≡ holder_of k.journal
+  pub end_is : IsEndOf k.roster (records_of k.journal) k.end
+  pub within : count_of k.journal ≤ k.capacity
+  pub last_is : AreLast (records_of k.journal) k.last.items
+  pub room : k.holder ≢ None → length k.journal + 1 < 2 ^ 64
 
 -- what the act stores may be the next after these records, and has its number
 abbrev pub StoresNext : Membership → List Commit → Act → Type 0

@@ -7,7 +7,7 @@ ghost use Rattle.su_book.specs.declared.steps.Act.TheVariants.{Granted};
 ghost use Rattle.su_book.specs.Machine.{IsCapacity, IsRun, Asks, MayFollow, IsRefused, Tells, Stepped, with_step, records_of, count_of};
 
 use crate::events::{BookReply, Event};
-use crate::keeping::{Keeping, last_numbers, make_room};
+use crate::keeping::{Keeping, find_room, last_numbers};
 use crate::steps::{Act, Step};
 use std::alloc::{AllocError, Global};
 use std::marker::Model;
@@ -148,14 +148,14 @@ impl Book {
         }
     }
 
-    /// Adds a step that may follow. Only a grant takes memory: for itself, and for the step that
-    /// ends the turn. A refusal changes nothing.
+    /// Adds a step that may follow. It takes no memory. Only a grant can fail, where neither it nor
+    /// the step that ends the turn can be counted any more; that changes nothing.
     pub fn apply(&mut self, step: Step) -> Result<(), AllocError>
         requires follows { MayFollow self.old step }
         ensures added { OnOk result (self.new ≡ with_step self.old step) }
         ensures err { OnErr result ((self.new ≡ self.old) × (n : ℕ) × (step.act ≡ Granted n)) }
     {
-        make_room(&mut self.keeping.journal, &step.act)?;
+        find_room(&self.keeping.journal, &step.act)?;
         self.keeping.push(step);
         Ok(())
     }

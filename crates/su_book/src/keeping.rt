@@ -1,5 +1,5 @@
 // How a book is kept.
-ghost use Rattle.std.specs.Prelude.{◌≡◌, ◌≢◌, ◌≤◌, ◌<◌, ◌+◌, ◌-◌, ◌^◌, ◌⊎◌, ◌↔◌, ◌++◌, ℕ, List, [], IsTrue, IfSome, IfNone, Some, None, length, IfOk, IfErr, OnOk, OnErr, vec_len, vec_capacity};
+ghost use Rattle.std.specs.Prelude.{◌≡◌, ◌≢◌, ◌≤◌, ◌<◌, ◌+◌, ◌-◌, ◌^◌, ◌⊎◌, ◌↔◌, ◌++◌, ℕ, List, [], IsTrue, IfSome, IfNone, Some, None, length, IfOk, IfErr, OnOk, OnErr};
 ghost use Rattle.su_bytes.specs.Membership.{Membership};
 ghost use Rattle.su_bytes.specs.declared.refusals.Refusal.TheVariants.{BadKey, NoMemory};
 ghost use Rattle.su_version.specs.Commit.{Commit, commit_bytes};
@@ -10,6 +10,7 @@ ghost use Rattle.su_book.specs.Machine.{IsCapacity, MayFollow, IsUnfit, stored_b
 ghost use Rattle.su_book.specs.Kept.{AreLast, IsKeeping, book_of, StoresNext};
 
 use crate::commits::HashedCommit;
+use crate::journals::Journal;
 use crate::steps::{Act, Step};
 use std::alloc::{AllocError, Global};
 use su_bytes::{Refusal, Roster, User};
@@ -18,6 +19,9 @@ use su_chain::ChainEnd;
 /// How many users there can be.
 const USERS: usize = 64;
 
+/// From so many steps on no turn is granted, so that steps can be counted.
+const MOST_STEPS: usize = usize::MAX - 2;
+
 /// What a book keeps: how many commits it may store, the roster, the steps, and what these come to:
 /// the seat that has the turn, the end of the chain of records, and the number of each user's last
 /// one. (It has no model, so that its fields can be lent; what it means is its owner's.)
@@ -25,7 +29,7 @@ const USERS: usize = 64;
 pub(crate) struct Keeping {
     pub(crate) capacity: u64,
     pub(crate) roster: Roster,
-    pub(crate) journal: Vec<Step>,
+    pub(crate) journal: Journal,
     pub(crate) holder: Option<u16>,
     pub(crate) end: ChainEnd,
     pub(crate) last: Vec<Option<u64>>,
@@ -46,7 +50,7 @@ impl Keeping {
         Ok(Keeping {
             capacity,
             roster,
-            journal: Vec::new(alloc),
+            journal: Journal::new(),
             holder: None,
             end,
             last,
@@ -56,7 +60,7 @@ impl Keeping {
     /// Returns the number of records.
     pub fn count(&self) -> u64
         requires kept { IsKeeping self.now }
-        ensures { result ≡ count_of self.now.journal.items }
+        ensures { result ≡ count_of self.now.journal }
     {
         self.end.number()
     }
@@ -64,7 +68,7 @@ impl Keeping {
     /// Whether the seat has the turn.
     pub fn has_turn(&self, seat: u16) -> bool
         requires kept { IsKeeping self.now }
-        ensures { IsTrue result ↔ (holder_of self.now.journal.items ≡ Some seat) }
+        ensures { IsTrue result ↔ (holder_of self.now.journal ≡ Some seat) }
     {
         self.holder == Some(seat)
     }
@@ -73,9 +77,9 @@ impl Keeping {
     pub fn other_holder(&self, seat: u16) -> Option<u16>
         requires kept { IsKeeping self.now }
         ensures other { IfSome result (λ other.
-            (holder_of self.now.journal.items ≡ Some other) × (other ≢ seat)) }
+            (holder_of self.now.journal ≡ Some other) × (other ≢ seat)) }
         ensures none { IfNone result ((other : ℕ)
-            → holder_of self.now.journal.items ≡ Some other → other ≡ seat) }
+            → holder_of self.now.journal ≡ Some other → other ≡ seat) }
     {
         self.holder.filter(|holder| *holder != seat)
     }
@@ -86,8 +90,8 @@ impl Keeping {
         requires kept { IsKeeping self.now }
         ensures spelled { IfOk result (λ c. bytes.now ≡ commit_bytes c) }
         ensures next { IfOk result (λ c.
-            MayBeNext self.now.roster (records_of self.now.journal.items) c) }
-        ensures room { OnOk result (count_of self.now.journal.items < self.now.capacity) }
+            MayBeNext self.now.roster (records_of self.now.journal) c) }
+        ensures room { OnOk result (count_of self.now.journal < self.now.capacity) }
         ensures refused { IfErr result (λ e.
             (e ≡ NoMemory) ⊎ IsUnfit (book_of self.now) bytes.now e) }
     {
@@ -103,16 +107,16 @@ impl Keeping {
     pub fn push(&mut self, step: Step)
         requires kept { IsKeeping self.old }
         requires follows { MayFollow (book_of self.old) step }
-        requires room { vec_len self.old.journal < vec_capacity self.old.journal }
+        requires room { length self.old.journal + 1 < 2 ^ 64 }
         requires more { turn_after step.seat step.act ≢ None
-            → vec_len self.old.journal + 1 < vec_capacity self.old.journal }
+            → length self.old.journal + 2 < 2 ^ 64 }
         ensures kept { IsKeeping self.new }
         ensures pushed { book_of self.new ≡ with_step (book_of self.old) step }
     {
         self.holder = turn_after(step.seat, &step.act);
         add_record(&mut self.end, &self.roster, &step.act);
         set_last(&mut self.last, &step.act);
-        self.journal.push_reserved(step);
+        self.journal.push(&step);
     }
 }
 
@@ -166,19 +170,15 @@ fn set_last(last: &mut Vec<Option<u64>>, act: &Act)
     }
 }
 
-/// Takes room for a grant and for the step that ends the turn.
-pub(crate) fn make_room(journal: &mut Vec<Step>, act: &Act) -> Result<(), AllocError>
-    ensures items { journal.new.items ≡ journal.old.items }
-    ensures len { vec_len journal.new ≡ vec_len journal.old }
-    ensures capacity { vec_capacity journal.old ≤ vec_capacity journal.new }
-    ensures room { OnOk result ((n : ℕ) → act.now ≡ Granted n
-        → vec_len journal.new + 2 ≤ vec_capacity journal.new) }
+/// Sees that a grant can be counted, and the step that ends the turn.
+pub(crate) fn find_room(journal: &Journal, act: &Act) -> Result<(), AllocError>
+    ensures room { OnOk result ((n : ℕ) → act.now ≡ Granted n → length journal.now + 2 < 2 ^ 64) }
     ensures only { OnErr result ((n : ℕ) × (act.now ≡ Granted n)) }
 {
-    if let Act::Granted(_) = act {
-        journal.reserve(2)?;
+    match act {
+        Act::Granted(_) if journal.len() >= MOST_STEPS => Err(AllocError),
+        _ => Ok(()),
     }
-    Ok(())
 }
 
 /// Returns the users who have a number, ascending, each with it.

@@ -5,6 +5,7 @@
 mod books;
 mod commits;
 mod events;
+mod journals;
 mod keeping;
 mod laws;
 mod steps;
