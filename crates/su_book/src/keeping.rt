@@ -1,5 +1,5 @@
 // How a book is kept.
-ghost use Rattle.std.specs.Prelude.{◌≡◌, ◌≢◌, ◌≤◌, ◌<◌, ◌+◌, ◌-◌, ◌^◌, ◌⊎◌, ◌↔◌, ◌++◌, ℕ, List, [], IsTrue, IfSome, IfNone, Some, None, length, IfOk, IfErr, OnOk, OnErr};
+ghost use Rattle.std.specs.Prelude.{◌≡◌, ◌≢◌, ◌<◌, ◌+◌, ◌-◌, ◌^◌, ◌⊎◌, ◌↔◌, ◌++◌, ℕ, List, [], IsTrue, IfSome, IfNone, Some, None, length, IfOk, IfErr, OnOk, OnErr};
 ghost use Rattle.su_bytes.specs.Membership.{Membership};
 ghost use Rattle.su_bytes.specs.declared.refusals.Refusal.TheVariants.{BadKey, NoMemory};
 ghost use Rattle.su_version.specs.Commit.{Commit, commit_bytes};
