@@ -22,6 +22,19 @@ impl Keeper for Forgetful {
         Ok(None)
     }
 
+    fn gives_back() -> bool {
+        false
+    }
+
+    fn record(
+        &mut self,
+        _alloc: Global,
+        _number: u64,
+        _digest: Digest,
+    ) -> Result<Option<Vec<u8>>, NotKept> {
+        Ok(None)
+    }
+
     fn item(&mut self, _alloc: Global, _digest: Digest) -> Result<Option<Vec<u8>>, NotKept> {
         Ok(None)
     }

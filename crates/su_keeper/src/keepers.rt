@@ -1,5 +1,5 @@
 // What a keeper promises.
-ghost use Rattle.std.specs.Prelude.{◌≡◌, ◌∷◌, ◌++◌, List, ℕ, [], None, IfOk, IfSome, OnOk, OnErr};
+ghost use Rattle.std.specs.Prelude.{◌≡◌, ◌∷◌, ◌++◌, List, ℕ, [], true, None, IfOk, IfSome, OnOk, OnErr};
 ghost use Rattle.sha2.specs.Sha256.{sha256};
 
 use std::alloc::Global;
@@ -11,8 +11,8 @@ use su_bytes::Digest;
 pub struct NotKept;
 
 /// Keeps the records of a book, one after another, so that they outlast the process, with the items
-/// that they need. Those that it finds from an earlier process stand behind each other, and are kept anew one by one, before
-/// others come.
+/// that they need. Those that it finds from an earlier process stand behind each other, and are kept
+/// anew one by one, before others come.
 pub trait Keeper: Drop {
     // It keeps these records, the first of all that it keeps, whatever becomes of the process.
     ghost holds: { Self → List (List ℕ) → Type 0 };
@@ -37,6 +37,24 @@ pub trait Keeper: Drop {
         ensures held { (records : List (List ℕ)) → holds self.old records
             → holds self.new records }
         ensures end { IfOk result (λ found. found ≡ None → is_at_end self.new) }
+        ensures failed { OnErr result may_fail };
+
+    /// Whether records can be read back from it, so that they need no place in memory.
+    fn gives_back() -> bool
+        ensures { result ≡ true → may_fail };
+
+    /// Reads the record of a number, from 1, of those that it holds: the commit that has this
+    /// digest. `None` where it gives none back.
+    fn record(
+        &mut self,
+        alloc: Global,
+        number: u64,
+        digest: Digest,
+    ) -> Result<Option<Vec<u8>>, NotKept>
+        ensures hashes { IfOk result (λ found. IfSome found (λ commit.
+            sha256 commit.items ≡ digest)) }
+        ensures held { (records : List (List ℕ)) → holds self.old records
+            → holds self.new records }
         ensures failed { OnErr result may_fail };
 
     /// Reads the item of a digest, if it keeps one.
