@@ -2,7 +2,7 @@
 
 /// The version, and the kit that proved it (`rt version`).
 pub const LONG_VERSION: &str = "0.1.0
-proved with rattle-kit-13b logic dac8208d650f15bf";
+proved with rattle-kit-13f logic dac8208d650f15bf";
 
 pub const ABOUT: &str = "A shared file store of which each operation can be undone
 
