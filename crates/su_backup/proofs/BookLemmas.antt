@@ -11,7 +11,7 @@ use Rattle.su_book.specs.Machine.{records_of, count_of}
 use Rattle.su_message.specs.declared.requests.Request.TheVariants.{Fetch}
 use Rattle.su_message.specs.declared.replies.Reply.TheVariants.{Kept}
 use Rattle.su_client.specs.Link.{LinkState, Exchanged}
-use Rattle.su_shared.specs.declared.cells.Record.{Record}
+use Rattle.su_shared.specs.Entry.{Entry, IsShown}
 use Rattle.su_shared.specs.Seats.{SeatView, known_at}
 use Rattle.su_shared.specs.Shares.{numbered, run_records, record_bytes, Knows, EachStands}
 use Rattle.su_shared.proofs.Keeping.{length_numbered}
@@ -20,17 +20,17 @@ use Rattle.su_shared.specs.declared.seats.Kept.{Kept as SeatKept}
 use Rattle.su_backup.specs.declared.faults.BackupFault.{BackupFault}
 use Rattle.su_backup.specs.Copied.{EndsAt, GivesAll, IsLastOf, GoesOn, GivesLast, IsCopied}
 
-numbered_bytes : (n : ℕ) (cs : List Commit) (k : ℕ) (r : Record)
+numbered_bytes : (n : ℕ) (cs : List Commit) (k : ℕ) (r : Entry)
     → slice_get (numbered n cs) k ≡ Some r → slice_get (map commit_bytes cs) k ≡ Some r.bytes
 numbered_bytes n [] k r is = absurd (none-some r is)
 numbered_bytes n (c ∷ cs) zero r is =
-    ap (λ (x : Record). Some x.bytes) (same_Some (record { number = n; bytes = commit_bytes c }) r is)
+    ap (λ (x : Entry). Some x.bytes) (same_Some (record { number = n; bytes = commit_bytes c }) r is)
 numbered_bytes n (c ∷ cs) (suc k) r is = numbered_bytes (n + 1) cs k r is
 
-known_by : (steps : List Step) (known : List (Option Record)) → Knows known (run_records steps)
+known_by : (steps : List Step) (known : List (Option Entry)) → Knows known (run_records steps)
     → (m : ℕ) (bytes : List ℕ) → m < count_of steps
     → known_at known (m + 1) ≡ Some (record { number = m + 1; bytes = bytes })
-    → ((r : Record) × (m < length (run_records steps)) × (slice_get (run_records steps) m ≡ Some r)
+    → ((r : Entry) × (m < length (run_records steps)) × (slice_get (run_records steps) m ≡ Some r)
     × (get_or (run_records steps) m r ≡ r))
     ⊎ ((length (run_records steps) ≤ m) × (slice_get (run_records steps) m ≡ None))
     → slice_get (record_bytes steps) m ≡ Some bytes
@@ -41,13 +41,13 @@ known_by steps known knows m bytes within is (inl (r, inside, there, same)) =
     let same_record : record { number = m + 1; bytes = bytes } ≡ r =
     subst (λ o. IfSome o (λ x. x ≡ r)) found (knows m r there) in
     numbered_bytes 1 (records_of steps) m r there
-    ∙ ap (λ (x : Record). Some x.bytes) (sym same_record)
+    ∙ ap (λ (x : Entry). Some x.bytes) (sym same_record)
 known_by steps known knows m bytes within is (inr (past, none)) =
     let long : length (run_records steps) ≡ count_of steps = length_numbered 1 (records_of steps) in
     absurd (omega arith)
 
 -- what is known of a number is the book's record of that number
-known_record : (steps : List Step) (known : List (Option Record)) → Knows known (run_records steps)
+known_record : (steps : List Step) (known : List (Option Entry)) → Knows known (run_records steps)
     → (m : ℕ) (bytes : List ℕ) → m < count_of steps
     → known_at known (m + 1) ≡ Some (record { number = m + 1; bytes = bytes })
     → slice_get (record_bytes steps) m ≡ Some bytes
@@ -62,12 +62,13 @@ alone_knows s sorted steps same stands =
     let here : slice_get sorted k ≡ Some s = slice_get-get_or sorted k s within ∙ ap Some is in
     (stands k s here).3
 
-last_by : (n : ℕ) (t : SeatView) (a b : LinkState) (steps : List Step)
-    → Knows t.known (run_records steps) → n ≤ count_of steps → (bytes : List ℕ)
-    → Exchanged (Fetch n) a b (Kept bytes)
-    → known_at t.known n ≡ Some (record { number = n; bytes = bytes }) → GivesLast n steps a b
-last_by zero t a b steps knows few bytes gave is = absurd (none-some (record { number = 0; bytes = bytes }) is)
-last_by (suc m) t a b steps knows few bytes gave is =
+last_by : (F : Type 0) (n : ℕ) (t : SeatView) (a b : LinkState) (steps : List Step)
+    → Knows t.known (run_records steps) → n ≤ count_of steps → (bytes shown : List ℕ)
+    → Exchanged (Fetch n) a b (Kept shown) → IsShown F bytes shown
+    → known_at t.known n ≡ Some (record { number = n; bytes = bytes }) → GivesLast F n steps a b
+last_by F zero t a b steps knows few bytes shown gave same is =
+    absurd (none-some (record { number = 0; bytes = bytes }) is)
+last_by F (suc m) t a b steps knows few bytes shown gave same is =
     let next : suc m ≡ m + 1 = omega arith in
     let place : suc m - 1 ≡ m = omega arith in
     let within : m < count_of steps = omega arith in
@@ -75,24 +76,26 @@ last_by (suc m) t a b steps knows few bytes gave is =
     subst (λ n. known_at t.known n ≡ Some (record { number = n; bytes = bytes })) next is in
     inr (
       bytes,
+      shown,
       gave,
+      same,
       ap (slice_get (record_bytes steps)) place
           ∙ known_record steps t.known knows m bytes within known,
     )
 
-last_given : (s seat t : SeatView) (a b : LinkState) (steps : List Step)
+last_given : (F : Type 0) (s seat t : SeatView) (a b : LinkState) (steps : List Step)
     → Knows t.known (run_records steps) → s.kept.stored ≤ count_of steps
-    → ((n : ℕ) (r : Record) → known_at seat.known n ≡ Some r → known_at t.known n ≡ Some r)
-    → IsLastOf s a b seat → GivesLast s.kept.stored steps a b
-last_given s seat t a b steps knows few still (inl none) = inl none
-last_given s seat t a b steps knows few still (inr (bytes, gave, is)) =
-    last_by s.kept.stored t a b steps knows few bytes gave
+    → ((n : ℕ) (r : Entry) → known_at seat.known n ≡ Some r → known_at t.known n ≡ Some r)
+    → IsLastOf F s a b seat → GivesLast F s.kept.stored steps a b
+last_given F s seat t a b steps knows few still (inl none) = inl none
+last_given F s seat t a b steps knows few still (inr (bytes, shown, gave, same, is)) =
+    last_by F s.kept.stored t a b steps knows few bytes shown gave same
     (still s.kept.stored (record { number = s.kept.stored; bytes = bytes }) is)
 
-copied : (n : ℕ) (s t : SeatView) (a b : LinkState) (steps : List Step)
-    → GoesOn n a b s t → Knows t.known (run_records steps) → t.kept.stored ≡ count_of steps
-    → IsCopied n a b steps
-copied n s t a b steps g knows count =
+copied : (F : Type 0) (n : ℕ) (s t : SeatView) (a b : LinkState) (steps : List Step)
+    → GoesOn F n a b s t → Knows t.known (run_records steps) → t.kept.stored ≡ count_of steps
+    → IsCopied F n a b steps
+copied F n s t a b steps g knows count =
     let old : g.seat.kept.stored ≡ s.kept.stored = ap (λ (k : SeatKept). k.stored) g.kept in
     let all = g.copies.copies in
     let counted : count_of steps ≡ s.kept.stored + n = omega (arith, g.copies.counted) in
@@ -103,7 +106,7 @@ copied n s t a b steps g knows count =
       before = s.kept.stored;
       counted = counted;
       first = g.first;
-      shown = last_given s g.seat t a g.first steps knows few all.stores.known g.last;
+      shown = last_given F s g.seat t a g.first steps knows few all.stores.known g.last;
       records = all.records;
       number = long;
       last = g.copies.last;
@@ -118,13 +121,13 @@ copied n s t a b steps g knows count =
     }
 
 -- what a book of one seat has when it is closed, by what its seat was told
-pub copied_in : (new : Result ℕ BackupFault) (s t : SeatView) (a b : LinkState) (records : ℕ)
-    (steps : List Step) (sorted : List SeatView) → IfOk new (λ n. GoesOn n a b s t)
+pub copied_in : (F : Type 0) (new : Result ℕ BackupFault) (s t : SeatView) (a b : LinkState) (records : ℕ)
+    (steps : List Step) (sorted : List SeatView) → IfOk new (λ n. GoesOn F n a b s t)
     → IsPermutation (t ∷ []) sorted → EachStands sorted steps
     → records ≡ sum_by (λ (x : SeatView). x.kept.stored) (t ∷ []) → records ≡ count_of steps
-    → IfOk new (λ n. IsCopied n a b steps)
-copied_in (Ok n) s t a b records steps sorted goes same stands sum count =
+    → IfOk new (λ n. IsCopied F n a b steps)
+copied_in F (Ok n) s t a b records steps sorted goes same stands sum count =
     let stored : t.kept.stored ≡ count_of steps =
     omega (arith, sum_by-cons (λ (x : SeatView). x.kept.stored) t []) in
-    copied n s t a b steps goes (alone_knows t sorted steps same stands) stored
-copied_in (Err fault) s t a b records steps sorted goes same stands sum count = tt
+    copied F n s t a b steps goes (alone_knows t sorted steps same stands) stored
+copied_in F (Err fault) s t a b records steps sorted goes same stands sum count = tt

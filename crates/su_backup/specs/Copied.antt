@@ -3,7 +3,7 @@ use Rattle.std.specs.Prelude.{◌≡◌, ◌⊎◌, ◌≤◌, ◌+◌, ◌-◌,
 use Rattle.su_message.specs.declared.requests.Request.TheVariants.{Fetch}
 use Rattle.su_message.specs.declared.replies.Reply.TheVariants.{Kept, Nothing}
 use Rattle.su_client.specs.Link.{LinkState, Exchanged, MayGive}
-use Rattle.su_shared.specs.declared.cells.Record.{Record}
+use Rattle.su_shared.specs.Entry.{Entry, IsShown}
 use Rattle.su_shared.specs.Seats.{SeatView, known_at, Learns}
 use Rattle.su_shared.specs.Shares.{record_bytes}
 use Rattle.su_book.specs.declared.steps.Step.{Step}
@@ -35,7 +35,7 @@ EndsAt number a b = Exchanged (Fetch number) a b Nothing
 
 -- what the seat knows of a record, it knows from then on
 abbrev pub StillKnows : SeatView → SeatView → Type 0
-StillKnows s t = (n : ℕ) (r : Record) → known_at s.known n ≡ Some r → known_at t.known n ≡ Some r
+StillKnows s t = (n : ℕ) (r : Entry) → known_at s.known n ≡ Some r → known_at t.known n ≡ Some r
 
 -- what the seat stored and knows stays
 pub record Keeps (s t : SeatView) : Type 0 where
@@ -84,38 +84,41 @@ pub record CopiesSomeAndKeeps (a : LinkState) (s u : SeatView) : Type 0 where
   pub copies : CopiesSome a last s seat
   pub keeps : Keeps seat u
 
--- where the seat stored any, the server gives the record of the last one's number, and it is that of
--- the book; where it stored none, nothing is asked
-abbrev pub IsLastOf : SeatView → LinkState → LinkState → SeatView → Type 0
-IsLastOf s a b t =
-    ((s.kept.stored ≡ 0) × (b ≡ a)) ⊎ ((bytes : List ℕ)
-    × Exchanged (Fetch s.kept.stored) a b (Kept bytes)
+-- Where the seat stored any, the server gives the record of the last one's number, and it is that of
+-- the book; or, where a keeper has its bytes and can fail, it has its SHA-256. Where the seat stored
+-- none, nothing is asked.
+abbrev pub IsLastOf : Type 0 → SeatView → LinkState → LinkState → SeatView → Type 0
+IsLastOf may_fail s a b t =
+    ((s.kept.stored ≡ 0) × (b ≡ a)) ⊎ ((bytes shown : List ℕ)
+    × Exchanged (Fetch s.kept.stored) a b (Kept shown) × IsShown may_fail bytes shown
     × (known_at t.known s.kept.stored ≡ Some (record { number = s.kept.stored; bytes = bytes })))
 
 -- The server gives the last record that the seat stored, and then so many more, which the seat stores.
-pub record GoesOn (count : ℕ) (a b : LinkState) (s t : SeatView) : Type 0 where
+pub record GoesOn (may_fail : Type 0) (count : ℕ) (a b : LinkState) (s t : SeatView)
+    : Type 0 where
   pub first : LinkState
   pub seat : SeatView
-  pub last : IsLastOf s a first seat
+  pub last : IsLastOf may_fail s a first seat
   pub kept : seat.kept ≡ s.kept
   pub copies : CopiesAll count first b seat t
 
 -- ---- the copy
 
--- The server gives the record of this number, and it is that of the book; where the number is 0,
--- nothing is asked.
-abbrev pub GivesLast : ℕ → List Step → LinkState → LinkState → Type 0
-GivesLast number steps a b =
-    ((number ≡ 0) × (b ≡ a)) ⊎ ((bytes : List ℕ) × Exchanged (Fetch number) a b (Kept bytes)
-    × (slice_get (record_bytes steps) (number - 1) ≡ Some bytes))
+-- The server gives the record of this number, and it is that of the book; or, where a keeper has its
+-- bytes and can fail, it has its SHA-256. Where the number is 0, nothing is asked.
+abbrev pub GivesLast : Type 0 → ℕ → List Step → LinkState → LinkState → Type 0
+GivesLast may_fail number steps a b =
+    ((number ≡ 0) × (b ≡ a)) ⊎ ((bytes shown : List ℕ) × Exchanged (Fetch number) a b (Kept shown)
+    × IsShown may_fail bytes shown × (slice_get (record_bytes steps) (number - 1) ≡ Some bytes))
 
 -- The records of a book, up to some number, were there, and the server gave the last of them. It gave
 -- those behind them, so many, each under its number, and then said that there are no more.
-pub record IsCopied (count : ℕ) (a b : LinkState) (steps : List Step) : Type 0 where
+pub record IsCopied (may_fail : Type 0) (count : ℕ) (a b : LinkState) (steps : List Step)
+    : Type 0 where
   pub before : ℕ
   pub counted : count_of steps ≡ before + count
   pub first : LinkState
-  pub shown : GivesLast before steps a first
+  pub shown : GivesLast may_fail before steps a first
   pub records : List (List ℕ)
   pub number : length records ≡ count
   pub last : LinkState

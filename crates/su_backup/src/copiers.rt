@@ -1,7 +1,8 @@
 // Copying the records of a server.
-ghost use Rattle.std.specs.Prelude.{◌≡◌, true, false, IfOk, OnOk, OnErr};
+ghost use Rattle.std.specs.Prelude.{◌≡◌, true, false, IsTrue, IfOk, OnOk, OnErr};
 ghost use Rattle.su_client.specs.Link.{Exchanged, kept_or_nothing};
 ghost use Rattle.su_message.specs.declared.requests.Request.TheVariants as request;
+ghost use Rattle.su_shared.specs.Entry.{IsShown};
 ghost use Rattle.su_backup.specs.Copied.{OnlyItems, Keeps, StoresOne, CopiesOne, CopiesAll, CopiesSomeAndKeeps, IsLastOf, EndsAt};
 
 use crate::faults::BackupFault;
@@ -9,13 +10,13 @@ use std::alloc::Global;
 use std::io::{Read, Write};
 use std::marker::Model;
 use std::sync::Wait;
-use su_block::{BlockSource, Checked};
+use su_block::{BlockSource, Checked, digest_of};
 use su_bytes::Refusal;
 use su_client::Client;
 use su_keeper::Keeper;
 use su_message::Bytes;
 use su_shards::SharedBlocks;
-use su_shared::{BookName, Seat, SharedBook};
+use su_shared::{BookName, Record, Seat, SharedBook};
 use su_version::Commit;
 
 /// Copies a server's records into a shared book, from a seat that stored all that the book has, with
@@ -24,7 +25,7 @@ use su_version::Commit;
 pub struct Copier<'a, N: BookName, K: Keeper, T: Wait> {
     book: &'a SharedBook<N, K>,
     blocks: &'a SharedBlocks,
-    seat: Seat<N>,
+    seat: Seat<N, K>,
     rt: &'a T,
     alloc: Global,
 }
@@ -44,7 +45,7 @@ impl<'a, N: BookName, K: Keeper, T: Wait> Copier<'a, N, K, T> {
         alloc: Global,
         book: &'a SharedBook<N, K>,
         blocks: &'a SharedBlocks,
-        seat: Seat<N>,
+        seat: Seat<N, K>,
     ) -> Copier<'a, N, K, T>
         ensures { result ≡ seat }
     {
@@ -58,7 +59,7 @@ impl<'a, N: BookName, K: Keeper, T: Wait> Copier<'a, N, K, T> {
     }
 
     /// Hands the seat back, with which the book is closed.
-    pub fn into_seat(self) -> Seat<N>
+    pub fn into_seat(self) -> Seat<N, K>
         ensures { result ≡ self.entry }
     {
         self.seat
@@ -71,7 +72,7 @@ impl<'a, N: BookName, K: Keeper, T: Wait> Copier<'a, N, K, T> {
         &mut self,
         client: &mut Checked<Client<R, W>>,
     ) -> Result<(), BackupFault>
-        ensures same { OnOk result (IsLastOf self.old client.old.source.link
+        ensures same { OnOk result (IsLastOf K.may_fail self.old client.old.source.link
             client.new.source.link self.new) }
         ensures kept { self.new.kept ≡ self.old.kept }
     {
@@ -81,7 +82,7 @@ impl<'a, N: BookName, K: Keeper, T: Wait> Copier<'a, N, K, T> {
         }
         let shown = fetch(client, number)?;
         match (self.book.published(&mut self.seat, number), shown) {
-            (Some(held), Some(shown)) if held.bytes() == shown.as_slice() => Ok(()),
+            (Some(held), Some(shown)) if is_shown(held, shown.as_slice()) => Ok(()),
             _ => Err(BackupFault::OtherRecord { number }),
         }
     }
@@ -171,6 +172,16 @@ impl<'a, N: BookName, K: Keeper, T: Wait> Copier<'a, N, K, T> {
             Ok(_) => Err(BackupFault::NotKept { number }),
             Err(refusal) => Err(BackupFault::taking(number, refusal)),
         }
+    }
+}
+
+/// Whether these bytes are those of a record; where they aren't in its cell, they have its SHA-256.
+fn is_shown<K: Keeper>(held: &Record<K>, shown: &[u8]) -> bool
+    ensures { IsTrue result → IsShown K.may_fail held.now.bytes shown.now }
+{
+    match held.bytes() {
+        Some(bytes) => bytes == shown,
+        None => digest_of(shown) == held.digest(),
     }
 }
 

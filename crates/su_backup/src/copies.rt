@@ -56,7 +56,7 @@ where
     ensures records { IfOk result (λ c. c.closed.records ≡ count_of c.closed.book.journal) }
     ensures holds { IfOk result (λ c.
         ∥ K.holds c.closed.keeper (record_bytes c.closed.book.journal) ∥₁) }
-    ensures copied { IfOk result (λ c. IfOk c.new (λ n. IsCopied n client.old.source.link
+    ensures copied { IfOk result (λ c. IfOk c.new (λ n. IsCopied K.may_fail n client.old.source.link
         client.new.source.link c.closed.book.journal)) }
     ensures refused { IfErr result (λ f.
         ((f ≡ Refused BadKey) × HasBadKey roster) ⊎ (f ≡ Refused NoMemory)
@@ -72,7 +72,7 @@ fn copy_named<N, K, T, R, W>(
     rt: &T,
     alloc: Global,
     client: &mut Checked<Client<R, W>>,
-    cells: Cells,
+    cells: Cells<K>,
     roster: Roster,
     blank: Blank,
     blocks: &SharedBlocks,
@@ -92,7 +92,7 @@ where
     ensures records { IfOk result (λ c. c.closed.records ≡ count_of c.closed.book.journal) }
     ensures holds { IfOk result (λ c.
         ∥ K.holds c.closed.keeper (record_bytes c.closed.book.journal) ∥₁) }
-    ensures copied { IfOk result (λ c. IfOk c.new (λ n. IsCopied n client.old.source.link
+    ensures copied { IfOk result (λ c. IfOk c.new (λ n. IsCopied K.may_fail n client.old.source.link
         client.new.source.link c.closed.book.journal)) }
     ensures refused { IfErr result (λ f.
         ((f ≡ Refused BadKey) × HasBadKey roster) ⊎ (f ≡ Refused NoMemory)
@@ -115,7 +115,7 @@ fn copy_behind<N: BookName, K: Keeper, T: Wait, R: Read + Drop, W: Write + Drop>
     copier: &mut Copier<'_, N, K, T>,
     client: &mut Checked<Client<R, W>>,
 ) -> Result<u64, BackupFault>
-    ensures { IfOk result (λ n. GoesOn n client.old.source.link client.new.source.link
+    ensures { IfOk result (λ n. GoesOn K.may_fail n client.old.source.link client.new.source.link
         copier.old copier.new) }
 {
     copier.check_last(client)?;

@@ -99,7 +99,7 @@ fn serve_named<N, K, R, I, L, G>(
     alloc: Global,
     sessions: I,
     workers: usize,
-    cells: Cells,
+    cells: Cells<K>,
     roster: Roster,
     blank: Blank,
     blocks: &SharedBlocks,
@@ -150,9 +150,9 @@ fn serve_at<N, K, R, I, L, G>(
     workers: usize,
     book: &SharedBook<N, K>,
     blocks: &SharedBlocks,
-    first: Seat<N>,
+    first: Seat<N, K>,
     gate: &G,
-) -> Result<(Vec<Served>, Vec<Seat<N>>), Refusal>
+) -> Result<(Vec<Served>, Vec<Seat<N, K>>), Refusal>
 where
     N: BookName + Send,
     K: Keeper + Send,
@@ -186,7 +186,7 @@ fn services_of<'a, N: BookName, K: Keeper, R: Wait, G: Gate>(
     workers: usize,
     book: &'a SharedBook<N, K>,
     blocks: &'a SharedBlocks,
-    first: Seat<N>,
+    first: Seat<N, K>,
     gate: &'a G,
 ) -> Result<Services<'a, N, K, R, G>, Refusal>
     requires { 1 ≤ workers }
@@ -217,7 +217,7 @@ fn services_of<'a, N: BookName, K: Keeper, R: Wait, G: Gate>(
 fn seats_of<N: BookName, K: Keeper, R: Wait, G: Gate>(
     alloc: Global,
     services: Services<'_, N, K, R, G>,
-) -> Result<Vec<Seat<N>>, Refusal>
+) -> Result<Vec<Seat<N, K>>, Refusal>
     ensures { IfErr result (λ e. e ≡ NoMemory) }
 {
     let mut seats = Vec::new(alloc);

@@ -1,5 +1,7 @@
 -- Records of a book, each with its number. (This project's own.)
-use Rattle.std.specs.Prelude.{◌≡◌, ℕ, List}
+use Rattle.std.specs.Prelude.{◌≡◌, ◌⊎◌, ℕ, List, Option, Some, None}
+use Rattle.std.specs.Global.{Vec}
+use Rattle.sha2.specs.Sha256.{sha256}
 use Rattle.su_version.specs.Commit.{Commit, IsCommit, commit_bytes}
 
 -- what contracts see of a record: its number, from 1, and the bytes of its commit
@@ -11,3 +13,14 @@ pub record Entry : Type 0 where
 abbrev pub IsBy : List ℕ → ℕ → Type 0
 IsBy bytes author =
     (c : Commit) × IsCommit c × (bytes ≡ commit_bytes c) × (author ≡ c.version.author)
+
+-- What the cell of a record has of these bytes, its own: all of them; or none, where they are read
+-- back from a keeper that can fail.
+abbrev pub IsHere : Type 0 → List ℕ → Option (Vec ℕ) → Type 0
+IsHere may_fail bytes None = may_fail
+IsHere may_fail bytes (Some here) = here.items ≡ bytes
+
+-- What is shown of a record with these bytes: them; or, where they were read back from a keeper that
+-- can fail, bytes with their SHA-256.
+abbrev pub IsShown : Type 0 → List ℕ → List ℕ → Type 0
+IsShown may_fail bytes shown = (shown ≡ bytes) ⊎ (may_fail × (sha256 shown ≡ sha256 bytes))

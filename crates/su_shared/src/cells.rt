@@ -1,11 +1,11 @@
 // The row of cells, one for each record, which are read without the lock.
-ghost use Rattle.std.specs.Prelude.{◌≡◌, ℕ, ◌<◌, ◌-◌, ◌≤◌, length, replicate, None, ◌⊎◌, IfErr, IfOk, slice_get, Some};
+ghost use Rattle.std.specs.Prelude.{◌≡◌, ℕ, ◌<◌, ◌-◌, ◌≤◌, length, replicate, None, ◌⊎◌, IfErr, IfOk, IfSome, IfNone, slice_get, Some};
 ghost use Rattle.once_cell.specs.Once.{cell_name};
 ghost use Rattle.sha2.specs.Sha256.{sha256};
 ghost use Rattle.su_bytes.specs.declared.refusals.Refusal.TheVariants.{NoMemory, BookFull, BadNumber};
 ghost use Rattle.su_version.specs.Commit.{commit_bytes};
 ghost use Rattle.su_book.specs.Machine.{IsCapacity};
-ghost use Rattle.su_shared.specs.Entry.{IsBy};
+ghost use Rattle.su_shared.specs.Entry.{IsBy, IsHere};
 ghost use Rattle.su_shared.specs.Seats.{names_of, known_of};
 ghost use Rattle.su_shared.specs.Shares.{HoldsLast};
 
@@ -13,45 +13,59 @@ use crate::notes::Receipt;
 use once_cell::race::{Note, OnceBox};
 use std::alloc::{AllocError, Global};
 use std::marker::{Brand, Model};
+use std::snapshot::Snapshot;
 use std::sync::ledger::Ledger;
 use su_book::{HashedCommit, MOST_RECORDS};
 use su_bytes::{Digest, Refusal, User};
 use su_keeper::Keeper;
 
-/// A record of the book: the bytes of a commit, with its number, from 1, and what is asked of it
-/// often. Its model is the number and the bytes.
+/// A record of the book: a commit, with its number, from 1, and what is asked of it often. Its bytes
+/// are here, unless the keeper gives them back. Its model is the number and the bytes.
 #[derive(Drop)]
-pub struct Record {
+pub struct Record<K: Keeper> {
     number: u64,
     author: User,
     digest: Digest,
-    bytes: Vec<u8>,
+    here: Option<Vec<u8>>,
+    spelled: Snapshot<Vec<u8>>,
+    keeper: Snapshot<K>,
 }
 
-impl Model for Record {
+impl<K: Keeper> Model for Record<K> {
     ghost use Rattle.std.specs.Prelude.{◌≡◌};
     ghost use Rattle.sha2.specs.Sha256.{sha256};
-    ghost use Rattle.su_shared.specs.Entry.{Entry, IsBy};
+    ghost use Rattle.su_shared.specs.Entry.{Entry, IsBy, IsHere};
 
     ghost Value = { Entry };
 
-    ghost view = { λ r. record { number = r.number; bytes = r.bytes.items } };
+    ghost view = { λ r. record { number = r.number; bytes = r.spelled.value.items } };
 
-    ghost invariant = { λ r. IsBy r.bytes.items r.author × (r.digest ≡ sha256 r.bytes.items) };
+    ghost invariant = { λ r. IsBy r.spelled.value.items r.author
+        × (r.digest ≡ sha256 r.spelled.value.items)
+        × IsHere K.may_fail r.spelled.value.items r.here };
 }
 
-impl Record {
-    /// Makes the record of a commit by its bytes.
-    pub(crate) fn new(number: u64, bytes: Vec<u8>, commit: &HashedCommit) -> Record
-        requires { bytes.items ≡ commit_bytes commit.now }
-        ensures { result ≡ record { number = number; bytes = bytes.items } }
+impl<K: Keeper> Record<K> {
+    /// Makes the record of a commit by its bytes, which this keeper is to keep. Fails where there is
+    /// no memory for a copy of them, and needs none where the keeper gives them back.
+    pub(crate) fn new(
+        alloc: Global,
+        number: u64,
+        bytes: &Vec<u8>,
+        commit: &HashedCommit,
+        keeper: &K,
+    ) -> Result<Record<K>, AllocError>
+        requires { bytes.now.items ≡ commit_bytes commit.now }
+        ensures { IfOk result (λ r. r ≡ record { number = number; bytes = bytes.now.items }) }
     {
-        Record {
+        Ok(Record {
             number,
             author: commit.author(),
             digest: commit.digest(),
-            bytes,
-        }
+            here: copy_for_cell::<K>(alloc, bytes)?,
+            spelled: Snapshot::of(bytes),
+            keeper: Snapshot::of(keeper),
+        })
     }
 
     /// Returns the number.
@@ -75,12 +89,30 @@ impl Record {
         self.digest
     }
 
-    /// Lends the bytes of the commit.
-    pub fn bytes(&self) -> &[u8]
-        ensures { result.now ≡ self.now.bytes }
+    /// Lends the bytes of the commit. `None` where they are read back from the keeper
+    /// (`SharedBook::record`), which can fail then.
+    pub fn bytes(&self) -> Option<&[u8]>
+        ensures some { IfSome result (λ bytes. bytes.now ≡ self.now.bytes) }
+        ensures none { IfNone result K.may_fail }
     {
-        self.bytes.as_slice()
+        match &self.here {
+            Some(bytes) => Some(bytes.as_slice()),
+            None => None,
+        }
     }
+}
+
+/// Copies the bytes of a record for its cell, unless the keeper gives them back.
+fn copy_for_cell<K: Keeper>(
+    alloc: Global,
+    bytes: &Vec<u8>,
+) -> Result<Option<Vec<u8>>, AllocError>
+    ensures { IfOk result (IsHere K.may_fail bytes.now.items) }
+{
+    if K::gives_back() {
+        return Ok(None);
+    }
+    Ok(Some(Vec::from_slice(alloc, bytes.as_slice())?))
 }
 
 /// Names the cells of one book, and the ledger of its steps. Each run of a program picks them.
@@ -98,11 +130,11 @@ impl BookName for Brand {
 
 /// A row of cells, one for each record that a book may store. Its model is their names.
 #[derive(Drop)]
-pub struct Cells {
-    cells: Vec<OnceBox<Record>>,
+pub struct Cells<K: Keeper> {
+    cells: Vec<OnceBox<Record<K>>>,
 }
 
-impl Model for Cells {
+impl<K: Keeper> Model for Cells<K> {
     ghost use Rattle.std.specs.Prelude.{List, ℕ, map};
     ghost use Rattle.once_cell.specs.Once.{cell_name};
 
@@ -111,10 +143,10 @@ impl Model for Cells {
     ghost view = { λ c. map cell_name c.cells.items };
 }
 
-impl Cells {
+impl<K: Keeper> Cells<K> {
     /// Makes the cells of a book that may store so many commits. `BadNumber` where they aren't 1 to
     /// 1,000,000; else only `NoMemory`.
-    pub fn new(alloc: Global, capacity: u64) -> Result<Cells, Refusal>
+    pub fn new(alloc: Global, capacity: u64) -> Result<Cells<K>, Refusal>
         ensures length { IfOk result (λ cells. length cells ≡ capacity) }
         ensures refused { IfErr result (λ e.
             ((e ≡ BadNumber) × ¬ IsCapacity capacity) ⊎ (e ≡ NoMemory)) }
@@ -139,7 +171,7 @@ impl Cells {
     }
 
     /// Makes a new note for each cell.
-    pub(crate) fn notes(&self, alloc: Global) -> Result<Vec<Note<Record>>, AllocError>
+    pub(crate) fn notes(&self, alloc: Global) -> Result<Vec<Note<Record<K>>>, AllocError>
         ensures { IfOk result (λ notes. (names_of notes.items ≡ self.now)
             × (known_of notes.items ≡ replicate (length self.now) None)) }
     {
@@ -152,11 +184,11 @@ impl Cells {
 
     /// Sets the cell of a record that the keeper holds, and gives a receipt for it. `BookFull` where
     /// the cell doesn't take it.
-    pub(crate) fn publish<N: BookName, K: Keeper>(
+    pub(crate) fn publish<N: BookName>(
         &self,
         keeper: &K,
-        entry: Box<Record>,
-    ) -> Result<Receipt<N>, Refusal>
+        entry: Box<Record<K>>,
+    ) -> Result<Receipt<N, K>, Refusal>
         requires cells { self.now ≡ N.cells }
         requires number { (0 < entry.value.number) × (entry.value.number ≤ length N.cells) }
         requires kept { HoldsLast K.holds keeper.now entry.value.bytes }
@@ -173,7 +205,7 @@ impl Cells {
     }
 
     /// Lends the cell at this index.
-    pub(crate) fn cell(&self, index: usize) -> &OnceBox<Record>
+    pub(crate) fn cell(&self, index: usize) -> &OnceBox<Record<K>>
         requires { index < length self.now }
         ensures { slice_get self.now index ≡ Some (cell_name result.now) }
     {

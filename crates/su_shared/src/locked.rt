@@ -19,7 +19,7 @@ use su_keeper::Keeper;
 /// order.
 #[derive(Drop)]
 pub(crate) struct Locked<N: BookName, K: Keeper> {
-    pub(crate) held: Held<N>,
+    pub(crate) held: Held<N, K>,
     pub(crate) keeper: K,
     ghost kept: { ∥ K.holds keeper (record_bytes held.book.journal) ∥₁ },
 }
@@ -30,8 +30,8 @@ impl<N: BookName, K: Keeper> Locked<N, K> {
     pub(crate) fn take_up(
         &mut self,
         alloc: Global,
-        cells: &Cells,
-        seat: &mut Seat<N>,
+        cells: &Cells<K>,
+        seat: &mut Seat<N, K>,
     ) -> Result<u64, BookFault>
         requires cells { cells.now ≡ N.cells }
         requires none { self.old.held.book.journal ≡ [] }
@@ -59,8 +59,8 @@ impl<N: BookName, K: Keeper> Locked<N, K> {
     fn take_one(
         &mut self,
         alloc: Global,
-        cells: &Cells,
-        seat: &mut Seat<N>,
+        cells: &Cells<K>,
+        seat: &mut Seat<N, K>,
     ) -> Result<Option<u64>, Refusal>
         requires cells { cells.now ≡ N.cells }
         ensures end { IfOk result (λ o. IfNone o (K.is_at_end self.new.keeper)) }
@@ -91,6 +91,24 @@ impl<N: BookName, K: Keeper> Locked<N, K> {
             unreachable!()
         };
         Ok(Some(number))
+    }
+
+    /// Reads the record of a number, of this digest, back from the keeper. `SourceFailed` where it
+    /// fails, or doesn't give it back.
+    pub(crate) fn record(
+        &mut self,
+        alloc: Global,
+        number: u64,
+        digest: Digest,
+    ) -> Result<Vec<u8>, Refusal>
+        ensures hashes { IfOk result (λ commit. sha256 commit.items ≡ digest) }
+        ensures refused { IfErr result (λ e. e ≡ SourceFailed) }
+        ensures held { self.new.held ≡ self.old.held }
+    {
+        let Ok(Some(commit)) = self.keeper.record(alloc, number, digest) else {
+            return Err(Refusal::SourceFailed);
+        };
+        Ok(commit)
     }
 
     /// Reads the item of a digest, if the keeper keeps one. `SourceFailed` where it fails.

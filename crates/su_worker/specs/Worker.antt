@@ -13,7 +13,7 @@ use Rattle.su_message.specs.declared.requests.Request.TheVariants as request
 use Rattle.su_message.specs.declared.replies.Reply.{Reply}
 use Rattle.su_message.specs.declared.replies.Reply.TheVariants as reply
 use Rattle.su_session.specs.Answer.{refusal_reply}
-use Rattle.su_shared.specs.declared.cells.Record.{Record}
+use Rattle.su_shared.specs.Entry.{Entry, IsShown}
 use Rattle.su_shared.specs.Seats.{SeatView, known_at, Learns}
 use Rattle.su_shared.specs.Shares.{after_grant, after_commit, after_give, learned, IsGrantRefusal, IsCommitRefusal, IsGiveRefusal, MayMeet}
 
@@ -23,7 +23,7 @@ use Rattle.su_shared.specs.Shares.{after_grant, after_commit, after_give, learne
 -- seat knows the newest one from then on.
 pub record Grants (s : SeatView) (r : Reply) (t : SeatView) : Type 0 where
   pub records : List Commit
-  pub newest : Option Record
+  pub newest : Option Entry
   pub reply_is : r ≡ reply.Granted (length records) (last_numbers records)
   pub fresh : s.kept.top ≤ length records
   pub newest_is : MatchOption newest (length records ≡ 0) (λ x. x.number ≡ length records)
@@ -37,7 +37,7 @@ pub record Grants (s : SeatView) (r : Reply) (t : SeatView) : Type 0 where
 -- The commit of these bytes is stored, under a number above all that the seat was told before. The
 -- seat had the turn, and hasn't any more; it knows this record from then on.
 pub record Stores (s : SeatView) (bytes : List ℕ) (r : Reply) (t : SeatView) : Type 0 where
-  pub stored : Record
+  pub stored : Entry
   pub bytes_are : stored.bytes ≡ bytes
   pub reply_is : r ≡ reply.Stored stored.number
   pub fresh : s.kept.top < stored.number
@@ -65,15 +65,30 @@ pub record Meets (s : SeatView) (grant : Bool) (IsReason : Refusal → Type 0) (
   pub reply_is : r ≡ refusal_reply refusal
   pub same : t ≡ s
 
+-- ---- what is kept elsewhere
+
+-- it couldn't be read, where that may be
+abbrev pub FailsToRead : Type 0 → Reply → Type 0
+FailsToRead may_fail r = (r ≡ refusal_reply SourceFailed) × may_fail
+
 -- ---- records
 
+-- What is told of a record with these bytes: they are the reply, unless there is no memory for them.
+-- Where the keeper has them, and can fail, it may fail; and it may show other bytes, but of the same
+-- SHA-256.
+abbrev pub Tells : Type 0 → List ℕ → Reply → Type 0
+Tells may_fail bytes r =
+    ((shown : List ℕ) × (r ≡ reply.Kept shown) × IsShown may_fail bytes shown)
+    ⊎ ((r ≡ refusal_reply NoMemory) ⊎ FailsToRead may_fail r)
+
 -- The record of this number is read, which is the one that the seat knew, if it knew any, and which
--- it knows from then on. Its bytes are the reply, unless there is no memory for them.
-pub record Reads (s : SeatView) (number : ℕ) (r : Reply) (t : SeatView) : Type 0 where
-  pub found : Record
+-- it knows from then on, and is told of.
+pub record Reads (may_fail : Type 0) (s : SeatView) (number : ℕ) (r : Reply) (t : SeatView)
+    : Type 0 where
+  pub found : Entry
   pub numbered : found.number ≡ number
   pub agrees : Agrees (known_at s.known number) found
-  pub reply_is : (r ≡ reply.Kept found.bytes) ⊎ (r ≡ refusal_reply NoMemory)
+  pub told : Tells may_fail found.bytes r
   pub seat : t ≡ record { number = s.number; kept = s.kept; known = learned s.known (Some found) }
   pub learns : Learns s.known found t.known
 
@@ -96,10 +111,6 @@ Gets digest r =
     ((item : List ℕ) × (r ≡ reply.Item item) × (sha256 item ≡ digest))
     ⊎ ((r ≡ refusal_reply MissingBlock) ⊎ (r ≡ refusal_reply NoMemory))
 
--- the item is kept elsewhere, and couldn't be read, where that may be
-abbrev pub FailsToRead : Type 0 → Reply → Type 0
-FailsToRead may_fail r = (r ≡ refusal_reply SourceFailed) × may_fail
-
 -- ---- all requests
 
 -- What may be answered, where keeping and reading may fail so: the seat before it, the request, the
@@ -109,6 +120,6 @@ Answers may_fail s request.Grant r t = Grants s r t ⊎ Meets s true IsGrantRefu
 Answers may_fail s (request.Commit bytes) r t =
     Stores s bytes r t ⊎ Meets s false (IsCommitRefusal may_fail s.number bytes) r t
 Answers may_fail s request.Give r t = HandsBack s r t ⊎ Meets s false IsGiveRefusal r t
-Answers may_fail s (request.Fetch n) r t = Reads s n r t ⊎ FindsNothing s n r t
+Answers may_fail s (request.Fetch n) r t = Reads may_fail s n r t ⊎ FindsNothing s n r t
 Answers may_fail s (request.Put item) r t = Puts (is_item item) item r × (t ≡ s)
 Answers may_fail s (request.Get digest) r t = (Gets digest r ⊎ FailsToRead may_fail r) × (t ≡ s)

@@ -129,8 +129,8 @@ fn served_at<N: BookName, R: Wait + Abort, G: Gate>(
     alloc: Global,
     book: &SharedBook<N, Forgetful>,
     gate: &G,
-    seat: Seat<N>,
-) -> Result<(Served, Seat<N>), Fail> {
+    seat: Seat<N, Forgetful>,
+) -> Result<(Served, Seat<N, Forgetful>), Fail> {
     let blocks = SharedBlocks::new(alloc)?;
     let mut service = Gated::new(Worker::new(rt, book, &blocks, seat), gate);
     service.begin(3);
@@ -141,7 +141,7 @@ fn served_at<N: BookName, R: Wait + Abort, G: Gate>(
 fn try_worker<N: BookName, R: Wait + Abort>(
     rt: &R,
     alloc: Global,
-    cells: Cells,
+    cells: Cells<Forgetful>,
     roster: Roster,
     blank: Blank,
 ) -> Result<(), Fail>
@@ -197,6 +197,19 @@ impl Keeper for GivesOnce {
         Ok(None)
     }
 
+    fn gives_back() -> bool {
+        false
+    }
+
+    fn record(
+        &mut self,
+        _alloc: Global,
+        _number: u64,
+        _digest: Digest,
+    ) -> Result<Option<Vec<u8>>, NotKept> {
+        Ok(None)
+    }
+
     fn item(&mut self, alloc: Global, digest: Digest) -> Result<Option<Vec<u8>>, NotKept> {
         let Ok(item) = Vec::from_slice(alloc, b"kept") else {
             return Ok(None);
@@ -222,7 +235,7 @@ fn is_answered<S: Service>(alloc: Global, service: &mut S, digest: Digest, item:
 fn try_kept_item<N: BookName, R: Wait + Abort>(
     rt: &R,
     alloc: Global,
-    cells: Cells,
+    cells: Cells<GivesOnce>,
     roster: Roster,
     blank: Blank,
 ) -> Result<(), Fail>

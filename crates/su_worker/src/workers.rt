@@ -1,10 +1,11 @@
 // The service of a worker.
 ghost use Rattle.std.specs.Prelude.{◌≡◌, ◌⊎◌, IfOk, IfErr};
 ghost use Rattle.sha2.specs.Sha256.{sha256};
-ghost use Rattle.su_bytes.specs.declared.refusals.Refusal.TheVariants.{MissingBlock, SourceFailed};
+ghost use Rattle.su_bytes.specs.declared.refusals.Refusal.TheVariants.{MissingBlock, SourceFailed, NoMemory};
 ghost use Rattle.su_message.specs.declared.requests.Request.TheVariants as request;
 ghost use Rattle.su_service.specs.Kept.{said};
-ghost use Rattle.su_worker.specs.Worker.{Answers};
+ghost use Rattle.su_shared.specs.Entry.{IsShown};
+ghost use Rattle.su_worker.specs.Worker.{Answers, Tells};
 
 use std::alloc::Global;
 use std::marker::Model;
@@ -15,7 +16,7 @@ use su_message::{Bytes, Reply, Request};
 use su_service::{reply_or_refusal, told};
 use su_session::Service;
 use su_shards::SharedBlocks;
-use su_shared::{BookName, Seat, SharedBook};
+use su_shared::{BookName, Record, Seat, SharedBook};
 
 /// A service over a book and items that are shared, which asks the book from a seat of its own. Its
 /// model is that seat.
@@ -23,7 +24,7 @@ use su_shared::{BookName, Seat, SharedBook};
 pub struct Worker<'a, N: BookName, K: Keeper, R: Wait> {
     book: &'a SharedBook<N, K>,
     blocks: &'a SharedBlocks,
-    seat: Seat<N>,
+    seat: Seat<N, K>,
     rt: &'a R,
 }
 
@@ -41,7 +42,7 @@ impl<'a, N: BookName, K: Keeper, R: Wait> Worker<'a, N, K, R> {
         rt: &'a R,
         book: &'a SharedBook<N, K>,
         blocks: &'a SharedBlocks,
-        seat: Seat<N>,
+        seat: Seat<N, K>,
     ) -> Worker<'a, N, K, R>
         ensures { result ≡ seat }
     {
@@ -54,7 +55,7 @@ impl<'a, N: BookName, K: Keeper, R: Wait> Worker<'a, N, K, R> {
     }
 
     /// Hands the seat back, with which the book is closed.
-    pub fn into_seat(self) -> Seat<N>
+    pub fn into_seat(self) -> Seat<N, K>
         ensures { result ≡ self.entry }
     {
         self.seat
@@ -72,6 +73,7 @@ impl<'a, N: BookName, K: Keeper, R: Wait> Worker<'a, N, K, R> {
     {
         let bytes = commit.as_slice();
         let (number, _receipt) = self.book.commit(self.rt, alloc, &mut self.seat, bytes)?;
+        self.share_record(alloc, bytes);
         Ok(Reply::Stored(number))
     }
 
@@ -88,8 +90,52 @@ impl<'a, N: BookName, K: Keeper, R: Wait> Worker<'a, N, K, R> {
         let Some(found) = self.book.published(&mut self.seat, number) else {
             return Ok(Reply::Nothing);
         };
-        let copy = Bytes::copy_of(alloc, found.bytes())?;
-        Ok(Reply::Kept(copy))
+        self.tell(alloc, found)
+    }
+
+    /// Tells the bytes of a record.
+    fn tell(&self, alloc: Global, found: &Record<K>) -> Result<Reply, Refusal>
+        ensures { Tells K.may_fail found.now.bytes (said result) }
+    {
+        let commit = self.bytes_of(alloc, found)?;
+        Ok(Reply::Kept(commit))
+    }
+
+    /// Gets the bytes of a record. `NoMemory`; `SourceFailed` where they aren't in its cell and the
+    /// keeper fails.
+    fn bytes_of(&self, alloc: Global, found: &Record<K>) -> Result<Bytes, Refusal>
+        ensures shown { IfOk result (IsShown K.may_fail found.now.bytes) }
+        ensures refused { IfErr result (λ e.
+            (e ≡ NoMemory) ⊎ ((e ≡ SourceFailed) × K.may_fail)) }
+    {
+        match found.bytes() {
+            Some(bytes) => Ok(Bytes::copy_of(alloc, bytes)?),
+            None => Ok(Bytes::new(self.kept_record(alloc, found)?)),
+        }
+    }
+
+    /// Gets the bytes of a record that aren't in its cell: from the shared items, or else from the
+    /// book's keeper, and then they are shared. `NoMemory`; `SourceFailed` where the keeper fails.
+    fn kept_record(&self, alloc: Global, found: &Record<K>) -> Result<Vec<u8>, Refusal>
+        ensures hashes { IfOk result (λ commit.
+            sha256 commit.items ≡ sha256 found.now.bytes) }
+        ensures refused { IfErr result (λ e. (e ≡ NoMemory) ⊎ (e ≡ SourceFailed)) }
+    {
+        match self.blocks.get(self.rt, alloc, found.digest()) {
+            Ok(commit) => return Ok(commit),
+            Err(Refusal::MissingBlock) => {}
+            Err(refusal) => return Err(refusal),
+        }
+        let commit = self.book.record(self.rt, alloc, found)?;
+        self.share_record(alloc, commit.as_slice());
+        Ok(commit)
+    }
+
+    /// Shares the bytes of a record that the keeper gives back, where there is room for them.
+    fn share_record(&self, alloc: Global, commit: &[u8]) {
+        if K::gives_back() {
+            let _ = self.blocks.share(self.rt, alloc, commit);
+        }
     }
 
     fn put(&self, alloc: Global, item: &Bytes) -> Result<Reply, Refusal>

@@ -23,7 +23,7 @@ returns-clause-copied g c =
     let all : c.in-Ok.seats.items ≡ seat ∷ [] =
     c.in-Ok.ensures.items ∙ ap (λ (s : SeatView). s ∷ []) c.into_seat.ensures in
     let total = ap (sum_by (λ (s : SeatView). s.kept.stored)) all in
-    copied_in c.copy_behind-new.result c.new-copier.result seat c.args.client.now.source.link
+    copied_in g.K.Keeper.may_fail c.copy_behind-new.result c.new-copier.result seat c.args.client.now.source.link
     c.copy_behind-new.new.client.source.link c.in-Ok-close.closed.records
     c.in-Ok-close.closed.book.journal sorted c.copy_behind-new.ensures
     (subst (λ seats. IsPermutation seats sorted) all same) stands

@@ -9,12 +9,12 @@ returns-in_default-keep-clause-held g c = λ records held. ∥∥₁_map held (c
 
 pub publish-requires-clause-kept : goal.publish-requires-clause-kept
 publish-requires-clause-kept g c =
-    kept_last g.K.Keeper.holds c.args.keeper.now c.keep.new.self c.in-Ok.entry.value.bytes c.bytes.result.now c.requires.holds c.in-Ok-keep.ensures.kept (search rules)
+    kept_last g.K.Keeper.holds c.args.keeper.now c.keep.new.self c.in-Ok.entry.value.bytes c.as_slice.result.now c.requires.holds c.in-Ok-keep.ensures.kept (search rules)
 
 pub returns-in_default-publish-clause-held : goal.returns-in_default-publish-clause-held
 returns-in_default-publish-clause-held g c = λ records held. ∥∥₁_map held (λ h. c.stop.ensures.held records _ (c.in-Ok-keep.ensures.kept records h))
 
 pub returns-clause-kept : goal.returns-clause-kept
 returns-clause-kept g c = λ records held n d is.
-    let same : c.bytes.result.now ≡ commit_bytes d = search rules in
+    let same : c.as_slice.result.now ≡ commit_bytes d = search rules in
     ∥∥₁_map held (λ h. subst (λ (b : List ℕ). g.K.Keeper.holds c.keep.new.self (records ++ b ∷ [])) same (c.in-Ok-keep.ensures.kept records h))
