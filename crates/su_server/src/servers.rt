@@ -141,6 +141,7 @@ where
     Ok(Report { sessions, closed })
 }
 
+#[tactic(auto, using(crate::proofs::Sharing::cells_are_shared))]
 /// Serves all sessions over this book, whose first seat is that of the first worker, and hands the
 /// workers' seats back.
 fn serve_at<N, K, R, I, L, G>(

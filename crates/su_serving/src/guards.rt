@@ -121,6 +121,23 @@ impl<'a, 'f, 'n, K: Keeper + HasFiles> Keeper for Guard<'a, 'f, 'n, K> {
         found
     }
 
+    fn gives_back() -> bool {
+        K::gives_back()
+    }
+
+    fn record(
+        &mut self,
+        alloc: Global,
+        number: u64,
+        digest: Digest,
+    ) -> Result<Option<Vec<u8>>, NotKept> {
+        let found = self.keeper.record(alloc, number, digest);
+        if found.is_err() {
+            self.alarm();
+        }
+        found
+    }
+
     fn item(&mut self, alloc: Global, digest: Digest) -> Result<Option<Vec<u8>>, NotKept> {
         let found = self.keeper.item(alloc, digest);
         if found.is_err() {

@@ -4,3 +4,4 @@ pub mod Orders
 pub mod Closing
 pub mod Meeting
 pub mod TakingUp
+pub mod Crosses
