@@ -281,6 +281,19 @@ impl<'a, N: ArchiveName, D: Disk + Drop, H: Shelf<D>, R: Wait> Keeper for Archiv
         }
     }
 
+    fn gives_back() -> bool {
+        false
+    }
+
+    fn record(
+        &mut self,
+        _alloc: Global,
+        _number: u64,
+        _digest: Digest,
+    ) -> Result<Option<Vec<u8>>, NotKept> {
+        Ok(None)
+    }
+
     fn item(&mut self, alloc: Global, digest: Digest) -> Result<Option<Vec<u8>>, NotKept> {
         if self.volumes.is_halted() {
             return Err(NotKept);

@@ -11,7 +11,8 @@ use Rattle.su_book.specs.Machine.{records_of, count_of}
 use Rattle.su_message.specs.declared.requests.Request.TheVariants.{Fetch}
 use Rattle.su_message.specs.declared.replies.Reply.TheVariants.{Kept}
 use Rattle.su_client.specs.Link.{LinkState, Exchanged}
-use Rattle.su_shared.specs.Entry.{Entry, IsShown}
+use Rattle.su_shared.specs.declared.cells.Record.{Record}
+use Rattle.su_shared.specs.Entry.{IsShown}
 use Rattle.su_shared.specs.Seats.{SeatView, known_at}
 use Rattle.su_shared.specs.Shares.{numbered, run_records, record_bytes, Knows, EachStands}
 use Rattle.su_shared.proofs.Keeping.{length_numbered}
@@ -20,17 +21,17 @@ use Rattle.su_shared.specs.declared.seats.Kept.{Kept as SeatKept}
 use Rattle.su_backup.specs.declared.faults.BackupFault.{BackupFault}
 use Rattle.su_backup.specs.Copied.{EndsAt, GivesAll, IsLastOf, GoesOn, GivesLast, IsCopied}
 
-numbered_bytes : (n : ℕ) (cs : List Commit) (k : ℕ) (r : Entry)
+numbered_bytes : (n : ℕ) (cs : List Commit) (k : ℕ) (r : Record)
     → slice_get (numbered n cs) k ≡ Some r → slice_get (map commit_bytes cs) k ≡ Some r.bytes
 numbered_bytes n [] k r is = absurd (none-some r is)
 numbered_bytes n (c ∷ cs) zero r is =
-    ap (λ (x : Entry). Some x.bytes) (same_Some (record { number = n; bytes = commit_bytes c }) r is)
+    ap (λ (x : Record). Some x.bytes) (same_Some (record { number = n; bytes = commit_bytes c }) r is)
 numbered_bytes n (c ∷ cs) (suc k) r is = numbered_bytes (n + 1) cs k r is
 
-known_by : (steps : List Step) (known : List (Option Entry)) → Knows known (run_records steps)
+known_by : (steps : List Step) (known : List (Option Record)) → Knows known (run_records steps)
     → (m : ℕ) (bytes : List ℕ) → m < count_of steps
     → known_at known (m + 1) ≡ Some (record { number = m + 1; bytes = bytes })
-    → ((r : Entry) × (m < length (run_records steps)) × (slice_get (run_records steps) m ≡ Some r)
+    → ((r : Record) × (m < length (run_records steps)) × (slice_get (run_records steps) m ≡ Some r)
     × (get_or (run_records steps) m r ≡ r))
     ⊎ ((length (run_records steps) ≤ m) × (slice_get (run_records steps) m ≡ None))
     → slice_get (record_bytes steps) m ≡ Some bytes
@@ -41,13 +42,13 @@ known_by steps known knows m bytes within is (inl (r, inside, there, same)) =
     let same_record : record { number = m + 1; bytes = bytes } ≡ r =
     subst (λ o. IfSome o (λ x. x ≡ r)) found (knows m r there) in
     numbered_bytes 1 (records_of steps) m r there
-    ∙ ap (λ (x : Entry). Some x.bytes) (sym same_record)
+    ∙ ap (λ (x : Record). Some x.bytes) (sym same_record)
 known_by steps known knows m bytes within is (inr (past, none)) =
     let long : length (run_records steps) ≡ count_of steps = length_numbered 1 (records_of steps) in
     absurd (omega arith)
 
 -- what is known of a number is the book's record of that number
-known_record : (steps : List Step) (known : List (Option Entry)) → Knows known (run_records steps)
+known_record : (steps : List Step) (known : List (Option Record)) → Knows known (run_records steps)
     → (m : ℕ) (bytes : List ℕ) → m < count_of steps
     → known_at known (m + 1) ≡ Some (record { number = m + 1; bytes = bytes })
     → slice_get (record_bytes steps) m ≡ Some bytes
@@ -85,7 +86,7 @@ last_by F (suc m) t a b steps knows few bytes shown gave same is =
 
 last_given : (F : Type 0) (s seat t : SeatView) (a b : LinkState) (steps : List Step)
     → Knows t.known (run_records steps) → s.kept.stored ≤ count_of steps
-    → ((n : ℕ) (r : Entry) → known_at seat.known n ≡ Some r → known_at t.known n ≡ Some r)
+    → ((n : ℕ) (r : Record) → known_at seat.known n ≡ Some r → known_at t.known n ≡ Some r)
     → IsLastOf F s a b seat → GivesLast F s.kept.stored steps a b
 last_given F s seat t a b steps knows few still (inl none) = inl none
 last_given F s seat t a b steps knows few still (inr (bytes, shown, gave, same, is)) =

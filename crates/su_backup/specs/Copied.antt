@@ -3,7 +3,8 @@ use Rattle.std.specs.Prelude.{◌≡◌, ◌⊎◌, ◌≤◌, ◌+◌, ◌-◌,
 use Rattle.su_message.specs.declared.requests.Request.TheVariants.{Fetch}
 use Rattle.su_message.specs.declared.replies.Reply.TheVariants.{Kept, Nothing}
 use Rattle.su_client.specs.Link.{LinkState, Exchanged, MayGive}
-use Rattle.su_shared.specs.Entry.{Entry, IsShown}
+use Rattle.su_shared.specs.declared.cells.Record.{Record}
+use Rattle.su_shared.specs.Entry.{IsShown}
 use Rattle.su_shared.specs.Seats.{SeatView, known_at, Learns}
 use Rattle.su_shared.specs.Shares.{record_bytes}
 use Rattle.su_book.specs.declared.steps.Step.{Step}
@@ -35,7 +36,7 @@ EndsAt number a b = Exchanged (Fetch number) a b Nothing
 
 -- what the seat knows of a record, it knows from then on
 abbrev pub StillKnows : SeatView → SeatView → Type 0
-StillKnows s t = (n : ℕ) (r : Entry) → known_at s.known n ≡ Some r → known_at t.known n ≡ Some r
+StillKnows s t = (n : ℕ) (r : Record) → known_at s.known n ≡ Some r → known_at t.known n ≡ Some r
 
 -- what the seat stored and knows stays
 pub record Keeps (s t : SeatView) : Type 0 where

@@ -25,7 +25,7 @@ use su_version::Commit;
 pub struct Copier<'a, N: BookName, K: Keeper, T: Wait> {
     book: &'a SharedBook<N, K>,
     blocks: &'a SharedBlocks,
-    seat: Seat<N, K>,
+    seat: Seat<N>,
     rt: &'a T,
     alloc: Global,
 }
@@ -45,7 +45,7 @@ impl<'a, N: BookName, K: Keeper, T: Wait> Copier<'a, N, K, T> {
         alloc: Global,
         book: &'a SharedBook<N, K>,
         blocks: &'a SharedBlocks,
-        seat: Seat<N, K>,
+        seat: Seat<N>,
     ) -> Copier<'a, N, K, T>
         ensures { result ≡ seat }
     {
@@ -59,7 +59,7 @@ impl<'a, N: BookName, K: Keeper, T: Wait> Copier<'a, N, K, T> {
     }
 
     /// Hands the seat back, with which the book is closed.
-    pub fn into_seat(self) -> Seat<N, K>
+    pub fn into_seat(self) -> Seat<N>
         ensures { result ≡ self.entry }
     {
         self.seat
@@ -82,7 +82,9 @@ impl<'a, N: BookName, K: Keeper, T: Wait> Copier<'a, N, K, T> {
         }
         let shown = fetch(client, number)?;
         match (self.book.published(&mut self.seat, number), shown) {
-            (Some(held), Some(shown)) if is_shown(held, shown.as_slice()) => Ok(()),
+            (Some(held), Some(shown)) if is_shown::<K>(held, shown.as_slice()) => {
+                Ok(())
+            }
             _ => Err(BackupFault::OtherRecord { number }),
         }
     }
@@ -176,12 +178,12 @@ impl<'a, N: BookName, K: Keeper, T: Wait> Copier<'a, N, K, T> {
 }
 
 /// Whether these bytes are those of a record; where they aren't in its cell, they have its SHA-256.
-fn is_shown<K: Keeper>(held: &Record<K>, shown: &[u8]) -> bool
+fn is_shown<K: Keeper>(held: &Record, shown: &[u8]) -> bool
     ensures { IsTrue result → IsShown K.may_fail held.now.bytes shown.now }
 {
     match held.bytes() {
         Some(bytes) => bytes == shown,
-        None => digest_of(shown) == held.digest(),
+        None => K::gives_back() && digest_of(shown) == held.digest(),
     }
 }
 

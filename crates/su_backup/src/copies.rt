@@ -72,7 +72,7 @@ fn copy_named<N, K, T, R, W>(
     rt: &T,
     alloc: Global,
     client: &mut Checked<Client<R, W>>,
-    cells: Cells<K>,
+    cells: Cells,
     roster: Roster,
     blank: Blank,
     blocks: &SharedBlocks,

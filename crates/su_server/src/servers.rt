@@ -99,7 +99,7 @@ fn serve_named<N, K, R, I, L, G>(
     alloc: Global,
     sessions: I,
     workers: usize,
-    cells: Cells<K>,
+    cells: Cells,
     roster: Roster,
     blank: Blank,
     blocks: &SharedBlocks,
@@ -141,7 +141,6 @@ where
     Ok(Report { sessions, closed })
 }
 
-#[tactic(auto, using(crate::proofs::Sharing::cells_are_shared))]
 /// Serves all sessions over this book, whose first seat is that of the first worker, and hands the
 /// workers' seats back.
 fn serve_at<N, K, R, I, L, G>(
@@ -151,9 +150,9 @@ fn serve_at<N, K, R, I, L, G>(
     workers: usize,
     book: &SharedBook<N, K>,
     blocks: &SharedBlocks,
-    first: Seat<N, K>,
+    first: Seat<N>,
     gate: &G,
-) -> Result<(Vec<Served>, Vec<Seat<N, K>>), Refusal>
+) -> Result<(Vec<Served>, Vec<Seat<N>>), Refusal>
 where
     N: BookName + Send,
     K: Keeper + Send,
@@ -187,7 +186,7 @@ fn services_of<'a, N: BookName, K: Keeper, R: Wait, G: Gate>(
     workers: usize,
     book: &'a SharedBook<N, K>,
     blocks: &'a SharedBlocks,
-    first: Seat<N, K>,
+    first: Seat<N>,
     gate: &'a G,
 ) -> Result<Services<'a, N, K, R, G>, Refusal>
     requires { 1 ≤ workers }
@@ -218,7 +217,7 @@ fn services_of<'a, N: BookName, K: Keeper, R: Wait, G: Gate>(
 fn seats_of<N: BookName, K: Keeper, R: Wait, G: Gate>(
     alloc: Global,
     services: Services<'_, N, K, R, G>,
-) -> Result<Vec<Seat<N, K>>, Refusal>
+) -> Result<Vec<Seat<N>>, Refusal>
     ensures { IfErr result (λ e. e ≡ NoMemory) }
 {
     let mut seats = Vec::new(alloc);

@@ -9,7 +9,7 @@ use Rattle.std.proofs.lemmas.List.Sorted.{sum_by-IsPermutation}
 use Rattle.std.proofs.lemmas.Bool.{cases_eq}
 use Rattle.std.proofs.lemmas.Option.{slice_get_read, slice_get-map, same_Some, get_or_from_slice_get}
 use Rattle.su_book.specs.Machine.{BookState, count_of}
-use Rattle.su_shared.specs.Entry.{Entry}
+use Rattle.su_shared.specs.declared.cells.Record.{Record}
 use Rattle.su_shared.specs.declared.seats.Kept.{Kept}
 use Rattle.su_shared.specs.Seats.{SeatView}
 use Rattle.su_shared.specs.Shares.{HeldView, IsHeld, IsOrderly, AreAll, EachKnows, EachStands, run_records, nothing}
@@ -37,7 +37,7 @@ sum_by-map f [] = refl
 sum_by-map f (x ∷ xs) =
     sum_by-cons f x.kept (map (λ (y : SeatView). y.kept) xs) ∙ (ap (λ (n : ℕ). f x.kept + n) (sum_by-map f xs) ∙ sym (sum_by-cons (λ (y : SeatView). f y.kept) x xs))
 
-pub all_kept : (cells : ℕ) (b : BookState) (receipts : List Entry) (kept : List Kept) (seats : List SeatView) → IsHeld cells b receipts kept → map (λ (s : SeatView). s.kept) seats ≡ kept → ((k : ℕ) (s : SeatView) → slice_get seats k ≡ Some s → s.number ≡ k) → AreAll seats (record { book = b; seats = length kept })
+pub all_kept : (cells : ℕ) (b : BookState) (receipts : List Record) (kept : List Kept) (seats : List SeatView) → IsHeld cells b receipts kept → map (λ (s : SeatView). s.kept) seats ≡ kept → ((k : ℕ) (s : SeatView) → slice_get seats k ≡ Some s → s.number ≡ k) → AreAll seats (record { book = b; seats = length kept })
 all_kept cells b receipts kept seats held same numbers =
     record {
       count = sym (length-map seats (λ (s : SeatView). s.kept)) ∙ ap length same;

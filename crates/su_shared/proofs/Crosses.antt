@@ -1,23 +1,54 @@
--- Threads may share the cells of a book, whatever its keeper is: they have nothing of it. (A `search`
--- that goes down through cells and what else a service has runs out of steps.)
+-- Threads may share a book, and seats may go to them. (A `search` that goes down through all that lies
+-- under the lock, and through the cells, runs out of steps.)
 use denote.RattleType.{RattleType}
-use denote.Param.Send.{IsSend, IsSync, sendable}
+use denote.Param.Send.{IsSend, IsSync, sendable, view_send, struct_send, recorded_send}
 use Rattle.std.proofs.Crossing.{crosses}
+use Rattle.std.specs.declared.sync.ledger.Ledger as ledger
+use Rattle.std.proofs.sync.ledger.Share.TheSendSync as Share
+use Rattle.std.proofs.sync.ledger.Book.TheSendSync as Tally
+use Rattle.http_server.proofs.log.Log.TheSendSync as Log
 use Rattle.once_cell.specs.contracts.race.once_box.OnceBox as OnceBox
-use Rattle.once_cell.proofs.race.once_box.OnceBox.TheSendSync.{the_sync}
-use Rattle.su_keeper.specs.declared.keepers.Keeper.{Ghosts}
+use Rattle.once_cell.proofs.race.once_box.OnceBox.TheSendSync as Cell
+use Rattle.once_cell.proofs.race.note.Note.TheSendSync as Note
+use Rattle.su_book.specs.contracts.books.Book as Book
+use Rattle.su_keeper.specs.declared.keepers.Keeper as keeper
+use Rattle.su_shared.specs.declared.cells.BookName as name
 use Rattle.su_shared.specs.contracts.cells.Record as Record
 use Rattle.su_shared.specs.contracts.cells.Cells as Cells
+use Rattle.su_shared.specs.contracts.notes.Receipt as Receipt
+use Rattle.su_shared.specs.contracts.seats.Seat as Seat
+use Rattle.su_shared.specs.contracts.held.Held as Held
+use Rattle.su_shared.specs.contracts.locked.Locked as Locked
+use Rattle.su_shared.specs.contracts.shared.SharedBook as SharedBook
 
-module _ (K : RattleType) (g : Ghosts K.Denot) where
-  pub record_send : IsSend (Record.the_row K g)
-  record_send = search (crosses, sendable) depth 30
+record_send : IsSend Record.the_row
+record_send = search (crosses, sendable) depth 30
 
-  pub record_sync : IsSync (Record.the_row K g)
-  record_sync = search (crosses, sendable) depth 30
+record_sync : IsSync Record.the_row
+record_sync = search (crosses, sendable) depth 30
 
-  cell_sync : IsSync (OnceBox.the_row (Record.the_row K g))
-  cell_sync = the_sync (Record.the_row K g) record_send record_sync
+cell_sync : IsSync (OnceBox.the_row Record.the_row)
+cell_sync = Cell.the_sync Record.the_row record_send record_sync
 
-  pub cells_sync : IsSync (Cells.the_row K g)
-  cells_sync = search (cell_sync, crosses, sendable) depth 20
+cells_sync : IsSync Cells.the_row
+cells_sync = search (cell_sync, crosses, sendable) depth 20
+
+book_send : IsSend Book.the_row
+book_send = search (Log.the_send, crosses, sendable) depth 60 fits 30000
+
+module _ (N : RattleType) (n : name.Ghosts N.Denot) (l : ledger.Ghosts N.Denot) where
+  receipt_send : IsSend N → IsSend (Receipt.the_row N n l)
+  receipt_send s = search (Note.the_send, crosses, sendable) depth 30
+
+  pub seat_send : IsSend N → IsSend (Seat.the_row N n l)
+  seat_send s = search (Note.the_send, Share.the_send, crosses, sendable) depth 30 fits 10000
+
+  held_send : IsSend N → IsSend (Held.the_row N n l)
+  held_send s = search (receipt_send, book_send, Share.the_send, Tally.the_send, view_send, struct_send, crosses, sendable) depth 40 fits 30000
+
+  module _ (K : RattleType) (k : keeper.Ghosts K.Denot) where
+    locked_send : IsSend N → IsSend K → IsSend (Locked.the_row N K n k l)
+    locked_send s t = search (held_send, recorded_send, struct_send, crosses, sendable) depth 40 fits 30000
+
+    pub shared_sync : IsSend N → IsSend K → IsSync (SharedBook.the_row N K n k l)
+    shared_sync s t = let m = locked_send s t in search (m, cells_sync, crosses, sendable) depth 30 fits 10000

@@ -18,7 +18,7 @@ use Rattle.su_book.specs.declared.events.BookReply.{BookReply}
 use Rattle.su_book.specs.declared.events.BookReply.TheVariants as reply
 use Rattle.su_book.specs.Machine.{BookState, MayAct, Asks, Tells, with_step, stored_by, records_of, count_of}
 use Rattle.su_book.proofs.Public.{run_push, records_push}
-use Rattle.su_shared.specs.Entry.{Entry}
+use Rattle.su_shared.specs.declared.cells.Record.{Record}
 use Rattle.su_shared.specs.declared.seats.Kept.{Kept}
 use Rattle.su_shared.specs.Shares.{IsHeld, nothing, after_grant, after_commit, kept_after, kept_by, kept_from, kept_of, numbered, run_records, record_bytes, HoldsLast, last_of, receipt_for, Gives}
 
@@ -72,7 +72,7 @@ numbered_append n (x ∷ xs) ys =
     ap (λ l. record { number = n; bytes = commit_bytes x } ∷ l) (numbered_append (n + 1) xs ys ∙ ap (λ (m : ℕ). numbered (n + 1) xs ++ numbered m ys) e)
 
 -- what the act adds to the records
-abbrev pub added : BookState → Act → List Entry
+abbrev pub added : BookState → Act → List Record
 added b act = numbered (1 + count_of b.journal) (stored_by act)
 
 pub records_step : (b : BookState) (seat : ℕ) (act : Act) → run_records b.journal ++ added b act ≡ run_records (b.journal ++ step_of seat act ∷ [])
@@ -80,7 +80,7 @@ records_step b seat act =
     sym (numbered_append 1 (records_of b.journal) (stored_by act)) ∙ ap (numbered 1) (sym (records_push b.journal (step_of seat act)))
 
 -- the receipt of what was stored
-pub added_is : (b : BookState) (seat : ℕ) (act : Act) (o : Option Entry) → MayAct b seat act → (stored_by act ≡ [] → o ≡ None)
+pub added_is : (b : BookState) (seat : ℕ) (act : Act) (o : Option Record) → MayAct b seat act → (stored_by act ≡ [] → o ≡ None)
     → ((n : ℕ) (c : Commit) → act ≡ Stored n c → o ≡ Some (record { number = n; bytes = commit_bytes c })) → option_to_list o ≡ added b act
 added_is b seat (Granted n) o may none some = ap option_to_list (none refl)
 added_is b seat (Stored n c) o may none some =
@@ -88,7 +88,7 @@ added_is b seat (Stored n c) o may none some =
     ap option_to_list (some n c refl) ∙ ap (λ m. numbered m (c ∷ [])) at
 added_is b seat Given o may none some = ap option_to_list (none refl)
 
-pub held_step : (cells : ℕ) (b : BookState) (receipts : List Entry) (kept : List Kept) (seat : ℕ) (act : Act) → IsHeld cells b receipts kept → seat < length kept → MayAct b seat act
+pub held_step : (cells : ℕ) (b : BookState) (receipts : List Record) (kept : List Kept) (seat : ℕ) (act : Act) → IsHeld cells b receipts kept → seat < length kept → MayAct b seat act
     → IsHeld cells (with_step b (step_of seat act)) (receipts ++ added b act) (set kept seat (kept_by (get_or kept seat nothing) act))
 held_step cells b receipts kept seat act held within may =
     let j = b.journal in
@@ -124,7 +124,7 @@ records_le [] = omega arith
 records_le (s ∷ ss) = omega (arith, records_le ss, stored_le s.act, length-append (stored_by s.act) (records_of ss))
 
 -- no seat stored or stepped more than the journal has
-pub kept_fits : (cells : ℕ) (b : BookState) (receipts : List Entry) (kept : List Kept) (seat : ℕ) → IsHeld cells b receipts kept → seat < length kept → ((get_or kept seat nothing).stored ≤ length b.journal) × ((get_or kept seat nothing).steps ≤ length b.journal)
+pub kept_fits : (cells : ℕ) (b : BookState) (receipts : List Record) (kept : List Kept) (seat : ℕ) → IsHeld cells b receipts kept → seat < length kept → ((get_or kept seat nothing).stored ≤ length b.journal) × ((get_or kept seat nothing).steps ≤ length b.journal)
 kept_fits cells b receipts kept seat held within =
     let s = get_or-le-sum_by (λ (x : Kept). x.stored) kept seat nothing within in
     let t = get_or-le-sum_by (λ (x : Kept). x.steps) kept seat nothing within in
@@ -151,7 +151,7 @@ last_push xs x =
     let place : length (xs ++ x ∷ []) - 1 ≡ length xs = omega arith in
     ap (λ b. cond b None (slice_get (xs ++ x ∷ []) (length (xs ++ x ∷ []) - 1))) some ∙ (ap (slice_get (xs ++ x ∷ [])) place ∙ get_push xs x)
 
-number_at : (n : ℕ) (cs : List Commit) (k : ℕ) (d : Entry) → k < length cs → (get_or (numbered n cs) k d).number ≡ n + k
+number_at : (n : ℕ) (cs : List Commit) (k : ℕ) (d : Record) → k < length cs → (get_or (numbered n cs) k d).number ≡ n + k
 number_at n [] k d lt = absurd (omega arith)
 number_at n (c ∷ cs) zero d lt = omega arith
 number_at n (c ∷ cs) (suc k) d lt = number_at (n + 1) cs k d (omega arith) ∙ omega arith
@@ -165,12 +165,12 @@ last_number : (cs : List Commit) → MatchOption (last_of (numbered 1 cs)) (leng
 last_number [] = refl
 last_number (c ∷ cs) =
     let xs = numbered 1 (c ∷ cs) in
-    let first : Entry = record { number = 1; bytes = commit_bytes c } in
-    let x : Entry = get_or xs (length xs - 1) first in
+    let first : Record = record { number = 1; bytes = commit_bytes c } in
+    let x : Record = get_or xs (length xs - 1) first in
     let len : length xs ≡ length (c ∷ cs) = length_numbered 1 (c ∷ cs) in
     let at : x.number ≡ 1 + (length xs - 1) = number_at 1 (c ∷ cs) (length xs - 1) first (omega arith) in
     let last : last_of xs ≡ Some x = last_is xs x (omega arith) (get_or_default xs (length xs - 1) first x (omega arith)) in
-    subst (λ (o : Option Entry). MatchOption o (length (c ∷ cs) ≡ 0) (λ r. r.number ≡ length (c ∷ cs))) (sym last) (omega arith)
+    subst (λ (o : Option Record). MatchOption o (length (c ∷ cs) ≡ 0) (λ r. r.number ≡ length (c ∷ cs))) (sym last) (omega arith)
 
 -- ---- what goes with a reply
 

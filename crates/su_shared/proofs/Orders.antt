@@ -9,7 +9,7 @@ use Rattle.su_book.specs.declared.steps.Act.{Act}
 use Rattle.su_book.specs.declared.steps.Act.TheVariants.{Granted, Stored, Given}
 use Rattle.su_book.specs.Machine.{BookState, IsRun, MayAct, MayFollow, stored_by, records_of, holder_of, turn_after, with_step}
 use Rattle.su_book.proofs.Public.{records_push, holder_push, along}
-use Rattle.su_shared.specs.Entry.{Entry}
+use Rattle.su_shared.specs.declared.cells.Record.{Record}
 use Rattle.su_shared.specs.declared.seats.Kept.{Kept}
 use Rattle.su_shared.specs.Shares.{IsOrderly, has_turn, nothing, kept_by, kept_from, kept_of, numbered}
 use Rattle.su_shared.proofs.Keeping.{kept_push, Counts, counts}
@@ -68,7 +68,7 @@ steps_from i k (s ∷ ss) =
     let rest = steps_from i (cond (s.seat == i) (kept_by k s.act) k) ss in
     omega (arith, sum_by-cons (λ (x : Step). cond (x.seat == i) 1 0) s ss)
 
-pub numbered_get : (n : ℕ) (cs : List Commit) (k : ℕ) (r : Entry) → slice_get (numbered n cs) k ≡ Some r → r.number ≡ n + k
+pub numbered_get : (n : ℕ) (cs : List Commit) (k : ℕ) (r : Record) → slice_get (numbered n cs) k ≡ Some r → r.number ≡ n + k
 numbered_get n [] k r is = absurd (none-some r is)
-numbered_get n (c ∷ cs) zero r is = ap (λ (x : Entry). x.number) (sym (same_Some (record { number = n; bytes = commit_bytes c }) r is)) ∙ omega arith
+numbered_get n (c ∷ cs) zero r is = ap (λ (x : Record). x.number) (sym (same_Some (record { number = n; bytes = commit_bytes c }) r is)) ∙ omega arith
 numbered_get n (c ∷ cs) (suc k) r is = numbered_get (n + 1) cs k r is ∙ omega arith

@@ -1,6 +1,5 @@
 -- Records of a book, each with its number. (This project's own.)
-use Rattle.std.specs.Prelude.{◌≡◌, ◌⊎◌, ℕ, List, Option, Some, None}
-use Rattle.std.specs.Global.{Vec}
+use Rattle.std.specs.Prelude.{◌≡◌, ◌⊎◌, ℕ, List}
 use Rattle.sha2.specs.Sha256.{sha256}
 use Rattle.su_version.specs.Commit.{Commit, IsCommit, commit_bytes}
 
@@ -13,12 +12,6 @@ pub record Entry : Type 0 where
 abbrev pub IsBy : List ℕ → ℕ → Type 0
 IsBy bytes author =
     (c : Commit) × IsCommit c × (bytes ≡ commit_bytes c) × (author ≡ c.version.author)
-
--- What the cell of a record has of these bytes, its own: all of them; or none, where they are read
--- back from a keeper that can fail.
-abbrev pub IsHere : Type 0 → List ℕ → Option (Vec ℕ) → Type 0
-IsHere may_fail bytes None = may_fail
-IsHere may_fail bytes (Some here) = here.items ≡ bytes
 
 -- What is shown of a record with these bytes: them; or, where they were read back from a keeper that
 -- can fail, bytes with their SHA-256.

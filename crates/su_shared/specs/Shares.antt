@@ -14,7 +14,7 @@ use Rattle.su_book.specs.declared.events.Event.TheVariants as event
 use Rattle.su_book.specs.declared.events.BookReply.{BookReply}
 use Rattle.su_book.specs.declared.events.BookReply.TheVariants as reply
 use Rattle.su_book.specs.Machine.{BookState, MayBeStored, IsRefused, IsRun, Stepped, records_of, holder_of, count_of}
-use Rattle.su_shared.specs.Entry.{Entry}
+use Rattle.su_shared.specs.declared.cells.Record.{Record}
 use Rattle.su_shared.specs.declared.seats.Kept.{Kept}
 use Rattle.su_shared.specs.Seats.{SeatView, known_at}
 
@@ -63,12 +63,12 @@ kept_of seat steps = kept_from seat nothing steps
 
 -- ---- records and receipts
 
-abbrev pub numbered : ℕ → List Commit → List Entry
+abbrev pub numbered : ℕ → List Commit → List Record
 numbered n [] = []
 numbered n (c ∷ cs) = record { number = n; bytes = commit_bytes c } ∷ numbered (n + 1) cs
 
 -- the records of these steps, with their numbers
-abbrev pub run_records : List Step → List Entry
+abbrev pub run_records : List Step → List Record
 run_records steps = numbered 1 (records_of steps)
 
 -- the bytes of the records of these steps, in order, as a keeper keeps them
@@ -85,14 +85,14 @@ abbrev pub last_of : {X : Type 0} → List X → Option X
 last_of xs = if length xs == 0 then None else slice_get xs (length xs - 1)
 
 -- the receipt that goes with a reply, where these are the records after it
-abbrev pub receipt_for : BookReply → List Entry → Option Entry
+abbrev pub receipt_for : BookReply → List Record → Option Record
 receipt_for (reply.Granted _ _) records = last_of records
 receipt_for (reply.Stored _) records = last_of records
 receipt_for reply.Given records = None
 
 -- What an event is answered: a count, with the receipt of the record of that number; a number, with
 -- that of the bytes that were handed in; or no more.
-abbrev pub Gives : Event → BookReply → Option Entry → Type 0
+abbrev pub Gives : Event → BookReply → Option Record → Type 0
 Gives event.Grant (reply.Granted n _) receipt = MatchOption receipt (n ≡ 0) (λ r. r.number ≡ n)
 Gives (event.Commit bytes) (reply.Stored n) receipt =
     receipt ≡ Some (record { number = n; bytes = bytes.items })
@@ -100,7 +100,7 @@ Gives event.Give reply.Given receipt = receipt ≡ None
 Gives _ _ _ = ⊥
 
 -- what a seat knows after a receipt
-abbrev pub learned : List (Option Entry) → Option Entry → List (Option Entry)
+abbrev pub learned : List (Option Record) → Option Record → List (Option Record)
 learned known None = known
 learned known (Some r) = slice_set known (r.number - 1) (Some r)
 
@@ -108,7 +108,7 @@ learned known (Some r) = slice_set known (r.number - 1) (Some r)
 
 -- The steps are a run, the receipts are those of its records, and what is kept for each seat is
 -- what the steps say.
-pub record IsHeld (cells : ℕ) (b : BookState) (receipts : List Entry) (kept : List Kept)
+pub record IsHeld (cells : ℕ) (b : BookState) (receipts : List Record) (kept : List Kept)
     : Type 0 where
   pub run : IsRun b
   pub room : b.capacity ≡ cells
@@ -195,11 +195,11 @@ IsRecordRefusal may_fail seat refusal =
 -- ---- all seats
 
 -- what is known under the number of one of these records is that record
-abbrev pub Knows : List (Option Entry) → List Entry → Type 0
-Knows known records = (k : ℕ) (r : Entry) → slice_get records k ≡ Some r
+abbrev pub Knows : List (Option Record) → List Record → Type 0
+Knows known records = (k : ℕ) (r : Record) → slice_get records k ≡ Some r
     → IfSome (known_at known r.number) (λ x. x ≡ r)
 
-abbrev pub EachKnows : List SeatView → List Entry → Type 0
+abbrev pub EachKnows : List SeatView → List Record → Type 0
 EachKnows seats records = (k : ℕ) (s : SeatView) → slice_get seats k ≡ Some s
     → Knows s.known records
 
@@ -218,5 +218,5 @@ EachStands seats steps = (k : ℕ) (s : SeatView) → slice_get seats k ≡ Some
     → (s.number ≡ k) × (s.kept ≡ kept_of k steps) × (s.kept.top ≤ count_of steps)
     × Knows s.known (run_records steps)
 
-abbrev pub IsNumbered : List Entry → Type 0
-IsNumbered records = (k : ℕ) (r : Entry) → slice_get records k ≡ Some r → r.number ≡ k + 1
+abbrev pub IsNumbered : List Record → Type 0
+IsNumbered records = (k : ℕ) (r : Record) → slice_get records k ≡ Some r → r.number ≡ k + 1

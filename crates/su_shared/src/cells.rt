@@ -1,11 +1,11 @@
 // The row of cells, one for each record, which are read without the lock.
-ghost use Rattle.std.specs.Prelude.{◌≡◌, ℕ, ◌<◌, ◌-◌, ◌≤◌, length, replicate, None, ◌⊎◌, IfErr, IfOk, IfSome, IfNone, slice_get, Some};
+ghost use Rattle.std.specs.Prelude.{◌≡◌, ℕ, ◌<◌, ◌-◌, ◌≤◌, length, replicate, None, ◌⊎◌, IfErr, IfOk, IfSome, slice_get, Some};
 ghost use Rattle.once_cell.specs.Once.{cell_name};
 ghost use Rattle.sha2.specs.Sha256.{sha256};
 ghost use Rattle.su_bytes.specs.declared.refusals.Refusal.TheVariants.{NoMemory, BookFull, BadNumber};
 ghost use Rattle.su_version.specs.Commit.{commit_bytes};
 ghost use Rattle.su_book.specs.Machine.{IsCapacity};
-ghost use Rattle.su_shared.specs.Entry.{IsBy, IsHere};
+ghost use Rattle.su_shared.specs.Entry.{IsBy};
 ghost use Rattle.su_shared.specs.Seats.{names_of, known_of};
 ghost use Rattle.su_shared.specs.Shares.{HoldsLast};
 
@@ -20,51 +20,55 @@ use su_bytes::{Digest, Refusal, User};
 use su_keeper::Keeper;
 
 /// A record of the book: a commit, with its number, from 1, and what is asked of it often. Its bytes
-/// are here, unless the keeper gives them back. Its model is the number and the bytes.
+/// are here, unless the keeper gives them back: then proofs alone know them. Its model is the number
+/// and the bytes.
 #[derive(Drop)]
-pub struct Record<K: Keeper> {
+pub struct Record {
     number: u64,
     author: User,
     digest: Digest,
     here: Option<Vec<u8>>,
-    spelled: Snapshot<Vec<u8>>,
-    keeper: Snapshot<K>,
+    bytes: Snapshot<Vec<u8>>,
 }
 
-impl<K: Keeper> Model for Record<K> {
-    ghost use Rattle.std.specs.Prelude.{◌≡◌};
+impl Model for Record {
+    ghost use Rattle.std.specs.Prelude.{◌≡◌, IfSome};
     ghost use Rattle.sha2.specs.Sha256.{sha256};
-    ghost use Rattle.su_shared.specs.Entry.{Entry, IsBy, IsHere};
+    ghost use Rattle.su_shared.specs.Entry.{Entry, IsBy};
 
     ghost Value = { Entry };
 
-    ghost view = { λ r. record { number = r.number; bytes = r.spelled.value.items } };
+    ghost view = { λ r. record { number = r.number; bytes = r.bytes.value.items } };
 
-    ghost invariant = { λ r. IsBy r.spelled.value.items r.author
-        × (r.digest ≡ sha256 r.spelled.value.items)
-        × IsHere K.may_fail r.spelled.value.items r.here };
+    ghost invariant = { λ r. IsBy r.bytes.value.items r.author
+        × (r.digest ≡ sha256 r.bytes.value.items)
+        × IfSome r.here (λ here. here.items ≡ r.bytes.value.items) };
 }
 
-impl<K: Keeper> Record<K> {
-    /// Makes the record of a commit by its bytes, which this keeper is to keep. Fails where there is
-    /// no memory for a copy of them, and needs none where the keeper gives them back.
+impl Record {
+    /// Makes the record of a commit by its bytes, of which it has a copy, unless it `is_elsewhere`.
+    /// Fails where there is no memory for the copy.
     pub(crate) fn new(
         alloc: Global,
         number: u64,
         bytes: &Vec<u8>,
         commit: &HashedCommit,
-        keeper: &K,
-    ) -> Result<Record<K>, AllocError>
+        is_elsewhere: bool,
+    ) -> Result<Record, AllocError>
         requires { bytes.now.items ≡ commit_bytes commit.now }
         ensures { IfOk result (λ r. r ≡ record { number = number; bytes = bytes.now.items }) }
     {
+        let here = if is_elsewhere {
+            None
+        } else {
+            Some(Vec::from_slice(alloc, bytes.as_slice())?)
+        };
         Ok(Record {
             number,
             author: commit.author(),
             digest: commit.digest(),
-            here: copy_for_cell::<K>(alloc, bytes)?,
-            spelled: Snapshot::of(bytes),
-            keeper: Snapshot::of(keeper),
+            here,
+            bytes: Snapshot::of(bytes),
         })
     }
 
@@ -89,30 +93,16 @@ impl<K: Keeper> Record<K> {
         self.digest
     }
 
-    /// Lends the bytes of the commit. `None` where they are read back from the keeper
-    /// (`SharedBook::record`), which can fail then.
+    /// Lends the bytes of the commit. `None` where the book's keeper gives them back
+    /// (`SharedBook::record`).
     pub fn bytes(&self) -> Option<&[u8]>
-        ensures some { IfSome result (λ bytes. bytes.now ≡ self.now.bytes) }
-        ensures none { IfNone result K.may_fail }
+        ensures { IfSome result (λ bytes. bytes.now ≡ self.now.bytes) }
     {
         match &self.here {
             Some(bytes) => Some(bytes.as_slice()),
             None => None,
         }
     }
-}
-
-/// Copies the bytes of a record for its cell, unless the keeper gives them back.
-fn copy_for_cell<K: Keeper>(
-    alloc: Global,
-    bytes: &Vec<u8>,
-) -> Result<Option<Vec<u8>>, AllocError>
-    ensures { IfOk result (IsHere K.may_fail bytes.now.items) }
-{
-    if K::gives_back() {
-        return Ok(None);
-    }
-    Ok(Some(Vec::from_slice(alloc, bytes.as_slice())?))
 }
 
 /// Names the cells of one book, and the ledger of its steps. Each run of a program picks them.
@@ -130,11 +120,11 @@ impl BookName for Brand {
 
 /// A row of cells, one for each record that a book may store. Its model is their names.
 #[derive(Drop)]
-pub struct Cells<K: Keeper> {
-    cells: Vec<OnceBox<Record<K>>>,
+pub struct Cells {
+    cells: Vec<OnceBox<Record>>,
 }
 
-impl<K: Keeper> Model for Cells<K> {
+impl Model for Cells {
     ghost use Rattle.std.specs.Prelude.{List, ℕ, map};
     ghost use Rattle.once_cell.specs.Once.{cell_name};
 
@@ -143,10 +133,10 @@ impl<K: Keeper> Model for Cells<K> {
     ghost view = { λ c. map cell_name c.cells.items };
 }
 
-impl<K: Keeper> Cells<K> {
+impl Cells {
     /// Makes the cells of a book that may store so many commits. `BadNumber` where they aren't 1 to
     /// 1,000,000; else only `NoMemory`.
-    pub fn new(alloc: Global, capacity: u64) -> Result<Cells<K>, Refusal>
+    pub fn new(alloc: Global, capacity: u64) -> Result<Cells, Refusal>
         ensures length { IfOk result (λ cells. length cells ≡ capacity) }
         ensures refused { IfErr result (λ e.
             ((e ≡ BadNumber) × ¬ IsCapacity capacity) ⊎ (e ≡ NoMemory)) }
@@ -171,7 +161,7 @@ impl<K: Keeper> Cells<K> {
     }
 
     /// Makes a new note for each cell.
-    pub(crate) fn notes(&self, alloc: Global) -> Result<Vec<Note<Record<K>>>, AllocError>
+    pub(crate) fn notes(&self, alloc: Global) -> Result<Vec<Note<Record>>, AllocError>
         ensures { IfOk result (λ notes. (names_of notes.items ≡ self.now)
             × (known_of notes.items ≡ replicate (length self.now) None)) }
     {
@@ -184,11 +174,11 @@ impl<K: Keeper> Cells<K> {
 
     /// Sets the cell of a record that the keeper holds, and gives a receipt for it. `BookFull` where
     /// the cell doesn't take it.
-    pub(crate) fn publish<N: BookName>(
+    pub(crate) fn publish<N: BookName, K: Keeper>(
         &self,
         keeper: &K,
-        entry: Box<Record<K>>,
-    ) -> Result<Receipt<N, K>, Refusal>
+        entry: Box<Record>,
+    ) -> Result<Receipt<N>, Refusal>
         requires cells { self.now ≡ N.cells }
         requires number { (0 < entry.value.number) × (entry.value.number ≤ length N.cells) }
         requires kept { HoldsLast K.holds keeper.now entry.value.bytes }
@@ -205,7 +195,7 @@ impl<K: Keeper> Cells<K> {
     }
 
     /// Lends the cell at this index.
-    pub(crate) fn cell(&self, index: usize) -> &OnceBox<Record<K>>
+    pub(crate) fn cell(&self, index: usize) -> &OnceBox<Record>
         requires { index < length self.now }
         ensures { slice_get self.now index ≡ Some (cell_name result.now) }
     {

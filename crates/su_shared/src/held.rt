@@ -22,15 +22,15 @@ use su_keeper::Keeper;
 /// each seat was told, and the ledger of the seats' steps. Its model is the book and the number of
 /// seats.
 #[derive(Drop)]
-pub struct Held<N: BookName, K: Keeper> {
+pub struct Held<N: BookName> {
     book: Book,
-    receipts: Vec<Receipt<N, K>>,
+    receipts: Vec<Receipt<N>>,
     kept: Vec<Kept>,
     calls: Tally<N>,
     rest: Share<N>,
 }
 
-impl<N: BookName, K: Keeper> Model for Held<N, K> {
+impl<N: BookName> Model for Held<N> {
     ghost use Rattle.std.specs.Prelude.{length, ◌≡◌, ◌≤◌, ◌+◌};
     ghost use Rattle.su_shared.specs.Shares.{HeldView, IsHeld};
 
@@ -43,9 +43,9 @@ impl<N: BookName, K: Keeper> Model for Held<N, K> {
         × (257 ≤ h.rest.parts + length h.kept.items) };
 }
 
-impl<N: BookName, K: Keeper> Held<N, K> {
+impl<N: BookName> Held<N> {
     /// Makes what lies under the lock of a book without seats and steps.
-    pub fn new(alloc: Global, book: Book, blank: Blank) -> Held<N, K>
+    pub fn new(alloc: Global, book: Book, blank: Blank) -> Held<N>
         requires ledger { (blank.name ≡ N.name) × (blank.parts ≡ N.parts) × (257 ≤ N.parts) }
         requires cells { book.capacity ≡ length N.cells }
         requires empty { book.journal ≡ [] }
@@ -63,7 +63,7 @@ impl<N: BookName, K: Keeper> Held<N, K> {
 
     /// Makes the next seat, which was told nothing and knows what these notes know. `BadNumber`
     /// after 256 seats; else only `NoMemory`. A refusal changes nothing.
-    pub(crate) fn seat(&mut self, notes: Notes<N, K>) -> Result<Seat<N, K>, Refusal>
+    pub(crate) fn seat(&mut self, notes: Notes<N>) -> Result<Seat<N>, Refusal>
         ensures seat { IfOk result (λ seat. seat ≡ record {
           number = self.old.seats;
           kept = nothing;
@@ -92,14 +92,14 @@ impl<N: BookName, K: Keeper> Held<N, K> {
     /// the seat was told isn't what is kept for it, and after them where the cell doesn't take the
     /// record; and after these `SourceFailed`, where the record couldn't be kept. A refusal changes
     /// nothing but the keeper.
-    pub fn step(
+    pub fn step<K: Keeper>(
         &mut self,
         alloc: Global,
-        cells: &Cells<K>,
+        cells: &Cells,
         keeper: &mut K,
-        seat: &mut Seat<N, K>,
+        seat: &mut Seat<N>,
         event: Event,
-    ) -> Result<(BookReply, Option<Receipt<N, K>>), Refusal>
+    ) -> Result<(BookReply, Option<Receipt<N>>), Refusal>
         requires cells { cells.now ≡ N.cells }
         requires holds { ∥ K.holds keeper.old (record_bytes self.old.book.journal) ∥₁ }
         ensures holds { ∥ K.holds keeper.new (record_bytes self.new.book.journal) ∥₁ }
@@ -154,7 +154,7 @@ impl<N: BookName, K: Keeper> Held<N, K> {
 
     #[tactic(auto, using(crate::proofs::Keeping::length_numbered))]
     /// Makes a receipt for the record of this number, if there is one.
-    pub fn receipt(&mut self, number: u64) -> Option<Receipt<N, K>>
+    pub fn receipt(&mut self, number: u64) -> Option<Receipt<N>>
         ensures held { self.new ≡ self.old }
         ensures none { IfNone result ((number ≡ 0)
             ⊎ (count_of self.old.book.journal < number)) }
@@ -176,14 +176,14 @@ impl<N: BookName, K: Keeper> Held<N, K> {
     }
 
     /// Whether these are the book's seats, in order, and were told what is kept for them.
-    pub fn is_all(&self, seats: &Vec<Seat<N, K>>) -> bool
+    pub fn is_all(&self, seats: &Vec<Seat<N>>) -> bool
         ensures { result ≡ true → AreAll seats.now.items self.now }
     {
         are_kept(&self.kept, seats)
     }
 
     /// Ends the book. The seats are to be all of its seats, in any order; else all is handed back.
-    pub fn close(self, mut seats: Vec<Seat<N, K>>) -> Result<Book, (Held<N, K>, Vec<Seat<N, K>>)>
+    pub fn close(self, mut seats: Vec<Seat<N>>) -> Result<Book, (Held<N>, Vec<Seat<N>>)>
         ensures book { IfOk result (λ b. b ≡ self.book) }
         ensures all { OnOk result ((sorted : _) × IsPermutation seats.items sorted
             × AreAll sorted self × EachKnows sorted (run_records self.book.journal)) }
@@ -195,7 +195,7 @@ impl<N: BookName, K: Keeper> Held<N, K> {
     }
 
     /// Ends the book, with the seats in order.
-    fn close_in_order(mut self, mut seats: Vec<Seat<N, K>>) -> Result<Book, (Held<N, K>, Vec<Seat<N, K>>)>
+    fn close_in_order(mut self, mut seats: Vec<Seat<N>>) -> Result<Book, (Held<N>, Vec<Seat<N>>)>
         ensures book { IfOk result (λ b. b ≡ self.book) }
         ensures all { OnOk result (AreAll seats.items self) }
         ensures knows { OnOk result (EachKnows seats.items (run_records self.book.journal)) }
@@ -218,7 +218,7 @@ impl<N: BookName, K: Keeper> Held<N, K> {
     }
 
     /// Compares what the seat knows under the number of each record: it is that record.
-    pub fn check(&mut self, seat: &mut Seat<N, K>)
+    pub fn check(&mut self, seat: &mut Seat<N>)
         ensures held { self.new ≡ self.old }
         ensures seat { seat.new ≡ seat.old }
         ensures knows { Knows seat.old.known (run_records self.old.book.journal) }
@@ -227,7 +227,7 @@ impl<N: BookName, K: Keeper> Held<N, K> {
     }
 
     /// Whether the seat is one of the book's, and was told what is kept for it.
-    fn is_of(&self, seat: &Seat<N, K>) -> bool
+    fn is_of(&self, seat: &Seat<N>) -> bool
         ensures is { result ≡ true → IsSeat seat.now self.now }
         ensures not { result ≡ false → IsSeat seat.now self.now → ⊥ }
     {
@@ -236,15 +236,15 @@ impl<N: BookName, K: Keeper> Held<N, K> {
     }
 
     /// Makes the step that the seat of this number asks for, and counts it in the ledger.
-    fn take(
+    fn take<K: Keeper>(
         &mut self,
         alloc: Global,
-        cells: &Cells<K>,
+        cells: &Cells,
         keeper: &mut K,
         number: u16,
         event: Event,
         mark: &mut Share<N>,
-    ) -> Result<(BookReply, Option<Receipt<N, K>>, Kept), Refusal>
+    ) -> Result<(BookReply, Option<Receipt<N>>, Kept), Refusal>
         requires cells { cells.now ≡ N.cells }
         requires holds { ∥ K.holds keeper.old (record_bytes self.old.book.journal) ∥₁ }
         requires number { number < self.old.seats }
@@ -291,12 +291,12 @@ impl<N: BookName, K: Keeper> Held<N, K> {
 /// Keeps a new record, sets its cell, and gives a receipt for it. There is room for one more then.
 fn store<N: BookName, K: Keeper>(
     alloc: Global,
-    cells: &Cells<K>,
+    cells: &Cells,
     keeper: &mut K,
-    receipts: &mut Vec<Receipt<N, K>>,
+    receipts: &mut Vec<Receipt<N>>,
     act: &Act,
     event: Event,
-) -> Result<Option<Receipt<N, K>>, Refusal>
+) -> Result<Option<Receipt<N>>, Refusal>
     requires cells { cells.now ≡ N.cells }
     requires asked { Asks event act.now }
     requires number { (n : ℕ) (c : Commit) → act.now ≡ Stored n c
@@ -324,7 +324,7 @@ fn store<N: BookName, K: Keeper>(
     if receipts.reserve(1).is_err() {
         return Err(Refusal::NoMemory);
     }
-    let entry = Record::new(alloc, *number, &bytes, commit, keeper)?;
+    let entry = Record::new(alloc, *number, &bytes, commit, K::gives_back())?;
     let Ok(entry) = Box::new(alloc, entry) else {
         return Err(Refusal::NoMemory);
     };
@@ -339,7 +339,7 @@ fn store<N: BookName, K: Keeper>(
 }
 
 /// Keeps a second receipt of a new record.
-fn keep<N: BookName, K: Keeper>(receipts: &mut Vec<Receipt<N, K>>, stored: &mut Option<Receipt<N, K>>)
+fn keep<N: BookName>(receipts: &mut Vec<Receipt<N>>, stored: &mut Option<Receipt<N>>)
     requires { IfSome stored.old (λ _. vec_len receipts.old < vec_capacity receipts.old) }
     ensures items { receipts.new.items ≡ receipts.old.items ++ option_to_list stored.old }
     ensures same { stored.new ≡ stored.old }
@@ -350,7 +350,7 @@ fn keep<N: BookName, K: Keeper>(receipts: &mut Vec<Receipt<N, K>>, stored: &mut 
 }
 
 /// Makes a second receipt of one that is kept.
-fn receipt_at<N: BookName, K: Keeper>(receipts: &mut Vec<Receipt<N, K>>, index: usize) -> Receipt<N, K>
+fn receipt_at<N: BookName>(receipts: &mut Vec<Receipt<N>>, index: usize) -> Receipt<N>
     requires { index < length receipts.old.items }
     ensures items { receipts.new.items ≡ receipts.old.items }
     ensures found { slice_get receipts.old.items index ≡ Some result }
@@ -359,7 +359,7 @@ fn receipt_at<N: BookName, K: Keeper>(receipts: &mut Vec<Receipt<N, K>>, index: 
 }
 
 /// Makes the receipt that goes with a reply.
-fn last<N: BookName, K: Keeper>(receipts: &mut Vec<Receipt<N, K>>, reply: &BookReply) -> Option<Receipt<N, K>>
+fn last<N: BookName>(receipts: &mut Vec<Receipt<N>>, reply: &BookReply) -> Option<Receipt<N>>
     ensures items { receipts.new.items ≡ receipts.old.items }
     ensures receipt { result ≡ receipt_for reply.now receipts.old.items }
 {
@@ -372,7 +372,7 @@ fn last<N: BookName, K: Keeper>(receipts: &mut Vec<Receipt<N, K>>, reply: &BookR
 }
 
 /// Makes a second receipt of the last record, if there is one.
-fn last_receipt<N: BookName, K: Keeper>(receipts: &mut Vec<Receipt<N, K>>) -> Option<Receipt<N, K>>
+fn last_receipt<N: BookName>(receipts: &mut Vec<Receipt<N>>) -> Option<Receipt<N>>
     ensures items { receipts.new.items ≡ receipts.old.items }
     ensures last { result ≡ last_of receipts.old.items }
 {
@@ -390,7 +390,7 @@ fn are_same(one: Kept, other: Kept) -> bool
 }
 
 /// Whether these seats are numbered in order, and were told what is kept.
-fn are_kept<N: BookName, K: Keeper>(kept: &Vec<Kept>, seats: &Vec<Seat<N, K>>) -> bool
+fn are_kept<N: BookName>(kept: &Vec<Kept>, seats: &Vec<Seat<N>>) -> bool
     ensures { result ≡ true → (map (λ s. s.kept) seats.now.items ≡ kept.now.items)
         × ((k : ℕ) (s : _) → slice_get seats.now.items k ≡ Some s → s.number ≡ k) }
 {
@@ -410,7 +410,7 @@ fn are_kept<N: BookName, K: Keeper>(kept: &Vec<Kept>, seats: &Vec<Seat<N, K>>) -
 }
 
 /// Compares what the seat knows of each receipt's cell: it is what the receipt knows.
-fn check_all<N: BookName, K: Keeper>(receipts: &mut Vec<Receipt<N, K>>, seat: &mut Seat<N, K>)
+fn check_all<N: BookName>(receipts: &mut Vec<Receipt<N>>, seat: &mut Seat<N>)
     ensures receipts { receipts.new.items ≡ receipts.old.items }
     ensures seat { seat.new ≡ seat.old }
     ensures knows { Knows seat.old.known receipts.old.items }

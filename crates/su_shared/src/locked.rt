@@ -19,7 +19,7 @@ use su_keeper::Keeper;
 /// order.
 #[derive(Drop)]
 pub(crate) struct Locked<N: BookName, K: Keeper> {
-    pub(crate) held: Held<N, K>,
+    pub(crate) held: Held<N>,
     pub(crate) keeper: K,
     ghost kept: { ∥ K.holds keeper (record_bytes held.book.journal) ∥₁ },
 }
@@ -30,8 +30,8 @@ impl<N: BookName, K: Keeper> Locked<N, K> {
     pub(crate) fn take_up(
         &mut self,
         alloc: Global,
-        cells: &Cells<K>,
-        seat: &mut Seat<N, K>,
+        cells: &Cells,
+        seat: &mut Seat<N>,
     ) -> Result<u64, BookFault>
         requires cells { cells.now ≡ N.cells }
         requires none { self.old.held.book.journal ≡ [] }
@@ -59,8 +59,8 @@ impl<N: BookName, K: Keeper> Locked<N, K> {
     fn take_one(
         &mut self,
         alloc: Global,
-        cells: &Cells<K>,
-        seat: &mut Seat<N, K>,
+        cells: &Cells,
+        seat: &mut Seat<N>,
     ) -> Result<Option<u64>, Refusal>
         requires cells { cells.now ≡ N.cells }
         ensures end { IfOk result (λ o. IfNone o (K.is_at_end self.new.keeper)) }

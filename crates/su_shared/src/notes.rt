@@ -7,21 +7,20 @@ use crate::cells::{BookName, Cells, Record};
 use once_cell::race::Note;
 use std::alloc::{AllocError, Global};
 use std::marker::{Model, PhantomData};
-use su_keeper::Keeper;
 
 /// Knows the record of one cell. Its model is that record.
 #[derive(Drop)]
-pub struct Receipt<N: BookName, K: Keeper> {
+pub struct Receipt<N: BookName> {
     number: u64,
-    note: Note<Record<K>>,
+    note: Note<Record>,
     of: PhantomData<N>,
 }
 
-impl<N: BookName, K: Keeper> Model for Receipt<N, K> {
-    ghost use Rattle.su_shared.specs.Entry.{Entry};
+impl<N: BookName> Model for Receipt<N> {
+    ghost use Rattle.su_shared.specs.declared.cells.Record.{Record as TheRecord};
     ghost use Rattle.su_shared.specs.Seats.{shown, IsReceipt};
 
-    ghost Value = { Entry };
+    ghost Value = { TheRecord };
 
     ghost view = { λ r. shown r.note.known };
 
@@ -30,26 +29,26 @@ impl<N: BookName, K: Keeper> Model for Receipt<N, K> {
 
 /// What one seat knows of each cell. Its model is the records that are known, by index.
 #[derive(Drop)]
-pub(crate) struct Notes<N: BookName, K: Keeper> {
-    notes: Vec<Note<Record<K>>>,
+pub(crate) struct Notes<N: BookName> {
+    notes: Vec<Note<Record>>,
     of: PhantomData<N>,
 }
 
-impl<N: BookName, K: Keeper> Model for Notes<N, K> {
+impl<N: BookName> Model for Notes<N> {
     ghost use Rattle.std.specs.Prelude.{List, Option};
-    ghost use Rattle.su_shared.specs.Entry.{Entry};
+    ghost use Rattle.su_shared.specs.declared.cells.Record.{Record as TheRecord};
     ghost use Rattle.su_shared.specs.Seats.{AreNotes, known_of};
 
-    ghost Value = { List (Option Entry) };
+    ghost Value = { List (Option TheRecord) };
 
     ghost view = { λ s. known_of s.notes.items };
 
     ghost invariant = { λ s. AreNotes N.cells s.notes.items };
 }
 
-impl<N: BookName, K: Keeper> Receipt<N, K> {
+impl<N: BookName> Receipt<N> {
     /// Makes the receipt of a note that knows its cell's record.
-    pub(crate) fn of(number: u64, note: Note<Record<K>>) -> Receipt<N, K>
+    pub(crate) fn of(number: u64, note: Note<Record>) -> Receipt<N>
         requires { IsReceipt N.cells number note }
         ensures { result ≡ shown note.known }
     {
@@ -68,7 +67,7 @@ impl<N: BookName, K: Keeper> Receipt<N, K> {
     }
 
     /// Makes a second receipt of the record.
-    pub fn again(&mut self) -> Receipt<N, K>
+    pub fn again(&mut self) -> Receipt<N>
         ensures { (self.new ≡ self.old) × (result ≡ self.old) }
     {
         Receipt {
@@ -79,9 +78,9 @@ impl<N: BookName, K: Keeper> Receipt<N, K> {
     }
 }
 
-impl<N: BookName, K: Keeper> Notes<N, K> {
+impl<N: BookName> Notes<N> {
     /// Makes notes that know nothing.
-    pub fn new(alloc: Global, cells: &Cells<K>) -> Result<Notes<N, K>, AllocError>
+    pub fn new(alloc: Global, cells: &Cells) -> Result<Notes<N>, AllocError>
         requires { cells.now ≡ N.cells }
         ensures { IfOk result (λ notes. notes ≡ replicate (length N.cells) None) }
     {
@@ -93,7 +92,7 @@ impl<N: BookName, K: Keeper> Notes<N, K> {
     }
 
     /// Makes a second note of one cell.
-    fn note(&mut self, index: usize) -> Note<Record<K>>
+    fn note(&mut self, index: usize) -> Note<Record>
         requires { index < length N.cells }
         ensures same { self.new ≡ self.old }
         ensures cell { slice_get N.cells index ≡ Some result.cell }
@@ -104,7 +103,7 @@ impl<N: BookName, K: Keeper> Notes<N, K> {
     }
 
     /// Keeps a note of one cell in place of the old one.
-    fn put(&mut self, index: usize, note: Note<Record<K>>)
+    fn put(&mut self, index: usize, note: Note<Record>)
         requires cell { slice_get N.cells index ≡ Some note.cell }
         requires numbered { IfSome note.known (λ r. r.number ≡ index + 1) }
         ensures put { self.new ≡ slice_set self.old index note.known }
@@ -116,7 +115,7 @@ impl<N: BookName, K: Keeper> Notes<N, K> {
     #[tactic(auto, using(crate::proofs::Knowing::learns_set))]
     /// Reads one cell. What is known is found; what is found has the number that is asked for, and
     /// is known from then on.
-    pub fn read<'a>(&mut self, cells: &'a Cells<K>, number: u64) -> Option<&'a Record<K>>
+    pub fn read<'a>(&mut self, cells: &'a Cells, number: u64) -> Option<&'a Record>
         requires { cells.now ≡ N.cells }
         ensures none { IfNone result ((self.new ≡ self.old)
             × (known_at self.old number ≡ None)) }
@@ -142,7 +141,7 @@ impl<N: BookName, K: Keeper> Notes<N, K> {
     }
 
     /// Compares what these notes know of the receipt's cell: if anything, it is the same record.
-    pub fn check(&mut self, receipt: &mut Receipt<N, K>)
+    pub fn check(&mut self, receipt: &mut Receipt<N>)
         ensures notes { self.new ≡ self.old }
         ensures receipt { receipt.new ≡ receipt.old }
         ensures agrees { IfSome (known_at self.old receipt.old.number) (λ r. r ≡ receipt.old) }
@@ -153,7 +152,7 @@ impl<N: BookName, K: Keeper> Notes<N, K> {
 
     #[tactic(auto, using(crate::proofs::Knowing::learns_set))]
     /// Learns the record of the receipt.
-    pub fn learn(&mut self, receipt: &mut Receipt<N, K>)
+    pub fn learn(&mut self, receipt: &mut Receipt<N>)
         ensures receipt { receipt.new ≡ receipt.old }
         ensures learned { self.new
             ≡ slice_set self.old (receipt.old.number - 1) (Some receipt.old) }

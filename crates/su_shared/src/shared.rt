@@ -29,7 +29,7 @@ use su_keeper::Keeper;
 /// it; each is kept before it can be read.
 #[derive(Drop)]
 pub struct SharedBook<N: BookName, K: Keeper> {
-    cells: Cells<K>,
+    cells: Cells,
     locked: Mutex<Locked<N, K>>,
     ghost named: { cells ≡ N.cells },
 }
@@ -40,7 +40,7 @@ impl<N: BookName, K: Keeper> SharedBook<N, K> {
     /// to 1,000,000; `BadKey` where a user's key is none; else only `NoMemory`.
     pub fn new(
         alloc: Global,
-        cells: Cells<K>,
+        cells: Cells,
         roster: Roster,
         blank: Blank,
         keeper: K,
@@ -62,11 +62,11 @@ impl<N: BookName, K: Keeper> SharedBook<N, K> {
     /// those of `new`; and `Record` with the number of the first record that isn't taken up.
     pub fn open(
         alloc: Global,
-        cells: Cells<K>,
+        cells: Cells,
         roster: Roster,
         blank: Blank,
         keeper: K,
-    ) -> Result<(SharedBook<N, K>, Seat<N, K>, u64), BookFault>
+    ) -> Result<(SharedBook<N, K>, Seat<N>, u64), BookFault>
         requires cells { cells ≡ N.cells }
         requires ledger { (blank.name ≡ N.name) × (blank.parts ≡ N.parts) × (257 ≤ N.parts) }
         requires holds { K.holds keeper [] }
@@ -87,7 +87,7 @@ impl<N: BookName, K: Keeper> SharedBook<N, K> {
     }
 
     /// Shares a book, when all that its keeper found is taken up.
-    fn share(cells: Cells<K>, locked: Locked<N, K>) -> SharedBook<N, K>
+    fn share(cells: Cells, locked: Locked<N, K>) -> SharedBook<N, K>
         requires cells { cells ≡ N.cells }
         requires end { K.is_at_end locked.keeper }
     {
@@ -97,7 +97,7 @@ impl<N: BookName, K: Keeper> SharedBook<N, K> {
 
     /// Makes the next seat, which was told nothing and knows nothing. `BadNumber` after 256 seats;
     /// else only `NoMemory`. Its notes, one of each cell, are made before the lock is taken.
-    pub fn seat(&self, rt: &impl Wait, alloc: Global) -> Result<Seat<N, K>, Refusal>
+    pub fn seat(&self, rt: &impl Wait, alloc: Global) -> Result<Seat<N>, Refusal>
         ensures kept { IfOk result (λ seat. seat.kept ≡ nothing) }
         ensures known { IfOk result (λ seat. seat.known ≡ replicate (length N.cells) None) }
         ensures refused { IfErr result (λ e. (e ≡ NoMemory) ⊎ (e ≡ BadNumber)) }
@@ -114,8 +114,8 @@ impl<N: BookName, K: Keeper> SharedBook<N, K> {
         &self,
         rt: &impl Wait,
         alloc: Global,
-        seat: &mut Seat<N, K>,
-    ) -> Result<(BookReply, Option<Receipt<N, K>>), Refusal>
+        seat: &mut Seat<N>,
+    ) -> Result<(BookReply, Option<Receipt<N>>), Refusal>
         ensures gives { IfOk result (λ r. Gives Grant r.0 r.1) }
         ensures tells { IfOk result (λ r. TellsRecords r.0) }
         ensures fresh { IfOk result (λ r. IsFresh seat.old.kept.top r.0) }
@@ -144,9 +144,9 @@ impl<N: BookName, K: Keeper> SharedBook<N, K> {
         &self,
         rt: &impl Wait,
         alloc: Global,
-        seat: &mut Seat<N, K>,
+        seat: &mut Seat<N>,
         bytes: &[u8],
-    ) -> Result<(u64, Receipt<N, K>), Refusal>
+    ) -> Result<(u64, Receipt<N>), Refusal>
         ensures receipt { IfOk result (λ r. r.1 ≡ record { number = r.0; bytes = bytes.now }) }
         ensures fresh { IfOk result (λ r. seat.old.kept.top < r.0) }
         ensures seat { IfOk result (λ r. seat.new ≡ record {
@@ -179,7 +179,7 @@ impl<N: BookName, K: Keeper> SharedBook<N, K> {
 
     /// Gives the turn back. The refusals are `NotYourTurn`, and `BookFull` where what the seat was
     /// told isn't what is kept for it. A refusal leaves the seat as it was.
-    pub fn give(&self, rt: &impl Wait, alloc: Global, seat: &mut Seat<N, K>) -> Result<(), Refusal>
+    pub fn give(&self, rt: &impl Wait, alloc: Global, seat: &mut Seat<N>) -> Result<(), Refusal>
         ensures seat { OnOk result (seat.new ≡ record {
           number = seat.old.number;
           kept = after_give seat.old.kept;
@@ -200,7 +200,7 @@ impl<N: BookName, K: Keeper> SharedBook<N, K> {
 
     /// Reads the cell of a record, without the lock. What the seat knows is found, and what is
     /// found has this number and is known from then on. Its bytes may have to be read by `record`.
-    pub fn published<'a>(&'a self, seat: &mut Seat<N, K>, number: u64) -> Option<&'a Record<K>>
+    pub fn published<'a>(&'a self, seat: &mut Seat<N>, number: u64) -> Option<&'a Record>
         ensures none { IfNone result ((seat.new ≡ seat.old)
             × (known_at seat.old.known number ≡ None)) }
         ensures number { IfSome result (λ r. r.now.number ≡ number) }
@@ -220,7 +220,7 @@ impl<N: BookName, K: Keeper> SharedBook<N, K> {
         &self,
         rt: &impl Wait,
         alloc: Global,
-        found: &Record<K>,
+        found: &Record,
     ) -> Result<Vec<u8>, Refusal>
         ensures hashes { IfOk result (λ commit.
             sha256 commit.items ≡ sha256 found.now.bytes) }
@@ -247,7 +247,7 @@ impl<N: BookName, K: Keeper> SharedBook<N, K> {
     #[tactic(auto, using(crate::proofs::Closing::same_sum))]
     /// Ends the book, and hands its keeper back, which holds its records. The seats are to be all of
     /// the book's, in any order, as they were told; else all is handed back.
-    pub fn close(self, seats: Vec<Seat<N, K>>) -> Result<Closed<K>, (SharedBook<N, K>, Vec<Seat<N, K>>)>
+    pub fn close(self, seats: Vec<Seat<N>>) -> Result<Closed<K>, (SharedBook<N, K>, Vec<Seat<N>>)>
         ensures run { IfOk result (λ c. IsRun c.book) }
         ensures records { IfOk result (λ c. c.records ≡ count_of c.book.journal) }
         ensures calls { IfOk result (λ c. c.calls ≡ length c.book.journal) }

@@ -10,6 +10,8 @@ mod couriers;
 #[cfg(test)]
 mod items;
 #[cfg(test)]
+mod keepers;
+#[cfg(test)]
 mod shared_books;
 #[cfg(test)]
 mod sources;

@@ -28,7 +28,7 @@ fn two_threads_at_one_book(rt: HostRuntime) -> Result<(), Fail> {
 fn hand_over<N: BookName + Send + Sync, R: Threads + Wait + Abort + Sync>(
     rt: &R,
     alloc: Global,
-    cells: Cells<Forgetful>,
+    cells: Cells,
     roster: Roster,
     commit: &[u8],
     blank: Blank,
@@ -67,10 +67,10 @@ fn store<N: BookName, R: Wait + Abort>(
     rt: &R,
     alloc: Global,
     book: &SharedBook<N, Forgetful>,
-    mut seat: Seat<N, Forgetful>,
+    mut seat: Seat<N>,
     commit: &[u8],
-    to: Sender<Receipt<N, Forgetful>>,
-) -> Option<Seat<N, Forgetful>> {
+    to: Sender<Receipt<N>>,
+) -> Option<Seat<N>> {
     let (_reply, receipt) = book.grant(rt, alloc, &mut seat).ok()?;
     assert!(rt; receipt.is_none());
     let (number, receipt) = book.commit(rt, alloc, &mut seat, commit).ok()?;
@@ -82,10 +82,10 @@ fn store<N: BookName, R: Wait + Abort>(
 fn read<N: BookName, R: Wait + Abort>(
     rt: &R,
     book: &SharedBook<N, Forgetful>,
-    mut seat: Seat<N, Forgetful>,
+    mut seat: Seat<N>,
     commit: &[u8],
-    from: Receiver<Receipt<N, Forgetful>>,
-) -> Option<Seat<N, Forgetful>> {
+    from: Receiver<Receipt<N>>,
+) -> Option<Seat<N>> {
     let mut receipt = from.recv(rt).ok()?;
     seat.learn(&mut receipt);
     let record = book.published(&mut seat, 1)?;

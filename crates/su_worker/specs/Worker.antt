@@ -13,7 +13,8 @@ use Rattle.su_message.specs.declared.requests.Request.TheVariants as request
 use Rattle.su_message.specs.declared.replies.Reply.{Reply}
 use Rattle.su_message.specs.declared.replies.Reply.TheVariants as reply
 use Rattle.su_session.specs.Answer.{refusal_reply}
-use Rattle.su_shared.specs.Entry.{Entry, IsShown}
+use Rattle.su_shared.specs.declared.cells.Record.{Record}
+use Rattle.su_shared.specs.Entry.{IsShown}
 use Rattle.su_shared.specs.Seats.{SeatView, known_at, Learns}
 use Rattle.su_shared.specs.Shares.{after_grant, after_commit, after_give, learned, IsGrantRefusal, IsCommitRefusal, IsGiveRefusal, MayMeet}
 
@@ -23,7 +24,7 @@ use Rattle.su_shared.specs.Shares.{after_grant, after_commit, after_give, learne
 -- seat knows the newest one from then on.
 pub record Grants (s : SeatView) (r : Reply) (t : SeatView) : Type 0 where
   pub records : List Commit
-  pub newest : Option Entry
+  pub newest : Option Record
   pub reply_is : r ≡ reply.Granted (length records) (last_numbers records)
   pub fresh : s.kept.top ≤ length records
   pub newest_is : MatchOption newest (length records ≡ 0) (λ x. x.number ≡ length records)
@@ -37,7 +38,7 @@ pub record Grants (s : SeatView) (r : Reply) (t : SeatView) : Type 0 where
 -- The commit of these bytes is stored, under a number above all that the seat was told before. The
 -- seat had the turn, and hasn't any more; it knows this record from then on.
 pub record Stores (s : SeatView) (bytes : List ℕ) (r : Reply) (t : SeatView) : Type 0 where
-  pub stored : Entry
+  pub stored : Record
   pub bytes_are : stored.bytes ≡ bytes
   pub reply_is : r ≡ reply.Stored stored.number
   pub fresh : s.kept.top < stored.number
@@ -85,7 +86,7 @@ Tells may_fail bytes r =
 -- it knows from then on, and is told of.
 pub record Reads (may_fail : Type 0) (s : SeatView) (number : ℕ) (r : Reply) (t : SeatView)
     : Type 0 where
-  pub found : Entry
+  pub found : Record
   pub numbered : found.number ≡ number
   pub agrees : Agrees (known_at s.known number) found
   pub told : Tells may_fail found.bytes r

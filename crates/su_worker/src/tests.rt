@@ -129,8 +129,8 @@ fn served_at<N: BookName, R: Wait + Abort, G: Gate>(
     alloc: Global,
     book: &SharedBook<N, Forgetful>,
     gate: &G,
-    seat: Seat<N, Forgetful>,
-) -> Result<(Served, Seat<N, Forgetful>), Fail> {
+    seat: Seat<N>,
+) -> Result<(Served, Seat<N>), Fail> {
     let blocks = SharedBlocks::new(alloc)?;
     let mut service = Gated::new(Worker::new(rt, book, &blocks, seat), gate);
     service.begin(3);
@@ -141,7 +141,7 @@ fn served_at<N: BookName, R: Wait + Abort, G: Gate>(
 fn try_worker<N: BookName, R: Wait + Abort>(
     rt: &R,
     alloc: Global,
-    cells: Cells<Forgetful>,
+    cells: Cells,
     roster: Roster,
     blank: Blank,
 ) -> Result<(), Fail>
@@ -235,7 +235,7 @@ fn is_answered<S: Service>(alloc: Global, service: &mut S, digest: Digest, item:
 fn try_kept_item<N: BookName, R: Wait + Abort>(
     rt: &R,
     alloc: Global,
-    cells: Cells<GivesOnce>,
+    cells: Cells,
     roster: Roster,
     blank: Blank,
 ) -> Result<(), Fail>

@@ -24,7 +24,7 @@ use su_shared::{BookName, Record, Seat, SharedBook};
 pub struct Worker<'a, N: BookName, K: Keeper, R: Wait> {
     book: &'a SharedBook<N, K>,
     blocks: &'a SharedBlocks,
-    seat: Seat<N, K>,
+    seat: Seat<N>,
     rt: &'a R,
 }
 
@@ -42,7 +42,7 @@ impl<'a, N: BookName, K: Keeper, R: Wait> Worker<'a, N, K, R> {
         rt: &'a R,
         book: &'a SharedBook<N, K>,
         blocks: &'a SharedBlocks,
-        seat: Seat<N, K>,
+        seat: Seat<N>,
     ) -> Worker<'a, N, K, R>
         ensures { result ≡ seat }
     {
@@ -55,7 +55,7 @@ impl<'a, N: BookName, K: Keeper, R: Wait> Worker<'a, N, K, R> {
     }
 
     /// Hands the seat back, with which the book is closed.
-    pub fn into_seat(self) -> Seat<N, K>
+    pub fn into_seat(self) -> Seat<N>
         ensures { result ≡ self.entry }
     {
         self.seat
@@ -94,7 +94,7 @@ impl<'a, N: BookName, K: Keeper, R: Wait> Worker<'a, N, K, R> {
     }
 
     /// Tells the bytes of a record.
-    fn tell(&self, alloc: Global, found: &Record<K>) -> Result<Reply, Refusal>
+    fn tell(&self, alloc: Global, found: &Record) -> Result<Reply, Refusal>
         ensures { Tells K.may_fail found.now.bytes (said result) }
     {
         let commit = self.bytes_of(alloc, found)?;
@@ -103,20 +103,22 @@ impl<'a, N: BookName, K: Keeper, R: Wait> Worker<'a, N, K, R> {
 
     /// Gets the bytes of a record. `NoMemory`; `SourceFailed` where they aren't in its cell and the
     /// keeper fails.
-    fn bytes_of(&self, alloc: Global, found: &Record<K>) -> Result<Bytes, Refusal>
+    fn bytes_of(&self, alloc: Global, found: &Record) -> Result<Bytes, Refusal>
         ensures shown { IfOk result (IsShown K.may_fail found.now.bytes) }
         ensures refused { IfErr result (λ e.
             (e ≡ NoMemory) ⊎ ((e ≡ SourceFailed) × K.may_fail)) }
     {
         match found.bytes() {
             Some(bytes) => Ok(Bytes::copy_of(alloc, bytes)?),
-            None => Ok(Bytes::new(self.kept_record(alloc, found)?)),
+            None if K::gives_back() => Ok(Bytes::new(self.kept_record(alloc, found)?)),
+            // all bytes are in their cells then, but no clause says so
+            None => Err(Refusal::NoMemory),
         }
     }
 
     /// Gets the bytes of a record that aren't in its cell: from the shared items, or else from the
     /// book's keeper, and then they are shared. `NoMemory`; `SourceFailed` where the keeper fails.
-    fn kept_record(&self, alloc: Global, found: &Record<K>) -> Result<Vec<u8>, Refusal>
+    fn kept_record(&self, alloc: Global, found: &Record) -> Result<Vec<u8>, Refusal>
         ensures hashes { IfOk result (λ commit.
             sha256 commit.items ≡ sha256 found.now.bytes) }
         ensures refused { IfErr result (λ e. (e ≡ NoMemory) ⊎ (e ≡ SourceFailed)) }

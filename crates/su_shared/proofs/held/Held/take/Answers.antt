@@ -4,7 +4,7 @@ use Rattle.std.proofs.lemmas.List.{length-set, get_or_read}
 use Rattle.su_book.specs.declared.steps.Act.{Act}
 use Rattle.su_book.specs.declared.events.BookReply.{BookReply}
 use Rattle.su_book.specs.Machine.{BookState, MayAct, with_step, records_of}
-use Rattle.su_shared.specs.Entry.{Entry}
+use Rattle.su_shared.specs.declared.cells.Record.{Record}
 use Rattle.su_shared.specs.declared.seats.Kept.{Kept}
 use Rattle.su_shared.specs.Shares.{HeldView, IsHeld, nothing, kept_after, kept_by, kept_of, run_records, record_bytes, receipt_for, Gives}
 use Rattle.su_shared.proofs.Keeping.{step_of, added, added_is, held_step, kept_fits, kept_same, kept_told, gives, holds_step}
@@ -42,12 +42,12 @@ invariant_of-self-2 g c =
     let kept : c.after-kept.result ≡ kept_by (get_or s.kept.items i nothing) act = c.after-kept.ensures ∙ ap (λ (k : Kept). kept_after k r) at ∙ told in
     let new = held_step (length g.N.BookName.cells) b s.receipts.items s.kept.items i act c.self.invariant.0 within may in
     let receipts : c.last-receipt.new.receipts.items ≡ s.receipts.items ++ added b act =
-    c.last-receipt.ensures.items ∙ (c.keep.ensures.items ∙ (ap (λ (l : List Entry). l ++ option_to_list c.in_ok-stored.stored) c.in_ok-stored.ensures.items
-    ∙ (ap (λ (l : List Entry). s.receipts.items ++ l) (added_is b i act c.in_ok-stored.stored may c.in_ok-stored.ensures.none c.in_ok-stored.ensures.stored)))) in
-    let P : BookState → List Entry → Kept → Type 0 = λ v l k. IsHeld (length g.N.BookName.cells) v l (set s.kept.items i k) in
+    c.last-receipt.ensures.items ∙ (c.keep.ensures.items ∙ (ap (λ (l : List Record). l ++ option_to_list c.in_ok-stored.stored) c.in_ok-stored.ensures.items
+    ∙ (ap (λ (l : List Record). s.receipts.items ++ l) (added_is b i act c.in_ok-stored.stored may c.in_ok-stored.ensures.none c.in_ok-stored.ensures.stored)))) in
+    let P : BookState → List Record → Kept → Type 0 = λ v l k. IsHeld (length g.N.BookName.cells) v l (set s.kept.items i k) in
     let more : length c.apply.new.self.journal ≡ length b.journal + 1 = ap (λ (v : BookState). length v.journal) book ∙ length-append b.journal (step_of i act ∷ []) in (
       subst (λ (v : BookState). P v c.last-receipt.new.receipts.items c.after-kept.result) (sym book)
-          (subst (λ (l : List Entry). P (with_step b (step_of i act)) l c.after-kept.result) (sym receipts)
+          (subst (λ (l : List Record). P (with_step b (step_of i act)) l c.after-kept.result) (sym receipts)
           (subst (λ (k : Kept). P (with_step b (step_of i act)) (s.receipts.items ++ added b act) k) (sym kept) new)),
       omega (arith, c.add.ensures.total, c.self.invariant.1, more),
       c.self.invariant.2,
@@ -57,7 +57,7 @@ invariant_of-self-2 g c =
 pub returns-clause-receipt : goal.returns-clause-receipt
 returns-clause-receipt g c =
     let new = (invariant_of-self-2 g c).0 in
-    c.last-receipt.ensures.receipt ∙ ap (λ (l : List Entry). receipt_for c.in-Ok.reply l) (sym c.last-receipt.ensures.items ∙ new.records)
+    c.last-receipt.ensures.receipt ∙ ap (λ (l : List Record). receipt_for c.in-Ok.reply l) (sym c.last-receipt.ensures.items ∙ new.records)
 
 pub returns-clause-kept : goal.returns-clause-kept
 returns-clause-kept g c =
