@@ -27,9 +27,9 @@ impl Model for Shard {
     ghost Value = { Held };
 
     ghost view = { λ s. record {
-        staying = s.staying.items;
-        staying_room = s.staying.room;
-        spare = s.spare
+      staying = s.staying.items;
+      staying_room = s.staying.room;
+      spare = s.spare;
     } };
 }
 
@@ -38,9 +38,9 @@ impl Shard {
     /// stay `staying` bytes.
     pub(crate) fn new(alloc: Global, spare: usize, staying: usize) -> Result<Shard, AllocError>
         ensures { IfOk result (λ s. s ≡ record {
-            staying = [];
-            staying_room = staying;
-            spare = record { items = []; room = spare }
+          staying = [];
+          staying_room = staying;
+          spare = record { items = []; room = spare };
         }) }
     {
         let spare = SpareItems::new(alloc, spare)?;

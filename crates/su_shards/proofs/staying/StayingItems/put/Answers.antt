@@ -1,11 +1,11 @@
-use Rattle.std.proofs.Common.{◌≡◌, ◌∙◌, ◌≤◌, ◌+◌, sym, ap, arith, length, subst}
+use Rattle.std.proofs.Common.{◌≡◌, ◌∙◌, ◌≤◌, ◌+◌, sym, ap, arith, length}
 use Rattle.std.specs.Prelude.{None, Some, is_some}
 use Rattle.std.specs.Map.{lookup}
 use Rattle.std.specs.BTreeMap.{is_at}
 use Rattle.std.specs.Ordering.{nat_cmp}
 use Rattle.std.specs.Cmp.Lexicographic.{slice_cmp}
 use Rattle.sha2.specs.Sha256.{sha256}
-use Rattle.su_shards.specs.Shard.{item_under, IsCounted}
+use Rattle.su_shards.specs.Shard.{item_under}
 use Rattle.su_shards.proofs.Counting.{at_digest, counted-insert_entry, stays-insert, within_room}
 use Rattle.su_shards.proofs.staying.StayingItems.put.Goals as goal
 
