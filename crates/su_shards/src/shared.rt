@@ -21,10 +21,11 @@ const LEAST_STAYING: usize = 1 << 20;
 ///
 /// An item that was put stays, until it is told that it is kept elsewhere. Those that stay take a
 /// bounded room in each shard: where there is none for another one, that one is refused, as what was
-/// answered is never dropped. Items that are kept elsewhere, those that
-/// came by `share`, and those of either kind that are put once more take a bounded room in each
-/// shard: where there is none for another one, those go that were asked for longest ago. Which items
-/// are kept elsewhere is remembered by their digests.
+/// acknowledged is never dropped.
+///
+/// Items that are kept elsewhere, those that came by `share`, and those of either kind that are put
+/// once more take a bounded room in each shard too: where there is none for another one, those go
+/// that were asked for longest ago. Which items are kept elsewhere is remembered by their digests.
 #[derive(Drop)]
 pub struct SharedBlocks {
     shards: Vec<Mutex<Section>>,

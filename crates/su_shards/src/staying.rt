@@ -77,6 +77,7 @@ impl StayingItems {
         if item.len() > self.room - self.taken {
             return Err(Refusal::NoMemory);
         }
+        prove!(self.taken + item.len() <= self.room);
         let held = Item::copy_of(alloc, item)?;
         self.items.insert(*digest.as_bytes(), held)?;
         self.taken += item.len();

@@ -19,7 +19,7 @@ pub invariant_of-self-2 : goal.invariant_of-self-2
 invariant_of-self-2 c =
     let own : sha256 c.in_ok-held.held ≡ c.as_bytes.result.now = ap sha256 c.in_ok-held.ensures.bytes ∙ c.requires.own ∙ sym c.as_bytes.ensures in
     let size : length c.in_ok-held.held ≡ length c.args.item.now = ap length c.in_ok-held.ensures.bytes in
-    let fits : c.self.inside.taken + length c.in_ok-held.held ≤ c.self.inside.room = omega (arith, size, c.if-item-self.false, c.self.invariant.bounded) in
+    let fits : c.self.inside.taken + length c.in_ok-held.held ≤ c.self.inside.room = omega (arith, size, c.if-prove.false) in
     rw (c.in_ok-insert.ensures.entries, ← size) (counted-insert_entry c.as_bytes.result.now c.in_ok-held.held c.self.inside.items.entries c.self.inside.taken c.self.inside.room c.self.invariant own (none c) fits)
 
 pub returns-clause-held : goal.returns-clause-held
