@@ -211,7 +211,18 @@ by_digest d es = λ i. lookup (λ k. is_eq-slice_cmp d k i) es
 pub removed_by_digest : (d : List ℕ) (es : Items) → remove_entry (is_at (slice_cmp nat_cmp d)) es ≡ remove_entry (bytes_eq d) es
 removed_by_digest d es = λ i. remove_entry (λ k. is_eq-slice_cmp d k i) es
 
+pub at_digest : (k d : List ℕ) (es : Items) → k ≡ d → lookup (is_at (slice_cmp nat_cmp k)) es ≡ item_under es d
+at_digest k d es same = by_digest k es ∙ ap (item_under es) same
+
+pub removed_at_digest : (k d : List ℕ) (es : Items) → k ≡ d → remove_entry (is_at (slice_cmp nat_cmp k)) es ≡ remove_entry (bytes_eq d) es
+removed_at_digest k d es same = removed_by_digest k es ∙ ap (λ e. remove_entry (bytes_eq e) es) same
+
 -- ---- those that stay
+
+-- what is lent has the digest that each of the items found has
+pub lent_has_digest : {X : Type 0} (f : X → List ℕ) (o : Option X) (d : List ℕ) → ((v : List ℕ) → option_map f o ≡ Some v → sha256 v ≡ d) → IfSome o (λ x. sha256 (f x) ≡ d)
+lent_has_digest f None d own = tt
+lent_has_digest f (Some x) d own = own (f x) refl
 
 same_digest : (d k : List ℕ) → is_at (slice_cmp nat_cmp d) k ≡ true → k ≡ d
 same_digest d k is = one_digest d k (sym (is_eq-slice_cmp d k) ∙ is)
@@ -228,6 +239,33 @@ module _ (k v : List ℕ) (own : sha256 v ≡ k) where
   digests-insert_entry [] under = (own, tt)
   digests-insert_entry (e ∷ es) under =
       put_at (slice_cmp nat_cmp k e.0) e es (insert_entry (slice_cmp nat_cmp) es k v) (λ equal. sym (same_digest k e.0 (ap is_eq equal))) under (digests-insert_entry es under.1)
+
+module _ (k v : List ℕ) where
+  bytes_at : (o : Ordering) (e : List ℕ × List ℕ) (es more : Items) → slice_cmp nat_cmp k e.0 ≡ o → cond (is_eq o) (Some e.1) (lookup (is_at (slice_cmp nat_cmp k)) es) ≡ None
+      → (lookup (is_at (slice_cmp nat_cmp k)) es ≡ None → bytes_of more ≡ bytes_of es + length v)
+      → bytes_of (match_ordering o ((k, v) ∷ e ∷ es) ((e.0, v) ∷ es) (e ∷ more)) ≡ bytes_of (e ∷ es) + length v
+  bytes_at Less e es more is none rest = sum_by-cons length v (values_of (e ∷ es)) ∙ omega arith
+  bytes_at Equal e es more is none rest = absurd (cc)
+  bytes_at Greater e es more is none rest =
+      sum_by-cons length e.1 (values_of more) ∙ omega (arith, rest none, sum_by-cons length e.1 (values_of es))
+
+  -- one item more, where there was none
+  pub bytes_of-insert_entry : (es : Items) → lookup (is_at (slice_cmp nat_cmp k)) es ≡ None → bytes_of (insert_entry (slice_cmp nat_cmp) es k v) ≡ bytes_of es + length v
+  bytes_of-insert_entry [] none = refl
+  bytes_of-insert_entry (e ∷ es) none =
+      bytes_at (slice_cmp nat_cmp k e.0) e es (insert_entry (slice_cmp nat_cmp) es k v) refl none (bytes_of-insert_entry es)
+
+-- the count of those that stay, with one more
+pub counted-insert_entry : (k v : List ℕ) (es : Items) (taken room : ℕ) → IsCounted es taken room → sha256 v ≡ k → lookup (is_at (slice_cmp nat_cmp k)) es ≡ None → taken + length v ≤ room
+    → IsCounted (insert_entry (slice_cmp nat_cmp) es k v) (taken + length v) room
+counted-insert_entry k v es taken room was own none fits = record {
+  digests = digests-insert_entry k v own es was.digests;
+  counted = bytes_of-insert_entry k v es none ∙ ap (λ n. n + length v) was.counted;
+  bounded = fits;
+}
+
+pub within_room : (es : Items) (taken room : ℕ) → IsCounted es taken room → bytes_of es ≤ room
+within_room es taken room is = omega (arith, is.counted, is.bounded)
 
 -- what stayed stays where an item is put under another digest
 pub stays-insert : (k v : List ℕ) (old new : Items)

@@ -17,6 +17,11 @@ item_under items digest = lookup (bytes_eq digest) items
 abbrev pub bytes_of : Items → ℕ
 bytes_of items = sum_by length (values_of items)
 
+-- the items that stay, and the bytes that they may take
+pub record Staying : Type 0 where
+  pub items : Items
+  pub room : ℕ
+
 -- the items that may go, the one that was asked for last first, and the bytes that they may take
 pub record Spare : Type 0 where
   pub items : Items
@@ -55,9 +60,10 @@ abbrev pub LetsGo : List ℕ → Option (List ℕ) → Spare → Spare → Type 
 LetsGo digest stayed old new = MatchOption stayed (new ≡ old)
     (λ item. Adds digest item old new ⊎ HasRoomFor (length item) old new)
 
--- the items that stay, and those that may go
+-- the items that stay, the bytes that they may take, and the items that may go
 pub record Held : Type 0 where
   pub staying : Items
+  pub staying_room : ℕ
   pub spare : Spare
 
 -- an item is under this digest, among those that stay or those that may go

@@ -6,6 +6,7 @@ mod sections;
 mod shard;
 mod shared;
 mod spare;
+mod staying;
 
 pub use shared::SharedBlocks;
 

@@ -30,10 +30,10 @@ impl Model for Section {
 }
 
 impl Section {
-    /// Makes a shard without items, which was told nothing. Those that may go may take so many
-    /// bytes in all.
-    pub(crate) fn new(alloc: Global, room: usize) -> Result<Section, AllocError> {
-        let shard = Shard::new(alloc, room)?;
+    /// Makes a shard without items, which was told nothing. Those that may go may take `spare` bytes
+    /// in all, and those that stay `staying` bytes.
+    pub(crate) fn new(alloc: Global, spare: usize, staying: usize) -> Result<Section, AllocError> {
+        let shard = Shard::new(alloc, spare, staying)?;
         Ok(Section {
             shard,
             elsewhere: BTreeSet::new(alloc),
@@ -49,7 +49,8 @@ impl Section {
     }
 
     /// Puts an item under its digest. It stays, unless it is kept elsewhere too: then it may go.
-    /// `NoMemory` where there is no room for it.
+    /// `NoMemory` where there is no memory for it, or where it would stay and there is no room for
+    /// it among those that do.
     pub(crate) fn put(&mut self, alloc: Global, digest: &Digest, item: &[u8]) -> Result<(), Refusal>
         requires { sha256 item.now ≡ digest.now }
         ensures stays { is_elsewhere self.old.elsewhere digest.now ≡ false

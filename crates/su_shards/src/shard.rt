@@ -1,23 +1,23 @@
 // One of the shards.
-ghost use Rattle.std.specs.Prelude.{◌≡◌, ◌⊎◌, ◌<◌, ℕ, List, [], Err, Some, None, IsSome, IfOk, IfErr, OnOk, OnErr, length};
+ghost use Rattle.std.specs.Prelude.{◌≡◌, ◌⊎◌, ◌<◌, ◌≤◌, ℕ, List, [], Ok, Err, Some, None, IsSome, IfOk, IfErr, OnOk, OnErr, length};
 ghost use Rattle.std.specs.Map.{remove_entry};
 ghost use Rattle.std.specs.Str.{bytes_eq};
 ghost use Rattle.sha2.specs.Sha256.{sha256};
 ghost use Rattle.lru.specs.LruCache.{promoted};
 ghost use Rattle.su_bytes.specs.declared.refusals.Refusal.TheVariants.{MissingBlock, NoMemory};
-ghost use Rattle.su_shards.specs.Shard.{item_under, Holds, HoldsNone, LetsGo};
+ghost use Rattle.su_shards.specs.Shard.{item_under, bytes_of, Holds, HoldsNone, LetsGo};
 
 use crate::items::Item;
 use crate::spare::SpareItems;
+use crate::staying::StayingItems;
 use std::alloc::{AllocError, Global};
-use std::collections::BTreeMap;
 use std::marker::Model;
 use su_bytes::{Digest, Refusal};
 
 /// Items in memory: those that stay, and those that may go. Its model is these.
 #[derive(Drop)]
 pub(crate) struct Shard {
-    staying: BTreeMap<[u8; 32], Item>,
+    staying: StayingItems,
     spare: SpareItems,
 }
 
@@ -26,22 +26,26 @@ impl Model for Shard {
 
     ghost Value = { Held };
 
-    ghost use Rattle.su_block.specs.Memory.{AreUnderTheirDigests};
-
-    ghost view = { λ s. record { staying = s.staying.entries; spare = s.spare } };
-
-    ghost invariant = { λ s. AreUnderTheirDigests s.staying.entries };
+    ghost view = { λ s. record {
+      staying = s.staying.items;
+      staying_room = s.staying.room;
+      spare = s.spare;
+    } };
 }
 
 impl Shard {
-    /// Makes a shard without items, where those that may go may take so many bytes in all.
-    pub(crate) fn new(alloc: Global, room: usize) -> Result<Shard, AllocError>
-        ensures { IfOk result (λ s.
-            s ≡ record { staying = []; spare = record { items = []; room = room } }) }
+    /// Makes a shard without items. Those that may go may take `spare` bytes in all, and those that
+    /// stay `staying` bytes.
+    pub(crate) fn new(alloc: Global, spare: usize, staying: usize) -> Result<Shard, AllocError>
+        ensures { IfOk result (λ s. s ≡ record {
+          staying = [];
+          staying_room = staying;
+          spare = record { items = []; room = spare };
+        }) }
     {
-        let spare = SpareItems::new(alloc, room)?;
+        let spare = SpareItems::new(alloc, spare)?;
         Ok(Shard {
-            staying: BTreeMap::new(alloc),
+            staying: StayingItems::new(alloc, staying),
             spare,
         })
     }
@@ -56,8 +60,9 @@ impl Shard {
         ensures spare { item_under self.old.staying digest.now ≡ None
             → self.new.spare.items ≡ promoted (bytes_eq digest.now) self.old.spare.items }
         ensures room { self.new.spare.room ≡ self.old.spare.room }
+        ensures staying_room { self.new.staying_room ≡ self.old.staying_room }
     {
-        if let Some(item) = self.staying.get(digest.as_bytes()) {
+        if let Some(item) = self.staying.get(digest) {
             return item.copy(alloc);
         }
         let Some(item) = self.spare.copy(alloc, digest)? else {
@@ -66,7 +71,9 @@ impl Shard {
         Ok(item)
     }
 
-    /// Puts an item under its digest, where it stays. `NoMemory` where there is no room for it.
+    /// Puts an item under its digest, where it stays. One that stays already is answered whatever
+    /// the room. `NoMemory` where there is no room for it among those that stay, or no memory; then
+    /// nothing changes.
     pub(crate) fn put(&mut self, alloc: Global, digest: &Digest, item: &[u8]) -> Result<(), Refusal>
         requires { sha256 item.now ≡ digest.now }
         ensures held { OnOk result (IsSome (item_under self.new.staying digest.now)) }
@@ -75,16 +82,21 @@ impl Shard {
             → item_under self.new.staying d ≡ Some item }
         ensures room { self.new.spare.room ≡ self.old.spare.room }
         ensures refused { IfErr result (λ e. e ≡ NoMemory) }
+        ensures there { IsSome (item_under self.old.staying digest.now)
+            → (result ≡ Ok tt) × (self.new ≡ self.old) }
+        // Those that stay take no more than there is room for.
+        ensures bounded { bytes_of self.new.staying ≤ self.new.staying_room }
+        ensures staying_room { self.new.staying_room ≡ self.old.staying_room }
+        ensures unchanged { OnErr result (self.new ≡ self.old) }
     {
-        if self.staying.contains_key(digest.as_bytes()) {
+        if self.staying.contains(digest) {
             return Ok(());
         }
-        let item = match self.spare.take(digest) {
-            Some(item) => item,
-            None => Item::copy_of(alloc, item)?,
-        };
-        self.staying.insert(*digest.as_bytes(), item)?;
-        Ok(())
+        let put = self.staying.put(alloc, digest, item);
+        if put.is_ok() {
+            drop(self.spare.take(digest));
+        }
+        put
     }
 
     /// Puts an item that is kept elsewhere too under its digest, as one that may go. `NoMemory`
@@ -101,9 +113,10 @@ impl Shard {
             ⊎ (self.old.spare.room < length item.now)) }
         ensures staying { self.new.staying ≡ self.old.staying }
         ensures room { self.new.spare.room ≡ self.old.spare.room }
+        ensures staying_room { self.new.staying_room ≡ self.old.staying_room }
         ensures refused { IfErr result (λ e. e ≡ NoMemory) }
     {
-        if self.staying.contains_key(digest.as_bytes()) {
+        if self.staying.contains(digest) {
             return Ok(());
         }
         if self.spare.promote(digest) {
@@ -119,8 +132,9 @@ impl Shard {
         ensures staying { self.new.staying ≡ remove_entry (bytes_eq digest.now) self.old.staying }
         ensures spare { LetsGo digest.now (item_under self.old.staying digest.now)
             self.old.spare self.new.spare }
+        ensures staying_room { self.new.staying_room ≡ self.old.staying_room }
     {
-        if let Some(item) = self.staying.remove(digest.as_bytes()) {
+        if let Some(item) = self.staying.take(digest) {
             let _ = self.spare.add(digest, item);
         }
     }

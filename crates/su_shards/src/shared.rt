@@ -13,13 +13,19 @@ use su_bytes::{Digest, Refusal};
 /// How many shards there are.
 const SHARDS: usize = 16;
 
+/// The bytes that the items which stay may take in each shard, at least: 1 MiB.
+const LEAST_STAYING: usize = 1 << 20;
+
 /// Items that threads share, in shards of which each has a lock of its own. The low four bits of a
 /// digest's first byte tell in which one an item is.
 ///
-/// An item that was put stays, until it is told that it is kept elsewhere. Such items, those that
-/// came by `share`, and those of either kind that are put once more take a bounded room in each
-/// shard: where there is none for another one, those go that were asked for longest ago. Which items
-/// are kept elsewhere is remembered by their digests.
+/// An item that was put stays, until it is told that it is kept elsewhere. Those that stay take a
+/// bounded room in each shard: where there is none for another one, that one is refused, as what was
+/// acknowledged is never dropped.
+///
+/// Items that are kept elsewhere, those that came by `share`, and those of either kind that are put
+/// once more take a bounded room in each shard too: where there is none for another one, those go
+/// that were asked for longest ago. Which items are kept elsewhere is remembered by their digests.
 #[derive(Drop)]
 pub struct SharedBlocks {
     shards: Vec<Mutex<Section>>,
@@ -27,22 +33,30 @@ pub struct SharedBlocks {
 }
 
 impl SharedBlocks {
-    /// Makes shards without items, with room for all. Fails where there is no memory.
+    /// Makes shards without items, with room for all, without a bound. Fails where there is no
+    /// memory.
     pub fn new(alloc: Global) -> Result<SharedBlocks, AllocError> {
-        SharedBlocks::with_rooms(alloc, usize::MAX)
+        SharedBlocks::with_rooms(alloc, usize::MAX, usize::MAX)
     }
 
-    /// Makes shards without items, where those that are kept elsewhere too may take so many bytes
-    /// in all, a sixteenth in each shard. Fails where there is no memory.
+    /// Makes shards without items, where those that are kept elsewhere too may take `room` bytes in
+    /// all, a sixteenth in each shard. Those that stay may take as many bytes besides, a sixteenth
+    /// in each shard too, but at least 1 MiB (1,048,576 bytes) there. Fails where there is no memory.
     pub fn with_room(alloc: Global, room: usize) -> Result<SharedBlocks, AllocError> {
-        SharedBlocks::with_rooms(alloc, room / SHARDS)
+        let share = room / SHARDS;
+        SharedBlocks::with_rooms(alloc, share, share.max(LEAST_STAYING))
     }
 
-    /// Makes shards with this room each.
-    fn with_rooms(alloc: Global, room: usize) -> Result<SharedBlocks, AllocError> {
+    /// Makes shards without items. In each those that are kept elsewhere too may take `spare` bytes,
+    /// and those that stay `staying` bytes. Fails where there is no memory.
+    pub(crate) fn with_rooms(
+        alloc: Global,
+        spare: usize,
+        staying: usize,
+    ) -> Result<SharedBlocks, AllocError> {
         let mut shards = Vec::with_capacity(alloc, SHARDS)?;
         for _ in 0..SHARDS {
-            shards.push(Mutex::new(Section::new(alloc, room)?))?;
+            shards.push(Mutex::new(Section::new(alloc, spare, staying)?))?;
         }
         Ok(SharedBlocks { shards })
     }
@@ -58,8 +72,9 @@ impl SharedBlocks {
 
     /// Puts an item, which stays from then on unless it is kept elsewhere too, and answers its
     /// digest, which is computed before a lock is taken. `TooBig` where it has not 1 to 70,000
-    /// bytes, and just there; `NoMemory` where there is no room for it. Putting what stays already
-    /// changes nothing.
+    /// bytes, and just there; `NoMemory` where there is no memory for it, or no room in its shard
+    /// among the items that stay, and then nothing changes. Putting what stays already changes
+    /// nothing, and is answered whatever the room.
     pub fn put(&self, rt: &impl Wait, alloc: Global, item: &[u8]) -> Result<Digest, Refusal>
         ensures digest { IfOk result (λ digest. digest ≡ sha256 item.now) }
         ensures too_big { (result ≡ Err TooBig) ↔ (is_item item.now ≡ false) }
@@ -74,8 +89,8 @@ impl SharedBlocks {
     }
 
     /// Puts an item that is kept elsewhere too, as the newest of those that may go, and answers its
-    /// digest. It isn't held where it has more bytes than there is room for at all. The refusals
-    /// are those of `put`. Where the item is there already, whether it stays doesn't change.
+    /// digest. It isn't held where it has more bytes than there is room for at all. `TooBig` where
+    /// it has not 1 to 70,000 bytes, and just there; `NoMemory` where there is no memory for it. Where the item is there already, whether it stays doesn't change.
     pub fn share(&self, rt: &impl Wait, alloc: Global, item: &[u8]) -> Result<Digest, Refusal>
         ensures digest { IfOk result (λ digest. digest ≡ sha256 item.now) }
         ensures too_big { (result ≡ Err TooBig) ↔ (is_item item.now ≡ false) }

@@ -151,3 +151,32 @@ fn none_may_stay_where_there_is_no_room(rt: HostRuntime) -> Result<(), Fail> {
     assert!(rt; has(&rt, alloc, &all, SEA));
     Ok(())
 }
+
+#[test]
+fn a_put_beyond_the_room_is_refused(rt: HostRuntime) -> Result<(), Fail> {
+    let alloc = rt.alloc();
+    let blocks = SharedBlocks::with_rooms(alloc, 3, 6)?;
+    let abc = put(&rt, alloc, &blocks, ABC).ok_or("not put")?;
+    assert!(rt; put(&rt, alloc, &blocks, SEA).is_some());
+    assert!(rt; matches!(blocks.put(&rt, alloc, BAT), Err(Refusal::NoMemory)));
+    assert!(rt; !has(&rt, alloc, &blocks, BAT));
+    assert!(rt; put(&rt, alloc, &blocks, ABC).is_some());
+    assert!(rt; has(&rt, alloc, &blocks, ABC));
+    assert!(rt; has(&rt, alloc, &blocks, SEA));
+    blocks.release(&rt, alloc, abc);
+    assert!(rt; put(&rt, alloc, &blocks, BAT).is_some());
+    assert!(rt; has(&rt, alloc, &blocks, BAT));
+    assert!(rt; put(&rt, alloc, &blocks, ABC).is_some());
+    assert!(rt; matches!(blocks.put(&rt, alloc, LIP), Err(Refusal::NoMemory)));
+    Ok(())
+}
+
+#[test]
+fn some_items_stay_however_small_the_room(rt: HostRuntime) -> Result<(), Fail> {
+    let alloc = rt.alloc();
+    let blocks = SharedBlocks::with_room(alloc, 0)?;
+    let item = [7; 70_000];
+    assert!(rt; blocks.put(&rt, alloc, &item).is_ok());
+    assert!(rt; has(&rt, alloc, &blocks, &item));
+    Ok(())
+}
