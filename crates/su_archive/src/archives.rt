@@ -9,6 +9,7 @@ ghost use Rattle.su_archive.specs.Archived.{Holds};
 
 use crate::fills::Fill;
 use crate::items::{change_of, item_of, release_item, share};
+use crate::numbers::Numbers;
 use sqlite::Options;
 use sqlite_disk::Disk;
 use std::alloc::Global;
@@ -20,6 +21,11 @@ use su_keeper::{Keeper, NotKept};
 use su_shards::SharedBlocks;
 use su_store::{FileFault, ShutFile};
 use su_volumes::{Opened, Shelf, Volumes};
+
+/// How many records are shared behind one that is read from a past file. At most one such file is
+/// open, and it is opened whole: clients that read old records side by side would have it opened
+/// for each record.
+const AHEAD: u32 = 256;
 
 /// Names what an archive was found with. Each run of a program picks it.
 pub trait ArchiveName {
@@ -38,7 +44,7 @@ impl ArchiveName for Brand {
 /// Keeps the records of a book in the files of a store, each with the item of its change, which it
 /// gets from the items that the server's threads share. The records that it finds go back into the
 /// book one by one, and their items among the shared ones. It begins with none in the book. One
-/// file is in memory, and a second one once an item was read from it.
+/// file is in memory, and a second one once an item or a record was read from it.
 #[derive(Drop)]
 pub struct Archive<'a, N: ArchiveName, D: Disk, H: Shelf<D>, R: Wait> {
     volumes: Volumes<D>,
@@ -46,6 +52,7 @@ pub struct Archive<'a, N: ArchiveName, D: Disk, H: Shelf<D>, R: Wait> {
     fill: Fill,
     // which file has the item of a digest
     places: BTreeMap<[u8; 32], usize>,
+    numbers: Numbers,
     asked: usize,
     fault: Option<FileFault>,
     blocks: &'a SharedBlocks,
@@ -76,6 +83,7 @@ impl<'a, N: ArchiveName, D: Disk + Drop, H: Shelf<D>, R: Wait> Archive<'a, N, D,
             shelf,
             fill: Fill::new(limit),
             places: BTreeMap::new(alloc),
+            numbers: Numbers::new(alloc),
             asked: 0,
             fault: None,
             blocks,
@@ -142,7 +150,7 @@ impl<'a, N: ArchiveName, D: Disk + Drop, H: Shelf<D>, R: Wait> Archive<'a, N, D,
         ensures end { IfOk result (λ found. found ≡ None → IsAtEnd self.new.volumes) }
     {
         let found = self.volumes.next(alloc)?;
-        self.turn();
+        self.turn()?;
         let Some(commit) = found else {
             return Ok(None);
         };
@@ -151,11 +159,13 @@ impl<'a, N: ArchiveName, D: Disk + Drop, H: Shelf<D>, R: Wait> Archive<'a, N, D,
     }
 
     /// Turns to the current file.
-    fn turn(&mut self)
+    fn turn(&mut self) -> Result<(), FileFault>
         ensures { self.new.volumes ≡ self.old.volumes }
     {
         self.asked = self.volumes.number();
         self.fill.turn_to(self.asked);
+        self.numbers.turn_to(self.asked)?;
+        Ok(())
     }
 
     /// Begins a new file where the last one is full.
@@ -174,7 +184,7 @@ impl<'a, N: ArchiveName, D: Disk + Drop, H: Shelf<D>, R: Wait> Archive<'a, N, D,
         }
         self.asked = self.asked.saturating_add(1);
         self.volumes.begin(&mut self.shelf)?;
-        self.turn();
+        self.turn()?;
         Ok(())
     }
 
@@ -224,7 +234,7 @@ impl<'a, N: ArchiveName, D: Disk + Drop, H: Shelf<D>, R: Wait> Archive<'a, N, D,
             → OnErr result (HoldsInTurn D.Disk self.new.volumes records) }
     {
         self.volumes.take_up(alloc)?;
-        self.turn();
+        self.turn()?;
         if !self.volumes.has_next() {
             return self.keep_new(alloc, commit);
         }
@@ -248,6 +258,52 @@ impl<'a, N: ArchiveName, D: Disk + Drop, H: Shelf<D>, R: Wait> Archive<'a, N, D,
         self.asked = *number;
         self.volumes.item(alloc, self.asked, digest)
     }
+
+    /// Reads the record of a number, from 1, of those that stand in the book: the one that has this
+    /// digest. `None` where there is no such number. Of a past file the records behind it come
+    /// along, among the shared items.
+    fn read_record(
+        &mut self,
+        alloc: Global,
+        number: u64,
+        digest: Digest,
+    ) -> Result<Option<Vec<u8>>, FileFault>
+        requires running { self.old.volumes.is_halted ≡ false }
+        ensures hashes { IfOk result (λ found. IfSome found (λ b. sha256 b.items ≡ digest)) }
+        ensures kept { (records : List (List ℕ)) → HoldsInTurn D.Disk self.old.volumes records
+            → OnOk result (HoldsInTurn D.Disk self.new.volumes records) }
+        ensures held { (records : List (List ℕ)) → HoldsInTurn D.Disk self.old.volumes records
+            → OnErr result (HoldsInTurn D.Disk self.new.volumes records) }
+    {
+        let Some((file, index)) = self.numbers.find(number) else {
+            return Ok(None);
+        };
+        self.asked = file;
+        let found = self.volumes.record(alloc, file, index, digest)?;
+        if file != self.volumes.number() {
+            self.share_behind(alloc, index)?;
+        }
+        Ok(found)
+    }
+
+    /// Shares the records behind the one of an index in the file that was asked last, as many as
+    /// are read ahead. Those that cannot be shared are left out.
+    fn share_behind(&mut self, alloc: Global, index: u32) -> Result<(), FileFault>
+        requires running { self.old.volumes.is_halted ≡ false }
+        ensures kept { (records : List (List ℕ)) → HoldsInTurn D.Disk self.old.volumes records
+            → OnOk result (HoldsInTurn D.Disk self.new.volumes records) }
+        ensures held { (records : List (List ℕ)) → HoldsInTurn D.Disk self.old.volumes records
+            → OnErr result (HoldsInTurn D.Disk self.new.volumes records) }
+    {
+        let first = index.saturating_add(1);
+        for next in first..first.saturating_add(AHEAD) {
+            let Some(commit) = self.volumes.record_at(alloc, self.asked, next)? else {
+                return Ok(());
+            };
+            let _shared = self.blocks.share(self.rt, alloc, commit.as_slice());
+        }
+        Ok(())
+    }
 }
 
 impl<'a, N: ArchiveName, D: Disk + Drop, H: Shelf<D>, R: Wait> Keeper for Archive<'a, N, D, H, R> {
@@ -266,7 +322,10 @@ impl<'a, N: ArchiveName, D: Disk + Drop, H: Shelf<D>, R: Wait> Keeper for Archiv
             return Err(NotKept);
         }
         match self.keep_next(alloc, commit) {
-            Ok(()) => Ok(()),
+            Ok(()) => {
+                self.numbers.count_one();
+                Ok(())
+            }
             Err(fault) => Err(self.fail(fault)),
         }
     }
@@ -282,16 +341,30 @@ impl<'a, N: ArchiveName, D: Disk + Drop, H: Shelf<D>, R: Wait> Keeper for Archiv
     }
 
     fn gives_back() -> bool {
-        false
+        true
     }
 
     fn record(
         &mut self,
+<<<<<<< HEAD
         _alloc: Global,
         _number: u64,
         _digest: Digest,
     ) -> Result<Option<Vec<u8>>, NotKept> {
         Ok(None)
+=======
+        alloc: Global,
+        number: u64,
+        digest: Digest,
+    ) -> Result<Option<Vec<u8>>, NotKept> {
+        if self.volumes.is_halted() {
+            return Err(NotKept);
+        }
+        match self.read_record(alloc, number, digest) {
+            Ok(found) => Ok(found),
+            Err(fault) => Err(self.fail(fault)),
+        }
+>>>>>>> 95860c926c60506f8c2def09a7a7a68b8cada6d4
     }
 
     fn item(&mut self, alloc: Global, digest: Digest) -> Result<Option<Vec<u8>>, NotKept> {

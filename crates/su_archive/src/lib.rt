@@ -5,6 +5,7 @@
 mod archives;
 mod fills;
 mod items;
+mod numbers;
 
 pub use archives::{Archive, ArchiveName};
 

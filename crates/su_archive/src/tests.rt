@@ -23,6 +23,8 @@ use su_volumes::{Opened, Shelf};
 
 const ITEMS: [&[u8]; 3] = [b"one", b"another", b"a third"];
 
+const MORE: [&[u8]; 3] = [b"one more", b"and more", b"the last"];
+
 // These have no clause, so that the proof of a test does not carry the state of each call.
 fn is_kept<K: Keeper>(alloc: Global, keeper: &mut K, commit: &[u8]) -> bool {
     keeper.keep(alloc, commit).is_ok()
@@ -54,6 +56,31 @@ fn keeps_item<K: Keeper>(alloc: Global, keeper: &mut K, item: &[u8]) -> bool {
         Ok(Some(found)) => found.as_slice() == item,
         _ => false,
     }
+}
+
+/// Whether the keeper reads the record of a number and its digest as it was kept.
+fn keeps_record<K: Keeper>(alloc: Global, keeper: &mut K, number: u64, commit: &[u8]) -> bool {
+    let digest = Digest::new(<Sha256 as sha2::Digest>::digest(commit));
+    match keeper.record(alloc, number, digest) {
+        Ok(Some(found)) => found.as_slice() == commit,
+        _ => false,
+    }
+}
+
+/// Whether the keeper gives nothing for a number.
+fn has_none<K: Keeper>(alloc: Global, keeper: &mut K, number: u64) -> bool {
+    matches!(keeper.record(alloc, number, Digest::new([0; 32])), Ok(None))
+}
+
+/// Whether the keeper reads the commits of all items, from one file and another, and the record
+/// behind them.
+fn keeps_commits<K: Keeper>(alloc: Global, keeper: &mut K) -> Result<bool, AllocError> {
+    for (number, item) in [(3, ITEMS[2]), (1, ITEMS[0]), (2, ITEMS[1])] {
+        if !keeps_record(alloc, keeper, number, &commit_of(alloc, item)?) {
+            return Ok(false);
+        }
+    }
+    Ok(keeps_record(alloc, keeper, 4, b"no commit"))
 }
 
 /// The bytes of a commit of the change that has this item.
@@ -115,7 +142,8 @@ fn open_first(alloc: Global, files: Vec<ShutFile<Memory>>) -> Result<Opened<Memo
 }
 
 /// Keeps a commit for each item, and one whose item isn't shared, each in a file of its own. Items
-/// are read again from whichever file has them.
+/// and records are read again from whichever file has them, and a record of another digest is
+/// refused.
 fn keep_all<N: ArchiveName, D: Disk + Drop, H: Shelf<D>, R: Wait + Abort>(
     rt: &R,
     alloc: Global,
@@ -146,10 +174,16 @@ fn keep_all<N: ArchiveName, D: Disk + Drop, H: Shelf<D>, R: Wait + Abort>(
     for item in ITEMS {
         assert!(rt; keeps_item(alloc, &mut archive, item));
     }
+    assert!(rt; keeps_commits(alloc, &mut archive)?);
+    assert!(rt; has_none(alloc, &mut archive, 0));
+    assert!(rt; has_none(alloc, &mut archive, 5));
+    assert!(rt; !keeps_record(alloc, &mut archive, 2, b"another"));
+    assert!(rt; matches!(archive.fault(), Some(FileFault::DamagedRecord(0))));
     Ok(archive.close()?)
 }
 
-/// Finds what `keep_all` has kept, and keeps one more in the last file.
+/// Finds what `keep_all` has kept, and keeps more, first in the last file, then in another one. A
+/// record of a past file brings those behind it along.
 fn find_all<N: ArchiveName, D: Disk + Drop, H: Shelf<D>, R: Wait + Abort>(
     rt: &R,
     alloc: Global,
@@ -166,7 +200,7 @@ fn find_all<N: ArchiveName, D: Disk + Drop, H: Shelf<D>, R: Wait + Abort>(
         Options::new(7),
         files,
         shelf,
-        1000,
+        16,
         &blocks,
     );
     for item in ITEMS {
@@ -179,8 +213,18 @@ fn find_all<N: ArchiveName, D: Disk + Drop, H: Shelf<D>, R: Wait + Abort>(
     }
     assert!(rt; is_kept(alloc, &mut archive, b"no commit"));
     assert!(rt; is_at_end(alloc, &mut archive));
-    assert!(rt; is_kept(alloc, &mut archive, b"one more"));
-    assert_eq!(rt; archive.number(), 3);
+    for commit in MORE {
+        assert!(rt; is_kept(alloc, &mut archive, commit));
+        assert!(rt; !is_shared(rt, alloc, &blocks, commit));
+    }
+    assert_eq!(rt; archive.number(), 4);
+    assert!(rt; keeps_commits(alloc, &mut archive)?);
+    assert!(rt; is_shared(rt, alloc, &blocks, MORE[0]));
+    assert!(rt; is_shared(rt, alloc, &blocks, MORE[1]));
+    assert!(rt; !is_shared(rt, alloc, &blocks, MORE[2]));
+    assert!(rt; keeps_record(alloc, &mut archive, 6, MORE[1]));
+    assert!(rt; keeps_record(alloc, &mut archive, 7, MORE[2]));
+    assert!(rt; has_none(alloc, &mut archive, 8));
     assert!(rt; keeps_item(alloc, &mut archive, ITEMS[0]));
     archive.stop();
     assert!(rt; !is_kept(alloc, &mut archive, b"another"));
@@ -251,7 +295,7 @@ fn records_of_several_files_are_found(rt: HostRuntime) -> Result<(), Fail> {
     assert_eq!(rt; kept.len(), 4);
     let again = open_first(alloc, kept)?;
     let found = find_all::<Brand, _, _, _>(&rt, alloc, again, Drawer { alloc })?;
-    assert_eq!(rt; found.len(), 4);
+    assert_eq!(rt; found.len(), 5);
     let last = open_first(alloc, found)?;
     refuse_other::<Brand, _, _, _>(&rt, alloc, last, Drawer { alloc })
 }

@@ -8,6 +8,7 @@ use su_bytes::Digest;
 use su_store::FileFault;
 
 impl<D: Disk + Drop> Place<D> {
+    ghost use Rattle.su_volumes.specs.Places.{KeepsAll};
     ghost use Rattle.su_volumes.specs.Current.{KeepsFirst, ShowsRecord, count_of};
 
     /// How many records the file shows, if it is open.
@@ -22,12 +23,14 @@ impl<D: Disk + Drop> Place<D> {
 
     /// Reads the record of a number. `None` from the count on. `Spent` where the file isn't open.
     pub(crate) fn record(&mut self, number: u32) -> Result<Option<Vec<u8>>, FileFault>
-        ensures kept { (records : List (List ℕ))
-            → KeepsFirst D.Disk self.old number false records
-            → OnOk result (KeepsFirst D.Disk self.new number false records) }
-        ensures held { (records : List (List ℕ))
-            → KeepsFirst D.Disk self.old number false records
-            → OnErr result (KeepsFirst D.Disk self.new number true records) }
+        ensures kept { (kept : ℕ) (records : List (List ℕ))
+            → KeepsFirst D.Disk self.old kept false records
+            → OnOk result (KeepsFirst D.Disk self.new kept false records) }
+        ensures held { (kept : ℕ) (records : List (List ℕ))
+            → KeepsFirst D.Disk self.old kept false records
+            → OnErr result (KeepsFirst D.Disk self.new kept true records) }
+        ensures all { (records : List (List ℕ)) → KeepsAll D.Disk self.old records
+            → KeepsAll D.Disk self.new records }
         ensures found { IfOk result (λ found.
             ShowsRecord self.new number (option_map (λ b. b.items) found)) }
         ensures end { IfOk result (λ found. found ≡ None → count_of self.new ≤ number) }

@@ -10,7 +10,7 @@ use su_bytes::Digest;
 use su_store::{FileFault, ShutFile};
 
 /// Files whose records all stand in the book. At most one of them is open: the one from which an
-/// item was read last.
+/// item or a record was read last.
 #[derive(Drop)]
 pub struct PastFiles<D: Disk> {
     places: Vec<Place<D>>,
@@ -80,6 +80,25 @@ impl<D: Disk + Drop> PastFiles<D> {
             return Ok(None);
         }
         self.places[number].read(alloc, options, digest)
+    }
+
+    /// Reads the record of an index in the file of a number. `None` where there is no such file, or
+    /// no such record in it.
+    pub(crate) fn record(
+        &mut self,
+        alloc: Global,
+        options: Options,
+        number: usize,
+        index: u32,
+    ) -> Result<Option<Vec<u8>>, FileFault>
+        ensures { (lists : List (List (List ℕ))) → KeepInTurn D.Disk self.old lists
+            → KeepInTurn D.Disk self.new lists }
+    {
+        self.turn_to(number)?;
+        if self.places.len() <= number {
+            return Ok(None);
+        }
+        self.places[number].read_record(alloc, options, index)
     }
 
     /// Shuts the files, and puts them behind those of a list, the last one first.

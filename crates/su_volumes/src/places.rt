@@ -144,4 +144,18 @@ impl<D: Disk + Drop> Place<D> {
         self.open(alloc, options)?;
         self.block(digest)
     }
+
+    /// Opens the file, if it is shut, and reads the record of a number. `None` from the count on.
+    pub(crate) fn read_record(
+        &mut self,
+        alloc: Global,
+        options: Options,
+        number: u32,
+    ) -> Result<Option<Vec<u8>>, FileFault>
+        ensures kept { (records : List (List ℕ)) → KeepsAll D.Disk self.old records
+            → KeepsAll D.Disk self.new records }
+    {
+        self.open(alloc, options)?;
+        self.record(number)
+    }
 }

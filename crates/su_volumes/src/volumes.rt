@@ -9,6 +9,7 @@ ghost use Rattle.su_store.specs.Files.{IsAtRest};
 use crate::past::PastFiles;
 use crate::places::Place;
 use crate::shelves::Shelf;
+use sha2::Sha256;
 use sqlite::{FileStore, Options};
 use sqlite_disk::Disk;
 use std::alloc::Global;
@@ -380,6 +381,82 @@ impl<D: Disk + Drop> Volumes<D> {
         ensures running { OnOk result (self.new.is_halted ≡ false) }
     {
         match self.past.block(alloc, self.options, number, digest) {
+            Ok(found) => Ok(found),
+            Err(fault) => {
+                self.halt();
+                Err(fault)
+            }
+        }
+    }
+
+    /// Reads the record of an index and a digest from the file of a number, both counted from 0.
+    /// `None` where the file is a later one, or has no such record. `DamagedRecord` where the one
+    /// that it has has another digest.
+    pub fn record(
+        &mut self,
+        alloc: Global,
+        number: usize,
+        index: u32,
+        digest: Digest,
+    ) -> Result<Option<Vec<u8>>, FileFault>
+        requires running { self.old.is_halted ≡ false }
+        ensures hashes { IfOk result (λ found. IfSome found (λ b. sha256 b.items ≡ digest)) }
+        ensures kept { (records : List (List ℕ)) → HoldsInTurn D.Disk self.old records
+            → OnOk result (HoldsInTurn D.Disk self.new records) }
+        ensures held { (records : List (List ℕ)) → HoldsInTurn D.Disk self.old records
+            → OnErr result (HoldsInTurn D.Disk self.new records) }
+        ensures running { OnOk result (self.new.is_halted ≡ false) }
+    {
+        let found = self.record_at(alloc, number, index)?;
+        if let Some(commit) = &found {
+            if <Sha256 as sha2::Digest>::digest(commit.as_slice()) != *digest.as_bytes() {
+                self.halt();
+                return Err(FileFault::DamagedRecord(index));
+            }
+        }
+        Ok(found)
+    }
+
+    /// Reads the record of an index from the file of a number, both counted from 0, whatever its
+    /// digest. `None` where the file is a later one, or has no such record.
+    pub fn record_at(
+        &mut self,
+        alloc: Global,
+        number: usize,
+        index: u32,
+    ) -> Result<Option<Vec<u8>>, FileFault>
+        requires running { self.old.is_halted ≡ false }
+        ensures kept { (records : List (List ℕ)) → HoldsInTurn D.Disk self.old records
+            → OnOk result (HoldsInTurn D.Disk self.new records) }
+        ensures held { (records : List (List ℕ)) → HoldsInTurn D.Disk self.old records
+            → OnErr result (HoldsInTurn D.Disk self.new records) }
+        ensures running { OnOk result (self.new.is_halted ≡ false) }
+    {
+        if number != self.past.len() {
+            return self.past_record(alloc, number, index);
+        }
+        match self.current.record(index) {
+            Ok(found) => Ok(found),
+            Err(fault) => {
+                self.is_halted = true;
+                Err(fault)
+            }
+        }
+    }
+
+    /// The same, for a past file.
+    fn past_record(
+        &mut self,
+        alloc: Global,
+        number: usize,
+        index: u32,
+    ) -> Result<Option<Vec<u8>>, FileFault>
+        requires running { self.old.is_halted ≡ false }
+        ensures held { (records : List (List ℕ)) → HoldsInTurn D.Disk self.old records
+            → HoldsInTurn D.Disk self.new records }
+        ensures running { OnOk result (self.new.is_halted ≡ false) }
+    {
+        match self.past.record(alloc, self.options, number, index) {
             Ok(found) => Ok(found),
             Err(fault) => {
                 self.halt();
