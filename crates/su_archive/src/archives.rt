@@ -346,13 +346,6 @@ impl<'a, N: ArchiveName, D: Disk + Drop, H: Shelf<D>, R: Wait> Keeper for Archiv
 
     fn record(
         &mut self,
-<<<<<<< HEAD
-        _alloc: Global,
-        _number: u64,
-        _digest: Digest,
-    ) -> Result<Option<Vec<u8>>, NotKept> {
-        Ok(None)
-=======
         alloc: Global,
         number: u64,
         digest: Digest,
@@ -364,7 +357,6 @@ impl<'a, N: ArchiveName, D: Disk + Drop, H: Shelf<D>, R: Wait> Keeper for Archiv
             Ok(found) => Ok(found),
             Err(fault) => Err(self.fail(fault)),
         }
->>>>>>> 95860c926c60506f8c2def09a7a7a68b8cada6d4
     }
 
     fn item(&mut self, alloc: Global, digest: Digest) -> Result<Option<Vec<u8>>, NotKept> {

@@ -82,9 +82,7 @@ impl<'a, N: BookName, K: Keeper, T: Wait> Copier<'a, N, K, T> {
         }
         let shown = fetch(client, number)?;
         match (self.book.published(&mut self.seat, number), shown) {
-            (Some(held), Some(shown)) if is_shown::<K>(held, shown.as_slice()) => {
-                Ok(())
-            }
+            (Some(held), Some(shown)) if is_shown::<K>(held, shown.as_slice()) => { Ok(()) }
             _ => Err(BackupFault::OtherRecord { number }),
         }
     }

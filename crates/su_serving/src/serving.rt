@@ -11,6 +11,7 @@ use crate::guards::Guard;
 use crate::settings::Setting;
 use crate::stores::{DiskFile, FULL, Folder, options};
 use sqlite_disk::Disk;
+use std::alloc::{AllocError, Global};
 use std::marker::Brand;
 use std::net::{Ipv4Addr, Net, TcpListener, TcpStream};
 use std::sync::Wait;
@@ -29,7 +30,7 @@ const MIB: usize = 1_048_576;
 
 /// What a server is asked for: its port, how many workers it has and commits it may store, after
 /// how many sessions it ends, if so, the folder in which it keeps what is stored, if there is one,
-/// and how many MiB those items may take in memory that are kept there too.
+/// and how many MiB those records and items may take in memory that are kept there too.
 #[derive(Clone, Copy)]
 pub struct Options<'a> {
     pub port: u16,
@@ -58,8 +59,7 @@ pub fn serve<T>(rt: &HostRuntime, host: &T, options: Options<'_>, roster: Roster
 where
     T: Net<Listener = TcpListener, Stream = TcpStream> + Threads + Wait + Sync,
 {
-    let room = (options.cache as usize).saturating_mul(MIB);
-    let Ok(blocks) = SharedBlocks::with_room(rt.alloc(), room) else {
+    let Ok(blocks) = shared_blocks(rt.alloc(), options) else {
         return tell_fault(rt, "out of memory");
     };
     let stop = Stop::new();
@@ -81,6 +81,14 @@ where
             let (good, _) = serve_over(&setting, terms, roster, Forgetful);
             good
         }
+    }
+}
+
+/// Makes room for items: bounded with a store, and else for all.
+fn shared_blocks(alloc: Global, options: Options<'_>) -> Result<SharedBlocks, AllocError> {
+    match options.store {
+        Some(_) => SharedBlocks::with_room(alloc, (options.cache as usize).saturating_mul(MIB)),
+        None => SharedBlocks::new(alloc),
     }
 }
 

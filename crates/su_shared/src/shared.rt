@@ -216,12 +216,7 @@ impl<N: BookName, K: Keeper> SharedBook<N, K> {
     /// Reads the bytes of a record that `published` found, and that aren't in its cell, back from the
     /// book's keeper, under the lock. `SourceFailed` where the keeper fails, or doesn't give them
     /// back.
-    pub fn record(
-        &self,
-        rt: &impl Wait,
-        alloc: Global,
-        found: &Record,
-    ) -> Result<Vec<u8>, Refusal>
+    pub fn record(&self, rt: &impl Wait, alloc: Global, found: &Record) -> Result<Vec<u8>, Refusal>
         ensures hashes { IfOk result (λ commit.
             sha256 commit.items ≡ sha256 found.now.bytes) }
         ensures refused { IfErr result (λ e. e ≡ SourceFailed) }
