@@ -3,14 +3,14 @@ ghost use Rattle.std.specs.Prelude.{◌≡◌, ◌≤◌};
 
 use crate::books::new_commits;
 use crate::clients::roster;
-use crossbeam_channel::{Receiver, Sender, bounded};
 use std::alloc::Global;
 use std::marker::Brand;
 use std::process::Abort;
-use std::sync::Wait;
 use std::sync::ledger::Blank;
+use std::sync::{Mutex, Wait};
 use std::test::Fail;
-use std::thread::{Threads, join};
+use std::thread::{Threads, join, sleep};
+use std::time::{Clock, Duration};
 use su_bytes::Roster;
 use su_keeper::Forgetful;
 use su_shared::{BookName, Cells, Receipt, Seat, SharedBook};
@@ -25,7 +25,7 @@ fn two_threads_at_one_book(rt: HostRuntime) -> Result<(), Fail> {
 }
 
 // One seat stores a commit, and hands its receipt to the other's thread.
-fn hand_over<N: BookName + Send + Sync, R: Threads + Wait + Abort + Sync>(
+fn hand_over<N: BookName + Send + Sync, R: Threads + Wait + Abort + Clock + Sync>(
     rt: &R,
     alloc: Global,
     cells: Cells,
@@ -40,11 +40,11 @@ fn hand_over<N: BookName + Send + Sync, R: Threads + Wait + Abort + Sync>(
     let shared = &book;
     let zero = shared.seat(rt, alloc)?;
     let one = shared.seat(rt, alloc)?;
-    let (to, from) = bounded(alloc, 1)?;
+    let slot = &Mutex::new(None);
     let (a, b) = join(
         rt,
-        move || store(rt, alloc, shared, zero, commit, to),
-        move || read(rt, shared, one, commit, from),
+        move || store(rt, alloc, shared, zero, commit, slot),
+        move || read(rt, shared, one, commit, slot),
     );
     let zero = a.ok_or("not stored")?;
     let one = b.ok_or("not read")?;
@@ -69,27 +69,41 @@ fn store<N: BookName, R: Wait + Abort>(
     book: &SharedBook<N, Forgetful>,
     mut seat: Seat<N>,
     commit: &[u8],
-    to: Sender<Receipt<N>>,
+    slot: &Mutex<Option<Receipt<N>>>,
 ) -> Option<Seat<N>> {
     let (_reply, receipt) = book.grant(rt, alloc, &mut seat).ok()?;
     assert!(rt; receipt.is_none());
     let (number, receipt) = book.commit(rt, alloc, &mut seat, commit).ok()?;
     assert_eq!(rt; number, 1);
-    to.send(rt, receipt).ok()?;
+    *slot.lock(rt) = Some(receipt);
     Some(seat)
 }
 
-fn read<N: BookName, R: Wait + Abort>(
+fn read<N: BookName, R: Wait + Abort + Clock>(
     rt: &R,
     book: &SharedBook<N, Forgetful>,
     mut seat: Seat<N>,
     commit: &[u8],
-    from: Receiver<Receipt<N>>,
+    slot: &Mutex<Option<Receipt<N>>>,
 ) -> Option<Seat<N>> {
-    let mut receipt = from.recv(rt).ok()?;
+    let mut receipt = taken(rt, slot)?;
     seat.learn(&mut receipt);
     let record = book.published(&mut seat, 1)?;
     assert!(rt; record.bytes() == Some(commit));
     assert!(rt; book.published(&mut seat, 2).is_none());
     Some(seat)
+}
+
+// Takes the receipt out of the slot, once it is there.
+fn taken<N: BookName, R: Wait + Clock>(
+    rt: &R,
+    slot: &Mutex<Option<Receipt<N>>>,
+) -> Option<Receipt<N>> {
+    for _ in 0..10_000 {
+        if let Some(receipt) = slot.lock(rt).take() {
+            return Some(receipt);
+        }
+        sleep(rt, Duration::from_millis(1));
+    }
+    None
 }
