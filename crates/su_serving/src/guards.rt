@@ -1,5 +1,5 @@
 // The keeper of a server with a store.
-ghost use Rattle.std.specs.Prelude.{List, ℕ};
+ghost use Rattle.std.specs.Prelude.{◌≡◌, true, List, ℕ};
 
 use crate::faults::tell_fault;
 use crate::stores::Folder;
@@ -121,7 +121,9 @@ impl<'a, 'f, 'n, K: Keeper + HasFiles> Keeper for Guard<'a, 'f, 'n, K> {
         found
     }
 
-    fn gives_back() -> bool {
+    fn gives_back() -> bool
+        ensures { result ≡ true → K.may_fail }
+    {
         K::gives_back()
     }
 
