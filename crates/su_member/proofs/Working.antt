@@ -1,5 +1,5 @@
 -- A client that does acts: none, and some after others; it takes, signs and publishes.
-use Rattle.std.proofs.Common.{◌≡◌, ℕ, ◌+◌, List, [], ◌∷◌, ◌++◌, refl, sym, ap, subst, arith}
+use Rattle.std.proofs.Common.{◌≡◌, ◌+◌, List, [], ◌∷◌, ◌++◌, ap, subst, arith}
 use Rattle.su_legal.specs.Act.{Act, Act.Takes, Act.Signs}
 use Rattle.su_version.specs.Version.{Version}
 use Rattle.su_view.specs.Acting.{Does, TakesSome, after}
@@ -51,13 +51,6 @@ works_signs s t v may same next = record {
   does = (may, same);
   leaves = omega (arith, next);
 }
-
--- after acts it takes some commits
-pub works_and_takes : (s t : MemberState) (v w : HoldingState) (n : ℕ)
-    → record { holding = v; next = n } ≡ t → Works s t → TakesSome v w → Works s (record { holding = w; next = n })
-works_and_takes s t v w n is first takes =
-    let mid : MemberState = record { holding = v; next = n } in
-    works_then s mid (record { holding = w; next = n }) (subst (Works s) (sym is) first) (works_takes mid (record { holding = w; next = n }) takes refl)
 
 -- after acts all stays
 pub works_stays : (s t u : MemberState) → Works s t → u ≡ t → Works s u

@@ -1,8 +1,9 @@
 // What a client changes: each change is a commit of its own.
-ghost use Rattle.std.specs.Prelude.{◌≡◌, ◌-◌, Ok, IfOk, length, slice_get};
+ghost use Rattle.std.specs.Prelude.{◌≡◌, ◌-◌, ℕ, Ok, IfOk, length, slice_get};
 ghost use Rattle.std.specs.Option.{unwrap_or};
 ghost use Rattle.su_desk.specs.History.{last_live};
 ghost use Rattle.su_legal.specs.Legal.{history};
+ghost use Rattle.su_op.specs.declared.operations.Change.{Change as Change_};
 ghost use Rattle.su_op.specs.declared.operations.Change.TheVariants.{Undo};
 ghost use Rattle.su_plan.specs.Plan.{plan};
 ghost use Rattle.su_view.specs.Acting.{TakesSome};
@@ -79,14 +80,32 @@ impl<R: Read + Drop, W: Write + Drop, K: KeyStore + Drop> Member<R, W, K> {
     /// Commits a change while the client has the turn: makes the commit, which the next leaf of the
     /// key signs, hands it in, and takes it once it is stored; returns its number in the list. That
     /// ends the turn; on a refusal it is given back. The refusals are those of `View::make`, of
-    /// `Client::commit` and of `View::accept_own`.
+    /// `Client::commit` and of `View::accept`.
     pub fn publish(&mut self, change: Change) -> Result<u64, ViewRefusal>
         ensures works { Works self.old self.new }
         ensures published { IfOk result
             (IsPublished self.old.holding change self.old.next self.new.holding) }
     {
         let commit = self.hand_in(change)?;
-        self.view.accept_own(&commit)
+        self.take_own(commit)
+    }
+
+    /// Takes a commit that the client has just made, and returns its number in the list. It was
+    /// signed by the user's key, so this isn't checked again. The refusals are those of
+    /// `View::accept`.
+    fn take_own(&mut self, commit: Commit) -> Result<u64, ViewRefusal>
+        requires made { (change : Change_) × (leaf : ℕ)
+            × IsMade self.old.holding change leaf commit }
+        ensures takes { TakesSome self.old.holding self.new.holding }
+        ensures next { self.new.next ≡ self.old.next }
+        ensures published { (change : Change_) (leaf : ℕ) → IsMade self.old.holding change leaf commit
+            → IfOk result (IsPublished self.old.holding change leaf self.new.holding) }
+    {
+        let bytes = commit.encode(self.alloc)?;
+        let by_author = self.view.roster().has_user(self.view.user());
+        self.view.accept_known(commit, bytes.as_slice(), by_author)?;
+        let (number, _) = self.view.head();
+        Ok(number)
     }
 
     /// Makes a commit and hands it in. Where one of them is refused, the turn is given back.

@@ -6,6 +6,7 @@ mod changes;
 mod logs;
 mod members;
 mod questions;
+mod shown;
 
 pub use logs::{LogFault, take_log};
 pub use members::Member;

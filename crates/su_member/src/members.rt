@@ -1,8 +1,11 @@
 // A client that works with a server, and how it begins what it does.
 ghost use Rattle.std.specs.Prelude.{◌≡◌, OnOk};
+ghost use Rattle.su_version.specs.Chain.{IsSignedByAuthor};
 ghost use Rattle.su_view.specs.Acting.{TakesSome};
+ghost use Rattle.su_view.specs.LastCommits.{AreSigned};
 ghost use Rattle.su_member.specs.Member.{ShownPasses};
 
+use crate::shown::Shown;
 use std::alloc::Global;
 use std::io::{Read, Write};
 use std::marker::Model;
@@ -142,18 +145,18 @@ impl<R: Read + Drop, W: Write + Drop, K: KeyStore + Drop> Member<R, W, K> {
         ensures passes { OnOk result (ShownPasses self.old.holding) }
     {
         let shown = self.last_commits(last)?;
-        self.view.check_list(shown.as_slice())?;
-        self.take_up_to(count)
+        self.view.check_list(shown.commits())?;
+        self.take_up_to(count, &shown)
     }
 
     /// Fetches these last commits. What the server says that it hasn't is left out.
-    fn last_commits(&mut self, last: &[(User, u64)]) -> Result<Vec<Commit>, Refusal>
+    fn last_commits(&mut self, last: &[(User, u64)]) -> Result<Shown, Refusal>
         ensures { self.new ≡ self.old }
     {
-        let mut shown = Vec::new(self.alloc);
+        let mut shown = Shown::new(self.alloc);
         for (_, number) in last {
             if let Some(commit) = self.fetch_commit(*number)? {
-                shown.push(commit)?;
+                shown.push(*number, commit)?;
             }
         }
         Ok(shown)
@@ -171,19 +174,46 @@ impl<R: Read + Drop, W: Write + Drop, K: KeyStore + Drop> Member<R, W, K> {
 
     /// Takes the commits that the list lacks of the first `count`. What the server says that it
     /// hasn't is left out, so that the one after it is refused.
-    fn take_up_to(&mut self, count: u64) -> Result<(), ViewRefusal>
+    fn take_up_to(&mut self, count: u64, shown: &Shown) -> Result<(), ViewRefusal>
+        requires signed { AreSigned self.old.holding.roster shown.now.commits.items }
         ensures takes { TakesSome self.old.holding self.new.holding }
         ensures next { self.new.next ≡ self.old.next }
     {
         let (held, _) = self.view.head();
         for before in held..count {
-            self.take_one(before + 1)?;
+            self.take_one(before + 1, shown)?;
         }
         Ok(())
     }
 
+    /// Takes the commit of that number: the one that is shown with it, or else what is fetched.
+    fn take_one(&mut self, number: u64, shown: &Shown) -> Result<(), ViewRefusal>
+        requires signed { AreSigned self.old.holding.roster shown.now.commits.items }
+        ensures takes { TakesSome self.old.holding self.new.holding }
+        ensures next { self.new.next ≡ self.old.next }
+    {
+        match shown.of(number) {
+            Some(commit) => self.take_signed(commit),
+            None => self.take_fetched(number),
+        }
+    }
+
+    /// Takes a commit that was found to be signed by its author, so that this isn't checked again.
+    fn take_signed(&mut self, commit: &Commit) -> Result<(), ViewRefusal>
+        requires signed { IsSignedByAuthor self.old.holding.roster commit.now }
+        ensures takes { TakesSome self.old.holding self.new.holding }
+        ensures next { self.new.next ≡ self.old.next }
+    {
+        // its clause tells the prover that it is a commit (docs/ARCHITECTURE.md, "Forms the kit
+        // wants")
+        let _version = commit.version();
+        let bytes = commit.encode(self.alloc)?;
+        let copy = Commit::decode(self.alloc, bytes.as_slice())?;
+        self.view.accept_known(copy, bytes.as_slice(), true)
+    }
+
     /// Fetches the commit of that number, and takes it.
-    fn take_one(&mut self, number: u64) -> Result<(), ViewRefusal>
+    fn take_fetched(&mut self, number: u64) -> Result<(), ViewRefusal>
         ensures takes { TakesSome self.old.holding self.new.holding }
         ensures next { self.new.next ≡ self.old.next }
     {

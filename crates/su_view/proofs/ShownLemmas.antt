@@ -8,7 +8,9 @@ use Rattle.su_format.proofs.Public.{spelling_told}
 use Rattle.su_vector.specs.Vector.{number_of}
 use Rattle.su_version.specs.Commit.{Commit, IsCommit, commit_bytes}
 use Rattle.su_version.proofs.Public.{commit_of, commit_lawful}
-use Rattle.su_legal.specs.Legal.{Committed, LegalAfter}
+use Rattle.su_version.specs.Chain.{IsSignedByAuthor}
+use Rattle.su_legal.specs.Legal.{Committed, commits_of, LegalAfter}
+use Rattle.su_view.specs.Holding.{IsHeld}
 use Rattle.su_view.specs.Keeping.{commit_in, AreBytes, holding_of, IsKeeping}
 use Rattle.su_view.specs.Spelled.{IsSpelled}
 use Rattle.su_view.specs.LastCommits.{last_by, own_last, IsNotBehind}
@@ -37,6 +39,16 @@ compared ro u n m r c is is_commit has held same xs ys xs_are ys_are b e = (
       let is_kept : c ≡ commit_in r = so.same (held ∙ ap (λ k. Some k) (same ∙ number)) in
       e ∙ (bytes_decides xs ys).1 (xs_are ∙ ap commit_bytes is_kept ∙ sym is.bytes_are ∙ sym ys_are),
 )
+
+-- ---- what is held is signed
+
+signed_at : (ro : Membership) (before cs : List Committed) → LegalAfter ro before cs → (i : ℕ) (c : Commit) → slice_get (commits_of cs) i ≡ Some c → IsSignedByAuthor ro c
+signed_at ro before [] legal i c at = absurd (cc)
+signed_at ro before (x ∷ cs) (may, legal) zero c at = let same : x.commit ≡ c = cc in subst (IsSignedByAuthor ro) same may.next.by_author
+signed_at ro before (x ∷ cs) (may, legal) (suc i) c at = signed_at ro (before ++ x ∷ []) cs legal i c at
+
+pub held_signed : (k : Keeping) → IsKeeping k → (c : Commit) → IsHeld (holding_of k) c → IsSignedByAuthor k.desk.settled.roster c
+held_signed k kept c (i, at) = signed_at k.desk.settled.roster [] (holding_of k).held kept.legal i c at
 
 -- ---- the user's last commit, as it is kept
 
@@ -73,3 +85,9 @@ module _ (k : Keeping) (kept : IsKeeping k) (i : ℕ) (r : Record) (here : slice
 
   pub last_kept : slice_get held i ≡ last_by k.user held → own_last (holding_of k) ≡ Some (commit_in r)
   last_kept last = ap (option_map (λ c. c.commit)) (sym last) ∙ commit_at
+
+  -- a commit with the bytes that are kept there stands in the list
+  pub held_so : (c : Commit) → IsCommit c → (xs ys : List ℕ) → xs ≡ commit_bytes c → ys ≡ r.bytes.items → (b : Bool) → b ≡ pointwise nat_eq xs ys → b ≡ true → IsHeld (holding_of k) c
+  held_so c is_commit xs ys xs_are ys_are b e same_all =
+      let same : c ≡ commit_in r = same_bytes r c spelled_kept is_commit (sym xs_are ∙ (bytes_decides xs ys).0 (sym e ∙ same_all) ∙ ys_are) in
+      (i, ap (λ cs. slice_get cs i) kept.commits ∙ slice_get-map commit_in k.records.items i ∙ ap (option_map commit_in) here ∙ ap (λ d. Some d) (sym same))

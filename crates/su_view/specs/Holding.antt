@@ -1,11 +1,12 @@
 -- What a client holds: the roster, whose client it is, and a list of commits. Its tree, history,
 -- head, vector and i-handles are those of the list.
-use Rattle.std.specs.Prelude.{◌≡◌, ℕ, List, ◌++◌}
+use Rattle.std.specs.Prelude.{◌≡◌, ℕ, List, ◌++◌, Some, slice_get}
 use Rattle.su_bytes.specs.Membership.{Membership}
 use Rattle.su_version.specs.Version.{Version}
+use Rattle.su_version.specs.Commit.{Commit}
 use Rattle.su_table.specs.Tree.{Tree}
 use Rattle.su_desk.specs.Applied.{tree_after}
-use Rattle.su_legal.specs.Legal.{Committed, history}
+use Rattle.su_legal.specs.Legal.{Committed, commits_of, history}
 use Rattle.su_legal.specs.Act.{Act.Takes, Act.Signs, May}
 
 pub record HoldingState : Type 0 where
@@ -16,6 +17,10 @@ pub record HoldingState : Type 0 where
 -- the tree that the list makes
 abbrev pub tree_of_list : HoldingState → Tree
 tree_of_list v = tree_after v.roster (history v.held)
+
+-- the commit is one of those that are held
+abbrev pub IsHeld : HoldingState → Commit → Type 0
+IsHeld v c = (i : ℕ) × (slice_get (commits_of v.held) i ≡ Some c)
 
 -- the same with these commits more
 abbrev pub with_more : HoldingState → List Committed → HoldingState

@@ -3,18 +3,18 @@ ghost use Rattle.std.specs.Prelude.{◌≡◌, ◌⊎◌, ◌↔◌, IsTrue, tru
 ghost use Rattle.std.specs.List.{AllByRecursion, list_any};
 ghost use Rattle.std.specs.Option.{option_copied};
 ghost use Rattle.su_bytes.specs.declared.refusals.Refusal.TheVariants.{NoMemory};
-ghost use Rattle.su_chain.specs.ChainEnd.{AreKeysOf};
+ghost use Rattle.su_version.specs.Chain.{IsSignedByAuthor};
 ghost use Rattle.su_view.specs.Keeping.{commit_in, holding_of, IsKeeping};
 ghost use Rattle.su_view.specs.Spelled.{IsSpelled};
 ghost use Rattle.su_view.specs.LastCommits.{own_last, AreSigned, is_by, IsNotBehind, ShowsLast, ShowsOwn, Passes, IsRefusedList};
+ghost use Rattle.su_view.specs.Holding.{IsHeld};
 ghost use Rattle.su_view.specs.declared.refusals.ViewRefusal.TheVariants.{Plain};
 
 use crate::records::{Keeping, Record};
 use crate::refusals::ViewRefusal;
 use std::alloc::Global;
 use su_bytes::{FileId, Refusal, Roster, User};
-use su_chain::ChainEnd;
-use su_vector::first_unordered;
+use su_vector::{Vector, first_unordered};
 use su_version::{Commit, is_signed_by_author};
 
 /// Checks what a server shows as the users' last commits, by what is kept. `BadSignature` where a
@@ -32,10 +32,16 @@ pub(crate) fn check_list(
     ensures refused { let v = holding_of keeping.now in IfErr result (λ e.
         (e ≡ Plain NoMemory) ⊎ IsRefusedList v.roster v.user (own_last v) shown.now e) }
 {
-    check_last(
+    let signed = match are_signed(alloc, keeping, shown) {
+        Ok(signed) => signed,
+        Err(refusal) => return Err(ViewRefusal::Plain(refusal)),
+    };
+    if !signed {
+        return Err(ViewRefusal::Plain(Refusal::BadSignature));
+    }
+    check_signed(
         alloc,
         keeping.desk.roster(),
-        &keeping.end,
         keeping.user,
         own_record(keeping),
         shown,
@@ -54,20 +60,18 @@ fn own_record(keeping: &Keeping) -> Option<&Record>
     }
 }
 
-/// Checks what a server shows as the users' last commits, for a client of that user, by the user's
-/// last commit that the client holds, if there is one. `BadSignature` where a commit isn't signed
-/// by its author; `OwnMissing` where the user has a last commit, and none of the user's is shown or
-/// one that is behind it; `NotOrdered` with the first pair of positions whose vectors aren't
-/// comparable; `NoMemory`.
-pub(crate) fn check_last(
+/// Checks commits that are signed by their authors, and shown as the users' last ones, for a client
+/// of that user, by the user's last commit that the client holds, if there is one. `OwnMissing`
+/// where the user has a last commit, and none of the user's is shown or one that is behind it;
+/// `NotOrdered` with the first pair of positions whose vectors aren't comparable; `NoMemory`.
+fn check_signed(
     alloc: Global,
     roster: &Roster,
-    end: &ChainEnd,
     user: User,
     last: Option<&Record>,
     shown: &[Commit],
 ) -> Result<(), ViewRefusal>
-    requires keys { AreKeysOf roster.now end.now.users.items }
+    requires signed { AreSigned roster.now shown.now }
     requires last { IfSome (option_copied last) IsSpelled }
     ensures passes { OnOk result
         (Passes roster.now user (option_map commit_in (option_copied last.entry)) shown.now) }
@@ -76,13 +80,6 @@ pub(crate) fn check_last(
 {
     // names the type for the prover (docs/ARCHITECTURE.md, "Forms the kit wants")
     let _file: Option<FileId> = None;
-    let signed = match are_signed(alloc, roster, end, shown) {
-        Ok(signed) => signed,
-        Err(refusal) => return Err(ViewRefusal::Plain(refusal)),
-    };
-    if !signed {
-        return Err(ViewRefusal::Plain(Refusal::BadSignature));
-    }
     let own = match shows_own(alloc, roster, user, last, shown) {
         Ok(own) => own,
         Err(refusal) => return Err(ViewRefusal::Plain(refusal)),
@@ -97,26 +94,63 @@ pub(crate) fn check_last(
 }
 
 /// Whether each commit is signed by its author. Fails only with `NoMemory`.
-fn are_signed(
-    alloc: Global,
-    roster: &Roster,
-    end: &ChainEnd,
-    shown: &[Commit],
-) -> Result<bool, Refusal>
-    requires { AreKeysOf roster.now end.now.users.items }
-    ensures value { IfOk result (λ b. IsTrue b ↔ AreSigned roster.now shown.now) }
+fn are_signed(alloc: Global, keeping: &Keeping, shown: &[Commit]) -> Result<bool, Refusal>
+    requires { IsKeeping keeping.now }
+    ensures value { IfOk result (λ b.
+        IsTrue b ↔ AreSigned (holding_of keeping.now).roster shown.now) }
     ensures refused { IfErr result (λ e. e ≡ NoMemory) }
 {
     // names the type for the prover (docs/ARCHITECTURE.md, "Forms the kit wants")
     let _file: Option<FileId> = None;
     for commit in shown {
-        let key = end.key(roster, commit.version().author());
-        let signed = is_signed_by_author(alloc, roster, key.as_ref(), commit)?;
+        let signed = is_signed(alloc, keeping, commit)?;
         if !signed {
             return Ok(false);
         }
     }
     Ok(true)
+}
+
+/// Whether a commit is signed by its author. Of one that is held this is known, and no signature is
+/// checked. Fails only with `NoMemory`.
+fn is_signed(alloc: Global, keeping: &Keeping, commit: &Commit) -> Result<bool, Refusal>
+    requires { IsKeeping keeping.now }
+    ensures value { IfOk result (λ b.
+        IsTrue b ↔ IsSignedByAuthor (holding_of keeping.now).roster commit.now) }
+    ensures refused { IfErr result (λ e. e ≡ NoMemory) }
+{
+    // names the type for the prover (docs/ARCHITECTURE.md, "Forms the kit wants")
+    let _file: Option<FileId> = None;
+    if is_held(alloc, keeping, commit)? {
+        return Ok(true);
+    }
+    let roster = keeping.desk.roster();
+    let key = keeping.end.key(roster, commit.version().author());
+    is_signed_by_author(alloc, roster, key.as_ref(), commit)
+}
+
+/// Whether a commit is held, as far as its vector tells where. Fails only with `NoMemory`.
+fn is_held(alloc: Global, keeping: &Keeping, commit: &Commit) -> Result<bool, Refusal>
+    requires { IsKeeping keeping.now }
+    ensures held { IfOk result (λ b. b ≡ true → IsHeld (holding_of keeping.now) commit.now) }
+    ensures refused { IfErr result (λ e. e ≡ NoMemory) }
+{
+    let place = place_of(keeping.desk.roster(), commit.version().vector());
+    if keeping.records.len() <= place {
+        return Ok(false);
+    }
+    let bytes = commit.encode(alloc)?;
+    Ok(bytes.as_slice() == keeping.records[place].bytes.as_slice())
+}
+
+/// Where in a list, counted from 0, a commit of that vector stands: its numbers of the users count
+/// the commits up to it. (A wrong place costs a check, no more: no clause needs it.)
+fn place_of(roster: &Roster, vector: &Vector) -> usize {
+    let mut count = 0_u64;
+    for number in vector.numbers().iter().take(roster.user_count()) {
+        count = count.saturating_add(*number);
+    }
+    count.saturating_sub(1) as usize
 }
 
 /// Whether the user's own last commit is shown, if there is one. Fails only with `NoMemory`.

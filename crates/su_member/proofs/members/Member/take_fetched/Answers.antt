@@ -3,7 +3,7 @@ use Rattle.su_view.specs.Acting.{TakesSome}
 use Rattle.su_view.specs.Holding.{HoldingState}
 use Rattle.su_member.specs.Member.{MemberState}
 use Rattle.su_member.proofs.Taking.{takes_one}
-use Rattle.su_member.proofs.members.Member.take_one.Goals as goal
+use Rattle.su_member.proofs.members.Member.take_fetched.Goals as goal
 
 pub returns-in-Ok-Some-clause-takes : goal.returns-in-Ok-Some-clause-takes
 returns-in-Ok-Some-clause-takes g c =

@@ -1,0 +1,49 @@
+// What a server shows as the users' last commits.
+ghost use Rattle.std.specs.Prelude.{◌≡◌, IfSome, OnOk};
+ghost use Rattle.std.specs.Option.{option_copied};
+ghost use Rattle.su_bytes.specs.Membership.{Membership};
+ghost use Rattle.su_version.specs.Chain.{IsSignedByAuthor};
+ghost use Rattle.su_view.specs.LastCommits.{AreSigned};
+
+use std::alloc::{AllocError, Global};
+use su_version::Commit;
+
+/// Commits that a server shows as the users' last ones, each with the number that it told.
+#[derive(Drop)]
+pub(crate) struct Shown {
+    numbers: Vec<u64>,
+    commits: Vec<Commit>,
+}
+
+impl Shown {
+    /// Makes it of no commits.
+    pub fn new(alloc: Global) -> Shown {
+        Shown {
+            numbers: Vec::new(alloc),
+            commits: Vec::new(alloc),
+        }
+    }
+
+    /// Adds a commit with its number.
+    pub fn push(&mut self, number: u64, commit: Commit) -> Result<(), AllocError> {
+        self.numbers.push(number)?;
+        self.commits.push(commit)?;
+        Ok(())
+    }
+
+    /// Lends the commits.
+    pub fn commits(&self) -> &[Commit]
+        ensures { result.now ≡ self.now.commits.items }
+    {
+        self.commits.as_slice()
+    }
+
+    /// Lends the commit that is shown with that number, if one is.
+    pub fn of(&self, number: u64) -> Option<&Commit>
+        ensures signed { (ro : Membership) → AreSigned ro self.now.commits.items
+            → IfSome (option_copied result) (IsSignedByAuthor ro) }
+    {
+        let place = self.numbers.iter().position(|it| *it == number)?;
+        self.commits.get(place)
+    }
+}
