@@ -18,6 +18,7 @@ import tempfile
 import audit_model
 import desk_model
 import lms
+import lms_known
 import logs
 import tally
 from desk_model import sha256
@@ -90,20 +91,42 @@ def script(maker, text):
 
 def keys(room):
     """The keys and signatures of these tries are those of other implementations, and of `sundr keygen`."""
-    text = open(f"{TOP}/crates/su_lms/src/tests/vectors.rt", encoding="utf-8").read()
-    known = dict(re.findall(r"pub const (\w+): &str =\s*\"([0-9a-f]+)\"", text))
-    for key in [name.removesuffix("_KEY") for name in known if name.endswith("_KEY")]:
-        for name in [name for name in known if re.fullmatch(key + "(_FIRST|_LAST)?", name)]:
-            public, signature = bytes.fromhex(known[key + "_KEY"]), bytes.fromhex(known[name])
-            message = b"sundr: a message to sign"
-            is_signed = [lms.verify(public, *it) for it in ((message, signature), (message + b" ", signature))]
-            yield f"known_signature_{name}", is_signed == [True, False]
+    yield from lms_known.verdicts()
     entropy = random.Random("entropy").randbytes(48)
     for width in (4, 8):
         words = ["keygen", "--entropy", room.file(entropy), "--out", f"{room.at}/key", "--height", "5", "--width", str(width)]
         run(words)
         key, files = lms.Key(entropy, 5, width), [open(f"{room.at}/{name}", "rb").read() for name in ("key", "key.pub")]
         yield f"key_of_width_{width}", files == [key.file(), key.public()]
+
+
+def signatures(room):
+    """Of each parameter set a signature is taken, and none with a bit changed in each of its parts, a byte more or a byte less."""
+    for height in lms.LMS_OF_HEIGHT:
+        for width in lms.OTS_OF_WIDTH:
+            maker = script(logs.Maker([logs.key_of(0, height, width, leaves=1)]), "0 create G0:1 a U0:2")
+            (commit, item), publics = maker.records[0], maker.publics
+            version, signature = audit_model.commit_in(commit)
+            start = len(version.encode())
+            wanted = [("taken", maker.log(), ("ok 1\n", 0))]
+            for number, other_ in enumerate(lms_known.spoiled(signature)):
+                why = "33 BadSignature" if len(other_) <= audit_model.LONGEST_SIGNATURE else f"1 Malformed {start}"
+                log = logs.log_bytes([(logs.commit_of(version, other_), item)])
+                wanted.append((number, log, (f"at 1\nno {why}\n", 1)))
+            wrong = all_of(room, publics, wanted)
+            yield f"signatures_of_{height}_{width}: {wrong[:3]}", wrong == [] and len(wanted) > 40
+
+
+def many_keys(room):
+    """Signatures of keys of many parameter sets, looked at together: of a log with one that isn't right, just that is told."""
+    kinds = ((5, 4), (25, 1), (10, 8), (15, 2), (20, 4), (5, 8))
+    maker = logs.Maker([logs.key_of(n, *kind, leaves=4) for n, kind in enumerate(kinds)])
+    users = range(len(kinds))
+    script(maker, "; ".join(f"{user} take G0:1 {place}" for place, user in enumerate((*users, *users)[1:], 2)))
+    yield "keys_of_many_kinds", is_so(room, maker.publics, maker.log(), 2 * len(kinds) - 1)
+    for bad in range(1, len(maker.records) + 1):
+        log = logs.log_bytes([(flipped(commit) if n == bad else commit, item) for n, (commit, item) in enumerate(maker.records, 1)])
+        yield f"keys_of_many_kinds_{bad}", is_so(room, maker.publics, log, (bad, "33 BadSignature"))
 
 
 # ---- good logs
@@ -369,6 +392,7 @@ def spellings(room, next_):
 
     for at in (0, 4, 8, 40, 2184, 2188, -1):
         yield f"signature_at_{at}", refused(commit[:start + 4] + flipped(signature, at), "33 BadSignature")
+    yield "signature_by_a_leaf_past_the_last", refused(commit[:start + 4] + b"\0\0\0\x20" + signature[4:], "33 BadSignature")
     for other_ in (signature + b"\0", signature[:-1], signature[:1], signature * 3):
         yield f"signature_of_{len(other_)}", refused(logs.commit_of(version, other_), "33 BadSignature")
     for length in [*range(start + 80), *range(start + 80, len(commit), 97), len(commit) - 1]:
@@ -583,7 +607,7 @@ def main():
     results = {}
     if not tally.is_there("audit", PROGRAM):
         return 1
-    for part in (keys, good, by_chance, fields, each_byte, orders, ahead, faults, example):
+    for part in (keys, signatures, many_keys, good, by_chance, fields, each_byte, orders, ahead, faults, example):
         with tempfile.TemporaryDirectory() as at:
             results.update(part(Room(at)))
     return tally.told("audit", results)

@@ -21,8 +21,8 @@ echo "$1 $(basename "$PWD")" >> "$CALLS"
 [ "$1" != run ] || echo "$*" > "$CALLS.run"
 echo "so far: 3 of 7 functions checked"
 sleep "${RT_SLEEPS:-0}"
-[ ! -e ../../refuse ] || { echo "error: not proved"; exit 1; }
-[ ! -e ../../edit ] || { rm ../../edit; echo edited > ../sundr/src/main.rt; }
+[ ! -e "$TREE/refuse" ] || { echo "error: not proved"; exit 1; }
+[ ! -e "$TREE/edit" ] || { rm "$TREE/edit"; echo edited > "$TREE/crates/sundr/src/main.rt"; }
 [ "$1" = run ] || exit 0
 mkdir -p out
 printf '#!/bin/sh\necho "%s: $*"\ncat\nexit 7\n' "$(cat src/main.rt)" > out/sundr
@@ -39,7 +39,8 @@ class Tree:
         shutil.rmtree(self.top, ignore_errors=True)
         for crate in ("low", "aside", "middle", "sundr"):  # aside isn't below sundr
             os.makedirs(f"{self.top}/crates/{crate}/src")
-        shutil.copy(f"{TOP}/sundr", self.top)
+        for script in ("sundr", "prove"):
+            shutil.copy(f"{TOP}/{script}", self.top)
         self.write("crates.txt", CRATES)
         self.write("crates/sundr/src/main.rt", "first")
         self.path = f"{room}/bin:/usr/bin:/bin"
@@ -53,7 +54,7 @@ class Tree:
             file.write(text)
 
     def start(self, *arguments, by=None, folder="/", **environment):
-        there = {"CALLS": self.calls_file, "PATH": self.path, "TMPDIR": os.path.dirname(self.top), **environment}
+        there = {"CALLS": self.calls_file, "TREE": self.top, "PATH": self.path, "TMPDIR": os.path.dirname(self.top), **environment}
         return subprocess.Popen(
             [by or f"{self.top}/sundr", *arguments], cwd=folder, env=there, stdin=subprocess.PIPE,
             stdout=subprocess.PIPE, stderr=subprocess.PIPE, text=True)

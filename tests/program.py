@@ -1,7 +1,7 @@
 #!/usr/bin/env python3
 """Tries the built program: what it prints and its exit status, on the examples, on command lines and faults of each kind,
-on keys that other implementations know, on the deepest directory with little stack, and on scripts by chance against the
-second desk of desk_model.py.
+on keys that other implementations know, on the scripts of desk_scripts.py, on streams that fail, on the deepest directory with
+little stack, and on scripts by chance against the second desk of desk_model.py.
 
 Prints a line for each case that isn't as it should be, and last 'N passed, M failed'.
 """
@@ -10,24 +10,21 @@ import pty
 import random
 import re
 import resource
+import socket
 import subprocess
 import sys
 import tempfile
 
 import client_model
 import desk_model
+import desk_scripts
+import lms_known
 import tally
 
 HERE = os.path.dirname(os.path.abspath(__file__))
 TOP = os.path.dirname(HERE)
 PROGRAM = f"{TOP}/crates/sundr/out/sundr"
 CHANCE_SCRIPTS, CHANCE_LINES = 60, 120
-
-
-def known_key(name):
-    """A public key of the bytes 00 01 .. 2f, by an independent implementation (Bouncy Castle 1.72)."""
-    text = open(f"{TOP}/crates/su_lms/src/tests/vectors.rt", encoding="utf-8").read()
-    return re.search(name + r': &str =\s*"([0-9a-f]+)"', text)[1]
 
 
 def keygen(height, width, entropy="entropy", out="key"):
@@ -125,7 +122,7 @@ def examples():
 
 def keys(room):
     for height, width in ((5, 4), (5, 8), (10, 4), (10, 8)):
-        known = known_key(f"W{width}_H{height}_KEY")
+        known = lms_known.KNOWN[f"W{width}_H{height}_KEY"].hex()
         yield f"a_key_of_{height}_{width}", run(keygen(height, width), folder=room) == (known + "\n", "", 0)
         yield f"its_public_key_of_{height}_{width}", open(f"{room}/key.pub", "rb").read().hex() == known
     run(keygen(5, 4), folder=room)
@@ -149,8 +146,8 @@ def help_texts(room):
     yield f"help_lists_the_refusals_of_a_client: {wrong} {missing}", not wrong and not missing
     for command in client_model.FORMS:
         yield f"help_has_{command.decode()}", re.search(rf"(?m)^ +{command.decode()}\b", texts["client"]) is not None
-    kit = subprocess.run(["rt", "version"], capture_output=True, text=True).stdout
-    yield "version_tells_the_kit", run(["--version"])[0] == f"sundr 0.1.0\nproved with {kit}"
+    logic = subprocess.run(["rt", "version"], capture_output=True, text=True).stdout.split()[-1]
+    yield "version_tells_the_logic", run(["--version"])[0] == f"sundr 0.1.0\nproved with a Rattle kit of logic {logic}\n"
 
 
 def faults(room):
@@ -199,6 +196,63 @@ def by_chance(room):
         yield f"chance_{n}", run(arguments.split(), script) == (wanted, "", 0)
 
 
+def scripts(_):
+    """Scripts with their answers."""
+    yield from desk_scripts.digests_known()
+    for name, case in desk_scripts.cases():
+        ended = subprocess.run([PROGRAM, *case.arguments], input=case.script, capture_output=True, timeout=60)
+        yield f"script_{name}", case.is_so(ended.stdout, ended.stderr, ended.returncode)
+
+
+# a script, and what is printed of it
+SCRIPT, ANSWERS = b"ls U9:9\n5 undo 1\n0 undo 9\n", b"no 14 NoFile U9:9\nno 12 NoUser 5\nno 24 NoOperation 9\n"
+
+
+def byte_by_byte():
+    """What a desk prints of the script where each read gives it one byte; and its status."""
+    reader, writer = os.pipe2(os.O_DIRECT)  # a write is a packet, of which a read gets one
+    with subprocess.Popen([PROGRAM, "desk"], stdin=reader, stdout=subprocess.PIPE, stderr=subprocess.PIPE) as started:
+        os.close(reader)
+        for byte in SCRIPT:
+            os.write(writer, bytes([byte]))
+        os.close(writer)
+        return *started.communicate(timeout=60), started.returncode
+
+
+def cut_off(count):
+    """The same where reading fails after so many bytes."""
+    ours, given = socket.socketpair()
+    ours.sendall(SCRIPT[:count])
+    given.sendall(b"!")  # what a socket that is closed hasn't read resets the link
+    ours.close()
+    ended = subprocess.run([PROGRAM, "desk"], stdin=given, capture_output=True, timeout=60)
+    given.close()
+    return ended.stdout, ended.stderr, ended.returncode
+
+
+def filled_up(room, count):
+    """The same where writing fails after so many bytes."""
+    with open(f"{room}/printed", "w+b") as printed:
+        limited = {"preexec_fn": lambda: resource.setrlimit(resource.RLIMIT_FSIZE, (count, count)), "restore_signals": False}
+        ended = subprocess.run([PROGRAM, "desk"], input=SCRIPT, stdout=printed, stderr=subprocess.PIPE, timeout=60, **limited)
+        printed.seek(0)
+        return printed.read(), ended.stderr, ended.returncode
+
+
+def failing_streams(room):
+    """Readers that give a byte at a time, and readers and writers that fail somewhere: what was printed is a front of the answers."""
+    yield "a_reader_may_give_a_byte_at_a_time", byte_by_byte() == (ANSWERS, b"", 0)
+    for count in range(len(SCRIPT) + 1):
+        printed, told, status = cut_off(count)
+        is_told = b"sundr: reading the script: Connection reset" in told
+        yield f"a_reader_that_fails_is_a_fault_{count}: {printed} {told}", ANSWERS.startswith(printed) and is_told and status == 1
+    for count in range(len(ANSWERS)):
+        printed, told, status = filled_up(room, count)
+        is_told = told.startswith(b"sundr: writing") and b"File too large" in told
+        yield f"a_writer_that_fails_is_a_fault_{count}: {printed} {told}", printed == ANSWERS[:count] and is_told and status == 1
+    yield "a_writer_with_room_for_all", filled_up(room, len(ANSWERS)) == (ANSWERS, b"", 0)
+
+
 def deepest_names():
     """Names each of which parts from 255 letters a at another bit, in some order, and those letters; and the digest of a
     directory that leads from the names to the files 2 and on of user 0."""
@@ -245,7 +299,7 @@ def main():
         return 1
     with tempfile.TemporaryDirectory() as room:
         results = dict(examples())
-        for part in (cases, keys, help_texts, faults, at_a_keyboard, deep, by_chance):
+        for part in (cases, keys, help_texts, faults, scripts, failing_streams, at_a_keyboard, deep, by_chance):
             results.update(part(room))
     return tally.told("program", results)
 

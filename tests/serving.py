@@ -12,9 +12,11 @@ import pty
 import queue
 import random
 import re
+import select
 import shutil
 import signal
 import socket
+import struct
 import subprocess
 import sys
 import tempfile
@@ -201,12 +203,18 @@ def is_told(told, *parts):
     return len(told) == 1 and all(it.encode() in told[0] for it in ("sundr: ", *parts)) and told[0].startswith(b"sundr: ")
 
 
-def history_of(log):
-    """The authors and changes of a log, as the second desk has them."""
+def parts_of(log):
+    """The commits and items of a saved log, in turn."""
     data, at, parts = read(log), 0, []
     while at < len(data):
         part, at = audit_model.piece(data, at)
         parts.append(part)
+    return parts
+
+
+def history_of(log):
+    """The authors and changes of a log, as the second desk has them."""
+    parts = parts_of(log)
     return [(audit_model.commit_in(commit)[0].author, audit_model.change_in(item)) for commit, item in zip(parts[::2], parts[1::2])]
 
 
@@ -278,6 +286,35 @@ def operations(at):
         (0, ("take", root, 5)), (0, ("link", root, b"h", file))]
     history = history_of(saved)
     yield f"operations_of_commands: {[it for it in zip(history, wanted) if it[0] != it[1]][:1]}", history == wanted
+    yield from operations_of_names(at)
+
+
+def operations_of_names(at):
+    """Takes come first, and a name that is in use is made free before a file gets it."""
+    root, file, other = (desk_model.group_file(0, number) for number in range(1, 4))
+    cases = {
+        "taken": (
+            ((1, b"mkdir /d"), (0, b"create /d/f"), (0, b"rename /d/f /f"), (1, b"write /f 0 68656c6c6f")),
+            [(1, ("take", root, 1)), (1, ("create", "mkdir", root, b"d", file, 2)),
+             (0, ("take", file, 2)), (0, ("create", "create", file, b"f", other, 3)),
+             (0, ("take", root, 4)), (0, ("rename", file, b"f", root, b"f", other)),
+             (1, ("take", other, 3)), (1, ("write", other, 0, b"hello"))]),
+        "made_free": (
+            ((0, b"create /a"), (0, b"create /b"), (1, b"rename /a /b"), (1, b"link /b /c"), (1, b"rename /b /c"), (1, b"remove /c")),
+            [(0, ("create", "create", root, b"a", file, 2)), (0, ("create", "create", root, b"b", other, 3)),
+             (1, ("take", root, 1)), (1, ("take", other, 2)), (1, ("unlink", root, b"b", other)), (1, ("rename", root, b"a", root, b"b", file)),
+             (1, ("take", file, 2)), (1, ("link", root, b"c", file)),
+             (1, ("unlink", root, b"c", file)), (1, ("rename", root, b"b", root, b"c", file)), (1, ("unlink", root, b"c", file))]),
+    }
+    for name, (lines_, wanted) in cases.items():
+        folder = f"{at}/{name}"
+        os.mkdir(folder)
+        room, saved = Room(folder), f"{folder}/saved"
+        with Server(room) as server:
+            for user, line in (*lines_, (0, b"save " + saved.encode())):
+                room.run(server.port, user, line)
+        history = history_of(saved)
+        yield f"operations_of_names_{name}: {[it for it in zip(history, wanted) if it[0] != it[1]][:1]}", history == wanted
 
 
 # ---- users at once
@@ -294,7 +331,9 @@ def at_once(at):
         yield "at_once_ends", [ended[1:] for ended in ends] == [([], 0)] * 3
         said = [line.decode() for ended in ends for line in ended[0]]
         done = sorted(int(line.split(" ")[1]) for line in said if line.startswith("ok "))
-        yield f"at_once_each_commit_is_told_once: {done}", len(done) >= 9 and done == list(range(1, len(done) + 1))
+        # A user's first line commits something, and so does his last one, where that directory isn't there already. So user 0
+        # commits once at least; the two others, who don't hold the root at first, twice: a take and a create, or two takes.
+        yield f"at_once_each_commit_is_told_once: {done}", len(done) >= 5 and done == list(range(1, len(done) + 1))
         met = re.compile(r"ok \d+|\d G0:\d+|no 19 Exists|no 39 Change (16|17|18|19|24|27|28) .+")
         odd = [line for line in said if not met.fullmatch(line)]
         yield f"at_once_nothing_else_is_met: {odd}", odd == []
@@ -353,8 +392,9 @@ LINES = (
     # refusals, in the order in which they come
     (0, "mkdir d", "no 29 BadPath"), (0, "mkdir /", "no 29 BadPath"), (0, "ls //", "no 29 BadPath"), (0, "ls /d/", "no 29 BadPath"),
     (0, "ls /.", "no 29 BadPath"), (0, "create /..", "no 29 BadPath"), (0, "create /" + "n" * 256, "no 29 BadPath"),
-    (0, "rename /x y", "no 29 BadPath"), (0, "remove /", "no 29 BadPath"), (0, "ls /x", "no 18 NoName"), (0, "ls /x/y", "no 18 NoName"),
-    (0, "remove /x", "no 18 NoName"), (0, "rename /x /g/y", "no 18 NoName"), (0, "ls /g", "no 15 WrongKind G0:3"),
+    (0, "rename /x y", "no 29 BadPath"), (0, "rename /x /", "no 29 BadPath"), (0, "remove /", "no 29 BadPath"), (0, "ls /x", "no 18 NoName"), (0, "ls /x/y", "no 18 NoName"),
+    (0, "remove /x", "no 18 NoName"), (0, "rename /x /g/y", "no 18 NoName"), (0, "rename /x /x", "no 18 NoName"),
+    (0, "link /g/x /y/z", "no 15 WrongKind G0:3"), (1, "rename /g /g", ""), (1, "write / 0 41", "no 15 WrongKind G0:1"), (0, "ls /g", "no 15 WrongKind G0:3"),
     (0, "ls /g/x", "no 15 WrongKind G0:3"), (0, "cat /d 0 1", "no 15 WrongKind G0:2"), (0, "write / 0 41", "no 15 WrongKind G0:1"),
     (0, "write /d 0 41", "no 15 WrongKind G0:2"), (0, "truncate /d 1", "no 15 WrongKind G0:2"), (0, "link / /x", "no 15 WrongKind G0:1"),
     (0, "create /d", "no 19 Exists"), (0, "link /g /d/f", "no 19 Exists"), (0, "remove /d", "no 20 NotEmpty"),
@@ -371,6 +411,18 @@ LINES = (
     # the largest write, and names that could forge a line
     (0, "write /d/f 0 " + "5a" * 65536, "ok 21|ok 22"), (0, "cat /d/f 65530 9", "5a" * 6),
     (0, "create /d/\x01\\\x7f\t\u00e9", "ok 23|ok 24"), (0, "ls /d", "\\x01\\x5c\\x7f\\x09\u00e9 G0:4|f G0:3"),
+)
+
+MISTAKES = (
+    ("ls /a ", "two spaces in a row, or a space at an end"),
+    ("undo 1\r", "a carriage return at its end"),
+    ("stat /a", "an unknown command"),
+    ("0 mkdir /a", "an unknown command"),
+    ("save", "too few words"),
+    ("rename /a", "too few words"),
+    ("undo_last 3", "too many words"),
+    ("undo /a", "word 2 is not a number of at most 20 digits that fits 64 bits"),
+    ("write /a 4294967296 4", "word 4 is not bytes in hex, two digits each"),
 )
 
 BAD_LINES = (
@@ -392,10 +444,11 @@ def lines(at):
             said = (zero, one)[user].say(line)
             yield f"line_{number}: {line[:60]} {said}, and not {wanted} {by_model}", said == wanted == by_model
         yield "lines_end", [it.end() for it in (zero, one)] == [([], [], 0)] * 2
-        for number, line in enumerate(BAD_LINES):
+        for line, why in [*MISTAKES, *((line, "") for line in BAD_LINES)]:
             printed, told, status = room.run(server.port, 0, b"\n\nls /x\n" + line.encode() + b"\nls /x\n")
             is_right = (printed, status) == ([b"no 18 NoName", b"line 4: bad"], 2) and is_told(told, "line 4: ")
-            yield f"bad_line_{number}: {line[:60]} {printed} {told} {status}", is_right
+            is_told_why = program == MODEL or why == "" or told == [f"sundr: line 4: {why}".encode()]
+            yield f"bad_line_{line[:60]}: {printed} {told} {status}", is_right and is_told_why
         ended = room.run(server.port, 0, b"ls /x")
         yield f"a_last_line_without_an_end: {ended}", ended == ([b"no 18 NoName"], [], 0)
         yield "no_lines", room.run(server.port, 0, b"") == ([], [], 0)
@@ -603,6 +656,23 @@ def unkept(room, server):
         yield f"and_can_again: {said}", said[-1:] != [b"no 10 KeyFileFault"] and said[-1].startswith(b"ok ") and next_leaf(path) >= 6
         printed, told, status = client.end()
         yield f"why_it_could_not: {told}", (printed, status) == ([], 0) and (program == MODEL or is_told(told, path))
+
+
+def signatures(at):
+    """A client signs as the second implementation does, byte by byte, by each leaf of a key once."""
+    lengths = {4: 2348, 8: 1292}
+    for width, length in lengths.items():
+        folder = f"{at}/{width}"
+        os.mkdir(folder)
+        room, saved = Room(folder, users=1, width=width), f"{folder}/saved"
+        script = b"create /a\n" + b"".join(b"truncate /a %d\n" % n for n in range(1, 33)) + b"save %b\n" % saved.encode()
+        with Server(room) as server:
+            ended = room.run(server.port, 0, script)
+        wanted = [*(b"ok %d" % n for n in range(1, 33)), b"no 8 KeySpent"]
+        yield f"each_leaf_of_width_{width}_signs_once: {ended}", ended == (wanted, [], 0) and next_leaf(room.key_files[0]) == 32
+        signed = [audit_model.commit_in(commit) for commit in parts_of(saved)[::2]]
+        wrong = [q for q, (version, signature) in enumerate(signed) if signature != room.keys[0].sign(q, version.encode())]
+        yield f"signatures_of_width_{width}: {wrong}", wrong == [] and {len(it) for _, it in signed} == {length} and len(signed) == 32
 
 
 def kills(at):
@@ -828,11 +898,30 @@ def lies(at):
     }
     for name, (ended, wanted) in cases.items():
         yield f"lie_{name}: {ended}", ended == (wanted, [], 0)
+    for name, (ended, wanted) in lying_vectors(room, show).items():
+        yield f"lie_{name}: {ended}", ended == (wanted, [], 0)
     yield from lying_items(publics, records, told)
     yield from lying_on_the_turn(publics, records, told)
     yield from lying_replies(publics, records, told)
     yield f"who_is_lied_to_keeps_no_turn: {turns_kept}", turns_kept == []
     yield from forks(room)
+
+
+def lying_vectors(room, show):
+    """Last commits of two lists that fork behind the third commit: of their vectors neither is at most the other; and the last commit of
+    another number of users."""
+    base = "0 create G0:1 a U0:2; 0 create G0:1 b G0:2 3; 1 take G0:2 2"
+    of_zero = room.log(f"{base}; 0 write U0:2 0 41; 0 write U0:2 0 42").records
+    of_one = room.log(f"{base}; 1 write G0:2 0 41; 1 write G0:2 0 42").records
+    with_two = logs.Maker([*room.keys, logs.key_of("serving 2", width=4, leaves=1)])
+    with_two.say("1 take G0:1 1")
+    unordered = [b"no 11 NotOrdered 0 1"] * 2
+    return {
+        "vectors_of_two_lists": (show([*of_zero, of_one[3]], last={0: 5, 1: 6}), unordered),
+        "vectors_that_rise": (show(of_one, last={0: 2, 1: 5}), [b"a U0:2", b"b G0:2", b""]),
+        "vectors_that_fall": (show(of_zero, last={0: 5, 1: 3}), [b"a U0:2", b"b G0:2", b"42"]),
+        "a_vector_of_more_users": (show([*of_zero, with_two.records[0]], last={0: 5, 1: 6}), unordered),
+    }
 
 
 def lying_on_the_turn(publics, records, told):
@@ -987,6 +1076,120 @@ def lines_of_bytes(port):
     link.close()
 
 
+# requests of one session in their order, the replies, as they stand on the stream
+ABC = "ba7816bf8f01cfea414140de5dae2223b00361a396177a9cb410ff61f20015ad"
+EXCHANGES = {
+    "the_turn": (b"\0\0\0\1\1", b"\0\0\0\x0a\x81" + bytes(9)),
+    "a_commit_whose_author_is_none": (b"\0\0\0\6\2SV01\x40", b"\0\0\0\x0a\xff\1" + bytes(7) + b"\4"),
+    "a_record_that_isnt_there": (b"\0\0\0\x09\4" + bytes(7) + b"\1", b"\0\0\0\1\x85"),
+    "an_item": (b"\0\0\0\4\5abc", b"\0\0\0\x21\x86" + bytes.fromhex(ABC)),
+    "the_same_item_by_its_digest": (b"\0\0\0\x21\6" + bytes.fromhex(ABC), b"\0\0\0\4\x87abc"),
+    "an_item_that_isnt_held": (b"\0\0\0\x21\6" + bytes(32), b"\0\0\0\x0a\xff\5" + bytes(8)),
+    "an_empty_item": (b"\0\0\0\1\5", b"\0\0\0\x0a\xff\x16" + bytes(8)),
+    "the_turn_is_given_back": (b"\0\0\0\1\3", b"\0\0\0\1\x83"),
+    "a_commit_without_the_turn": (b"\0\0\0\2\2\0", b"\0\0\0\x0a\xff\x20" + bytes(8)),
+    "an_unknown_tag": (b"\0\0\0\1\x99", b"\0\0\0\x0a\xff\x2a" + bytes(8)),
+    "a_byte_too_many": (b"\0\0\0\2\3\0", b"\0\0\0\x0a\xff\1" + bytes(7) + b"\1"),
+}
+ASKED, TOLD = (b"".join(exchange[side] for exchange in EXCHANGES.values()) for side in (0, 1))
+
+
+def whole_replies(length):
+    """The replies to the requests that are whole within so many bytes."""
+    replies = b""
+    for asked, told in EXCHANGES.values():
+        length -= len(asked)
+        replies += told if length >= 0 else b""
+    return replies
+
+
+def session_of(port, pieces):
+    """All that is replied in a session of these bytes, to its end."""
+    link, replied = raw(port), b""
+    for piece in pieces:
+        link.write(piece)
+    link.stream.shutdown(socket.SHUT_WR)
+    try:
+        while True:
+            replied += link.read(1)
+    except wire.LinkEnded:
+        pass
+    link.close()
+    return replied
+
+
+def stands_still(link):
+    """Whether nothing comes for a while."""
+    return select.select([link.stream], [], [], 0.02)[0] == []
+
+
+def bytes_of_sessions(at):
+    """Sessions byte by byte: all requests, in pieces of any length; cut at each byte; refused at once."""
+    room = Room(at)
+    with Server(room, workers=1) as server:
+        for count in (1, 7, len(ASKED)):
+            replied = session_of(server.port, [ASKED[n:n + count] for n in range(0, len(ASKED), count)])
+            yield f"all_requests_in_pieces_of_{count}: {replied}", replied == TOLD
+        link = raw(server.port)
+        for name, (asked, told) in EXCHANGES.items():
+            link.write(asked)
+            yield f"request_{name}", link.read(len(told)) == told and stands_still(link)
+        link.close()
+        wrong = [n for n in range(len(ASKED) + 1) if session_of(server.port, [ASKED[:n]]) != whole_replies(n)]
+        yield f"cut_at_each_byte: {wrong}", wrong == []
+        link = raw(server.port)
+        for byte in (b"\0", b"\0", b"\0", b"\1"):
+            link.write(byte)
+            yield f"nothing_is_replied_to_a_part_{byte}", stands_still(link)
+        link.write(b"\1")
+        yield "a_message_comes_in_single_bytes", link.read(14) == EXCHANGES["the_turn"][1]
+        link.close()
+        turn, refused = EXCHANGES["the_turn"], EXCHANGES["a_byte_too_many"][1]
+        for name, sent, wanted in (
+                ("a_byte_too_many_and_a_request", b"\0\0\0\2\1\0" + turn[0], refused + turn[1]),
+                ("too_long_a_length", b"\0\2\0\1", b"\0\0\0\x0a\xff\x29" + bytes(8)),
+                ("too_long_a_length_for_good", b"\0\2\0\1\1" + turn[0], b"\0\0\0\x0a\xff\x29" + bytes(8)),
+                ("no_length", bytes(4), b"\0\0\0\x0a\xff\1" + bytes(8)), ("a_cut_message", b"\0\0\0\2\1", b""),
+                ("a_turn_that_is_held_at_the_end", *turn), ("the_turn_of_who_has_gone", *turn)):
+            replied = session_of(server.port, [sent])
+            yield f"session_of_{name}: {replied}", replied == wanted
+        yield from unread(server)
+
+
+def unread(server):
+    """Links that are reset while replies are on their way: the next session finds all as it was."""
+    for count in range(0, len(ASKED), 9):
+        link = raw(server.port)
+        link.stream.setsockopt(socket.SOL_SOCKET, socket.SO_LINGER, struct.pack("ii", 1, 0))
+        link.write(ASKED[:count])
+        link.close()
+        replied = session_of(server.port, [ASKED])
+        yield f"after_a_link_that_is_reset_behind_{count}: {replied}", replied == TOLD
+
+
+def stored_bytes(at):
+    """Commits that are handed in byte by byte are given back so, under their numbers, and saved so."""
+    room, saved = Room(at), f"{at}/saved"
+    maker = room.log("0 create G0:1 a U0:2; 1 take G0:1 1")
+    (first, _), (second, _) = maker.records
+    wanted = (
+        (wire.GRANT, b"\x81" + bytes(9)), (b"\2" + first, b"\x82" + bytes(7) + b"\1"),
+        (b"\4" + bytes(7) + b"\1", b"\x84" + first), (b"\4" + bytes(7) + b"\2", b"\x85"),
+        (wire.GRANT, b"\x81" + bytes(7) + b"\1\1\0" + bytes(7) + b"\1"), (b"\2" + second, b"\x82" + bytes(7) + b"\2"),
+        (b"\4" + bytes(7) + b"\2", b"\x84" + second), (wire.GRANT, b"\x81" + bytes(7) + b"\2\2\0" + bytes(7) + b"\1\1" + bytes(7) + b"\2"))
+    with Server(room) as server:
+        link = raw(server.port)
+        for _, item in maker.records:
+            link.ask(wire.put(item))
+        for number, (asked, told) in enumerate(wanted):
+            replied = link.ask(asked)
+            yield f"stored_and_fetched_{number}: {replied[:40]}", replied == told
+        link.close()
+        ended = room.run(server.port, 0, b"save %b\nls /\n" % saved.encode())
+        yield f"the_turn_was_given_back_at_the_end: {ended}", ended == ([b"a U0:2"], [], 0)
+        yield "and_saved_as_they_came", read(saved) == maker.log()
+
+
 def is_ended(link):
     try:
         link.read(1)
@@ -1090,8 +1293,8 @@ def same_log(seed, folder, room, client, team):
 
 
 PARTS = (
-    walk, logs_taken_up, operations, at_once, many_users, at_a_keyboard, lines, saves, streams, faults, keys, kills, kills_at_calls, busy,
-    turns, many_turns, lies, sessions, book, example, by_chance)
+    walk, logs_taken_up, operations, at_once, many_users, at_a_keyboard, lines, saves, streams, faults, keys, signatures, kills,
+    kills_at_calls, busy, turns, many_turns, lies, sessions, bytes_of_sessions, stored_bytes, book, example, by_chance)
 
 
 def main():

@@ -21,7 +21,10 @@ import threading
 import time
 
 import bad_server
+import logs
 import serving
+import wire
+from desk_model import Refused, sha256
 from serving import Running, free_port, is_told, read
 
 KILLS = 50
@@ -84,6 +87,9 @@ def ends(at):
             yield "writes", ann.say(b"write /d/f 0 6869") == [b"ok 3"]
         server.process.send_signal(signal.SIGTERM)
         yield "is_ended_by_a_signal", server.process.wait(serving.WAIT) == -signal.SIGTERM
+    with Keeping(room, f"{at}/new", sessions=1) as server:
+        replied = serving.session_of(server.port, [serving.ASKED])
+        yield f"all_requests_of_a_server_with_a_store: {replied}", replied == serving.TOLD
     with Keeping(room, store, sessions=3) as server:
         with room.client(server.port, 1) as bob:
             yield "shows_what_was_stored", bob.say(b"cat /d/f 0 9") == [b"6869"]
@@ -112,7 +118,7 @@ def two_servers(at):
             ann.say(b"create /f")
             with Keeping(room, store) as second:
                 _, told, status = second.end()
-                yield f"one_server_a_store: {second.said}", status == 1 and is_told([second.said, *told], store)
+                yield f"one_server_a_store: {second.said}", status == 1 and is_told([second.said, *told], f"{store}/{FILE}", "in use by another")
             yield "the_first_goes_on", ann.say(b"create /g") == [b"ok 2"]
 
 
@@ -259,8 +265,36 @@ def shows_files(room, port, *more):
         return all(client.say(b"cat /%d %d 4" % (n // 16, n % 16 * 65536)) == [b"%08x" % n] for n in range(0, WRITES, 7))
 
 
+def items_in(log):
+    """The items of a saved log, in order."""
+    data, place, parts = read(log), 0, []
+    while place < len(data):
+        size = int.from_bytes(data[place:place + 4], "big")
+        parts.append(data[place + 4:place + 4 + size])
+        place += 4 + size
+    return parts[1::2]
+
+
+def gives(port, items):
+    """Whether a server gives each of these items."""
+    try:
+        link = wire.connect(port)
+        given = [serving.reply_to(link, wire.get(sha256(item))) == ("item", item) for item in items]
+        link.close()
+        return all(given)
+    except (OSError, wire.LinkEnded, Refused):  # a fault of the store: no reply that fits, and the server ends
+        return False
+
+
+def blank(path):
+    """Puts zeros in the place of a file's bytes, but for its first pages."""
+    with open(path, "r+b") as file:
+        file.seek(65536)
+        file.write(bytes(os.path.getsize(path) - 65536))
+
+
 def small_cache(at):
-    memory = {}
+    memory, kept = {}, {}
     for cache in (1, 256):
         room, store, log = Room(at), f"{at}/store_{cache}", f"{at}/log_{cache}"
         with Keeping(room, store, cache=cache) as server:
@@ -275,9 +309,69 @@ def small_cache(at):
             server.kill()
         with Keeping(room, store, cache=cache) as server:
             yield f"shows_anew_with_{cache}", shows_files(room, server.port)
+            items = items_in(log)[::7]
+            yield f"gives_items_with_{cache}", gives(server.port, items)
+            blank(f"{store}/{FILE}")
+            kept[cache] = gives(server.port, items)
     print(f"storing: {WRITES * 65536 // 1000000} MB of items, served in {memory[1] // 1000000} MB with a cache of 1 MiB, "
           f"in {memory[256] // 1000000} with one of 256")
     yield f"a_small_cache_spares_memory: {memory}", memory[256] - memory[1] > WRITES * 65536 - MOST_SPARED
+    yield f"and_a_large_one_keeps_what_was_read_back: {kept}", kept == {1: False, 256: True}
+
+
+# ---- items that no commit names
+
+SHARDS, LEAST_STAYING, LARGEST_ITEM = 16, 1_048_576, 70_000  # of these items a shard has room for some, however small the cache is
+ITEMS = 400
+
+
+def item_of(number):
+    """The largest item, which tells a number."""
+    return b"%07d" % number * (LARGEST_ITEM // 7)
+
+
+def put_all(link, numbers):
+    """Those of these items that are held, and those for which there is no room."""
+    replies = {number: serving.reply_to(link, wire.put(item_of(number))) for number in numbers}
+    held = [number for number, reply in replies.items() if reply == ("put_done", sha256(item_of(number)))]
+    return held, [number for number, reply in replies.items() if reply == ("refused", "30 NoMemory")]
+
+
+def commit_for(room, item):
+    """The first commit of user 0, of a change that has this item, whatever it is."""
+    maker = logs.Maker(room.keys)
+    return maker.sign(logs.Version(0, maker.prev, sha256(item), bytes(32), [], maker.raised(0, [])))
+
+
+def room_of_items(at):
+    """Items stay until a commit names them, as many as there is room for; one that has none is refused, and changes nothing."""
+    room, store = serving.Room(at), f"{at}/store"
+    with Keeping(room, store, cache=1) as server:
+        link = wire.connect(server.port)
+        held, refused = put_all(link, range(ITEMS))
+        is_full = len(held) == SHARDS * (LEAST_STAYING // LARGEST_ITEM) and len(held) + len(refused) == ITEMS
+        yield f"as_many_as_there_is_room_for: {len(held)} {len(refused)}", is_full
+        given = [serving.reply_to(link, wire.get(sha256(item_of(number)))) == ("item", item_of(number)) for number in held]
+        yield "those_that_were_put_stay", all(given)
+        missing = {serving.reply_to(link, wire.get(sha256(item_of(number)))) for number in refused}
+        yield f"those_that_were_refused_are_not_there: {missing}", missing == {("refused", "5 MissingBlock")}
+        yield "each_can_be_put_again", put_all(link, held) == (held, []) and put_all(link, refused) == ([], refused)
+        kept = item_of(held[0])
+        stored = [serving.reply_to(link, request) for request in (wire.GRANT, wire.commit(commit_for(room, kept)))]
+        yield f"one_is_kept_with_a_commit: {stored}", stored == [("granted", (0, {})), ("stored", 1)]
+        more, _ = put_all(link, refused)
+        yield f"which_makes_room_for_one: {more}", len(more) == 1
+        yield "and_is_there_still", serving.reply_to(link, wire.get(sha256(kept))) == ("item", kept)
+        yield "and_may_be_put_again", put_all(link, held[:1]) == (held[:1], [])
+        yield "which_takes_no_room", put_all(link, more) == (more, []) and put_all(link, set(refused) - set(more))[0] == []
+        link.close()
+        server.kill()
+    with Keeping(room, store, cache=1) as server:
+        link = wire.connect(server.port)
+        yield "the_item_comes_back_with_its_commit", serving.reply_to(link, wire.get(sha256(kept))) == ("item", kept)
+        lost = serving.reply_to(link, wire.get(sha256(item_of(held[1]))))
+        yield f"what_no_commit_names_does_not: {lost}", lost == ("refused", "5 MissingBlock")
+        link.close()
 
 
 # ---- several files
@@ -304,12 +398,36 @@ def files_of(store):
     return sorted(name for name in os.listdir(store) if name.endswith(".db"))
 
 
+def in_the_way(room, store, server):
+    """Where the next file is to be made one of something else stands, which is left: the server ends, and tells why. Returns the number
+    of the first write that isn't acknowledged."""
+    path, first = f"{store}/records-1.db", FILES[0]
+    make_other(path)
+    before = read(path)
+    with room.client(server.port, 0) as client:
+        while first < FILES[1] and client.say(b"write /%d %d " % (first // 16, first % 16 * 65536) + large(first))[-1].startswith(b"ok "):
+            first += 1
+            if first % 16 == 0:
+                client.say(b"create /%d" % (first // 16))
+        client.end()
+    printed, told, status = server.end()
+    is_right = (printed, status) == ([], 1) and any(f"{path}: an SQLite file of something else".encode() in line for line in told)
+    yield f"a_file_in_the_way_of_the_next: {told} {status}", is_right and FILES[0] < first < FILES[1]
+    yield "which_is_left", read(path) == before
+    for name in os.listdir(store):
+        if name.startswith("records-1.db"):
+            os.remove(f"{store}/{name}")
+    return first
+
+
 def several_files(at):
     room, store, memory = Room(at), f"{at}/store", []
     with Keeping(room, store, cache=1) as server:
         yield "stores", in_files(room, server.port, 0, 0, FILES[0]) == 0
         yield "one_file_at_first", files_of(store) == ["records.db"]
-        yield "stores_more", in_files(room, server.port, 0, FILES[0], FILES[1]) == 0
+        first = yield from in_the_way(room, store, server)
+    with Keeping(room, store, cache=1) as server:
+        yield f"stores_more_once_it_is_gone: {first}", in_files(room, server.port, 0, first, FILES[1]) == 0
         yield f"then_two: {files_of(store)}", files_of(store) == ["records-1.db", "records.db"]
         yield "reads_from_both", reads_of(room, server.port, (0, 100, FILES[1] - 1))
         server.kill()
@@ -352,11 +470,14 @@ def bad_folders(room, store):
     good = read(f"{store}/records-1.db")
     with open(f"{store}/records-1.db", "wb") as file:
         file.write(b"no store at all\n" * 300)
-    yield told_of("a_text", "records-1.db")
+    yield told_of("a_text", f"{store}/records-1.db: no sound SQLite file")
+    os.remove(f"{store}/records-1.db")
+    make_other(f"{store}/records-1.db")
+    yield told_of("a_database_of_something_else", f"{store}/records-1.db: an SQLite file of something else")
     os.remove(f"{store}/records-1.db")
     with open(f"{store}/records-1.db", "wb") as file:
         file.write(b"")
-    yield told_of("an_empty_file_before_another", "record")
+    yield told_of("an_empty_file_before_another", f"{store}/records-1.db: damaged at record 0: put a copy of the file in its place")
     with open(f"{store}/records-1.db", "wb") as file:
         file.write(good)
     os.rename(f"{store}/records-2.db", f"{store}/away")
@@ -388,6 +509,14 @@ def refuses(room, store, name, *parts):
     yield f"{name}_is_left", bytes_of(store) == before
 
 
+def make_other(path):
+    """A database of something else."""
+    other = sqlite3.connect(path)
+    other.execute("CREATE TABLE note (title TEXT NOT NULL)")
+    other.commit()
+    other.close()
+
+
 def bad_files(at):
     room, store = filled(at)
     path, good = f"{store}/{FILE}", read(f"{store}/{FILE}")
@@ -399,14 +528,11 @@ def bad_files(at):
             file.write(data)
 
     put(b"no store at all\n" * 300)
-    yield from refuses(room, store, "a_text", path)
+    yield from refuses(room, store, "a_text", f"{path}: no sound SQLite file")
     for name in os.listdir(store):
         os.remove(f"{store}/{name}")
-    other = sqlite3.connect(path)
-    other.execute("CREATE TABLE note (title TEXT NOT NULL)")
-    other.commit()
-    other.close()
-    yield from refuses(room, store, "a_database_of_something_else", path)
+    make_other(path)
+    yield from refuses(room, store, "a_database_of_something_else", f"{path}: an SQLite file of something else")
     place = good.rindex(b"SV01") + 50
     put(good[:place] + bytes([good[place] ^ 1]) + good[place + 1:])
     yield from refuses(room, store, "a_changed_byte", path)
@@ -418,6 +544,11 @@ def bad_files(at):
     with Keeping(room, store, sessions=1) as server:
         yield "the_right_one_is_served", names_in(room.run(server.port, 1, b"ls /\n")[0]) == {b"a", b"b", b"c"}
     yield from refuses_a_capacity(room, store)
+    lost = f"{at}/nowhere/store"
+    with Keeping(room, lost) as server:
+        printed, told, status = server.end()
+        told = [server.said, *told]
+    yield f"no_folder_for_it: {told}", (printed, status) == ([], 1) and is_told(told, lost) and not os.path.exists(f"{at}/nowhere")
 
 
 def refuses_a_capacity(room, store):
@@ -577,7 +708,9 @@ def copies_of_lies(at):
     yield f"an_item_that_is_not_there_is_left_out: {without}", without == (count, count)
 
 
-PARTS = (ends, two_servers, kills, no_room, small_cache, several_files, bad_files, backs_up, backup_kills, bad_backups, copies_of_lies)
+PARTS = (
+    ends, two_servers, kills, no_room, small_cache, room_of_items, several_files, bad_files, backs_up, backup_kills, bad_backups,
+    copies_of_lies)
 
 
 def main():

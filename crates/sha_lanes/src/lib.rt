@@ -12,6 +12,3 @@ mod words;
 
 pub use orders::run_chains;
 pub use runs::ChainRun;
-
-#[cfg(test)]
-mod tests;

@@ -1,5 +1,4 @@
 // When a file of an archive is full.
-use su_store::MOST_RECORDS;
 
 /// How many bytes the current file has, of the records that stand in the book and their items, and
 /// with how many it is full.
@@ -47,8 +46,8 @@ impl Fill {
         self.bytes = self.bytes.saturating_add(bytes);
     }
 
-    /// Whether the file takes no more records, of which it has so many.
-    pub(crate) fn is_full(&self, records: u32) -> bool {
-        MOST_RECORDS <= records || self.limit <= self.bytes
+    /// Whether the file has as many bytes as it takes.
+    pub(crate) fn is_full(&self) -> bool {
+        self.limit <= self.bytes
     }
 }

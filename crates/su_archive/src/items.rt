@@ -3,21 +3,20 @@ ghost use Rattle.std.specs.Prelude.{◌≡◌, All, Some, IfOk, option_copied};
 ghost use Rattle.sha2.specs.Sha256.{sha256};
 ghost use Rattle.su_version.specs.Commit.{Commit as CommitParts, IsCommit, commit_bytes};
 
-use std::alloc::Global;
+use std::alloc::{AllocError, Global};
 use std::sync::Wait;
 use su_bytes::{Digest, Refusal};
 use su_shards::SharedBlocks;
-use su_store::FileFault;
 use su_version::Commit;
 
 /// Returns the digest of the change that a commit signs. `None` where the bytes are no commit's.
-pub(crate) fn change_of(alloc: Global, commit: &[u8]) -> Result<Option<Digest>, FileFault>
+pub(crate) fn change_of(alloc: Global, commit: &[u8]) -> Result<Option<Digest>, AllocError>
     ensures { IfOk result (λ change. (c : CommitParts) → IsCommit c → commit.now ≡ commit_bytes c
         → change ≡ Some c.version.change) }
 {
     match Commit::decode(alloc, commit) {
         Ok(commit) => Ok(Some(commit.version().change())),
-        Err(Refusal::NoMemory) => Err(FileFault::NoMemory),
+        Err(Refusal::NoMemory) => Err(AllocError),
         Err(_) => Ok(None),
     }
 }
@@ -28,7 +27,7 @@ pub(crate) fn item_of<R: Wait>(
     alloc: Global,
     blocks: &SharedBlocks,
     change: Option<&Digest>,
-) -> Result<Vec<Vec<u8>>, FileFault>
+) -> Result<Vec<Vec<u8>>, AllocError>
     ensures { IfOk result (λ items.
         All (λ item. option_copied change.entry ≡ Some (sha256 item.items)) items.items) }
 {
@@ -39,7 +38,7 @@ pub(crate) fn item_of<R: Wait>(
     match blocks.get(rt, alloc, *digest) {
         Ok(item) => items.push(item)?,
         Err(Refusal::MissingBlock) => {}
-        Err(_) => return Err(FileFault::NoMemory),
+        Err(_) => return Err(AllocError),
     }
     Ok(items)
 }
@@ -66,9 +65,9 @@ pub(crate) fn share<R: Wait>(
     alloc: Global,
     blocks: &SharedBlocks,
     item: &[u8],
-) -> Result<(), FileFault> {
+) -> Result<(), AllocError> {
     match blocks.share(rt, alloc, item) {
         Ok(_) | Err(Refusal::TooBig) => Ok(()),
-        Err(_) => Err(FileFault::NoMemory),
+        Err(_) => Err(AllocError),
     }
 }

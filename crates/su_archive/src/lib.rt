@@ -1,4 +1,4 @@
-//! The keeper of a server's records: over the files of a store, each record with the item of its
+//! The keeper of a server's records: in the files of a vault, each record with the item of its
 //! change.
 #![tactic(auto)]
 
@@ -7,7 +7,4 @@ mod fills;
 mod items;
 mod numbers;
 
-pub use archives::{Archive, ArchiveName};
-
-#[cfg(test)]
-mod tests;
+pub use archives::Archive;

@@ -1,8 +1,8 @@
 // The texts of the help, in lines of at most 80 columns.
 
-/// The version, and the kit that proved it (`rt version`).
+/// The version, and the logic of the kits that prove it (`rt version` tells a kit's name and its logic).
 pub const LONG_VERSION: &str = "0.1.0
-proved with rattle-kit-13f logic dac8208d650f15bf";
+proved with a Rattle kit of logic dac8208d650f15bf";
 
 pub const ABOUT: &str = "A shared file store of which each operation can be undone
 

@@ -133,23 +133,23 @@ fn desk_command<'a>(alloc: Global, help: &'a str) -> Result<Command<'a>, AllocEr
 }
 
 fn keygen_command<'a>(alloc: Global) -> Result<Command<'a>, AllocError> {
+    let command = Command::new(alloc, "keygen")
+        .about("Makes a key, and prints its public key in hex")
+        .long_about(KEYGEN_ABOUT);
     let entropy = needed(alloc, "entropy", "FILE").help("48 random bytes, read once");
+    let command = command.arg(entropy)?;
     let out = needed(alloc, "out", "FILE").help("The key file; FILE.pub gets the public key");
+    let command = command.arg(out)?;
     let height = needed(alloc, "height", "5|10")
         .value_parser(HEIGHTS.as_slice())
         .hide_possible_values(true)
         .help("Of the tree: a key signs 32 or 1,024 times");
+    let command = command.arg(height)?;
     let width = needed(alloc, "width", "4|8")
         .value_parser(WIDTHS.as_slice())
         .hide_possible_values(true)
         .help("Of a coefficient: 8 bits sign shorter and slower");
-    Command::new(alloc, "keygen")
-        .about("Makes a key, and prints its public key in hex")
-        .long_about(KEYGEN_ABOUT)
-        .arg(entropy)?
-        .arg(out)?
-        .arg(height)?
-        .arg(width)
+    command.arg(width)
 }
 
 fn audit_command<'a>(alloc: Global) -> Result<Command<'a>, AllocError> {

@@ -9,9 +9,6 @@ use crate::options::{copy, keys_of, needed, needed_keys, usage};
 use clap::{Arg, ArgMatches, Command};
 use std::alloc::{AllocError, Global};
 
-/// How many commits a server with a store keeps at most: those of one file of it.
-const MOST_STORED: u64 = 100_000;
-
 /// How many MiB of items a server with a store has in memory at most, where nothing else is asked.
 const CACHE: u32 = 256;
 
@@ -44,66 +41,64 @@ pub struct ClientArgs {
 }
 
 pub(crate) fn serve_command<'a>(alloc: Global) -> Result<Command<'a>, AllocError> {
+    let command = Command::new(alloc, "serve")
+        .about("Serves a shared folder")
+        .long_about(SERVE_ABOUT);
     let port = needed_port(alloc).help("The port that it listens on, 1 to 65535");
+    let command = command.arg(port)?;
     let workers = needed(alloc, "workers", "W")
         .value_parser(clap::value_parser!(usize).range(1..17))
         .help("How many sessions it serves at a time, 1 to 16");
+    let command = command.arg(workers)?;
     let capacity = needed(alloc, "capacity", "C")
         .value_parser(clap::value_parser!(u64).range(1..1_000_001))
         .help("How many commits it keeps, 1 to 1,000,000");
+    let command = command.arg(capacity)?;
     let sessions = Arg::new(alloc, "sessions")
         .long("sessions")
         .value_name("N")
         .value_parser(clap::value_parser!(u32).range(1..1_000_001))
         .help("It ends after so many sessions, 1 to 1,000,000; else when it is ended");
+    let command = command.arg(sessions)?;
     let store = Arg::new(alloc, "store")
         .long("store")
         .value_name("DIR")
-        .help("The folder in which it keeps all that is stored, up to 100,000 commits");
+        .help("The folder in which it keeps all that is stored");
+    let command = command.arg(store)?;
     let cache = Arg::new(alloc, "cache")
         .long("cache")
         .value_name("MIB")
         .value_parser(clap::value_parser!(u32).range(1..1_000_001))
         .help("With --store: MiB of items in memory at most, 1 to 1,000,000; else 256");
-    Command::new(alloc, "serve")
-        .about("Serves a shared folder")
-        .long_about(SERVE_ABOUT)
-        .arg(port)?
-        .arg(workers)?
-        .arg(capacity)?
-        .arg(sessions)?
-        .arg(store)?
-        .arg(cache)?
-        .arg(needed_keys(alloc))
+    command.arg(cache)?.arg(needed_keys(alloc))
 }
 
 /// Builds the client's command line, with a text on a script's commands and answers.
 pub(crate) fn client_command<'a>(alloc: Global, help: &'a str) -> Result<Command<'a>, AllocError> {
+    let command = Command::new(alloc, "client")
+        .about("Runs a script from standard input against a server")
+        .long_about(CLIENT_ABOUT)
+        .after_help(help);
     let port = needed_port(alloc).help("The server's port on this machine, 1 to 65535");
+    let command = command.arg(port)?;
     let user = needed(alloc, "user", "U")
         .value_parser(clap::value_parser!(u8).range(0..64))
         .help("The user who works, 0 to 63");
+    let command = command.arg(user)?;
     let key = needed(alloc, "key", "FILE").help("The user's key file");
+    let command = command.arg(key)?;
     let log = Arg::new(alloc, "log")
         .long("log")
         .value_name("FILE")
         .help("A saved log, whose commits are taken first");
+    let command = command.arg(log)?;
     let tries = Arg::new(alloc, "tries")
         .long("tries")
         .value_name("T")
         .value_parser(clap::value_parser!(u32).range(1..1_000_001))
         .default_value("1000")
         .help("How often it asks for a turn that another has, 1 to 1,000,000");
-    Command::new(alloc, "client")
-        .about("Runs a script from standard input against a server")
-        .long_about(CLIENT_ABOUT)
-        .after_help(help)
-        .arg(port)?
-        .arg(user)?
-        .arg(key)?
-        .arg(log)?
-        .arg(tries)?
-        .arg(needed_keys(alloc))
+    command.arg(tries)?.arg(needed_keys(alloc))
 }
 
 pub(crate) fn backup_command<'a>(alloc: Global) -> Result<Command<'a>, AllocError> {
@@ -137,12 +132,6 @@ pub(crate) fn serve_of(alloc: Global, values: &ArgMatches<'_>) -> Result<Line, L
         ));
     };
     let store = copy(alloc, values.get_str("store"))?;
-    if store.is_some() && MOST_STORED < capacity {
-        return Err(usage(
-            alloc,
-            "error: with --store a server keeps at most 100,000 commits",
-        ));
-    }
     let cache = cache_of(values);
     if store.is_none() && cache.is_some() {
         return Err(usage(alloc, "error: --cache is for a server with --store"));

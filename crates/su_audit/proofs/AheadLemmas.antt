@@ -3,7 +3,6 @@ use Rattle.std.proofs.Common.{◌≡◌, ℕ, suc, ◌+◌, ◌<◌, List, [], �
 use Rattle.std.specs.Prelude.{Ok}
 use Rattle.std.specs.List.{AllByRecursion}
 use Rattle.std.proofs.lemmas.List.{take-append-le, take_all}
-use Rattle.su_bytes.specs.Membership.{Membership}
 use Rattle.su_audit.specs.Log.{LogRecord, record_bytes}
 use Rattle.su_audit.specs.Record.{spelled, IsRead, IsExamined, BeginsWithRecord, StopsSo, ReadsNext}
 use Rattle.su_audit.specs.Ahead.{GoesOn, IsBehind, IsLeft, IsExaminedFrom}
@@ -21,8 +20,8 @@ pub none_ahead : (xs : List Record) (stop : Option Stop) (at : ℕ) (known known
 none_ahead xs stop at known known' input is none here same left =
     subst (λ xs. IsLeft xs stop at known 0 input) (sym is) (subst (λ s. IsLeft [] s at known 0 input) (sym none) (all_left known at 0 input here (same ∙ left)))
 
-pub none_examined : (ro : Membership) (xs : List Record) → xs ≡ [] → AllByRecursion (IsExamined ro) xs
-none_examined ro xs is = subst (AllByRecursion (IsExamined ro)) (sym is) tt
+pub none_examined : (xs : List Record) → xs ≡ [] → AllByRecursion IsExamined xs
+none_examined xs is = subst (AllByRecursion IsExamined) (sym is) tt
 
 goes_further : (rs : List LogRecord) (place : ℕ) (input : List ℕ) (place' : ℕ) (rest : List ℕ) (r : LogRecord) (others : List ℕ)
     → GoesOn rs place input place' rest → BeginsWithRecord rest r others → GoesOn (rs ++ r ∷ []) place input (place' + length (record_bytes r)) others
@@ -78,55 +77,54 @@ given_back n ys zs long = let within : n ≤ length ys = omega (arith, long) in 
 
 -- ---- what was found out
 
-module _ (ro : Membership) where
-  Examined : List Record → List Record → Type 0
-  Examined xs ys = (i : ℕ) (d : Record) → i < length xs → IsExaminedFrom ro (get_or xs i d) (get_or ys i d)
+Examined : List Record → List Record → Type 0
+Examined xs ys = (i : ℕ) (d : Record) → i < length xs → IsExaminedFrom (get_or xs i d) (get_or ys i d)
 
-  behind : (x y : Record) (xs ys : List Record) → Examined (x ∷ xs) (y ∷ ys) → Examined xs ys
-  unfolding Examined
-  behind x y xs ys each i d within = each (suc i) d (omega arith)
+behind : (x y : Record) (xs ys : List Record) → Examined (x ∷ xs) (y ∷ ys) → Examined xs ys
+unfolding Examined
+behind x y xs ys each i d within = each (suc i) d (omega arith)
 
-  here : (x y : Record) (xs ys : List Record) → Examined (x ∷ xs) (y ∷ ys) → IsExaminedFrom ro x y
-  unfolding Examined
-  here x y xs ys each = each 0 x (omega arith)
+here : (x y : Record) (xs ys : List Record) → Examined (x ∷ xs) (y ∷ ys) → IsExaminedFrom x y
+unfolding Examined
+here x y xs ys each = each 0 x (omega arith)
 
-  same_spelled : (x y : Record) → IsExaminedFrom ro x y → spelled y ≡ spelled x
-  same_spelled x y is = ap spelled is.same
+same_spelled : (x y : Record) → IsExaminedFrom x y → spelled y ≡ spelled x
+same_spelled x y is = ap spelled is.same
 
-  known_then : (x y : Record) → IsRead x.bytes.items x.commit → IsExaminedFrom ro x y → IsExamined ro y
-  known_then x y read is = record {
-    read = subst (λ (z : Record). IsRead z.bytes.items z.commit) (sym is.same) read;
-    verdict = is.verdict;
-  }
+known_then : (x y : Record) → IsRead x.bytes.items x.commit → IsExaminedFrom x y → IsExamined y
+known_then x y read is = record {
+  read = subst (λ (z : Record). IsRead z.bytes.items z.commit) (sym is.same) read;
+  verdict = is.verdict;
+}
 
-  all_examined : (xs ys : List Record) → length ys ≡ length xs → AllByRecursion (λ (r : Record). IsRead r.bytes.items r.commit) xs → Examined xs ys → AllByRecursion (IsExamined ro) ys
-  all_examined [] [] long read each = tt
-  all_examined [] (y ∷ ys) long read each = absurd (omega (arith, long))
-  all_examined (x ∷ xs) [] long read each = absurd (omega (arith, long))
-  all_examined (x ∷ xs) (y ∷ ys) long (first, read) each =
-      (known_then x y first (here x y xs ys each), all_examined xs ys (omega (arith, long)) read (behind x y xs ys each))
+all_examined : (xs ys : List Record) → length ys ≡ length xs → AllByRecursion (λ (r : Record). IsRead r.bytes.items r.commit) xs → Examined xs ys → AllByRecursion IsExamined ys
+all_examined [] [] long read each = tt
+all_examined [] (y ∷ ys) long read each = absurd (omega (arith, long))
+all_examined (x ∷ xs) [] long read each = absurd (omega (arith, long))
+all_examined (x ∷ xs) (y ∷ ys) long (first, read) each =
+    (known_then x y first (here x y xs ys each), all_examined xs ys (omega (arith, long)) read (behind x y xs ys each))
 
-  all_spelled : (xs ys : List Record) → length ys ≡ length xs → Examined xs ys → map spelled ys ≡ map spelled xs
-  all_spelled [] [] long each = refl
-  all_spelled [] (y ∷ ys) long each = absurd (omega (arith, long))
-  all_spelled (x ∷ xs) [] long each = absurd (omega (arith, long))
-  all_spelled (x ∷ xs) (y ∷ ys) long each = λ i. same_spelled x y (here x y xs ys each) i ∷ all_spelled xs ys (omega (arith, long)) (behind x y xs ys each) i
+all_spelled : (xs ys : List Record) → length ys ≡ length xs → Examined xs ys → map spelled ys ≡ map spelled xs
+all_spelled [] [] long each = refl
+all_spelled [] (y ∷ ys) long each = absurd (omega (arith, long))
+all_spelled (x ∷ xs) [] long each = absurd (omega (arith, long))
+all_spelled (x ∷ xs) (y ∷ ys) long each = λ i. same_spelled x y (here x y xs ys each) i ∷ all_spelled xs ys (omega (arith, long)) (behind x y xs ys each) i
 
-  pub examined : (xs ys : List Record) → length ys ≡ length xs → AllByRecursion (λ (r : Record). IsRead r.bytes.items r.commit) xs
-      → ((i : ℕ) (d : Record) → i < length xs → IsExaminedFrom ro (get_or xs i d) (get_or ys i d)) → AllByRecursion (IsExamined ro) ys
-  unfolding Examined
-  examined xs ys long read each = all_examined xs ys long read each
+pub examined : (xs ys : List Record) → length ys ≡ length xs → AllByRecursion (λ (r : Record). IsRead r.bytes.items r.commit) xs
+    → ((i : ℕ) (d : Record) → i < length xs → IsExaminedFrom (get_or xs i d) (get_or ys i d)) → AllByRecursion IsExamined ys
+unfolding Examined
+examined xs ys long read each = all_examined xs ys long read each
 
-  -- what is left is the same
-  pub left_examined : (xs ys : List Record) (stop : Option Stop) (at : ℕ) (known : Option (List ℕ)) (place : ℕ) (input : List ℕ) → length ys ≡ length xs
-      → ((i : ℕ) (d : Record) → i < length xs → IsExaminedFrom ro (get_or xs i d) (get_or ys i d)) → IsLeft xs stop at known place input → IsLeft ys stop at known place input
-  unfolding Examined
-  left_examined xs ys stop at known place input long each l = record {
-    place' = l.place';
-    rest = l.rest;
-    goes_on = subst (λ rs. GoesOn rs place input l.place' l.rest) (sym (all_spelled xs ys long each)) l.goes_on;
-    behind = l.behind;
-  }
+-- what is left is the same
+pub left_examined : (xs ys : List Record) (stop : Option Stop) (at : ℕ) (known : Option (List ℕ)) (place : ℕ) (input : List ℕ) → length ys ≡ length xs
+    → ((i : ℕ) (d : Record) → i < length xs → IsExaminedFrom (get_or xs i d) (get_or ys i d)) → IsLeft xs stop at known place input → IsLeft ys stop at known place input
+unfolding Examined
+left_examined xs ys stop at known place input long each l = record {
+  place' = l.place';
+  rest = l.rest;
+  goes_on = subst (λ rs. GoesOn rs place input l.place' l.rest) (sym (all_spelled xs ys long each)) l.goes_on;
+  behind = l.behind;
+}
 
 -- ---- taking
 

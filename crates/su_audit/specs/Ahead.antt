@@ -1,6 +1,5 @@
 -- A log of which records are read ahead: what is still to be taken of it.
 use Rattle.std.specs.Prelude.{◌≡◌, ◌+◌, ℕ, List, [], ◌∷◌, length, map, Option, Some, None}
-use Rattle.su_bytes.specs.Membership.{Membership}
 use Rattle.su_audit.specs.Log.{LogRecord, record_bytes}
 use Rattle.su_audit.specs.Record.{spelled, IsVerdict, BeginsWithRecord, StopsSo}
 use Rattle.su_audit.specs.declared.records.Record.{Record}
@@ -28,6 +27,6 @@ pub record IsLeft (records : List Record) (stop : Option Stop) (at : ℕ) (known
   pub behind : IsBehind stop at known place' rest
 
 -- of a record it was found out whether the commit is signed, and nothing else has changed
-pub record IsExaminedFrom (ro : Membership) (old new : Record) : Type 0 where
-  pub verdict : IsVerdict ro new.commit new.by_author
-  pub same : new ≡ record old { by_author = new.by_author }
+pub record IsExaminedFrom (old new : Record) : Type 0 where
+  pub verdict : IsVerdict new.commit new.verdict
+  pub same : new ≡ record old { verdict = new.verdict }

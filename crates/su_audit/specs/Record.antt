@@ -1,10 +1,10 @@
 -- The next record of a log, and what is known of it.
-use Rattle.std.specs.Prelude.{◌≡◌, ◌≢◌, ◌+◌, ◌⊎◌, ◌↔◌, ℕ, IsTrue, Bool, List, [], length, ⊤, Option, Some, None, Result, Ok, Err}
-use Rattle.su_bytes.specs.Membership.{Membership}
+use Rattle.std.specs.Prelude.{◌≡◌, ◌≢◌, ◌+◌, ◌⊎◌, ◌↔◌, ℕ, IsTrue, List, [], length, ⊤, Option, Some, None, Result, Ok, Err}
 use Rattle.su_bytes.specs.declared.refusals.Refusal.{Refusal}
 use Rattle.su_format.specs.Reading.{Decodes}
 use Rattle.su_version.specs.Commit.{Commit, IsCommit, commit_bytes, commit_format}
-use Rattle.su_version.specs.Chain.{IsSignedByAuthor}
+use Rattle.su_version.specs.Chain.{IsSignedBy}
+use Rattle.su_version.specs.declared.chains.Verdict.{Verdict}
 use Rattle.su_view.specs.Listing.{BeginWith}
 use Rattle.su_audit.specs.Log.{LogRecord, record_bytes, HasNoPart}
 use Rattle.su_audit.specs.declared.records.Record.{Record}
@@ -27,15 +27,15 @@ pub record IsRead (bytes : List ℕ) (read : Result Commit Refusal) : Type 0 whe
   pub found : Spell bytes read
   pub decodes : Decodes commit_format bytes read
 
--- whether the commit's author signed it is so, if it is known
-abbrev pub IsVerdict : Membership → Result Commit Refusal → Option Bool → Type 0
-IsVerdict ro (Ok c) (Some by_author) = IsTrue by_author ↔ IsSignedByAuthor ro c
-IsVerdict ro (Ok c) None = ⊤
-IsVerdict ro (Err e) verdict = ⊤
+-- the verdict on the commit is right, if there is one
+abbrev pub IsVerdict : Result Commit Refusal → Option Verdict → Type 0
+IsVerdict (Ok c) (Some verdict) = IsTrue verdict.is_signed ↔ IsSignedBy verdict.key c
+IsVerdict (Ok c) None = ⊤
+IsVerdict (Err e) verdict = ⊤
 
-pub record IsExamined (ro : Membership) (r : Record) : Type 0 where
+pub record IsExamined (r : Record) : Type 0 where
   pub read : IsRead r.bytes.items r.commit
-  pub verdict : IsVerdict ro r.commit r.by_author
+  pub verdict : IsVerdict r.commit r.verdict
 
 -- ---- what comes next
 

@@ -57,9 +57,9 @@ impl<R: Read + Drop> Ahead<R> {
         alloc: Global,
         roster: &Roster,
     ) -> Result<Record, Stop>
-        requires { AllByRecursion (IsExamined roster.now) self.old.records.items }
-        ensures examined { AllByRecursion (IsExamined roster.now) self.new.records.items }
-        ensures known { IfOk result (IsExamined roster.now) }
+        requires { AllByRecursion IsExamined self.old.records.items }
+        ensures examined { AllByRecursion IsExamined self.new.records.items }
+        ensures known { IfOk result IsExamined }
         ensures next { (place : ℕ) (input : List ℕ)
             → IsLeft self.old.records.items self.old.stop self.old.log.place
             (R.remaining self.old.log.reader) place input
@@ -85,7 +85,7 @@ impl<R: Read + Drop> Ahead<R> {
     fn read_ahead<T: Threads + Sync>(&mut self, rt: &T, alloc: Global, roster: &Roster)
         requires records { self.old.records.items ≡ [] }
         requires stop { self.old.stop ≡ None }
-        ensures examined { AllByRecursion (IsExamined roster.now) self.new.records.items }
+        ensures examined { AllByRecursion IsExamined self.new.records.items }
         ensures some { self.new.records.items ≡ [] → self.new.stop ≡ None → ⊥ }
         ensures left { (place : ℕ) (input : List ℕ)
             → IsLeft self.old.records.items self.old.stop self.old.log.place
@@ -137,7 +137,7 @@ fn read_records<R: Read + Drop>(
 /// Finds out which of the commits are signed, on all cores.
 fn examine<T: Threads + Sync>(rt: &T, alloc: Global, roster: &Roster, records: &mut [Record])
     ensures { (i : ℕ) (d : Record) → i < length records.old
-        → IsExaminedFrom roster.now (slice_index_or records.old i d)
+        → IsExaminedFrom (slice_index_or records.old i d)
         (slice_index_or records.new i d) }
 {
     let threads = match thread::available_parallelism(rt) {

@@ -9,8 +9,9 @@ use std::alloc::Global;
 use std::io;
 use std::io::Read;
 use su_bytes::{FileId, Refusal, Roster};
-use su_chain::is_signed;
-use su_version::Commit;
+use su_chain::verdict;
+use su_lms::PublicKey;
+use su_version::{Commit, Verdict};
 
 /// What a log has of a commit, and what is found out of it before its turn comes.
 #[derive(Drop)]
@@ -21,28 +22,30 @@ pub struct Record {
     pub item: Vec<u8>,
     /// The commit that the bytes spell, or why there is none.
     pub(crate) commit: Result<Commit, Refusal>,
-    /// Whether the commit's author signed it; none where that isn't known.
-    pub(crate) by_author: Option<bool>,
+    /// Whether the commit is signed under its author's key; none where that isn't known.
+    pub(crate) verdict: Option<Verdict>,
 }
 
 impl Record {
-    /// Finds out whether the commit's author signed it. Without memory for that, it isn't known.
+    /// Finds out whether the commit is signed under its author's key. Without memory for that, it
+    /// isn't known.
     pub(crate) fn examine(&mut self, alloc: Global, roster: &Roster)
-        ensures verdict { IsVerdict roster.now self.new.commit self.new.by_author }
-        ensures same { self.new ≡ record self.old { by_author = self.new.by_author } }
+        ensures verdict { IsVerdict self.new.commit self.new.verdict }
+        ensures same { self.new ≡ record self.old { verdict = self.new.verdict } }
     {
-        self.by_author = verdict(alloc, roster, &self.commit);
+        self.verdict = verdict_on(alloc, roster, &self.commit);
     }
 }
 
-/// Whether a commit's author signed it; none where there is no commit, or no memory.
-fn verdict(alloc: Global, roster: &Roster, commit: &Result<Commit, Refusal>) -> Option<bool>
-    ensures { IsVerdict roster.now commit.now result }
+/// Whether a commit is signed under its author's key; none where there is no commit, or no memory.
+fn verdict_on(alloc: Global, roster: &Roster, commit: &Result<Commit, Refusal>) -> Option<Verdict>
+    ensures { IsVerdict commit.now result }
 {
-    // names the type for the prover (docs/ARCHITECTURE.md, "Forms the kit wants")
+    // name the types for the prover (docs/ARCHITECTURE.md, "Forms the kit wants")
     let _file: Option<FileId> = None;
+    let _key: Option<PublicKey> = None;
     match commit {
-        Ok(commit) => is_signed(alloc, roster, commit).ok(),
+        Ok(commit) => verdict(alloc, roster, commit).ok(),
         Err(_) => None,
     }
 }
@@ -100,7 +103,7 @@ impl<R: Read + Drop> Log<R> {
             bytes,
             item,
             commit,
-            by_author: None,
+            verdict: None,
         })
     }
 

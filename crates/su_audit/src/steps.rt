@@ -41,8 +41,8 @@ pub(crate) fn next_step<T: Threads + Sync, R: Read + Drop>(
     log: &mut Ahead<R>,
     view: &mut View<MemoryBlocks>,
 ) -> Step
-    requires { AllByRecursion (IsExamined view.old.holding.roster) log.old.records.items }
-    ensures examined { AllByRecursion (IsExamined view.new.holding.roster) log.new.records.items }
+    requires { AllByRecursion IsExamined log.old.records.items }
+    ensures examined { AllByRecursion IsExamined log.new.records.items }
     ensures steps { (place : ℕ) (input : List ℕ)
         → IsLeft log.old.records.items log.old.stop log.old.log.place
         (R.remaining log.old.log.reader) place input
@@ -70,7 +70,7 @@ fn refused_at(place: u64) -> Step
 
 /// Puts the item of a record into the view's source, and lets the view take its commit.
 fn take(alloc: Global, view: &mut View<MemoryBlocks>, next: Record) -> Result<(), ViewRefusal>
-    requires { IsExamined view.old.holding.roster next }
+    requires { IsExamined next }
     ensures took { OnOk result (TakesRecord view.old.holding view.old.source.items (spelled next)
         view.new.holding view.new.source.items) }
     ensures refused { IfErr result
@@ -81,7 +81,7 @@ fn take(alloc: Global, view: &mut View<MemoryBlocks>, next: Record) -> Result<()
         bytes,
         item,
         commit,
-        by_author,
+        verdict,
     } = next;
     if let Err(refusal) = view.source_mut().put(alloc, item.as_slice()) {
         return Err(ViewRefusal::Plain(refusal));
@@ -90,8 +90,8 @@ fn take(alloc: Global, view: &mut View<MemoryBlocks>, next: Record) -> Result<()
         Ok(commit) => commit,
         Err(refusal) => return Err(ViewRefusal::Plain(refusal)),
     };
-    match by_author {
-        Some(by_author) => view.accept_known(commit, bytes.as_slice(), by_author),
+    match verdict {
+        Some(verdict) => view.accept_known(commit, bytes.as_slice(), verdict),
         None => match view.accept_own(&commit) {
             Ok(_) => Ok(()),
             Err(refusal) => Err(refusal),

@@ -1,19 +1,18 @@
 -- The machine gives one answer.
 use Rattle.std.proofs.Common.{◌≡◌, ℕ, List, [], length, refl, sym, ap, ◌∙◌, subst, arith, inl, inr, append-nil}
-use Rattle.su_bytes.specs.Membership.{Membership}
+use Rattle.su_bytes.specs.Order.{Passes, RefusedBy}
+use Rattle.su_bytes.proofs.Public.{EachOnce, once, never_both, one_refusal}
 use Rattle.su_bytes.specs.declared.refusals.Refusal.{Refusal}
 use Rattle.su_bytes.specs.declared.refusals.Refusal.TheVariants.{Malformed}
 use Rattle.su_format.specs.Format.{whole}
 use Rattle.su_format.proofs.Public.{whole_lawful, spelling_told}
 use Rattle.su_version.specs.Commit.{Commit, IsCommit, commit_bytes, commit_format}
-use Rattle.su_lms.specs.Signature.{leaf_of}
-use Rattle.su_version.specs.Chain.{Tip, tip, MayBeNext, IsRefusedSo}
-use Rattle.su_version.proofs.Public.{commit_of, commit_lawful, above_last}
+use Rattle.su_version.proofs.Public.{commit_of, commit_lawful}
 use Rattle.su_book.specs.declared.events.Event.{Event}
 use Rattle.su_book.specs.declared.events.Event.TheVariants as event
 use Rattle.su_book.specs.declared.steps.Act.{Act}
 use Rattle.su_book.specs.declared.steps.Act.TheVariants.{Granted, Stored, Given}
-use Rattle.su_book.specs.Machine.{BookState, records_of, MayBeGranted, MayBeStored, MayAct, Asks, IsMalformed, IsUnfit, IsRefused}
+use Rattle.su_book.specs.Machine.{BookState, storing_order, MayBeGranted, MayBeStored, MayAct, Asks, IsMalformed, IsUnfit, IsRefused}
 
 -- ---- what bytes spell
 
@@ -32,53 +31,23 @@ one_place bytes x y (p, is_p, refused_p) (q, is_q, refused_q) =
     let same : p ≡ q = omega (arith, refused_p.place_is, refused_q.place_is, ap length behind) in
     is_p ∙ ap Malformed same ∙ sym is_q
 
--- ---- a commit that isn't the next
-
-one_refusal : (ro : Membership) (t : Tip) (c : Commit) (x y : Refusal) → IsRefusedSo ro t c x → IsRefusedSo ro t c y → x ≡ y
-one_refusal ro t c x y (inl a) (inl b) = a.0 ∙ sym b.0
-one_refusal ro t c x y (inl a) (inr (inl b)) = absurd (a.1 b.1)
-one_refusal ro t c x y (inl a) (inr (inr (inl b))) = absurd (a.1 b.1)
-one_refusal ro t c x y (inl a) (inr (inr (inr b))) = absurd (a.1 b.1)
-one_refusal ro t c x y (inr (inl a)) (inl b) = absurd (b.1 a.1)
-one_refusal ro t c x y (inr (inl a)) (inr (inl b)) = a.0 ∙ sym b.0
-one_refusal ro t c x y (inr (inl a)) (inr (inr (inl b))) = absurd (a.2 b.2)
-one_refusal ro t c x y (inr (inl a)) (inr (inr (inr b))) = absurd (a.2 b.2)
-one_refusal ro t c x y (inr (inr (inl a))) (inl b) = absurd (b.1 a.1)
-one_refusal ro t c x y (inr (inr (inl a))) (inr (inl b)) = absurd (b.2 a.2)
-one_refusal ro t c x y (inr (inr (inl a))) (inr (inr (inl b))) = a.0 ∙ sym b.0
-one_refusal ro t c x y (inr (inr (inl a))) (inr (inr (inr b))) = absurd (a.3 b.3)
-one_refusal ro t c x y (inr (inr (inr a))) (inl b) = absurd (b.1 a.1)
-one_refusal ro t c x y (inr (inr (inr a))) (inr (inl b)) = absurd (b.2 a.2)
-one_refusal ro t c x y (inr (inr (inr a))) (inr (inr (inl b))) = absurd (b.3 a.3)
-one_refusal ro t c x y (inr (inr (inr a))) (inr (inr (inr b))) = a.0 ∙ sym b.0
-
-not_refused : (ro : Membership) (cs : List Commit) (c : Commit) (e : Refusal) → MayBeNext ro cs c → IsRefusedSo ro (tip ro cs c.version.author) c e → ⊥
-unfolding tip
-not_refused ro cs c e next (inl a) = a.1 next.by_author
-not_refused ro cs c e next (inr (inl a)) = a.2 next.prev
-not_refused ro cs c e next (inr (inr (inl a))) = a.3 next.counts
-not_refused ro cs c e next (inr (inr (inr a))) = a.4 (above_last c.version.author (leaf_of c.signature) cs next.leaf)
-
 -- ---- a commit that isn't stored
+
+storing_once : (b : BookState) (c : Commit) → EachOnce (storing_order b c)
+storing_once b c = (once, (once, (once, (once, (once, tt)))))
 
 one_unfit : (b : BookState) (bytes : List ℕ) (x y : Refusal) → IsUnfit b bytes x → IsUnfit b bytes y → x ≡ y
 one_unfit b bytes x y (inl p) (inl q) = one_place bytes x y p q
 one_unfit b bytes x y (inl p) (inr (d, id, sd, _)) = absurd (not_malformed bytes d x id sd p)
 one_unfit b bytes x y (inr (c, ic, sc, _)) (inl q) = absurd (not_malformed bytes c y ic sc q)
-one_unfit b bytes x y (inr (c, ic, sc, inl p)) (inr (d, id, sd, inl q)) =
-    one_refusal b.roster (tip b.roster (records_of b.journal) c.version.author) c x y p
-    (subst (λ (o : Commit). IsRefusedSo b.roster (tip b.roster (records_of b.journal) o.version.author) o y) (one_commit bytes d c id ic sd sc) q)
-one_unfit b bytes x y (inr (c, ic, sc, inl p)) (inr (d, id, sd, inr (_, next, _))) =
-    absurd (not_refused b.roster (records_of b.journal) c x (subst (MayBeNext b.roster (records_of b.journal)) (one_commit bytes d c id ic sd sc) next) p)
-one_unfit b bytes x y (inr (c, ic, sc, inr (_, next, _))) (inr (d, id, sd, inl q)) =
-    absurd (not_refused b.roster (records_of b.journal) d y (subst (MayBeNext b.roster (records_of b.journal)) (one_commit bytes c d ic id sc sd) next) q)
-one_unfit b bytes x y (inr (c, ic, sc, inr (full, _, _))) (inr (d, id, sd, inr (full', _, _))) = full ∙ sym full'
+one_unfit b bytes x y (inr (c, ic, sc, p)) (inr (d, id, sd, q)) =
+    one_refusal (storing_order b c) (storing_once b c) x y p
+    (subst (λ (o : Commit). RefusedBy (storing_order b o) y) (one_commit bytes d c id ic sd sc) q)
 
 may_not_be_unfit : (b : BookState) (bytes : List ℕ) (seat n : ℕ) (c : Commit) (e : Refusal) → bytes ≡ commit_bytes c → MayBeStored b seat n c → IsUnfit b bytes e → ⊥
-may_not_be_unfit b bytes seat n c e sc may (inl p) = not_malformed bytes c e may.next.spelled sc p
-may_not_be_unfit b bytes seat n c e sc may (inr (d, id, sd, inl p)) =
-    not_refused b.roster (records_of b.journal) d e (subst (MayBeNext b.roster (records_of b.journal)) (one_commit bytes c d may.next.spelled id sc sd) may.next) p
-may_not_be_unfit b bytes seat n c e sc may (inr (d, id, sd, inr (_, _, full))) = absurd (omega (arith, may.room, full))
+may_not_be_unfit b bytes seat n c e sc may (inl p) = not_malformed bytes c e may.spelled sc p
+may_not_be_unfit b bytes seat n c e sc may (inr (d, id, sd, p)) =
+    never_both (storing_order b d) e (subst (λ (o : Commit). Passes (storing_order b o)) (one_commit bytes c d may.spelled id sc sd) may.fits) p
 
 not_unfit : (b : BookState) (bytes : _) (seat n : ℕ) (c : Commit) (e : Refusal) → IsRefused b seat (event.Commit bytes) e → bytes.items ≡ commit_bytes c → MayBeStored b seat n c → ⊥
 not_unfit b bytes seat n c e (inl p) sc may = p.1 may.turn
@@ -113,7 +82,7 @@ one_act b seat (event.Commit bytes) x y ask_x ask_y may_x may_y =
     let (m, d, is_m, sd) = commit_asks bytes y ask_y in
     let p : MayBeStored b seat n c = subst (MayAct b seat) is_n may_x in
     let q : MayBeStored b seat m d = subst (MayAct b seat) is_m may_y in
-    let same = one_commit bytes.items c d p.next.spelled q.next.spelled sc sd in
+    let same = one_commit bytes.items c d p.spelled q.spelled sc sd in
     is_n ∙ (λ i. Stored ((p.number ∙ sym q.number) i) (same i)) ∙ sym is_m
 one_act b seat event.Give x y ask_x ask_y may_x may_y = give_asks x ask_x ∙ sym (give_asks y ask_y)
 

@@ -1,13 +1,17 @@
 -- One more step at the end of a run.
-use Rattle.std.proofs.Common.{◌≡◌, ℕ, ◌≤◌, List, [], ◌∷◌, ◌++◌, length, Option, None, refl, ap, sym, ◌∙◌, subst, arith, append_assoc, append-nil, length-append}
+use Rattle.std.proofs.Common.{◌≡◌, ℕ, ◌≤◌, ◌<◌, List, [], ◌∷◌, ◌++◌, length, Option, None, refl, ap, sym, ◌∙◌, subst, arith, append_assoc, append-nil, length-append}
 use Rattle.su_bytes.specs.Membership.{Membership}
+use Rattle.su_bytes.specs.Order.{Line, demand}
+use Rattle.su_bytes.specs.declared.refusals.Refusal.{Refusal}
+use Rattle.su_bytes.specs.declared.refusals.Refusal.TheVariants.{BookFull}
+use Rattle.su_bytes.proofs.Public.{passes_first, passes_later}
 use Rattle.su_version.specs.Commit.{Commit}
-use Rattle.su_version.specs.Chain.{MayBeNext, ChainAfter, IsChain}
+use Rattle.su_version.specs.Chain.{tip, next_order, MayBeNext, ChainAfter, IsChain}
 use Rattle.su_chain.proofs.Public.{chain_further}
 use Rattle.su_book.specs.declared.steps.Act.{Act}
 use Rattle.su_book.specs.declared.steps.Act.TheVariants.{Granted, Stored, Given}
 use Rattle.su_book.specs.declared.steps.Step.{Step}
-use Rattle.su_book.specs.Machine.{BookState, turn_after, holder_from, holder_of, stored_by, records_of, count_of, MayAct, MayFollow, with_step, RunsFrom, IsRun}
+use Rattle.su_book.specs.Machine.{BookState, MayBeStored, turn_after, holder_from, holder_of, stored_by, records_of, count_of, MayAct, MayFollow, with_step, RunsFrom, IsRun}
 use Rattle.su_book.specs.Kept.{StoresNext}
 
 -- the same with these steps more
@@ -40,17 +44,27 @@ holder_further h (x ∷ xs) s = holder_further (turn_after x.seat x.act) xs s
 pub holder_push : (steps : List Step) (s : Step) → holder_of (steps ++ s ∷ []) ≡ turn_after s.seat s.act
 holder_push steps s = holder_further None steps s
 
--- what is stored may be next
+-- what the next commit after the records of a book has to meet
+abbrev next_of : BookState → Commit → List (Line Refusal)
+next_of b c = next_order b.roster (tip b.roster (records_of b.journal) c.version.author) c
+
+-- what may be stored may be next, and has room
+pub stored_next : (b : BookState) (seat n : ℕ) (c : Commit) → MayBeStored b seat n c → MayBeNext b.roster (records_of b.journal) c
+stored_next b seat n c may = record { spelled = may.spelled; follows = passes_first (next_of b c) (demand (count_of b.journal < b.capacity) BookFull ∷ []) may.fits }
+
+pub stored_room : (b : BookState) (seat n : ℕ) (c : Commit) → MayBeStored b seat n c → count_of b.journal < b.capacity
+stored_room b seat n c may = (passes_later (next_of b c) (demand (count_of b.journal < b.capacity) BookFull ∷ []) may.fits).0
+
 pub stores_next : (b : BookState) (seat : ℕ) (act : Act) → MayAct b seat act → StoresNext b.roster (records_of b.journal) act
 stores_next b seat (Granted n) may = tt
-stores_next b seat (Stored n c) may = (may.next, may.number)
+stores_next b seat (Stored n c) may = (stored_next b seat n c may, may.number)
 stores_next b seat Given may = tt
 
 -- the records with what is stored are within the capacity
 pub within_further : (b : BookState) (seat : ℕ) (act : Act) → MayAct b seat act → count_of b.journal ≤ b.capacity
     → length (records_of b.journal ++ stored_by act) ≤ b.capacity
 within_further b seat (Granted n) may le = omega (arith, length-append (records_of b.journal) [])
-within_further b seat (Stored n c) may le = omega (arith, length-append (records_of b.journal) (c ∷ []), may.room)
+within_further b seat (Stored n c) may le = omega (arith, length-append (records_of b.journal) (c ∷ []), stored_room b seat n c may)
 within_further b seat Given may le = omega (arith, length-append (records_of b.journal) [])
 
 along_from : (P : BookState → Type 0) → ((b : BookState) (s : Step) → P b → MayFollow b s → P (with_step b s))

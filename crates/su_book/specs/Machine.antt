@@ -2,12 +2,13 @@
 -- turn back. (This project's own.)
 use Rattle.std.specs.Prelude.{◌≡◌, ◌≢◌, ◌≤◌, ◌<◌, ◌+◌, ◌⊎◌, ℕ, zero, suc, List, [], ◌∷◌, ◌++◌, length, Option, Some, None, nat_eq, cond}
 use Rattle.su_bytes.specs.Membership.{Membership}
+use Rattle.su_bytes.specs.Order.{Line, demand, Passes, RefusedBy}
 use Rattle.su_bytes.specs.declared.refusals.Refusal.{Refusal}
 use Rattle.su_bytes.specs.declared.refusals.Refusal.TheVariants.{Malformed, Busy, NotYourTurn, BookFull}
 use Rattle.su_format.specs.Format.{whole}
 use Rattle.su_format.specs.Reading.{start, IsRefusedAt}
 use Rattle.su_version.specs.Commit.{Commit, IsCommit, commit_bytes, commit_format}
-use Rattle.su_version.specs.Chain.{MayBeNext, IsRefusedSo, tip}
+use Rattle.su_version.specs.Chain.{next_order, tip}
 use Rattle.su_book.specs.declared.events.Event.{Event}
 use Rattle.su_book.specs.declared.events.Event.TheVariants as event
 use Rattle.su_book.specs.declared.events.BookReply.{BookReply}
@@ -65,12 +66,19 @@ pub record MayBeGranted (b : BookState) (seat n : ℕ) : Type 0 where
   pub free : (other : ℕ) → holder_of b.journal ≡ Some other → other ≡ seat
   pub count : n ≡ count_of b.journal
 
--- A commit may be stored: the seat has the turn, the commit may be the next after the records,
--- there is room for it, and its number is told.
+-- What a commit has to meet to be stored for the seat that has the turn, in this order: what the
+-- next one after the records has to; there is room for it.
+abbrev pub storing_order : BookState → Commit → List (Line Refusal)
+storing_order b c =
+    next_order b.roster (tip b.roster (records_of b.journal) c.version.author) c
+    ++ demand (count_of b.journal < b.capacity) BookFull ∷ []
+
+-- A commit may be stored: the seat has the turn, the commit meets what it has to, and its number is
+-- told.
 pub record MayBeStored (b : BookState) (seat n : ℕ) (c : Commit) : Type 0 where
   pub turn : holder_of b.journal ≡ Some seat
-  pub next : MayBeNext b.roster (records_of b.journal) c
-  pub room : count_of b.journal < b.capacity
+  pub spelled : IsCommit c
+  pub fits : Passes (storing_order b c)
   pub number : n ≡ count_of b.journal + 1
 
 -- a seat may do this next
@@ -111,14 +119,11 @@ abbrev pub IsMalformed : List ℕ → Refusal → Type 0
 IsMalformed bytes e =
     (place : ℕ) × (e ≡ Malformed place) × IsRefusedAt (whole commit_format) (start bytes) place
 
--- a commit of these bytes isn't stored for the seat that has the turn; in this order
+-- the bytes are those of no commit, or of one that isn't stored for the seat that has the turn
 abbrev pub IsUnfit : BookState → List ℕ → Refusal → Type 0
 IsUnfit b bytes e =
     IsMalformed bytes e
-    ⊎ ((c : Commit) × IsCommit c × (bytes ≡ commit_bytes c)
-    × (IsRefusedSo b.roster (tip b.roster (records_of b.journal) c.version.author) c e
-    ⊎ ((e ≡ BookFull) × MayBeNext b.roster (records_of b.journal) c
-    × (b.capacity ≤ count_of b.journal))))
+    ⊎ ((c : Commit) × IsCommit c × (bytes ≡ commit_bytes c) × RefusedBy (storing_order b c) e)
 
 abbrev pub IsRefused : BookState → ℕ → Event → Refusal → Type 0
 IsRefused b seat event.Grant e =

@@ -1,12 +1,12 @@
 // How a book is kept.
 ghost use Rattle.std.specs.Prelude.{◌≡◌, ◌≢◌, ◌<◌, ◌+◌, ◌-◌, ◌^◌, ◌⊎◌, ◌↔◌, ◌++◌, ℕ, List, [], IsTrue, IfSome, IfNone, Some, None, length, IfOk, IfErr, OnOk, OnErr};
 ghost use Rattle.su_bytes.specs.Membership.{Membership};
+ghost use Rattle.su_bytes.specs.Order.{Passes};
 ghost use Rattle.su_bytes.specs.declared.refusals.Refusal.TheVariants.{BadKey, NoMemory};
-ghost use Rattle.su_version.specs.Commit.{Commit, commit_bytes};
-ghost use Rattle.su_version.specs.Chain.{MayBeNext};
+ghost use Rattle.su_version.specs.Commit.{Commit, IsCommit, commit_bytes};
 ghost use Rattle.su_chain.specs.ChainEnd.{IsEndOf, HasBadKey};
 ghost use Rattle.su_book.specs.declared.steps.Act.TheVariants.{Granted, Stored, Given};
-ghost use Rattle.su_book.specs.Machine.{IsCapacity, MayFollow, IsUnfit, stored_by, turn_after, with_step, holder_of, records_of, count_of, last_numbers, paired};
+ghost use Rattle.su_book.specs.Machine.{IsCapacity, MayFollow, IsUnfit, storing_order, stored_by, turn_after, with_step, holder_of, records_of, count_of, last_numbers, paired};
 ghost use Rattle.su_book.specs.Kept.{AreLast, IsKeeping, book_of, StoresNext};
 
 use crate::commits::HashedCommit;
@@ -89,9 +89,8 @@ impl Keeping {
     pub fn check(&self, alloc: Global, bytes: &[u8]) -> Result<HashedCommit, Refusal>
         requires kept { IsKeeping self.now }
         ensures spelled { IfOk result (λ c. bytes.now ≡ commit_bytes c) }
-        ensures next { IfOk result (λ c.
-            MayBeNext self.now.roster (records_of self.now.journal) c) }
-        ensures room { OnOk result (count_of self.now.journal < self.now.capacity) }
+        ensures commit { IfOk result IsCommit }
+        ensures fits { IfOk result (λ c. Passes (storing_order (book_of self.now) c)) }
         ensures refused { IfErr result (λ e.
             (e ≡ NoMemory) ⊎ IsUnfit (book_of self.now) bytes.now e) }
     {

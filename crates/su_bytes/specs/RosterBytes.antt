@@ -1,8 +1,8 @@
 -- The bytes of a roster, its digest, and the keys of its users. (This project's own format.)
-use Rattle.std.specs.Prelude.{◌≡◌, ℕ, true, false, cond, Option, Some, None, List, [], ◌∷◌, ◌++◌, length, codes, nat_eq}
+use Rattle.std.specs.Prelude.{ℕ, cond, Option, Some, None, List, [], ◌∷◌, ◌++◌, length, codes, nat_eq}
 use Rattle.std.specs.List.{flat_map}
 use Rattle.sha2.specs.Sha256.{sha256}
-use Rattle.su_bytes.specs.Membership.{Membership, has_number}
+use Rattle.su_bytes.specs.Membership.{Membership}
 
 -- a user, and the key
 abbrev pub user_bytes : ℕ × List ℕ → List ℕ
@@ -24,20 +24,11 @@ roster_digest ro = sha256 (roster_bytes ro)
 
 -- ---- the keys of its users
 
--- the key that stands with the number a; no bytes where it isn't there
-abbrev pub key_in : List (ℕ × List ℕ) → ℕ → List ℕ
-key_in [] a = []
-key_in (u ∷ us) a = cond (nat_eq u.0 a) u.1 (key_in us a)
-
--- the key of user a; no bytes, under which nothing is signed, where there is no such user
-abbrev pub user_key : Membership → ℕ → List ℕ
-user_key ro a = key_in ro.users a
-
--- the key of user a, if it is one of these
-abbrev pub IsKeyIn : List (ℕ × List ℕ) → ℕ → Option (List ℕ) → Type 0
-IsKeyIn users a None = has_number users a ≡ false
-IsKeyIn users a (Some key) = (has_number users a ≡ true) × (key ≡ key_in users a)
+-- the key that stands with the number a, if one does
+abbrev pub key_in : List (ℕ × List ℕ) → ℕ → Option (List ℕ)
+key_in [] a = None
+key_in (u ∷ us) a = cond (nat_eq u.0 a) (Some u.1) (key_in us a)
 
 -- the key of user a, if there is such a user
-abbrev pub IsKeyOf : Membership → ℕ → Option (List ℕ) → Type 0
-IsKeyOf ro a key = IsKeyIn ro.users a key
+abbrev pub user_key : Membership → ℕ → Option (List ℕ)
+user_key ro a = key_in ro.users a

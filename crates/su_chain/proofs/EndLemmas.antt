@@ -9,13 +9,14 @@ use Rattle.std.proofs.lemmas.List.{get_or-set_same, get_or-set_other, length-set
 use Rattle.std.proofs.lemmas.Bool.{eqb-true, eq-eqb, leb-true}
 use Rattle.su_bytes.specs.Membership.{Membership}
 use Rattle.su_bytes.specs.Principal.{is_user}
-use Rattle.su_bytes.specs.RosterBytes.{roster_digest, IsKeyOf}
+use Rattle.su_bytes.specs.Order.{Passes, RefusedBy}
+use Rattle.su_bytes.specs.RosterBytes.{roster_digest}
 use Rattle.su_lms.specs.Signature.{leaf_of}
 use Rattle.su_vector.specs.Vector.{zeros}
 use Rattle.su_version.specs.Commit.{Commit, IsCommit, commit_digest}
-use Rattle.su_version.specs.Chain.{last_digest, chain_head, last_vector, chain_vector, later_leaf, last_leaf, Tip, tip, MayFollow, MayBeNext, IsRefusedSo, ChainAfter, IsChain}
+use Rattle.su_version.specs.Chain.{last_digest, chain_head, last_vector, chain_vector, Tip, tip, next_order, MayBeNext, ChainAfter, IsChain}
 use Rattle.su_vector.proofs.Public.{length-bump}
-use Rattle.su_version.proofs.Public.{above_all, length-chain_vector}
+use Rattle.su_version.proofs.Public.{leaf_further, length-chain_vector, next_counts}
 use Rattle.su_chain.specs.ChainEnd.{user_at, AreKeysOf, IsEndOf}
 use Rattle.su_chain.specs.declared.ends.ChainEnd.{ChainEnd}
 use Rattle.su_chain.specs.declared.ends.UserKey.{UserKey}
@@ -46,16 +47,6 @@ pub vector_further : (ro : Membership) (cs : List Commit) (c : Commit) → chain
 unfolding chain_vector
 vector_further ro cs c = last_vector-append (zeros ro) cs c
 
-later_leaf-append : (u : ℕ) (q : Option ℕ) (cs : List Commit) (c : Commit)
-    → later_leaf u q (cs ++ c ∷ []) ≡ cond (nat_eq c.version.author u) (Some (leaf_of c.signature)) (later_leaf u q cs)
-later_leaf-append u q [] c = refl
-later_leaf-append u q (x ∷ cs) c = later_leaf-append u (cond (nat_eq x.version.author u) (Some (leaf_of x.signature)) q) cs c
-
-pub leaf_further : (u : ℕ) (cs : List Commit) (c : Commit)
-    → last_leaf u (cs ++ c ∷ []) ≡ cond (nat_eq c.version.author u) (Some (leaf_of c.signature)) (last_leaf u cs)
-unfolding last_leaf
-leaf_further u cs c = later_leaf-append u None cs c
-
 -- ---- the users, of whom one has signed with another leaf
 
 module _ (users : List UserKey) (a : ℕ) (q : Option ℕ) (within : a < length users) where
@@ -74,7 +65,7 @@ module _ (users : List UserKey) (a : ℕ) (q : Option ℕ) (within : a < length 
   pub keys_after : (ro : Membership) → AreKeysOf ro users → AreKeysOf ro (set users a signed)
   keys_after ro keys = record {
     long = length-set users a signed ∙ keys.long;
-    keys = λ u is. subst (IsKeyOf ro u) (sym (ap (λ (x : UserKey). x.key) (user_after u (nat_eq a u) refl))) (keys.keys u is);
+    keys = λ u is. ap (λ (x : UserKey). x.key) (user_after u (nat_eq a u) refl) ∙ keys.keys u is;
   }
 
   pub leaf_after : (u : ℕ) → (user_at (set users a signed) u).leaf ≡ cond (nat_eq a u) q (user_at users u).leaf
@@ -85,21 +76,12 @@ module _ (users : List UserKey) (a : ℕ) (q : Option ℕ) (within : a < length 
 module _ (ro : Membership) (cs : List Commit) (e : ChainEnd) (is : IsEndOf ro cs e) where
   -- the tip for the user
   pub tip_of : (u : ℕ) → is_user u ≡ true
-      → record { number = e.number; head = e.head; vector = e.vector; leaf = (user_at e.users.items u).leaf } ≡ tip ro cs u
+      → record { number = e.number; head = e.head; vector = e.vector; key = (user_at e.users.items u).key; leaf = (user_at e.users.items u).leaf } ≡ tip ro cs u
   unfolding tip
-  tip_of u user = λ i. record { number = is.number i; head = is.head i; vector = is.vector i; leaf = is.leaves u user i }
+  tip_of u user = λ i. record { number = is.number i; head = is.head i; vector = is.vector i; key = is.keys.keys u user i; leaf = is.leaves u user i }
 
-  pub next_of : (t : Tip) (c : Commit) → t ≡ tip ro cs c.version.author → IsCommit c → MayFollow ro t c → MayBeNext ro cs c
-  unfolding tip
-  next_of t c at spelled may =
-      let here : MayFollow ro (tip ro cs c.version.author) c = subst (λ t. MayFollow ro t c) at may in
-      record {
-        spelled = spelled;
-        by_author = here.by_author;
-        prev = here.prev;
-        counts = here.counts;
-        leaf = above_all ro c.version.author (leaf_of c.signature) cs is.chain here.leaf;
-      }
+  pub next_of : (t : Tip) (c : Commit) → t ≡ tip ro cs c.version.author → IsCommit c → Passes (next_order ro t c) → MayBeNext ro cs c
+  next_of t c at spelled may = record { spelled = spelled; follows = subst (λ t. Passes (next_order ro t c)) at may }
 
   -- the end with one commit more
   pub end_further : (c : Commit) (f : ChainEnd) → MayBeNext ro cs c → is_user c.version.author ≡ true
@@ -122,24 +104,24 @@ module _ (ro : Membership) (cs : List Commit) (e : ChainEnd) (is : IsEndOf ro cs
 
 -- the tip for a user, of that commit's author
 pub tip_for : (e : ChainEnd) (u : ℕ) (c : Commit) (t : Tip) → u ≡ c.version.author
-    → t ≡ record { number = e.number; head = e.head; vector = e.vector; leaf = (user_at e.users.items u).leaf }
-    → t ≡ record { number = e.number; head = e.head; vector = e.vector; leaf = (user_at e.users.items c.version.author).leaf }
-tip_for e u c t same is = is ∙ (λ i. record { number = e.number; head = e.head; vector = e.vector; leaf = (user_at e.users.items (same i)).leaf })
+    → t ≡ record { number = e.number; head = e.head; vector = e.vector; key = (user_at e.users.items u).key; leaf = (user_at e.users.items u).leaf }
+    → t ≡ record { number = e.number; head = e.head; vector = e.vector; key = (user_at e.users.items c.version.author).key; leaf = (user_at e.users.items c.version.author).leaf }
+tip_for e u c t same is = is ∙ (λ i. record { number = e.number; head = e.head; vector = e.vector; key = (user_at e.users.items (same i)).key; leaf = (user_at e.users.items (same i)).leaf })
 
 module _ (ro : Membership) (e : ChainEnd) (c : Commit) (t : Tip) (is : IsCommit c)
-    (here : t ≡ record { number = e.number; head = e.head; vector = e.vector; leaf = (user_at e.users.items c.version.author).leaf }) where
+    (here : t ≡ record { number = e.number; head = e.head; vector = e.vector; key = (user_at e.users.items c.version.author).key; leaf = (user_at e.users.items c.version.author).leaf }) where
   tip_is : (cs : List Commit) → IsEndOf ro cs e → t ≡ tip ro cs c.version.author
   tip_is cs end = here ∙ tip_of ro cs e end c.version.author is.version.author
 
-  pub checked : (r : Result ⊤ Refusal) → OnOk r (MayFollow ro t c) → OnOk r ((cs : List Commit) → IsEndOf ro cs e → MayBeNext ro cs c)
+  pub checked : (r : Result ⊤ Refusal) → OnOk r (Passes (next_order ro t c)) → OnOk r ((cs : List Commit) → IsEndOf ro cs e → MayBeNext ro cs c)
   checked (Ok x) may = λ cs end. next_of ro cs e end t c (tip_is cs end) is may
   checked (Err x) may = tt
 
-  pub unchecked : (r : Result ⊤ Refusal) → IfErr r (λ x. (x ≡ NoMemory) ⊎ IsRefusedSo ro t c x)
-      → IfErr r (λ x. (x ≡ NoMemory) ⊎ ((cs : List Commit) → IsEndOf ro cs e → IsRefusedSo ro (tip ro cs c.version.author) c x))
+  pub unchecked : (r : Result ⊤ Refusal) → IfErr r (λ x. (x ≡ NoMemory) ⊎ RefusedBy (next_order ro t c) x)
+      → IfErr r (λ x. (x ≡ NoMemory) ⊎ ((cs : List Commit) → IsEndOf ro cs e → RefusedBy (next_order ro (tip ro cs c.version.author) c) x))
   unchecked (Ok x) why = tt
   unchecked (Err x) (inl none) = inl none
-  unchecked (Err x) (inr why) = inr (λ cs end. subst (λ t. IsRefusedSo ro t c x) (tip_is cs end) why)
+  unchecked (Err x) (inr why) = inr (λ cs end. subst (λ t. RefusedBy (next_order ro t c) x) (tip_is cs end) why)
 
 pub user_read : (users : List UserKey) (u : ℕ) (x : UserKey) → x ≡ get_or users u x → u < length users → x ≡ user_at users u
 user_read users u x is within = is ∙ get_or_default users u x (record { key = None; leaf = None }) within
@@ -151,4 +133,4 @@ user_within users u long user = let le : u ≤ 63 = leb-true u 63 user in omega 
 pub vector_long : (ro : Membership) (cs : List Commit) (e : ChainEnd) → IsEndOf ro cs e → (c : Commit) → MayBeNext ro cs c → length e.vector ≡ length c.version.vector
 vector_long ro cs e end c next =
     let long = length-chain_vector ro cs end.chain in
-    ap length end.vector ∙ long ∙ sym (ap length next.counts.vector_is ∙ length-bump ro (chain_vector ro cs) c.version.author (map (λ g. g.0) c.version.groups) long)
+    ap length end.vector ∙ long ∙ sym (ap length (next_counts ro cs c next).vector_is ∙ length-bump ro (chain_vector ro cs) c.version.author (map (λ g. g.0) c.version.groups) long)

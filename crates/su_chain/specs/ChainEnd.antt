@@ -1,8 +1,8 @@
 -- The end of a chain of commits: what the next one is measured by.
-use Rattle.std.specs.Prelude.{◌≡◌, ℕ, true, List, length, None, get_or}
-use Rattle.su_bytes.specs.Membership.{Membership, has_user}
+use Rattle.std.specs.Prelude.{◌≡◌, ℕ, true, List, length, None, Some, get_or}
+use Rattle.su_bytes.specs.Membership.{Membership}
 use Rattle.su_bytes.specs.Principal.{is_user}
-use Rattle.su_bytes.specs.RosterBytes.{IsKeyOf, user_key}
+use Rattle.su_bytes.specs.RosterBytes.{user_key}
 use Rattle.su_lms.specs.Signature.{IsPublicKey}
 use Rattle.su_version.specs.Commit.{Commit}
 use Rattle.su_version.specs.Chain.{chain_head, chain_vector, last_leaf, IsChain}
@@ -17,7 +17,7 @@ user_at users u = get_or users u (record { key = None; leaf = None })
 -- the keys of all users
 pub record AreKeysOf (ro : Membership) (users : List UserKey) : Type 0 where
   pub long : length users ≡ USERS
-  pub keys : (u : ℕ) → is_user u ≡ true → IsKeyOf ro u (user_at users u).key
+  pub keys : (u : ℕ) → is_user u ≡ true → (user_at users u).key ≡ user_key ro u
 
 -- This is what a chain of commits comes to.
 pub record IsEndOf (ro : Membership) (cs : List Commit) (e : ChainEnd) : Type 0 where
@@ -31,5 +31,6 @@ pub record IsEndOf (ro : Membership) (cs : List Commit) (e : ChainEnd) : Type 0 
 -- a user of the roster has a key that is none
 pub record HasBadKey (ro : Membership) : Type 0 where
   pub user : ℕ
-  pub listed : has_user ro user ≡ true
-  pub bad : ¬ IsPublicKey (user_key ro user)
+  pub key : List ℕ
+  pub listed : user_key ro user ≡ Some key
+  pub bad : ¬ IsPublicKey key

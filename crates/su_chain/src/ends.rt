@@ -1,18 +1,19 @@
 // The end of a chain of commits.
 ghost use Rattle.std.specs.Prelude.{◌≡◌, ◌≤◌, ◌<◌, ◌+◌, ◌-◌, ◌^◌, ◌⊎◌, ◌↔◌, ◌++◌, ◌∷◌, ℕ, List, [], None, length, IsTrue, IfOk, IfErr, OnOk};
 ghost use Rattle.su_bytes.specs.Membership.{Membership};
-ghost use Rattle.su_bytes.specs.RosterBytes.{IsKeyOf};
+ghost use Rattle.su_bytes.specs.Order.{RefusedBy};
+ghost use Rattle.su_bytes.specs.RosterBytes.{user_key};
 ghost use Rattle.su_bytes.specs.declared.refusals.Refusal.TheVariants.{BadKey, NoMemory};
 ghost use Rattle.su_vector.specs.Vector.{zeros};
 ghost use Rattle.su_version.specs.Commit.{Commit as CommitParts, commit_digest};
-ghost use Rattle.su_version.specs.Chain.{IsSignedByAuthor, MayBeNext, IsRefusedSo, tip};
+ghost use Rattle.su_version.specs.Chain.{IsSignedBy, MayBeNext, next_order, tip};
 ghost use Rattle.su_chain.specs.ChainEnd.{user_at, AreKeysOf, IsEndOf, HasBadKey};
 
 use std::alloc::Global;
 use su_bytes::{Digest, FileId, Refusal, Roster, User};
 use su_lms::PublicKey;
 use su_vector::Vector;
-use su_version::{Commit, Tip, is_signed_by_author};
+use su_version::{Commit, Tip, Verdict};
 
 /// How many users there can be.
 const USERS: usize = 64;
@@ -71,7 +72,7 @@ impl ChainEnd {
     /// Returns the key of a user of that roster, if there is such a user.
     pub fn key(&self, _roster: &Roster, user: User) -> Option<PublicKey>
         requires { AreKeysOf _roster.now self.now.users.items }
-        ensures { IsKeyOf _roster.now user result }
+        ensures { result ≡ user_key _roster.now user }
     {
         self.users[usize::from(user.number())].key
     }
@@ -87,31 +88,33 @@ impl ChainEnd {
             → MayBeNext roster.now cs commit.now) }
         ensures refused { IfErr result (λ e. (e ≡ NoMemory)
             ⊎ ((cs : List CommitParts) → IsEndOf roster.now cs self.now
-            → IsRefusedSo roster.now (tip roster.now cs commit.now.version.author) commit.now e)) }
+            → RefusedBy
+            (next_order roster.now (tip roster.now cs commit.now.version.author) commit.now) e)) }
     {
-        let author = commit.version().author();
-        let key = self.key(roster, author);
-        self.tip(author).check(alloc, roster, key.as_ref(), commit)
+        let tip = self.tip(commit.version().author());
+        tip.check(alloc, roster, commit)
     }
 
-    /// Checks as `check` does, where it is known whether the commit's author signed it. It checks
-    /// no signature.
+    /// Checks as `check` does, where there is a verdict on the commit's signature: if it was found
+    /// under the author's key, no signature is checked.
     pub fn check_known(
         &self,
+        alloc: Global,
         roster: &Roster,
-        by_author: bool,
+        verdict: Verdict,
         commit: &Commit,
     ) -> Result<(), Refusal>
         requires keys { AreKeysOf roster.now self.now.users.items }
-        requires known { IsTrue by_author ↔ IsSignedByAuthor roster.now commit.now }
+        requires known { IsTrue verdict.is_signed ↔ IsSignedBy verdict.key commit.now }
         ensures next { OnOk result ((cs : List CommitParts) → IsEndOf roster.now cs self.now
             → MayBeNext roster.now cs commit.now) }
         ensures refused { IfErr result (λ e. (e ≡ NoMemory)
             ⊎ ((cs : List CommitParts) → IsEndOf roster.now cs self.now
-            → IsRefusedSo roster.now (tip roster.now cs commit.now.version.author) commit.now e)) }
+            → RefusedBy
+            (next_order roster.now (tip roster.now cs commit.now.version.author) commit.now) e)) }
     {
         let tip = self.tip(commit.version().author());
-        tip.check_known(roster, by_author, commit)
+        tip.check_known(alloc, roster, verdict, commit)
     }
 
     /// What the next commit of that user is measured by.
@@ -121,11 +124,12 @@ impl ChainEnd {
           number = self.now.number;
           head = self.now.head;
           vector = self.now.vector;
+          key = (user_at self.now.users.items user).key;
           leaf = (user_at self.now.users.items user).leaf;
         } }
     {
         let user = self.users[usize::from(user.number())];
-        Tip::new(self.number, self.head, &self.vector, user.leaf)
+        Tip::new(self.number, self.head, &self.vector, user.key, user.leaf)
     }
 
     /// Adds a commit that may come next, by its digest. It takes no memory.
@@ -146,17 +150,20 @@ impl ChainEnd {
     }
 }
 
-/// Tells whether a commit's author is a user of the roster and signed it. `BadKey` where the
-/// author's key in the roster is none; else only `NoMemory`. It makes one check of a signature.
-pub fn is_signed(alloc: Global, roster: &Roster, commit: &Commit) -> Result<bool, Refusal>
-    ensures value { IfOk result (λ b. IsTrue b ↔ IsSignedByAuthor roster.now commit.now) }
+/// Checks whether a commit is signed under its author's key in the roster, if there is such a user.
+/// `BadKey` where that key is none; else only `NoMemory`. It makes one check of a signature.
+pub fn verdict(alloc: Global, roster: &Roster, commit: &Commit) -> Result<Verdict, Refusal>
+    ensures key { IfOk result (λ verdict.
+        verdict.key ≡ user_key roster.now commit.now.version.author) }
+    ensures value { IfOk result (λ verdict.
+        IsTrue verdict.is_signed ↔ IsSignedBy verdict.key commit.now) }
     ensures refused { IfErr result (λ e.
         ((e ≡ BadKey) × HasBadKey roster.now) ⊎ (e ≡ NoMemory)) }
 {
     // names the type for the prover (docs/ARCHITECTURE.md, "Forms the kit wants")
     let _file: Option<FileId> = None;
     let key = key_of(roster, commit.version().author())?;
-    is_signed_by_author(alloc, roster, key.as_ref(), commit)
+    Verdict::of(alloc, key, commit)
 }
 
 /// Reads the key of each user of the roster. `BadKey` where one is none; else only `NoMemory`.
@@ -180,7 +187,7 @@ fn keys_of(alloc: Global, roster: &Roster) -> Result<Vec<UserKey>, Refusal>
 
 /// Reads the key of a user, if there is such a user; `BadKey` where it is none.
 fn key_of(roster: &Roster, user: User) -> Result<Option<PublicKey>, Refusal>
-    ensures key { IfOk result (IsKeyOf roster.now user) }
+    ensures key { IfOk result (λ key. key ≡ user_key roster.now user) }
     ensures refused { IfErr result (λ e. (e ≡ BadKey) × HasBadKey roster.now) }
 {
     // names the type for the prover (docs/ARCHITECTURE.md, "Forms the kit wants")

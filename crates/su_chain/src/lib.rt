@@ -3,4 +3,4 @@
 
 mod ends;
 
-pub use ends::{ChainEnd, is_signed};
+pub use ends::{ChainEnd, verdict};

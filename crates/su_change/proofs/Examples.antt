@@ -5,11 +5,12 @@ use Rattle.su_bytes.specs.declared.file_ids.Kind.{Kind}
 use Rattle.su_bytes.specs.declared.file_ids.Kind.TheVariants.{File, Dir}
 use Rattle.su_op.specs.declared.operations.Op.TheVariants.{Create}
 use Rattle.su_op.specs.declared.operations.Change.TheVariants.{Do, Undo}
-use Rattle.su_format.specs.Format.{part, ◌>>=◌, whole}
+use Rattle.su_format.specs.Format.{part, making, ◌>>=◌, whole}
 use Rattle.su_format.specs.Part.{file_id_part, name_part, inum_part, kind_part, kind_bytes, AnyKind, mark_part}
 use Rattle.su_format.specs.Reading.{IsRefusedAt, start}
 use Rattle.su_change.specs.declared.tags.Tag.TheVariants as tag
 use Rattle.su_change.specs.Tags.{tag_part}
+use Rattle.su_change.specs.NameAt.{name_at_format}
 use Rattle.su_change.specs.Create.{create_fields}
 use Rattle.su_change.specs.Item.{first_byte, item_bytes, item_format}
 
@@ -30,7 +31,7 @@ no_kind Dir behind any e = cc
 
 -- without its last byte it is refused at byte 20, where its kind would be
 a_cut_create : IsRefusedAt (whole item_format) (start (5 ∷ 1 ∷ 0 ∷ 0 ∷ 0 ∷ 0 ∷ 0 ∷ 2 ∷ 1 ∷ 102 ∷ 0 ∷ 0 ∷ 0 ∷ 0 ∷ 0 ∷ 3 ∷ 0 ∷ 0 ∷ 0 ∷ 3 ∷ [])) 20
-unfolding whole item_format create_fields ◌>>=◌ part mark_part tag_part file_id_part name_part inum_part kind_part
+unfolding whole item_format create_fields name_at_format making ◌>>=◌ part mark_part tag_part file_id_part name_part inum_part kind_part
 a_cut_create = record {
   behind = [];
   fails = inl (inr (
@@ -42,10 +43,10 @@ a_cut_create = record {
       _,
       (tt, refl),
       inr (
-        User 0 2,
+        record { dir = User 0 2; name = 102 ∷ []; file = User 0 3 },
         _,
-        (refl, refl),
-        inr (102 ∷ [], _, (refl, refl), inr (User 0 3, _, (refl, refl), inr (3, [], (refl, refl), inl (refl, no_kind)))),
+        (User 0 2, _, (refl, refl), (102 ∷ [], _, (refl, refl), (User 0 3, _, (refl, refl), (refl, refl)))),
+        inr (3, [], (refl, refl), inl (refl, no_kind)),
       ),
     ),
   ));

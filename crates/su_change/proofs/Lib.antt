@@ -1,11 +1,4 @@
-pub mod Joining
-pub mod CreateSpelling
-pub mod WriteSpelling
-pub mod TruncateSpelling
-pub mod LinkSpelling
-pub mod RenameSpelling
-pub mod UnlinkSpelling
-pub mod TakeSpelling
+pub mod Spellings
 pub mod Items
 pub mod Public
 mod Examples

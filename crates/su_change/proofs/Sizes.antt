@@ -15,6 +15,7 @@ use Rattle.su_format.specs.Part.{u32_bytes, name_bytes, kind_bytes}
 use Rattle.su_op.specs.declared.create.Create.{Create as Create_}
 use Rattle.su_op.specs.declared.rename.Rename.{Rename as Rename_}
 use Rattle.su_op.specs.Writing.{Writing}
+use Rattle.su_change.specs.NameAt.{created_name, name_at_bytes}
 use Rattle.su_change.specs.Create.{IsCreate, create_bytes}
 use Rattle.su_change.specs.Write.{HasLength, write_bytes}
 use Rattle.su_change.specs.Rename.{IsRename, rename_bytes}
@@ -57,10 +58,8 @@ file_number f n = joined (file_id_bytes f) (u32_bytes n) 6 4 (six f) (omega arit
 
 create_few : (c : Create_) → IsCreate c → length (create_bytes c) ≤ 273
 create_few c is =
-    joined (file_id_bytes c.dir) (name_bytes c.name ++ (file_id_bytes c.file ++ (u32_bytes c.body ++ kind_bytes c.kind))) 6 267 (six c.dir)
-    (joined (name_bytes c.name) (file_id_bytes c.file ++ (u32_bytes c.body ++ kind_bytes c.kind)) 256 11 (name_size c.name is.name)
-    (joined (file_id_bytes c.file) (u32_bytes c.body ++ kind_bytes c.kind) 6 5 (six c.file)
-    (joined (u32_bytes c.body) (kind_bytes c.kind) 4 1 (omega arith) (one c.kind))))
+    joined (name_at_bytes (created_name c)) (u32_bytes c.body ++ kind_bytes c.kind) 268 5 (file_name_file c.dir c.name c.file is.name_at.name)
+    (joined (u32_bytes c.body) (kind_bytes c.kind) 4 1 (omega arith) (one c.kind))
 
 write_few : (w : Writing) → HasLength w → length (write_bytes w) ≤ 65550
 write_few w has =

@@ -10,12 +10,11 @@ use Rattle.su_format.specs.Part.{u64_bytes, u64_part, mark_part}
 use Rattle.su_change.specs.declared.tags.Tag.{Tag}
 use Rattle.su_change.specs.declared.tags.Tag.TheVariants.{Undo, Create, Write, Truncate, Link, Rename, Unlink, Take}
 use Rattle.su_change.specs.Tags.{tag_of, tag_bytes, tag_part}
+use Rattle.su_change.specs.NameAt.{IsNameAt, name_at_bytes, linked_name, unlinked_name, link_fields, unlink_fields}
 use Rattle.su_change.specs.Create.{IsCreate, create_bytes, create_fields}
 use Rattle.su_change.specs.Write.{IsWrite, HasLength, write_bytes, write_fields}
 use Rattle.su_change.specs.Truncate.{IsTruncate, truncate_bytes, truncate_fields}
-use Rattle.su_change.specs.Link.{IsLink, link_bytes, link_fields}
 use Rattle.su_change.specs.Rename.{IsRename, rename_bytes, rename_fields}
-use Rattle.su_change.specs.Unlink.{IsUnlink, unlink_bytes, unlink_fields}
 use Rattle.su_change.specs.Take.{IsTake, take_bytes, take_fields}
 
 -- each number and name of a change is in its range, as the types of the code have it
@@ -24,9 +23,9 @@ IsChange (change.Undo n) = n < 2 ^ 64
 IsChange (change.Do (op.Create c)) = IsCreate c
 IsChange (change.Do (op.Write w)) = IsWrite w
 IsChange (change.Do (op.Truncate t)) = IsTruncate t
-IsChange (change.Do (op.Link l)) = IsLink l
+IsChange (change.Do (op.Link l)) = IsNameAt (linked_name l)
 IsChange (change.Do (op.Rename r)) = IsRename r
-IsChange (change.Do (op.Unlink u)) = IsUnlink u
+IsChange (change.Do (op.Unlink u)) = IsNameAt (unlinked_name u)
 IsChange (change.Do (op.Take t)) = IsTake t
 
 -- a change has an item where a write has 1 to 65,536 bytes; another has one in any case
@@ -42,9 +41,9 @@ field_bytes (change.Undo n) = u64_bytes n
 field_bytes (change.Do (op.Create c)) = create_bytes c
 field_bytes (change.Do (op.Write w)) = write_bytes w
 field_bytes (change.Do (op.Truncate t)) = truncate_bytes t
-field_bytes (change.Do (op.Link l)) = link_bytes l
+field_bytes (change.Do (op.Link l)) = name_at_bytes (linked_name l)
 field_bytes (change.Do (op.Rename r)) = rename_bytes r
-field_bytes (change.Do (op.Unlink u)) = unlink_bytes u
+field_bytes (change.Do (op.Unlink u)) = name_at_bytes (unlinked_name u)
 field_bytes (change.Do (op.Take t)) = take_bytes t
 
 -- the first byte of a change's item, which is that of no other item that is stored

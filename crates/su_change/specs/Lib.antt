@@ -1,9 +1,8 @@
 pub mod Tags
+pub mod NameAt
 pub mod Create
 pub mod Write
 pub mod Truncate
-pub mod Link
 pub mod Rename
-pub mod Unlink
 pub mod Take
 pub mod Item

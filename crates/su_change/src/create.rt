@@ -3,20 +3,19 @@ ghost use Rattle.std.specs.Prelude.{◌≡◌, ◌++◌, OnOk};
 ghost use Rattle.su_format.specs.Reading.{Takes};
 ghost use Rattle.su_change.specs.Create.{IsCreate, create_bytes, create_fields};
 
+use crate::name_at::NameAt;
 use std::alloc::{AllocError, Global};
 use su_bytes::{FileId, Refusal};
 use su_format::{Reader, Writer};
 use su_op::{Change, Create, Op};
 
-/// Reads a create: the directory, the name, the file, the number of its body, its kind.
+/// Reads a create: the directory, the name, the file; the number of its body, its kind.
 pub fn read(alloc: Global, reader: &mut Reader<'_>) -> Result<Change, Refusal>
     ensures { Takes create_fields reader.old result reader.new }
 {
     // names the type for the prover (docs/ARCHITECTURE.md, "Forms the kit wants")
     let _file: Option<FileId> = None;
-    let dir = reader.take_file_id()?;
-    let name = reader.take_name(alloc)?;
-    let file = reader.take_file_id()?;
+    let NameAt { dir, name, file } = NameAt::read(alloc, reader)?;
     let body = reader.take_inum()?;
     let kind = reader.take_kind()?;
     Ok(Change::Do(Op::Create(Create {
@@ -33,9 +32,7 @@ pub fn write(writer: &mut Writer, create: &Create) -> Result<(), AllocError>
     ensures { OnOk result
         (IsCreate create.now × (writer.new ≡ writer.old ++ create_bytes create.now)) }
 {
-    writer.put_file_id(create.dir)?;
-    writer.put_name(&create.name)?;
-    writer.put_file_id(create.file)?;
+    NameAt::write(writer, create.dir, &create.name, create.file)?;
     writer.put_inum(create.body)?;
     writer.put_kind(create.kind)
 }

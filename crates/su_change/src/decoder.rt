@@ -5,14 +5,16 @@ ghost use Rattle.su_format.specs.Reading.{Decodes, Takes};
 ghost use Rattle.su_op.specs.declared.operations.Change.{Change as Change_};
 ghost use Rattle.su_change.specs.Tags.{tag_part};
 ghost use Rattle.su_change.specs.declared.tags.Tag.TheVariants.{Undo};
+ghost use Rattle.su_change.specs.NameAt.{link_fields, unlink_fields};
 ghost use Rattle.su_change.specs.Item.{HasItem, IsChange, fields, item_bytes, item_format};
 
+use crate::name_at::NameAt;
 use crate::tags::Tag;
-use crate::{create, link, rename, take, truncate, unlink, write};
+use crate::{create, rename, take, truncate, write};
 use std::alloc::Global;
 use su_bytes::{FileId, Refusal};
 use su_format::Reader;
-use su_op::Change;
+use su_op::{Change, Link, Op, Unlink};
 
 /// The first byte of the item of a change.
 pub const FIRST_BYTE: &[u8] = &[5];
@@ -68,9 +70,9 @@ fn read_fields(alloc: Global, reader: &mut Reader<'_>, tag: Tag) -> Result<Chang
         Tag::Create => create::read(alloc, reader),
         Tag::Write => write::read(alloc, reader),
         Tag::Truncate => truncate::read(reader),
-        Tag::Link => link::read(alloc, reader),
+        Tag::Link => read_link(alloc, reader),
         Tag::Rename => rename::read(alloc, reader),
-        Tag::Unlink => unlink::read(alloc, reader),
+        Tag::Unlink => read_unlink(alloc, reader),
         Tag::Take => take::read(reader),
     }
 }
@@ -82,4 +84,24 @@ fn read_undo(reader: &mut Reader<'_>) -> Result<Change, Refusal>
     let _file: Option<FileId> = None;
     let number = reader.take_u64()?;
     Ok(Change::Undo(number))
+}
+
+/// Reads a link: the name that it makes.
+fn read_link(alloc: Global, reader: &mut Reader<'_>) -> Result<Change, Refusal>
+    ensures { Takes link_fields reader.old result reader.new }
+{
+    // names the type for the prover (docs/ARCHITECTURE.md, "Forms the kit wants")
+    let _file: Option<FileId> = None;
+    let NameAt { dir, name, file } = NameAt::read(alloc, reader)?;
+    Ok(Change::Do(Op::Link(Link { dir, name, file })))
+}
+
+/// Reads an unlink: the name that it takes away.
+fn read_unlink(alloc: Global, reader: &mut Reader<'_>) -> Result<Change, Refusal>
+    ensures { Takes unlink_fields reader.old result reader.new }
+{
+    // names the type for the prover (docs/ARCHITECTURE.md, "Forms the kit wants")
+    let _file: Option<FileId> = None;
+    let NameAt { dir, name, file } = NameAt::read(alloc, reader)?;
+    Ok(Change::Do(Op::Unlink(Unlink { dir, name, file })))
 }

@@ -4,8 +4,9 @@ ghost use Rattle.su_bytes.specs.declared.refusals.Refusal.TheVariants.{BadNumber
 ghost use Rattle.su_change.specs.Item.{HasItem, IsChange, change_digest, field_bytes, item_bytes};
 
 use crate::decoder::FIRST_BYTE;
+use crate::name_at::NameAt;
 use crate::tags::Tag;
-use crate::{create, link, rename, take, truncate, unlink, write};
+use crate::{create, rename, take, truncate, write};
 use sha2::Sha256;
 use std::alloc::{AllocError, Global};
 use su_bytes::{Digest, Refusal};
@@ -86,9 +87,11 @@ fn write_fields(writer: &mut Writer, change: &Change) -> Result<(), AllocError>
         Change::Do(Op::Create(create)) => create::write(writer, create),
         Change::Do(Op::Write(write)) => write::write(writer, write),
         Change::Do(Op::Truncate(truncate)) => truncate::write(writer, truncate),
-        Change::Do(Op::Link(link)) => link::write(writer, link),
+        Change::Do(Op::Link(link)) => NameAt::write(writer, link.dir, &link.name, link.file),
         Change::Do(Op::Rename(rename)) => rename::write(writer, rename),
-        Change::Do(Op::Unlink(unlink)) => unlink::write(writer, unlink),
+        Change::Do(Op::Unlink(unlink)) => {
+            NameAt::write(writer, unlink.dir, &unlink.name, unlink.file)
+        }
         Change::Do(Op::Take(take)) => take::write(writer, take),
     }
 }

@@ -5,14 +5,14 @@ mod create;
 mod decoder;
 mod encoder;
 mod laws;
-mod link;
+mod name_at;
 mod rename;
 mod tags;
 mod take;
 mod truncate;
-mod unlink;
 mod write;
 
 pub use decoder::decode;
 pub use encoder::{digest, encode};
 pub use laws::no_item_begins_another;
+pub use name_at::NameAt;

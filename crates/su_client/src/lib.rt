@@ -6,6 +6,3 @@ mod links;
 mod refusals;
 
 pub use clients::Client;
-
-#[cfg(test)]
-mod tests;

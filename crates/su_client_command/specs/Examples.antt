@@ -2,25 +2,28 @@
 use Rattle.std.specs.Prelude.{◌≡◌, refl, [], ◌∷◌, codes}
 use Rattle.hex.specs.Hex.{decode_pairs}
 use Rattle.su_bytes.specs.declared.refusals.Refusal.TheVariants.{BadNumber}
+use Rattle.su_command.specs.Form.{Value.Number, Value.Size, Value.Bytes, Value.Text}
 use Rattle.su_command.specs.Script.{read_bytes, read_number}
-use Rattle.su_client_command.specs.Said.{PathCommand.Mkdir, PathCommand.Write, PathCommand.Truncate, PathCommand.Rename, Asked.Change, Asked.Bytes, Said.Asks, Said.OutOfRange, Said.Bad}
+use Rattle.su_client_command.specs.declared.verbs.Verb.TheVariants.{Change, Read}
+use Rattle.su_client_command.specs.declared.verbs.PathVerb.TheVariants.{Mkdir, Write, Truncate, Rename}
+use Rattle.su_client_command.specs.Said.{Said.Asks, Said.OutOfRange, Said.Bad, spoken}
 use Rattle.su_client_command.specs.ClientScript.{line_said}
 
-pub a_directory : line_said (codes "mkdir /a") ≡ Asks (Change (Mkdir (codes "/a")))
+pub a_directory : line_said (codes "mkdir /a") ≡ Asks (spoken (Change Mkdir) (Text (codes "/a") ∷ []))
 a_directory = refl
 
-pub a_write : line_said (codes "write /a 7 4f6B") ≡ Asks (Change (Write (codes "/a") 7 (79 ∷ 107 ∷ [])))
+pub a_write : line_said (codes "write /a 7 4f6B") ≡ Asks (spoken (Change Write) (Text (codes "/a") ∷ Size 7 ∷ Bytes (79 ∷ 107 ∷ []) ∷ []))
 unfolding read_number read_bytes decode_pairs
 a_write = refl
 
-pub old_before_new : line_said (codes "rename /a /b") ≡ Asks (Change (Rename (codes "/a") (codes "/b")))
+pub old_before_new : line_said (codes "rename /a /b") ≡ Asks (spoken (Change Rename) (Text (codes "/a") ∷ Text (codes "/b") ∷ []))
 old_before_new = refl
 
-pub off_before_len : line_said (codes "cat /a 5 18446744073709551615") ≡ Asks (Bytes (codes "/a") 5 18446744073709551615)
+pub off_before_len : line_said (codes "cat /a 5 18446744073709551615") ≡ Asks (spoken Read (Text (codes "/a") ∷ Number 5 ∷ Number 18446744073709551615 ∷ []))
 unfolding read_number
 off_before_len = refl
 
-pub the_last_size : line_said (codes "truncate /a 4294967295") ≡ Asks (Change (Truncate (codes "/a") 4294967295))
+pub the_last_size : line_said (codes "truncate /a 4294967295") ≡ Asks (spoken (Change Truncate) (Text (codes "/a") ∷ Size 4294967295 ∷ []))
 unfolding read_number
 the_last_size = refl
 

@@ -4,10 +4,8 @@
 mod commands;
 mod lines;
 mod mistakes;
+mod verbs;
 
 pub use commands::{ClientCommand, ClientLine};
 pub use lines::read_line;
 pub use mistakes::{CLIENT_WORDS, client_mistake_in};
-
-#[cfg(test)]
-mod tests;

@@ -1,20 +1,25 @@
-// From the bytes of a line to what it says: a function for each command reads the words after its
-// own word.
-ghost use Rattle.std.specs.Prelude.{◌≡◌, IfOk};
+// From the bytes of a line to what it says: its words are read by the form of its command.
+ghost use Rattle.std.specs.Prelude.{◌≡◌, ◌++◌, IfOk, IfSome, map, option_map};
+ghost use Rattle.su_command.specs.Form.{row_of};
 ghost use Rattle.su_command.specs.Raw.{texts};
-ghost use Rattle.su_client_command.specs.Said.{Asked.Change, Said.Asks, change_of, line_of};
-ghost use Rattle.su_client_command.specs.ClientScript.{line_said, read_cat, read_change, read_create, read_link, read_list, read_mkdir, read_other, read_remove, read_rename, read_save, read_truncate, read_undo, read_undo_last, read_words, read_write};
+ghost use Rattle.su_command.specs.Value.{left_of, value_of};
+ghost use Rattle.su_client_command.specs.Said.{asked_of, change_of, line_of};
+ghost use Rattle.su_client_command.specs.ClientScript.{line_said, read_form, read_words, verb_said};
 
 use crate::commands::{ClientCommand, ClientLine};
+use crate::verbs::{CLIENT_FORMS, PathVerb, Verb};
 use std::alloc::{AllocError, Global};
 use su_bytes::Refusal;
-use su_command::{LONGEST_LINE, has_empty_word, read_bytes, read_number, split_words};
+use su_command::{
+    LONGEST_LINE, Value, WordKind, Words, check_values, find_form, has_empty_word, read_values,
+    split_words,
+};
 use su_plan::Command;
 
 /// Reads a line. It says no command where it has more than `LONGEST_LINE` bytes or an empty word,
-/// where its words are too few, too many or not what the command wants there, and where no command
-/// has its first word. The offset of a write and the size of a truncation are refused by `BadNumber`
-/// where they don't fit 32 bits. Fails where there is no memory for the words.
+/// where no command has its first word, and where its further words are too few, too many or not
+/// what the command wants there. The offset of a write and the size of a truncation are refused by
+/// `BadNumber` where they don't fit 32 bits. Fails where there is no memory for the words.
 pub fn read_line(alloc: Global, line: &[u8]) -> Result<ClientLine, AllocError>
     ensures { IfOk result (λ said. line_of said ≡ line_said line.now) }
 {
@@ -32,220 +37,109 @@ pub fn read_line(alloc: Global, line: &[u8]) -> Result<ClientLine, AllocError>
 fn read_words(alloc: Global, words: &[&[u8]]) -> Result<ClientLine, AllocError>
     ensures { IfOk result (λ said. line_of said ≡ read_words (texts words.now)) }
 {
-    match words {
-        [word, arguments @ ..] => read_change(alloc, word, arguments),
-        [] => Ok(ClientLine::Bad),
+    let [word, arguments @ ..] = words else {
+        return Ok(ClientLine::Bad);
+    };
+    match find_form(&CLIENT_FORMS, word) {
+        Some(form) => read_form(alloc, form.1, form.2, arguments),
+        None => Ok(ClientLine::Bad),
     }
 }
 
-/// Reads a command that changes what paths lead to, by its word; or else one of the others.
-fn read_change(alloc: Global, word: &[u8], arguments: &[&[u8]]) -> Result<ClientLine, AllocError>
+/// Reads the words after a command's own, by their kinds.
+fn read_form(
+    alloc: Global,
+    verb: Verb,
+    kinds: &[WordKind],
+    arguments: &[&[u8]],
+) -> Result<ClientLine, AllocError>
     ensures { IfOk result (λ said.
-        line_of said ≡ read_change word.now (texts arguments.now)) }
+        line_of said ≡ read_form verb kinds.now (texts arguments.now)) }
 {
-    if word == b"mkdir".as_slice() {
-        return read_mkdir(alloc, arguments);
+    match read_values(alloc, kinds, arguments)? {
+        Some(values) => in_range(alloc, verb, values),
+        None => Ok(ClientLine::Bad),
     }
-    if word == b"create".as_slice() {
-        return read_create(alloc, arguments);
-    }
-    if word == b"write".as_slice() {
-        return read_write(alloc, arguments);
-    }
-    if word == b"truncate".as_slice() {
-        return read_truncate(alloc, arguments);
-    }
-    if word == b"link".as_slice() {
-        return read_link(alloc, arguments);
-    }
-    if word == b"rename".as_slice() {
-        return read_rename(alloc, arguments);
-    }
-    if word == b"remove".as_slice() {
-        return read_remove(alloc, arguments);
-    }
-    read_other(alloc, word, arguments)
 }
 
-/// Reads one of the other commands, by its word.
-fn read_other(alloc: Global, word: &[u8], arguments: &[&[u8]]) -> Result<ClientLine, AllocError>
+/// Makes the command of its words, or tells that one is outside its range.
+fn in_range(alloc: Global, verb: Verb, values: Vec<Value<'_>>) -> Result<ClientLine, AllocError>
     ensures { IfOk result (λ said.
-        line_of said ≡ read_other word.now (texts arguments.now)) }
+        line_of said ≡ verb_said verb (map value_of values.entry.items)) }
 {
-    if word == b"undo".as_slice() {
-        return Ok(read_undo(arguments));
-    }
-    if word == b"undo_last".as_slice() {
-        return Ok(read_undo_last(arguments));
-    }
-    if word == b"ls".as_slice() {
-        return read_list(alloc, arguments);
-    }
-    if word == b"cat".as_slice() {
-        return read_cat(alloc, arguments);
-    }
-    if word == b"save".as_slice() {
-        return read_save(alloc, arguments);
-    }
-    Ok(ClientLine::Bad)
-}
-
-/// Reads `P`.
-fn read_mkdir(alloc: Global, arguments: &[&[u8]]) -> Result<ClientLine, AllocError>
-    ensures { IfOk result (λ said. line_of said ≡ read_mkdir (texts arguments.now)) }
-{
-    let [path] = arguments else {
-        return Ok(ClientLine::Bad);
-    };
-    let path = Vec::from_slice(alloc, path)?;
-    Ok(change(Command::Mkdir { path }))
-}
-
-/// Reads `P`.
-fn read_create(alloc: Global, arguments: &[&[u8]]) -> Result<ClientLine, AllocError>
-    ensures { IfOk result (λ said. line_of said ≡ read_create (texts arguments.now)) }
-{
-    let [path] = arguments else {
-        return Ok(ClientLine::Bad);
-    };
-    let path = Vec::from_slice(alloc, path)?;
-    Ok(change(Command::Create { path }))
-}
-
-/// Reads `P OFF HEX`.
-fn read_write(alloc: Global, arguments: &[&[u8]]) -> Result<ClientLine, AllocError>
-    ensures { IfOk result (λ said. line_of said ≡ read_write (texts arguments.now)) }
-{
-    let [path, off, hex] = arguments else {
-        return Ok(ClientLine::Bad);
-    };
-    let Some(off) = read_number(off) else {
-        return Ok(ClientLine::Bad);
-    };
-    let Some(bytes) = read_bytes(alloc, hex)? else {
-        return Ok(ClientLine::Bad);
-    };
-    let Ok(off) = u32::try_from(off) else {
-        return Ok(ClientLine::OutOfRange(Refusal::BadNumber));
-    };
-    let path = Vec::from_slice(alloc, path)?;
-    Ok(change(Command::Write { path, off, bytes }))
-}
-
-/// Reads `P SIZE`.
-fn read_truncate(alloc: Global, arguments: &[&[u8]]) -> Result<ClientLine, AllocError>
-    ensures { IfOk result (λ said. line_of said ≡ read_truncate (texts arguments.now)) }
-{
-    let [path, size] = arguments else {
-        return Ok(ClientLine::Bad);
-    };
-    let Some(size) = read_number(size) else {
-        return Ok(ClientLine::Bad);
-    };
-    let Ok(size) = u32::try_from(size) else {
-        return Ok(ClientLine::OutOfRange(Refusal::BadNumber));
-    };
-    let path = Vec::from_slice(alloc, path)?;
-    Ok(change(Command::Truncate { path, size }))
-}
-
-/// Reads `OLD NEW`.
-fn read_link(alloc: Global, arguments: &[&[u8]]) -> Result<ClientLine, AllocError>
-    ensures { IfOk result (λ said. line_of said ≡ read_link (texts arguments.now)) }
-{
-    let [old_, new_] = arguments else {
-        return Ok(ClientLine::Bad);
-    };
-    let old_ = Vec::from_slice(alloc, old_)?;
-    let new_ = Vec::from_slice(alloc, new_)?;
-    Ok(change(Command::Link { old_, new_ }))
-}
-
-/// Reads `OLD NEW`.
-fn read_rename(alloc: Global, arguments: &[&[u8]]) -> Result<ClientLine, AllocError>
-    ensures { IfOk result (λ said. line_of said ≡ read_rename (texts arguments.now)) }
-{
-    let [old_, new_] = arguments else {
-        return Ok(ClientLine::Bad);
-    };
-    let old_ = Vec::from_slice(alloc, old_)?;
-    let new_ = Vec::from_slice(alloc, new_)?;
-    Ok(change(Command::Rename { old_, new_ }))
-}
-
-/// Reads `P`.
-fn read_remove(alloc: Global, arguments: &[&[u8]]) -> Result<ClientLine, AllocError>
-    ensures { IfOk result (λ said. line_of said ≡ read_remove (texts arguments.now)) }
-{
-    let [path] = arguments else {
-        return Ok(ClientLine::Bad);
-    };
-    let path = Vec::from_slice(alloc, path)?;
-    Ok(change(Command::Remove { path }))
-}
-
-/// Reads `N`.
-fn read_undo(arguments: &[&[u8]]) -> ClientLine
-    ensures { line_of result ≡ read_undo (texts arguments.now) }
-{
-    let [number] = arguments else {
-        return ClientLine::Bad;
-    };
-    match read_number(number) {
-        Some(number) => ClientLine::Command(ClientCommand::Undo(number)),
-        None => ClientLine::Bad,
+    match check_values(alloc, values) {
+        Ok(words) => Ok(ClientLine::Command(command(verb, words).ok_or(AllocError)?)),
+        Err(Refusal::NoMemory) => Err(AllocError),
+        Err(refusal) => Ok(ClientLine::OutOfRange(refusal)),
     }
 }
 
-/// Reads no further word.
-fn read_undo_last(arguments: &[&[u8]]) -> ClientLine
-    ensures { line_of result ≡ read_undo_last (texts arguments.now) }
+/// Makes a command of its words. `None` where they are not those of its form.
+fn command(verb: Verb, mut words: Words) -> Option<ClientCommand>
+    ensures { IfSome result (λ c. asked_of c ≡ record { verb = verb; values = left_of words }) }
 {
-    match arguments {
-        [] => ClientLine::Command(ClientCommand::UndoLast),
-        _ => ClientLine::Bad,
+    let command = take_command(verb, &mut words)?;
+    if words.is_empty() {
+        Some(command)
+    } else {
+        None
     }
 }
 
-/// Reads `P`.
-fn read_list(alloc: Global, arguments: &[&[u8]]) -> Result<ClientLine, AllocError>
-    ensures { IfOk result (λ said. line_of said ≡ read_list (texts arguments.now)) }
+/// Takes the words of a command. `None` where other words come.
+fn take_command(verb: Verb, words: &mut Words) -> Option<ClientCommand>
+    ensures verb { IfSome result (λ c. (asked_of c).verb ≡ verb) }
+    ensures words { IfSome result (λ c.
+        left_of words.old ≡ (asked_of c).values ++ left_of words.new) }
 {
-    let [path] = arguments else {
-        return Ok(ClientLine::Bad);
-    };
-    let path = Vec::from_slice(alloc, path)?;
-    Ok(ClientLine::Command(ClientCommand::List { path }))
+    match verb {
+        Verb::Change(verb) => Some(ClientCommand::Change(take_change(verb, words)?)),
+        Verb::Undo => Some(ClientCommand::Undo(words.take_number()?)),
+        Verb::UndoLast => Some(ClientCommand::UndoLast),
+        Verb::List => {
+            let path = words.take_text()?;
+            Some(ClientCommand::List { path })
+        }
+        Verb::Read => {
+            let path = words.take_text()?;
+            let off = words.take_number()?;
+            let len = words.take_number()?;
+            Some(ClientCommand::Read { path, off, len })
+        }
+        Verb::Save => {
+            let file = words.take_text()?;
+            Some(ClientCommand::Save { file })
+        }
+    }
 }
 
-/// Reads `P OFF LEN`.
-fn read_cat(alloc: Global, arguments: &[&[u8]]) -> Result<ClientLine, AllocError>
-    ensures { IfOk result (λ said. line_of said ≡ read_cat (texts arguments.now)) }
+/// Takes the words of a command on paths. `None` where other words come.
+fn take_change(verb: PathVerb, words: &mut Words) -> Option<Command>
+    ensures verb { IfSome result (λ c. (change_of c).verb ≡ verb) }
+    ensures words { IfSome result (λ c.
+        left_of words.old ≡ (change_of c).values ++ left_of words.new) }
 {
-    let [path, off, len] = arguments else {
-        return Ok(ClientLine::Bad);
-    };
-    let (Some(off), Some(len)) = (read_number(off), read_number(len)) else {
-        return Ok(ClientLine::Bad);
-    };
-    let path = Vec::from_slice(alloc, path)?;
-    Ok(ClientLine::Command(ClientCommand::Read { path, off, len }))
-}
-
-/// Reads `FILE`.
-fn read_save(alloc: Global, arguments: &[&[u8]]) -> Result<ClientLine, AllocError>
-    ensures { IfOk result (λ said. line_of said ≡ read_save (texts arguments.now)) }
-{
-    let [file] = arguments else {
-        return Ok(ClientLine::Bad);
-    };
-    let file = Vec::from_slice(alloc, file)?;
-    Ok(ClientLine::Command(ClientCommand::Save { file }))
-}
-
-/// The line that says a command on paths.
-fn change(command: Command) -> ClientLine
-    ensures { line_of result ≡ Asks (Change (change_of command)) }
-{
-    ClientLine::Command(ClientCommand::Change(command))
+    let path = words.take_text()?;
+    match verb {
+        PathVerb::Mkdir => Some(Command::Mkdir { path }),
+        PathVerb::Create => Some(Command::Create { path }),
+        PathVerb::Write => {
+            let off = words.take_size()?;
+            let bytes = words.take_bytes()?;
+            Some(Command::Write { path, off, bytes })
+        }
+        PathVerb::Truncate => {
+            let size = words.take_size()?;
+            Some(Command::Truncate { path, size })
+        }
+        PathVerb::Link => {
+            let new_ = words.take_text()?;
+            Some(Command::Link { old_: path, new_ })
+        }
+        PathVerb::Rename => {
+            let new_ = words.take_text()?;
+            Some(Command::Rename { old_: path, new_ })
+        }
+        PathVerb::Remove => Some(Command::Remove { path }),
+    }
 }

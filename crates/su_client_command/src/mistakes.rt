@@ -1,8 +1,8 @@
 // What people are told of the commands: a help text, and why a line is none. What a script does
 // never rests on it.
+use crate::verbs::CLIENT_FORMS;
 use std::alloc::{AllocError, Global};
-use su_command::WordKind::{FileName, Hex, Number, Path};
-use su_command::{Form, Mistake, mistake_in_command, words_in};
+use su_command::{Mistake, mistake_in_command, words_in};
 
 /// The commands of a client's script, for a help text.
 pub const CLIENT_WORDS: &str = "Commands:
@@ -22,70 +22,6 @@ pub const CLIENT_WORDS: &str = "Commands:
 P, OLD and NEW are paths: / is the root directory, and others are names with a /
 before each, as /a/b. A line's words have single spaces between them, so no path
 and no FILE has a space in it.";
-
-/// The commands, and the words after each.
-const CLIENT_FORMS: [Form<'_>; 12] = [
-    Form {
-        command: "mkdir",
-        words: &[Path],
-        optional: 0,
-    },
-    Form {
-        command: "create",
-        words: &[Path],
-        optional: 0,
-    },
-    Form {
-        command: "write",
-        words: &[Path, Number, Hex],
-        optional: 0,
-    },
-    Form {
-        command: "truncate",
-        words: &[Path, Number],
-        optional: 0,
-    },
-    Form {
-        command: "link",
-        words: &[Path, Path],
-        optional: 0,
-    },
-    Form {
-        command: "rename",
-        words: &[Path, Path],
-        optional: 0,
-    },
-    Form {
-        command: "remove",
-        words: &[Path],
-        optional: 0,
-    },
-    Form {
-        command: "undo",
-        words: &[Number],
-        optional: 0,
-    },
-    Form {
-        command: "undo_last",
-        words: &[],
-        optional: 0,
-    },
-    Form {
-        command: "ls",
-        words: &[Path],
-        optional: 0,
-    },
-    Form {
-        command: "cat",
-        words: &[Path, Number, Number],
-        optional: 0,
-    },
-    Form {
-        command: "save",
-        words: &[FileName],
-        optional: 0,
-    },
-];
 
 /// Tells the first mistake in a line that is no command of a client's script. Fails where there is
 /// no memory for the list of words.

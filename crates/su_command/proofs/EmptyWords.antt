@@ -6,16 +6,17 @@ use Rattle.std.specs.Borrow.{Bor}
 use Rattle.std.proofs.lemmas.Bool.Decides.{nat_tests}
 use Rattle.su_bytes.proofs.Public.{list_any-map}
 use Rattle.su_command.specs.Raw.{texts}
-use Rattle.su_command.specs.Script.{has_empty_word, line_command, longest_line, read_words, words_command, words_of}
+use Rattle.su_command.specs.Desk.{line_said, read_words, words_said}
+use Rattle.su_command.specs.Script.{has_empty_word, longest_line, words_of}
 
 empty_word : (ws : List (Bor (List ℕ))) (b : Bool) → b ≡ list_any (λ w. nat_eq (length w.now) 0) ws → has_empty_word (texts ws) ≡ b
 empty_word ws b e = list_any-map (λ w. nat_eq (length w) 0) (λ w. w.now) ws ∙ sym e
 
-short : (line : List ℕ) → length line ≤ longest_line → line_command line ≡ words_command (words_of line)
-short line s = let fits : nat_lt longest_line (length line) ≡ false = grind (arith, nat_tests) in ap (λ b. cond b None (words_command (words_of line))) fits
+short : (line : List ℕ) → length line ≤ longest_line → line_said line ≡ words_said (words_of line)
+short line s = let fits : nat_lt longest_line (length line) ≡ false = grind (arith, nat_tests) in ap (λ b. cond b None (words_said (words_of line))) fits
 
-pub line_command-empty_word : (line : List ℕ) (ws : List (Bor (List ℕ))) (b : Bool) → length line ≤ longest_line → texts ws ≡ words_of line → b ≡ list_any (λ w. nat_eq (length w.now) 0) ws → b ≡ true → None ≡ line_command line
-line_command-empty_word line ws b s split e t = sym (short line s ∙ ap words_command (sym split) ∙ ap (λ c. cond c None (read_words (texts ws))) (empty_word ws b e ∙ t))
+pub line_said-empty_word : (line : List ℕ) (ws : List (Bor (List ℕ))) (b : Bool) → length line ≤ longest_line → texts ws ≡ words_of line → b ≡ list_any (λ w. nat_eq (length w.now) 0) ws → b ≡ true → None ≡ line_said line
+line_said-empty_word line ws b s split e t = sym (short line s ∙ ap words_said (sym split) ∙ ap (λ c. cond c None (read_words (texts ws))) (empty_word ws b e ∙ t))
 
-pub line_command-words : (line : List ℕ) (ws : List (Bor (List ℕ))) (b : Bool) → length line ≤ longest_line → texts ws ≡ words_of line → b ≡ list_any (λ w. nat_eq (length w.now) 0) ws → b ≡ false → read_words (texts ws) ≡ line_command line
-line_command-words line ws b s split e t = sym (short line s ∙ ap words_command (sym split) ∙ ap (λ c. cond c None (read_words (texts ws))) (empty_word ws b e ∙ t))
+pub line_said-words : (line : List ℕ) (ws : List (Bor (List ℕ))) (b : Bool) → length line ≤ longest_line → texts ws ≡ words_of line → b ≡ list_any (λ w. nat_eq (length w.now) 0) ws → b ≡ false → read_words (texts ws) ≡ line_said line
+line_said-words line ws b s split e t = sym (short line s ∙ ap words_said (sym split) ∙ ap (λ c. cond c None (read_words (texts ws))) (empty_word ws b e ∙ t))

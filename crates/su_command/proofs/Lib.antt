@@ -1,6 +1,7 @@
 pub mod Numbers
 pub mod EmptyWords
-pub mod Renames
 pub mod Bytes
 pub mod Broken
-pub mod Refusing
+pub mod FoundForms
+pub mod ReadingValues
+pub mod CheckingValues

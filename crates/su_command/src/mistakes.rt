@@ -1,10 +1,12 @@
 // Why a line is no command, in words for whoever wrote it. What a script does never rests on it.
 // A script has tables of the forms of its commands, and tells its mistakes by them.
-use crate::lines::LONGEST_LINE;
-use crate::mistakes::WordKind::{File, FileName, Hex, Name, Number, Path, Principal};
-use crate::parse::{
-    CHANGES, QUESTIONS, has_empty_word, read_file, read_number, read_principal, split_words,
+use crate::forms::WordKind::{
+    Body, File, FileName, Hex, Name, Number, OwnBody, Path, Principal, Size,
 };
+use crate::forms::{Form, WordKind, find_form};
+use crate::lines::LONGEST_LINE;
+use crate::parse::{has_empty_word, read_file, read_number, read_principal, split_words};
+use crate::verbs::{OTHER_FORMS, USER_FORMS};
 use std::alloc::{AllocError, Global};
 use std::fmt;
 
@@ -25,25 +27,6 @@ pub enum Mistake {
     ManyWords,
     /// It makes a file of a group, and doesn't say where the body stands.
     NoBody,
-}
-
-/// What a word of a command is.
-#[derive(Clone, Copy, Debug, PartialEq, Eq)]
-pub enum WordKind {
-    Number,
-    Name,
-    File,
-    Principal,
-    Hex,
-    Path,
-    FileName,
-}
-
-/// A command's own word, and what the words after it are; the last `optional` may be left out.
-pub struct Form<'a> {
-    pub command: &'a str,
-    pub words: &'a [WordKind],
-    pub optional: usize,
 }
 
 /// Tells the first mistake in a line that is no command of a desk script. Fails where there is no
@@ -80,43 +63,43 @@ fn mistake_in_words(words: &[&[u8]]) -> Mistake {
         [] => Mistake::FewWords,
         [user] if read_number(user).is_some() => Mistake::FewWords,
         [user, command, arguments @ ..] if read_number(user).is_some() => {
-            mistake_in_command(&CHANGES, command, arguments, 3)
+            mistake_in_command(&USER_FORMS, command, arguments, 3)
         }
-        [command, arguments @ ..] => mistake_in_command(&QUESTIONS, command, arguments, 2),
+        [command, arguments @ ..] => mistake_in_command(&OTHER_FORMS, command, arguments, 2),
     }
 }
 
 /// Tells the first mistake in a command that is none of those forms, and the words after it, of which
 /// the first has the number `first` in its line. Where they have a form, what they lack is the body
 /// that it leaves out.
-pub fn mistake_in_command(
-    forms: &[Form<'_>],
+pub fn mistake_in_command<V>(
+    forms: &[Form<V>],
     command: &[u8],
     arguments: &[&[u8]],
     first: usize,
 ) -> Mistake {
-    let Some(form) = forms.iter().find(|form| form.command.as_bytes() == command) else {
+    let Some(form) = find_form(forms, command) else {
         return Mistake::UnknownCommand;
     };
-    let pairs = arguments.iter().zip(form.words);
-    for (place, (word, kind)) in pairs.enumerate() {
+    let kinds = form.2;
+    for (place, (word, kind)) in arguments.iter().zip(kinds).enumerate() {
         if !is_of_kind(word, *kind) {
             return Mistake::WrongWord(first.saturating_add(place), *kind);
         }
     }
-    if arguments.len() > form.words.len() {
+    if arguments.len() > kinds.len() {
         return Mistake::ManyWords;
     }
-    if form.words.len() - arguments.len() > form.optional {
-        return Mistake::FewWords;
+    match kinds.get(arguments.len()) {
+        None | Some(OwnBody) => Mistake::NoBody,
+        Some(_) => Mistake::FewWords,
     }
-    Mistake::NoBody
 }
 
 /// Whether a word is of that kind. Any word is a name or a path, as far as the line goes.
 fn is_of_kind(word: &[u8], kind: WordKind) -> bool {
     match kind {
-        Number => read_number(word).is_some(),
+        Number | Size | Body | OwnBody => read_number(word).is_some(),
         Name | Path | FileName => true,
         File => read_file(word).is_some(),
         Principal => read_principal(word).is_some(),
@@ -136,20 +119,5 @@ impl fmt::Display for Mistake {
             Mistake::ManyWords => write!(f, "too many words"),
             Mistake::NoBody => write!(f, "a file of a group needs a BODY"),
         }
-    }
-}
-
-impl fmt::Display for WordKind {
-    fn fmt<W: fmt::Write>(&self, f: &mut fmt::Formatter<W>) -> fmt::Result {
-        let text = match self {
-            Number => "a number of at most 20 digits that fits 64 bits",
-            Name => "a name",
-            File => "a file id, as U0:2 or G0:1",
-            Principal => "a user or a group, as U0 or G0",
-            Hex => "bytes in hex, two digits each",
-            Path => "a path",
-            FileName => "the name of a file",
-        };
-        f.write_str(text)
     }
 }

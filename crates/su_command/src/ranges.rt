@@ -1,15 +1,20 @@
-// From a raw command to one whose words are within their ranges.
-ghost use Rattle.std.specs.Prelude.{◌≡◌, ◌⊎◌, true, false, None, Some, IfOk, IfErr, OnOk};
+// From what a line says to its command, whose words are within their ranges.
+ghost use Rattle.std.specs.Prelude.{◌≡◌, ◌⊎◌, ◌++◌, true, false, None, Some, IfOk, IfErr, IfSome, OnOk, map};
 ghost use Rattle.su_bytes.specs.declared.refusals.Refusal.TheVariants.{NoMemory, NoUser, BadNumber};
 ghost use Rattle.su_bytes.specs.FileId.{is_file_id};
 ghost use Rattle.su_bytes.specs.Principal.{is_principal};
-ghost use Rattle.su_command.specs.Raw.{change_of, command_of, file_of, principal_of};
-ghost use Rattle.su_command.specs.declared.parse.RawChange.TheVariants.{Create as RawCreated, Rename as RawRenamed};
-ghost use Rattle.su_command.specs.Range.{IsInRange, IsRefused, is_stranger, word_refusal};
+ghost use Rattle.su_command.specs.Desk.{change_said, command_said, question_said, spoken, spoken_of};
+ghost use Rattle.su_command.specs.Form.{value_refusal};
+ghost use Rattle.su_command.specs.Raw.{file_of, principal_of};
+ghost use Rattle.su_command.specs.Range.{is_stranger, word_refusal};
+ghost use Rattle.su_command.specs.Value.{left_of, value_of};
 
-use crate::parse::{RawChange, RawCommand, RawCreate, RawFile, RawPrincipal, RawRename};
+use crate::parse::{RawFile, RawPrincipal, Spoken};
+use crate::values::Value;
+use crate::verbs::{ChangeVerb, QuestionVerb, Verb};
+use crate::words::{Words, check_values};
 use std::alloc::Global;
-use su_bytes::{FileId, Group, Inum, Name, Principal, Refusal, Roster, User};
+use su_bytes::{FileId, Group, Inum, Kind, Principal, Refusal, Roster, User};
 use su_op::{Change, Create, Link, Op, Rename, Take, Truncate, Unlink, Write};
 
 /// A command of a script, each of its words within its range.
@@ -45,33 +50,35 @@ pub enum Question {
 /// Checks the words of a command. Refuses a user of 0 to 63 who isn't in the roster by `NoUser`,
 /// then a bad name by `BadName`, then any other word outside its range by `BadNumber`; fails with
 /// `NoMemory` where there is no room for the command.
-pub fn check_ranges(alloc: Global, roster: &Roster, raw: RawCommand<'_>) -> Result<Command, Refusal>
-    ensures value { IfOk result (λ c. c ≡ command_of raw.entry) }
-    ensures accepted { OnOk result (word_refusal roster.now (command_of raw.entry) ≡ None) }
-    ensures refused { IfErr result (λ e.
-        (e ≡ NoMemory) ⊎ (word_refusal roster.now (command_of raw.entry) ≡ Some e)) }
+pub fn check_ranges(alloc: Global, roster: &Roster, said: Spoken<'_>) -> Result<Command, Refusal>
+    ensures value { IfOk result (λ c. command_said c ≡ spoken_of said.entry) }
+    ensures accepted { OnOk result
+        (word_refusal roster.now (spoken_of said.entry).values ≡ None) }
+    ensures refused { IfErr result (λ e. (e ≡ NoMemory)
+        ⊎ (word_refusal roster.now (spoken_of said.entry).values ≡ Some e)) }
 {
-    match raw {
-        RawCommand::Apply { user, change } => {
-            check_listed(roster, user)?;
-            let change = check_change(alloc, change)?;
-            Ok(Command::Apply(User::new(user)?, change))
-        }
-        RawCommand::UndoLast { user } => {
-            check_listed(roster, user)?;
-            Ok(Command::UndoLast(User::new(user)?))
-        }
-        RawCommand::List { dir } => Ok(Command::Ask(Question::List(file_id(dir)?))),
-        RawCommand::Read { file, off, len } => {
-            Ok(Command::Ask(Question::Read(file_id(file)?, off, len)))
-        }
-        RawCommand::Describe { file } => Ok(Command::Ask(Question::Describe(file_id(file)?))),
-        RawCommand::Handle { principal } => {
-            Ok(Command::Ask(Question::Handle(principal_id(principal)?)))
-        }
-        RawCommand::Versions => Ok(Command::Versions),
-        RawCommand::Mark => Ok(Command::Mark),
-        RawCommand::Same => Ok(Command::Same),
+    let Spoken { verb, values } = said;
+    check_user(roster, values.as_slice())?;
+    let words = check_values(alloc, values)?;
+    match whole_command(verb, words) {
+        Some(command) => Ok(command),
+        None => Err(Refusal::NoMemory),
+    }
+}
+
+/// Refuses a command of a user of 0 to 63 who isn't in the roster by `NoUser`.
+fn check_user(roster: &Roster, values: &[Value<'_>]) -> Result<(), Refusal>
+    ensures listed { OnOk result (word_refusal roster.now (map value_of values.now)
+        ≡ value_refusal (map value_of values.now)) }
+    ensures stranger { IfErr result (λ e.
+        word_refusal roster.now (map value_of values.now) ≡ Some e) }
+{
+    match values {
+        [first, ..] => match first {
+            Value::User(user) => check_listed(roster, *user),
+            _ => Ok(()),
+        },
+        [] => Ok(()),
     }
 }
 
@@ -90,81 +97,116 @@ fn check_listed(roster: &Roster, number: u64) -> Result<(), Refusal>
     Err(Refusal::NoUser(user))
 }
 
-/// Checks the words of a change, as `check_ranges`.
-fn check_change(alloc: Global, raw: RawChange<'_>) -> Result<Change, Refusal>
-    ensures value { IfOk result (λ c. c ≡ change_of raw.entry) }
-    ensures accepted { OnOk result (IsInRange (change_of raw.entry)) }
-    ensures refused { IfErr result (IsRefused (change_of raw.entry)) }
+/// Makes a command of its words. `None` where they are not those of its form.
+fn whole_command(verb: Verb, mut words: Words) -> Option<Command>
+    ensures { IfSome result (λ c. command_said c ≡ spoken verb (left_of words)) }
 {
-    match raw {
-        RawChange::Create(raw) => check_create(alloc, &raw),
-        RawChange::Unlink { dir, name, file } => {
-            let name = Name::new(alloc, name)?;
-            let dir = file_id(dir)?;
-            let file = file_id(file)?;
-            Ok(Change::Do(Op::Unlink(Unlink { dir, name, file })))
-        }
-        RawChange::Write { file, off, bytes } => {
-            let file = file_id(file)?;
-            let Ok(off) = u32::try_from(off) else {
-                return Err(Refusal::BadNumber);
-            };
-            Ok(Change::Do(Op::Write(Write { file, off, bytes })))
-        }
-        RawChange::Truncate { file, size } => {
-            let file = file_id(file)?;
-            let Ok(size) = u32::try_from(size) else {
-                return Err(Refusal::BadNumber);
-            };
-            Ok(Change::Do(Op::Truncate(Truncate { file, size })))
-        }
-        RawChange::Undo { number } => Ok(Change::Undo(number)),
-        RawChange::Take { file, body } => {
-            let file = file_id(file)?;
-            let body = Inum::new(body)?;
-            Ok(Change::Do(Op::Take(Take { file, body })))
-        }
-        RawChange::Link { dir, name, file } => {
-            let name = Name::new(alloc, name)?;
-            let dir = file_id(dir)?;
-            let file = file_id(file)?;
-            Ok(Change::Do(Op::Link(Link { dir, name, file })))
-        }
-        RawChange::Rename(raw) => check_rename(alloc, &raw),
+    let command = take_command(verb, &mut words)?;
+    if words.is_empty() {
+        Some(command)
+    } else {
+        None
     }
 }
 
-/// Checks the words of a create, as `check_ranges`.
-fn check_create(alloc: Global, raw: &RawCreate<'_>) -> Result<Change, Refusal>
-    ensures value { IfOk result (λ c. c ≡ change_of (RawCreated raw.now)) }
-    ensures accepted { OnOk result (IsInRange (change_of (RawCreated raw.now))) }
-    ensures refused { IfErr result (IsRefused (change_of (RawCreated raw.now))) }
+/// Takes the words of a command. `None` where other words come.
+fn take_command(verb: Verb, words: &mut Words) -> Option<Command>
+    ensures verb { IfSome result (λ c. (command_said c).verb ≡ verb) }
+    ensures words { IfSome result (λ c.
+        left_of words.old ≡ (command_said c).values ++ left_of words.new) }
 {
-    let name = Name::new(alloc, raw.name)?;
-    let dir = file_id(raw.dir)?;
-    let file = file_id(raw.file)?;
-    let body = Inum::new(raw.body)?;
-    Ok(Change::Do(Op::Create(Create {
+    match verb {
+        Verb::Change(verb) => {
+            let user = words.take_user()?;
+            let change = take_change(verb, words)?;
+            Some(Command::Apply(user, change))
+        }
+        Verb::UndoLast => {
+            let user = words.take_user()?;
+            Some(Command::UndoLast(user))
+        }
+        Verb::Ask(verb) => {
+            let question = take_question(verb, words)?;
+            Some(Command::Ask(question))
+        }
+        Verb::Versions => Some(Command::Versions),
+        Verb::Mark => Some(Command::Mark),
+        Verb::Same => Some(Command::Same),
+    }
+}
+
+/// Takes the words of a change. `None` where other words come.
+fn take_change(verb: ChangeVerb, words: &mut Words) -> Option<Change>
+    ensures verb { IfSome result (λ c. (change_said c).verb ≡ verb) }
+    ensures words { IfSome result (λ c.
+        left_of words.old ≡ (change_said c).values ++ left_of words.new) }
+{
+    match verb {
+        ChangeVerb::Create(kind) => take_create(kind, words),
+        ChangeVerb::Write => {
+            let file = words.take_file()?;
+            let off = words.take_size()?;
+            let bytes = words.take_bytes()?;
+            Some(Change::Do(Op::Write(Write { file, off, bytes })))
+        }
+        ChangeVerb::Truncate => {
+            let file = words.take_file()?;
+            let size = words.take_size()?;
+            Some(Change::Do(Op::Truncate(Truncate { file, size })))
+        }
+        ChangeVerb::Unlink => {
+            let dir = words.take_file()?;
+            let name = words.take_name()?;
+            let file = words.take_file()?;
+            Some(Change::Do(Op::Unlink(Unlink { dir, name, file })))
+        }
+        ChangeVerb::Take => {
+            let file = words.take_file()?;
+            let body = words.take_body()?;
+            Some(Change::Do(Op::Take(Take { file, body })))
+        }
+        ChangeVerb::Link => {
+            let dir = words.take_file()?;
+            let name = words.take_name()?;
+            let file = words.take_file()?;
+            Some(Change::Do(Op::Link(Link { dir, name, file })))
+        }
+        ChangeVerb::Rename => take_rename(words),
+        ChangeVerb::Undo => Some(Change::Undo(words.take_number()?)),
+    }
+}
+
+/// Takes the words of a create. `None` where other words come.
+fn take_create(kind: Kind, words: &mut Words) -> Option<Change>
+    ensures verb { IfSome result (λ c. (change_said c).verb ≡ ChangeVerb.Create kind) }
+    ensures words { IfSome result (λ c.
+        left_of words.old ≡ (change_said c).values ++ left_of words.new) }
+{
+    let dir = words.take_file()?;
+    let name = words.take_name()?;
+    let file = words.take_file()?;
+    let body = words.take_body()?;
+    Some(Change::Do(Op::Create(Create {
         dir,
         name,
         file,
         body,
-        kind: raw.kind,
+        kind,
     })))
 }
 
-/// Checks the words of a rename, as `check_ranges`.
-fn check_rename(alloc: Global, raw: &RawRename<'_>) -> Result<Change, Refusal>
-    ensures value { IfOk result (λ c. c ≡ change_of (RawRenamed raw.now)) }
-    ensures accepted { OnOk result (IsInRange (change_of (RawRenamed raw.now))) }
-    ensures refused { IfErr result (IsRefused (change_of (RawRenamed raw.now))) }
+/// Takes the words of a rename. `None` where other words come.
+fn take_rename(words: &mut Words) -> Option<Change>
+    ensures verb { IfSome result (λ c. (change_said c).verb ≡ ChangeVerb.Rename) }
+    ensures words { IfSome result (λ c.
+        left_of words.old ≡ (change_said c).values ++ left_of words.new) }
 {
-    let old_ = Name::new(alloc, raw.old_)?;
-    let new_ = Name::new(alloc, raw.new_)?;
-    let from_ = file_id(raw.from_)?;
-    let to_ = file_id(raw.to_)?;
-    let file = file_id(raw.file)?;
-    Ok(Change::Do(Op::Rename(Rename {
+    let from_ = words.take_file()?;
+    let old_ = words.take_name()?;
+    let to_ = words.take_file()?;
+    let new_ = words.take_name()?;
+    let file = words.take_file()?;
+    Some(Change::Do(Op::Rename(Rename {
         from_,
         old_,
         to_,
@@ -173,8 +215,27 @@ fn check_rename(alloc: Global, raw: &RawRename<'_>) -> Result<Change, Refusal>
     })))
 }
 
+/// Takes the words of a question. `None` where other words come.
+fn take_question(verb: QuestionVerb, words: &mut Words) -> Option<Question>
+    ensures verb { IfSome result (λ q. (question_said q).verb ≡ verb) }
+    ensures words { IfSome result (λ q.
+        left_of words.old ≡ (question_said q).values ++ left_of words.new) }
+{
+    match verb {
+        QuestionVerb::List => Some(Question::List(words.take_file()?)),
+        QuestionVerb::Read => {
+            let file = words.take_file()?;
+            let off = words.take_number()?;
+            let len = words.take_number()?;
+            Some(Question::Read(file, off, len))
+        }
+        QuestionVerb::Describe => Some(Question::Describe(words.take_file()?)),
+        QuestionVerb::Handle => Some(Question::Handle(words.take_principal()?)),
+    }
+}
+
 /// Checks the numbers of a file id. Refuses one outside its range by `BadNumber`.
-fn file_id(raw: RawFile) -> Result<FileId, Refusal>
+pub(crate) fn file_id(raw: RawFile) -> Result<FileId, Refusal>
     ensures value { IfOk result (λ f. (f ≡ file_of raw) × (is_file_id f ≡ true)) }
     ensures refused { IfErr result (λ e. (e ≡ BadNumber) × (is_file_id (file_of raw) ≡ false)) }
 {
@@ -186,7 +247,7 @@ fn file_id(raw: RawFile) -> Result<FileId, Refusal>
 }
 
 /// Checks the number of a user or a group. Refuses one outside its range by `BadNumber`.
-fn principal_id(raw: RawPrincipal) -> Result<Principal, Refusal>
+pub(crate) fn principal_id(raw: RawPrincipal) -> Result<Principal, Refusal>
     ensures value { IfOk result (λ p. (p ≡ principal_of raw) × (is_principal p ≡ true)) }
     ensures refused { IfErr result (λ e.
         (e ≡ BadNumber) × (is_principal (principal_of raw) ≡ false)) }

@@ -6,7 +6,6 @@ use Rattle.su_bytes.specs.Membership.{Membership, has_user}
 use Rattle.su_bytes.specs.declared.refusals.Refusal.TheVariants.{NotAuthor}
 use Rattle.su_table.specs.Tree.{Tree, genesis}
 use Rattle.su_op.specs.declared.operations.Op.{Op}
-use Rattle.su_op.specs.declared.operations.Op.TheVariants.{Create, Unlink, Write, Truncate, Take, Link, Rename}
 use Rattle.su_op.specs.Rule.{Plan}
 use Rattle.su_op.specs.Operation.{rule_of, why}
 use Rattle.su_op.proofs.Public.{Gives, gives_of, none_is}
@@ -24,13 +23,7 @@ use Rattle.su_desk.proofs.Replays.{Replayed, HasTree, tree_replayed, split_live,
 -- ---- who did an accepted operation belongs to the roster
 
 author_demanded : (ro : Membership) (T : Tree) (a : ℕ) (op : Op) (p : Plan) → Gives (rule_of ro T a op) p → has_user ro a ≡ true
-author_demanded ro T a (Create c) p (user, rest) = user
-author_demanded ro T a (Unlink u) p (user, rest) = user
-author_demanded ro T a (Write w) p (user, rest) = user
-author_demanded ro T a (Truncate t) p (user, rest) = user
-author_demanded ro T a (Take t) p (user, rest) = user
-author_demanded ro T a (Link l) p (user, rest) = user
-author_demanded ro T a (Rename r) p (user, rest) = user
+author_demanded ro T a op p (user, rest) = user
 
 author_known : (ro : Membership) (T : Tree) (a : ℕ) (op : Op) → why ro T a op ≡ None → has_user ro a ≡ true
 unfolding why

@@ -24,8 +24,8 @@ undone_refusal n (Some by) = Some (AlreadyUndone n by)
 
 -- why entry n, which made that change, is no live operation
 abbrev pub change_refusal : List Entry → ℕ → Change → Option Refusal
-change_refusal h n (Undo m) = Some (NotOperation n)
 change_refusal h n (Do op) = undone_refusal n (undoer h n)
+change_refusal h n _ = Some (NotOperation n)
 
 -- the same where there may be no such entry
 abbrev pub entry_refusal : List Entry → ℕ → Option Entry → Option Refusal

@@ -6,7 +6,7 @@ use Rattle.su_bytes.specs.Membership.{Membership}
 use Rattle.su_table.specs.Tree.{Tree, genesis}
 use Rattle.su_op.specs.declared.areas.Area.{Area}
 use Rattle.su_op.specs.declared.operations.Change.{Change}
-use Rattle.su_op.specs.declared.operations.Change.TheVariants.{Do, Undo}
+use Rattle.su_op.specs.declared.operations.Change.TheVariants.{Do}
 use Rattle.su_op.specs.Operation.{reads, writes}
 use Rattle.su_op.specs.Store.{store}
 use Rattle.su_undo.specs.System.{Agree, GoesAlike}
@@ -32,7 +32,7 @@ writes_where_applied ro h t = writes ro (tree_before ro h t.number) t.action.aut
 -- what a change by user a writes in T: an undo nothing of its own
 abbrev pub change_writes : Membership → Tree → ℕ → Change → List Area
 change_writes ro T a (Do op) = writes ro T a op
-change_writes ro T a (Undo m) = []
+change_writes ro T a _ = []
 
 -- the same of an entry, if there is one
 abbrev pub entry_writes : Membership → Tree → Option Entry → List Area

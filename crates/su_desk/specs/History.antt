@@ -31,7 +31,7 @@ undo_by a n = entry_by a (Undo n)
 -- the operation of entry n by user a, if its change is one
 abbrev pub operation_of : ℕ → ℕ → Change → List NumberedAction
 operation_of n a (Do op) = record { number = n; action = record { author = a; op = op } } ∷ []
-operation_of n a (Undo m) = []
+operation_of n a _ = []
 
 -- the operations among entries of which the first has number n
 abbrev pub operations_from : ℕ → List Entry → List NumberedAction
@@ -40,8 +40,8 @@ operations_from n (e ∷ es) = operation_of n e.author e.change ++ operations_fr
 
 -- the change is the undo of n
 abbrev pub undoes : ℕ → Change → Bool
-undoes n (Do op) = false
 undoes n (Undo m) = nat_eq n m
+undoes n _ = false
 
 -- an undo names entry n
 abbrev pub is_undone : List Entry → ℕ → Bool

@@ -20,8 +20,8 @@ impl Entry {
         ensures { result ≡ undoes number self.now.change }
     {
         match self.change {
-            Change::Do(_) => false,
             Change::Undo(undone) => number == undone,
+            _ => false,
         }
     }
 }

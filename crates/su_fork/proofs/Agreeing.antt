@@ -3,6 +3,7 @@ use Rattle.std.proofs.Common.{◌≡◌, ℕ, ◌+◌, ◌-◌, List, [], ◌∷
 use Rattle.su_bytes.specs.Membership.{Membership}
 use Rattle.su_version.specs.Version.{Version}
 use Rattle.su_version.specs.Commit.{Commit}
+use Rattle.su_version.proofs.Public.{next_prev}
 use Rattle.su_legal.specs.Legal.{Committed, MayJoin}
 use Rattle.su_fork.specs.Numbered.{at}
 use Rattle.su_fork.specs.Premises.{hashed, NoCollision}
@@ -25,7 +26,7 @@ shared_before ro cs apart xs ys hx hy m n c d ec ed is =
     let b = placed ro ys n d hy.legal ed in
     let before = same_head (hashed ro cs) ro apart (roster_within ro cs)
     (take (m - 1) xs) a.legal (front_within (hashed ro cs) xs m c (within_seen ro cs xs hx) ec) (take (n - 1) ys) b.legal (front_within (hashed ro cs) ys n d (within_seen ro cs ys hy) ed)
-    (sym a.joins.next.prev ∙ ap (λ (x : Version). x.prev) is ∙ b.joins.next.prev) in
+    (sym (next_prev ro _ c.commit a.joins.next) ∙ ap (λ (x : Version). x.prev) is ∙ next_prev ro _ d.commit b.joins.next) in
     let sm = split xs m c ec in
     let sn = split ys n d ed in
     (number_from (length (take (m - 1) xs)) m n sm.number (ap (λ l. length l + 1) before ∙ sn.number), before)
@@ -44,4 +45,4 @@ pub one_place : (ro : Membership) (cs : List Committed) → NoCollision (hashed 
     → MayJoin ro ys c → ys ≡ take (n - 1) xs
 one_place ro cs apart xs ys hx hy n c e f =
     let a = placed ro xs n c hx.legal e in
-    same_head (hashed ro cs) ro apart (roster_within ro cs) ys hy.legal (within_seen ro cs ys hy) (take (n - 1) xs) a.legal (front_within (hashed ro cs) xs n c (within_seen ro cs xs hx) e) (sym f.next.prev ∙ a.joins.next.prev)
+    same_head (hashed ro cs) ro apart (roster_within ro cs) ys hy.legal (within_seen ro cs ys hy) (take (n - 1) xs) a.legal (front_within (hashed ro cs) xs n c (within_seen ro cs xs hx) e) (sym (next_prev ro _ c.commit f.next) ∙ next_prev ro _ c.commit a.joins.next)

@@ -1,9 +1,13 @@
 -- What is signed stands after the list that the signer held; so forks never join.
-use Rattle.std.proofs.Common.{◌≡◌, ℕ, ◌-◌, ◌<◌, ◌≤◌, ◌⊎◌, Bool, true, false, nat_le, List, [], ◌∷◌, ◌++◌, take, Some, refl, sym, ap, ◌∙◌, subst, arith, inl, inr, append_assoc, append-nil}
+use Rattle.std.proofs.Common.{◌≡◌, ℕ, ◌-◌, ◌<◌, ◌≤◌, ◌⊎◌, Bool, true, false, nat_le, List, [], ◌∷◌, ◌++◌, take, Some, None, Option, refl, sym, ap, ◌∙◌, subst, arith, inl, inr, append_assoc, append-nil}
 use Rattle.std.specs.List.{Contains}
 use Rattle.std.proofs.lemmas.Bool.{leb-true, leb-false}
 use Rattle.su_bytes.specs.RosterBytes.{user_key}
-use Rattle.su_version.specs.Version.{Version}
+use Rattle.su_lms.specs.Signature.{IsSigned}
+use Rattle.su_version.specs.Version.{Version, version_bytes}
+use Rattle.su_version.specs.Commit.{Commit}
+use Rattle.su_version.specs.Chain.{IsSignedBy}
+use Rattle.su_version.proofs.Public.{next_prev, next_signed}
 use Rattle.su_legal.specs.Legal.{Committed, author_of}
 use Rattle.su_fork.specs.Numbered.{at}
 use Rattle.su_fork.specs.Events.{World, Event, signing, list_of, all_taken, versions_of, Run}
@@ -21,6 +25,11 @@ le_or_lt m n = go (nat_le m n) refl
     go true is = inl (leb-true m n is)
     go false is = inr (leb-false m n is)
 
+-- who has signed has a key
+own_key : (o : Option (List ℕ)) (c : Commit) → IsSignedBy o c → (key : List ℕ) × (o ≡ Some key) × IsSigned key (version_bytes c.version) c.signature
+own_key None c signed = absurd signed
+own_key (Some key) c signed = (key, refl, signed)
+
 module _ (w : World) (es : List Event) (run : Run w es) (cs : List Committed) (all : (c : Committed) → Contains (all_taken es) c → Contains cs c)
     (apart : NoCollision (hashed w.roster cs)) where
   pub held_seen : (before after : List Event) (k : ℕ) → es ≡ before ++ after → IsSeen w.roster cs (list_of k before)
@@ -35,7 +44,7 @@ module _ (w : World) (es : List Event) (run : Run w es) (cs : List Committed) (a
       let b = placed w.roster ys n c hy.legal e in
       sym s.holding ∙ same_head (hashed w.roster cs) w.roster apart (roster_within w.roster cs)
       (list_of k s.before) hx.legal (within_seen w.roster cs (list_of k s.before) hx) (take (n - 1) ys) b.legal (front_within (hashed w.roster cs) ys n c (within_seen w.roster cs ys hy) e)
-      (sym came_then.may.1 ∙ ap (λ (x : Version). x.prev) (sym is) ∙ b.joins.next.prev)
+      (sym came_then.may.1 ∙ ap (λ (x : Version). x.prev) (sym is) ∙ next_prev w.roster _ c.commit b.joins.next)
 
   pub not_joined : (k : ℕ) (ys : List Committed) → IsSeen w.roster cs ys → NotJoined es k ys
   not_joined k ys hy v mine n s fork m c e is =
@@ -64,7 +73,8 @@ module _ (w : World) (es : List Event) (run : Run w es) (cs : List Committed) (a
     pub was_signed : (u : ℕ) (ys : List Committed) → IsSeen w.roster cs ys → (n : ℕ) (c : Committed) → w.honest u ≡ true → at ys n ≡ Some c → author_of c ≡ u → SignedIn w es u c.commit.version
     was_signed u ys hy n c h e by =
         let b = placed w.roster ys n c hy.legal e in
-        let s = honestly.signed c (user_key w.roster (author_of c)) (ap w.honest by ∙ h) (hy.among c (at_contains ys n c e)) refl b.joins.next.by_author.signed in
+        let (key, is, signed) = own_key (user_key w.roster (author_of c)) c.commit (next_signed w.roster _ c.commit b.joins.next) in
+        let s = honestly.signed c key (ap w.honest by ∙ h) (hy.among c (at_contains ys n c e)) is signed in
         signed_in w u es c.commit.version (subst (λ a. Contains (versions_of w a es) c.commit.version) by s)
 
     pub as_made : (u : ℕ) (ys : List Committed) → IsSeen w.roster cs ys → w.honest u ≡ true → AsMade w es u ys

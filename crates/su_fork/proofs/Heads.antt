@@ -6,6 +6,7 @@ use Rattle.su_bytes.specs.Membership.{Membership}
 use Rattle.su_bytes.specs.RosterBytes.{roster_bytes, roster_digest}
 use Rattle.su_change.specs.Item.{item_bytes, change_digest}
 use Rattle.su_version.specs.Commit.{Commit, commit_bytes, commit_digest}
+use Rattle.su_version.proofs.Public.{next_prev}
 use Rattle.su_legal.specs.Legal.{Committed, head_of, MayJoin, Legal}
 use Rattle.su_legal.proofs.Public.{from_the_end, is_in_middle, legal_front, legal_next, head_none, head_last}
 use Rattle.su_fork.specs.Numbered.{at}
@@ -87,5 +88,5 @@ module _ (strings : List (List ℕ)) (ro : Membership) (apart : NoCollision stri
               let commit = same_commit strings ro xs end.front c end.last apart (w.commits c (is_in_middle xs [] c)) (v2.commits end.last (is_in_middle end.front [] end.last)) fc fd digest in
               let both = same_committed strings ro xs end.front c end.last apart (w.changes c (is_in_middle xs [] c)) (v2.changes end.last (is_in_middle end.front [] end.last)) fc fd commit in
               let before = same (legal_front ro xs (c ∷ []) l) (within_front strings xs (c ∷ []) w) end.front (legal_front ro end.front (end.last ∷ []) m2) (within_front strings end.front (end.last ∷ []) v2)
-              (sym fc.next.prev ∙ ap (λ (x : Commit). x.version.prev) commit ∙ fd.next.prev) in
+              (sym (next_prev ro _ c.commit fc.next) ∙ ap (λ (x : Commit). x.version.prev) commit ∙ next_prev ro _ end.last.commit fd.next) in
               (λ i. before i ++ both i ∷ []) ∙ sym end.whole

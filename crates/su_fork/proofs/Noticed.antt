@@ -11,6 +11,7 @@ use Rattle.std.proofs.lemmas.Bool.{eqb-true}
 use Rattle.su_bytes.specs.Membership.{Membership, has_user}
 use Rattle.su_vector.specs.Vector.{le}
 use Rattle.su_version.specs.Commit.{Commit}
+use Rattle.su_version.proofs.Public.{next_user}
 use Rattle.su_legal.specs.Legal.{Committed, author_of}
 use Rattle.su_legal.proofs.Public.{only_in}
 use Rattle.su_view.specs.LastCommits.{last_by, own_last, is_by, IsNotBehind, ShowsOwn, ShowsLast}
@@ -123,7 +124,7 @@ module _ (w : World) (es : List Event) (run : Run w es) (cs : List Committed) (a
           let low = at_get ys n c ec in
           let long = length-take (n - 1) ys in
           let p = placed ro ys n c hy.legal ec in
-          let there : has_user ro u ≡ true = subst (λ a. has_user ro a ≡ true) byc p.joins.next.by_author.author in
+          let there : has_user ro u ≡ true = subst (λ a. has_user ro a ≡ true) byc (next_user ro _ c.commit p.joins.next) in
           let number_c = number_counts ro ys n c u hy.legal ec there in
           let number_l = number_counts ro (list_of k es) m l u mine_held.legal el there in
           let shown : nb.number ≡ count ro u (take n ys) = some_number nb.number (count ro u (take n ys)) (sym nb.has ∙ number_c) in
@@ -186,7 +187,7 @@ module _ (w : World) (es : List Event) (run : Run w es) (cs : List Committed) (a
       decide false is = refl
       decide true is =
           let p = placed ro (list_of k es) m c mine_held.legal ec in
-          let there : has_user ro u ≡ true = subst (λ a. has_user ro a ≡ true) byc p.joins.next.by_author.author in
+          let there : has_user ro u ≡ true = subst (λ a. has_user ro a ≡ true) byc (next_user ro _ c.commit p.joins.next) in
           let number_c = number_counts ro (list_of k es) m c u mine_held.legal ec there in
           let number_d = number_counts ro ys n d u hy.legal ed there in
           let no_lower = le_number ro.users c.commit.version.vector d.commit.version.vector u (count ro u (take m (list_of k es))) (count ro u (take n ys)) is number_c number_d in

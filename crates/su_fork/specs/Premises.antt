@@ -1,7 +1,7 @@
 -- What the laws on forks suppose, of the commits that clients took, and of those that they are shown.
 -- Of all byte strings it couldn't be said, as SHA-256 has collisions, and under each key that was
 -- made every message has a signature.
-use Rattle.std.specs.Prelude.{◌≡◌, ℕ, true, List, [], ◌∷◌}
+use Rattle.std.specs.Prelude.{◌≡◌, ℕ, true, List, [], ◌∷◌, Some}
 use Rattle.std.specs.List.{flat_map, Contains}
 use Rattle.sha2.specs.Sha256.{sha256}
 use Rattle.su_bytes.specs.Membership.{Membership}
@@ -33,7 +33,7 @@ pub record NoCollision (strings : List (List ℕ)) : Type 0 where
 -- The keys under which user u's own clients sign. (Today the roster's alone; a user who changes keys
 -- will have each that the user signed as the next one.)
 abbrev pub IsOwnKey : World → List Event → ℕ → List ℕ → Type 0
-IsOwnKey w es u key = key ≡ user_key w.roster u
+IsOwnKey w es u key = user_key w.roster u ≡ Some key
 
 -- What is among these commits as signed by an honest user, under a key of the user's own, a client of
 -- the user signed in these events.

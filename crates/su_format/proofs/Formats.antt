@@ -1,6 +1,7 @@
 -- What holds of formats: parts in order, each with one spelling that begins no other.
 use Rattle.std.proofs.Common.{◌≡◌, ℕ, ◌+◌, ◌<◌, ◌≤◌, inl, inr, ◌-◌, List, ◌++◌, length, take, drop, refl, sym, ◌∙◌, ap, subst, arith}
-use Rattle.std.specs.Prelude.{Result, Ok, Err}
+use Rattle.std.specs.Prelude.{Result, Ok, Err, IsErrAnd}
+use Rattle.std.proofs.lemmas.Result.{err_from_is_err_and}
 use Rattle.std.proofs.lemmas.List.{length-append, length-take-le, length-drop, take-append-drop}
 use Rattle.su_bytes.specs.declared.refusals.Refusal.{Refusal}
 use Rattle.su_bytes.specs.declared.refusals.Refusal.TheVariants.{Malformed}
@@ -108,6 +109,14 @@ module _ {A B : Type 0} (f : Format A) (g : A → Format B) where
         apart = apart;
         one_place = place;
       }
+
+-- what `?` hands on
+pub handed_on_to : {T E : Type 0} (P : Result T E → Type 0) (r : Result T E) (e : E) → IsErrAnd r (λ x. x ≡ e) → P (Err e) → P r
+handed_on_to P r e is holds = let p = err_from_is_err_and r is in rw (p.1, p.2) holds
+
+-- a refusal that it hands on
+pub handed_on : {A : Type 0} {f : Format A} {old : Reading} {e : Refusal} (new : Reading) (r : Result A Refusal) → IsErrAnd r (λ x. x ≡ e) → Refuses f old e → Takes f old r new
+handed_on {f} {old} {e} new r is refused = handed_on_to (λ x. Takes f old x new) r e is refused
 
 -- the value is made of what was taken
 pub made : {A : Type 0} (old : Reading) (a : A) → Takes (making a) old (Ok a) old

@@ -4,8 +4,6 @@
 
 mod counts;
 mod nodes;
-#[cfg(test)]
-mod tests;
 mod trees;
 
 pub use trees::HashTree;

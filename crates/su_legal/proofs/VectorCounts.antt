@@ -17,6 +17,7 @@ use Rattle.su_desk.specs.Version.{cells_of, carries, carried_groups, raises, rai
 use Rattle.su_desk.proofs.VersionNumbers.{versions-append}
 use Rattle.su_vector.specs.Vector.{zeros, concerns, numbers_after, bump}
 use Rattle.su_version.specs.Chain.{last_vector, chain_vector}
+use Rattle.su_version.proofs.Public.{next_counts}
 use Rattle.su_legal.specs.Legal.{Committed, commits_of, author_of, history, vector_of, group_handles, MayJoin, LegalAfter, Legal}
 use Rattle.su_legal.proofs.Lists.{found_split, from_the_end, none_in_empty, only_in, is_in_middle}
 use Rattle.su_legal.proofs.LegalLists.{legal_front, legal_next}
@@ -157,7 +158,7 @@ vector_counts ro = from_the_end (Counts ro) (λ l. zeros_count ro (principals ro
     step : (cs : List Committed) (c : Committed) → Counts ro cs → Counts ro (cs ++ c ∷ [])
     step cs c ih l =
         let f = legal_next ro cs [] c l in
-        vector_last ro cs c ∙ f.next.counts.vector_is
+        vector_last ro cs c ∙ (next_counts ro (commits_of cs) c.commit f.next).vector_is
         ∙ (λ i. bump ro (ih (legal_front ro cs (c ∷ []) l) i) (author_of c) (carried_listed ro cs c f i))
         ∙ bump_counts ro (history cs) (author_of c) c.change
         ∙ ap (λ h. map (λ (v : Principal × ℕ). v.1) (versions ro h)) (sym (map-append (λ c. entry_by (author_of c) c.change) cs (c ∷ [])))

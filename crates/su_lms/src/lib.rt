@@ -20,6 +20,3 @@ pub use parameters::Params;
 pub use public_keys::PublicKey;
 pub use signers::Signer;
 pub use stores::{KeyStore, NoStore};
-
-#[cfg(test)]
-mod tests;

@@ -6,7 +6,8 @@ use Rattle.su_version.specs.Commit.{Commit}
 use Rattle.su_table.specs.Query.{listing, contents_within}
 use Rattle.su_plan.specs.Plan.{found}
 use Rattle.su_view.specs.Holding.{HoldingState, tree_of_list}
-use Rattle.su_view.specs.LastCommits.{own_last, Passes}
+use Rattle.su_view.specs.LastCommits.{own_last, shown_order}
+use Rattle.su_bytes.specs.Order.{Passes}
 
 -- what it holds, and which leaf of its key signs next
 pub record MemberState : Type 0 where
@@ -15,7 +16,7 @@ pub record MemberState : Type 0 where
 
 -- Some commits were shown as the users' last ones, and passed. (SUNDR, section 3.3.)
 abbrev pub ShownPasses : HoldingState → Type 0
-ShownPasses v = (shown : List Commit) × Passes v.roster v.user (own_last v) shown
+ShownPasses v = (shown : List Commit) × Passes (shown_order v.roster v.user (own_last v) shown)
 
 -- the path leads to a directory of the list's tree, which has these names
 abbrev pub Lists : HoldingState → List ℕ → List (Name × FileId) → Type 0

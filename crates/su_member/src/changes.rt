@@ -19,7 +19,7 @@ use su_bytes::Refusal;
 use su_lms::KeyStore;
 use su_op::{Change, Op};
 use su_plan::Command;
-use su_version::Commit;
+use su_version::{Commit, Verdict};
 use su_view::ViewRefusal;
 
 impl<R: Read + Drop, W: Write + Drop, K: KeyStore + Drop> Member<R, W, K> {
@@ -102,8 +102,11 @@ impl<R: Read + Drop, W: Write + Drop, K: KeyStore + Drop> Member<R, W, K> {
             → IfOk result (IsPublished self.old.holding change leaf self.new.holding) }
     {
         let bytes = commit.encode(self.alloc)?;
-        let by_author = self.view.roster().has_user(self.view.user());
-        self.view.accept_known(commit, bytes.as_slice(), by_author)?;
+        let verdict = Verdict {
+            key: self.view.key(self.view.user()),
+            is_signed: true,
+        };
+        self.view.accept_known(commit, bytes.as_slice(), verdict)?;
         let (number, _) = self.view.head();
         Ok(number)
     }

@@ -16,7 +16,7 @@ use su_bytes::{Refusal, User};
 use su_client::Client;
 use su_lms::{KeyStore, Signer};
 use su_message::LastNumbers;
-use su_version::Commit;
+use su_version::{Commit, Verdict};
 use su_view::{View, ViewRefusal};
 
 /// How many milliseconds a client waits before it asks again for a turn that another has.
@@ -209,7 +209,11 @@ impl<R: Read + Drop, W: Write + Drop, K: KeyStore + Drop> Member<R, W, K> {
         let _version = commit.version();
         let bytes = commit.encode(self.alloc)?;
         let copy = Commit::decode(self.alloc, bytes.as_slice())?;
-        self.view.accept_known(copy, bytes.as_slice(), true)
+        let verdict = Verdict {
+            key: self.view.key(commit.version().author()),
+            is_signed: true,
+        };
+        self.view.accept_known(copy, bytes.as_slice(), verdict)
     }
 
     /// Fetches the commit of that number, and takes it.

@@ -28,16 +28,16 @@ use Rattle.su_op.proofs.RuleLemmas.{PlanMakesNew}
 
 module _ (ro : Membership) (a : ℕ) (c : Create) where
   pub create_local : (T T' : Tree) (p : Plan) → Gives (create_rule ro T a c) p → AgreeOn (plan_reads p) T T' → Gives (create_rule ro T' a c) p
-  create_local T T' p (user, (own, (touch, (touch', (d, at, (is, (holder, (free, (new, plan))))))))) agree =
+  create_local T T' p (own, (touch, (touch', (d, at, (is, (holder, (free, (new, plan)))))))) agree =
       let all : AgreeOn (plan_reads (create_plan a c d)) T T' = subst (λ p. AgreeOn (plan_reads p) T T') (sym plan) agree in
       let reads : AgreeOn (file_areas c.dir d) T T' = left (file_areas c.dir d) _ all in
       let w1 : AgreeOn (InodeArea d (NamePart c.name) ∷ InodeArea (a, c.body) KindPart ∷ InodeArea (a, c.body) LinksPart ∷ InodeArea (a, c.body) SizePart ∷ edits_areas (pointer_edits c.file (Some (a, c.body)))) T T' = right (file_areas c.dir d) _ all in
       let w2 = later w1 in
       let free' = ap (λ b. b && is_nothing (val T' (At (a, c.body) KindOf))) (is_pointer_free_same c.file (Some (a, c.body)) (later (later (later w2)))) ∙ ap (λ v. is_pointer_free T c.file && is_nothing v) (kind_same w2) ∙ free in
-      (user, (own, (touch, (touch', (d, body_same c.dir d at reads, (ap is_dir_kind (kind_same reads) ∙ is, (holder, (free', (ap is_nothing (name_same w1) ∙ new, plan)))))))))
+      (own, (touch, (touch', (d, body_same c.dir d at reads, (ap is_dir_kind (kind_same reads) ∙ is, (holder, (free', (ap is_nothing (name_same w1) ∙ new, plan))))))))
 
   pub create_can : (T : Tree) (p : Plan) → Sound T → Gives (create_rule ro T a c) p → CanEdits T p.edits
-  create_can T p sound (user, (own, (touch, (touch', (d, at, (is, (holder, (free, (new, plan))))))))) =
+  create_can T p sound (own, (touch, (touch', (d, at, (is, (holder, (free, (new, plan)))))))) =
       let dir! : IsA Dir (get T.inodes d) = IsA_dir T d is in
       let (_, nothing) = and_parts (is_pointer_free T c.file) _ free in
       let empty : val T (At (a, c.body) KindOf) ≡ Nothing = nothing_is _ nothing in
@@ -51,7 +51,7 @@ module _ (ro : Membership) (a : ℕ) (c : Create) where
       )
 
 pub create_new : (ro : Membership) (T : Tree) (a : ℕ) (c : Create) (p : Plan) → Gives (create_rule ro T a c) p → PlanMakesNew T p
-create_new ro T a c p (user, (own, (touch, (touch', (d, at, (is, (holder, (free, (new, plan))))))))) =
+create_new ro T a c p (own, (touch, (touch', (d, at, (is, (holder, (free, (new, plan)))))))) =
     let (_, nothing) = and_parts (is_pointer_free T c.file) _ free in
     subst (PlanMakesNew T) plan (nothing, pointers_make_none T c.file _)
 

@@ -25,17 +25,17 @@ use Rattle.std.proofs.lemmas.Bool.{ltb-true}
 
 module _ (ro : Membership) (a : ℕ) (l : Link) where
   pub link_local : (T T' : Tree) (p : Plan) → Gives (link_rule ro T a l) p → AgreeOn (plan_reads p) T T' → Gives (link_rule ro T' a l) p
-  link_local T T' p (user, (touch, (touch', (d, at, (f, at_f, (is, (is_f, (holder, (holder', (new, (room, plan))))))))))) agree =
+  link_local T T' p (touch, (touch', (d, at, (f, at_f, (is, (is_f, (holder, (holder', (new, (room, plan)))))))))) agree =
       let all : AgreeOn (plan_reads (link_plan (links_at T f) l d f)) T T' = subst (λ p. AgreeOn (plan_reads p) T T') (sym plan) agree in
       let reads = left (file_areas l.dir d ++ file_areas l.file f) _ all in
       let reads_d : AgreeOn (file_areas l.dir d) T T' = left (file_areas l.dir d) _ reads in
       let reads_f : AgreeOn (file_areas l.file f) T T' = right (file_areas l.dir d) _ reads in
       let w : AgreeOn (InodeArea d (NamePart l.name) ∷ InodeArea f LinksPart ∷ []) T T' = right (file_areas l.dir d ++ file_areas l.file f) _ all in
       let links : val T' (At f LinksOf) ≡ val T (At f LinksOf) = links_same (later w) in
-      (user, (touch, (touch', (d, body_same l.dir d at reads_d, (f, body_same l.file f at_f reads_f, (ap is_dir_kind (kind_same reads_d) ∙ is, (ap is_file_kind (kind_same reads_f) ∙ is_f, (holder, (holder', (ap is_nothing (name_same w) ∙ new, (ap (λ v. nat_lt (value_number v) most_links) links ∙ room, ap (λ v. link_plan (value_number v) l d f) links ∙ plan)))))))))))
+      (touch, (touch', (d, body_same l.dir d at reads_d, (f, body_same l.file f at_f reads_f, (ap is_dir_kind (kind_same reads_d) ∙ is, (ap is_file_kind (kind_same reads_f) ∙ is_f, (holder, (holder', (ap is_nothing (name_same w) ∙ new, (ap (λ v. nat_lt (value_number v) most_links) links ∙ room, ap (λ v. link_plan (value_number v) l d f) links ∙ plan))))))))))
 
   pub link_can : (T : Tree) (p : Plan) → Sound T → Gives (link_rule ro T a l) p → CanEdits T p.edits
-  link_can T p sound (user, (touch, (touch', (d, at, (f, at_f, (is, (is_f, (holder, (holder', (new, (room, plan))))))))))) =
+  link_can T p sound (touch, (touch', (d, at, (f, at_f, (is, (is_f, (holder, (holder', (new, (room, plan)))))))))) =
       let dir! : IsA Dir (get T.inodes d) = IsA_dir T d is in
       let few : links_at T f < most_links = ltb-true (links_at T f) most_links room in
       let file! : IsA File (get (edit T (Inodes d (Named l.name (Some l.file)))).inodes f) = IsA_file (edit T (Inodes d (Named l.name (Some l.file)))) f (ap is_file_kind (kind_after_name T d l.name (Some l.file) f dir!) ∙ is_f) in

@@ -40,7 +40,7 @@ module _ (T T' : Tree) (file : FileId) where
 
 module _ (ro : Membership) (a : ℕ) (r : Rename) where
   pub rename_local : (T T' : Tree) (p : Plan) → Gives (rename_rule ro T a r) p → AgreeOn (plan_reads p) T T' → Gives (rename_rule ro T' a r) p
-  rename_local T T' p (user, (touch, (touch', (d, at_d, (t, at_t, (found, (dir_d, (dir_t, (holder_d, (holder_t, (named, (new, (stay, plan))))))))))))) agree =
+  rename_local T T' p (touch, (touch', (d, at_d, (t, at_t, (found, (dir_d, (dir_t, (holder_d, (holder_t, (named, (new, (stay, plan)))))))))))) agree =
       let m : Option Place = moved T r in
       let all : AgreeOn (plan_reads (rename_plan m r d t)) T T' = subst (λ p. AgreeOn (plan_reads p) T T') (sym plan) agree in
       let reads : AgreeOn (file_areas r.from_ d ++ file_areas r.to_ t ++ moved_areas r.file m) T T' = left (file_areas r.from_ d ++ file_areas r.to_ t ++ moved_areas r.file m) _ all in
@@ -50,29 +50,26 @@ module _ (ro : Membership) (a : ℕ) (r : Rename) where
       let reads_m : AgreeOn (moved_areas r.file m) T T' = right (file_areas r.from_ d ++ file_areas r.to_ t) _ reads in
       let w : AgreeOn (InodeArea t (NamePart r.new_) ∷ InodeArea d (NamePart r.old_) ∷ []) T T' = right (file_areas r.from_ d ++ file_areas r.to_ t ++ moved_areas r.file m) _ all in
       let same : moved T' r ≡ m = found_same T T' r.file (stays r) found reads_m in (
-        user,
+        touch,
         (
-          touch,
+          touch',
           (
-            touch',
+            d,
+            body_same r.from_ d at_d reads_d,
             (
-              d,
-              body_same r.from_ d at_d reads_d,
+              t,
+              body_same r.to_ t at_t reads_t,
               (
-                t,
-                body_same r.to_ t at_t reads_t,
+                ap (λ o. stays r || is_some o) same ∙ found,
                 (
-                  ap (λ o. stays r || is_some o) same ∙ found,
+                  ap is_dir_kind (kind_same reads_d) ∙ dir_d,
                   (
-                    ap is_dir_kind (kind_same reads_d) ∙ dir_d,
+                    ap is_dir_kind (kind_same reads_t) ∙ dir_t,
                     (
-                      ap is_dir_kind (kind_same reads_t) ∙ dir_t,
+                      holder_d,
                       (
-                        holder_d,
-                        (
-                          holder_t,
-                          (ap (λ v. is_link_to v r.file) (name_same (later w)) ∙ named, (ap is_nothing (name_same w) ∙ new, (ap (λ o. not (moves_directory T' o)) same ∙ ap not (moves_same T T' r.file m reads_m) ∙ stay, ap (λ o. rename_plan o r d t) same ∙ plan))),
-                        ),
+                        holder_t,
+                        (ap (λ v. is_link_to v r.file) (name_same (later w)) ∙ named, (ap is_nothing (name_same w) ∙ new, (ap (λ o. not (moves_directory T' o)) same ∙ ap not (moves_same T T' r.file m reads_m) ∙ stay, ap (λ o. rename_plan o r d t) same ∙ plan))),
                       ),
                     ),
                   ),
@@ -84,7 +81,7 @@ module _ (ro : Membership) (a : ℕ) (r : Rename) where
       )
 
   pub rename_can : (T : Tree) (p : Plan) → Gives (rename_rule ro T a r) p → CanEdits T p.edits
-  rename_can T p (user, (touch, (touch', (d, at_d, (t, at_t, (found, (dir_d, (dir_t, (holder_d, (holder_t, (named, (new, (stay, plan))))))))))))) =
+  rename_can T p (touch, (touch', (d, at_d, (t, at_t, (found, (dir_d, (dir_t, (holder_d, (holder_t, (named, (new, (stay, plan)))))))))))) =
       let target! : IsA Dir (get T.inodes t) = IsA_dir T t dir_t in
       let named : Tree = edit T (Inodes t (Named r.new_ (Some r.file))) in
       let source! : IsA Dir (get named.inodes d) = IsA_dir named d (ap is_dir_kind (kind_after_name T t r.new_ (Some r.file) d target!) ∙ dir_d) in

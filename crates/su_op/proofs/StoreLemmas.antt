@@ -16,7 +16,7 @@ use Rattle.su_op.specs.declared.operations.Op.{Op}
 use Rattle.su_op.specs.declared.operations.Op.TheVariants.{Create, Unlink, Write, Truncate, Take, Link, Rename}
 use Rattle.su_op.specs.Area.{in_area, has}
 use Rattle.su_op.specs.Rule.{Plan, refusal, plan_of, plan_reads, plan_writes}
-use Rattle.su_op.specs.Operation.{rule_of, Row, why, effect, reads, writes}
+use Rattle.su_op.specs.Operation.{rule_by_user, rule_of, Row, why, effect, reads, writes}
 use Rattle.su_op.specs.Soundness.{WellLinked, IsBodyOf, Sound}
 use Rattle.su_undo.specs.System.{LeavesOthers, IsLocal, Lawful}
 use Rattle.su_op.specs.Store.{Action, store}
@@ -43,32 +43,43 @@ use Rattle.std.proofs.lemmas.Bool.{or_right}
 
 -- ---- by cases over the operations
 
+local_by_user : (ro : Membership) (a : ℕ) (x : Op) (T T' : Tree) (p : Plan) → Sound T → Gives (rule_by_user ro T a x) p → AgreeOn (plan_reads p) T T' → Gives (rule_by_user ro T' a x) p
+local_by_user ro a (Create c) T T' p sound g agree = create_local ro a c T T' p g agree
+local_by_user ro a (Unlink u) T T' p sound g agree = unlink_local ro a u T T' p sound g agree
+local_by_user ro a (Write w) T T' p sound g agree = write_local ro a w T T' p g agree
+local_by_user ro a (Truncate t) T T' p sound g agree = truncate_local ro a t T T' p g agree
+local_by_user ro a (Take t) T T' p sound g agree = take_local ro a t T T' p g agree
+local_by_user ro a (Link l) T T' p sound g agree = link_local ro a l T T' p g agree
+local_by_user ro a (Rename r) T T' p sound g agree = rename_local ro a r T T' p g agree
+
+can_by_user : (ro : Membership) (a : ℕ) (x : Op) (T : Tree) (p : Plan) → Sound T → Gives (rule_by_user ro T a x) p → CanEdits T p.edits
+can_by_user ro a (Create c) T p sound g = create_can ro a c T p sound g
+can_by_user ro a (Unlink u) T p sound g = unlink_can ro a u T p sound g
+can_by_user ro a (Write w) T p sound g = write_can ro a w T p g
+can_by_user ro a (Truncate t) T p sound g = truncate_can ro a t T p g
+can_by_user ro a (Take t) T p sound g = take_can ro a t T p sound g
+can_by_user ro a (Link l) T p sound g = link_can ro a l T p sound g
+can_by_user ro a (Rename r) T p sound g = rename_can ro a r T p g
+
+new_by_user : (ro : Membership) (a : ℕ) (x : Op) (T : Tree) (p : Plan) → Gives (rule_by_user ro T a x) p → PlanMakesNew T p
+new_by_user ro a (Create c) T p g = create_new ro T a c p g
+new_by_user ro a (Unlink u) T p g = of_given (PlanMakesNew T) (unlink_rule ro T a u) p (unlink_new ro T a u) g
+new_by_user ro a (Write w) T p g = of_given (PlanMakesNew T) (write_rule ro T a w) p (write_new ro T a w) g
+new_by_user ro a (Truncate t) T p g = of_given (PlanMakesNew T) (truncate_rule ro T a t) p (truncate_new ro T a t) g
+new_by_user ro a (Take t) T p g = of_given (PlanMakesNew T) (take_rule ro T a t) p (take_new ro T a t) g
+new_by_user ro a (Link l) T p g = of_given (PlanMakesNew T) (link_rule ro T a l) p (link_new ro T a l) g
+new_by_user ro a (Rename r) T p g = of_given (PlanMakesNew T) (rename_rule ro T a r) p (rename_new ro T a r) g
+
+-- ---- the same, with the user
+
 local_of : (ro : Membership) (a : ℕ) (x : Op) (T T' : Tree) (p : Plan) → Sound T → Gives (rule_of ro T a x) p → AgreeOn (plan_reads p) T T' → Gives (rule_of ro T' a x) p
-local_of ro a (Create c) T T' p sound g agree = create_local ro a c T T' p g agree
-local_of ro a (Unlink u) T T' p sound g agree = unlink_local ro a u T T' p sound g agree
-local_of ro a (Write w) T T' p sound g agree = write_local ro a w T T' p g agree
-local_of ro a (Truncate t) T T' p sound g agree = truncate_local ro a t T T' p g agree
-local_of ro a (Take t) T T' p sound g agree = take_local ro a t T T' p g agree
-local_of ro a (Link l) T T' p sound g agree = link_local ro a l T T' p g agree
-local_of ro a (Rename r) T T' p sound g agree = rename_local ro a r T T' p g agree
+local_of ro a x T T' p sound (user, g) agree = (user, local_by_user ro a x T T' p sound g agree)
 
 can_of : (ro : Membership) (a : ℕ) (x : Op) (T : Tree) (p : Plan) → Sound T → Gives (rule_of ro T a x) p → CanEdits T p.edits
-can_of ro a (Create c) T p sound g = create_can ro a c T p sound g
-can_of ro a (Unlink u) T p sound g = unlink_can ro a u T p sound g
-can_of ro a (Write w) T p sound g = write_can ro a w T p g
-can_of ro a (Truncate t) T p sound g = truncate_can ro a t T p g
-can_of ro a (Take t) T p sound g = take_can ro a t T p sound g
-can_of ro a (Link l) T p sound g = link_can ro a l T p sound g
-can_of ro a (Rename r) T p sound g = rename_can ro a r T p g
+can_of ro a x T p sound (user, g) = can_by_user ro a x T p sound g
 
 new_of : (ro : Membership) (a : ℕ) (x : Op) (T : Tree) (p : Plan) → Gives (rule_of ro T a x) p → PlanMakesNew T p
-new_of ro a (Create c) T p g = create_new ro T a c p g
-new_of ro a (Unlink u) T p g = of_given (PlanMakesNew T) (unlink_rule ro T a u) p (unlink_new ro T a u) g
-new_of ro a (Write w) T p g = of_given (PlanMakesNew T) (write_rule ro T a w) p (write_new ro T a w) g
-new_of ro a (Truncate t) T p g = of_given (PlanMakesNew T) (truncate_rule ro T a t) p (truncate_new ro T a t) g
-new_of ro a (Take t) T p g = of_given (PlanMakesNew T) (take_rule ro T a t) p (take_new ro T a t) g
-new_of ro a (Link l) T p g = of_given (PlanMakesNew T) (link_rule ro T a l) p (link_new ro T a l) g
-new_of ro a (Rename r) T p g = of_given (PlanMakesNew T) (rename_rule ro T a r) p (rename_new ro T a r) g
+new_of ro a x T p (user, g) = new_by_user ro a x T p g
 
 pub row_of : (x : Op) → Row x
 row_of (Create c) = create_row c

@@ -57,17 +57,17 @@ copied_body T p f g (k, home) = (k, field_after T p (copy_of (get T.inodes f)) K
 
 module _ (ro : Membership) (a : ℕ) (t : Take) where
   pub take_local : (T T' : Tree) (p : Plan) → Gives (take_rule ro T a t) p → AgreeOn (plan_reads p) T T' → Gives (take_rule ro T' a t) p
-  take_local T T' p (user, (group, (touch, (f, at, (free, plan))))) agree =
+  take_local T T' p (group, (touch, (f, at, (free, plan)))) agree =
       let o : Option Inode = get T.inodes f in
       let all : AgreeOn (plan_reads (take_plan o a t f)) T T' = subst (λ p. AgreeOn (plan_reads p) T T') (sym plan) agree in
       let reads : AgreeOn (InodeArea f WholePart ∷ file_areas t.file f) T T' = left (InodeArea f WholePart ∷ file_areas t.file f) _ all in
       let w : AgreeOn (plan_writes (take_plan o a t f)) T T' = right (InodeArea f WholePart ∷ file_areas t.file f) _ all in
       let new : AgreeOn (InodeArea (a, t.body) WholePart ∷ pointer_areas t.file) T T' = subst (λ w. AgreeOn w T T') (take_writes o a t f) w in
       let free' = ap (λ v. not (nat_eq f.0 a) && is_nothing v) (field_same KindOf new) ∙ free in
-      (user, (group, (touch, (f, body_same t.file f at (later reads), (free', ap (λ o. take_plan o a t f) (whole_same reads) ∙ plan)))))
+      (group, (touch, (f, body_same t.file f at (later reads), (free', ap (λ o. take_plan o a t f) (whole_same reads) ∙ plan))))
 
   pub take_can : (T : Tree) (p : Plan) → Sound T → Gives (take_rule ro T a t) p → CanEdits T p.edits
-  take_can T p sound (user, (group, (touch, (f, at, (free, plan))))) =
+  take_can T p sound (group, (touch, (f, at, (free, plan)))) =
       let o : Option Inode = get T.inodes f in
       let (_, nothing) = and_parts (not (nat_eq f.0 a)) _ free in
       let empty : val T (At (a, t.body) KindOf) ≡ Nothing = nothing_is _ nothing in

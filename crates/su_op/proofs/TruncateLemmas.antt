@@ -22,14 +22,14 @@ use Rattle.su_op.proofs.RuleLemmas.{OfEachPlan, PlanMakesNew}
 
 module _ (ro : Membership) (a : ℕ) (t : Truncate) where
   pub truncate_local : (T T' : Tree) (p : Plan) → Gives (truncate_rule ro T a t) p → AgreeOn (plan_reads p) T T' → Gives (truncate_rule ro T' a t) p
-  truncate_local T T' p (user, (touch, (f, at, (is, (holder, (fits, plan)))))) agree =
+  truncate_local T T' p (touch, (f, at, (is, (holder, (fits, plan))))) agree =
       let all : AgreeOn (plan_reads (truncate_plan (value_number (val T (At f SizeOf))) t f)) T T' = subst (λ p. AgreeOn (plan_reads p) T T') (sym plan) agree in
       let reads : AgreeOn (InodeArea f SizePart ∷ file_areas t.file f) T T' = left (InodeArea f SizePart ∷ file_areas t.file f) _ all in
       let reads_f : AgreeOn (file_areas t.file f) T T' = later reads in
-      (user, (touch, (f, body_same t.file f at reads_f, (ap is_file_kind (kind_same reads_f) ∙ is, (holder, (fits, ap (λ v. truncate_plan (value_number v) t f) (size_same reads) ∙ plan))))))
+      (touch, (f, body_same t.file f at reads_f, (ap is_file_kind (kind_same reads_f) ∙ is, (holder, (fits, ap (λ v. truncate_plan (value_number v) t f) (size_same reads) ∙ plan)))))
 
   pub truncate_can : (T : Tree) (p : Plan) → Gives (truncate_rule ro T a t) p → CanEdits T p.edits
-  truncate_can T p (user, (touch, (f, at, (is, (holder, (fits, plan)))))) =
+  truncate_can T p (touch, (f, at, (is, (holder, (fits, plan))))) =
       subst (λ (p : Plan). CanEdits T p.edits) plan (((IsA_file T f is, size_is T f is), tt), tt)
 
 pub truncate_new : (ro : Membership) (T : Tree) (a : ℕ) (t : Truncate) → OfEachPlan (PlanMakesNew T) (truncate_rule ro T a t)

@@ -36,7 +36,7 @@ whole_of T T' f (Group g k) agree = later agree
 
 module _ (ro : Membership) (a : ℕ) (u : Unlink) where
   pub unlink_local : (T T' : Tree) (p : Plan) → Sound T → Gives (unlink_rule ro T a u) p → AgreeOn (plan_reads p) T T' → Gives (unlink_rule ro T' a u) p
-  unlink_local T T' p sound (user, (touch, (touch', (d, at, (f, at_f, (is, (holder, (holder', (named, (empty, plan)))))))))) agree =
+  unlink_local T T' p sound (touch, (touch', (d, at, (f, at_f, (is, (holder, (holder', (named, (empty, plan))))))))) agree =
       let l : ℕ = value_number (val T (At f LinksOf)) in
       let all : AgreeOn (plan_reads (unlink_plan l u d f)) T T' = subst (λ p. AgreeOn (plan_reads p) T T') (sym plan) agree in
       let reads = left (file_areas u.dir d ++ file_areas u.file f) _ all in
@@ -44,7 +44,7 @@ module _ (ro : Membership) (a : ℕ) (u : Unlink) where
       let reads_f : AgreeOn (file_areas u.file f) T T' = right (file_areas u.dir d) _ reads in
       let w : AgreeOn (InodeArea d (NamePart u.name) ∷ edits_areas (link_goes l u.file f)) T T' = right (file_areas u.dir d ++ file_areas u.file f) _ all in
       let (links, empty') = go f empty (nat_le 2 l) refl (kind_same reads_f) (later w) in
-      (user, (touch, (touch', (d, body_same u.dir d at reads_d, (f, body_same u.file f at_f reads_f, (ap is_dir_kind (kind_same reads_d) ∙ is, (holder, (holder', (ap (λ v. is_link_to v u.file) (name_same w) ∙ named, (empty', ap (λ v. unlink_plan (value_number v) u d f) links ∙ plan))))))))))
+      (touch, (touch', (d, body_same u.dir d at reads_d, (f, body_same u.file f at_f reads_f, (ap is_dir_kind (kind_same reads_d) ∙ is, (holder, (holder', (ap (λ v. is_link_to v u.file) (name_same w) ∙ named, (empty', ap (λ v. unlink_plan (value_number v) u d f) links ∙ plan)))))))))
     where
       go : (f : Place) → is_bare_at T f ≡ true → (b : Bool) → nat_le 2 (value_number (val T (At f LinksOf))) ≡ b → val T' (At f KindOf) ≡ val T (At f KindOf)
           → AgreeOn (edits_areas (if b then fewer_links (value_number (val T (At f LinksOf))) f else file_goes u.file f)) T T' → (val T' (At f LinksOf) ≡ val T (At f LinksOf)) × (is_bare_at T' f ≡ true)
@@ -75,7 +75,7 @@ module _ (ro : Membership) (a : ℕ) (u : Unlink) where
           apart e = absurd cc
 
   pub unlink_can : (T : Tree) (p : Plan) → Sound T → Gives (unlink_rule ro T a u) p → CanEdits T p.edits
-  unlink_can T p sound (user, (touch, (touch', (d, at, (f, at_f, (is, (holder, (holder', (named, (empty, plan)))))))))) =
+  unlink_can T p sound (touch, (touch', (d, at, (f, at_f, (is, (holder, (holder', (named, (empty, plan))))))))) =
       let dir! : IsA Dir (get T.inodes d) = IsA_dir T d is in
       let links : ℕ = value_number (val T (At f LinksOf)) in
       subst (λ (p : Plan). CanEdits T p.edits) plan ((dir!, tt), go d f at_f dir! (nat_le 2 links) refl)

@@ -22,14 +22,14 @@ use Rattle.su_op.proofs.RuleLemmas.{OfEachPlan, PlanMakesNew}
 
 module _ (ro : Membership) (a : ℕ) (w : Writing) where
   pub write_local : (T T' : Tree) (p : Plan) → Gives (write_rule ro T a w) p → AgreeOn (plan_reads p) T T' → Gives (write_rule ro T' a w) p
-  write_local T T' p (user, (some, (touch, (f, at, (is, (holder, (fits, plan))))))) agree =
+  write_local T T' p (some, (touch, (f, at, (is, (holder, (fits, plan)))))) agree =
       let all : AgreeOn (plan_reads (write_plan (value_number (val T (At f SizeOf))) w f)) T T' = subst (λ p. AgreeOn (plan_reads p) T T') (sym plan) agree in
       let reads : AgreeOn (InodeArea f SizePart ∷ file_areas w.file f) T T' = left (InodeArea f SizePart ∷ file_areas w.file f) _ all in
       let reads_f : AgreeOn (file_areas w.file f) T T' = later reads in
-      (user, (some, (touch, (f, body_same w.file f at reads_f, (ap is_file_kind (kind_same reads_f) ∙ is, (holder, (fits, ap (λ v. write_plan (value_number v) w f) (size_same reads) ∙ plan)))))))
+      (some, (touch, (f, body_same w.file f at reads_f, (ap is_file_kind (kind_same reads_f) ∙ is, (holder, (fits, ap (λ v. write_plan (value_number v) w f) (size_same reads) ∙ plan))))))
 
   pub write_can : (T : Tree) (p : Plan) → Gives (write_rule ro T a w) p → CanEdits T p.edits
-  write_can T p (user, (some, (touch, (f, at, (is, (holder, (fits, plan))))))) =
+  write_can T p (some, (touch, (f, at, (is, (holder, (fits, plan)))))) =
       let (l, _) = and_parts (nat_le 1 (length w.bytes)) _ some in
       let one : 1 ≤ length w.bytes = leb-true 1 (length w.bytes) l in
       subst (λ (p : Plan). CanEdits T p.edits) plan (((IsA_file T f is, size_is T f is, omega arith), tt), tt)

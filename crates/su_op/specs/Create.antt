@@ -3,8 +3,8 @@
 use Rattle.std.specs.Prelude.{ℕ, Bool, true, ◌&&◌, List, ◌∷◌, Some, nat_eq}
 use Rattle.su_bytes.specs.declared.file_ids.FileId.{FileId}
 use Rattle.su_bytes.specs.declared.file_ids.FileId.TheVariants.{User, Group}
-use Rattle.su_bytes.specs.declared.refusals.Refusal.TheVariants.{NoUser, BadNumber, NotMember, NoFile, WrongKind, NotHolder, Held, Exists}
-use Rattle.su_bytes.specs.Membership.{Membership, has_user}
+use Rattle.su_bytes.specs.declared.refusals.Refusal.TheVariants.{BadNumber, NotMember, NoFile, WrongKind, NotHolder, Held, Exists}
+use Rattle.su_bytes.specs.Membership.{Membership}
 use Rattle.su_bytes.specs.Place.{Place}
 use Rattle.su_table.specs.Tree.{Tree}
 use Rattle.su_table.specs.Query.{body, is_dir_at, is_free_at, is_name_free_at, is_pointer_free}
@@ -33,8 +33,7 @@ create_plan a c d = record {
 -- the checks in their order
 abbrev pub create_rule : Membership → Tree → ℕ → Create → Rule
 create_rule ro T a c =
-    Demand (has_user ro a) (NoUser a)
-    (Demand (is_own_number a c.body c.file) BadNumber
+    Demand (is_own_number a c.body c.file) BadNumber
     (Demand (may_touch ro a c.dir) (NotMember (group_of c.dir))
     (Demand (may_touch ro a c.file) (NotMember (group_of c.file))
     (Find (body T c.dir) (NoFile c.dir) (λ d.
@@ -42,7 +41,7 @@ create_rule ro T a c =
     (Demand (nat_eq d.0 a) (NotHolder d.0)
     (Demand (is_pointer_free T c.file && is_free_at T (a, c.body)) Held
     (Demand (is_name_free_at T d c.name) Exists
-    (Accept (create_plan a c d))))))))))
+    (Accept (create_plan a c d)))))))))
 
 -- ---- what it does once it is accepted
 

@@ -1,7 +1,7 @@
 -- A link by user a: a directory gets a further name for a file.
 use Rattle.std.specs.Prelude.{◌≡◌, ℕ, ◌+◌, [], ◌∷◌, ◌++◌, Some, nat_eq, nat_lt}
-use Rattle.su_bytes.specs.declared.refusals.Refusal.TheVariants.{NoUser, NotMember, NoFile, WrongKind, NotHolder, Exists, TooManyLinks}
-use Rattle.su_bytes.specs.Membership.{Membership, has_user}
+use Rattle.su_bytes.specs.declared.refusals.Refusal.TheVariants.{NotMember, NoFile, WrongKind, NotHolder, Exists, TooManyLinks}
+use Rattle.su_bytes.specs.Membership.{Membership}
 use Rattle.su_node.specs.InodeChange.{InodeChange.Named, InodeChange.Linked}
 use Rattle.su_bytes.specs.Place.{Place}
 use Rattle.su_table.specs.Tree.{Tree}
@@ -24,8 +24,7 @@ link_plan links l d f = record {
 -- the checks in their order
 abbrev pub link_rule : Membership → Tree → ℕ → Link → Rule
 link_rule ro T a l =
-    Demand (has_user ro a) (NoUser a)
-    (Demand (may_touch ro a l.dir) (NotMember (group_of l.dir))
+    Demand (may_touch ro a l.dir) (NotMember (group_of l.dir))
     (Demand (may_touch ro a l.file) (NotMember (group_of l.file))
     (Find (body T l.dir) (NoFile l.dir) (λ d.
     (Find (body T l.file) (NoFile l.file) (λ f.
@@ -35,7 +34,7 @@ link_rule ro T a l =
     (Demand (nat_eq f.0 a) (NotHolder f.0)
     (Demand (is_name_free_at T d l.name) Exists
     (Demand (nat_lt (links_at T f) most_links) TooManyLinks
-    (Accept (link_plan (links_at T f) l d f)))))))))))))
+    (Accept (link_plan (links_at T f) l d f))))))))))))
 
 -- ---- what it does once it is accepted
 

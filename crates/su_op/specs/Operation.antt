@@ -1,7 +1,8 @@
 -- The operations by cases: whether one is accepted, and what it then makes of the tree.
 use Rattle.std.specs.Prelude.{ℕ, List, Option, ⊤}
 use Rattle.su_bytes.specs.declared.refusals.Refusal.{Refusal}
-use Rattle.su_bytes.specs.Membership.{Membership}
+use Rattle.su_bytes.specs.declared.refusals.Refusal.TheVariants.{NoUser}
+use Rattle.su_bytes.specs.Membership.{Membership, has_user}
 use Rattle.su_table.specs.Tree.{Tree}
 use Rattle.su_table.specs.Edit.{edits}
 use Rattle.su_op.specs.declared.areas.Area.{Area}
@@ -9,7 +10,7 @@ use Rattle.su_op.specs.declared.operations.Op.{Op}
 use Rattle.su_op.specs.declared.operations.Op.TheVariants.{Create, Unlink, Write, Truncate, Take, Link, Rename}
 use Rattle.su_op.specs.declared.operations.Accepted.{Accepted}
 use Rattle.su_op.specs.declared.operations.Accepted.TheVariants as accepted
-use Rattle.su_op.specs.Rule.{Plan, Rule, refusal, plan_of, plan_reads, plan_writes}
+use Rattle.su_op.specs.Rule.{Plan, Rule, Rule.Demand, refusal, plan_of, plan_reads, plan_writes}
 use Rattle.su_op.specs.Create.{create_rule, accepted_create_plan, CreateFits, CreateRow}
 use Rattle.su_op.specs.Unlink.{unlink_rule, accepted_unlink_plan, UnlinkFits, UnlinkRow}
 use Rattle.su_op.specs.Write.{write_rule, accepted_write_plan, WriteFits, WriteRow}
@@ -18,15 +19,19 @@ use Rattle.su_op.specs.Take.{take_rule, accepted_take_plan, TakeFits, TakeRow}
 use Rattle.su_op.specs.Link.{link_rule, accepted_link_plan, LinkFits, LinkRow}
 use Rattle.su_op.specs.Rename.{rename_rule, accepted_rename_plan, RenameRow}
 
--- the rule of each operation
+-- the rule of each operation, by one of the users
+abbrev pub rule_by_user : Membership → Tree → ℕ → Op → Rule
+rule_by_user ro T a (Create c) = create_rule ro T a c
+rule_by_user ro T a (Unlink u) = unlink_rule ro T a u
+rule_by_user ro T a (Write w) = write_rule ro T a w
+rule_by_user ro T a (Truncate t) = truncate_rule ro T a t
+rule_by_user ro T a (Take t) = take_rule ro T a t
+rule_by_user ro T a (Link l) = link_rule ro T a l
+rule_by_user ro T a (Rename r) = rename_rule ro T a r
+
+-- the rule of an operation by user a, who has to be one
 abbrev pub rule_of : Membership → Tree → ℕ → Op → Rule
-rule_of ro T a (Create c) = create_rule ro T a c
-rule_of ro T a (Unlink u) = unlink_rule ro T a u
-rule_of ro T a (Write w) = write_rule ro T a w
-rule_of ro T a (Truncate t) = truncate_rule ro T a t
-rule_of ro T a (Take t) = take_rule ro T a t
-rule_of ro T a (Link l) = link_rule ro T a l
-rule_of ro T a (Rename r) = rename_rule ro T a r
+rule_of ro T a op = Demand (has_user ro a) (NoUser a) (rule_by_user ro T a op)
 
 -- what an accepted operation does in T
 abbrev pub accepted_plan : Tree → Accepted → Plan

@@ -2,8 +2,8 @@
 -- loses the old name.
 use Rattle.std.specs.Prelude.{ℕ, Bool, false, not, ◌||◌, List, [], ◌∷◌, ◌++◌, Option, Some, None, is_some, nat_eq, if◌then◌else◌}
 use Rattle.su_bytes.specs.declared.file_ids.FileId.{FileId}
-use Rattle.su_bytes.specs.declared.refusals.Refusal.TheVariants.{NoUser, NotMember, NoFile, WrongKind, NotHolder, NoName, Exists, DirMove}
-use Rattle.su_bytes.specs.Membership.{Membership, has_user}
+use Rattle.su_bytes.specs.declared.refusals.Refusal.TheVariants.{NotMember, NoFile, WrongKind, NotHolder, NoName, Exists, DirMove}
+use Rattle.su_bytes.specs.Membership.{Membership}
 use Rattle.su_node.specs.InodeChange.{InodeChange.Named}
 use Rattle.su_bytes.specs.Place.{Place, file_eq}
 use Rattle.su_table.specs.Tree.{Tree}
@@ -55,13 +55,12 @@ rename_rule_at T a r moved d t =
 -- the checks in their order
 abbrev pub rename_rule : Membership → Tree → ℕ → Rename → Rule
 rename_rule ro T a r =
-    Demand (has_user ro a) (NoUser a)
-    (Demand (may_touch ro a r.from_) (NotMember (group_of r.from_))
+    Demand (may_touch ro a r.from_) (NotMember (group_of r.from_))
     (Demand (may_touch ro a r.to_) (NotMember (group_of r.to_))
     (Find (body T r.from_) (NoFile r.from_) (λ d.
     (Find (body T r.to_) (NoFile r.to_) (λ t.
     (Demand (stays r || is_some (moved T r)) (NoFile r.file)
-    (rename_rule_at T a r (moved T r) d t))))))))
+    (rename_rule_at T a r (moved T r) d t)))))))
 
 -- ---- what it does once it is accepted
 

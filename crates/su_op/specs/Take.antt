@@ -4,8 +4,8 @@ use Rattle.std.specs.Prelude.{◌≡◌, ℕ, Bool, true, false, not, ◌&&◌, 
 use Rattle.std.specs.FinMap.{get}
 use Rattle.su_bytes.specs.declared.file_ids.FileId.{FileId}
 use Rattle.su_bytes.specs.declared.file_ids.FileId.TheVariants.{User, Group}
-use Rattle.su_bytes.specs.declared.refusals.Refusal.TheVariants.{NoUser, BadNumber, NotMember, NoFile, Held}
-use Rattle.su_bytes.specs.Membership.{Membership, has_user}
+use Rattle.su_bytes.specs.declared.refusals.Refusal.TheVariants.{BadNumber, NotMember, NoFile, Held}
+use Rattle.su_bytes.specs.Membership.{Membership}
 use Rattle.su_node.specs.Inode.{Inode}
 use Rattle.su_node.specs.InodeChange.{InodeChange, InodeChange.Copied, InodeChange.Gone}
 use Rattle.su_bytes.specs.Place.{Place}
@@ -37,12 +37,11 @@ take_plan o a t f = record {
 -- the checks in their order
 abbrev pub take_rule : Membership → Tree → ℕ → Take → Rule
 take_rule ro T a t =
-    Demand (has_user ro a) (NoUser a)
-    (Demand (is_group_file t.file) BadNumber
+    Demand (is_group_file t.file) BadNumber
     (Demand (may_touch ro a t.file) (NotMember (group_of t.file))
     (Find (body T t.file) (NoFile t.file) (λ f.
     Demand (not (nat_eq f.0 a) && is_free_at T (a, t.body)) Held
-    (Accept (take_plan (get T.inodes f) a t f))))))
+    (Accept (take_plan (get T.inodes f) a t f)))))
 
 -- ---- what it does once it is accepted
 

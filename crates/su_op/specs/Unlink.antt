@@ -2,8 +2,8 @@
 -- file's pointer go.
 use Rattle.std.specs.Prelude.{◌≡◌, ℕ, ◌-◌, List, [], ◌∷◌, ◌++◌, None, nat_eq, nat_le, if◌then◌else◌}
 use Rattle.su_bytes.specs.declared.file_ids.FileId.{FileId}
-use Rattle.su_bytes.specs.declared.refusals.Refusal.TheVariants.{NoUser, NotMember, NoFile, WrongKind, NotHolder, NoName, NotEmpty}
-use Rattle.su_bytes.specs.Membership.{Membership, has_user}
+use Rattle.su_bytes.specs.declared.refusals.Refusal.TheVariants.{NotMember, NoFile, WrongKind, NotHolder, NoName, NotEmpty}
+use Rattle.su_bytes.specs.Membership.{Membership}
 use Rattle.su_bytes.specs.Place.{Place}
 use Rattle.su_table.specs.Tree.{Tree}
 use Rattle.su_table.specs.Query.{body, is_dir_at, leads_to_at, is_bare_at, links_at}
@@ -36,8 +36,7 @@ unlink_plan links u d f = record {
 -- the checks in their order
 abbrev pub unlink_rule : Membership → Tree → ℕ → Unlink → Rule
 unlink_rule ro T a u =
-    Demand (has_user ro a) (NoUser a)
-    (Demand (may_touch ro a u.dir) (NotMember (group_of u.dir))
+    Demand (may_touch ro a u.dir) (NotMember (group_of u.dir))
     (Demand (may_touch ro a u.file) (NotMember (group_of u.file))
     (Find (body T u.dir) (NoFile u.dir) (λ d.
     Find (body T u.file) (NoFile u.file) (λ f.
@@ -46,7 +45,7 @@ unlink_rule ro T a u =
     (Demand (nat_eq f.0 a) (NotHolder f.0)
     (Demand (leads_to_at T d u.name u.file) NoName
     (Demand (is_bare_at T f) NotEmpty
-    (Accept (unlink_plan (links_at T f) u d f)))))))))))
+    (Accept (unlink_plan (links_at T f) u d f))))))))))
 
 -- ---- what it does once it is accepted
 

@@ -1,8 +1,8 @@
 -- A write by user a: the bytes of a file from an offset on are these, and a gap before them is
 -- zeros.
 use Rattle.std.specs.Prelude.{◌≡◌, ℕ, ◌+◌, ◌&&◌, [], ◌∷◌, length, min, nat_eq, nat_le, if◌then◌else◌}
-use Rattle.su_bytes.specs.declared.refusals.Refusal.TheVariants.{NoUser, BadNumber, NotMember, NoFile, WrongKind, NotHolder, TooBig}
-use Rattle.su_bytes.specs.Membership.{Membership, has_user}
+use Rattle.su_bytes.specs.declared.refusals.Refusal.TheVariants.{BadNumber, NotMember, NoFile, WrongKind, NotHolder, TooBig}
+use Rattle.su_bytes.specs.Membership.{Membership}
 use Rattle.su_node.specs.InodeChange.{InodeChange.Written}
 use Rattle.su_bytes.specs.Place.{Place}
 use Rattle.su_table.specs.Tree.{Tree}
@@ -24,14 +24,13 @@ write_plan size w f = record {
 -- the checks in their order
 abbrev pub write_rule : Membership → Tree → ℕ → Writing → Rule
 write_rule ro T a w =
-    Demand (has_user ro a) (NoUser a)
-    (Demand (nat_le 1 (length w.bytes) && nat_le (length w.bytes) largest_write) BadNumber
+    Demand (nat_le 1 (length w.bytes) && nat_le (length w.bytes) largest_write) BadNumber
     (Demand (may_touch ro a w.file) (NotMember (group_of w.file))
     (Find (body T w.file) (NoFile w.file) (λ f.
     Demand (is_file_at T f) (WrongKind w.file)
     (Demand (nat_eq f.0 a) (NotHolder f.0)
     (Demand (nat_le (w.off + length w.bytes) largest_file) TooBig
-    (Accept (write_plan (size_at T f) w f))))))))
+    (Accept (write_plan (size_at T f) w f)))))))
 
 -- ---- what it does once it is accepted
 

@@ -57,9 +57,6 @@ impl Create {
         ensures refused { IfErr result (λ e.
             refusal (create_rule roster.now forest.now author self.now) ≡ Some e) }
     {
-        if !roster.has_user(author) {
-            return Err(Refusal::NoUser(author));
-        }
         if !self.has_own_number(author) {
             return Err(Refusal::BadNumber);
         }

@@ -54,9 +54,6 @@ impl Link {
         ensures refused { IfErr result (λ e.
             refusal (link_rule roster.now forest.now author self.now) ≡ Some e) }
     {
-        if !roster.has_user(author) {
-            return Err(Refusal::NoUser(author));
-        }
         if let Some(group) = closed_group(roster, author, self.dir) {
             return Err(Refusal::NotMember(group));
         }

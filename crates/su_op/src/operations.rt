@@ -74,6 +74,9 @@ impl Op {
             ≡ plan_writes (accepted_plan forest.now x)) }
         ensures refused { IfErr result (λ e. why roster.now forest.now author self.now ≡ Some e) }
     {
+        if !roster.has_user(author) {
+            return Err(Refusal::NoUser(author));
+        }
         match self {
             Op::Create(create) => create.check(forest, roster, author),
             Op::Unlink(unlink) => unlink.check(forest, roster, author),

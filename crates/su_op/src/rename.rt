@@ -101,9 +101,6 @@ impl Rename {
         ensures refused { IfErr result (λ e.
             refusal (rename_rule roster.now forest.now author self.now) ≡ Some e) }
     {
-        if !roster.has_user(author) {
-            return Err(Refusal::NoUser(author));
-        }
         if let Some(group) = closed_group(roster, author, self.from_) {
             return Err(Refusal::NotMember(group));
         }

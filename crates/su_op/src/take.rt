@@ -52,9 +52,6 @@ impl Take {
         ensures refused { IfErr result (λ e.
             refusal (take_rule roster.now forest.now author self.now) ≡ Some e) }
     {
-        if !roster.has_user(author) {
-            return Err(Refusal::NoUser(author));
-        }
         if let FileId::User(..) = self.file {
             return Err(Refusal::BadNumber);
         }

@@ -49,9 +49,6 @@ impl Truncate {
         ensures refused { IfErr result (λ e.
             refusal (truncate_rule roster.now forest.now author self.now) ≡ Some e) }
     {
-        if !roster.has_user(author) {
-            return Err(Refusal::NoUser(author));
-        }
         if let Some(group) = closed_group(roster, author, self.file) {
             return Err(Refusal::NotMember(group));
         }

@@ -52,9 +52,6 @@ impl Unlink {
         ensures refused { IfErr result (λ e.
             refusal (unlink_rule roster.now forest.now author self.now) ≡ Some e) }
     {
-        if !roster.has_user(author) {
-            return Err(Refusal::NoUser(author));
-        }
         if let Some(group) = closed_group(roster, author, self.dir) {
             return Err(Refusal::NotMember(group));
         }

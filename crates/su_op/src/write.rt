@@ -75,9 +75,6 @@ impl Write {
         ensures refused { IfErr result (λ e.
             refusal (write_rule roster.now forest.now author self.now) ≡ Some e) }
     {
-        if !roster.has_user(author) {
-            return Err(Refusal::NoUser(author));
-        }
         let count = self.bytes.len();
         if count < 1 || LARGEST_WRITE < count {
             return Err(Refusal::BadNumber);

@@ -20,6 +20,3 @@ pub use laws::{
     files_are_taken_once, numbers_are_counted_through, numbers_are_least, paths_have_one_spelling,
 };
 pub use plans::{find, plan};
-
-#[cfg(test)]
-mod tests;

@@ -8,7 +8,8 @@ use Rattle.su_script.specs.declared.desk.Ending.TheVariants as ending
 use Rattle.su_script.specs.declared.desk.Step.{Step}
 use Rattle.su_script.specs.declared.desk.Step.TheVariants.{GoesOn, Ends}
 use Rattle.su_command.specs.declared.lines.NextLine.{NextLine}
-use Rattle.su_command.specs.Script.{lines_of, words_of, longest_line, words_command, line_command}
+use Rattle.su_command.specs.Desk.{line_said, words_said}
+use Rattle.su_command.specs.Script.{lines_of, words_of, longest_line}
 use Rattle.su_command.specs.Lines.{Reads, ReadsOf}
 use Rattle.su_script.specs.Transcript.{Transcript, PrintsFrom}
 use Rattle.su_script.specs.Answer.{bad_text}
@@ -30,8 +31,8 @@ steps_line d k input before d' (b ∷ bs) rest known contents (Ends (ending.BadL
 steps_line d k input before d' (b ∷ bs) rest known contents GoesOn is left some (first, says, written) =
     (first, rest, left, written, λ out status more. subst (λ ls. Transcript d k ls (first ++ out) status) (sym is) (inr (first, out, d', says, refl, more)))
 
-too_long : (line : List ℕ) → longest_line < length line → line_command line ≡ None
-too_long line long = let over : nat_lt longest_line (length line) ≡ true = grind (arith, nat_tests) in ap (λ b. cond b None (words_command (words_of line))) over
+too_long : (line : List ℕ) → longest_line < length line → line_said line ≡ None
+too_long line long = let over : nat_lt longest_line (length line) ≡ true = grind (arith, nat_tests) in ap (λ b. cond b None (words_said (words_of line))) over
 
 -- a line that is too long
 pub steps_too_long : (d : SessionState) (k : ℕ) (input before line : List ℕ) (lines : List (List ℕ)) (contents : Option (List ℕ)) (status : Status) → lines_of input ≡ line ∷ lines → longest_line < length line

@@ -5,7 +5,8 @@ use Rattle.su_script.specs.declared.desk.Status.{Status}
 use Rattle.su_script.specs.declared.desk.Status.TheVariants.{Fault, BadLine}
 use Rattle.su_script.specs.declared.desk.Step.{Step}
 use Rattle.su_script.specs.declared.desk.Step.TheVariants.{GoesOn, Ends}
-use Rattle.su_command.specs.Script.{lines_of, line_command}
+use Rattle.su_command.specs.Desk.{line_said}
+use Rattle.su_command.specs.Script.{lines_of}
 use Rattle.su_script.specs.Transcript.{LineSays, Transcript, PrintsFrom, status_of}
 use Rattle.su_script.specs.Answer.{bad_text}
 
@@ -29,7 +30,7 @@ Steps d k input before d' known contents GoesOn =
 abbrev pub LineEnds : ℕ → List ℕ → List ℕ → Option (List ℕ) → Status → Type 0
 LineEnds k line before contents Fault = Unit {0}
 LineEnds k line before contents status =
-    (line_command line ≡ None) × (contents ≡ Some (before ++ bad_text k)) × (status ≡ BadLine)
+    (line_said line ≡ None) × (contents ≡ Some (before ++ bad_text k)) × (status ≡ BadLine)
 
 -- what a line that is not empty does
 abbrev pub LineSteps : SessionState → ℕ → List ℕ → List ℕ

@@ -6,11 +6,13 @@ use Rattle.su_bytes.specs.declared.rosters.TheConstants.{KEY_LENGTH}
 use Rattle.su_bytes.specs.declared.refusals.Refusal.TheVariants.{NoMemory}
 use Rattle.su_desk.specs.Desk.{DeskState}
 use Rattle.su_command.specs.declared.ranges.Command.{Command}
+use Rattle.su_command.specs.declared.verbs.Verb.{Verb}
+use Rattle.su_command.specs.Desk.{Spoken, command_said, line_said}
 use Rattle.su_script.specs.declared.desk.Ending.{Ending}
 use Rattle.su_script.specs.declared.desk.Ending.TheVariants as ending
 use Rattle.su_script.specs.declared.desk.Status.{Status}
 use Rattle.su_script.specs.declared.desk.Status.TheVariants.{Finished, Fault, BadLine}
-use Rattle.su_command.specs.Script.{lines_of, line_command}
+use Rattle.su_command.specs.Script.{lines_of}
 use Rattle.su_command.specs.Range.{word_refusal}
 use Rattle.su_script.specs.Answer.{refused_text, bad_text}
 use Rattle.su_script.specs.Session.{SessionState, Does}
@@ -27,17 +29,18 @@ status_code Finished = 0
 status_code Fault = 1
 status_code BadLine = 2
 
--- a command whose words are refused changes nothing; so does one for which there is no memory
-abbrev pub Says : SessionState → Command → Option Refusal → List ℕ → SessionState → Type 0
-Says d command None out d' = Does d command out d'
-Says d command (Some r) out d' = ((out ≡ refused_text r) ⊎ (out ≡ refused_text NoMemory)) × (d' ≡ d)
+-- A command is carried out that has the words; one whose words are refused changes nothing, and so does
+-- one for which there is no memory.
+abbrev pub Says : SessionState → Spoken Verb → Option Refusal → List ℕ → SessionState → Type 0
+Says d said None out d' = (command : Command) × (command_said command ≡ said) × Does d command out d'
+Says d said (Some r) out d' = ((out ≡ refused_text r) ⊎ (out ≡ refused_text NoMemory)) × (d' ≡ d)
 
 -- what a non-empty line prints, and what the desk is then; want of memory changes nothing
 abbrev pub LineSays : SessionState → List ℕ → List ℕ → SessionState → Type 0
 LineSays d line out d' =
     ((out ≡ refused_text NoMemory) × (d' ≡ d))
-    ⊎ ((command : Command) × (line_command line ≡ Some command)
-    × Says d command (word_refusal d.desk.roster command) out d')
+    ⊎ ((said : Spoken Verb) × (line_said line ≡ Some said)
+    × Says d said (word_refusal d.desk.roster said.values) out d')
 
 -- What is printed for the lines from number k on, and how the run ends: empty lines print nothing, the
 -- first line that is no command ends the run.
@@ -45,7 +48,7 @@ abbrev pub Transcript : SessionState → ℕ → List (List ℕ) → List ℕ �
 Transcript d k [] out status = (out ≡ []) × (status ≡ Finished)
 Transcript d k ([] ∷ lines) out status = Transcript d (k + 1) lines out status
 Transcript d k ((b ∷ bs) ∷ lines) out status =
-    ((line_command (b ∷ bs) ≡ None) × (out ≡ bad_text k) × (status ≡ BadLine))
+    ((line_said (b ∷ bs) ≡ None) × (out ≡ bad_text k) × (status ≡ BadLine))
     ⊎ ((first : List ℕ) × (rest : List ℕ) × (d' : SessionState) × LineSays d (b ∷ bs) first d'
     × (out ≡ first ++ rest) × Transcript d' (k + 1) lines rest status)
 

@@ -1,7 +1,7 @@
 // Running a script on a desk.
 ghost use Rattle.std.specs.Prelude.{◌≡◌, ◌≤◌, ◌⊎◌, ℕ, List, None, Some, IfOk, OnOk, MatchOption, replicate};
 ghost use Rattle.std.specs.Io.KnownBytes.{Appends};
-ghost use Rattle.su_command.specs.Script.{line_command};
+ghost use Rattle.su_command.specs.Desk.{line_said};
 ghost use Rattle.su_script.specs.Step.{EndsBadly, LineSteps, Steps};
 ghost use Rattle.su_script.specs.Transcript.{LineSays, Prints, PrintsFrom, new_desk, status_code, status_of};
 ghost use Rattle.su_command.specs.Unread.{unread};
@@ -211,13 +211,13 @@ fn answer_line(
     session: &mut Session,
     line: &[u8],
 ) -> Result<Option<Vec<u8>>, AllocError>
-    ensures said { IfOk result (λ answer. MatchOption answer (line_command line.now ≡ None)
+    ensures said { IfOk result (λ answer. MatchOption answer (line_said line.now ≡ None)
         (λ text. LineSays session.old line.now text.items session.new)) }
     ensures kept { IfOk result (λ answer. MatchOption answer (session.new ≡ session.old)
         (λ text. Unit {0})) }
 {
     let command = match parse_line(alloc, line) {
-        Ok(Some(raw)) => check_ranges(alloc, session.roster(), raw),
+        Ok(Some(said)) => check_ranges(alloc, session.roster(), said),
         Ok(None) => return Ok(None),
         Err(_) => Err(Refusal::NoMemory),
     };

@@ -3,8 +3,6 @@
 
 mod desk;
 mod session;
-#[cfg(test)]
-mod tests;
 
 pub use desk::{Ending, Fault, Status, run_desk};
 pub use session::{answered, bad, in_hex};

@@ -9,6 +9,3 @@ mod workers;
 pub use links::{Duplex, Link};
 pub use su_session::Begin;
 pub use workers::{MOST_WORKERS, serve_all};
-
-#[cfg(test)]
-mod tests;

@@ -9,6 +9,3 @@ pub use connections::{Connections, MOST_FAILURES};
 pub use servers::{Report, serve_book};
 pub use stops::{Stop, Watched};
 pub use su_shared::BookFault;
-
-#[cfg(test)]
-mod tests;

@@ -6,6 +6,3 @@ mod own;
 
 pub use laws::{replies_are_the_machines, what_is_given_is_kept};
 pub use own::{OwnService, SEAT, reply_or_refusal, told};
-
-#[cfg(test)]
-mod tests;

@@ -1,9 +1,6 @@
 // Copying what a running server has stored into a folder.
-ghost use Rattle.std.specs.Prelude.{◌≡◌};
-ghost use Rattle.sqlite.specs.State.{HasCleanDisk};
-ghost use Rattle.sqlite.specs.Files.{file_state, over_files};
-ghost use Rattle.su_store.specs.Files.{IsAtRest};
-ghost use Rattle.su_volumes.specs.Volumes.{found_with};
+ghost use Rattle.std.specs.Prelude.{◌≡◌, ◌↔◌, []};
+ghost use Rattle.su_volumes.specs.Volumes.{WereSound};
 
 use crate::faults::tell_fault;
 use crate::guards::Guard;
@@ -11,20 +8,22 @@ use crate::links::{Link, connect};
 use crate::serving::keeper_of;
 use crate::settings::Setting;
 use crate::stores::{DiskFile, FULL, Folder, options};
-use sqlite_disk::Disk;
 use std::fmt::Display;
 use std::marker::Brand;
 use std::net::{Net, TcpListener, TcpStream};
 use std::sync::Wait;
-use su_archive::{Archive, ArchiveName};
+use su_archive::Archive;
 use su_backup::{BackupFault, Copy, copy_book};
 use su_block::Checked;
 use su_bytes::Roster;
 use su_keeper::Keeper;
+use su_places::StoreVolume;
 use su_server::Stop;
 use su_shards::SharedBlocks;
 use su_shared::BookFault;
-use su_volumes::{Opened, Shelf};
+use su_store::FileFault;
+use su_vault::{Shelf, Vault, Volume};
+use su_volumes::{ArchiveFiles, ArchiveName, Opened};
 
 /// What a backup made: how many records the copy has, and how many of them are new.
 #[derive(Clone, Copy, Debug, PartialEq, Eq)]
@@ -72,12 +71,16 @@ fn copy_kept<T: Wait + Sync>(
     name: &str,
     roster: Roster,
 ) -> Option<Copied> {
+    let Ok(options) = options(setting.rt) else {
+        return refuse(setting.rt, "out of random bytes");
+    };
     let folder = Folder {
         rt: setting.rt,
         name,
+        options,
     };
     match folder.open() {
-        Ok(files) => copy_named::<Brand, DiskFile, Folder<'_, '_>, T>(
+        Ok(files) => copy_named::<Brand, StoreVolume<DiskFile>, Folder<'_, '_>, T>(
             setting, link, roster, folder, folder, files,
         ),
         Err(fault) => refuse(setting.rt, fault),
@@ -85,32 +88,43 @@ fn copy_kept<T: Wait + Sync>(
 }
 
 /// The same, over files that were found with what this name says.
-fn copy_named<N, D, H, T>(
+fn copy_named<N, V, H, T>(
     setting: &Setting<'_, T>,
     link: Link,
     roster: Roster,
     folder: Folder<'_, '_>,
     shelf: H,
-    files: Opened<D>,
+    files: Opened<V>,
 ) -> Option<Copied>
 where
     N: ArchiveName,
-    D: Disk + Drop,
-    H: Shelf<D>,
+    V: Volume<Fault = FileFault>,
+    H: Shelf<V>,
     T: Wait,
-    requires named { N.found ≡ found_with D.Disk files }
-    requires rest { HasCleanDisk (file_state files.first.held) → IsAtRest over_files files.first }
+    requires { N.found ↔ WereSound V.Volume files }
+{
+    let vault: ArchiveFiles<N, V, H> = ArchiveFiles::new(setting.rt.alloc(), files, shelf);
+    copy_vault(setting, link, roster, folder, vault)
+}
+
+/// Copies into the vault of a folder, of which no record stands in the copy's book.
+fn copy_vault<V, T>(
+    setting: &Setting<'_, T>,
+    link: Link,
+    roster: Roster,
+    folder: Folder<'_, '_>,
+    vault: V,
+) -> Option<Copied>
+where
+    V: Vault<Fault = FileFault>,
+    T: Wait,
+    requires { V.holds vault [] }
 {
     let (rt, stop) = (setting.rt, setting.stop);
-    let Ok(options) = options(rt) else {
-        return refuse(rt, "out of random bytes");
-    };
-    let archive: Archive<'_, N, D, H, T> = Archive::new(
+    let archive: Archive<'_, V, T> = Archive::new(
         setting.host,
         rt.alloc(),
-        options,
-        files,
-        shelf,
+        vault,
         FULL,
         setting.blocks,
     );

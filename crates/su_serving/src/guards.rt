@@ -3,15 +3,14 @@ ghost use Rattle.std.specs.Prelude.{◌≡◌, true, List, ℕ};
 
 use crate::faults::tell_fault;
 use crate::stores::Folder;
-use sqlite_disk::Disk;
 use std::alloc::Global;
 use std::sync::Wait;
-use su_archive::{Archive, ArchiveName};
+use su_archive::Archive;
 use su_bytes::Digest;
 use su_keeper::{Keeper, NotKept};
 use su_server::Stop;
 use su_store::FileFault;
-use su_volumes::Shelf;
+use su_vault::Vault;
 
 /// Works on files of a folder, and knows why a call of its own failed.
 pub(crate) trait HasFiles {
@@ -25,8 +24,7 @@ pub(crate) trait HasFiles {
     fn close(self) -> Result<(), FileFault>;
 }
 
-impl<'a, N: ArchiveName, D: Disk + Drop, H: Shelf<D>, R: Wait> HasFiles
-    for Archive<'a, N, D, H, R> {
+impl<'a, V: Vault<Fault = FileFault>, R: Wait> HasFiles for Archive<'a, V, R> {
     fn fault(&self) -> Option<&FileFault> {
         Archive::fault(self)
     }
@@ -36,8 +34,7 @@ impl<'a, N: ArchiveName, D: Disk + Drop, H: Shelf<D>, R: Wait> HasFiles
     }
 
     fn close(self) -> Result<(), FileFault> {
-        Archive::close(self)?;
-        Ok(())
+        Archive::close(self)
     }
 }
 

@@ -1,29 +1,28 @@
 // Serving a shared folder at a port.
-ghost use Rattle.std.specs.Prelude.{◌≡◌, []};
-ghost use Rattle.sqlite.specs.State.{HasCleanDisk};
-ghost use Rattle.sqlite.specs.Files.{file_state, over_files};
-ghost use Rattle.su_store.specs.Files.{IsAtRest};
-ghost use Rattle.su_volumes.specs.Volumes.{found_with};
+ghost use Rattle.std.specs.Prelude.{◌≡◌, ◌↔◌, []};
+ghost use Rattle.su_volumes.specs.Volumes.{WereSound};
 
 use crate::doors::Door;
 use crate::faults::tell_fault;
 use crate::guards::Guard;
 use crate::settings::Setting;
 use crate::stores::{DiskFile, FULL, Folder, options};
-use sqlite_disk::Disk;
 use std::alloc::{AllocError, Global};
 use std::marker::Brand;
 use std::net::{Ipv4Addr, Net, TcpListener, TcpStream};
 use std::sync::Wait;
 use std::thread::Threads;
-use su_archive::{Archive, ArchiveName};
+use su_archive::Archive;
 use su_bytes::Roster;
 use su_keeper::{Forgetful, Keeper};
+use su_places::StoreVolume;
 use su_server::{Connections, Report, Stop, serve_book};
 use su_session::End;
 use su_shards::SharedBlocks;
 use su_shared::{BookFault, Closed};
-use su_volumes::{Opened, Shelf};
+use su_store::FileFault;
+use su_vault::{Shelf, Vault, Volume};
+use su_volumes::{ArchiveFiles, ArchiveName, Opened};
 
 /// How many bytes a MiB has.
 const MIB: usize = 1_048_576;
@@ -97,44 +96,60 @@ fn serve_kept<T>(setting: &Setting<'_, T>, terms: Terms, roster: Roster, name: &
 where
     T: Net<Listener = TcpListener, Stream = TcpStream> + Threads + Wait + Sync,
 {
+    let Ok(options) = options(setting.rt) else {
+        return tell_fault(setting.rt, "out of random bytes");
+    };
     let folder = Folder {
         rt: setting.rt,
         name,
+        options,
     };
     let files = match folder.open() {
         Ok(files) => files,
         Err(fault) => return tell_fault(setting.rt, fault),
     };
-    serve_named::<Brand, DiskFile, Folder<'_, '_>, T>(setting, terms, roster, folder, folder, files)
+    serve_named::<Brand, StoreVolume<DiskFile>, Folder<'_, '_>, T>(
+        setting, terms, roster, folder, folder, files,
+    )
 }
 
 /// The same, over files that were found with what this name says.
-fn serve_named<N, D, H, T>(
+fn serve_named<N, V, H, T>(
     setting: &Setting<'_, T>,
     terms: Terms,
     roster: Roster,
     folder: Folder<'_, '_>,
     shelf: H,
-    files: Opened<D>,
+    files: Opened<V>,
 ) -> bool
 where
     N: ArchiveName + Send,
-    D: Disk + Drop + Send,
-    H: Shelf<D> + Send,
+    V: Volume<Fault = FileFault> + Send,
+    H: Shelf<V> + Send,
     T: Net<Listener = TcpListener, Stream = TcpStream> + Threads + Wait + Sync,
-    requires named { N.found ≡ found_with D.Disk files }
-    requires rest { HasCleanDisk (file_state files.first.held) → IsAtRest over_files files.first }
+    requires { N.found ↔ WereSound V.Volume files }
 {
-    let rt = setting.rt;
-    let Ok(options) = options(rt) else {
-        return tell_fault(rt, "out of random bytes");
-    };
-    let archive: Archive<'_, N, D, H, T> = Archive::new(
+    let vault: ArchiveFiles<N, V, H> = ArchiveFiles::new(setting.rt.alloc(), files, shelf);
+    serve_vault(setting, terms, roster, folder, vault)
+}
+
+/// Serves over the vault of a folder, of which no record stands in the book.
+fn serve_vault<V, T>(
+    setting: &Setting<'_, T>,
+    terms: Terms,
+    roster: Roster,
+    folder: Folder<'_, '_>,
+    vault: V,
+) -> bool
+where
+    V: Vault<Fault = FileFault> + Send,
+    T: Net<Listener = TcpListener, Stream = TcpStream> + Threads + Wait + Sync,
+    requires { V.holds vault [] }
+{
+    let archive: Archive<'_, V, T> = Archive::new(
         setting.host,
-        rt.alloc(),
-        options,
-        files,
-        shelf,
+        setting.rt.alloc(),
+        vault,
         FULL,
         setting.blocks,
     );

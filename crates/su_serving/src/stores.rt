@@ -1,16 +1,20 @@
 // The folder in which a server keeps what is stored.
-ghost use Rattle.std.specs.Prelude.{IfOk};
+ghost use Rattle.std.specs.Prelude.{All, IfOk};
 ghost use Rattle.sqlite.specs.State.{HasCleanDisk};
 ghost use Rattle.sqlite.specs.Files.{file_state, over_files};
 ghost use Rattle.su_store.specs.Files.{IsAtRest};
+ghost use Rattle.su_places.specs.Current.{RestsOpen, RestsShut};
 
 use sqlite::{FileFrom, FileStore, Options, Unknown};
+use sqlite_disk::Disk;
 use std::alloc::{AllocError, AllocFailed};
 use std::fs::File;
 use std::hash::{BuildHasher, RandomState};
 use std::{fs, io};
+use su_places::StoreVolume;
 use su_store::{FileFault, RecordFile, ShutFile, make, open};
-use su_volumes::{Opened, Shelf};
+use su_vault::Shelf;
+use su_volumes::Opened;
 use thiserror::Error;
 
 /// How many bytes of records and items a file takes, before the next one is begun.
@@ -45,11 +49,13 @@ impl<T: Drop> From<AllocFailed<T>> for FolderFault {
     }
 }
 
-/// The folder of a store, with its files `records.db`, `records-1.db` and so on.
+/// The folder of a store, with its files `records.db`, `records-1.db` and so on, and how one is
+/// opened that was shut.
 #[derive(Clone, Copy)]
 pub(crate) struct Folder<'a, 'n> {
     pub rt: &'a HostRuntime,
     pub name: &'n str,
+    pub options: Options,
 }
 
 impl Folder<'_, '_> {
@@ -66,9 +72,11 @@ impl Folder<'_, '_> {
     /// Opens the files that are there; where there are none, the folder and the first one are made.
     /// None is opened where one is missing before another. Of a file whose making was cut short,
     /// the making is finished.
-    pub fn open(&self) -> Result<Opened<DiskFile>, FolderFault>
-        ensures { IfOk result (λ files. HasCleanDisk (file_state files.first.held)
-            → IsAtRest over_files files.first) }
+    pub fn open(&self) -> Result<Opened<StoreVolume<DiskFile>>, FolderFault>
+        ensures first { IfOk result (λ files.
+            RestsOpen ⟦<DiskFile as Disk>⟧ files.first.place) }
+        ensures later { IfOk result (λ files.
+            All (λ f. RestsShut f.place) files.later.items) }
     {
         let _ = fs::create_dir(self.rt, self.name);
         let last = match self.last() {
@@ -78,9 +86,9 @@ impl Folder<'_, '_> {
         self.check_before(last)?;
         let mut later = Vec::new(self.rt.alloc());
         for number in (1..=last).rev() {
-            later.push(self.shut_file(number)?)?;
+            later.push(StoreVolume::over_shut(self.shut_file(number)?, self.options))?;
         }
-        let first = self.open_file(0)?;
+        let first = StoreVolume::over(self.open_file(0)?, self.options);
         if let Err(error) = self.sync() {
             return Err(self.unread(error));
         }
@@ -146,14 +154,14 @@ impl Folder<'_, '_> {
     }
 }
 
-impl Shelf<DiskFile> for Folder<'_, '_> {
-    fn make(&mut self, number: usize) -> Result<RecordFile<FileStore<DiskFile>>, FileFault> {
+impl Shelf<StoreVolume<DiskFile>> for Folder<'_, '_> {
+    fn make(&mut self, number: usize) -> Result<StoreVolume<DiskFile>, FileFault> {
         let path = self.path(number)?;
         let file = make(self.rt, path.as_str(), Unknown)?;
         if self.sync().is_err() {
             return Err(FileFault::Unopened);
         }
-        Ok(file)
+        Ok(StoreVolume::over(file, self.options))
     }
 }
 

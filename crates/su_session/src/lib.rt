@@ -14,6 +14,3 @@ pub use begins::Begin;
 pub use laws::{all_messages, first_messages};
 pub use services::Service;
 pub use sessions::{End, MOST_READS, Served, serve};
-
-#[cfg(test)]
-mod tests;

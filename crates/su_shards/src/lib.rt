@@ -9,6 +9,3 @@ mod spare;
 mod staying;
 
 pub use shared::SharedBlocks;
-
-#[cfg(test)]
-mod tests;

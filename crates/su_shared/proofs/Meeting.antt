@@ -3,10 +3,12 @@ use Rattle.std.proofs.Common.{◌≡◌, ◌≢◌, ◌⊎◌, ℕ, ◌==◌, Bo
 use Rattle.std.proofs.lemmas.Bool.Decides.{nat_tests}
 use Rattle.std.specs.Prelude.{Result, Err}
 use Rattle.su_bytes.specs.declared.refusals.Refusal.{Refusal}
+use Rattle.su_bytes.proofs.Public.{EachSays, refused_says}
+use Rattle.su_version.specs.Commit.{Commit}
 use Rattle.su_bytes.specs.declared.refusals.Refusal.TheVariants.{Busy, NotYourTurn, BookFull, NoMemory, SourceFailed}
 use Rattle.su_book.specs.declared.events.Event.{Event}
 use Rattle.su_book.specs.declared.events.Event.TheVariants as event
-use Rattle.su_book.specs.Machine.{BookState, IsUnfit, IsRefused, holder_of}
+use Rattle.su_book.specs.Machine.{BookState, storing_order, IsUnfit, IsRefused, holder_of}
 use Rattle.su_shared.specs.declared.seats.Kept.{Kept}
 use Rattle.std.specs.Global.{Vec}
 use Rattle.su_shared.specs.Shares.{IsCommitRefusal, IsStorable, MayMeet, is_grant, has_turn}
@@ -24,21 +26,34 @@ has_the_turn seat h is =
 
 -- ---- a refusal
 
+NotOfTheTurn : Refusal → Type 0
+NotOfTheTurn e = ((n : ℕ) → e ≡ Busy n → ⊥) × (e ≡ NotYourTurn → ⊥)
+
+apart : {r : Refusal} → NotOfTheTurn r → (e : Refusal) → e ≡ r → NotOfTheTurn e
+apart other e is = subst NotOfTheTurn (sym is) other
+
+storing_says : (b : BookState) (c : Commit) → EachSays NotOfTheTurn (storing_order b c)
+unfolding NotOfTheTurn
+storing_says b c = (
+  apart ((λ n is. absurd cc), (λ is. absurd cc)),
+  (
+    apart ((λ n is. absurd cc), (λ is. absurd cc)),
+    (apart ((λ n is. absurd cc), (λ is. absurd cc)), (apart ((λ n is. absurd cc), (λ is. absurd cc)), (apart ((λ n is. absurd cc), (λ is. absurd cc)), tt))),
+  ),
+)
+
+unfit_says : (b : BookState) (bytes : List ℕ) (e : Refusal) → IsUnfit b bytes e → NotOfTheTurn e
+unfolding NotOfTheTurn
+unfit_says b bytes e (inl (place, is, _)) = ((λ n busy. absurd cc), (λ turn. absurd cc))
+unfit_says b bytes e (inr (c, _, _, refused)) = refused_says NotOfTheTurn (storing_order b c) (storing_says b c) e refused
+
 unfit_not_busy : (b : BookState) (bytes : List ℕ) (e : Refusal) (n : ℕ) → IsUnfit b bytes e → e ≡ Busy n → ⊥
-unfit_not_busy b bytes e n (inl (place, is, _)) busy = absurd cc
-unfit_not_busy b bytes e n (inr (c, _, _, inl (inl why))) busy = let is = why.0 in absurd cc
-unfit_not_busy b bytes e n (inr (c, _, _, inl (inr (inl why)))) busy = let is = why.0 in absurd cc
-unfit_not_busy b bytes e n (inr (c, _, _, inl (inr (inr (inl why))))) busy = let is = why.0 in absurd cc
-unfit_not_busy b bytes e n (inr (c, _, _, inl (inr (inr (inr why))))) busy = let is = why.0 in absurd cc
-unfit_not_busy b bytes e n (inr (c, _, _, inr (is, _, _))) busy = absurd cc
+unfolding NotOfTheTurn
+unfit_not_busy b bytes e n unfit = (unfit_says b bytes e unfit).0 n
 
 unfit_not_turn : (b : BookState) (bytes : List ℕ) (e : Refusal) → IsUnfit b bytes e → e ≡ NotYourTurn → ⊥
-unfit_not_turn b bytes e (inl (place, is, _)) turn = absurd cc
-unfit_not_turn b bytes e (inr (c, _, _, inl (inl why))) turn = let is = why.0 in absurd cc
-unfit_not_turn b bytes e (inr (c, _, _, inl (inr (inl why)))) turn = let is = why.0 in absurd cc
-unfit_not_turn b bytes e (inr (c, _, _, inl (inr (inr (inl why))))) turn = let is = why.0 in absurd cc
-unfit_not_turn b bytes e (inr (c, _, _, inl (inr (inr (inr why))))) turn = let is = why.0 in absurd cc
-unfit_not_turn b bytes e (inr (c, _, _, inr (is, _, _))) turn = absurd cc
+unfolding NotOfTheTurn
+unfit_not_turn b bytes e unfit = (unfit_says b bytes e unfit).1
 
 no_memory_meets : (k : Kept) (seat : ℕ) (grant : Bool) (x : Refusal) → x ≡ NoMemory → MayMeet k seat grant x
 no_memory_meets k seat grant x is = record { busy = λ n other. absurd cc; not_turn = λ other. absurd cc; without = λ _ _. inr (inl is) }

@@ -14,6 +14,3 @@ pub use faults::{FileFault, StoreFault};
 pub use opening::{make, open};
 pub use record_files::{MOST_RECORDS, RecordFile};
 pub use shut_files::ShutFile;
-
-#[cfg(test)]
-mod tests;

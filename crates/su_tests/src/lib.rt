@@ -18,4 +18,8 @@ mod sources;
 #[cfg(test)]
 mod threads;
 #[cfg(test)]
+mod tips;
+#[cfg(test)]
+mod trees;
+#[cfg(test)]
 mod views;

@@ -7,6 +7,7 @@ use Rattle.su_vector.specs.Vector.{zeros}
 use Rattle.su_vector.proofs.Public.{length-bump}
 use Rattle.su_version.specs.Commit.{Commit}
 use Rattle.su_version.specs.Chain.{last_vector, chain_vector, ChainAfter, IsChain}
+use Rattle.su_version.proofs.Nexts.{next_counts}
 
 last_vector-push : (v : List ℕ) (cs : List Commit) (c : Commit) → last_vector v (cs ++ c ∷ []) ≡ c.version.vector
 last_vector-push v [] c = refl
@@ -16,7 +17,7 @@ longs : (ro : Membership) (before cs : List Commit) → ChainAfter ro before cs 
 unfolding chain_vector
 longs ro before [] chain long = long
 longs ro before (c ∷ cs) (next, chain) long =
-    let here : length c.version.vector ≡ length (principals ro) = ap length next.counts.vector_is ∙ length-bump ro (chain_vector ro before) c.version.author _ long in
+    let here : length c.version.vector ≡ length (principals ro) = ap length (next_counts ro before c next).vector_is ∙ length-bump ro (chain_vector ro before) c.version.author _ long in
     let pushed : chain_vector ro (before ++ c ∷ []) ≡ c.version.vector = last_vector-push (zeros ro) before c in
     ap (λ v. length (last_vector v cs)) (sym pushed) ∙ longs ro (before ++ c ∷ []) cs chain (ap length pushed ∙ here)
 

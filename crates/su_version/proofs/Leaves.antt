@@ -6,50 +6,57 @@ use Rattle.std.proofs.lemmas.Bool.{eqb-true}
 use Rattle.su_bytes.specs.Membership.{Membership}
 use Rattle.su_lms.specs.Signature.{leaf_of}
 use Rattle.su_version.specs.Commit.{Commit}
-use Rattle.su_version.specs.Chain.{later_leaf, last_leaf, LowerLeaf, IsNewLeaf, MayBeNext, ChainAfter, IsChain}
+use Rattle.su_version.specs.Chain.{later_leaf, last_leaf, tip, LowerLeaf, IsNewLeaf, MayBeNext, ChainAfter, IsChain}
 
-AllLower : ℕ → ℕ → List Commit → Type 0
-AllLower a q cs = AllByRecursion (LowerLeaf a q) cs
+later_leaf-append : (u : ℕ) (q : Option ℕ) (cs : List Commit) (c : Commit)
+    → later_leaf u q (cs ++ c ∷ []) ≡ cond (nat_eq c.version.author u) (Some (leaf_of c.signature)) (later_leaf u q cs)
+later_leaf-append u q [] c = refl
+later_leaf-append u q (x ∷ cs) c = later_leaf-append u (cond (nat_eq x.version.author u) (Some (leaf_of x.signature)) q) cs c
+
+-- the last leaf of a user, with one commit more
+pub leaf_further : (u : ℕ) (cs : List Commit) (c : Commit)
+    → last_leaf u (cs ++ c ∷ []) ≡ cond (nat_eq c.version.author u) (Some (leaf_of c.signature)) (last_leaf u cs)
+unfolding last_leaf
+leaf_further u cs c = later_leaf-append u None cs c
 
 push : (a q : ℕ) (cs : List Commit) (c : Commit) → AllByRecursion (LowerLeaf a q) cs → LowerLeaf a q c → AllByRecursion (LowerLeaf a q) (cs ++ c ∷ [])
 push a q [] c all here = (here, tt)
 push a q (d ∷ cs) c (first, all) here = (first, push a q cs c all here)
 
-rising : (a b p q : ℕ) → a ≡ b → p < q → (cs : List Commit) → AllByRecursion (LowerLeaf b p) cs → AllByRecursion (LowerLeaf a q) cs
-rising a b p q same less [] all = tt
-rising a b p q same less (d ∷ cs) (here, all) =
-    ((λ by. let low = here (by ∙ same) in omega arith), rising a b p q same less cs all)
+rising : (a p q : ℕ) → p < q → (cs : List Commit) → AllByRecursion (LowerLeaf a p) cs → AllByRecursion (LowerLeaf a q) cs
+rising a p q less [] all = tt
+rising a p q less (d ∷ cs) (here, all) = ((λ by. let low = here by in omega arith), rising a p q less cs all)
 
--- a leaf above this one is above all of the author's before
-Bounds : ℕ → Option ℕ → List Commit → Type 0
-Bounds a o before = (q : ℕ) → IsNewLeaf o q → AllByRecursion (LowerLeaf a q) before
+-- a leaf above the author's last one is above all of the author's
+Bounds : ℕ → List Commit → Type 0
+Bounds a cs = (q : ℕ) → IsNewLeaf (last_leaf a cs) q → AllByRecursion (LowerLeaf a q) cs
 
-bounds_more : (ro : Membership) (a : ℕ) (o : Option ℕ) (before : List Commit) (c : Commit) → MayBeNext ro before c → ((q : ℕ) → IsNewLeaf o q → AllByRecursion (LowerLeaf a q) before) → (b : Bool) → nat_eq c.version.author a ≡ b → (q : ℕ) → IsNewLeaf (cond b (Some (leaf_of c.signature)) o) q → AllByRecursion (LowerLeaf a q) (before ++ c ∷ [])
-bounds_more ro a o before c next bounds true by q above =
-    push a q before c (rising a c.version.author (leaf_of c.signature) q (sym (eqb-true c.version.author a by)) above before next.leaf) (λ _. above)
-bounds_more ro a o before c next bounds false other q above =
+own_leaf : (ro : Membership) (a : ℕ) (before : List Commit) (c : Commit) → MayBeNext ro before c → c.version.author ≡ a → IsNewLeaf (last_leaf a before) (leaf_of c.signature)
+unfolding tip
+own_leaf ro a before c next by = subst (λ b. IsNewLeaf (last_leaf b before) (leaf_of c.signature)) by next.follows.1.1.1.0
+
+bounds_more : (ro : Membership) (a : ℕ) (before : List Commit) (c : Commit) → MayBeNext ro before c → ((q : ℕ) → IsNewLeaf (last_leaf a before) q → AllByRecursion (LowerLeaf a q) before)
+    → (b : Bool) → nat_eq c.version.author a ≡ b → (q : ℕ) → IsNewLeaf (cond b (Some (leaf_of c.signature)) (last_leaf a before)) q → AllByRecursion (LowerLeaf a q) (before ++ c ∷ [])
+bounds_more ro a before c next bounds true by q above =
+    push a q before c (rising a (leaf_of c.signature) q above before (bounds (leaf_of c.signature) (own_leaf ro a before c next (eqb-true c.version.author a by)))) (λ _. above)
+bounds_more ro a before c next bounds false other q above =
     push a q before c (bounds q above) (λ by. let no : false ≡ true = sym other ∙ eq-eqb c.version.author a by in absurd (cc))
 
-lower : (ro : Membership) (a : ℕ) (o : Option ℕ) (before cs : List Commit) → ChainAfter ro before cs → ((q : ℕ) → IsNewLeaf o q → AllByRecursion (LowerLeaf a q) before) → (q : ℕ) → IsNewLeaf (later_leaf a o cs) q → AllByRecursion (LowerLeaf a q) (before ++ cs)
-lower ro a o before [] chain bounds q above = subst (AllByRecursion (LowerLeaf a q)) (sym (append-nil before)) (bounds q above)
-lower ro a o before (c ∷ cs) (next, chain) bounds q above =
-    subst (AllByRecursion (LowerLeaf a q)) (append_assoc before (c ∷ []) cs)
-    (lower ro a (cond (nat_eq c.version.author a) (Some (leaf_of c.signature)) o) (before ++ c ∷ []) cs chain (bounds_more ro a o before c next bounds (nat_eq c.version.author a) refl) q above)
+lower : (ro : Membership) (a : ℕ) (before cs : List Commit) → ChainAfter ro before cs → ((q : ℕ) → IsNewLeaf (last_leaf a before) q → AllByRecursion (LowerLeaf a q) before)
+    → (q : ℕ) → IsNewLeaf (last_leaf a (before ++ cs)) q → AllByRecursion (LowerLeaf a q) (before ++ cs)
+lower ro a before [] chain bounds = subst (λ l. (q : ℕ) → IsNewLeaf (last_leaf a l) q → AllByRecursion (LowerLeaf a q) l) (sym (append-nil before)) bounds
+lower ro a before (c ∷ cs) (next, chain) bounds =
+    subst (λ l. (q : ℕ) → IsNewLeaf (last_leaf a l) q → AllByRecursion (LowerLeaf a q) l) (append_assoc before (c ∷ []) cs)
+    (lower ro a (before ++ c ∷ []) cs chain
+    (λ q above. bounds_more ro a before c next bounds (nat_eq c.version.author a) refl q (subst (λ o. IsNewLeaf o q) (leaf_further a before c) above)))
+
+nothing_before : (a : ℕ) → (q : ℕ) → IsNewLeaf (last_leaf a []) q → AllByRecursion (LowerLeaf a q) []
+nothing_before a q above = tt
 
 -- in a chain, a leaf above the author's last one is above each of the author's
 pub above_all : (ro : Membership) (a q : ℕ) (cs : List Commit) → IsChain ro cs → IsNewLeaf (last_leaf a cs) q → AllByRecursion (LowerLeaf a q) cs
-unfolding last_leaf
-above_all ro a q cs chain above = lower ro a None [] cs chain (λ _ _. tt) q above
+above_all ro a q cs chain above = lower ro a [] cs chain (nothing_before a) q above
 
-new_leaf : (a q : ℕ) (o : Option ℕ) (c : Commit) → LowerLeaf a q c → IsNewLeaf o q → (b : Bool) → nat_eq c.version.author a ≡ b → IsNewLeaf (cond b (Some (leaf_of c.signature)) o) q
-new_leaf a q o c low above true by = low (eqb-true c.version.author a by)
-new_leaf a q o c low above false other = above
-
-above_last_from : (a q : ℕ) (o : Option ℕ) (cs : List Commit) → AllByRecursion (LowerLeaf a q) cs → IsNewLeaf o q → IsNewLeaf (later_leaf a o cs) q
-above_last_from a q o [] all above = above
-above_last_from a q o (c ∷ cs) (here, all) above = above_last_from a q (cond (nat_eq c.version.author a) (Some (leaf_of c.signature)) o) cs all (new_leaf a q o c here above (nat_eq c.version.author a) refl)
-
--- what is above each is above the last
-pub above_last : (a q : ℕ) (cs : List Commit) → AllByRecursion (LowerLeaf a q) cs → IsNewLeaf (last_leaf a cs) q
-unfolding last_leaf
-above_last a q cs all = above_last_from a q None cs all tt
+-- of what may come next, too
+pub next_leaf : (ro : Membership) (cs : List Commit) (c : Commit) → IsChain ro cs → MayBeNext ro cs c → AllByRecursion (LowerLeaf c.version.author (leaf_of c.signature)) cs
+next_leaf ro cs c chain next = above_all ro c.version.author (leaf_of c.signature) cs chain (own_leaf ro c.version.author cs c next refl)

@@ -3,4 +3,5 @@ mod CommitSpelling
 mod Chaining
 mod Counting
 mod Leaves
+mod Nexts
 pub mod Public

@@ -3,4 +3,5 @@ pub use Rattle.su_version.proofs.Spelling.{version_of, version_lawful}
 pub use Rattle.su_version.proofs.CommitSpelling.{commit_of, commit_lawful}
 pub use Rattle.su_version.proofs.Chaining.{group_listed}
 pub use Rattle.su_version.proofs.Counting.{length-chain_vector}
-pub use Rattle.su_version.proofs.Leaves.{above_all, above_last}
+pub use Rattle.su_version.proofs.Leaves.{above_all, leaf_further, next_leaf}
+pub use Rattle.su_version.proofs.Nexts.{signed_by_user, next_signed, next_prev, next_counts, next_user}

@@ -1,8 +1,9 @@
 -- Chains of commits, without their changes: what a server that stores commits can check of them,
 -- and a client checks too.
-use Rattle.std.specs.Prelude.{◌≡◌, ◌≢◌, ◌<◌, ◌⊎◌, ℕ, Bool, true, false, Option, Some, None, List, [], ◌∷◌, ◌++◌, length, map, nat_eq, cond}
+use Rattle.std.specs.Prelude.{◌≡◌, ◌<◌, ℕ, Bool, true, false, Option, Some, None, List, [], ◌∷◌, ◌++◌, length, map, nat_eq, cond}
 use Rattle.std.specs.List.{AllByRecursion}
-use Rattle.su_bytes.specs.Membership.{Membership, has_number, has_user}
+use Rattle.su_bytes.specs.Membership.{Membership, has_number}
+use Rattle.su_bytes.specs.Order.{Line, demand, Passes}
 use Rattle.su_bytes.specs.declared.principals.Principal.{Principal}
 use Rattle.su_bytes.specs.declared.principals.Principal.TheVariants.{User, Group}
 use Rattle.su_bytes.specs.declared.refusals.Refusal.{Refusal}
@@ -45,6 +46,8 @@ pub record Tip : Type 0 where
   pub number : ℕ
   pub head : List ℕ
   pub vector : List ℕ
+  -- the user's key, and the leaf by which the user signed last
+  pub key : Option (List ℕ)
   pub leaf : Option ℕ
 
 unfoldable pub tip : Membership → List Commit → ℕ → Tip
@@ -52,6 +55,7 @@ tip ro cs a = record {
   number = length cs;
   head = chain_head ro cs;
   vector = chain_vector ro cs;
+  key = user_key ro a;
   leaf = last_leaf a cs;
 }
 
@@ -62,10 +66,14 @@ abbrev pub is_that_group : ℕ → Principal → Bool
 is_that_group g (User _) = false
 is_that_group g (Group h) = nat_eq h g
 
+-- the commit is signed under this key, if there is one
+abbrev pub IsSignedBy : Option (List ℕ) → Commit → Type 0
+IsSignedBy None c = ⊥
+IsSignedBy (Some key) c = IsSigned key (version_bytes c.version) c.signature
+
 -- its author is a user of the roster, and signed it
-pub record IsSignedByAuthor (ro : Membership) (c : Commit) : Type 0 where
-  pub author : has_user ro c.version.author ≡ true
-  pub signed : IsSigned (user_key ro c.version.author) (version_bytes c.version) c.signature
+abbrev pub IsSignedByAuthor : Membership → Commit → Type 0
+IsSignedByAuthor ro c = IsSignedBy (user_key ro c.version.author) c
 
 -- it carries groups of the roster, and its vector is the one before with the numbers of its author
 -- and of these groups one higher
@@ -79,28 +87,25 @@ abbrev pub IsNewLeaf : Option ℕ → ℕ → Type 0
 IsNewLeaf None q = Unit {0}
 IsNewLeaf (Some last) q = last < q
 
--- A commit may follow a tip.
-pub record MayFollow (ro : Membership) (t : Tip) (c : Commit) : Type 0 where
-  pub by_author : IsSignedByAuthor ro c
-  -- it names the commit before
-  pub prev : c.version.prev ≡ t.head
-  pub counts : CountsOn ro t.vector c
-  pub leaf : IsNewLeaf t.leaf (leaf_of c.signature)
+-- What a commit has to meet to follow a tip, in this order: it is signed under the key; it names
+-- the commit before; its vector counts on; its leaf is new.
+abbrev pub next_order : Membership → Tip → Commit → List (Line Refusal)
+next_order ro t c =
+    demand (IsSignedBy t.key c) BadSignature
+    ∷ demand (c.version.prev ≡ t.head) (WrongPrev t.number)
+    ∷ demand (CountsOn ro t.vector c) WrongVector
+    ∷ demand (IsNewLeaf t.leaf (leaf_of c.signature)) KeyReuse
+    ∷ []
 
--- a commit by this author has a lower leaf
+-- A commit may be the next in a chain: its bytes spell it, and it meets what its author's next
+-- commit has to.
+pub record MayBeNext (ro : Membership) (cs : List Commit) (c : Commit) : Type 0 where
+  pub spelled : IsCommit c
+  pub follows : Passes (next_order ro (tip ro cs c.version.author) c)
+
+-- if it is by this author, it has a lower leaf
 abbrev pub LowerLeaf : ℕ → ℕ → Commit → Type 0
 LowerLeaf a q d = d.version.author ≡ a → leaf_of d.signature < q
-
--- A commit may be the next in a chain.
-pub record MayBeNext (ro : Membership) (cs : List Commit) (c : Commit) : Type 0 where
-  -- its bytes spell it
-  pub spelled : IsCommit c
-  pub by_author : IsSignedByAuthor ro c
-  -- it names the commit before
-  pub prev : c.version.prev ≡ chain_head ro cs
-  pub counts : CountsOn ro (chain_vector ro cs) c
-  -- its leaf is above those of the author's commits before
-  pub leaf : AllByRecursion (LowerLeaf c.version.author (leaf_of c.signature)) cs
 
 -- Each of these may come next, after those before it.
 abbrev pub ChainAfter : Membership → List Commit → List Commit → Type 0
@@ -110,14 +115,3 @@ ChainAfter ro before (c ∷ cs) = MayBeNext ro before c × ChainAfter ro (before
 -- a list of commits of which each may follow those before it
 abbrev pub IsChain : Membership → List Commit → Type 0
 IsChain ro cs = ChainAfter ro [] cs
-
--- ---- what is refused, in this order
-
-abbrev pub IsRefusedSo : Membership → Tip → Commit → Refusal → Type 0
-IsRefusedSo ro t c e =
-    ((e ≡ BadSignature) × (IsSignedByAuthor ro c → ⊥))
-    ⊎ ((e ≡ WrongPrev t.number) × IsSignedByAuthor ro c × (c.version.prev ≢ t.head))
-    ⊎ ((e ≡ WrongVector) × IsSignedByAuthor ro c × (c.version.prev ≡ t.head)
-    × (CountsOn ro t.vector c → ⊥))
-    ⊎ ((e ≡ KeyReuse) × IsSignedByAuthor ro c × (c.version.prev ≡ t.head)
-    × CountsOn ro t.vector c × (IsNewLeaf t.leaf (leaf_of c.signature) → ⊥))

@@ -16,17 +16,6 @@ pub record Version : Type 0 where
   pub groups : List (ℕ × List ℕ)
   pub vector : List ℕ
 
--- the version structure of these parts
-abbrev pub made_version : ℕ → List ℕ → List ℕ → List ℕ → List (ℕ × List ℕ) → List ℕ → Version
-made_version author prev change handle groups vector = record {
-  author = author;
-  prev = prev;
-  change = change;
-  handle = handle;
-  groups = groups;
-  vector = vector;
-}
-
 -- a group of at least this number, with a digest
 pub record IsCarried (least : ℕ) (g : ℕ × List ℕ) : Type 0 where
   pub above : least ≤ g.0
@@ -54,13 +43,21 @@ pub record IsVersion (v : Version) : Type 0 where
 abbrev pub group_bytes : ℕ × List ℕ → List ℕ
 group_bytes g = g.0 ∷ g.1
 
--- `SV01`; author, prev, change, i-handle; how many groups, and each with its i-handle; how many
--- numbers, and these: the bytes that are signed
-unfoldable pub version_bytes : Version → List ℕ
-version_bytes v =
-    codes "SV01" ++ (v.author ∷ (v.prev ++ (v.change ++ (v.handle
+-- the first bytes, which say what format the rest has
+abbrev pub first_bytes : List ℕ
+first_bytes = codes "SV01"
+
+-- the rest: author, prev, change, i-handle; how many groups, and each with its i-handle; how many
+-- numbers, and these
+unfoldable pub body_bytes : Version → List ℕ
+body_bytes v =
+    v.author ∷ (v.prev ++ (v.change ++ (v.handle
     ++ (length v.groups ∷ (flat_map group_bytes v.groups
-    ++ (length v.vector ∷ flat_map u64_bytes v.vector)))))))
+    ++ (length v.vector ∷ flat_map u64_bytes v.vector))))))
+
+-- the bytes that are signed
+unfoldable pub version_bytes : Version → List ℕ
+version_bytes v = first_bytes ++ body_bytes v
 
 -- ---- its parts
 
@@ -90,13 +87,26 @@ vector_format = do
   size ← vector_size_part
   repeated number_format (λ _. 0) size 0
 
-unfoldable pub version_format : Format Version
-version_format = do
-  mark ← mark_part (codes "SV01")
+-- what stands behind the first bytes
+unfoldable pub body_format : Format Version
+body_format = do
   author ← user_part
   prev ← digest_part
   change ← digest_part
   handle ← digest_part
   groups ← groups_format
   vector ← vector_format
-  making (made_version author prev change handle groups vector)
+  making (record {
+    author = author;
+    prev = prev;
+    change = change;
+    handle = handle;
+    groups = groups;
+    vector = vector;
+  })
+
+-- the first bytes, and the rest
+unfoldable pub version_format : Format Version
+version_format = do
+  mark ← mark_part first_bytes
+  body_format

@@ -1,11 +1,9 @@
 // How commits follow one another.
-ghost use Rattle.std.specs.Prelude.{◌≡◌, ◌≤◌, ◌⊎◌, ◌↔◌, IsTrue, true, false, length, IfOk, IfErr, OnOk, MatchOption};
+ghost use Rattle.std.specs.Prelude.{◌≡◌, ◌≤◌, ◌⊎◌, ◌↔◌, IsTrue, true, false, length, IfOk, IfErr, OnOk};
 ghost use Rattle.std.specs.List.{AllByRecursion, list_any};
-ghost use Rattle.std.specs.Option.{option_copied};
+ghost use Rattle.su_bytes.specs.Order.{Passes, RefusedBy};
 ghost use Rattle.su_bytes.specs.Principal.{principals as principals_of};
-ghost use Rattle.su_lms.specs.Signature.{IsSigned};
-ghost use Rattle.su_version.specs.Chain.{IsSignedByAuthor, MayFollow, IsRefusedSo, CountsOn, IsNewLeaf, is_that_group};
-ghost use Rattle.su_bytes.specs.RosterBytes.{IsKeyOf};
+ghost use Rattle.su_version.specs.Chain.{IsSignedBy, next_order, CountsOn, IsNewLeaf, is_that_group};
 ghost use Rattle.su_bytes.specs.declared.refusals.Refusal.TheVariants.{NoMemory};
 
 use crate::commits::Commit;
@@ -15,12 +13,38 @@ use su_bytes::{Digest, FileId, Group, Principal, Refusal, Roster};
 use su_lms::PublicKey;
 use su_vector::{Vector, are_numbers_after};
 
+/// Whether a commit is signed under a key, if there is one: what a check of its signature told.
+#[derive(Clone, Copy, Debug)]
+pub struct Verdict {
+    pub key: Option<PublicKey>,
+    pub is_signed: bool,
+}
+
+impl Verdict {
+    /// Checks whether a commit is signed under the key; under none it isn't. Fails only with
+    /// `NoMemory`; it makes one check of a signature.
+    pub fn of(alloc: Global, key: Option<PublicKey>, commit: &Commit) -> Result<Verdict, Refusal>
+        ensures key { IfOk result (λ verdict. verdict.key ≡ key) }
+        ensures value { IfOk result (λ verdict.
+            IsTrue verdict.is_signed ↔ IsSignedBy verdict.key commit.now) }
+        ensures refused { IfErr result (λ e. e ≡ NoMemory) }
+    {
+        let bytes = commit.version().encode(alloc)?;
+        let is_signed = match &key {
+            None => false,
+            Some(key) => key.verify(bytes.as_slice(), commit.signature()),
+        };
+        Ok(Verdict { key, is_signed })
+    }
+}
+
 /// What a chain of commits comes to for the next commit of a user.
 #[derive(Drop)]
 pub struct Tip<'a> {
     number: u64,
     head: Digest,
     vector: &'a Vector,
+    key: Option<PublicKey>,
     leaf: Option<u32>,
 }
 
@@ -33,19 +57,27 @@ impl<'a> Model for Tip<'a> {
       number = t.number;
       head = t.head;
       vector = t.vector.now;
+      key = t.key;
       leaf = t.leaf;
     } };
 }
 
 impl<'a> Tip<'a> {
     /// The tip of a chain of so many commits, with the digest of the last one (at first that of the
-    /// roster), its vector (at first zeros), and the leaf by which the user signed the user's last
-    /// commit.
-    pub fn new(number: u64, head: Digest, vector: &'a Vector, leaf: Option<u32>) -> Tip<'a>
+    /// roster), its vector (at first zeros), the user's key, if there is such a user, and the leaf
+    /// by which the user signed the user's last commit.
+    pub fn new(
+        number: u64,
+        head: Digest,
+        vector: &'a Vector,
+        key: Option<PublicKey>,
+        leaf: Option<u32>,
+    ) -> Tip<'a>
         ensures { result ≡ record {
           number = number;
           head = head;
           vector = vector.now;
+          key = key;
           leaf = leaf;
         } }
     {
@@ -53,50 +85,58 @@ impl<'a> Tip<'a> {
             number,
             head,
             vector,
+            key,
             leaf,
         }
     }
 
-    /// Checks whether a commit of that user may come next, by the user's key in the roster, if
-    /// there is such a user. `BadSignature` where there is none, or the signature isn't under the
-    /// key; `WrongPrev` with the number of commits where it names another one before it;
-    /// `WrongVector` where it carries a group that isn't in the roster, or its vector isn't the
-    /// next; `KeyReuse` where its leaf isn't above the last; `NoMemory`.
-    pub fn check(
-        &self,
-        alloc: Global,
-        roster: &Roster,
-        key: Option<&PublicKey>,
-        commit: &Commit,
-    ) -> Result<(), Refusal>
-        requires { IsKeyOf roster.now commit.now.version.author (option_copied key) }
-        ensures follows { OnOk result (MayFollow roster.now self.now commit.now) }
+    /// Checks whether a commit of that user may come next. `BadSignature` where there is no such
+    /// user, or the signature isn't under the user's key; `WrongPrev` with the number of commits
+    /// where it names another one before it; `WrongVector` where it carries a group that isn't in
+    /// the roster, or its vector isn't the next; `KeyReuse` where its leaf isn't above the last;
+    /// `NoMemory`. It makes one check of a signature.
+    pub fn check(&self, alloc: Global, roster: &Roster, commit: &Commit) -> Result<(), Refusal>
+        ensures follows { OnOk result (Passes (next_order roster.now self.now commit.now)) }
         ensures refused { IfErr result (λ e.
-            (e ≡ NoMemory) ⊎ IsRefusedSo roster.now self.now commit.now e) }
+            (e ≡ NoMemory) ⊎ RefusedBy (next_order roster.now self.now commit.now) e) }
     {
         // names the type for the prover (docs/ARCHITECTURE.md, "Forms the kit wants")
         let _file: Option<FileId> = None;
-        let by_author = is_signed_by_author(alloc, roster, key, commit)?;
-        self.check_known(roster, by_author, commit)
+        let verdict = Verdict::of(alloc, self.key, commit)?;
+        self.check_signed(roster, verdict.is_signed, commit)
     }
 
-    /// Checks as `check` does, where it is known whether the commit's author signed it. It checks
-    /// no signature.
+    /// Checks as `check` does, where there is a verdict on the commit's signature: if it was found
+    /// under the user's key, no signature is checked.
     pub fn check_known(
         &self,
+        alloc: Global,
         roster: &Roster,
-        by_author: bool,
+        verdict: Verdict,
         commit: &Commit,
     ) -> Result<(), Refusal>
-        requires { IsTrue by_author ↔ IsSignedByAuthor roster.now commit.now }
-        ensures follows { OnOk result (MayFollow roster.now self.now commit.now) }
+        requires { IsTrue verdict.is_signed ↔ IsSignedBy verdict.key commit.now }
+        ensures follows { OnOk result (Passes (next_order roster.now self.now commit.now)) }
         ensures refused { IfErr result (λ e.
-            (e ≡ NoMemory) ⊎ IsRefusedSo roster.now self.now commit.now e) }
+            (e ≡ NoMemory) ⊎ RefusedBy (next_order roster.now self.now commit.now) e) }
+    {
+        if verdict.key != self.key {
+            return self.check(alloc, roster, commit);
+        }
+        self.check_signed(roster, verdict.is_signed, commit)
+    }
+
+    /// Checks as `check` does, where it is known whether the commit is signed.
+    fn check_signed(&self, roster: &Roster, is_signed: bool, commit: &Commit) -> Result<(), Refusal>
+        requires { IsTrue is_signed ↔ IsSignedBy self.now.key commit.now }
+        ensures follows { OnOk result (Passes (next_order roster.now self.now commit.now)) }
+        ensures refused { IfErr result (λ e.
+            (e ≡ NoMemory) ⊎ RefusedBy (next_order roster.now self.now commit.now) e) }
     {
         // names the type for the prover (docs/ARCHITECTURE.md, "Forms the kit wants")
         let _file: Option<FileId> = None;
         let principals = roster.principals()?;
-        if !by_author {
+        if !is_signed {
             return Err(Refusal::BadSignature);
         }
         if commit.version().prev() != self.head {
@@ -109,33 +149,6 @@ impl<'a> Tip<'a> {
             return Err(Refusal::KeyReuse);
         }
         Ok(())
-    }
-}
-
-/// Whether a commit's author is a user of the roster and signed it. The key is the author's in the
-/// roster, if there is such a user. Fails only with `NoMemory`; it makes one check of a signature.
-pub fn is_signed_by_author(
-    alloc: Global,
-    _roster: &Roster,
-    key: Option<&PublicKey>,
-    commit: &Commit,
-) -> Result<bool, Refusal>
-    requires { IsKeyOf _roster.now commit.now.version.author (option_copied key) }
-    ensures value { IfOk result (λ b. IsTrue b ↔ IsSignedByAuthor _roster.now commit.now) }
-    ensures refused { IfErr result (λ e. e ≡ NoMemory) }
-{
-    let bytes = commit.version().encode(alloc)?;
-    Ok(is_signed(key, bytes.as_slice(), commit.signature()))
-}
-
-/// Whether the message is signed under the key, if there is one.
-fn is_signed(key: Option<&PublicKey>, message: &[u8], signature: &[u8]) -> bool
-    ensures { MatchOption (option_copied key.entry) (result ≡ false)
-        (λ k. IsTrue result ↔ IsSigned k message.now signature.now) }
-{
-    match key {
-        None => false,
-        Some(key) => key.verify(message, signature),
     }
 }
 

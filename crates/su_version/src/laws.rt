@@ -1,10 +1,12 @@
 // What holds of version structures, commits and chains.
 ghost use Rattle.std.specs.Prelude.{◌≡◌, ◌++◌, ℕ, List};
+ghost use Rattle.std.specs.List.{AllByRecursion};
 ghost use Rattle.su_bytes.specs.Membership.{Membership};
+ghost use Rattle.su_lms.specs.Signature.{leaf_of};
 ghost use Rattle.su_version.specs.Version.{Version, IsVersion, version_bytes};
 ghost use Rattle.su_version.specs.Commit.{Commit, IsCommit, commit_bytes};
 ghost use Rattle.su_bytes.specs.RosterBytes.{roster_bytes};
-ghost use Rattle.su_version.specs.Chain.{IsChain, MayBeNext, MayFollow, tip};
+ghost use Rattle.su_version.specs.Chain.{IsChain, MayBeNext, LowerLeaf};
 
 /// A version structure has one spelling, which begins no other's; so does a commit; and no roster
 /// is spelled as a commit is.
@@ -16,11 +18,10 @@ pub fn no_spelling_begins_another()
     ensures rosters { (ro : Membership) (c : Commit) → roster_bytes ro ≡ commit_bytes c → ⊥ }
 {}
 
-/// A commit may be the next in a chain just where it may follow what the chain comes to for its
-/// author: the last leaf of each author is enough to keep.
-pub fn next_follows_tip()
-    ensures next { (ro : Membership) (cs : List Commit) (c : Commit) → IsChain ro cs → IsCommit c
-        → MayFollow ro (tip ro cs c.version.author) c → MayBeNext ro cs c }
-    ensures follows { (ro : Membership) (cs : List Commit) (c : Commit) → MayBeNext ro cs c
-        → MayFollow ro (tip ro cs c.version.author) c }
+/// Along a chain the leaves of each author rise: of a commit that may be the next one, the leaf is
+/// above those of all its author's commits before.
+pub fn leaves_rise()
+    ensures { (ro : Membership) (cs : List Commit) (c : Commit) → IsChain ro cs
+        → MayBeNext ro cs c
+        → AllByRecursion (LowerLeaf c.version.author (leaf_of c.signature)) cs }
 {}

@@ -7,10 +7,7 @@ mod commits;
 mod laws;
 mod versions;
 
-pub use chains::{Tip, is_signed_by_author};
+pub use chains::{Tip, Verdict};
 pub use commits::{Commit, LONGEST_SIGNATURE};
-pub use laws::{next_follows_tip, no_spelling_begins_another};
+pub use laws::{leaves_rise, no_spelling_begins_another};
 pub use versions::VersionStructure;
-
-#[cfg(test)]
-mod tests;

@@ -3,7 +3,7 @@ ghost use Rattle.std.specs.Prelude.{◌≡◌, ◌≤◌, ◌<◌, ◌↔◌, �
 ghost use Rattle.std.specs.List.{flat_map};
 ghost use Rattle.su_format.specs.Reading.{Took, Refuses, Takes, Decodes};
 ghost use Rattle.su_format.specs.Part.{u8_bytes, u64_bytes};
-ghost use Rattle.su_version.specs.Version.{Version as VersionParts, IsVersion, made_version, version_bytes, group_bytes, group_above, carried_format, groups_format, vector_size_part, vector_format, version_format};
+ghost use Rattle.su_version.specs.Version.{Version as VersionParts, IsVersion, body_bytes, version_bytes, group_bytes, group_above, carried_format, groups_format, vector_size_part, vector_format, body_format, version_format};
 ghost use Rattle.su_bytes.specs.declared.refusals.Refusal.TheVariants.{NoMemory};
 
 use std::alloc::{AllocError, Global};
@@ -11,6 +11,9 @@ use std::marker::Model;
 use su_bytes::{Digest, FileId, Group, Refusal, User};
 use su_format::{Reader, Writer};
 use su_vector::{HasVector, Vector};
+
+/// The first bytes of a version structure.
+const FIRST_BYTES: &[u8] = b"SV01";
 
 /// What a user signs for a change: whose it is, the digest of the commit before, the digest of the
 /// change, the author's i-handle after it, the groups whose tables it writes with their i-handles,
@@ -26,14 +29,27 @@ pub struct VersionStructure {
 }
 
 impl Model for VersionStructure {
-    ghost use Rattle.su_version.specs.Version.{Version, IsVersion, made_version};
+    ghost use Rattle.su_version.specs.Version.{Version, IsVersion};
 
     ghost Value = { Version };
 
-    ghost view = { λ v. made_version v.author v.prev v.change v.handle v.groups.items v.vector };
+    ghost view = { λ v. record {
+      author = v.author;
+      prev = v.prev;
+      change = v.change;
+      handle = v.handle;
+      groups = v.groups.items;
+      vector = v.vector;
+    } };
 
-    ghost invariant = { λ v.
-        IsVersion (made_version v.author v.prev v.change v.handle v.groups.items v.vector) };
+    ghost invariant = { λ v. IsVersion (record {
+      author = v.author;
+      prev = v.prev;
+      change = v.change;
+      handle = v.handle;
+      groups = v.groups.items;
+      vector = v.vector;
+    }) };
 }
 
 impl VersionStructure {
@@ -46,8 +62,22 @@ impl VersionStructure {
         groups: Vec<(Group, Digest)>,
         vector: Vector,
     ) -> VersionStructure
-        requires { IsVersion (made_version author prev change handle groups.items vector) }
-        ensures { result ≡ made_version author prev change handle groups.items vector }
+        requires { IsVersion (record {
+          author = author;
+          prev = prev;
+          change = change;
+          handle = handle;
+          groups = groups.items;
+          vector = vector;
+        }) }
+        ensures { result ≡ record {
+          author = author;
+          prev = prev;
+          change = change;
+          handle = handle;
+          groups = groups.items;
+          vector = vector;
+        } }
     {
         VersionStructure {
             author,
@@ -121,10 +151,18 @@ impl VersionStructure {
     }
 
     /// Writes the bytes.
+    #[tactic(auto, unfolding(crate::specs::Version::version_bytes))]
     pub(crate) fn write(&self, writer: &mut Writer) -> Result<(), AllocError>
         ensures { OnOk result (writer.new ≡ writer.old ++ version_bytes self.now) }
     {
-        writer.put_bytes(b"SV01")?;
+        writer.put_bytes(FIRST_BYTES)?;
+        self.write_body(writer)
+    }
+
+    // Writes the bytes behind the first ones.
+    fn write_body(&self, writer: &mut Writer) -> Result<(), AllocError>
+        ensures { OnOk result (writer.new ≡ writer.old ++ body_bytes self.now) }
+    {
         writer.put_user(self.author)?;
         writer.put_digest(&self.prev)?;
         writer.put_digest(&self.change)?;
@@ -157,7 +195,16 @@ impl VersionStructure {
     {
         // names the type for the prover (docs/ARCHITECTURE.md, "Forms the kit wants")
         let _file: Option<FileId> = None;
-        reader.take_mark(b"SV01")?;
+        reader.take_mark(FIRST_BYTES)?;
+        VersionStructure::read_body(alloc, reader)
+    }
+
+    // Reads what stands behind the first bytes.
+    fn read_body(alloc: Global, reader: &mut Reader<'_>) -> Result<VersionStructure, Refusal>
+        ensures { Takes body_format reader.old result reader.new }
+    {
+        // names the type for the prover (docs/ARCHITECTURE.md, "Forms the kit wants")
+        let _file: Option<FileId> = None;
         let author = reader.take_user()?;
         let prev = reader.take_digest()?;
         let change = reader.take_digest()?;

@@ -3,10 +3,11 @@ use Rattle.std.proofs.Common.{◌≡◌, ◌≢◌, ℕ, suc, ◌+◌, ◌≤◌
 use Rattle.std.specs.List.Sorted.{IsStrictlyIncreasing}
 use Rattle.sha2.specs.Sha256.{sha256}
 use Rattle.su_bytes.specs.Membership.{Membership}
+use Rattle.su_bytes.specs.Order.{RefusedBy}
 use Rattle.su_bytes.specs.declared.refusals.Refusal.{Refusal}
 use Rattle.su_bytes.specs.declared.refusals.Refusal.TheVariants.{NoMemory}
 use Rattle.su_bytes.specs.declared.principals.Principal.{Principal}
-use Rattle.su_bytes.specs.declared.principals.Principal.TheVariants.{Group}
+use Rattle.su_bytes.specs.declared.principals.Principal.TheVariants.{User, Group}
 use Rattle.su_format.specs.Format.{EachFrom}
 use Rattle.su_op.specs.declared.operations.Change.{Change}
 use Rattle.su_desk.specs.declared.entries.Entry.{Entry}
@@ -27,7 +28,7 @@ use Rattle.su_legal.specs.Legal.{commits_of, history, author_handle, group_handl
 use Rattle.su_view.specs.Holding.{HoldingState, with_more, Took}
 use Rattle.su_view.specs.Keeping.{held_in, holding_of, IsKeeping, JoinsNext}
 use Rattle.su_view.specs.declared.records.Keeping.{Keeping}
-use Rattle.su_view.specs.Joining.{AscendFrom, IsOtherHandle, IsUnfit, IsRefusedWith}
+use Rattle.su_view.specs.Joining.{AscendFrom, handle_in, IsOtherHandle, IsWrongHandle, HoldsHandles, fitting_order, IsRefusedWith}
 use Rattle.su_view.specs.declared.refusals.ViewRefusal.{ViewRefusal}
 use Rattle.su_view.specs.declared.refusals.ViewRefusal.TheVariants.{Plain, WrongHandle, Change as ChangeRefused}
 
@@ -70,7 +71,7 @@ handles_ascend f gs rising = rise_from f 0 gs (λ some. omega arith) rising
 -- ---- what joins, and what doesn't
 
 module _ (v : HoldingState) (c : Commit) (change : Change) (item : List ℕ) (is_change : IsChange change) (has_item : HasItem change) (spelled : item ≡ item_bytes change) where
-  unfit : (e : ViewRefusal) → IsUnfit v c change e → IsRefusedWith v c item e
+  unfit : (e : ViewRefusal) → RefusedBy (fitting_order v c change) e → IsRefusedWith v c item e
   unfit e why = inr (record { change = change; is_change = is_change; has_item = has_item; spelled = spelled; unfit = why })
 
   -- the desk refused the change, or there was no room
@@ -81,7 +82,13 @@ module _ (v : HoldingState) (c : Commit) (change : Change) (item : List ℕ) (is
   not_prepared e r why (inl (none, is)) = inl is
   not_prepared e r (inl none) (inr (other, is)) = absurd (other none)
   not_prepared e r (inr refused) (inr (other, is)) =
-      inr (unfit r (inl (e, is, refused_answer v.roster (history v.held) c.version.author change e refused)))
+      let why = refused_answer v.roster (history v.held) c.version.author change e refused in
+      inr (unfit r (inl ((e, is, why), λ none. let clash : Some e ≡ None = sym why ∙ none in absurd cc)))
+
+  -- where one is another, they aren't all held
+  other_than : (p : Principal) → IsWrongHandle v c change p → HoldsHandles v c change → ⊥
+  other_than (User u) wrong (author, groups) = wrong.1 author
+  other_than (Group g) wrong (author, groups) = wrong.1.other (ap (λ l. handle_in l g) groups)
 
   -- a handle is another than the one that was told
   pub other_handle : (n : ℕ) (handle : List ℕ) (groups : List (ℕ × List ℕ)) (p : Principal)
@@ -90,13 +97,9 @@ module _ (v : HoldingState) (c : Commit) (change : Change) (item : List ℕ) (is
       → groups ≡ group_handles v.roster (history v.held) c.version.author change
       → IsOtherHandle c.version handle groups p → IsRefusedWith v c item (WrongHandle p)
   other_handle n handle groups p accepted told_handle told_groups other =
-      unfit (WrongHandle p) (inr (
-        p,
-        refl,
-        accepted_answer v.roster (history v.held) c.version.author n change accepted,
-        subst (λ gs. IsOtherHandle c.version (author_handle v.roster (history v.held) c.version.author change) gs p) told_groups
-            (subst (λ d. IsOtherHandle c.version d groups p) told_handle other),
-      ))
+      let wrong = subst (λ gs. IsOtherHandle c.version (author_handle v.roster (history v.held) c.version.author change) gs p) told_groups
+      (subst (λ d. IsOtherHandle c.version d groups p) told_handle other) in
+      unfit (WrongHandle p) (inr (accepted_answer v.roster (history v.held) c.version.author n change accepted, inl ((p, refl, wrong), other_than p wrong)))
 
   -- all handles are those that were told
   pub may_join : (n : ℕ) → MayBeNext v.roster (commits_of v.held) c → sha256 item ≡ c.version.change

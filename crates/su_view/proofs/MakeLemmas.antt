@@ -30,10 +30,9 @@ use Rattle.su_change.specs.Item.{IsChange, HasItem, item_bytes, change_digest}
 use Rattle.su_lms.specs.Signature.{IsSigned, ots_of}
 use Rattle.su_lms.specs.ParameterSets.{chain_count}
 use Rattle.su_vector.specs.Vector.{bump}
-use Rattle.su_version.specs.Version.{Version, IsVersion, IsCarried, made_version, version_bytes}
+use Rattle.su_version.specs.Version.{Version, IsVersion, IsCarried}
 use Rattle.su_version.specs.Commit.{Commit, IsCommit}
-use Rattle.su_version.specs.Chain.{ChainAfter, IsChain, IsNewLeaf, LowerLeaf, last_leaf, MayBeNext, chain_head}
-use Rattle.su_version.proofs.Public.{above_all}
+use Rattle.su_version.specs.Chain.{ChainAfter, IsChain, IsNewLeaf, IsSignedBy, last_leaf, tip, MayBeNext, chain_head}
 use Rattle.su_legal.specs.Legal.{Committed, commits_of, history, head_of, vector_of, tree_with, author_handle, group_handles, MayJoin, LegalAfter, Legal}
 use Rattle.su_legal.proofs.Public.{vector_counts, bump_counts, groups_listed}
 use Rattle.su_view.specs.Holding.{HoldingState}
@@ -93,22 +92,28 @@ groups_known ro h a change = listed _ (λ g. handle (tree_with ro h a change) (G
 module _ (v : HoldingState) (change : Change) (leaf : ℕ) (c : Commit) (legal : Legal v.roster v.held) (member : has_user v.roster v.user ≡ true)
     (is_commit : IsCommit c) (made : IsMade v change leaf c) where
   made_next : IsNewLeaf (last_leaf v.user (commits_of v.held)) leaf → MayBeNext v.roster (commits_of v.held) c
+  unfolding tip
   made_next new = record {
     spelled = is_commit;
-    by_author = record {
-      author = ap (λ (s : Version). has_user v.roster s.author) made.version ∙ member;
-      signed = subst (λ (s : Version). IsSigned (user_key v.roster s.author) (version_bytes c.version) c.signature) (sym made.version) made.signed;
-    };
-    prev = ap (λ (s : Version). s.prev) made.version;
-    counts = record {
-      groups = subst (λ (s : Version). AllByRecursion (λ (g : ℕ × List ℕ). has_number v.roster.groups g.0 ≡ true) s.groups) (sym made.version)
-          (groups_known v.roster (history v.held) v.user change);
-      vector_is = ap (λ (s : Version). s.vector) made.version
-          ∙ ap (λ (s : Version). bump v.roster (vector_of v.roster v.held) s.author (map (λ g. g.0) s.groups)) (sym made.version);
-    };
-    leaf = subst (λ q. AllByRecursion (LowerLeaf c.version.author q) (commits_of v.held)) (sym made.leaf_is)
-        (subst (λ (s : Version). AllByRecursion (LowerLeaf s.author leaf) (commits_of v.held)) (sym made.version)
-        (above_all v.roster v.user leaf (commits_of v.held) (is_chain v.roster v.held legal) new));
+    follows = (
+      subst (λ (s : Version). IsSignedBy (user_key v.roster s.author) c) (sym made.version) made.signed,
+      (
+        ap (λ (s : Version). s.prev) made.version,
+        (
+          record {
+            groups = subst (λ (s : Version). AllByRecursion (λ (g : ℕ × List ℕ). has_number v.roster.groups g.0 ≡ true) s.groups) (sym made.version)
+                (groups_known v.roster (history v.held) v.user change);
+            vector_is = ap (λ (s : Version). s.vector) made.version
+                ∙ ap (λ (s : Version). bump v.roster (vector_of v.roster v.held) s.author (map (λ g. g.0) s.groups)) (sym made.version);
+          },
+          (
+            subst (λ q. IsNewLeaf (last_leaf c.version.author (commits_of v.held)) q) (sym made.leaf_is)
+                (subst (λ (s : Version). IsNewLeaf (last_leaf s.author (commits_of v.held)) leaf) (sym made.version) new),
+            tt,
+          ),
+        ),
+      ),
+    );
   }
 
   pub made_joins : IsChange change → HasItem change → IsNewLeaf (last_leaf v.user (commits_of v.held)) leaf
@@ -219,6 +224,17 @@ module _ (k : Keeping) (kept : IsKeeping k) (v : HoldingState) (is : holding_of 
   abbrev groups : List (ℕ × List ℕ)
   groups = d.prepared.groups.items
 
+  -- the version structure that is made of it
+  abbrev drafted : List ℕ → List ℕ → List ℕ → Version
+  drafted head digest vector = record {
+    author = k.user;
+    prev = head;
+    change = digest;
+    handle = d.prepared.author_handle;
+    groups = groups;
+    vector = vector;
+  }
+
   kept_draft : IsDraft (holding_of k) change d
   kept_draft = subst (λ w. IsDraft w change d) (sym is) draft
 
@@ -227,7 +243,7 @@ module _ (k : Keeping) (kept : IsKeeping k) (v : HoldingState) (is : holding_of 
       → ((least : ℕ) → AscendFrom least groups → least ≤ 16 → length groups + least ≤ 16)
       → 2 ≤ length (principals k.desk.settled.roster) → length (principals k.desk.settled.roster) ≤ 80
       → vector ≡ map (λ n. n.1) d.prepared.versions.items → AllByRecursion (λ n. n < 2 ^ 64) vector
-      → IsVersion (made_version k.user head digest d.prepared.author_handle groups vector)
+      → IsVersion (drafted head digest vector)
   version_in_range head digest vector user head_long digest_long handle_long carried few some most numbers range = record {
     author = le_true k.user 63 user;
     prev = head_long;
@@ -248,7 +264,7 @@ module _ (k : Keeping) (kept : IsKeeping k) (v : HoldingState) (is : holding_of 
           ∙ versions_long k.desk.settled.roster (history (holding_of k).held ++ entry_by k.user change ∷ [])
 
   pub version_is : (head digest vector : List ℕ) → head ≡ k.end.head → digest ≡ change_digest change → vector ≡ map (λ n. n.1) d.prepared.versions.items
-      → made_version k.user head digest d.prepared.author_handle groups vector ≡ next_version v change
+      → drafted head digest vector ≡ next_version v change
   version_is head digest vector head_is digest_is vector_is = made ∙ ap (λ w. next_version w change) is
     where
       head_so : head ≡ head_of k.desk.settled.roster (holding_of k).held
@@ -258,8 +274,15 @@ module _ (k : Keeping) (kept : IsKeeping k) (v : HoldingState) (is : holding_of 
           (map (λ g. g.0) (group_handles k.desk.settled.roster (history (holding_of k).held) k.user change))
       numbers_so = vector_is ∙ ap (map (λ (n : Principal × ℕ). n.1)) kept_draft.numbers ∙ sym (next_vector k.desk.settled.roster (holding_of k).held k.user change kept.legal)
 
-      made : made_version k.user head digest d.prepared.author_handle groups vector ≡ next_version (holding_of k) change
-      made = λ i. made_version k.user (head_so i) (digest_is i) (kept_draft.handle i) (kept_draft.groups i) (numbers_so i)
+      made : drafted head digest vector ≡ next_version (holding_of k) change
+      made = λ i. record {
+        author = k.user;
+        prev = head_so i;
+        change = digest_is i;
+        handle = kept_draft.handle i;
+        groups = kept_draft.groups i;
+        vector = numbers_so i;
+      }
 
 -- ---- a signature is short enough
 

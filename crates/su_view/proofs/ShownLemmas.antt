@@ -7,7 +7,7 @@ use Rattle.su_bytes.specs.Membership.{Membership}
 use Rattle.su_format.proofs.Public.{spelling_told}
 use Rattle.su_vector.specs.Vector.{number_of}
 use Rattle.su_version.specs.Commit.{Commit, IsCommit, commit_bytes}
-use Rattle.su_version.proofs.Public.{commit_of, commit_lawful}
+use Rattle.su_version.proofs.Public.{commit_of, commit_lawful, next_signed}
 use Rattle.su_version.specs.Chain.{IsSignedByAuthor}
 use Rattle.su_legal.specs.Legal.{Committed, commits_of, LegalAfter}
 use Rattle.su_view.specs.Holding.{IsHeld}
@@ -44,7 +44,7 @@ compared ro u n m r c is is_commit has held same xs ys xs_are ys_are b e = (
 
 signed_at : (ro : Membership) (before cs : List Committed) → LegalAfter ro before cs → (i : ℕ) (c : Commit) → slice_get (commits_of cs) i ≡ Some c → IsSignedByAuthor ro c
 signed_at ro before [] legal i c at = absurd (cc)
-signed_at ro before (x ∷ cs) (may, legal) zero c at = let same : x.commit ≡ c = cc in subst (IsSignedByAuthor ro) same may.next.by_author
+signed_at ro before (x ∷ cs) (may, legal) zero c at = let same : x.commit ≡ c = cc in subst (IsSignedByAuthor ro) same (next_signed ro (commits_of before) x.commit may.next)
 signed_at ro before (x ∷ cs) (may, legal) (suc i) c at = signed_at ro (before ++ x ∷ []) cs legal i c at
 
 pub held_signed : (k : Keeping) → IsKeeping k → (c : Commit) → IsHeld (holding_of k) c → IsSignedByAuthor k.desk.settled.roster c

@@ -1,6 +1,7 @@
 -- Why a commit that is shown doesn't join the list that a client holds, in this order.
 use Rattle.std.specs.Prelude.{◌≡◌, ◌≢◌, ◌<◌, ◌≤◌, ◌+◌, ◌⊎◌, ℕ, true, cond, List, [], ◌∷◌, Option, Some, None, nat_eq}
 use Rattle.sha2.specs.Sha256.{sha256}
+use Rattle.su_bytes.specs.Order.{Line, RefusedBy}
 use Rattle.su_bytes.specs.declared.refusals.Refusal.{Refusal}
 use Rattle.su_bytes.specs.declared.principals.Principal.{Principal}
 use Rattle.su_bytes.specs.declared.principals.Principal.TheVariants.{User, Group}
@@ -14,7 +15,7 @@ use Rattle.su_change.specs.Item.{IsChange, HasItem, item_bytes, item_format}
 use Rattle.su_desk.specs.Answer.{refusal_of}
 use Rattle.su_version.specs.Version.{Version}
 use Rattle.su_version.specs.Commit.{Commit, commit_format}
-use Rattle.su_version.specs.Chain.{MayBeNext, IsRefusedSo, tip}
+use Rattle.su_version.specs.Chain.{MayBeNext, next_order, tip}
 use Rattle.su_legal.specs.Legal.{commits_of, history, author_handle, group_handles}
 use Rattle.su_view.specs.Holding.{HoldingState}
 use Rattle.su_view.specs.declared.refusals.ViewRefusal.{ViewRefusal}
@@ -63,7 +64,8 @@ pub record IsNoCommit (bytes : List ℕ) (e : ViewRefusal) : Type 0 where
 pub record IsNotNext (v : HoldingState) (c : Commit) (e : ViewRefusal) : Type 0 where
   pub why : Refusal
   pub refusal : e ≡ Plain why
-  pub not_next : IsRefusedSo v.roster (tip v.roster (commits_of v.held) c.version.author) c why
+  pub not_next : RefusedBy
+      (next_order v.roster (tip v.roster (commits_of v.held) c.version.author) c) why
 
 -- the item is that of no change
 pub record IsNoChange (bytes : List ℕ) (e : ViewRefusal) : Type 0 where
@@ -71,15 +73,30 @@ pub record IsNoChange (bytes : List ℕ) (e : ViewRefusal) : Type 0 where
   pub refusal : e ≡ ChangeRefused (Malformed place)
   pub fails : IsRefusedAt (whole item_format) (start bytes) place
 
--- the change is refused after the list's history, or a handle of the commit isn't the tree's with
--- it
-abbrev pub IsUnfit : HoldingState → Commit → Change → ViewRefusal → Type 0
-IsUnfit v c change e =
-    ((why : Refusal) × (e ≡ ChangeRefused why)
-    × (refusal_of v.roster (history v.held) c.version.author change ≡ Some why))
-    ⊎ ((p : Principal) × (e ≡ WrongHandle p)
-    × (refusal_of v.roster (history v.held) c.version.author change ≡ None)
-    × IsWrongHandle v c change p)
+-- the line of a change that user a makes: it is accepted after the list's history
+abbrev pub accepting : HoldingState → ℕ → Change → Line ViewRefusal
+accepting v a change = record {
+  holds = refusal_of v.roster (history v.held) a change ≡ None;
+  refusal = λ e. (why : Refusal) × (e ≡ ChangeRefused why)
+      × (refusal_of v.roster (history v.held) a change ≡ Some why);
+}
+
+-- the i-handles that a commit holds are the tree's with the change
+abbrev pub HoldsHandles : HoldingState → Commit → Change → Type 0
+HoldsHandles v c change =
+    (c.version.handle ≡ author_handle v.roster (history v.held) c.version.author change)
+    × (c.version.groups ≡ group_handles v.roster (history v.held) c.version.author change)
+
+-- What a change has to meet to fit a commit that may be next, in this order: it is accepted; the
+-- commit holds its i-handles.
+abbrev pub fitting_order : HoldingState → Commit → Change → List (Line ViewRefusal)
+fitting_order v c change =
+    accepting v c.version.author change
+    ∷ record {
+      holds = HoldsHandles v c change;
+      refusal = λ e. (p : Principal) × (e ≡ WrongHandle p) × IsWrongHandle v c change p;
+    }
+    ∷ []
 
 -- the item spells a change that doesn't fit the commit
 pub record IsUnfitChange (v : HoldingState) (c : Commit) (bytes : List ℕ) (e : ViewRefusal)
@@ -88,7 +105,7 @@ pub record IsUnfitChange (v : HoldingState) (c : Commit) (bytes : List ℕ) (e :
   pub is_change : IsChange change
   pub has_item : HasItem change
   pub spelled : bytes ≡ item_bytes change
-  pub unfit : IsUnfit v c change e
+  pub unfit : RefusedBy (fitting_order v c change) e
 
 -- With this item of its change, the commit, which may be next, doesn't join the list.
 abbrev pub IsRefusedWith : HoldingState → Commit → List ℕ → ViewRefusal → Type 0

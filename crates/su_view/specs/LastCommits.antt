@@ -1,10 +1,11 @@
 -- What a client asks of the last commits of the users, as a server shows them, before it takes any
 -- other. (SUNDR, section 3.3: a client checks that its own last version structure is there, and that
 -- all are ordered.)
-use Rattle.std.specs.Prelude.{◌≡◌, ◌≤◌, ◌<◌, ◌⊎◌, ℕ, Bool, true, cond, List, [], ◌∷◌, length, map, Option, None, Some, option_map, nat_eq}
+use Rattle.std.specs.Prelude.{◌≡◌, ◌≤◌, ◌<◌, ℕ, Bool, true, cond, List, [], ◌∷◌, length, map, Option, None, Some, option_map, nat_eq}
 use Rattle.std.specs.List.{AllByRecursion, list_any}
 use Rattle.std.specs.Option.{option_or}
 use Rattle.su_bytes.specs.Membership.{Membership}
+use Rattle.su_bytes.specs.Order.{Line, demand}
 use Rattle.su_bytes.specs.declared.refusals.Refusal.TheVariants.{BadSignature, NotOrdered}
 use Rattle.su_vector.specs.Vector.{number_of}
 use Rattle.su_vector.specs.Order.{AreComparable, IsFirstUnordered}
@@ -55,18 +56,20 @@ vectors_of shown = map (λ c. c.version.vector) shown
 abbrev pub AreSigned : Membership → List Commit → Type 0
 AreSigned ro shown = AllByRecursion (IsSignedByAuthor ro) shown
 
--- What is shown as the users' last commits passes, for a client of user u with this last commit:
--- each is signed by its author; the user's own is there; and all are ordered.
-pub record Passes (ro : Membership) (u : ℕ) (last : Option Commit) (shown : List Commit)
-    : Type 0 where
-  pub signed : AreSigned ro shown
-  pub own : ShowsOwn ro u last shown
-  pub ordered : (i j : ℕ) → i < j → j < length shown → AreComparable (vectors_of shown) i j
+-- of each two of these the vectors are comparable
+abbrev pub AreOrdered : List Commit → Type 0
+AreOrdered shown = (i j : ℕ) → i < j → j < length shown → AreComparable (vectors_of shown) i j
 
--- Why it doesn't pass, in this order.
-abbrev pub IsRefusedList : Membership → ℕ → Option Commit → List Commit → ViewRefusal → Type 0
-IsRefusedList ro u last shown e =
-    ((e ≡ Plain BadSignature) × ¬ AreSigned ro shown)
-    ⊎ ((e ≡ OwnMissing) × AreSigned ro shown × ¬ ShowsOwn ro u last shown)
-    ⊎ ((i j : ℕ) × (e ≡ Plain (NotOrdered i j)) × AreSigned ro shown × ShowsOwn ro u last shown
-    × IsFirstUnordered (vectors_of shown) i j)
+-- What the commits that are shown as the users' last ones have to meet, for a client of user u with
+-- this last commit, in this order: each is signed by its author; the user's own is there; and all
+-- are ordered.
+abbrev pub shown_order : Membership → ℕ → Option Commit → List Commit → List (Line ViewRefusal)
+shown_order ro u last shown =
+    demand (AreSigned ro shown) (Plain BadSignature)
+    ∷ demand (ShowsOwn ro u last shown) OwnMissing
+    ∷ record {
+      holds = AreOrdered shown;
+      refusal = λ e. (i j : ℕ) × (e ≡ Plain (NotOrdered i j))
+          × IsFirstUnordered (vectors_of shown) i j;
+    }
+    ∷ []

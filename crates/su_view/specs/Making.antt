@@ -1,6 +1,6 @@
 -- What a client's user signs for a change of the user's own. (SUNDR, section 3.3.)
-use Rattle.std.specs.Prelude.{◌≡◌, ◌≢◌, ◌≤◌, ◌⊎◌, ℕ, length, List, ◌∷◌, [], ◌++◌, map, Some, None}
-use Rattle.su_bytes.specs.declared.refusals.Refusal.{Refusal}
+use Rattle.std.specs.Prelude.{◌≡◌, ◌≤◌, ◌⊎◌, ℕ, length, List, ◌∷◌, [], ◌++◌, map, Some, None}
+use Rattle.su_bytes.specs.Order.{Line, demand, Passes, RefusedBy}
 use Rattle.su_bytes.specs.declared.refusals.Refusal.TheVariants.{BadSignature, KeySpent, KeyFileFault}
 use Rattle.su_block.specs.declared.failures.Failures.{Failures}
 use Rattle.su_bytes.specs.RosterBytes.{user_key}
@@ -8,48 +8,56 @@ use Rattle.su_op.specs.declared.operations.Change.{Change}
 use Rattle.su_desk.specs.Answer.{refusal_of}
 use Rattle.su_desk.specs.History.{entry_by}
 use Rattle.su_desk.specs.Version.{versions}
-use Rattle.su_lms.specs.Signature.{IsSigned, leaf_of}
+use Rattle.su_lms.specs.Signature.{leaf_of}
 use Rattle.su_vector.specs.Vector.{bump}
-use Rattle.su_version.specs.Version.{Version, made_version, version_bytes}
+use Rattle.su_version.specs.Version.{Version}
 use Rattle.su_version.specs.Commit.{Commit}
+use Rattle.su_version.specs.Chain.{IsSignedBy}
 use Rattle.su_change.specs.Item.{IsChange, HasItem, item_bytes, change_digest}
 use Rattle.su_legal.specs.Legal.{history, head_of, vector_of, author_handle, group_handles}
 use Rattle.su_view.specs.Holding.{HoldingState}
-use Rattle.su_view.specs.Joining.{HasFailed}
+use Rattle.su_view.specs.Joining.{HasFailed, accepting}
 use Rattle.su_view.specs.declared.refusals.ViewRefusal.{ViewRefusal}
-use Rattle.su_view.specs.declared.refusals.ViewRefusal.TheVariants.{Plain, Change as ChangeRefused}
+use Rattle.su_view.specs.declared.refusals.ViewRefusal.TheVariants.{Plain}
 use Rattle.su_view.specs.declared.holdings.drafts.Draft.{Draft}
 
 -- the version structure of a change that comes next: it names the list's head and the change, and
 -- has the i-handles and the numbers of the tree with it
 abbrev pub next_version : HoldingState → Change → Version
-next_version v change =
-    made_version v.user (head_of v.roster v.held) (change_digest change)
-    (author_handle v.roster (history v.held) v.user change)
-    (group_handles v.roster (history v.held) v.user change)
-    (bump v.roster (vector_of v.roster v.held) v.user
-    (map (λ g. g.0) (group_handles v.roster (history v.held) v.user change)))
+next_version v change = record {
+  author = v.user;
+  prev = head_of v.roster v.held;
+  change = change_digest change;
+  handle = author_handle v.roster (history v.held) v.user change;
+  groups = group_handles v.roster (history v.held) v.user change;
+  vector = bump v.roster (vector_of v.roster v.held) v.user
+      (map (λ g. g.0) (group_handles v.roster (history v.held) v.user change));
+}
 
 -- This is a commit of that change, made by the client's user with this leaf.
 pub record IsMade (v : HoldingState) (change : Change) (leaf : ℕ) (c : Commit) : Type 0 where
   pub accepted : refusal_of v.roster (history v.held) v.user change ≡ None
   pub version : c.version ≡ next_version v change
-  pub signed : IsSigned (user_key v.roster v.user) (version_bytes c.version) c.signature
+  pub signed : IsSignedBy (user_key v.roster v.user) c
   pub leaf_is : leaf_of c.signature ≡ leaf
 
--- Why no commit is made of a change, in this order: the key isn't the user's; the change is refused;
--- the source failed when it was given the item; each leaf has signed; the store of the signer's next
--- leaf failed.
+-- What has to hold for a commit to be made of a change, in this order: the key is the user's; the
+-- change is accepted.
+abbrev pub making_order : List ℕ → HoldingState → Change → List (Line ViewRefusal)
+making_order key v change =
+    demand (user_key v.roster v.user ≡ Some key) (Plain BadSignature)
+    ∷ accepting v v.user change
+    ∷ []
+
+-- Why no commit is made of a change: that doesn't hold; or then the source failed when it was given
+-- the item, each leaf has signed, or the store of the signer's next leaf failed.
 abbrev pub IsRefusedMaking : Failures → Failures → List ℕ → Type 0 → HoldingState → Change → ViewRefusal → Type 0
 IsRefusedMaking before after key Spent v change e =
-    ((e ≡ Plain BadSignature) × (key ≢ user_key v.roster v.user))
-    ⊎ ((key ≡ user_key v.roster v.user)
-    × (((why : Refusal) × (e ≡ ChangeRefused why)
-    × (refusal_of v.roster (history v.held) v.user change ≡ Some why))
-    ⊎ ((refusal_of v.roster (history v.held) v.user change ≡ None)
+    RefusedBy (making_order key v change) e
+    ⊎ (Passes (making_order key v change)
     × (HasFailed before after (change_digest change) e
     ⊎ ((e ≡ Plain KeySpent) × Spent)
-    ⊎ (e ≡ Plain KeyFileFault)))))
+    ⊎ (e ≡ Plain KeyFileFault)))
 
 -- What is at hand of a change before it is signed: it is accepted, and these are its item, and the
 -- i-handles and numbers of the tree with it.

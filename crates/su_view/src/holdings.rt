@@ -2,16 +2,18 @@
 ghost use Rattle.std.specs.Prelude.{◌≡◌, ◌≢◌, ◌⊎◌, ◌↔◌, ◌∷◌, ◌++◌, ℕ, [], true, length, None, Err, IsTrue, IfOk, IfErr, IfSome, OnOk, OnErr};
 ghost use Rattle.sha2.specs.Sha256.{sha256};
 ghost use Rattle.su_bytes.specs.Membership.{has_user};
+ghost use Rattle.su_bytes.specs.RosterBytes.{user_key};
 ghost use Rattle.su_bytes.specs.declared.refusals.Refusal.TheVariants.{BadKey, NoUser, NoMemory};
 ghost use Rattle.su_op.specs.declared.operations.Change.{Change};
 ghost use Rattle.su_desk.specs.Version.{versions};
 ghost use Rattle.su_change.specs.Item.{item_bytes};
 ghost use Rattle.su_version.specs.Commit.{commit_bytes, commit_digest};
-ghost use Rattle.su_version.specs.Chain.{IsSignedByAuthor, MayBeNext, IsRefusedSo, tip};
+ghost use Rattle.su_version.specs.Chain.{IsSignedBy, MayBeNext, next_order, tip};
+ghost use Rattle.su_bytes.specs.Order.{Passes, RefusedBy};
 ghost use Rattle.su_chain.specs.ChainEnd.{HasBadKey};
 ghost use Rattle.su_legal.specs.Legal.{commits_of, head_of, history};
 ghost use Rattle.su_view.specs.Holding.{HoldingState, Took};
-ghost use Rattle.su_view.specs.LastCommits.{own_last, Passes, IsRefusedList};
+ghost use Rattle.su_view.specs.LastCommits.{own_last, shown_order};
 ghost use Rattle.su_view.specs.Joining.{IsRefusedWith, IsOtherHandle, AscendFrom};
 ghost use Rattle.su_view.specs.declared.refusals.ViewRefusal.TheVariants.{Plain, Change as ChangeRefused};
 
@@ -29,7 +31,8 @@ use su_bytes::{Digest, FileId, Principal, Refusal, Roster, User};
 use su_chain::ChainEnd;
 use su_change::decode;
 use su_desk::{Prepared, TrialDesk};
-use su_version::{Commit, VersionStructure};
+use su_lms::PublicKey;
+use su_version::{Commit, Verdict, VersionStructure};
 
 /// What a client holds: a legal list of commits, and the desk that their changes make. Its model is
 /// the roster, whose client it is, and the list of commits with their changes.
@@ -84,39 +87,49 @@ impl Holding {
         self.keeping.records.len() as u64
     }
 
+    /// Returns the key of a user, if there is such a user.
+    pub fn key(&self, user: User) -> Option<PublicKey>
+        ensures { result ≡ user_key self.now.roster user }
+    {
+        self.keeping.end.key(self.keeping.desk.roster(), user)
+    }
+
     /// Checks whether a commit may be the next, as `ChainEnd::check` does.
     pub fn check(&self, commit: &Commit) -> Result<(), Refusal>
         ensures next { OnOk result
             (MayBeNext self.now.roster (commits_of self.now.held) commit.now) }
-        ensures refused { IfErr result (λ e. (e ≡ NoMemory) ⊎ IsRefusedSo self.now.roster
+        ensures refused { IfErr result (λ e. (e ≡ NoMemory) ⊎ RefusedBy
+            (next_order self.now.roster
             (tip self.now.roster (commits_of self.now.held) commit.now.version.author)
-            commit.now e) }
+            commit.now) e) }
     {
         self.keeping
             .end
             .check(self.alloc, self.keeping.desk.roster(), commit)
     }
 
-    /// Checks as `check` does, where it is known whether the commit's author signed it.
-    pub fn check_known(&self, by_author: bool, commit: &Commit) -> Result<(), Refusal>
-        requires { IsTrue by_author ↔ IsSignedByAuthor self.now.roster commit.now }
+    /// Checks as `check` does, where there is a verdict on the commit's signature.
+    pub fn check_known(&self, verdict: Verdict, commit: &Commit) -> Result<(), Refusal>
+        requires { IsTrue verdict.is_signed ↔ IsSignedBy verdict.key commit.now }
         ensures next { OnOk result
             (MayBeNext self.now.roster (commits_of self.now.held) commit.now) }
-        ensures refused { IfErr result (λ e. (e ≡ NoMemory) ⊎ IsRefusedSo self.now.roster
+        ensures refused { IfErr result (λ e. (e ≡ NoMemory) ⊎ RefusedBy
+            (next_order self.now.roster
             (tip self.now.roster (commits_of self.now.held) commit.now.version.author)
-            commit.now e) }
+            commit.now) e) }
     {
         self.keeping
             .end
-            .check_known(self.keeping.desk.roster(), by_author, commit)
+            .check_known(self.alloc, self.keeping.desk.roster(), verdict, commit)
     }
 
     /// Checks what a server shows as the users' last commits, as `View::check_list` does.
     pub fn check_list(&self, shown: &[Commit]) -> Result<(), ViewRefusal>
         ensures passes { OnOk result
-            (Passes self.now.roster self.now.user (own_last self.now) shown.now) }
+            (Passes (shown_order self.now.roster self.now.user (own_last self.now) shown.now)) }
         ensures refused { IfErr result (λ e. (e ≡ Plain NoMemory)
-            ⊎ IsRefusedList self.now.roster self.now.user (own_last self.now) shown.now e) }
+            ⊎ RefusedBy
+            (shown_order self.now.roster self.now.user (own_last self.now) shown.now) e) }
     {
         check_list(self.alloc, &self.keeping, shown)
     }

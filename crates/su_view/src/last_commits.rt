@@ -3,10 +3,11 @@ ghost use Rattle.std.specs.Prelude.{◌≡◌, ◌⊎◌, ◌↔◌, IsTrue, tru
 ghost use Rattle.std.specs.List.{AllByRecursion, list_any};
 ghost use Rattle.std.specs.Option.{option_copied};
 ghost use Rattle.su_bytes.specs.declared.refusals.Refusal.TheVariants.{NoMemory};
+ghost use Rattle.su_bytes.specs.Order.{Passes, RefusedBy};
 ghost use Rattle.su_version.specs.Chain.{IsSignedByAuthor};
 ghost use Rattle.su_view.specs.Keeping.{commit_in, holding_of, IsKeeping};
 ghost use Rattle.su_view.specs.Spelled.{IsSpelled};
-ghost use Rattle.su_view.specs.LastCommits.{own_last, AreSigned, is_by, IsNotBehind, ShowsLast, ShowsOwn, Passes, IsRefusedList};
+ghost use Rattle.su_view.specs.LastCommits.{own_last, AreSigned, is_by, IsNotBehind, ShowsLast, ShowsOwn, shown_order};
 ghost use Rattle.su_view.specs.Holding.{IsHeld};
 ghost use Rattle.su_view.specs.declared.refusals.ViewRefusal.TheVariants.{Plain};
 
@@ -15,7 +16,7 @@ use crate::refusals::ViewRefusal;
 use std::alloc::Global;
 use su_bytes::{FileId, Refusal, Roster, User};
 use su_vector::{Vector, first_unordered};
-use su_version::{Commit, is_signed_by_author};
+use su_version::{Commit, Verdict};
 
 /// Checks what a server shows as the users' last commits, by what is kept. `BadSignature` where a
 /// commit isn't signed by its author; `OwnMissing` where the user has a commit that is held, and
@@ -28,9 +29,10 @@ pub(crate) fn check_list(
 ) -> Result<(), ViewRefusal>
     requires { IsKeeping keeping.now }
     ensures passes { let v = holding_of keeping.now in
-        OnOk result (Passes v.roster v.user (own_last v) shown.now) }
+        OnOk result (Passes (shown_order v.roster v.user (own_last v) shown.now)) }
     ensures refused { let v = holding_of keeping.now in IfErr result (λ e.
-        (e ≡ Plain NoMemory) ⊎ IsRefusedList v.roster v.user (own_last v) shown.now e) }
+        (e ≡ Plain NoMemory) ⊎ RefusedBy
+        (shown_order v.roster v.user (own_last v) shown.now) e) }
 {
     let signed = match are_signed(alloc, keeping, shown) {
         Ok(signed) => signed,
@@ -74,9 +76,10 @@ fn check_signed(
     requires signed { AreSigned roster.now shown.now }
     requires last { IfSome (option_copied last) IsSpelled }
     ensures passes { OnOk result
-        (Passes roster.now user (option_map commit_in (option_copied last.entry)) shown.now) }
-    ensures refused { IfErr result (λ e. (e ≡ Plain NoMemory) ⊎ IsRefusedList roster.now user
-        (option_map commit_in (option_copied last.entry)) shown.now e) }
+        (Passes (shown_order roster.now user
+        (option_map commit_in (option_copied last.entry)) shown.now)) }
+    ensures refused { IfErr result (λ e. (e ≡ Plain NoMemory) ⊎ RefusedBy (shown_order roster.now
+        user (option_map commit_in (option_copied last.entry)) shown.now) e) }
 {
     // names the type for the prover (docs/ARCHITECTURE.md, "Forms the kit wants")
     let _file: Option<FileId> = None;
@@ -126,7 +129,8 @@ fn is_signed(alloc: Global, keeping: &Keeping, commit: &Commit) -> Result<bool, 
     }
     let roster = keeping.desk.roster();
     let key = keeping.end.key(roster, commit.version().author());
-    is_signed_by_author(alloc, roster, key.as_ref(), commit)
+    let verdict = Verdict::of(alloc, key, commit)?;
+    Ok(verdict.is_signed)
 }
 
 /// Whether a commit is held, as far as its vector tells where. Fails only with `NoMemory`.

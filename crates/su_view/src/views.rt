@@ -2,6 +2,7 @@
 ghost use Rattle.std.specs.Prelude.{◌≡◌, ◌⊎◌, ◌∷◌, ◌++◌, ◌+◌, ◌-◌, ◌<◌, ◌^◌, ◌↔◌, ℕ, List, [], true, length, None, Ok, Err, IsTrue, IfOk, IfErr, OnOk, OnErr, MatchOption, option_map};
 ghost use Rattle.std.specs.Borrow.{Lends, sem};
 ghost use Rattle.su_bytes.specs.Membership.{has_user};
+ghost use Rattle.su_bytes.specs.RosterBytes.{user_key};
 ghost use Rattle.su_bytes.specs.declared.refusals.Refusal.TheVariants.{BadKey, NoUser, NoMemory, KeyFileFault};
 ghost use Rattle.su_chain.specs.ChainEnd.{HasBadKey};
 ghost use Rattle.su_op.specs.declared.operations.Change.{Change as Change_};
@@ -13,13 +14,14 @@ ghost use Rattle.su_desk.specs.Version.{versions};
 ghost use Rattle.su_lms.specs.PrivateKey.{key_of, leaf_count};
 ghost use Rattle.su_change.specs.Item.{item_bytes};
 ghost use Rattle.su_version.specs.Commit.{commit_bytes};
-ghost use Rattle.su_version.specs.Chain.{IsNewLeaf, IsSignedByAuthor, MayBeNext, last_leaf};
+ghost use Rattle.su_version.specs.Chain.{IsNewLeaf, IsSignedBy, MayBeNext, last_leaf};
+ghost use Rattle.su_bytes.specs.Order.{Passes, RefusedBy};
 ghost use Rattle.su_legal.specs.Legal.{Committed, commits_of, head_of, history, Legal, MayJoin};
 ghost use Rattle.su_view.specs.Holding.{Took, MaySign, tree_of_list};
 ghost use Rattle.su_view.specs.Entry.{committed_at, AreBytesAt};
 ghost use Rattle.su_view.specs.Making.{IsMade, IsRefusedMaking};
 ghost use Rattle.su_view.specs.Listing.{HasTaken, IsRefusedBytes, RefusesNext};
-ghost use Rattle.su_view.specs.LastCommits.{own_last, Passes, IsRefusedList};
+ghost use Rattle.su_view.specs.LastCommits.{own_last, shown_order};
 ghost use Rattle.su_view.specs.Joining.{HasFailed, IsRefusedCommit};
 ghost use Rattle.su_view.specs.declared.refusals.ViewRefusal.TheVariants.{Plain};
 ghost use Rattle.su_view.specs.contracts.views.View.{the_row};
@@ -31,10 +33,10 @@ use crate::signing::signed;
 use std::alloc::Global;
 use su_block::BlockSource;
 use su_bytes::{Digest, FileId, Name, Principal, Refusal, Roster, User};
-use su_lms::{KeyStore, Signer};
+use su_lms::{KeyStore, PublicKey, Signer};
 use su_op::{Change, Op};
 use su_plan::Command;
-use su_version::Commit;
+use su_version::{Commit, Verdict};
 
 /// A client's view: the legal list of commits that the client holds, with the tree that it makes,
 /// and a source of the items of changes, which need not be trusted.
@@ -78,9 +80,10 @@ impl<S: BlockSource + Drop> View<S> {
     /// `NotOrdered` with the first two positions whose vectors aren't comparable; `NoMemory`.
     pub fn check_list(&self, shown: &[Commit]) -> Result<(), ViewRefusal>
         ensures passes { let v = self.now.holding in
-            OnOk result (Passes v.roster v.user (own_last v) shown.now) }
+            OnOk result (Passes (shown_order v.roster v.user (own_last v) shown.now)) }
         ensures refused { let v = self.now.holding in IfErr result (λ e.
-            (e ≡ Plain NoMemory) ⊎ IsRefusedList v.roster v.user (own_last v) shown.now e) }
+            (e ≡ Plain NoMemory) ⊎ RefusedBy
+            (shown_order v.roster v.user (own_last v) shown.now) e) }
     {
         self.holding.check_list(shown)
     }
@@ -109,17 +112,18 @@ impl<S: BlockSource + Drop> View<S> {
         self.join(commit, bytes)
     }
 
-    /// Takes a commit by its bytes, of which it is known whether its author signed it: it checks no
-    /// signature. The refusals are those of `accept`. A refusal leaves the list as it was.
+    /// Takes a commit by its bytes, on whose signature there is a verdict: if that was found under
+    /// the author's key, no signature is checked. The refusals are those of `accept`. A refusal
+    /// leaves the list as it was.
     pub fn accept_known(
         &mut self,
         commit: Commit,
         bytes: &[u8],
-        by_author: bool,
+        verdict: Verdict,
     ) -> Result<(), ViewRefusal>
         requires checked { S.is_checked ≡ true }
         requires bytes { bytes.now ≡ commit_bytes commit }
-        requires known { IsTrue by_author ↔ IsSignedByAuthor self.old.holding.roster commit }
+        requires known { IsTrue verdict.is_signed ↔ IsSignedBy verdict.key commit }
         ensures took { OnOk result ((change : Change_)
             × S.may_give self.old.source (item_bytes change) × Took self.old.holding
             (record { commit = commit; change = change } ∷ []) self.new.holding) }
@@ -133,7 +137,7 @@ impl<S: BlockSource + Drop> View<S> {
         ensures no_failure { OnOk result
             (S.failed self.new.source ≡ S.failed self.old.source) }
     {
-        if let Err(refusal) = self.holding.check_known(by_author, &commit) {
+        if let Err(refusal) = self.holding.check_known(verdict, &commit) {
             return Err(ViewRefusal::Plain(refusal));
         }
         self.join(commit, bytes)
@@ -309,6 +313,13 @@ impl<S: BlockSource + Drop> View<S> {
         ensures { result.now ≡ self.now.holding.roster }
     {
         self.holding.roster()
+    }
+
+    /// Returns the key of a user, if there is such a user.
+    pub fn key(&self, user: User) -> Option<PublicKey>
+        ensures { result ≡ user_key self.now.holding.roster user }
+    {
+        self.holding.key(user)
     }
 
     /// Returns whose view it is.

@@ -1,4 +1,2 @@
-pub mod PlaceLemmas
 pub mod PastLemmas
-pub mod CurrentLemmas
 pub mod VolumeLemmas

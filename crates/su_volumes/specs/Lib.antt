@@ -1,4 +1,3 @@
-pub mod Places
 pub mod Past
-pub mod Current
 pub mod Volumes
+pub mod Archived

@@ -1,14 +1,12 @@
-//! The files of a store in their order, of which few are open: what they keep, one behind another,
+//! The files of a vault in their order, of which few are open: what they keep, one behind another,
 //! while records are kept, and files are shut, opened again, and begun.
 #![tactic(auto)]
 
-mod current;
+mod archive_files;
 mod past;
-mod places;
-mod shelves;
+mod turns;
 mod volumes;
 
+pub use archive_files::{ArchiveFiles, ArchiveName};
 pub use past::PastFiles;
-pub use places::Place;
-pub use shelves::Shelf;
 pub use volumes::{Opened, Volumes};

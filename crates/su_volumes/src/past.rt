@@ -1,29 +1,47 @@
-// The files of an archive whose records all stand in the book.
+// The files of a vault whose records all stand in the book.
 ghost use Rattle.std.specs.Prelude.{◌≡◌, ◌∷◌, ◌++◌, [], List, ℕ, IfOk, IfErr, IfSome, OnOk, OnErr};
 ghost use Rattle.sha2.specs.Sha256.{sha256};
+ghost use Rattle.su_vault.specs.Records.{KeepsRecords};
 
-use crate::places::Place;
-use sqlite::Options;
-use sqlite_disk::Disk;
 use std::alloc::{AllocFailed, Global};
 use su_bytes::Digest;
-use su_store::{FileFault, ShutFile};
+use su_vault::Volume;
 
 /// Files whose records all stand in the book. At most one of them is open: the one from which an
 /// item or a record was read last.
 #[derive(Drop)]
-pub struct PastFiles<D: Disk> {
-    places: Vec<Place<D>>,
+pub struct PastFiles<V: Volume> {
+    places: Vec<V>,
     opened: usize,
 }
 
-impl<D: Disk + Drop> PastFiles<D> {
-    ghost use Rattle.su_volumes.specs.Places.{KeepsAll};
+/// Opens the file, if it is shut, and reads the item of a digest.
+fn read<V: Volume>(file: &mut V, alloc: Global, digest: Digest) -> Result<Option<Vec<u8>>, V::Fault>
+    ensures hashes { IfOk result (λ found. IfSome found (λ b. sha256 b.items ≡ digest)) }
+    ensures kept { KeepsRecords V.keeps file.old file.new }
+{
+    file.open(alloc)?;
+    file.item(digest)
+}
+
+/// Opens the file, if it is shut, and reads the record of a number. `None` from the count on.
+fn read_record<V: Volume>(
+    file: &mut V,
+    alloc: Global,
+    number: u32,
+) -> Result<Option<Vec<u8>>, V::Fault>
+    ensures { KeepsRecords V.keeps file.old file.new }
+{
+    file.open(alloc)?;
+    file.record(number)
+}
+
+impl<V: Volume> PastFiles<V> {
     ghost use Rattle.su_volumes.specs.Past.{KeepInTurn};
 
     /// Makes the list of no file.
-    pub(crate) fn new(alloc: Global) -> PastFiles<D>
-        ensures { KeepInTurn D.Disk result [] }
+    pub(crate) fn new(alloc: Global) -> PastFiles<V>
+        ensures { KeepInTurn V.Volume result [] }
     {
         PastFiles {
             places: Vec::new(alloc),
@@ -37,10 +55,10 @@ impl<D: Disk + Drop> PastFiles<D> {
     }
 
     /// Puts a file behind the others. It is given back where there is no memory.
-    pub(crate) fn push(&mut self, place: Place<D>) -> Result<(), Place<D>>
+    pub(crate) fn push(&mut self, place: V) -> Result<(), V>
         ensures kept { (lists : List (List (List ℕ))) (own : List (List ℕ))
-            → KeepInTurn D.Disk self.old lists → KeepsAll D.Disk place own
-            → OnOk result (KeepInTurn D.Disk self.new (lists ++ own ∷ [])) }
+            → KeepInTurn V.Volume self.old lists → V.keeps place own
+            → OnOk result (KeepInTurn V.Volume self.new (lists ++ own ∷ [])) }
         ensures given { IfErr result (λ e. e ≡ place) }
         ensures same { OnErr result (self.new.places.items ≡ self.old.places.items) }
     {
@@ -51,9 +69,9 @@ impl<D: Disk + Drop> PastFiles<D> {
     }
 
     /// Shuts the file that was opened last, unless it has this number.
-    fn turn_to(&mut self, number: usize) -> Result<(), FileFault>
-        ensures { (lists : List (List (List ℕ))) → KeepInTurn D.Disk self.old lists
-            → KeepInTurn D.Disk self.new lists }
+    fn turn_to(&mut self, number: usize) -> Result<(), V::Fault>
+        ensures { (lists : List (List (List ℕ))) → KeepInTurn V.Volume self.old lists
+            → KeepInTurn V.Volume self.new lists }
     {
         let last = self.opened;
         self.opened = number;
@@ -63,23 +81,22 @@ impl<D: Disk + Drop> PastFiles<D> {
         self.places[last].shut()
     }
 
-    /// Reads the block of a digest from the file of a number. `None` where there is no such file.
-    pub(crate) fn block(
+    /// Reads the item of a digest from the file of a number. `None` where there is no such file.
+    pub(crate) fn item(
         &mut self,
         alloc: Global,
-        options: Options,
         number: usize,
         digest: Digest,
-    ) -> Result<Option<Vec<u8>>, FileFault>
+    ) -> Result<Option<Vec<u8>>, V::Fault>
         ensures hashes { IfOk result (λ found. IfSome found (λ b. sha256 b.items ≡ digest)) }
-        ensures kept { (lists : List (List (List ℕ))) → KeepInTurn D.Disk self.old lists
-            → KeepInTurn D.Disk self.new lists }
+        ensures kept { (lists : List (List (List ℕ))) → KeepInTurn V.Volume self.old lists
+            → KeepInTurn V.Volume self.new lists }
     {
         self.turn_to(number)?;
         if self.places.len() <= number {
             return Ok(None);
         }
-        self.places[number].read(alloc, options, digest)
+        read(&mut self.places[number], alloc, digest)
     }
 
     /// Reads the record of an index in the file of a number. `None` where there is no such file, or
@@ -87,30 +104,25 @@ impl<D: Disk + Drop> PastFiles<D> {
     pub(crate) fn record(
         &mut self,
         alloc: Global,
-        options: Options,
         number: usize,
         index: u32,
-    ) -> Result<Option<Vec<u8>>, FileFault>
-        ensures { (lists : List (List (List ℕ))) → KeepInTurn D.Disk self.old lists
-            → KeepInTurn D.Disk self.new lists }
+    ) -> Result<Option<Vec<u8>>, V::Fault>
+        ensures { (lists : List (List (List ℕ))) → KeepInTurn V.Volume self.old lists
+            → KeepInTurn V.Volume self.new lists }
     {
         self.turn_to(number)?;
         if self.places.len() <= number {
             return Ok(None);
         }
-        self.places[number].read_record(alloc, options, index)
+        read_record(&mut self.places[number], alloc, index)
     }
 
-    /// Shuts the files, and puts them behind those of a list, the last one first.
-    pub(crate) fn close_behind(
-        self,
-        files: Vec<ShutFile<D>>,
-    ) -> Result<Vec<ShutFile<D>>, FileFault> {
+    /// Shuts the files, the last one first, and gives them up.
+    pub(crate) fn close(self) -> Result<(), V::Fault> {
         let PastFiles { places, opened: _ } = self;
-        let mut files = files;
         for place in places.into_iter().rev() {
-            files.push(place.into_file()?)?;
+            place.close()?;
         }
-        Ok(files)
+        Ok(())
     }
 }

@@ -1,95 +1,73 @@
-// The files of an archive in their order.
-ghost use Rattle.std.specs.Prelude.{◌≡◌, ◌<◌, ◌++◌, ◌∷◌, [], false, None, IsTrue, IfOk, IfSome, List, ℕ, OnOk, OnErr, option_map};
-ghost use Rattle.std.specs.List.{All};
+// The files of a vault in their order.
+ghost use Rattle.std.specs.Prelude.{◌≡◌, ◌<◌, ◌+◌, ◌++◌, ◌∷◌, [], false, None, IsTrue, IfOk, IfSome, List, ℕ, OnOk, OnErr};
 ghost use Rattle.sha2.specs.Sha256.{sha256};
-ghost use Rattle.sqlite.specs.State.{HasCleanDisk};
-ghost use Rattle.sqlite.specs.Files.{file_state, over_files, image_of};
-ghost use Rattle.su_store.specs.Files.{IsAtRest};
+ghost use Rattle.su_vault.specs.Records.{KeepsRecords, AddsRecord, LeavesLast};
 
 use crate::past::PastFiles;
-use crate::places::Place;
-use crate::shelves::Shelf;
+use crate::turns::keep_found;
 use sha2::Sha256;
-use sqlite::{FileStore, Options};
-use sqlite_disk::Disk;
 use std::alloc::Global;
 use std::mem;
 use su_bytes::Digest;
-use su_store::{FileFault, RecordFile, ShutFile};
+use su_vault::{Shelf, Volume, VolumeFault};
 
-/// The files that a store was found with, none of whose records stands in the book: the first one,
+/// The files that a vault was found with, none of whose records stands in the book: the first one,
 /// as its open left it, and those behind it, the next of them last.
 #[derive(Drop)]
-pub struct Opened<D: Disk> {
-    pub first: RecordFile<FileStore<D>>,
-    pub later: Vec<ShutFile<D>>,
+pub struct Opened<V: Volume> {
+    pub first: V,
+    pub later: Vec<V>,
 }
 
-/// The files of an archive: those whose records all stand in the book, the one whose records are
-/// taken up or kept now, and those whose turn comes later, the next of them last. Once a call has
-/// failed no more are kept.
+/// The files of a vault: those whose records all stand in the book, the one whose records are taken
+/// up or kept now, and those whose turn comes later, the next of them last. Once a call has failed
+/// no more are kept.
 #[derive(Drop)]
-pub struct Volumes<D: Disk> {
-    past: PastFiles<D>,
-    current: Place<D>,
-    later: Vec<ShutFile<D>>,
+pub struct Volumes<V: Volume> {
+    past: PastFiles<V>,
+    current: V,
+    later: Vec<V>,
     kept: u32,
     is_halted: bool,
-    options: Options,
 }
 
-impl<D: Disk + Drop> Volumes<D> {
-    ghost use Rattle.su_volumes.specs.Places.{IsShut};
-    ghost use Rattle.su_volumes.specs.Current.{ShowsRecord, count_of};
-    ghost use Rattle.su_volumes.specs.Volumes.{AreSound, HoldsSound, halted};
+impl<V: Volume> Volumes<V> {
+    ghost use Rattle.su_volumes.specs.Volumes.{WereSound, halted};
     ghost use Rattle.su_volumes.specs.Volumes.{IsThrough, IsAtEnd, HoldsInTurn};
 
-    /// Begins with these files. `options` are for each open of one that was shut.
-    pub fn new(alloc: Global, options: Options, files: Opened<D>) -> Volumes<D>
-        requires rest { HasCleanDisk (file_state files.first.held)
-            → IsAtRest over_files files.first }
-        ensures begun { (HasCleanDisk (file_state files.first.held)
-            → AreSound (file_state files.first.held).now.trees)
-            → All (λ s. HoldsSound (image_of D.Disk s.files)) files.later.items
-            → HoldsInTurn D.Disk result [] }
+    /// Begins with these files.
+    pub fn new(alloc: Global, files: Opened<V>) -> Volumes<V>
+        ensures { WereSound V.Volume files → HoldsInTurn V.Volume result [] }
     {
         let Opened { first, later } = files;
         Volumes {
             past: PastFiles::new(alloc),
-            current: Place::Open(first),
+            current: first,
             later,
             kept: 0,
             is_halted: false,
-            options,
         }
     }
 
-    /// Shuts all files, each with all that it keeps copied from its log, and returns them, the
-    /// first one last. After a failure the others are dropped as they are.
-    pub fn close(self) -> Result<Vec<ShutFile<D>>, FileFault> {
+    /// Shuts all files, each with all that it keeps copied from its log, and gives them up. After a
+    /// failure the others are left as they are.
+    pub fn close(self) -> Result<(), V::Fault> {
         let Volumes {
             past,
             current,
-            later,
+            later: _later,
             kept: _,
             is_halted: _,
-            options: _,
         } = self;
-        let mut files = later;
-        files.push(current.into_file()?)?;
-        past.close_behind(files)
+        match current.close() {
+            Ok(()) => past.close(),
+            Err(fault) => Err(fault),
+        }
     }
 
     /// The number of the current file, counted from 0.
     pub fn number(&self) -> usize {
         self.past.len()
-    }
-
-    /// How many records of the current file stand in the book.
-    pub fn kept(&self) -> u32
-        ensures { result ≡ self.now.kept }
-    {
-        self.kept
     }
 
     /// Whether no more are kept.
@@ -102,30 +80,31 @@ impl<D: Disk + Drop> Volumes<D> {
     /// Keeps no more from now on. The last record that was kept need not stand in the book.
     pub fn halt(&mut self)
         ensures same { self.new ≡ halted self.old }
-        ensures held { (records : List (List ℕ)) → HoldsInTurn D.Disk self.old records
-            → HoldsInTurn D.Disk self.new records }
-        ensures last { (records : List (List ℕ)) (last : List ℕ)
-            → HoldsInTurn D.Disk self.old (records ++ last ∷ [])
-            → HoldsInTurn D.Disk self.new records }
+        ensures held { KeepsRecords (HoldsInTurn V.Volume) self.old self.new }
+        ensures last { LeavesLast (HoldsInTurn V.Volume) self.old self.new }
     {
         self.is_halted = true;
     }
 
+    /// Whether as many records of the current file stand in the book as a file may have.
+    pub fn is_full(&self) -> bool {
+        self.current.is_full()
+    }
+
     /// Whether a record of the current file doesn't stand in the book yet.
     pub fn has_next(&self) -> bool
-        ensures through { result ≡ false → IsThrough self.now }
-        ensures more { IsTrue result → self.now.kept < count_of self.now.current }
+        ensures through { result ≡ false → IsThrough V.Volume self.now }
+        ensures more { IsTrue result → self.now.kept < V.count self.now.current }
     {
         self.kept < self.current.len()
     }
 
     /// Shuts the current file, whose records all stand in the book.
-    fn settle(&mut self) -> Result<(), FileFault>
+    fn settle(&mut self) -> Result<(), V::Fault>
         requires running { self.old.is_halted ≡ false }
-        requires through { IsThrough self.old }
-        ensures held { (records : List (List ℕ)) → HoldsInTurn D.Disk self.old records
-            → HoldsInTurn D.Disk self.new records }
-        ensures shut { IsShut self.new.current }
+        requires through { IsThrough V.Volume self.old }
+        ensures held { KeepsRecords (HoldsInTurn V.Volume) self.old self.new }
+        ensures shut { V.count self.new.current ≡ 0 }
         ensures same { OnOk result
             (self.new ≡ record self.old { current = self.new.current }) }
     {
@@ -140,43 +119,35 @@ impl<D: Disk + Drop> Volumes<D> {
 
     /// Puts a file, of which no record stands in the book yet, in the place of the current one, which
     /// is a past one then.
-    fn push(&mut self, file: RecordFile<FileStore<D>>) -> Result<(), FileFault>
-        requires shut { IsShut self.old.current }
-        requires rest { HasCleanDisk (file_state file.held) → IsAtRest over_files file }
-        ensures held { (records : List (List ℕ)) → HoldsInTurn D.Disk self.old records
-            → (HasCleanDisk (file_state file.held) → AreSound (file_state file.held).now.trees)
-            → OnOk result (HoldsInTurn D.Disk self.new records) }
-        ensures same { (records : List (List ℕ)) → HoldsInTurn D.Disk self.old records
-            → OnErr result (HoldsInTurn D.Disk self.new records) }
+    fn push(&mut self, file: V) -> Result<(), V::Fault>
+        requires running { self.old.is_halted ≡ false }
+        requires shut { V.count self.old.current ≡ 0 }
+        ensures held { V.counts file 0 []
+            → OnOk result (KeepsRecords (HoldsInTurn V.Volume) self.old self.new) }
+        ensures same { OnErr result (KeepsRecords (HoldsInTurn V.Volume) self.old self.new) }
         ensures later { self.new.later ≡ self.old.later }
-        ensures running { self.new.is_halted ≡ self.old.is_halted }
+        ensures running { self.new.is_halted ≡ false }
     {
-        match self
-            .past
-            .push(mem::replace(&mut self.current, Place::Open(file)))
-        {
+        match self.past.push(mem::replace(&mut self.current, file)) {
             Ok(()) => {
                 self.kept = 0;
                 Ok(())
             }
             Err(place) => {
                 self.current = place;
-                Err(FileFault::NoMemory)
+                Err(V::fault_for(VolumeFault::NoMemory))
             }
         }
     }
 
     /// Goes on with another file, of which no record stands in the book yet.
-    fn go_on(&mut self, file: RecordFile<FileStore<D>>) -> Result<(), FileFault>
-        requires shut { IsShut self.old.current }
-        requires rest { HasCleanDisk (file_state file.held) → IsAtRest over_files file }
-        ensures kept { (records : List (List ℕ)) → HoldsInTurn D.Disk self.old records
-            → (HasCleanDisk (file_state file.held) → AreSound (file_state file.held).now.trees)
-            → OnOk result (HoldsInTurn D.Disk self.new records) }
-        ensures held { (records : List (List ℕ)) → HoldsInTurn D.Disk self.old records
-            → OnErr result (HoldsInTurn D.Disk self.new records) }
+    fn go_on(&mut self, file: V) -> Result<(), V::Fault>
+        requires running { self.old.is_halted ≡ false }
+        requires shut { V.count self.old.current ≡ 0 }
+        ensures held { V.counts file 0 []
+            → KeepsRecords (HoldsInTurn V.Volume) self.old self.new }
         ensures later { OnOk result (self.new.later ≡ self.old.later) }
-        ensures running { OnOk result (self.new.is_halted ≡ self.old.is_halted) }
+        ensures running { OnOk result (self.new.is_halted ≡ false) }
     {
         match self.push(file) {
             Ok(()) => Ok(()),
@@ -188,33 +159,30 @@ impl<D: Disk + Drop> Volumes<D> {
     }
 
     /// Takes the next of the later files.
-    fn take_next(&mut self) -> Option<ShutFile<D>>
-        ensures held { (records : List (List ℕ)) → HoldsInTurn D.Disk self.old records
-            → HoldsInTurn D.Disk self.new records }
-        ensures sound { (records : List (List ℕ)) → HoldsInTurn D.Disk self.old records
-            → IfSome result (λ s. HoldsSound (image_of D.Disk s.files)) }
+    fn take_next(&mut self) -> Option<V>
+        ensures held { KeepsRecords (HoldsInTurn V.Volume) self.old self.new }
+        ensures sound { (records : List (List ℕ)) → HoldsInTurn V.Volume self.old records
+            → IfSome result V.is_sound }
         ensures same { self.new ≡ record self.old { later = self.new.later } }
     {
         self.later.pop()
     }
 
     /// Goes on with the next of the later files, if there is one.
-    fn advance(&mut self, alloc: Global) -> Result<(), FileFault>
+    fn advance(&mut self, alloc: Global) -> Result<(), V::Fault>
         requires running { self.old.is_halted ≡ false }
-        requires through { IsThrough self.old }
-        ensures kept { (records : List (List ℕ)) → HoldsInTurn D.Disk self.old records
-            → OnOk result (HoldsInTurn D.Disk self.new records) }
-        ensures held { (records : List (List ℕ)) → HoldsInTurn D.Disk self.old records
-            → OnErr result (HoldsInTurn D.Disk self.new records) }
+        requires through { IsThrough V.Volume self.old }
+        ensures held { KeepsRecords (HoldsInTurn V.Volume) self.old self.new }
         ensures running { OnOk result (self.new.is_halted ≡ false) }
     {
         self.settle()?;
         let Some(next) = self.take_next() else {
             return Ok(());
         };
-        match next.open(alloc, self.options) {
-            Ok(file) => self.go_on(file),
-            Err((fault, _left)) => {
+        let mut next = next;
+        match next.open(alloc) {
+            Ok(()) => self.go_on(next),
+            Err(fault) => {
                 self.halt();
                 Err(fault)
             }
@@ -222,15 +190,12 @@ impl<D: Disk + Drop> Volumes<D> {
     }
 
     /// Goes on with a new file. `Foreign` where it isn't an empty one.
-    pub fn begin<H: Shelf<D>>(&mut self, shelf: &mut H) -> Result<(), FileFault>
+    pub fn begin<H: Shelf<V>>(&mut self, shelf: &mut H) -> Result<(), V::Fault>
         requires running { self.old.is_halted ≡ false }
-        requires end { IsAtEnd self.old }
-        ensures kept { (records : List (List ℕ)) → HoldsInTurn D.Disk self.old records
-            → OnOk result (HoldsInTurn D.Disk self.new records) }
-        ensures held { (records : List (List ℕ)) → HoldsInTurn D.Disk self.old records
-            → OnErr result (HoldsInTurn D.Disk self.new records) }
+        requires end { IsAtEnd V.Volume self.old }
+        ensures held { KeepsRecords (HoldsInTurn V.Volume) self.old self.new }
         ensures running { OnOk result (self.new.is_halted ≡ false) }
-        ensures end { OnOk result (IsAtEnd self.new) }
+        ensures end { OnOk result (IsAtEnd V.Volume self.new) }
     {
         self.settle()?;
         let file = match shelf.make(self.past.len().saturating_add(1)) {
@@ -243,21 +208,18 @@ impl<D: Disk + Drop> Volumes<D> {
         self.go_on(file)?;
         if self.has_next() {
             self.halt();
-            return Err(FileFault::Foreign);
+            return Err(V::fault_for(VolumeFault::Foreign));
         }
         Ok(())
     }
 
     /// Takes up the next file, if all records of the current one stand in the book. An empty one is
     /// taken up only as the last: `DamagedRecord` where there is another behind it.
-    pub fn take_up(&mut self, alloc: Global) -> Result<(), FileFault>
+    pub fn take_up(&mut self, alloc: Global) -> Result<(), V::Fault>
         requires running { self.old.is_halted ≡ false }
-        ensures kept { (records : List (List ℕ)) → HoldsInTurn D.Disk self.old records
-            → OnOk result (HoldsInTurn D.Disk self.new records) }
-        ensures held { (records : List (List ℕ)) → HoldsInTurn D.Disk self.old records
-            → OnErr result (HoldsInTurn D.Disk self.new records) }
+        ensures held { KeepsRecords (HoldsInTurn V.Volume) self.old self.new }
         ensures running { OnOk result (self.new.is_halted ≡ false) }
-        ensures end { OnOk result (IsThrough self.new → self.new.later.items ≡ []) }
+        ensures end { OnOk result (IsThrough V.Volume self.new → self.new.later.items ≡ []) }
     {
         if self.has_next() || self.later.is_empty() {
             return Ok(());
@@ -265,21 +227,19 @@ impl<D: Disk + Drop> Volumes<D> {
         self.advance(alloc)?;
         if !self.has_next() && !self.later.is_empty() {
             self.halt();
-            return Err(FileFault::DamagedRecord(0));
+            return Err(V::fault_for(VolumeFault::DamagedRecord(0)));
         }
         Ok(())
     }
 
     /// Reads the first record that doesn't stand in the book, if there is one.
-    pub fn next(&mut self, alloc: Global) -> Result<Option<Vec<u8>>, FileFault>
+    pub fn next(&mut self, alloc: Global) -> Result<Option<Vec<u8>>, V::Fault>
         requires running { self.old.is_halted ≡ false }
-        ensures kept { (records : List (List ℕ)) → HoldsInTurn D.Disk self.old records
-            → OnOk result (HoldsInTurn D.Disk self.new records) }
-        ensures held { (records : List (List ℕ)) → HoldsInTurn D.Disk self.old records
-            → OnErr result (HoldsInTurn D.Disk self.new records) }
-        ensures found { IfOk result (λ found.
-            ShowsRecord self.new.current self.new.kept (option_map (λ b. b.items) found)) }
-        ensures end { IfOk result (λ found. found ≡ None → IsAtEnd self.new) }
+        ensures held { KeepsRecords (HoldsInTurn V.Volume) self.old self.new }
+        ensures found { IfOk result (λ found. IfSome found (λ b. (records : List (List ℕ))
+            → V.counts self.new.current self.new.kept records
+            → V.counts self.new.current (self.new.kept + 1) (records ++ b.items ∷ []))) }
+        ensures end { IfOk result (λ found. found ≡ None → IsAtEnd V.Volume self.new) }
         ensures running { OnOk result (self.new.is_halted ≡ false) }
     {
         self.take_up(alloc)?;
@@ -294,18 +254,17 @@ impl<D: Disk + Drop> Volumes<D> {
 
     /// Takes the next record of the current file for one that stands in the book. `OtherRecord`
     /// where it isn't this one, or there is none.
-    pub fn keep_found(&mut self, commit: &[u8]) -> Result<(), FileFault>
+    pub fn keep_found(&mut self, commit: &[u8]) -> Result<(), V::Fault>
         requires running { self.old.is_halted ≡ false }
-        ensures kept { (records : List (List ℕ)) → HoldsInTurn D.Disk self.old records
-            → OnOk result (HoldsInTurn D.Disk self.new (records ++ commit.now ∷ [])) }
-        ensures held { (records : List (List ℕ)) → HoldsInTurn D.Disk self.old records
-            → OnErr result (HoldsInTurn D.Disk self.new records) }
+        ensures kept { OnOk result
+            (AddsRecord (HoldsInTurn V.Volume) self.old self.new commit.now) }
+        ensures held { OnErr result (KeepsRecords (HoldsInTurn V.Volume) self.old self.new) }
     {
         if self.current.len() <= self.kept {
             self.halt();
-            return Err(FileFault::OtherRecord(self.kept));
+            return Err(V::fault_for(VolumeFault::OtherRecord(self.kept)));
         }
-        match self.current.keep_found(self.kept, commit) {
+        match keep_found(&mut self.current, self.kept, commit) {
             Ok(kept) => {
                 self.kept = kept;
                 Ok(())
@@ -317,19 +276,18 @@ impl<D: Disk + Drop> Volumes<D> {
         }
     }
 
-    /// Puts a record behind those of the last file, with the blocks that it needs. `Full` at the
+    /// Puts a record behind those of the last file, with the items that it needs. `Full` at the
     /// most records of a file.
-    pub fn append(&mut self, commit: &[u8], blocks: &[Vec<u8>]) -> Result<(), FileFault>
+    pub fn append(&mut self, commit: &[u8], items: &[Vec<u8>]) -> Result<(), V::Fault>
         requires running { self.old.is_halted ≡ false }
-        requires end { IsAtEnd self.old }
-        ensures kept { (records : List (List ℕ)) → HoldsInTurn D.Disk self.old records
-            → OnOk result (HoldsInTurn D.Disk self.new (records ++ commit.now ∷ [])) }
-        ensures held { (records : List (List ℕ)) → HoldsInTurn D.Disk self.old records
-            → OnErr result (HoldsInTurn D.Disk self.new records) }
+        requires end { IsAtEnd V.Volume self.old }
+        ensures kept { OnOk result
+            (AddsRecord (HoldsInTurn V.Volume) self.old self.new commit.now) }
+        ensures held { OnErr result (KeepsRecords (HoldsInTurn V.Volume) self.old self.new) }
     {
-        match self.current.append(self.kept, commit, blocks) {
-            Ok(kept) => {
-                self.kept = kept;
+        match self.current.append(commit, items) {
+            Ok(()) => {
+                self.kept = self.current.len();
                 Ok(())
             }
             Err(fault) => {
@@ -339,20 +297,17 @@ impl<D: Disk + Drop> Volumes<D> {
         }
     }
 
-    /// Reads the block of a digest from the file of a number, counted from 0. `None` where it is a
+    /// Reads the item of a digest from the file of a number, counted from 0. `None` where it is a
     /// later one.
     pub fn item(
         &mut self,
         alloc: Global,
         number: usize,
         digest: Digest,
-    ) -> Result<Option<Vec<u8>>, FileFault>
+    ) -> Result<Option<Vec<u8>>, V::Fault>
         requires running { self.old.is_halted ≡ false }
         ensures hashes { IfOk result (λ found. IfSome found (λ b. sha256 b.items ≡ digest)) }
-        ensures kept { (records : List (List ℕ)) → HoldsInTurn D.Disk self.old records
-            → OnOk result (HoldsInTurn D.Disk self.new records) }
-        ensures held { (records : List (List ℕ)) → HoldsInTurn D.Disk self.old records
-            → OnErr result (HoldsInTurn D.Disk self.new records) }
+        ensures held { KeepsRecords (HoldsInTurn V.Volume) self.old self.new }
         ensures running { OnOk result (self.new.is_halted ≡ false) }
     {
         if number != self.past.len() {
@@ -373,14 +328,13 @@ impl<D: Disk + Drop> Volumes<D> {
         alloc: Global,
         number: usize,
         digest: Digest,
-    ) -> Result<Option<Vec<u8>>, FileFault>
+    ) -> Result<Option<Vec<u8>>, V::Fault>
         requires running { self.old.is_halted ≡ false }
         ensures hashes { IfOk result (λ found. IfSome found (λ b. sha256 b.items ≡ digest)) }
-        ensures held { (records : List (List ℕ)) → HoldsInTurn D.Disk self.old records
-            → HoldsInTurn D.Disk self.new records }
+        ensures held { KeepsRecords (HoldsInTurn V.Volume) self.old self.new }
         ensures running { OnOk result (self.new.is_halted ≡ false) }
     {
-        match self.past.block(alloc, self.options, number, digest) {
+        match self.past.item(alloc, number, digest) {
             Ok(found) => Ok(found),
             Err(fault) => {
                 self.halt();
@@ -398,20 +352,17 @@ impl<D: Disk + Drop> Volumes<D> {
         number: usize,
         index: u32,
         digest: Digest,
-    ) -> Result<Option<Vec<u8>>, FileFault>
+    ) -> Result<Option<Vec<u8>>, V::Fault>
         requires running { self.old.is_halted ≡ false }
         ensures hashes { IfOk result (λ found. IfSome found (λ b. sha256 b.items ≡ digest)) }
-        ensures kept { (records : List (List ℕ)) → HoldsInTurn D.Disk self.old records
-            → OnOk result (HoldsInTurn D.Disk self.new records) }
-        ensures held { (records : List (List ℕ)) → HoldsInTurn D.Disk self.old records
-            → OnErr result (HoldsInTurn D.Disk self.new records) }
+        ensures held { KeepsRecords (HoldsInTurn V.Volume) self.old self.new }
         ensures running { OnOk result (self.new.is_halted ≡ false) }
     {
         let found = self.record_at(alloc, number, index)?;
         if let Some(commit) = &found {
             if <Sha256 as sha2::Digest>::digest(commit.as_slice()) != *digest.as_bytes() {
                 self.halt();
-                return Err(FileFault::DamagedRecord(index));
+                return Err(V::fault_for(VolumeFault::DamagedRecord(index)));
             }
         }
         Ok(found)
@@ -424,12 +375,9 @@ impl<D: Disk + Drop> Volumes<D> {
         alloc: Global,
         number: usize,
         index: u32,
-    ) -> Result<Option<Vec<u8>>, FileFault>
+    ) -> Result<Option<Vec<u8>>, V::Fault>
         requires running { self.old.is_halted ≡ false }
-        ensures kept { (records : List (List ℕ)) → HoldsInTurn D.Disk self.old records
-            → OnOk result (HoldsInTurn D.Disk self.new records) }
-        ensures held { (records : List (List ℕ)) → HoldsInTurn D.Disk self.old records
-            → OnErr result (HoldsInTurn D.Disk self.new records) }
+        ensures held { KeepsRecords (HoldsInTurn V.Volume) self.old self.new }
         ensures running { OnOk result (self.new.is_halted ≡ false) }
     {
         if number != self.past.len() {
@@ -450,13 +398,12 @@ impl<D: Disk + Drop> Volumes<D> {
         alloc: Global,
         number: usize,
         index: u32,
-    ) -> Result<Option<Vec<u8>>, FileFault>
+    ) -> Result<Option<Vec<u8>>, V::Fault>
         requires running { self.old.is_halted ≡ false }
-        ensures held { (records : List (List ℕ)) → HoldsInTurn D.Disk self.old records
-            → HoldsInTurn D.Disk self.new records }
+        ensures held { KeepsRecords (HoldsInTurn V.Volume) self.old self.new }
         ensures running { OnOk result (self.new.is_halted ≡ false) }
     {
-        match self.past.record(alloc, self.options, number, index) {
+        match self.past.record(alloc, number, index) {
             Ok(found) => Ok(found),
             Err(fault) => {
                 self.halt();

@@ -6,6 +6,3 @@ mod workers;
 
 pub use gates::{Gate, Gated, OpenGate};
 pub use workers::Worker;
-
-#[cfg(test)]
-mod tests;

@@ -37,19 +37,13 @@ pub(crate) struct Draft {
 impl Holding {
     /// Whether the key is that of the user.
     pub fn is_own_key(&self, key: PublicKey) -> bool
-        ensures value { IsTrue result ↔ (key ≡ user_key self.now.roster self.now.user) }
+        ensures value { IsTrue result
+            ↔ (user_key self.now.roster self.now.user ≡ Some key) }
         // What holds of all that a client holds.
         ensures member { has_user self.now.roster self.now.user ≡ true }
         ensures legal { Legal self.now.roster self.now.held }
     {
-        match self
-            .keeping
-            .end
-            .key(self.keeping.desk.roster(), self.keeping.user)
-        {
-            Some(own) => own == key,
-            None => unreachable!(),
-        }
+        self.key(self.keeping.user) == Some(key)
     }
 
     /// Makes a change of the user's on trial, which isn't seen. `Change` where it is refused;

@@ -1,19 +1,16 @@
-use Rattle.std.proofs.lemmas.Result.{err_from_is_err_and}
-use Rattle.su_format.proofs.Public.{then_took, then_refused, first_refused, made}
+use Rattle.su_format.proofs.Public.{then_took, then_refused, first_refused, made, handed_on}
 use Rattle.su_change.specs.Take.{take_fields}
 use Rattle.su_change.proofs.take.read.Goals as goal
 
 pub returns-in_err-file : goal.returns-in_err-file
 unfolding take_fields
-returns-in_err-file c =
-    let p = err_from_is_err_and c.from_residual.result c.from_residual.ensures.1 in
-    rw (p.1, p.2) (first_refused _ _ c.in_err-file.ensures.takes)
+returns-in_err-file c = handed_on _ _ c.from_residual.ensures.1 (first_refused _ _ c.in_err-file.ensures.takes)
 
 pub returns-in_err-body : goal.returns-in_err-body
 unfolding take_fields
 returns-in_err-body c =
-    let p = err_from_is_err_and c.from_residual-in_err-body.result c.from_residual-in_err-body.ensures.1 in
-    rw (p.1, p.2) (then_refused _ _ c.in_ok-file.ensures.takes (first_refused _ _ c.in_err-body.ensures.takes))
+    handed_on _ _ c.from_residual-in_err-body.ensures.1
+    (then_refused _ _ c.in_ok-file.ensures.takes (first_refused _ _ c.in_err-body.ensures.takes))
 
 pub returns : goal.returns
 unfolding take_fields

@@ -1,18 +1,16 @@
-use Rattle.std.proofs.lemmas.Result.{err_from_is_err_and}
-use Rattle.su_format.proofs.Public.{then_took, then_refused, first_refused, made}
+use Rattle.su_format.proofs.Public.{then_took, then_refused, first_refused, made, handed_on}
 use Rattle.su_message.specs.LastNumbers.{user_number_format}
 use Rattle.su_message.proofs.last_numbers.read_user.Goals as goal
 
 pub returns-in_err-user : goal.returns-in_err-user
 unfolding user_number_format
-returns-in_err-user c =
-    let p = err_from_is_err_and c.from_residual.result c.from_residual.ensures.1 in rw (p.1, p.2) (first_refused _ _ c.in_err-user.ensures)
+returns-in_err-user c = handed_on _ _ c.from_residual.ensures.1 (first_refused _ _ c.in_err-user.ensures)
 
 pub returns-in_err-number : goal.returns-in_err-number
 unfolding user_number_format
 returns-in_err-number c =
-    let p = err_from_is_err_and c.from_residual-in_err-number.result c.from_residual-in_err-number.ensures.1 in
-    rw (p.1, p.2) (then_refused _ _ c.in_ok-user.ensures (first_refused _ _ c.in_err-number.ensures.takes))
+    handed_on _ _ c.from_residual-in_err-number.ensures.1
+    (then_refused _ _ c.in_ok-user.ensures (first_refused _ _ c.in_err-number.ensures.takes))
 
 pub returns : goal.returns
 unfolding user_number_format

@@ -1,11 +1,8 @@
-use Rattle.std.proofs.lemmas.Result.{err_from_is_err_and}
-use Rattle.su_format.proofs.Public.{then_took, first_refused, made}
+use Rattle.su_format.proofs.Public.{then_took, first_refused, made, handed_on}
 use Rattle.su_message.proofs.requests.read_fetch.Goals as goal
 
 pub returns-in_err-number : goal.returns-in_err-number
-returns-in_err-number c =
-    let p = err_from_is_err_and c.from_residual.result c.from_residual.ensures.1 in
-    rw (p.1, p.2) (first_refused _ _ c.in_err-number.ensures.takes)
+returns-in_err-number c = handed_on _ _ c.from_residual.ensures.1 (first_refused _ _ c.in_err-number.ensures.takes)
 
 pub returns : goal.returns
 returns c = then_took _ _ c.in_ok-number.ensures.takes (made _ _)

@@ -1,9 +1,9 @@
-use Rattle.std.proofs.Common.{◌≡◌, false, List, ℕ}
-use Rattle.su_volumes.specs.Volumes.{HoldsInTurn}
+use Rattle.std.proofs.Common.{◌≡◌, false}
+use Rattle.su_vault.specs.Records.{KeepsRecords}
 use Rattle.su_archive.proofs.archives.Archive.share_behind.Given as goal
 
 abbrev pub invariant-loop-next : goal.invariant-loop-next
 invariant-loop-next g l = record {
-  held : (records : List (List ℕ)) → HoldsInTurn g.D.Disk l.initial.self.volumes records → HoldsInTurn g.D.Disk l.self.volumes records;
-  running : l.self.volumes.is_halted ≡ false;
+  held : KeepsRecords g.V.Vault.holds l.initial.self.vault l.self.vault;
+  running : g.V.Vault.is_stopped l.self.vault ≡ false;
 }

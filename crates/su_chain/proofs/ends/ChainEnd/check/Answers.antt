@@ -5,10 +5,10 @@ use Rattle.su_chain.proofs.ends.ChainEnd.check.Goals as goal
 
 pub returns-clause-next : goal.returns-clause-next
 returns-clause-next c =
-    checked c.args.roster.now c.args.self.now c.args.commit.now c.tip.result c.version.ensures.commit
-    (tip_for c.args.self.now _ c.args.commit.now c.tip.result (c.author-author.ensures.value ∙ ap (λ (v : Version). v.author) c.version.ensures.value) c.tip.ensures) c.check.result c.check.ensures.follows
+    checked c.args.roster.now c.args.self.now c.args.commit.now c.tip-tip.result c.version.ensures.commit
+    (tip_for c.args.self.now _ c.args.commit.now c.tip-tip.result (c.author.ensures.value ∙ ap (λ (v : Version). v.author) c.version.ensures.value) c.tip-tip.ensures) c.check.result c.check.ensures.follows
 
 pub returns-clause-refused : goal.returns-clause-refused
 returns-clause-refused c =
-    unchecked c.args.roster.now c.args.self.now c.args.commit.now c.tip.result c.version.ensures.commit
-    (tip_for c.args.self.now _ c.args.commit.now c.tip.result (c.author-author.ensures.value ∙ ap (λ (v : Version). v.author) c.version.ensures.value) c.tip.ensures) c.check.result c.check.ensures.refused
+    unchecked c.args.roster.now c.args.self.now c.args.commit.now c.tip-tip.result c.version.ensures.commit
+    (tip_for c.args.self.now _ c.args.commit.now c.tip-tip.result (c.author.ensures.value ∙ ap (λ (v : Version). v.author) c.version.ensures.value) c.tip-tip.ensures) c.check.result c.check.ensures.refused

@@ -1,5 +1,4 @@
-use Rattle.std.proofs.lemmas.Result.{err_from_is_err_and}
-use Rattle.su_format.proofs.Public.{then_took, then_refused, first_refused, made}
+use Rattle.su_format.proofs.Public.{then_took, then_refused, first_refused, made, handed_on}
 use Rattle.su_format.specs.Reading.{Took}
 use Rattle.su_version.specs.Commit.{commit_format}
 use Rattle.su_version.proofs.CommitSpelling.{commit_of}
@@ -7,22 +6,20 @@ use Rattle.su_version.proofs.commits.Commit.read.Goals as goal
 
 pub returns-in_err-version : goal.returns-in_err-version
 unfolding commit_format
-returns-in_err-version c =
-    let p = err_from_is_err_and c.from_residual.result c.from_residual.ensures.1 in
-    rw (p.1, p.2) (first_refused _ _ c.in_err-version.ensures)
+returns-in_err-version c = handed_on _ _ c.from_residual.ensures.1 (first_refused _ _ c.in_err-version.ensures)
 
 pub returns-in_err-size : goal.returns-in_err-size
 unfolding commit_format
 returns-in_err-size c =
-    let p = err_from_is_err_and c.from_residual-in_err-size.result c.from_residual-in_err-size.ensures.1 in
-    rw (p.1, p.2) (then_refused _ _ c.in_ok-version.ensures
+    handed_on _ _ c.from_residual-in_err-size.ensures.1
+    (then_refused _ _ c.in_ok-version.ensures
     (first_refused _ _ c.in_err-size.ensures))
 
 pub returns-in_err-bytes : goal.returns-in_err-bytes
 unfolding commit_format
 returns-in_err-bytes c =
-    let p = err_from_is_err_and c.from_residual-in_err-bytes.result c.from_residual-in_err-bytes.ensures.1 in
-    rw (p.1, p.2) (then_refused _ _ c.in_ok-version.ensures
+    handed_on _ _ c.from_residual-in_err-bytes.ensures.1
+    (then_refused _ _ c.in_ok-version.ensures
     (then_refused _ _ c.in_ok-size.ensures
     (first_refused _ _ c.in_err-bytes.ensures.refused.0)))
 

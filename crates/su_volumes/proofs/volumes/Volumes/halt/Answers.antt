@@ -2,7 +2,7 @@ use Rattle.su_volumes.proofs.VolumeLemmas.{halts, halts_before}
 use Rattle.su_volumes.proofs.volumes.Volumes.halt.Goals as goal
 
 pub returns-clause-held : goal.returns-clause-held
-returns-clause-held g c records held = halts g.D.Disk c.args.self.now records held
+returns-clause-held g c records held = halts g.V.Volume c.args.self.now records held
 
 pub returns-clause-last : goal.returns-clause-last
-returns-clause-last g c records last held = halts_before g.D.Disk c.args.self.now records last held
+returns-clause-last g c records last held = halts_before g.V.Volume c.args.self.now records last held

@@ -1,12 +1,11 @@
-use Rattle.su_volumes.proofs.VolumeLemmas.{runs, with_more, halts_at}
+use Rattle.su_volumes.proofs.VolumeLemmas.{with_more, halts_at}
 use Rattle.su_volumes.proofs.volumes.Volumes.keep_found.Goals as goal
 
 pub returns-in-Ok-clause-kept : goal.returns-in-Ok-clause-kept
 returns-in-Ok-clause-kept g c records held =
     let was = c.args.self.now in
-    with_more g.D.Disk was records held c.requires.running c.keep_found.new.self _ c.args.commit.now (c.in-Ok.ensures.kept held.own (runs g.D.Disk was records held c.requires.running))
+    let counted = c.in-Ok.ensures.kept held.own (held.counted c.requires.running) in
+    with_more g.V.Volume was records held c.requires.running c.keep_found.new.file _ c.args.commit.now (g.met.V.Volume.begins_with_counted _ _ _ counted) counted
 
 pub returns-in-Err-clause-held : goal.returns-in-Err-clause-held
-returns-in-Err-clause-held g c records held =
-    let was = c.args.self.now in
-    halts_at g.D.Disk was records held c.keep_found.new.self (c.in-Err.ensures.held held.own (runs g.D.Disk was records held c.requires.running))
+returns-in-Err-clause-held g c records held = halts_at g.V.Volume c.args.self.now records held c.keep_found.new.file (c.keep_found.ensures.begun held.own held.begun)

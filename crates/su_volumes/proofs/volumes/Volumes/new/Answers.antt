@@ -1,17 +1,15 @@
-use Rattle.std.proofs.Common.{[], false, refl}
-use Rattle.su_volumes.proofs.CurrentLemmas.{begins}
+use Rattle.std.proofs.Common.{[], refl}
 use Rattle.su_volumes.proofs.volumes.Volumes.new.Goals as goal
 
 pub returns : goal.returns
-returns g c = record {
-  begun = λ sound later. record {
-    lists = [];
-    own = [];
-    more = [];
-    split = refl;
-    running = λ _. refl;
-    past = c.new.ensures;
-    current = begins g.D.Disk c.args.files.first false c.requires.rest sound;
-    later = later;
-  };
+returns g c = λ sound. record {
+  lists = [];
+  own = [];
+  more = [];
+  split = refl;
+  running = λ _. refl;
+  past = c.new.ensures;
+  begun = g.met.V.Volume.begins_with_counted c.args.files.first 0 [] sound.0;
+  counted = λ _. sound.0;
+  later = sound.1;
 }

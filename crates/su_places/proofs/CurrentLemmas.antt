@@ -1,0 +1,151 @@
+-- What a file keeps as it is opened and read, as records are counted and appended, and as it is shut.
+use Rattle.std.proofs.Common.{◌≡◌, ◌≤◌, IsTrue, Result, Ok, Err, OnOk, OnErr, IfOk, IfSome, Option, None, option_map, inl, inr, ℕ, zero, suc, ◌+◌, List, [], ◌∷◌, ◌++◌, length, take, slice_get, Some, refl, sym, ap, subst, ◌∙◌, arith}
+use Rattle.std.proofs.Math.Logic.{∥∥₁_elim}
+use Rattle.sqlite_disk.specs.declared.Disk.{Ghosts}
+use Rattle.sqlite.specs.declared.FileStore.{FileStore}
+use Rattle.sqlite.specs.Recovery.{Image}
+use Rattle.sqlite.specs.Tree.{Trees}
+use Rattle.sqlite_trees.specs.Props.{Trees-set}
+use Rattle.sqlite.specs.Effect.{Database}
+use Rattle.sqlite.specs.State.{HasCleanDisk, Survives}
+use Rattle.sqlite.specs.Files.{file_state, over_files, HoldsDatabase}
+use Rattle.su_store.specs.Kept.{nothing, with_record}
+use Rattle.su_store.specs.Tables.{Stands}
+use Rattle.su_store.specs.Changes.{Extends, Keeps}
+use Rattle.su_store.specs.Lookups.{IsRecord}
+use Rattle.su_store.specs.Files.{File, IsAtRest}
+use Rattle.su_places.specs.Places.{KeepsAll, IsShut}
+use Rattle.su_places.specs.Current.{AreSound, HoldsSound, Begins, Counts, count_of}
+use Rattle.su_places.specs.Laws.{take_whole, counts_begin}
+use Rattle.su_places.specs.declared.places.Place.{Place}
+use Rattle.su_places.specs.declared.places.Place.TheVariants.{Open, Shut, Unopened, Unshut, Away}
+
+-- the element behind the first ones
+take_suc : {X : Type 0} (xs : List X) (i : ℕ) (x : X) → slice_get xs i ≡ Some x → take (suc i) xs ≡ take i xs ++ x ∷ []
+take_suc [] i x at = absurd cc
+take_suc (y ∷ ys) zero x at = let same : y ≡ x = cc in ap (λ z. z ∷ []) same
+take_suc (y ∷ ys) (suc i) x at = ap (λ l. y ∷ l) (take_suc ys i x at)
+
+take_more : {X : Type 0} (xs : List X) (i : ℕ) (x : X) → slice_get xs i ≡ Some x → take (i + 1) xs ≡ take i xs ++ x ∷ []
+take_more xs i x at = let on : i + 1 ≡ suc i = omega arith in ap (λ n. take n xs) on ∙ take_suc xs i x at
+
+length_more : {X : Type 0} (xs : List X) (x : X) → length (xs ++ x ∷ []) ≡ length xs + 1
+length_more [] x = refl
+length_more (y ∷ ys) x = ap suc (length_more ys x) ∙ (omega arith)
+
+pub always_err : {A E P : Type 0} (r : Result A E) → P → OnErr r P
+always_err (Ok x) p = tt
+always_err (Err e) p = p
+
+-- the tables that the two files held are shown
+pub sound_shown : (image : Image) (now : Trees) → HoldsSound image → ((db : Trees) → HoldsDatabase image db → now ≡ db) → AreSound now
+sound_shown image now was shows =
+    let same : now ≡ was.db = ∥∥₁_elim was.held (Trees-set _ _) (shows was.db) in
+    subst AreSound (sym same) was.sound
+
+module _ {D : Type 0} (g : Ghosts D) where
+  -- a file that isn't open counts what it keeps
+  pub shut_counts : (place : Place D g) (number : ℕ) (records : List (List ℕ)) → IsShut place → KeepsAll g place records → Counts g place number records
+  shut_counts (Open f) number records shut kept = absurd shut
+  shut_counts (Shut s) number records shut kept = kept
+  shut_counts (Unopened left) number records shut kept = kept
+  shut_counts (Unshut it) number records shut kept = kept
+  shut_counts Away number records shut kept = kept
+
+  pub shut_none : (place : Place D g) → IsShut place → count_of place ≡ 0
+  shut_none (Open f) shut = absurd shut
+  shut_none (Shut s) shut = refl
+  shut_none (Unopened left) shut = refl
+  shut_none (Unshut it) shut = refl
+  shut_none Away shut = refl
+
+  -- a file that shows no record
+  pub starts_empty : (f : File (FileStore D g)) → (HasCleanDisk (file_state f.held) → IsAtRest over_files f) → (HasCleanDisk (file_state f.held) → Stands nothing (file_state f.held).now.trees) → (n : ℕ) → Counts g (Open f) n []
+  starts_empty f rest fresh n = λ clean.
+      record { kept = nothing; stands = fresh clean; counted = (rest clean).counted nothing (fresh clean); first = take_whole [] n (omega arith); settled = (rest clean).settled }
+
+module _ {D : Type 0} (g : Ghosts D) (f new : File (FileStore D g)) where
+  -- a call that read the file, whether it failed or not
+  pub reads_begin : (records : List (List ℕ)) → Survives (file_state f.held) (file_state new.held) (λ _. ⊥) → Begins g (Open f) records → Begins g (Open new) records
+  reads_begin records crash begins = λ clean db may. elim (crash.crash clean db may) [
+    | inl before ↦ begins (omega (arith, clean, crash.clean)) db before
+    | inr none ↦ absurd none
+  ]
+
+  -- a call that read it
+  reads : (number : ℕ) (records : List (List ℕ)) → Survives (file_state f.held) (file_state new.held) (λ _. ⊥) → (HasCleanDisk (file_state new.held) → (file_state new.held).now ≡ (file_state f.held).now) → new.count ≡ f.count
+      → Counts g (Open f) number records → Counts g (Open new) number records
+  reads number records crash same count counts = λ clean.
+      let step = counts (omega (arith, clean, crash.clean)) in
+      let one : (file_state new.held).now.trees ≡ (file_state f.held).now.trees = ap (λ (d : Database). d.trees) (same clean) in
+      record {
+        kept = step.kept;
+        stands = subst (Stands step.kept) (sym one) step.stands;
+        counted = step.counted ∙ sym count;
+        first = step.first;
+        settled = λ db may. elim (crash.crash clean db may) [
+          | inl before ↦ step.settled db before ∙ sym one
+          | inr none ↦ absurd none
+        ];
+      }
+
+  pub reads_or : {A E : Type 0} (r : Result A E) (number : ℕ) (records : List (List ℕ)) → Survives (file_state f.held) (file_state new.held) (λ _. ⊥) → (HasCleanDisk (file_state new.held) → OnOk r ((file_state new.held).now ≡ (file_state f.held).now))
+      → new.count ≡ f.count → Counts g (Open f) number records → OnOk r (Counts g (Open new) number records)
+  reads_or (Ok x) number records crash same count counts = reads number records crash same count counts
+  reads_or (Err e) number records crash same count counts = tt
+
+  -- the record behind those that stand in the book may be one of them
+  counts_found : (number : ℕ) (records : List (List ℕ)) (commit : List ℕ) → (HasCleanDisk (file_state new.held) → IsRecord number (Some commit) (file_state f.held).now.trees)
+      → (HasCleanDisk (file_state new.held) → (file_state new.held).now ≡ (file_state f.held).now) → Counts g (Open new) number records → Counts g (Open new) (number + 1) (records ++ commit ∷ [])
+  counts_found number records commit is same counts = λ clean.
+      let step = counts clean in
+      let there = subst (λ (d : Database). IsRecord number (Some commit) d.trees) (sym (same clean)) (is clean) in
+      record {
+        kept = step.kept;
+        stands = step.stands;
+        counted = step.counted;
+        first = take_more step.kept.records number commit (sym (there step.kept step.stands)) ∙ ap (λ l. l ++ commit ∷ []) step.first;
+        settled = step.settled;
+      }
+
+  pub found_or : {A E : Type 0} (bytes : A → List ℕ) (r : Result (Option A) E) (number : ℕ) → (HasCleanDisk (file_state new.held) → IfOk r (λ x. IsRecord number (option_map bytes x) (file_state f.held).now.trees))
+      → (HasCleanDisk (file_state new.held) → OnOk r ((file_state new.held).now ≡ (file_state f.held).now))
+      → IfOk r (λ found. IfSome found (λ b. (records : List (List ℕ)) → Counts g (Open new) number records → Counts g (Open new) (number + 1) (records ++ bytes b ∷ [])))
+  found_or bytes (Ok None) number is same = tt
+  found_or bytes (Ok (Some b)) number is same = λ records counts. counts_found number records (bytes b) is same counts
+  found_or bytes (Err e) number is same = tt
+
+  -- a call that put a record behind the others
+  pub appends : (number : ℕ) (records : List (List ℕ)) (record_ : List ℕ) (blocks : List (List ℕ)) → (HasCleanDisk (file_state new.held) → Keeps (Extends record_ blocks) (file_state f.held) (file_state new.held))
+      → Survives (file_state f.held) (file_state new.held) (Extends record_ blocks (file_state f.held).now.trees)
+      → ((db : Trees) → IsTrue (file_state new.held).is_open → (file_state new.held).may_leave db → db ≡ (file_state new.held).committed.trees)
+      → new.count ≡ f.count + 1 → f.count ≤ number → Counts g (Open f) number records → Counts g (Open new) new.count (records ++ record_ ∷ [])
+  appends number records record_ blocks keeps crash settled count through counts = λ clean.
+      let step = counts (omega (arith, clean, crash.clean)) in
+      let how = keeps clean in
+      let all : length step.kept.records ≤ number = omega (arith, step.counted, through) in
+      let own : step.kept.records ≡ records = sym (take_whole step.kept.records number all) ∙ step.first in
+      let more = with_record step.kept record_ blocks in
+      let one : (file_state new.held).now.trees ≡ (file_state new.held).committed.trees = ap (λ (d : Database). d.trees) how.same in
+      let same : more.records ≡ records ++ record_ ∷ [] = ap (λ l. l ++ record_ ∷ []) own in
+      let long : length more.records ≡ new.count = length_more step.kept.records record_ ∙ (omega (arith, step.counted, count)) in
+      record {
+        kept = more;
+        stands = subst (Stands more) (sym one) (how.kept step.kept step.stands);
+        counted = long;
+        first = take_whole more.records new.count (omega (arith, long)) ∙ same;
+        settled = λ db may. settled db how.is_open may ∙ sym one;
+      }
+
+  -- a call that failed to
+  pub fails_to_append : (number : ℕ) (records : List (List ℕ)) (record_ : List ℕ) (blocks : List (List ℕ)) → Survives (file_state f.held) (file_state new.held) (Extends record_ blocks (file_state f.held).now.trees)
+      → f.count ≤ number → Counts g (Open f) number records → Begins g (Open new) records
+  fails_to_append number records record_ blocks crash through counts = λ clean db may.
+      let was : HasCleanDisk (file_state f.held) = omega (arith, clean, crash.clean) in
+      let step = counts was in
+      let all : length step.kept.records ≤ number = omega (arith, step.counted, through) in
+      let own : step.kept.records ≡ records = sym (take_whole step.kept.records number all) ∙ step.first in
+      elim (crash.crash clean db may) [
+        | inl before ↦ counts_begin g (Open f) number records counts was db before
+        | inr made ↦ record { kept = with_record step.kept record_ blocks; stands = made step.kept step.stands; more = record_ ∷ []; first = ap (λ l. l ++ record_ ∷ []) own }
+      ]

@@ -1,0 +1,5 @@
+use Rattle.su_places.proofs.CurrentLemmas.{starts_empty}
+use Rattle.su_places.proofs.store_volumes.StoreVolume.over.Goals as goal
+
+pub returns-clause-fresh : goal.returns-clause-fresh
+returns-clause-fresh g c = starts_empty g.D.Disk c.args.file c.requires

@@ -1,0 +1,9 @@
+//! One file of a store, open or shut: what it keeps, whatever a crash leaves of it.
+#![tactic(auto)]
+
+mod current;
+mod places;
+mod store_volumes;
+
+pub use places::Place;
+pub use store_volumes::StoreVolume;

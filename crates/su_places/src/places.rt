@@ -1,0 +1,120 @@
+// A file of a store, which is read into memory only while it is open.
+ghost use Rattle.std.specs.Prelude.{[], List, ℕ, IfOk, IfErr, OnOk};
+ghost use Rattle.su_vault.specs.Records.{KeepsRecords};
+
+use sqlite::{FileStore, Leftover, Options};
+use sqlite_disk::Disk;
+use std::alloc::Global;
+use std::mem;
+use su_store::{FileFault, RecordFile, ShutFile};
+
+/// A file of a store.
+pub enum Place<D: Disk> {
+    /// It is in memory.
+    Open(RecordFile<FileStore<D>>),
+    /// It isn't.
+    Shut(ShutFile<D>),
+    /// It could not be opened again, and this is left of it.
+    Unopened(Leftover<D>),
+    /// It could not be shut.
+    Unshut(FileStore<D>),
+    /// It is on its way from one of these to another.
+    Away,
+}
+
+// It is written out, so that a caller does not prove again how each part is dropped.
+impl<D: Disk + Drop> Drop for Place<D> {
+    fn drop(self) {
+        match self {
+            Place::Open(_file) => {}
+            Place::Shut(_file) => {}
+            Place::Unopened(_left) => {}
+            Place::Unshut(_store) => {}
+            Place::Away => {}
+        }
+    }
+}
+
+impl<D: Disk + Drop> Place<D> {
+    ghost use Rattle.su_places.specs.Places.{KeepsAll, IsShut};
+    ghost use Rattle.su_places.specs.Current.{Counts, IsSound};
+
+    /// Shuts the file, if it is open.
+    pub(crate) fn shut(&mut self) -> Result<(), FileFault>
+        ensures kept { KeepsRecords (KeepsAll D.Disk) self.old self.new }
+        ensures shut { IsShut self.new }
+    {
+        match mem::replace(self, Place::Away).into_shut() {
+            Ok(place) => {
+                *self = place;
+                Ok(())
+            }
+            Err((fault, place)) => {
+                *self = place;
+                Err(fault)
+            }
+        }
+    }
+
+    /// Opens the file, if it is shut.
+    pub(crate) fn open(&mut self, alloc: Global, options: Options) -> Result<(), FileFault>
+        ensures kept { KeepsRecords (KeepsAll D.Disk) self.old self.new }
+        ensures anew { OnOk result (IsSound D.Disk self.old → Counts D.Disk self.new 0 []) }
+    {
+        match mem::replace(self, Place::Away).into_open(alloc, options) {
+            Ok(place) => {
+                *self = place;
+                Ok(())
+            }
+            Err((fault, place)) => {
+                *self = place;
+                Err(fault)
+            }
+        }
+    }
+
+    fn into_shut(self) -> Result<Place<D>, (FileFault, Place<D>)>
+        ensures kept { IfOk result (λ place. (records : List (List ℕ))
+            → KeepsAll D.Disk self records → KeepsAll D.Disk place records) }
+        ensures shut { IfOk result IsShut }
+        ensures lost { IfErr result (λ e. IsShut e.1) }
+        ensures held { IfErr result (λ e. (records : List (List ℕ))
+            → KeepsAll D.Disk self records → KeepsAll D.Disk e.1 records) }
+    {
+        match self {
+            Place::Open(file) => match file.shut() {
+                Ok(shut) => Ok(Place::Shut(shut)),
+                Err((fault, store)) => Err((fault, Place::Unshut(store))),
+            },
+            other => Ok(other),
+        }
+    }
+
+    fn into_open(self, alloc: Global, options: Options) -> Result<Place<D>, (FileFault, Place<D>)>
+        ensures kept { IfOk result (λ place. (records : List (List ℕ))
+            → KeepsAll D.Disk self records → KeepsAll D.Disk place records) }
+        ensures anew { IfOk result (λ place. IsSound D.Disk self → Counts D.Disk place 0 []) }
+        ensures held { IfErr result (λ e. (records : List (List ℕ))
+            → KeepsAll D.Disk self records → KeepsAll D.Disk e.1 records) }
+    {
+        match self {
+            Place::Shut(shut) => match shut.open(alloc, options) {
+                Ok(file) => Ok(Place::Open(file)),
+                Err((fault, left)) => Err((fault, Place::Unopened(left))),
+            },
+            other => Ok(other),
+        }
+    }
+
+    /// Shuts the file, if it is open, and gives it up. `Spent` where it was lost to a call.
+    pub(crate) fn close(self) -> Result<(), FileFault> {
+        match self {
+            Place::Open(file) => match file.shut() {
+                Ok(_shut) => Ok(()),
+                Err((fault, _store)) => Err(fault),
+            },
+            Place::Shut(_shut) => Ok(()),
+            _ => Err(FileFault::Spent),
+        }
+    }
+}

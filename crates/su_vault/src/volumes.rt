@@ -1,0 +1,95 @@
+// What a file of records promises.
+ghost use Rattle.std.specs.Prelude.{◌≡◌, ◌≤◌, ◌+◌, List, ℕ, [], ◌∷◌, ◌++◌, None, IfOk, IfSome, OnOk, OnErr};
+ghost use Rattle.sha2.specs.Sha256.{sha256};
+ghost use Rattle.su_vault.specs.Records.{KeepsRecords};
+
+use crate::faults::VolumeFault;
+use std::alloc::{AllocError, Global};
+use su_bytes::Digest;
+
+/// A file of a vault: it keeps records in their order, and the items that they need. It is in memory
+/// while it is open. A call that failed may have spent it.
+pub trait Volume: Drop {
+    // It keeps these records and no others, whatever becomes of the process.
+    ghost keeps: { Self → List (List ℕ) → Type 0 };
+
+    // The records that it keeps begin with these, whatever becomes of the process.
+    ghost begins: { Self → List (List ℕ) → Type 0 };
+
+    // While it is open, it keeps as many records as it counts, of which so many are these first ones.
+    // Once it isn't, these are all that it keeps.
+    ghost counts: { Self → ℕ → List (List ℕ) → Type 0 };
+
+    // How many records it counts: none unless it is open.
+    ghost count: { Self → ℕ };
+
+    // It is as it was found, and what it was found with stands for some records.
+    ghost is_sound: { Self → Type 0 };
+
+    /// Why a call fails.
+    type Fault: Drop + From<AllocError>;
+
+    /// The fault of a file that isn't gone on with.
+    fn fault_for(why: VolumeFault) -> Self::Fault;
+
+    /// How many records it counts.
+    fn len(&self) -> u32
+        ensures { result ≡ count self.now };
+
+    /// Whether it counts as many records as a file may have.
+    fn is_full(&self) -> bool;
+
+    /// Opens the file, if it is shut. Fails where it isn't a sound file of records.
+    fn open(&mut self, alloc: Global) -> Result<(), Self::Fault>
+        ensures kept { KeepsRecords keeps self.old self.new }
+        ensures anew { OnOk result (is_sound self.old → counts self.new 0 []) };
+
+    /// Shuts the file, if it is open. Where it fails, the file is lost, and keeps what it kept.
+    fn shut(&mut self) -> Result<(), Self::Fault>
+        ensures kept { KeepsRecords keeps self.old self.new }
+        ensures counted { (number : ℕ) (records : List (List ℕ)) → keeps self.old records
+            → counts self.new number records }
+        ensures empty { count self.new ≡ 0 };
+
+    /// Shuts the file, if it is open, and gives it up. Fails where it was lost.
+    fn close(self) -> Result<(), Self::Fault>;
+
+    /// Reads the record of a number. `None` from the count on. Fails where the file isn't open, and
+    /// where the record isn't there.
+    fn record(&mut self, number: u32) -> Result<Option<Vec<u8>>, Self::Fault>
+        ensures kept { KeepsRecords keeps self.old self.new }
+        ensures begun { KeepsRecords begins self.old self.new }
+        ensures counted { (n : ℕ) (records : List (List ℕ)) → counts self.old n records
+            → OnOk result (counts self.new n records) }
+        ensures found { IfOk result (λ found. IfSome found (λ b. (records : List (List ℕ))
+            → counts self.new number records
+            → counts self.new (number + 1) (records ++ b.items ∷ []))) }
+        ensures end { IfOk result (λ found. found ≡ None → count self.new ≤ number) }
+        ensures same { count self.new ≡ count self.old };
+
+    /// Puts a record behind the others, with the items that it needs. Fails where the file isn't
+    /// open, where it is full, and where they aren't kept.
+    fn append(&mut self, commit: &[u8], items: &[Vec<u8>]) -> Result<(), Self::Fault>
+        ensures appended { (n : ℕ) (records : List (List ℕ)) → count self.old ≤ n
+            → counts self.old n records
+            → OnOk result (counts self.new (count self.new) (records ++ commit.now ∷ [])) }
+        ensures begun { (n : ℕ) (records : List (List ℕ)) → count self.old ≤ n
+            → counts self.old n records → OnErr result (begins self.new records) };
+
+    /// Reads the item of a digest. `None` where there is none. Fails where the file isn't open, and
+    /// where the item has another digest.
+    fn item(&mut self, digest: Digest) -> Result<Option<Vec<u8>>, Self::Fault>
+        ensures hashes { IfOk result (λ found. IfSome found (λ b. sha256 b.items ≡ digest)) }
+        ensures kept { KeepsRecords keeps self.old self.new }
+        ensures begun { KeepsRecords begins self.old self.new }
+        ensures counted { (n : ℕ) (records : List (List ℕ)) → counts self.old n records
+            → OnOk result (counts self.new n records) };
+
+    // What it counts is the first of what it keeps.
+    ghost begins_with_counted: { (f : Self) (n : ℕ) (records : List (List ℕ))
+        → counts f n records → begins f records };
+
+    // Where these are all that it counts, it keeps just these.
+    ghost keeps_all_counted: { (f : Self) (n : ℕ) (records : List (List ℕ)) → count f ≤ n
+        → counts f n records → keeps f records };
+}

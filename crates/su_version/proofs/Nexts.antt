@@ -1,0 +1,32 @@
+-- What a commit that may come next in a chain has, by its name.
+use Rattle.std.proofs.Common.{◌≡◌, ℕ, true, List, refl}
+use Rattle.std.specs.Prelude.{Option, Some, None}
+use Rattle.su_bytes.specs.Membership.{Membership, has_user}
+use Rattle.su_bytes.specs.RosterBytes.{user_key}
+use Rattle.su_bytes.proofs.Public.{key_listed}
+use Rattle.su_version.specs.Commit.{Commit}
+use Rattle.su_version.specs.Chain.{chain_head, chain_vector, tip, IsSignedBy, IsSignedByAuthor, CountsOn, MayBeNext}
+
+-- a commit that its author signed is a user's
+pub signed_by_user : (ro : Membership) (c : Commit) → IsSignedByAuthor ro c → has_user ro c.version.author ≡ true
+signed_by_user ro c signed = go (user_key ro c.version.author) refl signed
+  where
+    go : (key : Option (List ℕ)) → user_key ro c.version.author ≡ key → IsSignedBy key c → has_user ro c.version.author ≡ true
+    go None is signed = absurd signed
+    go (Some key) is signed = key_listed ro c.version.author key is
+
+module _ (ro : Membership) (cs : List Commit) (c : Commit) (next : MayBeNext ro cs c) where
+  pub next_signed : IsSignedByAuthor ro c
+  unfolding tip
+  next_signed = next.follows.0
+
+  pub next_prev : c.version.prev ≡ chain_head ro cs
+  unfolding tip
+  next_prev = next.follows.1.0
+
+  pub next_counts : CountsOn ro (chain_vector ro cs) c
+  unfolding tip
+  next_counts = next.follows.1.1.0
+
+  pub next_user : has_user ro c.version.author ≡ true
+  next_user = signed_by_user ro c next_signed
