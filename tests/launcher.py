@@ -15,7 +15,8 @@ import tally
 
 TOP = os.path.dirname(os.path.dirname(os.path.abspath(__file__)))
 
-# Of a crate it prints what rt prints; `rt run` writes the program, which has the first line of the source in it.
+# Of a crate it prints what rt prints, notes which libraries below it aren't there, and leaves one; `rt run` writes the program, which
+# has the first line of the source in it.
 RT = r"""#!/usr/bin/env bash
 echo "$1 $(basename "$PWD")" >> "$CALLS"
 [ "$1" != run ] || echo "$*" > "$CALLS.run"
@@ -23,7 +24,9 @@ echo "so far: 3 of 7 functions checked"
 sleep "${RT_SLEEPS:-0}"
 [ ! -e "$TREE/refuse" ] || { echo "error: not proved"; exit 1; }
 [ ! -e "$TREE/edit" ] || { rm "$TREE/edit"; echo edited > "$TREE/crates/sundr/src/main.rt"; }
-[ "$1" = run ] || exit 0
+case "$(basename "$PWD")" in middle) below=low ;; sundr) below="low middle" ;; esac
+for it in ${below:-}; do [ -e "../$it/out/rlib/stamp" ] || echo "the library $it isn't there" >> "$CALLS"; done
+[ "$1" = run ] || { mkdir -p out/rlib && touch out/rlib/stamp; exit 0; }
 mkdir -p out
 printf '#!/bin/sh\necho "%s: $*"\ncat\nexit 7\n' "$(cat src/main.rt)" > out/sundr
 chmod +x out/sundr
@@ -42,6 +45,7 @@ class Tree:
         for script in ("sundr", "prove"):
             shutil.copy(f"{TOP}/{script}", self.top)
         self.write("crates.txt", CRATES)
+        self.write("crates/aside/stdout", "")
         self.write("crates/sundr/src/main.rt", "first")
         self.path = f"{room}/bin:/usr/bin:/bin"
         os.makedirs(f"{room}/bin", exist_ok=True)

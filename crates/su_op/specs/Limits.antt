@@ -1,14 +1,16 @@
 -- Limits of what operations make.
 use Rattle.std.specs.Prelude.{ℕ}
-use Rattle.su_op.specs.declared.limits.TheConstants.{LARGEST_WRITE, LARGEST_FILE, MOST_LINKS}
+use Rattle.su_bytes.specs.declared.formats.Format.{Format}
+use Rattle.su_bytes.specs.declared.formats.Format.TheVariants.{V1}
+use Rattle.su_op.specs.declared.limits.TheConstants.{LARGEST_WRITE, MOST_LINKS}
 
 -- bytes of one write
 abbrev pub largest_write : ℕ
 largest_write = LARGEST_WRITE
 
--- bytes of a file
-abbrev pub largest_file : ℕ
-largest_file = LARGEST_FILE
+-- bytes that a change in that format may give a file
+abbrev pub largest_file : Format → ℕ
+largest_file V1 = 1048576
 
 -- names of a file
 abbrev pub most_links : ℕ

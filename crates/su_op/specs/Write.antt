@@ -2,6 +2,7 @@
 -- zeros.
 use Rattle.std.specs.Prelude.{◌≡◌, ℕ, ◌+◌, ◌&&◌, [], ◌∷◌, length, min, nat_eq, nat_le, if◌then◌else◌}
 use Rattle.su_bytes.specs.declared.refusals.Refusal.TheVariants.{BadNumber, NotMember, NoFile, WrongKind, NotHolder, TooBig}
+use Rattle.su_bytes.specs.declared.formats.Format.TheVariants.{V1}
 use Rattle.su_bytes.specs.Membership.{Membership}
 use Rattle.su_node.specs.InodeChange.{InodeChange.Written}
 use Rattle.su_bytes.specs.Place.{Place}
@@ -29,7 +30,7 @@ write_rule ro T a w =
     (Find (body T w.file) (NoFile w.file) (λ f.
     Demand (is_file_at T f) (WrongKind w.file)
     (Demand (nat_eq f.0 a) (NotHolder f.0)
-    (Demand (nat_le (w.off + length w.bytes) largest_file) TooBig
+    (Demand (nat_le (w.off + length w.bytes) (largest_file V1)) TooBig
     (Accept (write_plan (size_at T f) w f)))))))
 
 -- ---- what it does once it is accepted

@@ -20,7 +20,7 @@ pub use areas::{Area, BlockRun, Part};
 pub use create::Create;
 pub use footprints::Footprint;
 pub use laws::{kinds_change_whole, operations_are_local, table_of_cells};
-pub use limits::{LARGEST_FILE, LARGEST_WRITE, MOST_LINKS};
+pub use limits::{LARGEST_WRITE, MOST_LINKS, largest_file};
 pub use link::Link;
 pub use operations::{Accepted, Change, Op, apply, footprint};
 pub use rename::Rename;

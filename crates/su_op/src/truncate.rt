@@ -9,10 +9,10 @@ ghost use Rattle.su_bytes.specs.declared.refusals.Refusal.TheVariants.{NoMemory}
 use crate::access::closed_group;
 use crate::areas::{Area, Part};
 use crate::footprints::{Footprint, blocks_between, push_file};
-use crate::limits::LARGEST_FILE;
+use crate::limits::largest_file;
 use crate::operations::Accepted;
 use std::alloc::Global;
-use su_bytes::{FileId, Place, Refusal, Roster, User};
+use su_bytes::{FileId, Format, Place, Refusal, Roster, User};
 use su_table::Forest;
 
 /// Gives a file another size: it is cut, or has zeros behind it.
@@ -61,7 +61,7 @@ impl Truncate {
         if place.0 != author {
             return Err(Refusal::NotHolder(place.0));
         }
-        if LARGEST_FILE < self.size {
+        if largest_file(Format::V1) < self.size {
             return Err(Refusal::TooBig);
         }
         Ok(Accepted::Truncate(AcceptedTruncate {

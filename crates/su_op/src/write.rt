@@ -1,16 +1,17 @@
 // Bytes are written to a file.
 ghost use Rattle.std.specs.Prelude.{◌≡◌, ◌+◌, ◌≤◌, length, Some, None, IfOk, IfErr, OnOk, OnErr};
+ghost use Rattle.su_bytes.specs.declared.formats.Format.TheVariants.{V1};
 ghost use Rattle.su_op.specs.Limits.{largest_file};
 ghost use Rattle.su_bytes.specs.declared.refusals.Refusal.TheVariants.{NoMemory};
 
 use crate::access::closed_group;
 use crate::areas::{Area, Part};
 use crate::footprints::{Footprint, blocks_between, push_file};
-use crate::limits::{LARGEST_FILE, LARGEST_WRITE};
+use crate::limits::{LARGEST_WRITE, largest_file};
 use crate::operations::Accepted;
 use std::alloc::{AllocError, Global};
 use std::marker::Model;
-use su_bytes::{FileId, Place, Refusal, Roster, User};
+use su_bytes::{FileId, Format, Place, Refusal, Roster, User};
 use su_table::Forest;
 
 /// Writes bytes to a file; where they begin past its end, the gap is filled with zeros.
@@ -51,7 +52,7 @@ pub struct AcceptedWrite<'a> {
     pub(crate) place: Place,
     /// How many bytes the file has.
     pub(crate) size: u32,
-    ghost ends_in_file: { write.now.off + length write.now.bytes ≤ largest_file },
+    ghost ends_in_file: { write.now.off + length write.now.bytes ≤ largest_file V1 },
 }
 
 impl Write {
@@ -91,7 +92,7 @@ impl Write {
         if place.0 != author {
             return Err(Refusal::NotHolder(place.0));
         }
-        if (LARGEST_FILE as usize) < self.off as usize + count {
+        if (largest_file(Format::V1) as usize) < self.off as usize + count {
             return Err(Refusal::TooBig);
         }
         Ok(Accepted::Write(AcceptedWrite {

@@ -1,6 +1,7 @@
 -- Version structures are spelled part by part.
 use Rattle.std.proofs.Common.{◌≡◌, ◌<◌, ◌≤◌, ◌+◌, ◌^◌, ℕ, true, List, [], ◌∷◌, length, refl}
 use Rattle.std.specs.List.{flat_map, AllByRecursion}
+use Rattle.su_bytes.specs.declared.formats.Format.TheVariants.{V1}
 use Rattle.su_bytes.specs.Principal.{is_group}
 use Rattle.su_format.specs.Format.{IsLawful, EachFrom, IsFormatOf}
 use Rattle.su_format.specs.Part.{u8_bytes, u64_bytes}
@@ -74,7 +75,7 @@ body_of =
 
 pub version_makes : Makes version_format (λ v. v) IsVersion version_bytes
 unfolding version_format version_bytes
-version_makes = behind_mark first_bytes body_of
+version_makes = behind_mark (first_bytes V1) body_of
 
 pub version_of : IsFormatOf version_format IsVersion version_bytes
 version_of = format_of version_makes

@@ -2,6 +2,8 @@
 -- the digest of the commit before.)
 use Rattle.std.specs.Prelude.{◌≡◌, ◌≤◌, ◌<◌, ◌+◌, ◌^◌, ℕ, true, List, ◌∷◌, ◌++◌, length, codes}
 use Rattle.std.specs.List.{flat_map, AllByRecursion}
+use Rattle.su_bytes.specs.declared.formats.Format.{Format as CommitFormat}
+use Rattle.su_bytes.specs.declared.formats.Format.TheVariants.{V1}
 use Rattle.su_bytes.specs.Principal.{is_user, is_group}
 use Rattle.su_format.specs.Format.{Format, part, making, ◌>>=◌, repeated, EachFrom}
 use Rattle.su_format.specs.Part.{u8_bytes, u64_bytes, u8_part, u64_part, mark_part, user_part, digest_part}
@@ -44,8 +46,8 @@ abbrev pub group_bytes : ℕ × List ℕ → List ℕ
 group_bytes g = g.0 ∷ g.1
 
 -- the first bytes, which say what format the rest has
-abbrev pub first_bytes : List ℕ
-first_bytes = codes "SV01"
+abbrev pub first_bytes : CommitFormat → List ℕ
+first_bytes V1 = codes "SV01"
 
 -- the rest: author, prev, change, i-handle; how many groups, and each with its i-handle; how many
 -- numbers, and these
@@ -57,7 +59,7 @@ body_bytes v =
 
 -- the bytes that are signed
 unfoldable pub version_bytes : Version → List ℕ
-version_bytes v = first_bytes ++ body_bytes v
+version_bytes v = first_bytes V1 ++ body_bytes v
 
 -- ---- its parts
 
@@ -108,5 +110,5 @@ body_format = do
 -- the first bytes, and the rest
 unfoldable pub version_format : Format Version
 version_format = do
-  mark ← mark_part first_bytes
+  mark ← mark_part (first_bytes V1)
   body_format

@@ -3,17 +3,23 @@ ghost use Rattle.std.specs.Prelude.{◌≡◌, ◌≤◌, ◌<◌, ◌↔◌, �
 ghost use Rattle.std.specs.List.{flat_map};
 ghost use Rattle.su_format.specs.Reading.{Took, Refuses, Takes, Decodes};
 ghost use Rattle.su_format.specs.Part.{u8_bytes, u64_bytes};
-ghost use Rattle.su_version.specs.Version.{Version as VersionParts, IsVersion, body_bytes, version_bytes, group_bytes, group_above, carried_format, groups_format, vector_size_part, vector_format, body_format, version_format};
+ghost use Rattle.su_version.specs.Version.{Version as VersionParts, IsVersion, first_bytes, body_bytes, version_bytes, group_bytes, group_above, carried_format, groups_format, vector_size_part, vector_format, body_format, version_format};
 ghost use Rattle.su_bytes.specs.declared.refusals.Refusal.TheVariants.{NoMemory};
 
 use std::alloc::{AllocError, Global};
 use std::marker::Model;
-use su_bytes::{Digest, FileId, Group, Refusal, User};
+use su_bytes::{Digest, FileId, Format, Group, Refusal, User};
 use su_format::{Reader, Writer};
 use su_vector::{HasVector, Vector};
 
-/// The first bytes of a version structure.
-const FIRST_BYTES: &[u8] = b"SV01";
+/// Returns the first bytes of a version structure of that format.
+fn first_bytes(format: Format) -> &'static [u8]
+    ensures { result.now ≡ first_bytes format }
+{
+    match format {
+        Format::V1 => b"SV01",
+    }
+}
 
 /// What a user signs for a change: whose it is, the digest of the commit before, the digest of the
 /// change, the author's i-handle after it, the groups whose tables it writes with their i-handles,
@@ -155,7 +161,7 @@ impl VersionStructure {
     pub(crate) fn write(&self, writer: &mut Writer) -> Result<(), AllocError>
         ensures { OnOk result (writer.new ≡ writer.old ++ version_bytes self.now) }
     {
-        writer.put_bytes(FIRST_BYTES)?;
+        writer.put_bytes(first_bytes(Format::V1))?;
         self.write_body(writer)
     }
 
@@ -195,7 +201,7 @@ impl VersionStructure {
     {
         // names the type for the prover (docs/ARCHITECTURE.md, "Forms the kit wants")
         let _file: Option<FileId> = None;
-        reader.take_mark(FIRST_BYTES)?;
+        reader.take_mark(first_bytes(Format::V1))?;
         VersionStructure::read_body(alloc, reader)
     }
 

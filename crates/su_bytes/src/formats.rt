@@ -1,0 +1,8 @@
+// Formats of commits.
+
+/// The format of a commit, which its first bytes name: how its version structure is spelled, and how
+/// large a file its change may make.
+#[derive(Clone, Copy, Debug, PartialEq, Eq)]
+pub enum Format {
+    V1,
+}
