@@ -15,8 +15,8 @@ use su_bytes::Refusal;
 use su_client::Client;
 use su_keeper::Keeper;
 use su_message::Bytes;
-use su_shards::SharedBlocks;
 use su_shared::{BookName, Record, Seat, SharedBook};
+use su_shared_items::SharedBlocks;
 use su_version::Commit;
 
 /// Copies a server's records into a shared book, from a seat that stored all that the book has, with

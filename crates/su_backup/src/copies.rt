@@ -20,8 +20,8 @@ use su_book::MOST_RECORDS;
 use su_bytes::{Refusal, Roster};
 use su_client::Client;
 use su_keeper::Keeper;
-use su_shards::SharedBlocks;
 use su_shared::{BookFault, BookName, Cells, Closed, SharedBook};
+use su_shared_items::SharedBlocks;
 
 /// How many parts the ledger of a copy's book has: one for each seat that a book may have, and more.
 const PARTS: u64 = 257;

@@ -1,7 +1,7 @@
 -- What a run leaves of its output, and the status that a program ends with.
 use Rattle.std.specs.Prelude.{◌≡◌, ℕ, List, ◌++◌, Option, Some}
-use Rattle.su_script.specs.declared.desk.Status.{Status}
-use Rattle.su_script.specs.declared.desk.Status.TheVariants as status
+use Rattle.su_desk_script.specs.declared.desk.Status.{Status}
+use Rattle.su_desk_script.specs.declared.desk.Status.TheVariants as status
 use Rattle.su_client_script.specs.declared.endings.Ending.{Ending}
 use Rattle.su_client_script.specs.declared.endings.Ending.TheVariants.{Finished, BadLine, Failed}
 

@@ -3,8 +3,8 @@ ghost use Rattle.std.specs.Prelude.{◌≡◌};
 ghost use Rattle.su_client_script.specs.Run.{status_of};
 
 use std::{fmt, io, str};
-use su_command::Mistake;
-use su_script::Status;
+use su_desk_lines::Mistake;
+use su_desk_script::Status;
 
 /// How a run ended, and why.
 #[derive(Debug, Drop)]

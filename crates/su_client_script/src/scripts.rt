@@ -1,6 +1,6 @@
 // The run of a script.
 ghost use Rattle.std.specs.Prelude.{◌≡◌, OnOk};
-ghost use Rattle.su_member.specs.Work.{Works};
+ghost use Rattle.su_client_work.specs.Work.{Works};
 ghost use Rattle.su_client_script.specs.Run.{Adds, AddsUnlessFault};
 
 use crate::endings::{Ending, Fault};
@@ -9,9 +9,9 @@ use std::alloc::Global;
 use std::io;
 use std::io::{Read, Write};
 use std::time::Clock;
-use su_command::{LineReader, Mistake, NextLine};
+use su_client_work::Member;
+use su_desk_lines::{LineReader, Mistake, NextLine};
 use su_lms::KeyStore;
-use su_member::Member;
 
 /// Carries out the commands of a script, line by line, and prints what comes of each before the next
 /// line is read. An empty line is passed over; a line that is no command ends the run. Where the link

@@ -1,6 +1,6 @@
 // What a run does with one line of a script.
 ghost use Rattle.std.specs.Prelude.{◌≡◌, OnOk};
-ghost use Rattle.su_member.specs.Work.{Works};
+ghost use Rattle.su_client_work.specs.Work.{Works};
 ghost use Rattle.su_client_script.specs.Run.{Adds};
 
 use crate::endings::{Ending, Fault};
@@ -10,13 +10,13 @@ use std::io;
 use std::io::{Read, Write};
 use std::time::Clock;
 use su_bytes::{FileId, Name, Refusal};
-use su_client_command::{ClientCommand, ClientLine, client_mistake_in, read_line};
-use su_command::Mistake;
+use su_client_lines::{ClientCommand, ClientLine, client_mistake_in, read_line};
+use su_client_work::Member;
+use su_desk_lines::Mistake;
+use su_desk_script::{answered, bad, in_hex};
 use su_lms::KeyStore;
-use su_member::Member;
 use su_op::{Change, Op};
 use su_plan::Command;
-use su_script::{answered, bad, in_hex};
 use su_view::ViewRefusal;
 
 /// Where a client saves its log.

@@ -7,8 +7,8 @@ use su_block::Checked;
 use su_bytes::{KEY_LENGTH, Refusal, Roster, User};
 use su_client::Client;
 use su_client_script::{Ending, Saver, run_client};
+use su_client_work::{Member, take_log};
 use su_lms::{NoStore, Params, Signer};
-use su_member::{Member, take_log};
 use su_view::View;
 
 /// How often a client asks for the turn.

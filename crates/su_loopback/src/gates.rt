@@ -11,11 +11,11 @@ use std::thread::Threads;
 use std::time::{Clock, Duration};
 use su_bytes::{KEY_LENGTH, Refusal, Roster};
 use su_keeper::Forgetful;
-use su_serve::Duplex;
+use su_seat_service::Gate;
 use su_server::serve_book;
 use su_session::End;
-use su_shards::SharedBlocks;
-use su_worker::Gate;
+use su_shared_items::SharedBlocks;
+use su_threads::Duplex;
 
 /// A session over memory.
 type Memory = Duplex<&'static [u8], Vec<u8>>;

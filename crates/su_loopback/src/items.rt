@@ -6,7 +6,7 @@ use std::test::Fail;
 use std::thread::{Threads, join};
 use su_block::digest_of;
 use su_bytes::{Digest, Refusal};
-use su_shards::SharedBlocks;
+use su_shared_items::SharedBlocks;
 
 #[test]
 fn two_threads_put_and_another_gets(rt: HostRuntime) -> Result<(), Fail> {

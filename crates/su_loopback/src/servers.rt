@@ -6,9 +6,9 @@ use std::sync::Wait;
 use std::test::Fail;
 use std::thread::Threads;
 use su_keeper::Forgetful;
+use su_seat_service::OpenGate;
 use su_server::{BookFault, Connections, Report, Stop, serve_book};
-use su_shards::SharedBlocks;
-use su_worker::OpenGate;
+use su_shared_items::SharedBlocks;
 
 /// How many sessions are served at once.
 const WORKERS: usize = 2;

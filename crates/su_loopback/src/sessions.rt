@@ -6,8 +6,8 @@ use std::sync::Wait;
 use std::test::Fail;
 use std::thread::Threads;
 use su_message::{Reply, Request};
-use su_serve::{Begin, Duplex, serve_all};
 use su_session::{End, Service};
+use su_threads::{Begin, Duplex, serve_all};
 
 /// Answers each request alike, and counts the sessions that it serves, and their numbers.
 #[derive(Drop)]

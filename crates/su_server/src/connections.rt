@@ -6,7 +6,7 @@ use crate::stops::{Stop, Watched};
 use std::io;
 use std::net::{OpenListener, OpenStream};
 use std::time::Duration;
-use su_serve::Duplex;
+use su_threads::Duplex;
 
 /// How many connections in a row may fail before no more are awaited.
 pub const MOST_FAILURES: u32 = 1000;

@@ -4,11 +4,11 @@ ghost use Rattle.std.specs.Iterator.{IsFinite, Drains};
 ghost use Rattle.su_bytes.specs.declared.refusals.Refusal.TheVariants.{BadNumber, BadKey, LinkFailed, NoMemory};
 ghost use Rattle.su_book.specs.Machine.{IsCapacity, IsRun, count_of};
 ghost use Rattle.su_chain.specs.ChainEnd.{HasBadKey};
-ghost use Rattle.su_serve.specs.Runs.{RanSo, IsWorkerCount};
+ghost use Rattle.su_threads.specs.Runs.{RanSo, IsWorkerCount};
 ghost use Rattle.su_shared.specs.declared.faults.BookFault.TheVariants.{Refused};
 ghost use Rattle.su_shared.specs.Faults.{IsRecordFault};
 ghost use Rattle.su_shared.specs.Shares.{record_bytes};
-ghost use Rattle.su_worker.specs.Worker.{Answers};
+ghost use Rattle.su_seat_service.specs.Worker.{Answers};
 
 use std::alloc::Global;
 use std::marker::Brand;
@@ -18,11 +18,11 @@ use std::thread::Threads;
 use su_book::MOST_RECORDS;
 use su_bytes::{Refusal, Roster};
 use su_keeper::Keeper;
-use su_serve::{Link, MOST_WORKERS, serve_all};
+use su_seat_service::{Gate, Gated, Worker};
 use su_session::Served;
-use su_shards::SharedBlocks;
 use su_shared::{BookFault, BookName, Cells, Closed, Seat, SharedBook};
-use su_worker::{Gate, Gated, Worker};
+use su_shared_items::SharedBlocks;
+use su_threads::{Link, MOST_WORKERS, serve_all};
 
 /// How many parts the ledger of a book's steps has: one for each seat, and more.
 const PARTS: u64 = 512;

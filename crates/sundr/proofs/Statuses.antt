@@ -1,6 +1,6 @@
 -- What a client's run adds, by the status that it ends with.
 use Rattle.std.proofs.Common.{◌≡◌, ℕ, List, Option, Some, sym, subst}
-use Rattle.su_script.specs.declared.desk.Status.{Status}
+use Rattle.su_desk_script.specs.declared.desk.Status.{Status}
 use Rattle.su_client_script.specs.declared.endings.Ending.{Ending}
 use Rattle.su_client_script.specs.declared.endings.Ending.TheVariants.{Finished, BadLine, Failed}
 use Rattle.su_client_script.specs.Run.{status_of}

@@ -5,9 +5,9 @@ use Rattle.su_arguments.specs.declared.line.Line.{Line}
 use Rattle.su_arguments.specs.declared.line.Line.TheVariants.{Desk, Keygen, Audit, Serve, Client, Backup, Text}
 use Rattle.su_arguments.specs.declared.line.LineFault.{LineFault}
 use Rattle.su_arguments.specs.declared.line.LineFault.TheVariants.{Usage, NoMemory}
-use Rattle.su_script.specs.declared.desk.Status.{Status}
-use Rattle.su_script.specs.declared.desk.Status.TheVariants.{Finished, Fault, BadLine}
-use Rattle.su_script.specs.Transcript.{Prints}
+use Rattle.su_desk_script.specs.declared.desk.Status.{Status}
+use Rattle.su_desk_script.specs.declared.desk.Status.TheVariants.{Finished, Fault, BadLine}
+use Rattle.su_desk_script.specs.Transcript.{Prints}
 use Rattle.su_audit.specs.Audit.{taken_text}
 use Rattle.sundr.specs.Key.{IsPublicLine}
 

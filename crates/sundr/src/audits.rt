@@ -9,7 +9,7 @@ use std::fs::File;
 use std::io::{BufReader, ErrorKind, IsTerminal, Write};
 use std::thread::Threads;
 use su_audit::{Ending, Fault, Watcher, run_audit};
-use su_script::Status;
+use su_desk_script::Status;
 
 /// Audits the log in a file, of users with the public keys in these files, 1 to 64 of them. A
 /// refused log is a fault of the input.

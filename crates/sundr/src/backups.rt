@@ -10,12 +10,12 @@ use std::alloc::{AllocError, Global};
 use std::io::Write;
 use std::net::{Net, TcpListener, TcpStream};
 use std::sync::Wait;
-use su_script::Status;
-use su_serving::Copied;
+use su_desk_script::Status;
+use su_host::Copied;
 
 /// Copies what the server on a port has stored into a folder, for the users with the public keys in
 /// these files, 1 to 64 of them, and prints how many records the copy has, and how many of them are
-/// new. `Fault` where a key can't be read, and where `su_serving` ends with a fault, which standard
+/// new. `Fault` where a key can't be read, and where `su_host` ends with a fault, which standard
 /// error tells.
 pub(crate) fn backup<T, W: Write>(
     rt: &HostRuntime,
@@ -35,7 +35,7 @@ where
         Ok(roster) => roster,
         Err(reason) => return tell_fault(rt, reason),
     };
-    let Some(copied) = su_serving::backup(rt, host, port, folder, roster) else {
+    let Some(copied) = su_host::backup(rt, host, port, folder, roster) else {
         return Status::Fault;
     };
     match copied_line(rt.alloc(), copied) {

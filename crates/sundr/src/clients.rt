@@ -18,11 +18,11 @@ use su_audit::tell_refused;
 use su_block::{BlockSource, Checked, MemoryBlocks};
 use su_bytes::{Roster, User};
 use su_client_script::{Ending, Fault, run_client};
+use su_client_work::{LogFault, Member, take_log};
+use su_desk_script::Status;
+use su_host::{Link, connect};
 use su_kept_key::{KeptKey, signer_of};
 use su_lms::Signer;
-use su_member::{LogFault, Member, take_log};
-use su_script::Status;
-use su_serving::{Link, connect};
 use su_view::View;
 
 /// Runs a script at a server, for a user with a key, as the command line asks for it. Where there is

@@ -2,7 +2,7 @@
 ghost use Rattle.std.specs.Prelude.{◌≡◌};
 
 use std::fmt::Display;
-use su_script::Status;
+use su_desk_script::Status;
 
 /// Tells a fault on standard error, in a line of its own, and returns the status that it ends the
 /// program with.

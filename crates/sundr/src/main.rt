@@ -7,7 +7,7 @@
 #![tactic(auto)]
 
 ghost use Rattle.std.specs.Prelude.{◌≡◌, ℕ, List, Some, IfOk, ◌≤◌, length, string_bytes};
-ghost use Rattle.su_script.specs.Transcript.{Prints};
+ghost use Rattle.su_desk_script.specs.Transcript.{Prints};
 ghost use Rattle.su_arguments.specs.Line.{HasGoodNumbers};
 ghost use Rattle.sundr.specs.Key.{IsPublicLine};
 ghost use Rattle.sundr.specs.Run.{CarriesOut, PrintsUnlessFault, refused_status};
@@ -35,10 +35,10 @@ use std::sync::Wait;
 use std::thread::Threads;
 use std::{env, io};
 use su_arguments::{Line, LineFault, line_of};
-use su_client_command::CLIENT_WORDS;
+use su_client_lines::CLIENT_WORDS;
+use su_desk_script::{DESK_WORDS, Ending, Fault, Status, run_desk};
 use su_keygen::{KeygenFault, make_key};
 use su_lms::Params;
-use su_script::{DESK_WORDS, Ending, Fault, Status, run_desk};
 
 fn main(rt: HostRuntime) -> ExitCode {
     let status = match command_line(&rt) {

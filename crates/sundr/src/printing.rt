@@ -3,7 +3,7 @@ ghost use Rattle.std.specs.Prelude.{◌≡◌, ℕ, List, Some};
 ghost use Rattle.sundr.specs.Run.{PrintsUnlessFault};
 
 use std::io::{ErrorKind, Write};
-use su_script::Status;
+use su_desk_script::Status;
 
 /// Prints a text. That it isn't read to its end is no fault to be told.
 pub(crate) fn print<W: Write>(rt: &HostRuntime, text: &str, writer: &mut W) -> Status

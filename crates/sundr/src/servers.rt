@@ -8,11 +8,11 @@ use std::net::{Net, TcpListener, TcpStream};
 use std::sync::Wait;
 use std::thread::Threads;
 use su_arguments::ServeArgs;
-use su_script::Status;
-use su_serving::Options;
+use su_desk_script::Status;
+use su_host::Options;
 
 /// Serves a shared folder, as the command line asks for it.
-/// `Fault` where a key can't be read, and where `su_serving` ends with a fault, which standard error
+/// `Fault` where a key can't be read, and where `su_host` ends with a fault, which standard error
 /// tells.
 // The workers' threads have the C library's stacks: as large as the shell allows (`ulimit -s`), or
 // 2 MiB where it sets no limit. A worker holds records and items, and no tree of names, so none of
@@ -35,7 +35,7 @@ where
         store: args.store.as_ref().map(|folder| folder.as_str()),
         cache: args.cache,
     };
-    if su_serving::serve(rt, host, options, roster) {
+    if su_host::serve(rt, host, options, roster) {
         Status::Finished
     } else {
         Status::Fault

@@ -1,4 +1,4 @@
-use Rattle.su_member.specs.Work.{Works}
+use Rattle.su_client_work.specs.Work.{Works}
 use Rattle.su_client_script.specs.Run.{Adds}
 use Rattle.su_client_script.proofs.scripts.run_client.Given as goal
 

@@ -1,4 +1,4 @@
-use Rattle.su_member.proofs.Public.{works_takes, works_then, works_stays}
+use Rattle.su_client_work.proofs.Public.{works_takes, works_then, works_stays}
 use Rattle.su_client_script.proofs.steps.change_step.Goals as goal
 
 pub returns-in-Ok-clause-works : goal.returns-in-Ok-clause-works

@@ -1,4 +1,4 @@
-use Rattle.su_member.proofs.Public.{works_takes, works_stays}
+use Rattle.su_client_work.proofs.Public.{works_takes, works_stays}
 use Rattle.su_client_script.proofs.steps.command_step.Goals as goal
 
 pub returns-in-List-clause-works : goal.returns-in-List-clause-works

@@ -1,4 +1,4 @@
-use Rattle.su_member.proofs.Public.{works_then}
+use Rattle.su_client_work.proofs.Public.{works_then}
 use Rattle.su_client_script.proofs.Adding.{adds_then}
 use Rattle.su_client_script.proofs.steps.commit_all.Goals as goal
 

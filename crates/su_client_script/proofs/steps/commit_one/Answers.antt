@@ -1,4 +1,4 @@
-use Rattle.su_member.proofs.Public.{works_stays}
+use Rattle.su_client_work.proofs.Public.{works_stays}
 use Rattle.su_client_script.proofs.steps.commit_one.Goals as goal
 
 pub returns-in_err-tell_number-clause-works : goal.returns-in_err-tell_number-clause-works

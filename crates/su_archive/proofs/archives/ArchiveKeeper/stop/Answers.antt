@@ -1,4 +1,0 @@
-use Rattle.su_archive.proofs.archives.ArchiveKeeper.stop.Goals as goal
-
-pub returns : goal.returns
-returns g c = record { held = λ records last held. c.halt.ensures.last records last held }

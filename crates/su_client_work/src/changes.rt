@@ -1,0 +1,155 @@
+// What a client changes: each change is a commit of its own.
+ghost use Rattle.std.specs.Prelude.{◌≡◌, ◌-◌, ℕ, Ok, IfOk, length, slice_get};
+ghost use Rattle.std.specs.Option.{unwrap_or};
+ghost use Rattle.su_desk.specs.History.{last_live};
+ghost use Rattle.su_legal.specs.Legal.{history};
+ghost use Rattle.su_op.specs.declared.operations.Change.{Change as Change_};
+ghost use Rattle.su_op.specs.declared.operations.Change.TheVariants.{Undo};
+ghost use Rattle.su_plan.specs.Plan.{plan};
+ghost use Rattle.su_view.specs.Acting.{TakesSome};
+ghost use Rattle.su_view.specs.Holding.{tree_of_list};
+ghost use Rattle.su_view.specs.Making.{IsMade};
+ghost use Rattle.su_client_work.specs.Publishing.{IsPublished, Publishes, PublishesUndo};
+ghost use Rattle.su_client_work.specs.Work.{Works};
+
+use crate::members::Member;
+use std::io::{Read, Write};
+use std::time::Clock;
+use su_bytes::Refusal;
+use su_lms::KeyStore;
+use su_op::{Change, Op};
+use su_plan::Command;
+use su_version::{Commit, Verdict};
+use su_view::ViewRefusal;
+
+impl<R: Read + Drop, W: Write + Drop, K: KeyStore + Drop> Member<R, W, K> {
+    /// Plans a command on paths, once all commits are taken. Where there are operations, the turn is
+    /// held, and `publish` can commit the first of them; where there are none, it is given back. The
+    /// refusals are those of `begin`, and then of `su_plan::plan`.
+    pub fn plan<C: Clock>(&mut self, clock: &C, command: &Command) -> Result<Vec<Op>, ViewRefusal>
+        ensures takes { TakesSome self.old.holding self.new.holding }
+        ensures next { self.new.next ≡ self.old.next }
+        ensures planned { let v = self.new.holding in IfOk result (λ operations.
+            plan v.roster (tree_of_list v) v.user command.now ≡ Ok operations.items) }
+    {
+        self.begin(clock)?;
+        let planned = self.view.plan(command);
+        if !matches!(&planned, Ok(operations) if !operations.is_empty()) {
+            self.give_up();
+        }
+        Ok(planned?)
+    }
+
+    /// Commits a change, once all commits are taken, and returns the number of its commit. The
+    /// refusals are those of `begin`, and then of `publish`.
+    pub fn change<C: Clock>(&mut self, clock: &C, change: Change) -> Result<u64, ViewRefusal>
+        ensures works { Works self.old self.new }
+        ensures published { IfOk result (Publishes change self.old.next self.new.holding) }
+    {
+        self.begin(clock)?;
+        self.publish(change)
+    }
+
+    /// Undoes the last operation that stands, once all commits are taken, and returns the number of
+    /// the commit. The refusals are those of `change`: where no operation stands, `Change` of
+    /// `NoOperation` 0.
+    pub fn undo_last<C: Clock>(&mut self, clock: &C) -> Result<u64, ViewRefusal>
+        ensures works { Works self.old self.new }
+        ensures published { IfOk result (PublishesUndo self.old.next self.new.holding) }
+    {
+        self.begin(clock)?;
+        match self.last_live() {
+            Ok(last) => self.publish(Change::Undo(last)),
+            Err(refusal) => {
+                self.give_up();
+                Err(ViewRefusal::Plain(refusal))
+            }
+        }
+    }
+
+    /// Returns the number of the last operation that stands, 0 where there is none. Fails only with
+    /// `NoMemory`.
+    fn last_live(&mut self) -> Result<u64, Refusal>
+        ensures value { IfOk result (λ last. last ≡ last_live (history self.old.holding.held)) }
+        ensures same { self.new ≡ self.old }
+    {
+        let live = self.view.live()?;
+        Ok(last_or_0(live.as_slice()))
+    }
+
+    /// Commits a change while the client has the turn: makes the commit, which the next leaf of the
+    /// key signs, hands it in, and takes it once it is stored; returns its number in the list. That
+    /// ends the turn; on a refusal it is given back. The refusals are those of `View::make`, of
+    /// `Client::commit` and of `View::accept`.
+    pub fn publish(&mut self, change: Change) -> Result<u64, ViewRefusal>
+        ensures works { Works self.old self.new }
+        ensures published { IfOk result
+            (IsPublished self.old.holding change self.old.next self.new.holding) }
+    {
+        let commit = self.hand_in(change)?;
+        self.take_own(commit)
+    }
+
+    /// Takes a commit that the client has just made, and returns its number in the list. It was
+    /// signed by the user's key, so this isn't checked again. The refusals are those of
+    /// `View::accept`.
+    fn take_own(&mut self, commit: Commit) -> Result<u64, ViewRefusal>
+        requires made { (change : Change_) × (leaf : ℕ)
+            × IsMade self.old.holding change leaf commit }
+        ensures takes { TakesSome self.old.holding self.new.holding }
+        ensures next { self.new.next ≡ self.old.next }
+        ensures published { (change : Change_) (leaf : ℕ) → IsMade self.old.holding change leaf commit
+            → IfOk result (IsPublished self.old.holding change leaf self.new.holding) }
+    {
+        let bytes = commit.encode(self.alloc)?;
+        let verdict = Verdict {
+            key: self.view.key(self.view.user()),
+            is_signed: true,
+        };
+        self.view.accept_known(commit, bytes.as_slice(), verdict)?;
+        let (number, _) = self.view.head();
+        Ok(number)
+    }
+
+    /// Makes a commit and hands it in. Where one of them is refused, the turn is given back.
+    fn hand_in(&mut self, change: Change) -> Result<Commit, ViewRefusal>
+        ensures works { Works self.old self.new }
+        ensures holding { self.new.holding ≡ self.old.holding }
+        ensures made { IfOk result (IsMade self.old.holding change self.old.next) }
+    {
+        let stored = self.store_new(change);
+        if stored.is_err() {
+            self.give_up();
+        }
+        stored
+    }
+
+    /// Makes a commit, and lets the server store it.
+    fn store_new(&mut self, change: Change) -> Result<Commit, ViewRefusal>
+        ensures works { Works self.old self.new }
+        ensures holding { self.new.holding ≡ self.old.holding }
+        ensures made { IfOk result (IsMade self.old.holding change self.old.next) }
+    {
+        let commit = self.view.make(change, &mut self.signer)?;
+        match self.store_commit(&commit) {
+            Ok(()) => Ok(commit),
+            Err(refusal) => Err(ViewRefusal::Plain(refusal)),
+        }
+    }
+
+    /// Lets the server store a commit.
+    fn store_commit(&mut self, commit: &Commit) -> Result<(), Refusal>
+        ensures { self.new ≡ self.old }
+    {
+        let bytes = commit.encode(self.alloc)?;
+        self.view.source_mut().source_mut().commit(bytes)?;
+        Ok(())
+    }
+}
+
+/// Returns the last of some numbers, 0 where there is none.
+fn last_or_0(numbers: &[u64]) -> u64
+    ensures { result ≡ unwrap_or (slice_get numbers.now (length numbers.now - 1)) 0 }
+{
+    numbers.last().copied().unwrap_or(0)
+}

@@ -1,0 +1,112 @@
+// Logs of commits, with the items of their changes: how one is made of a list, and taken in a view.
+ghost use Rattle.std.specs.Prelude.{◌≡◌, ◌++◌, true, Some, IfOk, IfErr, OnOk, OnErr};
+ghost use Rattle.su_legal.specs.Legal.{Committed};
+ghost use Rattle.su_view.specs.Acting.{TakesSome};
+ghost use Rattle.su_view.specs.Entry.{committed_at};
+ghost use Rattle.su_log.specs.Part.{part_bytes};
+ghost use Rattle.su_client_work.specs.SavedLog.{saved_log, entry_bytes};
+
+use std::alloc::Global;
+use std::io;
+use std::io::Read;
+use su_block::BlockSource;
+use su_bytes::Refusal;
+use su_log::{Log, Record, Stop};
+use su_view::{View, ViewRefusal};
+
+/// Why a log isn't taken whole.
+#[derive(Debug, Drop)]
+pub enum LogFault {
+    /// Its commit of that number, from 1, is refused.
+    Refused { number: u64, refusal: ViewRefusal },
+    /// It can't be read.
+    Unread(io::Error),
+}
+
+/// Takes the commits of a log in a view, one after the other, each once the item that follows it is
+/// put into the view's source; returns how many. `Refused` by `Malformed` with the place in the log
+/// of a length that is cut or goes past the end, by the refusals of the source, or by those of
+/// `View::accept`; those before it stay taken.
+pub fn take_log<I: Read + Drop, S: BlockSource + Drop>(
+    alloc: Global,
+    reader: I,
+    view: &mut View<S>,
+) -> Result<u64, LogFault>
+    requires { S.is_checked ≡ true }
+    ensures { TakesSome view.old.holding view.new.holding }
+{
+    let mut log = Log::new(reader);
+    for number in 1..u64::MAX {
+        match log.next_record(alloc) {
+            Ok(record) => {
+                if let Err(refusal) = take_record(alloc, view, &record) {
+                    return Err(LogFault::Refused { number, refusal });
+                }
+            }
+            Err(Stop::End) => return Ok(number - 1),
+            Err(Stop::Cut(place)) => {
+                let refusal = ViewRefusal::Plain(Refusal::Malformed(place));
+                return Err(LogFault::Refused { number, refusal });
+            }
+            Err(Stop::Failed(error)) => return Err(LogFault::Unread(error)),
+        }
+    }
+    Err(LogFault::Unread(io::Error::other("it has no end")))
+}
+
+/// Puts the item of a record into the view's source, and lets the view take its commit.
+fn take_record<S: BlockSource + Drop>(
+    alloc: Global,
+    view: &mut View<S>,
+    record: &Record,
+) -> Result<(), ViewRefusal>
+    requires { S.is_checked ≡ true }
+    ensures { TakesSome view.old.holding view.new.holding }
+{
+    view.source_mut().put(alloc, record.item.as_slice())?;
+    view.accept_bytes(record.bytes.as_slice())
+}
+
+/// Returns the log of a view's list: of each commit its bytes and the item of its change, each with
+/// its length before it. Only `NoMemory` can come.
+pub(crate) fn log_of<S: BlockSource + Drop>(
+    alloc: Global,
+    view: &View<S>,
+) -> Result<Vec<u8>, Refusal>
+    ensures { IfOk result (λ log. log.items ≡ saved_log view.now.holding.held) }
+{
+    let (count, _) = view.head();
+    let mut log = Vec::new(alloc);
+    for before in 0..count {
+        put_entry(&mut log, view, before + 1)?;
+    }
+    Ok(log)
+}
+
+/// Appends the commit of that number, and the item of its change.
+fn put_entry<S: BlockSource + Drop>(
+    log: &mut Vec<u8>,
+    view: &View<S>,
+    number: u64,
+) -> Result<(), Refusal>
+    ensures { (c : Committed) → committed_at view.now.holding.held number ≡ Some c
+        → OnOk result (log.new.items ≡ log.old.items ++ entry_bytes c) }
+{
+    let Some((commit, item)) = view.entry(number) else {
+        return Ok(());
+    };
+    put_bytes(log, commit)?;
+    put_bytes(log, item)
+}
+
+/// Appends bytes with their number before them.
+fn put_bytes(log: &mut Vec<u8>, bytes: &[u8]) -> Result<(), Refusal>
+    ensures { OnOk result (log.new.items ≡ log.old.items ++ part_bytes bytes.now) }
+{
+    let Ok(count) = u32::try_from(bytes.len()) else {
+        return Err(Refusal::TooBig);
+    };
+    log.extend_from_slice(&count.to_be_bytes())?;
+    log.extend_from_slice(bytes)?;
+    Ok(())
+}

@@ -1,0 +1,230 @@
+// A client that works with a server, and how it begins what it does.
+ghost use Rattle.std.specs.Prelude.{◌≡◌, OnOk};
+ghost use Rattle.su_version.specs.Chain.{IsSignedByAuthor};
+ghost use Rattle.su_view.specs.Acting.{TakesSome};
+ghost use Rattle.su_view.specs.LastCommits.{AreSigned};
+ghost use Rattle.su_client_work.specs.Member.{ShownPasses};
+
+use crate::shown::Shown;
+use std::alloc::Global;
+use std::io::{Read, Write};
+use std::marker::Model;
+use std::thread;
+use std::time::{Clock, Duration};
+use su_block::Checked;
+use su_bytes::{Refusal, User};
+use su_client::Client;
+use su_lms::{KeyStore, Signer};
+use su_message::LastNumbers;
+use su_version::{Commit, Verdict};
+use su_view::{View, ViewRefusal};
+
+/// How many milliseconds a client waits before it asks again for a turn that another has.
+const PAUSE: u64 = 1;
+
+/// A client at work: its view, with a server that need not be trusted as the source of items, and
+/// the key of its user. A server's lies can refuse it, and nothing more: its list stays legal, and it
+/// signs nothing that it may not.
+#[derive(Drop)]
+pub struct Member<R: Read, W: Write, K: KeyStore> {
+    pub(crate) view: View<Checked<Client<R, W>>>,
+    pub(crate) signer: Signer<K>,
+    tries: u32,
+    pub(crate) alloc: Global,
+}
+
+impl<R: Read, W: Write, K: KeyStore> Model for Member<R, W, K> {
+    ghost use Rattle.su_client_work.specs.Member.{MemberState};
+
+    ghost Value = { MemberState };
+
+    ghost view = { λ s. record { holding = s.view.holding; next = s.signer.next } };
+}
+
+impl<R: Read + Drop, W: Write + Drop, K: KeyStore + Drop> Member<R, W, K> {
+    /// Makes a client of what it holds, and the key that signs for its user. It asks `tries` times
+    /// for a turn that another has, and once where that is 0.
+    pub fn new(
+        alloc: Global,
+        view: View<Checked<Client<R, W>>>,
+        signer: Signer<K>,
+        tries: u32,
+    ) -> Member<R, W, K>
+        ensures holding { result.holding ≡ view.holding }
+        ensures next { result.next ≡ signer.next }
+    {
+        Member {
+            view,
+            signer,
+            tries,
+            alloc,
+        }
+    }
+
+    /// Tells whether the link to the server has failed. All that is asked of it then is refused by
+    /// `LinkFailed`.
+    pub fn has_failed(&mut self) -> bool
+        ensures same { self.new ≡ self.old }
+    {
+        self.view.source_mut().source_mut().has_failed()
+    }
+
+    /// Lends where the leaf that signs next is stored.
+    pub fn store(&self) -> &K {
+        self.signer.store()
+    }
+
+    /// Takes the turn, checks what the server shows as the users' last commits, and takes the
+    /// commits that the list lacks. `Busy` where another has the turn each time that it is asked for;
+    /// the refusals of `View::check_list` and `View::accept`; `Malformed` with a place in the bytes
+    /// of what is shown as a last commit; `LinkFailed`; `NoMemory`. Where it is refused, the turn is
+    /// given back, and what was taken before stays.
+    pub fn begin<C: Clock>(&mut self, clock: &C) -> Result<(), ViewRefusal>
+        ensures takes { TakesSome self.old.holding self.new.holding }
+        ensures next { self.new.next ≡ self.old.next }
+        ensures passes { OnOk result (ShownPasses self.old.holding) }
+    {
+        let (count, last) = match self.take_turn(clock) {
+            Ok(granted) => granted,
+            Err(refusal) => return Err(ViewRefusal::Plain(refusal)),
+        };
+        let caught_up = self.catch_up(count, last.as_slice());
+        if caught_up.is_err() {
+            self.give_up();
+        }
+        caught_up
+    }
+
+    /// Takes the turn, checks and takes what the list lacks, and gives the turn back. The refusals
+    /// are those of `begin`.
+    pub fn look<C: Clock>(&mut self, clock: &C) -> Result<(), ViewRefusal>
+        ensures takes { TakesSome self.old.holding self.new.holding }
+        ensures next { self.new.next ≡ self.old.next }
+        ensures passes { OnOk result (ShownPasses self.old.holding) }
+    {
+        self.begin(clock)?;
+        match self.view.source_mut().source_mut().give() {
+            Ok(()) => Ok(()),
+            Err(refusal) => Err(ViewRefusal::Plain(refusal)),
+        }
+    }
+
+    /// Gives the turn back after a refusal, which is what is told.
+    pub(crate) fn give_up(&mut self)
+        ensures { self.new ≡ self.old }
+    {
+        let _ = self.view.source_mut().source_mut().give();
+    }
+
+    /// Asks for the turn until it is granted, or as often as it is asked for at most.
+    fn take_turn<C: Clock>(&mut self, clock: &C) -> Result<(u64, LastNumbers), Refusal>
+        ensures { self.new ≡ self.old }
+    {
+        let tries = self.tries;
+        for _ in 1..tries {
+            match self.ask_turn() {
+                Err(Refusal::Busy(_)) => thread::sleep(clock, Duration::from_millis(PAUSE)),
+                granted => return granted,
+            }
+        }
+        self.ask_turn()
+    }
+
+    /// Asks for the turn once.
+    fn ask_turn(&mut self) -> Result<(u64, LastNumbers), Refusal>
+        ensures { self.new ≡ self.old }
+    {
+        self.view.source_mut().source_mut().grant()
+    }
+
+    /// Checks what the server shows as the last commits of these users, and takes what the list lacks
+    /// of so many.
+    fn catch_up(&mut self, count: u64, last: &[(User, u64)]) -> Result<(), ViewRefusal>
+        ensures takes { TakesSome self.old.holding self.new.holding }
+        ensures next { self.new.next ≡ self.old.next }
+        ensures passes { OnOk result (ShownPasses self.old.holding) }
+    {
+        let shown = self.last_commits(last)?;
+        self.view.check_list(shown.commits())?;
+        self.take_up_to(count, &shown)
+    }
+
+    /// Fetches these last commits. What the server says that it hasn't is left out.
+    fn last_commits(&mut self, last: &[(User, u64)]) -> Result<Shown, Refusal>
+        ensures { self.new ≡ self.old }
+    {
+        let mut shown = Shown::new(self.alloc);
+        for (_, number) in last {
+            if let Some(commit) = self.fetch_commit(*number)? {
+                shown.push(*number, commit)?;
+            }
+        }
+        Ok(shown)
+    }
+
+    /// Fetches the commit of that number; none where the server says that it has none.
+    fn fetch_commit(&mut self, number: u64) -> Result<Option<Commit>, Refusal>
+        ensures { self.new ≡ self.old }
+    {
+        match self.view.source_mut().source_mut().fetch(number)? {
+            Some(bytes) => Ok(Some(Commit::decode(self.alloc, bytes.as_slice())?)),
+            None => Ok(None),
+        }
+    }
+
+    /// Takes the commits that the list lacks of the first `count`. What the server says that it
+    /// hasn't is left out, so that the one after it is refused.
+    fn take_up_to(&mut self, count: u64, shown: &Shown) -> Result<(), ViewRefusal>
+        requires signed { AreSigned self.old.holding.roster shown.now.commits.items }
+        ensures takes { TakesSome self.old.holding self.new.holding }
+        ensures next { self.new.next ≡ self.old.next }
+    {
+        let (held, _) = self.view.head();
+        for before in held..count {
+            self.take_one(before + 1, shown)?;
+        }
+        Ok(())
+    }
+
+    /// Takes the commit of that number: the one that is shown with it, or else what is fetched.
+    fn take_one(&mut self, number: u64, shown: &Shown) -> Result<(), ViewRefusal>
+        requires signed { AreSigned self.old.holding.roster shown.now.commits.items }
+        ensures takes { TakesSome self.old.holding self.new.holding }
+        ensures next { self.new.next ≡ self.old.next }
+    {
+        match shown.of(number) {
+            Some(commit) => self.take_signed(commit),
+            None => self.take_fetched(number),
+        }
+    }
+
+    /// Takes a commit that was found to be signed by its author, so that this isn't checked again.
+    fn take_signed(&mut self, commit: &Commit) -> Result<(), ViewRefusal>
+        requires signed { IsSignedByAuthor self.old.holding.roster commit.now }
+        ensures takes { TakesSome self.old.holding self.new.holding }
+        ensures next { self.new.next ≡ self.old.next }
+    {
+        // its clause tells the prover that it is a commit (docs/ARCHITECTURE.md, "Forms the kit
+        // wants")
+        let _version = commit.version();
+        let bytes = commit.encode(self.alloc)?;
+        let copy = Commit::decode(self.alloc, bytes.as_slice())?;
+        let verdict = Verdict {
+            key: self.view.key(commit.version().author()),
+            is_signed: true,
+        };
+        self.view.accept_known(copy, bytes.as_slice(), verdict)
+    }
+
+    /// Fetches the commit of that number, and takes it.
+    fn take_fetched(&mut self, number: u64) -> Result<(), ViewRefusal>
+        ensures takes { TakesSome self.old.holding self.new.holding }
+        ensures next { self.new.next ≡ self.old.next }
+    {
+        match self.view.source_mut().source_mut().fetch(number) {
+            Ok(Some(bytes)) => self.view.accept_bytes(bytes.as_slice()),
+            Ok(None) => Ok(()),
+            Err(refusal) => Err(ViewRefusal::Plain(refusal)),
+        }
+    }
+}

@@ -1,0 +1,63 @@
+// What a client asks of the tree of its list, and its list as a log.
+ghost use Rattle.std.specs.Prelude.{◌≡◌, IfOk};
+ghost use Rattle.su_view.specs.Acting.{TakesSome};
+ghost use Rattle.su_client_work.specs.Member.{Lists, Shows};
+ghost use Rattle.su_client_work.specs.SavedLog.{saved_log};
+
+use crate::logs::log_of;
+use crate::members::Member;
+use std::io::{Read, Write};
+use std::time::Clock;
+use su_bytes::{FileId, Name};
+use su_lms::KeyStore;
+use su_view::ViewRefusal;
+
+impl<R: Read + Drop, W: Write + Drop, K: KeyStore + Drop> Member<R, W, K> {
+    /// Lists the names of the directory that a path leads to, with the files that they lead to,
+    /// ascending, once all commits are taken. The refusals of `begin`; then `BadPath`, `NoName` and
+    /// `WrongKind`, as `View::find` and `View::list` answer them.
+    pub fn list<C: Clock>(
+        &mut self,
+        clock: &C,
+        path: &[u8],
+    ) -> Result<Vec<(Name, FileId)>, ViewRefusal>
+        ensures takes { TakesSome self.old.holding self.new.holding }
+        ensures next { self.new.next ≡ self.old.next }
+        ensures lists { IfOk result (λ names. Lists self.new.holding path.now names.items) }
+    {
+        self.look(clock)?;
+        let file = self.view.find(path)?;
+        Ok(self.view.list(file)?)
+    }
+
+    /// Reads the bytes of the file that a path leads to, from `off` on and at most `len`, once all
+    /// commits are taken. The refusals of `begin`; then `BadPath`, `NoName` and `WrongKind`, as
+    /// `View::find` and `View::read_at` answer them.
+    pub fn read<C: Clock>(
+        &mut self,
+        clock: &C,
+        path: &[u8],
+        off: u64,
+        len: u64,
+    ) -> Result<Vec<u8>, ViewRefusal>
+        ensures takes { TakesSome self.old.holding self.new.holding }
+        ensures next { self.new.next ≡ self.old.next }
+        ensures shows { IfOk result (λ bytes.
+            Shows self.new.holding path.now off len bytes.items) }
+    {
+        self.look(clock)?;
+        let file = self.view.find(path)?;
+        Ok(self.view.read_at(file, off, len)?)
+    }
+
+    /// Returns the log of all commits, once they are taken: of each its bytes and the item of its
+    /// change, each with its length before it. The refusals of `begin`.
+    pub fn log<C: Clock>(&mut self, clock: &C) -> Result<Vec<u8>, ViewRefusal>
+        ensures takes { TakesSome self.old.holding self.new.holding }
+        ensures next { self.new.next ≡ self.old.next }
+        ensures log { IfOk result (λ log. log.items ≡ saved_log self.new.holding.held) }
+    {
+        self.look(clock)?;
+        Ok(log_of(self.alloc, &self.view)?)
+    }
+}

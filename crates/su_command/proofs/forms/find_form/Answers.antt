@@ -1,5 +1,0 @@
-use Rattle.su_command.proofs.FoundForms.{row_found}
-use Rattle.su_command.proofs.forms.find_form.Goals as goal
-
-pub returns : goal.returns
-returns g c = row_found c.args.forms.now c.args.word.now c.first_form.result c.first_form.ensures

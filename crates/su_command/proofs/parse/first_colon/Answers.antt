@@ -1,5 +1,0 @@
-use Rattle.su_command.proofs.Bytes.{position-byte}
-use Rattle.su_command.proofs.parse.first_colon.Goals as goal
-
-pub returns : goal.returns
-returns c = position-byte 58 c.args.word.now c.memchr.result c.memchr.ensures

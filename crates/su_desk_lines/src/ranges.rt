@@ -1,0 +1,261 @@
+// From what a line says to its command, whose words are within their ranges.
+ghost use Rattle.std.specs.Prelude.{◌≡◌, ◌⊎◌, ◌++◌, true, false, None, Some, IfOk, IfErr, IfSome, OnOk, map};
+ghost use Rattle.su_bytes.specs.declared.refusals.Refusal.TheVariants.{NoMemory, NoUser, BadNumber};
+ghost use Rattle.su_bytes.specs.FileId.{is_file_id};
+ghost use Rattle.su_bytes.specs.Principal.{is_principal};
+ghost use Rattle.su_desk_lines.specs.Desk.{change_said, command_said, question_said, spoken, spoken_of};
+ghost use Rattle.su_desk_lines.specs.Form.{value_refusal};
+ghost use Rattle.su_desk_lines.specs.Raw.{file_of, principal_of};
+ghost use Rattle.su_desk_lines.specs.Range.{is_stranger, word_refusal};
+ghost use Rattle.su_desk_lines.specs.Value.{left_of, value_of};
+
+use crate::parse::{RawFile, RawPrincipal, Spoken};
+use crate::values::Value;
+use crate::verbs::{ChangeVerb, QuestionVerb, Verb};
+use crate::words::{Words, check_values};
+use std::alloc::Global;
+use su_bytes::{FileId, Group, Inum, Kind, Principal, Refusal, Roster, User};
+use su_op::{Change, Create, Link, Op, Rename, Take, Truncate, Unlink, Write};
+
+/// A command of a script, each of its words within its range.
+#[derive(Drop)]
+pub enum Command {
+    /// A change by a user.
+    Apply(User, Change),
+    /// The undo of the last live operation, by a user.
+    UndoLast(User),
+    /// A question about the tree.
+    Ask(Question),
+    /// The version numbers of all users and groups.
+    Versions,
+    /// Keeps the digests of all i-tables.
+    Mark,
+    /// Whether all i-tables have the digests that were kept.
+    Same,
+}
+
+/// A question about the tree, which changes nothing.
+#[derive(Clone, Copy)]
+pub enum Question {
+    /// The names of a directory.
+    List(FileId),
+    /// The bytes of a file from an offset on, at most so many.
+    Read(FileId, u64, u64),
+    /// What a file is, how large, how many names lead to it, and where its inode stands.
+    Describe(FileId),
+    /// The digest of the i-table of a user or a group.
+    Handle(Principal),
+}
+
+/// Checks the words of a command. Refuses a user of 0 to 63 who isn't in the roster by `NoUser`,
+/// then a bad name by `BadName`, then any other word outside its range by `BadNumber`; fails with
+/// `NoMemory` where there is no room for the command.
+pub fn check_ranges(alloc: Global, roster: &Roster, said: Spoken<'_>) -> Result<Command, Refusal>
+    ensures value { IfOk result (λ c. command_said c ≡ spoken_of said.entry) }
+    ensures accepted { OnOk result
+        (word_refusal roster.now (spoken_of said.entry).values ≡ None) }
+    ensures refused { IfErr result (λ e. (e ≡ NoMemory)
+        ⊎ (word_refusal roster.now (spoken_of said.entry).values ≡ Some e)) }
+{
+    let Spoken { verb, values } = said;
+    check_user(roster, values.as_slice())?;
+    let words = check_values(alloc, values)?;
+    match whole_command(verb, words) {
+        Some(command) => Ok(command),
+        None => Err(Refusal::NoMemory),
+    }
+}
+
+/// Refuses a command of a user of 0 to 63 who isn't in the roster by `NoUser`.
+fn check_user(roster: &Roster, values: &[Value<'_>]) -> Result<(), Refusal>
+    ensures listed { OnOk result (word_refusal roster.now (map value_of values.now)
+        ≡ value_refusal (map value_of values.now)) }
+    ensures stranger { IfErr result (λ e.
+        word_refusal roster.now (map value_of values.now) ≡ Some e) }
+{
+    match values {
+        [first, ..] => match first {
+            Value::User(user) => check_listed(roster, *user),
+            _ => Ok(()),
+        },
+        [] => Ok(()),
+    }
+}
+
+/// Refuses a user of 0 to 63 who isn't in the roster by `NoUser`.
+fn check_listed(roster: &Roster, number: u64) -> Result<(), Refusal>
+    ensures listed { OnOk result (is_stranger roster.now number ≡ false) }
+    ensures stranger { IfErr result (λ e.
+        (e ≡ NoUser number) × (is_stranger roster.now number ≡ true)) }
+{
+    let Ok(user) = User::new(number) else {
+        return Ok(());
+    };
+    if roster.has_user(user) {
+        return Ok(());
+    }
+    Err(Refusal::NoUser(user))
+}
+
+/// Makes a command of its words. `None` where they are not those of its form.
+fn whole_command(verb: Verb, mut words: Words) -> Option<Command>
+    ensures { IfSome result (λ c. command_said c ≡ spoken verb (left_of words)) }
+{
+    let command = take_command(verb, &mut words)?;
+    if words.is_empty() {
+        Some(command)
+    } else {
+        None
+    }
+}
+
+/// Takes the words of a command. `None` where other words come.
+fn take_command(verb: Verb, words: &mut Words) -> Option<Command>
+    ensures verb { IfSome result (λ c. (command_said c).verb ≡ verb) }
+    ensures words { IfSome result (λ c.
+        left_of words.old ≡ (command_said c).values ++ left_of words.new) }
+{
+    match verb {
+        Verb::Change(verb) => {
+            let user = words.take_user()?;
+            let change = take_change(verb, words)?;
+            Some(Command::Apply(user, change))
+        }
+        Verb::UndoLast => {
+            let user = words.take_user()?;
+            Some(Command::UndoLast(user))
+        }
+        Verb::Ask(verb) => {
+            let question = take_question(verb, words)?;
+            Some(Command::Ask(question))
+        }
+        Verb::Versions => Some(Command::Versions),
+        Verb::Mark => Some(Command::Mark),
+        Verb::Same => Some(Command::Same),
+    }
+}
+
+/// Takes the words of a change. `None` where other words come.
+fn take_change(verb: ChangeVerb, words: &mut Words) -> Option<Change>
+    ensures verb { IfSome result (λ c. (change_said c).verb ≡ verb) }
+    ensures words { IfSome result (λ c.
+        left_of words.old ≡ (change_said c).values ++ left_of words.new) }
+{
+    match verb {
+        ChangeVerb::Create(kind) => take_create(kind, words),
+        ChangeVerb::Write => {
+            let file = words.take_file()?;
+            let off = words.take_size()?;
+            let bytes = words.take_bytes()?;
+            Some(Change::Do(Op::Write(Write { file, off, bytes })))
+        }
+        ChangeVerb::Truncate => {
+            let file = words.take_file()?;
+            let size = words.take_size()?;
+            Some(Change::Do(Op::Truncate(Truncate { file, size })))
+        }
+        ChangeVerb::Unlink => {
+            let dir = words.take_file()?;
+            let name = words.take_name()?;
+            let file = words.take_file()?;
+            Some(Change::Do(Op::Unlink(Unlink { dir, name, file })))
+        }
+        ChangeVerb::Take => {
+            let file = words.take_file()?;
+            let body = words.take_body()?;
+            Some(Change::Do(Op::Take(Take { file, body })))
+        }
+        ChangeVerb::Link => {
+            let dir = words.take_file()?;
+            let name = words.take_name()?;
+            let file = words.take_file()?;
+            Some(Change::Do(Op::Link(Link { dir, name, file })))
+        }
+        ChangeVerb::Rename => take_rename(words),
+        ChangeVerb::Undo => Some(Change::Undo(words.take_number()?)),
+    }
+}
+
+/// Takes the words of a create. `None` where other words come.
+fn take_create(kind: Kind, words: &mut Words) -> Option<Change>
+    ensures verb { IfSome result (λ c. (change_said c).verb ≡ ChangeVerb.Create kind) }
+    ensures words { IfSome result (λ c.
+        left_of words.old ≡ (change_said c).values ++ left_of words.new) }
+{
+    let dir = words.take_file()?;
+    let name = words.take_name()?;
+    let file = words.take_file()?;
+    let body = words.take_body()?;
+    Some(Change::Do(Op::Create(Create {
+        dir,
+        name,
+        file,
+        body,
+        kind,
+    })))
+}
+
+/// Takes the words of a rename. `None` where other words come.
+fn take_rename(words: &mut Words) -> Option<Change>
+    ensures verb { IfSome result (λ c. (change_said c).verb ≡ ChangeVerb.Rename) }
+    ensures words { IfSome result (λ c.
+        left_of words.old ≡ (change_said c).values ++ left_of words.new) }
+{
+    let from_ = words.take_file()?;
+    let old_ = words.take_name()?;
+    let to_ = words.take_file()?;
+    let new_ = words.take_name()?;
+    let file = words.take_file()?;
+    Some(Change::Do(Op::Rename(Rename {
+        from_,
+        old_,
+        to_,
+        new_,
+        file,
+    })))
+}
+
+/// Takes the words of a question. `None` where other words come.
+fn take_question(verb: QuestionVerb, words: &mut Words) -> Option<Question>
+    ensures verb { IfSome result (λ q. (question_said q).verb ≡ verb) }
+    ensures words { IfSome result (λ q.
+        left_of words.old ≡ (question_said q).values ++ left_of words.new) }
+{
+    match verb {
+        QuestionVerb::List => Some(Question::List(words.take_file()?)),
+        QuestionVerb::Read => {
+            let file = words.take_file()?;
+            let off = words.take_number()?;
+            let len = words.take_number()?;
+            Some(Question::Read(file, off, len))
+        }
+        QuestionVerb::Describe => Some(Question::Describe(words.take_file()?)),
+        QuestionVerb::Handle => Some(Question::Handle(words.take_principal()?)),
+    }
+}
+
+/// Checks the numbers of a file id. Refuses one outside its range by `BadNumber`.
+pub(crate) fn file_id(raw: RawFile) -> Result<FileId, Refusal>
+    ensures value { IfOk result (λ f. (f ≡ file_of raw) × (is_file_id f ≡ true)) }
+    ensures refused { IfErr result (λ e. (e ≡ BadNumber) × (is_file_id (file_of raw) ≡ false)) }
+{
+    let number = Inum::new(raw.number)?;
+    match raw.owner {
+        RawPrincipal::User(user) => Ok(FileId::User(User::new(user)?, number)),
+        RawPrincipal::Group(group) => Ok(FileId::Group(Group::new(group)?, number)),
+    }
+}
+
+/// Checks the number of a user or a group. Refuses one outside its range by `BadNumber`.
+pub(crate) fn principal_id(raw: RawPrincipal) -> Result<Principal, Refusal>
+    ensures value { IfOk result (λ p. (p ≡ principal_of raw) × (is_principal p ≡ true)) }
+    ensures refused { IfErr result (λ e.
+        (e ≡ BadNumber) × (is_principal (principal_of raw) ≡ false)) }
+{
+    // names the type for the prover (docs/ARCHITECTURE.md, "Forms the kit wants")
+    let _file: Option<FileId> = None;
+    match raw {
+        RawPrincipal::User(user) => Ok(Principal::User(User::new(user)?)),
+        RawPrincipal::Group(group) => Ok(Principal::Group(Group::new(group)?)),
+    }
+}

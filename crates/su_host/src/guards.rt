@@ -1,0 +1,152 @@
+// The keeper of a server with a store.
+ghost use Rattle.std.specs.Prelude.{◌≡◌, true, List, ℕ};
+
+use crate::faults::tell_fault;
+use crate::stores::Folder;
+use std::alloc::Global;
+use std::sync::Wait;
+use su_bytes::Digest;
+use su_keeper::{Keeper, NotKept};
+use su_server::Stop;
+use su_store::FileFault;
+use su_store_keeper::Archive;
+use su_vault::Vault;
+
+/// Works on files of a folder, and knows why a call of its own failed.
+pub(crate) trait HasFiles {
+    /// Returns the fault of the call that failed, if one did.
+    fn fault(&self) -> Option<&FileFault>;
+
+    /// The number of the file that it asked last.
+    fn number(&self) -> usize;
+
+    /// Shuts the files, when all is copied from their logs.
+    fn close(self) -> Result<(), FileFault>;
+}
+
+impl<'a, V: Vault<Fault = FileFault>, R: Wait> HasFiles for Archive<'a, V, R> {
+    fn fault(&self) -> Option<&FileFault> {
+        Archive::fault(self)
+    }
+
+    fn number(&self) -> usize {
+        Archive::number(self)
+    }
+
+    fn close(self) -> Result<(), FileFault> {
+        Archive::close(self)
+    }
+}
+
+/// A keeper whose first failure is told on standard error, and stops the server. It holds what the
+/// keeper within holds.
+#[derive(Drop)]
+pub(crate) struct Guard<'a, 'f, 'n, K> {
+    keeper: K,
+    folder: Folder<'f, 'n>,
+    stop: &'a Stop,
+}
+
+impl<'a, 'f, 'n, K: Keeper> Guard<'a, 'f, 'n, K> {
+    /// Guards the keeper over the files of a folder.
+    pub fn new(keeper: K, folder: Folder<'f, 'n>, stop: &'a Stop) -> Guard<'a, 'f, 'n, K>
+        ensures { (records : List (List ℕ)) → K.holds keeper records
+            → K.holds result.keeper records }
+    {
+        Guard {
+            keeper,
+            folder,
+            stop,
+        }
+    }
+}
+
+impl<'a, 'f, 'n, K: HasFiles> Guard<'a, 'f, 'n, K> {
+    /// Tells of the keeper's fault, once, and stops the server.
+    fn alarm(&self) {
+        if let Some(fault) = self.keeper.fault() {
+            if !self.stop.is_set() {
+                self.tell(self.keeper.number(), fault);
+            }
+        }
+        self.stop.set();
+    }
+
+    /// Tells a fault of the file of a number.
+    fn tell(&self, number: usize, fault: &FileFault) {
+        let _ = match self.folder.path(number) {
+            Ok(path) => tell_fault(self.folder.rt, format_args!("{path}: {fault}")),
+            Err(_) => tell_fault(self.folder.rt, fault),
+        };
+    }
+
+    /// Shuts the files, when all is copied from their logs, and returns whether they could be.
+    pub fn close(self) -> bool {
+        let Guard {
+            keeper,
+            folder,
+            stop: _,
+        } = self;
+        let name = folder.name;
+        match keeper.close() {
+            Ok(()) => true,
+            Err(fault) => tell_fault(folder.rt, format_args!("{name}: {fault}")),
+        }
+    }
+}
+
+impl<'a, 'f, 'n, K: Keeper + HasFiles> Keeper for Guard<'a, 'f, 'n, K> {
+    ghost holds = { λ g. K.holds g.keeper };
+
+    ghost is_at_end = { λ g. K.is_at_end g.keeper };
+
+    ghost may_fail = { K.may_fail };
+
+    fn keep(&mut self, alloc: Global, commit: &[u8]) -> Result<(), NotKept> {
+        let kept = self.keeper.keep(alloc, commit);
+        if kept.is_err() {
+            self.alarm();
+        }
+        kept
+    }
+
+    fn next(&mut self, alloc: Global) -> Result<Option<Vec<u8>>, NotKept> {
+        let found = self.keeper.next(alloc);
+        if found.is_err() {
+            self.alarm();
+        }
+        found
+    }
+
+    fn gives_back() -> bool
+        ensures { result ≡ true → K.may_fail }
+    {
+        K::gives_back()
+    }
+
+    fn record(
+        &mut self,
+        alloc: Global,
+        number: u64,
+        digest: Digest,
+    ) -> Result<Option<Vec<u8>>, NotKept> {
+        let found = self.keeper.record(alloc, number, digest);
+        if found.is_err() {
+            self.alarm();
+        }
+        found
+    }
+
+    fn item(&mut self, alloc: Global, digest: Digest) -> Result<Option<Vec<u8>>, NotKept> {
+        let found = self.keeper.item(alloc, digest);
+        if found.is_err() {
+            self.alarm();
+        }
+        found
+    }
+
+    fn stop(&mut self) {
+        self.keeper.stop();
+        self.stop.set();
+    }
+}

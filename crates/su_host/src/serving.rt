@@ -1,0 +1,294 @@
+// Serving a shared folder at a port.
+ghost use Rattle.std.specs.Prelude.{◌≡◌, ◌↔◌, []};
+ghost use Rattle.su_store_files.specs.Volumes.{WereSound};
+
+use crate::doors::Door;
+use crate::faults::tell_fault;
+use crate::guards::Guard;
+use crate::settings::Setting;
+use crate::stores::{DiskFile, FULL, Folder, options};
+use std::alloc::{AllocError, Global};
+use std::marker::Brand;
+use std::net::{Ipv4Addr, Net, TcpListener, TcpStream};
+use std::sync::Wait;
+use std::thread::Threads;
+use su_bytes::Roster;
+use su_keeper::{Forgetful, Keeper};
+use su_places::StoreVolume;
+use su_server::{Connections, Report, Stop, serve_book};
+use su_session::End;
+use su_shared::{BookFault, Closed};
+use su_shared_items::SharedBlocks;
+use su_store::FileFault;
+use su_store_files::{ArchiveFiles, ArchiveName, Opened};
+use su_store_keeper::Archive;
+use su_vault::{Shelf, Vault, Volume};
+
+/// How many bytes a MiB has.
+const MIB: usize = 1_048_576;
+
+/// What a server is asked for: its port, how many workers it has and commits it may store, after
+/// how many sessions it ends, if so, the folder in which it keeps what is stored, if there is one,
+/// and how many MiB those records and items may take in memory that are kept there too.
+#[derive(Clone, Copy)]
+pub struct Options<'a> {
+    pub port: u16,
+    pub workers: usize,
+    pub capacity: u64,
+    pub sessions: Option<u32>,
+    pub store: Option<&'a str>,
+    pub cache: u32,
+}
+
+/// The same, without the folder.
+#[derive(Clone, Copy)]
+struct Terms {
+    port: u16,
+    workers: usize,
+    capacity: u64,
+    sessions: Option<u32>,
+}
+
+/// Serves the sessions of a port over a book for the users of a roster, and returns whether it ended
+/// without a fault. With a store the book goes on from what is kept there, and each commit is on the
+/// disk before anybody is told of it. Standard error tells when it listens, what it served, and each
+/// fault: of the store's file, of the port, of a record that isn't taken up again, of a commit that
+/// couldn't be kept, after which it ends, and where fewer connections came than were asked for.
+pub fn serve<T>(rt: &HostRuntime, host: &T, options: Options<'_>, roster: Roster) -> bool
+where
+    T: Net<Listener = TcpListener, Stream = TcpStream> + Threads + Wait + Sync,
+{
+    let Ok(blocks) = shared_blocks(rt.alloc(), options) else {
+        return tell_fault(rt, "out of memory");
+    };
+    let stop = Stop::new();
+    let terms = Terms {
+        port: options.port,
+        workers: options.workers,
+        capacity: options.capacity,
+        sessions: options.sessions,
+    };
+    let setting = Setting {
+        rt,
+        host,
+        blocks: &blocks,
+        stop: &stop,
+    };
+    match options.store {
+        Some(folder) => serve_kept(&setting, terms, roster, folder),
+        None => {
+            let (good, _) = serve_over(&setting, terms, roster, Forgetful);
+            good
+        }
+    }
+}
+
+/// Makes room for items: bounded with a store, and else for all.
+fn shared_blocks(alloc: Global, options: Options<'_>) -> Result<SharedBlocks, AllocError> {
+    match options.store {
+        Some(_) => SharedBlocks::with_room(alloc, (options.cache as usize).saturating_mul(MIB)),
+        None => SharedBlocks::new(alloc),
+    }
+}
+
+/// Serves over what is kept in a folder. In the end all is copied from the logs into the files.
+fn serve_kept<T>(setting: &Setting<'_, T>, terms: Terms, roster: Roster, name: &str) -> bool
+where
+    T: Net<Listener = TcpListener, Stream = TcpStream> + Threads + Wait + Sync,
+{
+    let Ok(options) = options(setting.rt) else {
+        return tell_fault(setting.rt, "out of random bytes");
+    };
+    let folder = Folder {
+        rt: setting.rt,
+        name,
+        options,
+    };
+    let files = match folder.open() {
+        Ok(files) => files,
+        Err(fault) => return tell_fault(setting.rt, fault),
+    };
+    serve_named::<Brand, StoreVolume<DiskFile>, Folder<'_, '_>, T>(
+        setting, terms, roster, folder, folder, files,
+    )
+}
+
+/// The same, over files that were found with what this name says.
+fn serve_named<N, V, H, T>(
+    setting: &Setting<'_, T>,
+    terms: Terms,
+    roster: Roster,
+    folder: Folder<'_, '_>,
+    shelf: H,
+    files: Opened<V>,
+) -> bool
+where
+    N: ArchiveName + Send,
+    V: Volume<Fault = FileFault> + Send,
+    H: Shelf<V> + Send,
+    T: Net<Listener = TcpListener, Stream = TcpStream> + Threads + Wait + Sync,
+    requires { N.found ↔ WereSound V.Volume files }
+{
+    let vault: ArchiveFiles<N, V, H> = ArchiveFiles::new(setting.rt.alloc(), files, shelf);
+    serve_vault(setting, terms, roster, folder, vault)
+}
+
+/// Serves over the vault of a folder, of which no record stands in the book.
+fn serve_vault<V, T>(
+    setting: &Setting<'_, T>,
+    terms: Terms,
+    roster: Roster,
+    folder: Folder<'_, '_>,
+    vault: V,
+) -> bool
+where
+    V: Vault<Fault = FileFault> + Send,
+    T: Net<Listener = TcpListener, Stream = TcpStream> + Threads + Wait + Sync,
+    requires { V.holds vault [] }
+{
+    let archive: Archive<'_, V, T> = Archive::new(
+        setting.host,
+        setting.rt.alloc(),
+        vault,
+        FULL,
+        setting.blocks,
+    );
+    let guard = Guard::new(archive, folder, setting.stop);
+    let (good, guard) = serve_over(setting, terms, roster, guard);
+    match guard {
+        Some(guard) => !setting.stop.is_set() && guard.close() && good,
+        None => good,
+    }
+}
+
+/// Listens, and serves over a new book with this keeper, which is handed back unless the book was
+/// refused.
+fn serve_over<K, T>(
+    setting: &Setting<'_, T>,
+    terms: Terms,
+    roster: Roster,
+    keeper: K,
+) -> (bool, Option<K>)
+where
+    K: Keeper + Send,
+    T: Net<Listener = TcpListener, Stream = TcpStream> + Threads + Wait + Sync,
+    requires { K.holds keeper [] }
+{
+    let port = terms.port;
+    match TcpListener::bind(setting.host, (Ipv4Addr::UNSPECIFIED, port)) {
+        Ok(listener) => serve_at(setting, terms, roster, &listener, keeper),
+        Err(reason) => {
+            let fault = format_args!("listening on port {port}: {reason}");
+            (tell_fault(setting.rt, fault), Some(keeper))
+        }
+    }
+}
+
+/// The same, at this listener.
+fn serve_at<K, T>(
+    setting: &Setting<'_, T>,
+    terms: Terms,
+    roster: Roster,
+    listener: &TcpListener,
+    keeper: K,
+) -> (bool, Option<K>)
+where
+    K: Keeper + Send,
+    T: Net<Listener = TcpListener, Stream = TcpStream> + Threads + Wait + Sync,
+    requires { K.holds keeper [] }
+{
+    let (rt, host, stop) = (setting.rt, setting.host, setting.stop);
+    let sessions = terms.sessions;
+    let connections = Connections::new(listener, stop, sessions.unwrap_or(u32::MAX));
+    let door = Door {
+        rt,
+        host,
+        stop,
+        port: terms.port,
+        sessions,
+    };
+    let (workers, capacity) = (terms.workers, terms.capacity);
+    let alloc = rt.alloc();
+    match serve_book(
+        host,
+        alloc,
+        connections,
+        workers,
+        capacity,
+        roster,
+        setting.blocks,
+        keeper,
+        &door,
+    ) {
+        Ok(report) => {
+            let good = tell_report(rt, stop, sessions, &report);
+            (good, Some(keeper_of(report.closed)))
+        }
+        Err(fault) => (tell_book(rt, stop, &fault), None),
+    }
+}
+
+/// Takes the keeper out of a book that has ended.
+pub(crate) fn keeper_of<K: Keeper>(closed: Closed<K>) -> K
+    ensures { result ≡ closed.keeper }
+{
+    let Closed {
+        records: _,
+        calls: _,
+        book: _,
+        keeper,
+    } = closed;
+    keeper
+}
+
+/// Tells on standard error why a book isn't opened, unless its keeper told it.
+fn tell_book(rt: &HostRuntime, stop: &Stop, fault: &BookFault) -> bool {
+    if stop.is_set() {
+        return false;
+    }
+    match fault {
+        BookFault::Refused(refusal) => tell_fault(rt, format_args!("serving: {refusal}")),
+        BookFault::Record(number, refusal) => {
+            let fault = format_args!(
+                "record {number} of the store is refused, so it is not this roster's, or it is \
+                 damaged, or the capacity is too small: {refusal}"
+            );
+            tell_fault(rt, fault)
+        }
+    }
+}
+
+/// Tells on standard error what was served of so many sessions, and returns whether all is well:
+/// all came, unless the server was stopped.
+fn tell_report<K: Keeper>(
+    rt: &HostRuntime,
+    stop: &Stop,
+    sessions: Option<u32>,
+    report: &Report<K>,
+) -> bool {
+    let served = &report.sessions;
+    let failed = served.iter().filter(|one| one.end_ != End::Closed).count();
+    let answered = answered_in(report);
+    let count = served.len();
+    let records = report.closed.records;
+    let _ = eprintln!(rt;
+        "sundr: served {count} sessions, of which {failed} ended by a fault: {answered} requests \
+         answered, {records} commits stored"
+    );
+    if stop.is_set() {
+        return false;
+    }
+    if count < sessions.unwrap_or(u32::MAX) as usize {
+        return tell_fault(rt, "connections could not be accepted");
+    }
+    true
+}
+
+/// Counts the requests that were answered in all sessions.
+fn answered_in<K: Keeper>(report: &Report<K>) -> u64 {
+    let mut answered = 0u64;
+    for served in &report.sessions {
+        answered = answered.saturating_add(served.answered);
+    }
+    answered
+}

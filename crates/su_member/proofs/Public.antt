@@ -1,2 +1,0 @@
--- The lemmas that proofs of other crates may cite.
-pub use Rattle.su_member.proofs.Working.{works_same, works_then, works_takes, works_stays}

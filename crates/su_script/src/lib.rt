@@ -1,9 +1,0 @@
-//! A desk script: what a desk answers to each line.
-#![tactic(auto)]
-
-mod desk;
-mod session;
-
-pub use desk::{Ending, Fault, Status, run_desk};
-pub use session::{answered, bad, in_hex};
-pub use su_command::{DESK_WORDS, Mistake};

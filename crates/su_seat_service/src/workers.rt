@@ -1,0 +1,192 @@
+// The service of a worker.
+ghost use Rattle.std.specs.Prelude.{◌≡◌, ◌⊎◌, IfOk, IfErr};
+ghost use Rattle.sha2.specs.Sha256.{sha256};
+ghost use Rattle.su_bytes.specs.declared.refusals.Refusal.TheVariants.{MissingBlock, SourceFailed, NoMemory};
+ghost use Rattle.su_message.specs.declared.requests.Request.TheVariants as request;
+ghost use Rattle.su_own_service.specs.Kept.{said};
+ghost use Rattle.su_shared.specs.Entry.{IsShown};
+ghost use Rattle.su_seat_service.specs.Worker.{Answers, Tells};
+
+use std::alloc::Global;
+use std::marker::Model;
+use std::sync::Wait;
+use su_bytes::{Digest, Refusal};
+use su_keeper::Keeper;
+use su_message::{Bytes, Reply, Request};
+use su_own_service::{reply_or_refusal, told};
+use su_session::Service;
+use su_shared::{BookName, Record, Seat, SharedBook};
+use su_shared_items::SharedBlocks;
+
+/// A service over a book and items that are shared, which asks the book from a seat of its own. Its
+/// model is that seat.
+#[derive(Drop)]
+pub struct Worker<'a, N: BookName, K: Keeper, R: Wait> {
+    book: &'a SharedBook<N, K>,
+    blocks: &'a SharedBlocks,
+    seat: Seat<N>,
+    rt: &'a R,
+}
+
+impl<'a, N: BookName, K: Keeper, R: Wait> Model for Worker<'a, N, K, R> {
+    ghost use Rattle.su_shared.specs.Seats.{SeatView};
+
+    ghost Value = { SeatView };
+
+    ghost view = { λ w. w.seat };
+}
+
+impl<'a, N: BookName, K: Keeper, R: Wait> Worker<'a, N, K, R> {
+    /// Makes the service of a seat of this book.
+    pub fn new(
+        rt: &'a R,
+        book: &'a SharedBook<N, K>,
+        blocks: &'a SharedBlocks,
+        seat: Seat<N>,
+    ) -> Worker<'a, N, K, R>
+        ensures { result ≡ seat }
+    {
+        Worker {
+            book,
+            blocks,
+            seat,
+            rt,
+        }
+    }
+
+    /// Hands the seat back, with which the book is closed.
+    pub fn into_seat(self) -> Seat<N>
+        ensures { result ≡ self.entry }
+    {
+        self.seat
+    }
+
+    fn grant(&mut self, alloc: Global) -> Result<Reply, Refusal>
+        ensures { Answers K.may_fail self.old request.Grant (said result) self.new }
+    {
+        let (reply, _receipt) = self.book.grant(self.rt, alloc, &mut self.seat)?;
+        Ok(told(reply))
+    }
+
+    fn commit(&mut self, alloc: Global, commit: &Bytes) -> Result<Reply, Refusal>
+        ensures { Answers K.may_fail self.old (request.Commit commit.now) (said result) self.new }
+    {
+        let bytes = commit.as_slice();
+        let (number, _receipt) = self.book.commit(self.rt, alloc, &mut self.seat, bytes)?;
+        self.share_record(alloc, bytes);
+        Ok(Reply::Stored(number))
+    }
+
+    fn give(&mut self, alloc: Global) -> Result<Reply, Refusal>
+        ensures { Answers K.may_fail self.old request.Give (said result) self.new }
+    {
+        self.book.give(self.rt, alloc, &mut self.seat)?;
+        Ok(Reply::Given)
+    }
+
+    fn fetch(&mut self, alloc: Global, number: u64) -> Result<Reply, Refusal>
+        ensures { Answers K.may_fail self.old (request.Fetch number) (said result) self.new }
+    {
+        let Some(found) = self.book.published(&mut self.seat, number) else {
+            return Ok(Reply::Nothing);
+        };
+        self.tell(alloc, found)
+    }
+
+    /// Tells the bytes of a record.
+    fn tell(&self, alloc: Global, found: &Record) -> Result<Reply, Refusal>
+        ensures { Tells K.may_fail found.now.bytes (said result) }
+    {
+        let commit = self.bytes_of(alloc, found)?;
+        Ok(Reply::Kept(commit))
+    }
+
+    /// Gets the bytes of a record. `NoMemory`; `SourceFailed` where they aren't in its cell and the
+    /// keeper fails.
+    fn bytes_of(&self, alloc: Global, found: &Record) -> Result<Bytes, Refusal>
+        ensures shown { IfOk result (IsShown K.may_fail found.now.bytes) }
+        ensures refused { IfErr result (λ e.
+            (e ≡ NoMemory) ⊎ ((e ≡ SourceFailed) × K.may_fail)) }
+    {
+        match found.bytes() {
+            Some(bytes) => Ok(Bytes::copy_of(alloc, bytes)?),
+            None if K::gives_back() => Ok(Bytes::new(self.kept_record(alloc, found)?)),
+            // all bytes are in their cells then, but no clause says so
+            None => Err(Refusal::NoMemory),
+        }
+    }
+
+    /// Gets the bytes of a record that aren't in its cell: from the shared items, or else from the
+    /// book's keeper, and then they are shared. `NoMemory`; `SourceFailed` where the keeper fails.
+    fn kept_record(&self, alloc: Global, found: &Record) -> Result<Vec<u8>, Refusal>
+        ensures hashes { IfOk result (λ commit.
+            sha256 commit.items ≡ sha256 found.now.bytes) }
+        ensures refused { IfErr result (λ e. (e ≡ NoMemory) ⊎ (e ≡ SourceFailed)) }
+    {
+        match self.blocks.get(self.rt, alloc, found.digest()) {
+            Ok(commit) => return Ok(commit),
+            Err(Refusal::MissingBlock) => {}
+            Err(refusal) => return Err(refusal),
+        }
+        let commit = self.book.record(self.rt, alloc, found)?;
+        self.share_record(alloc, commit.as_slice());
+        Ok(commit)
+    }
+
+    /// Shares the bytes of a record that the keeper gives back, where there is room for them.
+    fn share_record(&self, alloc: Global, commit: &[u8]) {
+        if K::gives_back() {
+            let _ = self.blocks.share(self.rt, alloc, commit);
+        }
+    }
+
+    fn put(&self, alloc: Global, item: &Bytes) -> Result<Reply, Refusal>
+        ensures { Answers K.may_fail self.now (request.Put item.now) (said result) self.now }
+    {
+        let digest = self.blocks.put(self.rt, alloc, item.as_slice())?;
+        Ok(Reply::PutDone(digest))
+    }
+
+    fn get(&self, alloc: Global, digest: Digest) -> Result<Reply, Refusal>
+        ensures { Answers K.may_fail self.now (request.Get digest) (said result) self.now }
+    {
+        let item = match self.blocks.get(self.rt, alloc, digest) {
+            Ok(item) => item,
+            Err(Refusal::MissingBlock) => self.kept_item(alloc, digest)?,
+            Err(refusal) => return Err(refusal),
+        };
+        Ok(Reply::Item(Bytes::new(item)))
+    }
+
+    /// Reads an item that the book's keeper keeps, and shares it, where there is memory for that.
+    /// `MissingBlock` where it keeps none, or one that can't be an item; `SourceFailed` where it
+    /// fails.
+    fn kept_item(&self, alloc: Global, digest: Digest) -> Result<Vec<u8>, Refusal>
+        ensures checked { IfOk result (λ item. sha256 item.items ≡ digest) }
+        ensures refused { IfErr result (λ e.
+            (e ≡ MissingBlock) ⊎ ((e ≡ SourceFailed) × K.may_fail)) }
+    {
+        let Some(item) = self.book.item(self.rt, alloc, digest)? else {
+            return Err(Refusal::MissingBlock);
+        };
+        match self.blocks.share(self.rt, alloc, item.as_slice()) {
+            Err(Refusal::TooBig) => Err(Refusal::MissingBlock),
+            _ => Ok(item),
+        }
+    }
+}
+
+impl<'a, N: BookName, K: Keeper, R: Wait> Service for Worker<'a, N, K, R> {
+    ghost answers = { Answers K.may_fail };
+
+    fn answer(&mut self, alloc: Global, request: &Request) -> Reply {
+        match request {
+            Request::Grant => reply_or_refusal(self.grant(alloc)),
+            Request::Commit(commit) => reply_or_refusal(self.commit(alloc, commit)),
+            Request::Give => reply_or_refusal(self.give(alloc)),
+            Request::Fetch(number) => reply_or_refusal(self.fetch(alloc, *number)),
+            Request::Put(item) => reply_or_refusal(self.put(alloc, item)),
+            Request::Get(digest) => reply_or_refusal(self.get(alloc, *digest)),
+        }
+    }
+}

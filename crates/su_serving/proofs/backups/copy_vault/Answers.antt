@@ -1,5 +1,0 @@
-use Rattle.std.proofs.Common.{[]}
-use Rattle.su_serving.proofs.backups.copy_vault.Goals as goal
-
-pub copy_book-requires : goal.copy_book-requires
-copy_book-requires g c = record { holds = c.new-guard.ensures [] c.new-archive.ensures.begun }

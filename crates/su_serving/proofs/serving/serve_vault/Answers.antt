@@ -1,5 +1,0 @@
-use Rattle.std.proofs.Common.{[]}
-use Rattle.su_serving.proofs.serving.serve_vault.Goals as goal
-
-pub serve_over-good-requires-after_bounds : goal.serve_over-good-requires-after_bounds
-serve_over-good-requires-after_bounds g c = λ _ _. c.new-guard.ensures [] c.new-archive.ensures.begun

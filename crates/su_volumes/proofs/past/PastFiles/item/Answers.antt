@@ -1,7 +1,0 @@
-use Rattle.std.proofs.Common.{sym}
-use Rattle.su_volumes.proofs.PastLemmas.{all_zip_set}
-use Rattle.su_volumes.proofs.past.PastFiles.item.Goals as goal
-
-pub returns-clause-kept : goal.returns-clause-kept
-returns-clause-kept g c lists kept =
-    all_zip_set g.V.Volume.keeps c.turn_to.new.self.places.items lists c.args.number c.index_mut.result.now c.read.new.file (sym c.index_mut.ensures.value) c.read.ensures.kept (c.turn_to.ensures lists kept)

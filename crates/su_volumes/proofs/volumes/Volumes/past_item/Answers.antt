@@ -1,8 +1,0 @@
-use Rattle.su_volumes.proofs.VolumeLemmas.{with_past}
-use Rattle.su_volumes.proofs.volumes.Volumes.past_item.Goals as goal
-
-pub returns-in-Ok-clause-held : goal.returns-in-Ok-clause-held
-returns-in-Ok-clause-held g c records held = with_past g.V.Volume c.args.self.now records held c.item.new.self (c.item.ensures.kept held.lists held.past)
-
-pub returns-in-Err-clause-held : goal.returns-in-Err-clause-held
-returns-in-Err-clause-held g c records held = c.halt.ensures.held records (with_past g.V.Volume c.args.self.now records held c.item.new.self (c.item.ensures.kept held.lists held.past))

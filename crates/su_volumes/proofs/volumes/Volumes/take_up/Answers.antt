@@ -1,4 +1,0 @@
-use Rattle.su_volumes.proofs.volumes.Volumes.take_up.Goals as goal
-
-pub returns-then-not-is_empty-clause-held : goal.returns-then-not-is_empty-clause-held
-returns-then-not-is_empty-clause-held g c records held = c.halt.ensures.held records (c.advance.ensures.held records held)
