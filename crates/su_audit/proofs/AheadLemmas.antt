@@ -3,11 +3,11 @@ use Rattle.std.proofs.Common.{◌≡◌, ℕ, suc, ◌+◌, ◌<◌, List, [], �
 use Rattle.std.specs.Prelude.{Ok}
 use Rattle.std.specs.List.{AllByRecursion}
 use Rattle.std.proofs.lemmas.List.{take-append-le, take_all}
-use Rattle.su_audit.specs.Log.{LogRecord, record_bytes}
-use Rattle.su_audit.specs.Record.{spelled, IsRead, IsExamined, BeginsWithRecord, StopsSo, ReadsNext}
+use Rattle.su_log.specs.Log.{LogRecord, record_bytes}
+use Rattle.su_log.specs.Record.{spelled, IsRead, IsExamined, BeginsWithRecord, StopsSo, ReadsNext}
 use Rattle.su_audit.specs.Ahead.{GoesOn, IsBehind, IsLeft, IsExaminedFrom}
-use Rattle.su_audit.specs.declared.records.Record.{Record}
-use Rattle.su_audit.specs.declared.records.Stop.{Stop}
+use Rattle.su_log.specs.declared.records.Record.{Record}
+use Rattle.su_log.specs.declared.records.Stop.{Stop}
 
 -- ---- reading ahead
 

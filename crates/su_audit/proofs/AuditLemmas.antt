@@ -10,7 +10,7 @@ use Rattle.su_legal.specs.Legal.{Committed, LegalAfter}
 use Rattle.su_legal.proofs.Public.{after_both}
 use Rattle.su_view.specs.Holding.{HoldingState, with_more}
 use Rattle.su_view.specs.declared.refusals.ViewRefusal.{ViewRefusal}
-use Rattle.su_audit.specs.Log.{LogRecord, record_bytes, log_bytes}
+use Rattle.su_log.specs.Log.{LogRecord, record_bytes, log_bytes}
 use Rattle.su_audit.specs.Step.{Takes, IsRefusedNext}
 use Rattle.su_audit.specs.declared.audits.Ending.{Ending}
 use Rattle.su_audit.specs.declared.audits.Ending.TheVariants.{Taken, Refused, Failed}

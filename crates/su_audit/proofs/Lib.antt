@@ -1,5 +1,3 @@
-mod LogLemmas
-pub mod RecordLemmas
 pub mod AheadLemmas
 mod StepLemmas
 mod AuditLemmas

@@ -11,10 +11,10 @@ use Rattle.su_view.specs.Holding.{HoldingState, Took}
 use Rattle.su_view.specs.Joining.{IsRefusedCommit, HasFailed}
 use Rattle.su_view.specs.declared.refusals.ViewRefusal.{ViewRefusal}
 use Rattle.su_view.specs.declared.refusals.ViewRefusal.TheVariants.{Plain}
-use Rattle.su_view.specs.Listing.{record_bytes as part_bytes}
-use Rattle.su_audit.specs.Log.{LogRecord, record_bytes}
-use Rattle.su_audit.specs.Record.{BeginsWithRecord, StopsSo}
-use Rattle.su_audit.specs.declared.records.Stop.TheVariants.{Cut}
+use Rattle.su_log.specs.Part.{part_bytes}
+use Rattle.su_log.specs.Log.{LogRecord, record_bytes}
+use Rattle.su_log.specs.Record.{BeginsWithRecord, StopsSo}
+use Rattle.su_log.specs.declared.records.Stop.TheVariants.{Cut}
 use Rattle.su_audit.specs.declared.steps.Step.{Step}
 use Rattle.su_audit.specs.declared.steps.Step.TheVariants as step
 use Rattle.su_audit.specs.Step.{IsRefusedRecord, IsRefusedNext, TakesRecord, Takes, Steps}

@@ -1,9 +1,9 @@
 -- A log of which records are read ahead: what is still to be taken of it.
 use Rattle.std.specs.Prelude.{◌≡◌, ◌+◌, ℕ, List, [], ◌∷◌, length, map, Option, Some, None}
-use Rattle.su_audit.specs.Log.{LogRecord, record_bytes}
-use Rattle.su_audit.specs.Record.{spelled, IsVerdict, BeginsWithRecord, StopsSo}
-use Rattle.su_audit.specs.declared.records.Record.{Record}
-use Rattle.su_audit.specs.declared.records.Stop.{Stop}
+use Rattle.su_log.specs.Log.{LogRecord, record_bytes}
+use Rattle.su_log.specs.Record.{spelled, IsVerdict, BeginsWithRecord, StopsSo}
+use Rattle.su_log.specs.declared.records.Record.{Record}
+use Rattle.su_log.specs.declared.records.Stop.{Stop}
 
 -- From a place on the log goes on with these records, and from another place on with the rest.
 abbrev pub GoesOn : List LogRecord → ℕ → List ℕ → ℕ → List ℕ → Type 0

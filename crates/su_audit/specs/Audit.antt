@@ -8,7 +8,7 @@ use Rattle.su_legal.specs.Legal.{Committed, Legal}
 use Rattle.su_view.specs.Holding.{HoldingState}
 use Rattle.su_view.specs.declared.refusals.ViewRefusal.{ViewRefusal}
 use Rattle.su_view.specs.Refusal.{view_refusal_text}
-use Rattle.su_audit.specs.Log.{LogRecord, log_bytes}
+use Rattle.su_log.specs.Log.{LogRecord, log_bytes}
 use Rattle.su_audit.specs.Step.{IsRefusedNext}
 use Rattle.su_audit.specs.declared.audits.Ending.{Ending}
 use Rattle.su_audit.specs.declared.audits.Ending.TheVariants.{Taken, Refused, Failed}

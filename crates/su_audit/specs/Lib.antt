@@ -1,5 +1,3 @@
-pub mod Log
-pub mod Record
 pub mod Ahead
 pub mod Step
 pub mod Audit

@@ -13,8 +13,8 @@ use Rattle.su_view.specs.declared.refusals.ViewRefusal.{ViewRefusal}
 use Rattle.su_view.specs.declared.refusals.ViewRefusal.TheVariants.{Plain}
 use Rattle.su_audit.specs.declared.steps.Step.{Step}
 use Rattle.su_audit.specs.declared.steps.Step.TheVariants as step
-use Rattle.su_view.specs.Listing.{BeginWith}
-use Rattle.su_audit.specs.Log.{LogRecord, record_bytes, HasNoPart}
+use Rattle.su_log.specs.Part.{BeginWith}
+use Rattle.su_log.specs.Log.{LogRecord, record_bytes, HasNoPart}
 
 -- Why a record is refused, for what is held: there is no memory; its item is none; its commit's
 -- bytes spell none; or the commit doesn't join, or the source has no item of its change.

@@ -1,17 +1,17 @@
 // Records that are read ahead of their turn, so that their signatures are checked on all cores.
 ghost use Rattle.std.specs.Prelude.{◌≡◌, ◌<◌, ◌+◌, ℕ, List, [], Some, None, IfOk, MatchResult, length, slice_index_or, vec_len};
 ghost use Rattle.std.specs.List.{AllByRecursion};
-ghost use Rattle.su_audit.specs.Log.{record_bytes};
-ghost use Rattle.su_audit.specs.Record.{IsRead, IsExamined, BeginsWithRecord, StopsSo, spelled};
+ghost use Rattle.su_log.specs.Log.{record_bytes};
+ghost use Rattle.su_log.specs.Record.{IsRead, IsExamined, BeginsWithRecord, StopsSo, spelled};
 ghost use Rattle.su_audit.specs.Ahead.{IsLeft, IsExaminedFrom};
 
-use crate::records::{Log, Record, Stop};
 use std::alloc::{AllocError, Global};
 use std::collections::VecDeque;
 use std::io::Read;
 use std::thread;
 use std::thread::Threads;
 use su_bytes::Roster;
+use su_log::{Log, Record, Stop};
 
 /// How many records are read ahead at most.
 const MOST_RECORDS: usize = 256;

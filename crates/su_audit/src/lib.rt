@@ -5,10 +5,7 @@
 mod ahead;
 mod audits;
 mod keys;
-mod logs;
-mod records;
 mod steps;
 
 pub use audits::{Ending, Fault, Watcher, run_audit, tell_refused};
 pub use keys::{KeyFault, read_keys};
-pub use records::{Log, Record, Stop};

@@ -3,19 +3,19 @@ ghost use Rattle.std.specs.Prelude.{◌≡◌, ℕ, List, IfErr, OnOk, OnErr};
 ghost use Rattle.std.specs.List.{AllByRecursion};
 ghost use Rattle.su_view.specs.declared.refusals.ViewRefusal.TheVariants.{Plain};
 ghost use Rattle.su_bytes.specs.declared.refusals.Refusal.TheVariants.{Malformed};
-ghost use Rattle.su_audit.specs.Record.{IsExamined, spelled};
+ghost use Rattle.su_log.specs.Record.{IsExamined, spelled};
 ghost use Rattle.su_audit.specs.Ahead.{IsLeft};
 ghost use Rattle.su_audit.specs.declared.steps.Step.TheVariants as step;
 ghost use Rattle.su_audit.specs.Step.{IsRefusedRecord, TakesRecord, Steps};
 
 use crate::ahead::Ahead;
-use crate::records::{Record, Stop};
 use std::alloc::Global;
 use std::io;
 use std::io::Read;
 use std::thread::Threads;
 use su_block::{BlockSource, MemoryBlocks};
 use su_bytes::Refusal;
+use su_log::{Record, Stop};
 use su_view::{View, ViewRefusal};
 
 /// What comes of the next record of a log.

@@ -4,11 +4,11 @@ use Rattle.std.specs.List.{flat_map}
 use Rattle.su_change.specs.Item.{item_bytes}
 use Rattle.su_version.specs.Commit.{commit_bytes}
 use Rattle.su_legal.specs.Legal.{Committed}
-use Rattle.su_view.specs.Listing.{record_bytes}
+use Rattle.su_log.specs.Part.{part_bytes}
 
 -- a commit's bytes and the item of its change, each with its length before it
 abbrev pub entry_bytes : Committed → List ℕ
-entry_bytes c = record_bytes (commit_bytes c.commit) ++ record_bytes (item_bytes c.change)
+entry_bytes c = part_bytes (commit_bytes c.commit) ++ part_bytes (item_bytes c.change)
 
 abbrev pub saved_log : List Committed → List ℕ
 saved_log cs = flat_map entry_bytes cs

@@ -3,15 +3,15 @@ ghost use Rattle.std.specs.Prelude.{◌≡◌, ◌++◌, true, Some, IfOk, IfErr
 ghost use Rattle.su_legal.specs.Legal.{Committed};
 ghost use Rattle.su_view.specs.Acting.{TakesSome};
 ghost use Rattle.su_view.specs.Entry.{committed_at};
-ghost use Rattle.su_view.specs.Listing.{record_bytes};
+ghost use Rattle.su_log.specs.Part.{part_bytes};
 ghost use Rattle.su_client_work.specs.SavedLog.{saved_log, entry_bytes};
 
 use std::alloc::Global;
 use std::io;
 use std::io::Read;
-use su_audit::{Log, Record, Stop};
 use su_block::BlockSource;
 use su_bytes::Refusal;
+use su_log::{Log, Record, Stop};
 use su_view::{View, ViewRefusal};
 
 /// Why a log isn't taken whole.
@@ -101,7 +101,7 @@ fn put_entry<S: BlockSource + Drop>(
 
 /// Appends bytes with their number before them.
 fn put_bytes(log: &mut Vec<u8>, bytes: &[u8]) -> Result<(), Refusal>
-    ensures { OnOk result (log.new.items ≡ log.old.items ++ record_bytes bytes.now) }
+    ensures { OnOk result (log.new.items ≡ log.old.items ++ part_bytes bytes.now) }
 {
     let Ok(count) = u32::try_from(bytes.len()) else {
         return Err(Refusal::TooBig);

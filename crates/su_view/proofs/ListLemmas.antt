@@ -10,36 +10,14 @@ use Rattle.su_version.specs.Commit.{commit_bytes}
 use Rattle.su_legal.specs.Legal.{Committed, LegalAfter}
 use Rattle.su_legal.proofs.Public.{after_both}
 use Rattle.su_view.specs.Holding.{HoldingState, with_more, Took}
-use Rattle.su_view.specs.Listing.{record_bytes, commits_bytes, BeginWith, HasTaken, IsRefusedBytes, IsRefusedFirst, RefusesNext}
+use Rattle.su_log.specs.Part.{part_bytes, BeginWith}
+use Rattle.su_log.proofs.Public.{first_is, too_long, too_short}
+use Rattle.su_view.specs.Listing.{commits_bytes, HasTaken, IsRefusedBytes, IsRefusedFirst, RefusesNext}
 use Rattle.su_view.specs.declared.refusals.ViewRefusal.TheVariants.{Plain}
 use Rattle.su_bytes.specs.declared.refusals.Refusal.TheVariants.{NoMemory}
 use Rattle.su_view.specs.declared.refusals.ViewRefusal.{ViewRefusal}
 
 -- ---- records
-
--- a record that stands there has as many bytes as the number says, and these are behind it
-pub first_is : (bytes first rest behind : List ℕ) (size : ℕ) → BeginWith bytes first rest → size < 2 ^ 32 → bytes ≡ u32_bytes size ++ behind
-    → (length first ≡ size) × (first ++ rest ≡ behind)
-first_is bytes first rest behind size b small is =
-    u32_told (length first) size (first ++ rest) behind b.few small (sym (append_assoc (u32_bytes (length first)) first rest) ∙ sym b.whole ∙ is)
-
--- a number that says more than there is begins no record
-pub too_long : (bytes behind : List ℕ) (size : ℕ) → size < 2 ^ 32 → bytes ≡ u32_bytes size ++ behind → length behind < size
-    → (first rest : List ℕ) → BeginWith bytes first rest → ⊥
-too_long bytes behind size small is short first rest b =
-    let p = first_is bytes first rest behind size b small is in
-    let long = ap length p.1 in
-    let sum = length-append first rest in
-    omega (arith, p.0, long, sum, short)
-
--- fewer than four bytes begin none
-pub too_short : (bytes : List ℕ) → length bytes < 4 → (first rest : List ℕ) → BeginWith bytes first rest → ⊥
-too_short bytes short first rest b =
-    let long = ap length b.whole in
-    let sum = length-append (u32_bytes (length first) ++ first) rest in
-    let number = length-append (u32_bytes (length first)) first in
-    let four : length (u32_bytes (length first)) ≡ 4 = refl in
-    omega (arith, long, sum, number, four, short)
 
 -- the first of some bytes are bytes
 pub bytes_in_front : (n : ℕ) (bytes : List ℕ) → ((i : ℕ) → get_or bytes i 0 < 256) → (i : ℕ) → get_or (take n bytes) i 0 < 256
@@ -92,9 +70,9 @@ module _ (M : List ℕ → Type 0) where
     };
     given = given_more t.more c t.given given;
     number = ap (λ n. n + 1) t.number ∙ sym (length-append t.more (c ∷ []));
-    front = t.front ∙ ap (λ r. commits_bytes t.more ++ r) (b.whole ∙ ap (λ f. record_bytes f ++ others) is)
-        ∙ sym (append_assoc (commits_bytes t.more) (record_bytes (commit_bytes c.commit)) others)
-        ∙ ap (λ l. l ++ others) (flat_map_more (λ (c : Committed). record_bytes (commit_bytes c.commit)) [] t.more c);
+    front = t.front ∙ ap (λ r. commits_bytes t.more ++ r) (b.whole ∙ ap (λ f. part_bytes f ++ others) is)
+        ∙ sym (append_assoc (commits_bytes t.more) (part_bytes (commit_bytes c.commit)) others)
+        ∙ ap (λ l. l ++ others) (flat_map_more (λ (c : Committed). part_bytes (commit_bytes c.commit)) [] t.more c);
   }
 
 -- ---- what is refused

@@ -4,26 +4,17 @@ use Rattle.std.specs.Prelude.{◌≡◌, ◌≢◌, ◌<◌, ◌+◌, ◌^◌, �
 use Rattle.std.specs.List.{flat_map, AllByRecursion}
 use Rattle.su_bytes.specs.declared.refusals.Refusal.TheVariants.{Malformed, NoMemory}
 use Rattle.su_block.specs.declared.failures.Failures.{Failures}
-use Rattle.su_format.specs.Part.{u32_bytes}
 use Rattle.su_change.specs.Item.{item_bytes}
 use Rattle.su_version.specs.Commit.{Commit, IsCommit, commit_bytes}
+use Rattle.su_log.specs.Part.{part_bytes, BeginWith}
 use Rattle.su_legal.specs.Legal.{Committed}
 use Rattle.su_view.specs.Holding.{HoldingState, Took}
 use Rattle.su_view.specs.Joining.{HasFailed, IsNoCommit, IsRefusedCommit}
 use Rattle.su_view.specs.declared.refusals.ViewRefusal.{ViewRefusal}
 use Rattle.su_view.specs.declared.refusals.ViewRefusal.TheVariants.{Plain}
 
--- bytes with their number before them
-abbrev pub record_bytes : List ℕ → List ℕ
-record_bytes bytes = u32_bytes (length bytes) ++ bytes
-
 abbrev pub commits_bytes : List Committed → List ℕ
-commits_bytes cs = flat_map (λ c. record_bytes (commit_bytes c.commit)) cs
-
--- the bytes begin with a record: with these, before which their number stands
-pub record BeginWith (bytes first rest : List ℕ) : Type 0 where
-  pub few : length first < 2 ^ 32
-  pub whole : bytes ≡ record_bytes first ++ rest
+commits_bytes cs = flat_map (λ c. part_bytes (commit_bytes c.commit)) cs
 
 -- A commit that is shown isn't taken: these are the bytes of none; or the source fails to give the
 -- item of its change; or the commit doesn't join the list.

@@ -1,6 +1,6 @@
 // Lists of commits as bytes.
 ghost use Rattle.std.specs.Prelude.{ℕ, List, MatchOption};
-ghost use Rattle.su_view.specs.Listing.{BeginWith};
+ghost use Rattle.su_log.specs.Part.{BeginWith};
 
 /// Splits a record off: bytes before which their number stands (`u32`), and the rest.
 pub(crate) fn first_record(bytes: &[u8]) -> Option<(&[u8], &[u8])>

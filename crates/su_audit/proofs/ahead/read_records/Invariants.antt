@@ -1,9 +1,9 @@
 use Rattle.std.proofs.Common.{◌≡◌, ◌≤◌, ◌-◌, ℕ, List, Some, None, vec_len}
 use Rattle.std.specs.Prelude.{vec_capacity}
 use Rattle.std.specs.List.{AllByRecursion}
-use Rattle.su_audit.specs.Record.{IsRead}
+use Rattle.su_log.specs.Record.{IsRead}
 use Rattle.su_audit.specs.Ahead.{IsLeft}
-use Rattle.su_audit.specs.declared.records.Record.{Record}
+use Rattle.su_log.specs.declared.records.Record.{Record}
 use Rattle.su_audit.specs.declared.ahead.TheConstants.{MOST_RECORDS}
 use Rattle.su_audit.proofs.ahead.read_records.Given as goal
 

@@ -1,6 +1,6 @@
 use Rattle.std.proofs.Common.{◌≡◌, List, ℕ, Some}
 use Rattle.std.specs.List.{AllByRecursion}
-use Rattle.su_audit.specs.Record.{IsExamined}
+use Rattle.su_log.specs.Record.{IsExamined}
 use Rattle.su_audit.specs.Ahead.{IsLeft}
 use Rattle.su_audit.proofs.AuditLemmas.{Stands}
 use Rattle.su_audit.proofs.audits.run_audit.Given as goal

@@ -2,7 +2,7 @@ use Rattle.std.proofs.Common.{ℕ, ap, ◌∙◌}
 use Rattle.su_bytes.specs.declared.refusals.Refusal.TheVariants.{Malformed}
 use Rattle.su_view.specs.declared.refusals.ViewRefusal.TheVariants.{Plain}
 use Rattle.su_audit.specs.declared.steps.Step.TheVariants as step
-use Rattle.su_audit.specs.Record.{spelled}
+use Rattle.su_log.specs.Record.{spelled}
 use Rattle.su_audit.proofs.StepLemmas.{refused_step, refused_record, takes_record}
 use Rattle.su_audit.proofs.steps.next_step.Goals as goal
 

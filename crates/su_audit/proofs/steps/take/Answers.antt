@@ -1,7 +1,7 @@
 use Rattle.std.proofs.Common.{◌≡◌, ◌⊎◌, ℕ, List, subst}
 use Rattle.std.specs.Prelude.{Contains}
 use Rattle.su_block.specs.Memory.{Memory}
-use Rattle.su_audit.specs.Record.{IsRead}
+use Rattle.su_log.specs.Record.{IsRead}
 use Rattle.su_audit.proofs.StepLemmas.{refused_view, refused_known, takes_change, takes_known}
 use Rattle.su_audit.proofs.steps.take.Goals as goal
 

@@ -1,8 +1,8 @@
 -- Records of a log.
 use Rattle.std.proofs.Common.{◌≡◌, ℕ, ◌+◌, List, length, length-append, refl, arith}
 use Rattle.su_format.specs.Part.{u32_bytes}
-use Rattle.su_view.specs.Listing.{record_bytes as part_bytes}
-use Rattle.su_audit.specs.Log.{record_bytes}
+use Rattle.su_log.specs.Part.{part_bytes}
+use Rattle.su_log.specs.Log.{record_bytes}
 
 pub long_part : (bytes : List ℕ) → length (part_bytes bytes) ≡ 4 + length bytes
 long_part bytes =

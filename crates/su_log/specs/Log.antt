@@ -2,9 +2,9 @@
 -- (This project's own format.)
 use Rattle.std.specs.Prelude.{◌≡◌, ◌≢◌, ◌+◌, ℕ, List, [], ◌++◌, length, Option, Some}
 use Rattle.std.specs.List.{flat_map}
-use Rattle.su_view.specs.Listing.{BeginWith, record_bytes as part_bytes}
-use Rattle.su_audit.specs.declared.logs.Part.{Part}
-use Rattle.su_audit.specs.declared.logs.Part.TheVariants.{Bytes, Cut, End}
+use Rattle.su_log.specs.Part.{part_bytes, BeginWith}
+use Rattle.su_log.specs.declared.parts.Part.{Part}
+use Rattle.su_log.specs.declared.parts.Part.TheVariants.{Bytes, Cut, End}
 
 -- what a log has of a commit
 pub record LogRecord : Type 0 where

@@ -2,7 +2,7 @@
 ghost use Rattle.std.specs.Prelude.{◌≡◌, ◌<◌, ◌≤◌, ◌^◌, ◌⊎◌, ℕ, List, Some, length, take, IfOk, MatchOption};
 ghost use Rattle.std.specs.Io.KnownBytes.{Consumes, IsAtEnd};
 ghost use Rattle.su_format.specs.Part.{u32_bytes};
-ghost use Rattle.su_audit.specs.Log.{Reads};
+ghost use Rattle.su_log.specs.Log.{Reads};
 
 use std::alloc::Global;
 use std::io;

@@ -2,9 +2,33 @@
 use Rattle.std.proofs.Common.{◌≡◌, ℕ, ◌<◌, ◌≤◌, ◌⊎◌, inl, inr, ◌^◌, List, [], ◌++◌, length, length-append, refl, sym, ap, ◌∙◌, arith, append_assoc, append-nil, Option, Some, None}
 use Rattle.std.specs.Io.KnownBytes.{Consumes, IsAtEnd}
 use Rattle.su_format.specs.Part.{u32_bytes}
-use Rattle.su_view.specs.Listing.{BeginWith}
-use Rattle.su_view.proofs.Public.{too_long}
-use Rattle.su_audit.specs.Log.{HasNoPart}
+use Rattle.su_format.proofs.Public.{u32_told}
+use Rattle.su_log.specs.Part.{BeginWith}
+use Rattle.su_log.specs.Log.{HasNoPart}
+
+-- a part that stands there has as many bytes as the number says, and these are behind it
+pub first_is : (bytes first rest behind : List ℕ) (size : ℕ) → BeginWith bytes first rest → size < 2 ^ 32 → bytes ≡ u32_bytes size ++ behind
+    → (length first ≡ size) × (first ++ rest ≡ behind)
+first_is bytes first rest behind size b small is =
+    u32_told (length first) size (first ++ rest) behind b.few small (sym (append_assoc (u32_bytes (length first)) first rest) ∙ sym b.whole ∙ is)
+
+-- a number that says more than there is begins no part
+pub too_long : (bytes behind : List ℕ) (size : ℕ) → size < 2 ^ 32 → bytes ≡ u32_bytes size ++ behind → length behind < size
+    → (first rest : List ℕ) → BeginWith bytes first rest → ⊥
+too_long bytes behind size small is short first rest b =
+    let p = first_is bytes first rest behind size b small is in
+    let long = ap length p.1 in
+    let sum = length-append first rest in
+    omega (arith, p.0, long, sum, short)
+
+-- fewer than four bytes begin none
+pub too_short : (bytes : List ℕ) → length bytes < 4 → (first rest : List ℕ) → BeginWith bytes first rest → ⊥
+too_short bytes short first rest b =
+    let long = ap length b.whole in
+    let sum = length-append (u32_bytes (length first) ++ first) rest in
+    let number = length-append (u32_bytes (length first)) first in
+    let four : length (u32_bytes (length first)) ≡ 4 = refl in
+    omega (arith, long, sum, number, four, short)
 
 -- what is consumed of known bytes, and what is left then
 pub record Left (input bytes : List ℕ) (known : Option (List ℕ)) : Type 0 where

@@ -1,7 +1,7 @@
 use Rattle.std.proofs.Common.{length, refl, ap, inl, inr, arith}
-use Rattle.su_view.proofs.Public.{too_short}
-use Rattle.su_audit.proofs.RecordLemmas.{parts_read}
-use Rattle.su_audit.proofs.records.Log.next_record.Goals as goal
+use Rattle.su_log.proofs.PartLemmas.{too_short}
+use Rattle.su_log.proofs.RecordLemmas.{parts_read}
+use Rattle.su_log.proofs.records.Log.next_record.Goals as goal
 
 pub returns-in-Ok-Cut-clause-next : goal.returns-in-Ok-Cut-clause-next
 returns-in-Ok-Cut-clause-next g c = λ input is.

@@ -2,8 +2,8 @@ use Rattle.std.proofs.Common.{◌≡◌, ◌∙◌, ◌<◌, length, arith, ap, 
 use Rattle.std.specs.Io.KnownBytes.{IsAtEnd}
 use Rattle.std.proofs.lemmas.List.{take_all}
 use Rattle.su_format.specs.Part.{u32_bytes}
-use Rattle.su_audit.proofs.LogLemmas.{cut_behind, part_read, four_of}
-use Rattle.su_audit.proofs.logs.next_part.Goals as goal
+use Rattle.su_log.proofs.PartLemmas.{cut_behind, part_read, four_of}
+use Rattle.su_log.proofs.parts.next_part.Goals as goal
 
 pub returns-then-len-size : goal.returns-then-len-size
 returns-then-len-size g c = λ input is.

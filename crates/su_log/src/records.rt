@@ -1,10 +1,10 @@
 // Records of a log.
 ghost use Rattle.std.specs.Prelude.{◌≡◌, ℕ, List, Some, IfOk, IfErr};
 ghost use Rattle.su_version.specs.Commit.{commit_format};
-ghost use Rattle.su_audit.specs.Log.{Reads, PassesPart};
-ghost use Rattle.su_audit.specs.Record.{IsRead, IsVerdict, ReadsNext};
+ghost use Rattle.su_log.specs.Log.{Reads, PassesPart};
+ghost use Rattle.su_log.specs.Record.{IsRead, IsVerdict, ReadsNext};
 
-use crate::logs::{Part, next_part};
+use crate::parts::{Part, next_part};
 use std::alloc::Global;
 use std::io;
 use std::io::Read;
@@ -21,15 +21,15 @@ pub struct Record {
     /// The item.
     pub item: Vec<u8>,
     /// The commit that the bytes spell, or why there is none.
-    pub(crate) commit: Result<Commit, Refusal>,
+    pub commit: Result<Commit, Refusal>,
     /// Whether the commit is signed under its author's key; none where that isn't known.
-    pub(crate) verdict: Option<Verdict>,
+    pub verdict: Option<Verdict>,
 }
 
 impl Record {
     /// Finds out whether the commit is signed under its author's key. Without memory for that, it
     /// isn't known.
-    pub(crate) fn examine(&mut self, alloc: Global, roster: &Roster)
+    pub fn examine(&mut self, alloc: Global, roster: &Roster)
         ensures verdict { IsVerdict self.new.commit self.new.verdict }
         ensures same { self.new ≡ record self.old { verdict = self.new.verdict } }
     {
@@ -64,8 +64,8 @@ pub enum Stop {
 /// A log that is read, and how many bytes of it were.
 #[derive(Drop)]
 pub struct Log<R> {
-    pub(crate) reader: R,
-    pub(crate) place: u64,
+    pub reader: R,
+    pub place: u64,
 }
 
 impl<R: Read + Drop> Log<R> {

@@ -5,11 +5,11 @@ use Rattle.su_format.specs.Reading.{Decodes}
 use Rattle.su_version.specs.Commit.{Commit, IsCommit, commit_bytes, commit_format}
 use Rattle.su_version.specs.Chain.{IsSignedBy}
 use Rattle.su_version.specs.declared.chains.Verdict.{Verdict}
-use Rattle.su_view.specs.Listing.{BeginWith}
-use Rattle.su_audit.specs.Log.{LogRecord, record_bytes, HasNoPart}
-use Rattle.su_audit.specs.declared.records.Record.{Record}
-use Rattle.su_audit.specs.declared.records.Stop.{Stop}
-use Rattle.su_audit.specs.declared.records.Stop.TheVariants.{End, Cut, Failed}
+use Rattle.su_log.specs.Part.{BeginWith}
+use Rattle.su_log.specs.Log.{LogRecord, record_bytes, HasNoPart}
+use Rattle.su_log.specs.declared.records.Record.{Record}
+use Rattle.su_log.specs.declared.records.Stop.{Stop}
+use Rattle.su_log.specs.declared.records.Stop.TheVariants.{End, Cut, Failed}
 
 -- what the log has of it
 abbrev pub spelled : Record → LogRecord

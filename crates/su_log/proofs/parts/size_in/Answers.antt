@@ -1,5 +1,5 @@
 use Rattle.std.proofs.Common.{◌∙◌, arith}
-use Rattle.su_audit.proofs.logs.size_in.Goals as goal
+use Rattle.su_log.proofs.parts.size_in.Goals as goal
 
 pub returns : goal.returns
 returns c =

@@ -1,0 +1,3 @@
+mod PartLemmas
+mod RecordLemmas
+pub mod Public

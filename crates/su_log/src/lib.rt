@@ -1,0 +1,7 @@
+//! Logs of commits, with the items of their changes: how a log is read, record by record.
+#![tactic(auto)]
+
+mod parts;
+mod records;
+
+pub use records::{Log, Record, Stop};
