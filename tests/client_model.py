@@ -2,6 +2,8 @@
 script say, which operations a command on paths becomes, and what is printed. It runs on a desk that its users share (`Team`), or
 over a link to a server (`Client`), which it doesn't trust.
 """
+import errno
+import os
 import re
 import time
 
@@ -345,6 +347,17 @@ class TeamMember(Member):
 
 # ---- over a link
 
+def may_be_replaced(file):
+    """Whether nothing stands there, or a plain file that a log may begin."""
+    if not os.path.lexists(file):
+        return True
+    if os.path.islink(file) or not os.path.isfile(file) or os.fsencode(file).endswith(b".lock"):
+        return False
+    with open(file, "rb") as old:
+        front = old.read(8)
+    return front == b"" or len(front) == 8 and front[4:] == b"SV01"
+
+
 class LinkFailed(Exception):
     """The link broke, or a reply didn't fit: the refusal that is printed of that."""
 
@@ -489,6 +502,8 @@ class Client(Member):
         return self.view.maker.log()
 
     def save(self, file):
+        if not may_be_replaced(file):
+            raise FileExistsError(errno.EEXIST, "it is there and is no log", file)
         with open(file, "wb") as to:
             to.write(self.log())
 

@@ -6,6 +6,7 @@ Prints a line for each case that isn't as it should be, and last 'N passed, M fa
 """
 import os
 import shutil
+import signal
 import subprocess
 import sys
 import tempfile
@@ -57,11 +58,11 @@ class Tree:
         with open(f"{self.top}/{path}", "w", encoding="utf-8") as file:
             file.write(text)
 
-    def start(self, *arguments, by=None, folder="/", **environment):
+    def start(self, *arguments, by=None, folder="/", start_new_session=False, **environment):
         there = {"CALLS": self.calls_file, "TREE": self.top, "PATH": self.path, "TMPDIR": os.path.dirname(self.top), **environment}
         return subprocess.Popen(
             [by or f"{self.top}/sundr", *arguments], cwd=folder, env=there, stdin=subprocess.PIPE,
-            stdout=subprocess.PIPE, stderr=subprocess.PIPE, text=True)
+            stdout=subprocess.PIPE, stderr=subprocess.PIPE, text=True, start_new_session=start_new_session)
 
     def run(self, *arguments, given="", **how):
         """Returns what a run prints, what it tells, and its status."""
@@ -139,6 +140,27 @@ def texts(tree):
     yield "tells_nothing_of_a_program_of_today", tree.run("--version")[1] == ""
 
 
+def words(tree):
+    printed, told, status = tree.run("clinet", "--port", "1")
+    is_told = "no command clinet" in told and "client" in told
+    yield f"builds_nothing_for_no_command: {told}", (printed, status, tree.calls()) == ("", 2, []) and is_told
+    yield "builds_for_a_command", tree.run("desk")[0] == "first: desk\n" and tree.calls() == ALL
+    tree.run("clinet")
+    yield "a_program_of_today_tells_it_itself", tree.run("clinet")[0] == "first: clinet\n"
+
+
+def stops(tree):
+    room = f"{tree.top} logs"
+    os.makedirs(room)
+    started = tree.start("desk", RT_SLEEPS="3", TMPDIR=room, start_new_session=True)
+    while not os.listdir(room):
+        time.sleep(0.05)
+    os.killpg(started.pid, signal.SIGINT)
+    started.communicate("", timeout=60)
+    yield f"a_build_that_is_stopped_leaves_no_log: {os.listdir(room)}", os.listdir(room) == []
+    yield "and_is_gone_on_with", tree.run("desk")[0] == "first: desk\n"
+
+
 def places(tree):
     room = os.path.dirname(tree.top)
     os.makedirs(f"{room}/elsewhere/bin", exist_ok=True)
@@ -178,7 +200,7 @@ def faults(tree):
 def main():
     results = {}
     with tempfile.TemporaryDirectory() as room:
-        for part in (first_run, changes, texts, places, together, faults):
+        for part in (first_run, changes, texts, words, stops, places, together, faults):
             results.update(part(Tree(room, f"a tree for {part.__name__}")))
     return tally.told("launcher", results)
 

@@ -473,9 +473,29 @@ def saves(at):
         printed, told, status = room.run(server.port, 0, b"save " + f"{at}/".encode() + b"\xff\n")
         yield f"saving_to_no_text: {printed} {told} {status}", printed == [] and (status == 0 and told == [] or status == 1 and is_told(told))
         yield "the_old_log_stays", read(log) == before and not [it for it in os.listdir(at) if it.startswith("log.")]
+        yield from saved_over(room, server.port, at)
     with Server(room) as server:
         ended = room.run(server.port, 0, b"save %b\n" % log.encode())
         yield f"no_commits_saved: {ended}", ended == ([], [], 0) and read(log) == b""
+
+
+def saved_over(room, port, at):
+    """What is there and is no log is left as it is: a key above all; and a file whose name a log might have had on its way."""
+    key, other = room.key_files[0], f"{at}/other"
+    with open(other, "wb") as file:
+        file.write(b"a text of somebody's")
+    os.symlink(other, f"{at}/a_link")
+    for name in ("log.new", "other.new"):
+        with open(f"{at}/{name}", "wb") as file:
+            file.write(b"a bystander")
+    for path in (key, room.publics[0], f"{key}.lock", other, f"{at}/a_link"):
+        before = read(path)
+        printed, told, status = room.run(port, 0, b"save %b\nls /x\n" % path.encode())
+        is_right = printed == [] and status == 1 and is_told(told, path) and read(path) == before
+        yield f"saving_over_{os.path.basename(path)}: {printed} {told} {status}", is_right
+    room.run(port, 0, b"save %b\n" % f"{at}/log".encode())
+    yield "bystanders_stay", [read(f"{at}/{name}") for name in ("log.new", "other.new")] == [b"a bystander"] * 2
+    os.remove(f"{at}/log.new")
 
 
 def streams(at):

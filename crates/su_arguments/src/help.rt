@@ -112,10 +112,11 @@ in the folder `folder`, and goes on from there when it is started again. A
 commit is on the disk before anybody is told of it. Without --store all is kept
 in memory: with its end it is gone, but for what clients saved.
 
-It listens on all addresses of this machine. Whoever connects can read, and can
-take the turn: a session that takes it and then says nothing keeps it, and its
-worker, until it ends. Standard error tells when it listens, and at its end what
-it served.";
+It listens on 127.0.0.1, so that only this machine reaches it, and tunnels that
+end there; --listen 0.0.0.0 opens it to all addresses. Whoever connects can
+read, and can take the turn: a session that takes it and then says nothing keeps
+it, and its worker, until it ends. Standard error tells when it listens, and at
+its end what it served.";
 
 pub const BACKUP_ABOUT: &str = "Copies what a running server has stored into a folder
 

@@ -8,16 +8,18 @@ use crate::line::{Line, LineFault};
 use crate::options::{copy, keys_of, needed, needed_keys, usage};
 use clap::{Arg, ArgMatches, Command};
 use std::alloc::{AllocError, Global};
+use std::net::{IpAddr, Ipv4Addr};
 
 /// How many MiB of items a server with a store has in memory at most, where nothing else is asked.
 const CACHE: u32 = 256;
 
-/// A server on a port, 1 to 65535, with 1 to 16 workers, over a book of 1 to 1,000,000 commits of users
+/// A server on an address of this machine and a port, 1 to 65535, with 1 to 16 workers, over a book of 1 to 1,000,000 commits of users
 /// with the public keys in these files, 1 to 64 of them: for so many sessions, 1 to 1,000,000, or until
 /// it is ended. What is stored is kept in a folder, or in memory alone; with a folder so many MiB of
 /// items are in memory at most, 1 to 1,000,000.
 #[derive(Debug, Drop)]
 pub struct ServeArgs {
+    pub listen: IpAddr,
     pub port: u16,
     pub workers: usize,
     pub capacity: u64,
@@ -46,6 +48,11 @@ pub(crate) fn serve_command<'a>(alloc: Global) -> Result<Command<'a>, AllocError
         .long_about(SERVE_ABOUT);
     let port = needed_port(alloc).help("The port that it listens on, 1 to 65535");
     let command = command.arg(port)?;
+    let listen = Arg::new(alloc, "listen")
+        .long("listen")
+        .value_name("ADDR")
+        .help("The address of this machine that it listens on; else 127.0.0.1");
+    let command = command.arg(listen)?;
     let workers = needed(alloc, "workers", "W")
         .value_parser(clap::value_parser!(usize).range(1..17))
         .help("How many sessions it serves at a time, 1 to 16");
@@ -117,7 +124,7 @@ fn needed_port<'a>(alloc: Global) -> Arg<'a> {
     needed(alloc, "port", "P").value_parser(clap::value_parser!(u16).range(1..65_536))
 }
 
-/// `serve --port P --workers W --capacity C [--sessions N] [--store DIR [--cache MIB]] PUB..`
+/// `serve --port P [--listen ADDR] --workers W --capacity C [--sessions N] [--store DIR [--cache MIB]] PUB..`
 pub(crate) fn serve_of(alloc: Global, values: &ArgMatches<'_>) -> Result<Line, LineFault>
     ensures { IfOk result HasGoodNumbers }
 {
@@ -131,6 +138,9 @@ pub(crate) fn serve_of(alloc: Global, values: &ArgMatches<'_>) -> Result<Line, L
             "error: an option is missing, or its number out of range",
         ));
     };
+    let Some(listen) = listen_of(values) else {
+        return Err(usage(alloc, "error: --listen takes an IP address of this machine"));
+    };
     let store = copy(alloc, values.get_str("store"))?;
     let cache = cache_of(values);
     if store.is_none() && cache.is_some() {
@@ -138,6 +148,7 @@ pub(crate) fn serve_of(alloc: Global, values: &ArgMatches<'_>) -> Result<Line, L
     }
     let keys = keys_of(alloc, values)?;
     Ok(Line::Serve(ServeArgs {
+        listen,
         port,
         workers,
         capacity,
@@ -196,6 +207,14 @@ fn port_of(values: &ArgMatches<'_>) -> Option<u16>
     ensures { IfSome result IsPort }
 {
     values.get_one::<u16>("port").filter(|port| 1 <= *port)
+}
+
+/// The address that is asked for, 127.0.0.1 where none is; `None` where it is no address.
+fn listen_of(values: &ArgMatches<'_>) -> Option<IpAddr> {
+    match values.get_str("listen") {
+        Some(text) => text.parse::<IpAddr>().ok(),
+        None => Some(IpAddr::V4(Ipv4Addr::LOCALHOST)),
+    }
 }
 
 fn workers_of(values: &ArgMatches<'_>) -> Option<usize>

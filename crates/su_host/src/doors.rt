@@ -1,5 +1,5 @@
-// The gate of a server at a port.
-use std::net::{Ipv4Addr, Net, TcpListener, TcpStream};
+// The gate of a server at an address.
+use std::net::{IpAddr, Ipv4Addr, Net, SocketAddr, TcpListener, TcpStream};
 use su_seat_service::Gate;
 use su_server::Stop;
 
@@ -10,18 +10,16 @@ pub(crate) struct Door<'a, T> {
     pub rt: &'a HostRuntime,
     pub host: &'a T,
     pub stop: &'a Stop,
-    pub port: u16,
+    pub address: SocketAddr,
     pub sessions: Option<u32>,
 }
 
 impl<T: Net<Listener = TcpListener, Stream = TcpStream>> Gate for Door<'_, T> {
     fn open(&self) {
-        let port = self.port;
+        let address = self.address;
         let _ = match self.sessions {
-            Some(count) => {
-                eprintln!(self.rt; "sundr: listening on 0.0.0.0:{port} for {count} sessions")
-            }
-            None => eprintln!(self.rt; "sundr: listening on 0.0.0.0:{port} until it is ended"),
+            Some(count) => eprintln!(self.rt; "sundr: listening on {address} for {count} sessions"),
+            None => eprintln!(self.rt; "sundr: listening on {address} until it is ended"),
         };
     }
 
@@ -30,7 +28,17 @@ impl<T: Net<Listener = TcpListener, Stream = TcpStream>> Gate for Door<'_, T> {
     // The server waits for a connection, so it is given one.
     fn leave(&self, _session: u64) {
         if self.stop.is_set() {
-            let _ = TcpStream::connect(self.host, (Ipv4Addr::LOCALHOST, self.port));
+            let _ = TcpStream::connect(self.host, reachable(self.address));
         }
+    }
+}
+
+/// An address at which a server that listens on this one is reached from this machine.
+fn reachable(address: SocketAddr) -> SocketAddr {
+    match address {
+        SocketAddr::V4(_) if address.ip().is_unspecified() => {
+            SocketAddr::new(IpAddr::V4(Ipv4Addr::LOCALHOST), address.port())
+        }
+        _ => address,
     }
 }

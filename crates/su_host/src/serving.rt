@@ -1,4 +1,4 @@
-// Serving a shared folder at a port.
+// Serving a shared folder at an address.
 ghost use Rattle.std.specs.Prelude.{◌≡◌, ◌↔◌, []};
 ghost use Rattle.su_store_files.specs.Volumes.{WereSound};
 
@@ -9,7 +9,7 @@ use crate::settings::Setting;
 use crate::stores::{DiskFile, FULL, Folder, options};
 use std::alloc::{AllocError, Global};
 use std::marker::Brand;
-use std::net::{Ipv4Addr, Net, TcpListener, TcpStream};
+use std::net::{Net, SocketAddr, TcpListener, TcpStream};
 use std::sync::Wait;
 use std::thread::Threads;
 use su_bytes::Roster;
@@ -27,12 +27,12 @@ use su_vault::{Shelf, Vault, Volume};
 /// How many bytes a MiB has.
 const MIB: usize = 1_048_576;
 
-/// What a server is asked for: its port, how many workers it has and commits it may store, after
+/// What a server is asked for: its address, how many workers it has and commits it may store, after
 /// how many sessions it ends, if so, the folder in which it keeps what is stored, if there is one,
 /// and how many MiB those records and items may take in memory that are kept there too.
 #[derive(Clone, Copy)]
 pub struct Options<'a> {
-    pub port: u16,
+    pub address: SocketAddr,
     pub workers: usize,
     pub capacity: u64,
     pub sessions: Option<u32>,
@@ -43,13 +43,13 @@ pub struct Options<'a> {
 /// The same, without the folder.
 #[derive(Clone, Copy)]
 struct Terms {
-    port: u16,
+    address: SocketAddr,
     workers: usize,
     capacity: u64,
     sessions: Option<u32>,
 }
 
-/// Serves the sessions of a port over a book for the users of a roster, and returns whether it ended
+/// Serves the sessions of an address over a book for the users of a roster, and returns whether it ended
 /// without a fault. With a store the book goes on from what is kept there, and each commit is on the
 /// disk before anybody is told of it. Standard error tells when it listens, what it served, and each
 /// fault: of the store's file, of the port, of a record that isn't taken up again, of a commit that
@@ -63,7 +63,7 @@ where
     };
     let stop = Stop::new();
     let terms = Terms {
-        port: options.port,
+        address: options.address,
         workers: options.workers,
         capacity: options.capacity,
         sessions: options.sessions,
@@ -174,11 +174,11 @@ where
     T: Net<Listener = TcpListener, Stream = TcpStream> + Threads + Wait + Sync,
     requires { K.holds keeper [] }
 {
-    let port = terms.port;
-    match TcpListener::bind(setting.host, (Ipv4Addr::UNSPECIFIED, port)) {
+    let address = terms.address;
+    match TcpListener::bind(setting.host, address) {
         Ok(listener) => serve_at(setting, terms, roster, &listener, keeper),
         Err(reason) => {
-            let fault = format_args!("listening on port {port}: {reason}");
+            let fault = format_args!("listening on {address}: {reason}");
             (tell_fault(setting.rt, fault), Some(keeper))
         }
     }
@@ -204,7 +204,7 @@ where
         rt,
         host,
         stop,
-        port: terms.port,
+        address: terms.address,
         sessions,
     };
     let (workers, capacity) = (terms.workers, terms.capacity);

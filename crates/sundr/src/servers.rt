@@ -4,7 +4,7 @@ ghost use Rattle.su_arguments.specs.Ranges.{IsUserCount};
 
 use crate::faults::tell_fault;
 use crate::rosters::read_roster;
-use std::net::{Net, TcpListener, TcpStream};
+use std::net::{Net, SocketAddr, TcpListener, TcpStream};
 use std::sync::Wait;
 use std::thread::Threads;
 use su_arguments::ServeArgs;
@@ -28,7 +28,7 @@ where
         Err(reason) => return tell_fault(rt, reason),
     };
     let options = Options {
-        port: args.port,
+        address: SocketAddr::new(args.listen, args.port),
         workers: args.workers,
         capacity: args.capacity,
         sessions: args.sessions,
