@@ -21,6 +21,10 @@ IsWorkerCount n = (1 ≤ n) × (n ≤ 16)
 abbrev pub IsCapacity : ℕ → Type 0
 IsCapacity n = (1 ≤ n) × (n ≤ 1000000)
 
+-- for how many seconds of its turn a session may be silent
+abbrev pub IsTurnLimit : ℕ → Type 0
+IsTurnLimit n = (1 ≤ n) × (n ≤ 3600)
+
 -- how many sessions a server may serve
 abbrev pub IsSessionCount : ℕ → Type 0
 IsSessionCount n = (1 ≤ n) × (n ≤ 1000000)

@@ -1,7 +1,7 @@
 // The command lines of a server, of its clients, and of its backups.
 ghost use Rattle.std.specs.Prelude.{IfOk, IfSome};
 ghost use Rattle.su_arguments.specs.Line.{HasGoodNumbers};
-ghost use Rattle.su_arguments.specs.Ranges.{IsPort, IsUser, IsWorkerCount, IsCapacity, IsSessionCount, IsCacheSize, IsTryCount};
+ghost use Rattle.su_arguments.specs.Ranges.{IsPort, IsUser, IsWorkerCount, IsCapacity, IsTurnLimit, IsSessionCount, IsCacheSize, IsTryCount};
 
 use crate::help::{BACKUP_ABOUT, BACKUP_ANSWERS, CLIENT_ABOUT, SERVE_ABOUT};
 use crate::line::{Line, LineFault};
@@ -15,12 +15,13 @@ const CACHE: u32 = 256;
 
 /// A server on an address of this machine and a port, 1 to 65535, with 1 to 16 workers, over a book of 1 to 1,000,000 commits of users
 /// with the public keys in these files, 1 to 64 of them: for so many sessions, 1 to 1,000,000, or until
-/// it is ended. What is stored is kept in a folder, or in memory alone; with a folder so many MiB of
+/// it is ended. A session that has the turn may be silent for so many seconds of it, 1 to 3,600. What is stored is kept in a folder, or in memory alone; with a folder so many MiB of
 /// items are in memory at most, 1 to 1,000,000.
 #[derive(Debug, Drop)]
 pub struct ServeArgs {
     pub listen: IpAddr,
     pub port: u16,
+    pub turn_seconds: u32,
     pub workers: usize,
     pub capacity: u64,
     pub sessions: Option<u32>,
@@ -61,6 +62,13 @@ pub(crate) fn serve_command<'a>(alloc: Global) -> Result<Command<'a>, AllocError
         .value_parser(clap::value_parser!(u64).range(1..1_000_001))
         .help("How many commits it keeps, 1 to 1,000,000");
     let command = command.arg(capacity)?;
+    let turn_seconds = Arg::new(alloc, "turn-seconds")
+        .long("turn-seconds")
+        .value_name("S")
+        .value_parser(clap::value_parser!(u32).range(1..3_601))
+        .default_value("60")
+        .help("How many seconds of its turn a session may be silent, 1 to 3,600");
+    let command = command.arg(turn_seconds)?;
     let sessions = Arg::new(alloc, "sessions")
         .long("sessions")
         .value_name("N")
@@ -124,14 +132,16 @@ fn needed_port<'a>(alloc: Global) -> Arg<'a> {
     needed(alloc, "port", "P").value_parser(clap::value_parser!(u16).range(1..65_536))
 }
 
-/// `serve --port P [--listen ADDR] --workers W --capacity C [--sessions N] [--store DIR [--cache MIB]] PUB..`
+/// `serve --port P --workers W --capacity C [--listen ADDR] [--turn-seconds S] [--sessions N]
+/// [--store DIR [--cache MIB]] PUB..`
 pub(crate) fn serve_of(alloc: Global, values: &ArgMatches<'_>) -> Result<Line, LineFault>
     ensures { IfOk result HasGoodNumbers }
 {
-    let (Some(port), Some(workers), Some(capacity)) = (
+    let (Some(port), Some(workers), Some(capacity), Some(turn_seconds)) = (
         port_of(values),
         workers_of(values),
         capacity_of(values),
+        turn_seconds_of(values),
     ) else {
         return Err(usage(
             alloc,
@@ -150,6 +160,7 @@ pub(crate) fn serve_of(alloc: Global, values: &ArgMatches<'_>) -> Result<Line, L
     Ok(Line::Serve(ServeArgs {
         listen,
         port,
+        turn_seconds,
         workers,
         capacity,
         sessions: sessions_of(values),
@@ -229,6 +240,13 @@ fn capacity_of(values: &ArgMatches<'_>) -> Option<u64>
 {
     let capacity = values.get_one::<u64>("capacity");
     capacity.filter(|capacity| 1 <= *capacity && *capacity <= 1_000_000)
+}
+
+fn turn_seconds_of(values: &ArgMatches<'_>) -> Option<u32>
+    ensures { IfSome result IsTurnLimit }
+{
+    let seconds = values.get_one::<u32>("turn-seconds");
+    seconds.filter(|seconds| 1 <= *seconds && *seconds <= 3_600)
 }
 
 fn sessions_of(values: &ArgMatches<'_>) -> Option<u32>

@@ -27,12 +27,14 @@ use su_vault::{Shelf, Vault, Volume};
 /// How many bytes a MiB has.
 const MIB: usize = 1_048_576;
 
-/// What a server is asked for: its address, how many workers it has and commits it may store, after
+/// What a server is asked for: its address, for how many seconds a session may have the turn and be
+/// silent, how many workers it has and commits it may store, after
 /// how many sessions it ends, if so, the folder in which it keeps what is stored, if there is one,
 /// and how many MiB those records and items may take in memory that are kept there too.
 #[derive(Clone, Copy)]
 pub struct Options<'a> {
     pub address: SocketAddr,
+    pub turn_seconds: u32,
     pub workers: usize,
     pub capacity: u64,
     pub sessions: Option<u32>,
@@ -44,6 +46,7 @@ pub struct Options<'a> {
 #[derive(Clone, Copy)]
 struct Terms {
     address: SocketAddr,
+    turn_seconds: u32,
     workers: usize,
     capacity: u64,
     sessions: Option<u32>,
@@ -64,6 +67,7 @@ where
     let stop = Stop::new();
     let terms = Terms {
         address: options.address,
+        turn_seconds: options.turn_seconds,
         workers: options.workers,
         capacity: options.capacity,
         sessions: options.sessions,
@@ -199,7 +203,8 @@ where
 {
     let (rt, host, stop) = (setting.rt, setting.host, setting.stop);
     let sessions = terms.sessions;
-    let connections = Connections::new(listener, stop, sessions.unwrap_or(u32::MAX));
+    let count = sessions.unwrap_or(u32::MAX);
+    let connections = Connections::new(listener, stop, count, terms.turn_seconds);
     let door = Door {
         rt,
         host,

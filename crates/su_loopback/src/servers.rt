@@ -33,7 +33,7 @@ pub(crate) fn serve<R: Threads + Wait + Sync>(
     sessions: u32,
 ) -> Result<Report<Forgetful>, BookFault> {
     let stop = Stop::new();
-    let came = Connections::new(listener, &stop, sessions);
+    let came = Connections::new(listener, &stop, sessions, 60);
     let roster = roster(alloc)?;
     let blocks = SharedBlocks::new(alloc)?;
     let (keeper, gate) = (Forgetful, &OpenGate);

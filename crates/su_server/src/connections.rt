@@ -11,8 +11,11 @@ use su_threads::Duplex;
 /// How many connections in a row may fail before no more are awaited.
 pub const MOST_FAILURES: u32 = 1000;
 
-/// How many milliseconds a read waits for bytes before it looks whether the server is to end.
-const LOOKS_AFTER_MILLIS: u64 = 500;
+/// How many times a second a read that waits for bytes looks whether it is to end.
+const LOOKS_A_SECOND: u32 = 2;
+
+/// How many seconds a write waits for a peer that doesn't read. Then its session ends.
+const WRITES_FOR_SECONDS: u64 = 30;
 
 /// The connections that a listener is offered, as sessions: so many, and then no more. What fails
 /// while it is accepted is no session; after `MOST_FAILURES` such failures in a row no more come,
@@ -22,20 +25,23 @@ pub struct Connections<'a, L> {
     listener: &'a L,
     stop: &'a Stop,
     left: u32,
+    turn_seconds: u32,
 }
 
 impl<'a, L: OpenListener> Connections<'a, L>
 where
     L::Stream: OpenStream,
 {
-    /// Makes the sessions of the next `count` connections.
-    pub fn new(listener: &'a L, stop: &'a Stop, count: u32) -> Connections<'a, L>
+    /// Makes the sessions of the next `count` connections, of which each ends that has the turn and
+    /// is silent for so many seconds of it.
+    pub fn new(listener: &'a L, stop: &'a Stop, count: u32, turn_seconds: u32) -> Connections<'a, L>
         ensures { result.left ≡ count }
     {
         Connections {
             listener,
             stop,
             left: count,
+            turn_seconds,
         }
     }
 
@@ -44,8 +50,11 @@ where
     fn accept(&self) -> io::Result<Duplex<Watched<'a, L::Stream>, L::Stream>> {
         let (writer, _peer) = self.listener.accept()?;
         writer.set_nodelay(true)?;
-        writer.set_read_timeout(Some(Duration::from_millis(LOOKS_AFTER_MILLIS)))?;
-        let reader = Watched::new(writer.try_clone()?, self.stop);
+        let look = Duration::from_millis(u64::from(1000 / LOOKS_A_SECOND));
+        writer.set_read_timeout(Some(look))?;
+        writer.set_write_timeout(Some(Duration::from_secs(WRITES_FOR_SECONDS)))?;
+        let most = self.turn_seconds.saturating_mul(LOOKS_A_SECOND);
+        let reader = Watched::new(writer.try_clone()?, self.stop, most);
         Ok(Duplex { reader, writer })
     }
 }

@@ -4,6 +4,7 @@
 
 mod begins;
 mod exchanges;
+mod incoming;
 mod laws;
 mod links;
 mod services;
@@ -11,6 +12,7 @@ mod sessions;
 mod talks;
 
 pub use begins::Begin;
+pub use incoming::Incoming;
 pub use laws::{all_messages, first_messages};
 pub use services::Service;
 pub use sessions::{End, MOST_READS, Served, serve};

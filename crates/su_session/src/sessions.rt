@@ -4,10 +4,11 @@ ghost use Rattle.su_session.specs.Session.{Serves, Session};
 ghost use Rattle.su_session.specs.Step.{at, Readies, Refills, Steps};
 
 use crate::exchanges::{exchange, give_back, refuse};
+use crate::incoming::Incoming;
 use crate::services::Service;
 use crate::talks::Talk;
 use std::alloc::Global;
-use std::io::{ErrorKind, Read, Write};
+use std::io::{ErrorKind, Write};
 use su_frames::{Frames, Sent};
 
 /// How often a reader is read at most.
@@ -66,7 +67,7 @@ enum Refill {
 /// written before the next message is answered. A message that can't be read is answered by its
 /// refusal; a length that no message has, by its refusal, and then the session ends. A turn that is
 /// held at the end is given back.
-pub fn serve<R: Read, W: Write, S: Service>(
+pub fn serve<R: Incoming, W: Write, S: Service>(
     alloc: Global,
     reader: &mut R,
     writer: &mut W,
@@ -91,7 +92,7 @@ pub fn serve<R: Read, W: Write, S: Service>(
 
 impl Talk {
     /// Answers all messages of a reader.
-    fn converse<R: Read, W: Write, S: Service>(
+    fn converse<R: Incoming, W: Write, S: Service>(
         &mut self,
         alloc: Global,
         reader: &mut R,
@@ -181,8 +182,8 @@ impl Talk {
         }
     }
 
-    /// Reads once, where no whole message waits.
-    fn refill<R: Read>(&mut self, reader: &mut R) -> Refill
+    /// Reads once, where no whole message waits, and tells before whether the turn is held.
+    fn refill<R: Incoming>(&mut self, reader: &mut R) -> Refill
         requires few { self.old.reads < 10000000 }
         requires partial { length self.old.frames < 131076 }
         ensures bytes { Refills self.old (R.remaining reader.old) result
@@ -190,6 +191,7 @@ impl Talk {
         ensures reads { self.new.reads ≡ self.old.reads + 1 }
     {
         self.reads += 1;
+        reader.note_turn(self.turn);
         let mut chunk = [0u8; CHUNK];
         match reader.read(&mut chunk) {
             Ok(0) => Refill::Ended,

@@ -6,8 +6,8 @@ ghost use Rattle.su_session.specs.declared.sessions.Served.{Served};
 ghost use Rattle.su_session.specs.Session.{Serves};
 
 use std::alloc::Global;
-use std::io::{Read, Write};
-use su_session::{Served, Service, serve};
+use std::io::Write;
+use su_session::{Incoming, Served, Service, serve};
 
 /// Is what one session runs over.
 pub trait Link {
@@ -28,7 +28,7 @@ pub struct Duplex<R, W> {
     pub writer: W,
 }
 
-impl<R: Read + Drop, W: Write + Drop> Link for Duplex<R, W> {
+impl<R: Incoming + Drop, W: Write + Drop> Link for Duplex<R, W> {
     ghost runs = { λ answers link s served t. (known' held' : Option (List ℕ))
         × Serves answers s (R.remaining link.reader) (W.contents link.writer)
         served t known' held' };

@@ -29,6 +29,7 @@ where
     };
     let options = Options {
         address: SocketAddr::new(args.listen, args.port),
+        turn_seconds: args.turn_seconds,
         workers: args.workers,
         capacity: args.capacity,
         sessions: args.sessions,
