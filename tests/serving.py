@@ -142,10 +142,10 @@ def free_port():
 class Server(Running):
     """A server, which listens once this is made."""
 
-    def __init__(self, room, workers=4, capacity=1000, sessions=1000, port=None):
+    def __init__(self, room, *more, workers=4, capacity=1000, sessions=1000, port=None):
         self.port = port or free_port()
         numbers = ("--port", self.port, "--workers", workers, "--capacity", capacity, "--sessions", sessions)
-        super().__init__(["serve", *numbers, *room.publics])
+        super().__init__(["serve", *numbers, *more, *room.publics])
         self.said = self.told.next()
 
 
@@ -812,6 +812,77 @@ def busy(at):
         other.close()
 
 
+def silent(at):
+    """Who has the turn and says nothing loses it, and the session; who hasn't it may be silent."""
+    if program == MODEL:
+        return
+    room = Room(at)
+    with Server(room, "--turn-seconds", 2, workers=3) as server:
+        holder, idle = raw(server.port), raw(server.port)
+        yield "who_is_silent_has_the_turn", reply_to(holder, wire.GRANT) == ("granted", (0, {}))
+        yield "who_is_idle_has_none", reply_to(idle, wire.fetch(1)) == ("nothing", None)
+        started = time.monotonic()
+        ended = room.run(server.port, 0, b"mkdir /a\n", "--tries", 100000)
+        took = time.monotonic() - started
+        yield f"a_silent_turn_ends: {ended} {took:.1f} s", ended == ([b"ok 1"], [], 0) and 1 < took < 10
+        yield "and_its_session", has_ended(holder)
+        with wire_socket(server.port) as dripping:
+            dripping.sendall(wire.frame(wire.GRANT))
+            dripping.recv(4096)
+            yield "pauses_of_a_turn_add_up", not drips(dripping)
+        yield "who_is_idle_is_answered", reply_to(idle, wire.fetch(1))[0] == "kept"
+        idle.close()
+
+
+def wire_socket(port):
+    return socket.create_connection(("127.0.0.1", port), timeout=WAIT)
+
+
+def drips(link):
+    """Sends eight bytes of a message with pauses. Returns whether the link still stands then."""
+    try:
+        for byte in wire.frame(wire.put(b"x" * 100))[:8]:
+            link.sendall(bytes([byte]))
+            time.sleep(0.8)
+        link.settimeout(0.1)
+        return link.recv(1) != b""
+    except TimeoutError:
+        return True
+    except OSError:
+        return False
+
+
+def has_ended(link):
+    try:
+        link.ask(wire.GRANT)
+    except (wire.LinkEnded, OSError):
+        return True
+    return False
+
+
+def unread(at):
+    """Who asks and doesn't read is ended after a while, and others go on."""
+    if program == MODEL:
+        return
+    room = Room(at)
+    with Server(room, workers=1) as server:
+        link = raw(server.port)
+        _, digest = reply_to(link, wire.put(b"\1" * 65000))
+        link.close()
+        with wire_socket(server.port) as deaf:
+            deaf.settimeout(2)
+            try:
+                for _ in range(2000):
+                    deaf.sendall(wire.frame(wire.get(digest)) * 100)
+            except OSError:
+                pass  # the server waits for this end to read, and this end for the server
+            started = time.monotonic()
+            words = [*program, *map(str, room.words(server.port, 0))]
+            ended = subprocess.run(words, input=b"mkdir /a\n", stdout=subprocess.PIPE, timeout=90)
+            took = time.monotonic() - started
+            yield f"goes_on_beside_who_never_reads: {ended.stdout} {took:.1f} s", ended.stdout == b"ok 1\n" and took < 45
+
+
 def turns(at):
     """A client that stays has given the turn back after each line, whatever came of it."""
     room = Room(at)
@@ -1314,7 +1385,7 @@ def same_log(seed, folder, room, client, team):
 
 PARTS = (
     walk, logs_taken_up, operations, at_once, many_users, at_a_keyboard, lines, saves, streams, faults, keys, signatures, kills,
-    kills_at_calls, busy, turns, many_turns, lies, sessions, bytes_of_sessions, stored_bytes, book, example, by_chance)
+    kills_at_calls, busy, silent, unread, turns, many_turns, lies, sessions, bytes_of_sessions, stored_bytes, book, example, by_chance)
 
 
 def main():
