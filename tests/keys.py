@@ -304,13 +304,61 @@ def failures(room):
         yield f"failed_at_{call}_{which}: {state}, {left}, {ended.stderr}", is_told and is_kept and is_mended
 
 
+# ---- keys that have signed
+
+KEPT = sorted([*MADE, "key.old", "key.pub.old"])
+
+
+def sign(room, count):
+    """The key as it is once it has signed so often."""
+    room.write("key", room.read("key")[:60] + count.to_bytes(4, "big"))
+    return room.standing()
+
+
+def signed_keys(room):
+    """A key that has signed stays under another name, and one that was kept so isn't replaced."""
+    room.keygen(1)
+    signed = sign(room, 5)
+    made = room.keygen(2)
+    told = f"sundr: the key {room.path('key')} has signed, so it is kept as {room.path('key.old')}\n"
+    yield "a_signed_key_is_told", (made.returncode, made.stderr, made.stdout) == (0, told, room.pair(2)[1].hex() + "\n")
+    yield "and_kept", (room.read("key.old"), room.read("key.pub.old")) == signed and room.names() == KEPT
+    yield "and_replaced", room.standing() == room.pair(2)
+    yield "one_that_never_signed_isn't", room.keygen(3).returncode == 0 and room.standing() == room.pair(3) and room.names() == KEPT
+    again = sign(room, 1)
+    made = room.keygen(4)
+    is_told = made.stderr == f"sundr: {room.path('key.old')} is an old key that was kept before: move it elsewhere first\n"
+    yield f"a_kept_key_isn't_replaced: {made.stderr}", (made.returncode, made.stdout) == (1, "") and is_told
+    yield "and_all_is_left", room.standing() == again and (room.read("key.old"), room.read("key.pub.old")) == signed and room.names() == KEPT
+
+
+def kills_of_signed(room):
+    """A kill at each system call loses no key that has signed, and leaves no public key beside another one's key."""
+    room.keygen(1)
+    old, new = sign(room, 7), room.pair(2)
+    log, seen = f"{room.at}/trace", set()
+    traced(room.words(2), "-o", log)
+    states = {old: "old", (old[0], None): "old alone", (None, None): "none", (new[0], None): "new alone", new: "new"}
+    for call, which in list(calls_in(log)):
+        room.clear()
+        room.keygen(1)
+        sign(room, 7)
+        ended = traced(room.words(2), "-o", "/dev/null", "-e", f"inject={call}:signal=KILL:when={which}")
+        state = states.get(room.standing(), "mixed")
+        seen.add(state)
+        is_kept = old[0] in (room.read("key"), room.read("key.old")) and old[1] in (room.read("key.pub"), room.read("key.pub.old"))
+        is_right = ended.returncode in (-9, 137) and state != "mixed" and is_kept
+        yield f"killed_with_a_signed_key_at_{call}_{which}: {state}, {room.names()}", is_right
+    yield f"killed_so_leaves_each_state: {sorted(seen)}", seen == set(states.values())
+
+
 def main():
     results = {}
     if not tally.is_there("keys", PROGRAM):
         return 1
-    parts = [modes, in_the_way, faults, at_once, keys_in_use, a_user_that_is_killed]
+    parts = [modes, in_the_way, faults, at_once, keys_in_use, a_user_that_is_killed, signed_keys]
     if shutil.which("strace"):
-        parts += [kills, failures]
+        parts += [kills, failures, kills_of_signed]
     else:
         print("keys: there is no strace, so no key maker is killed, or fails, at each of its calls")
     for part in parts:

@@ -63,8 +63,9 @@ let them stand in no file. In bash and zsh
         --height 10 --width 8
 
 leaves none. The key goes to the file `key`, for its owner alone, and the public
-key to `key.pub`. Plain files that stood there are replaced, a pair by a pair;
-anything else is left as it is.";
+key to `key.pub`. Plain files that stood there are replaced, a pair by a pair,
+but for a key that has signed: it stays, as `key.old` beside `key.pub.old`, and
+where these are there already nothing is done. Anything else is left as it is.";
 
 pub const AUDIT_ABOUT: &str = "Audits a log of commits, as a client's view of user 0 takes them
 

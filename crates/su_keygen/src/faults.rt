@@ -25,6 +25,9 @@ pub enum KeygenFault {
     /// What stands at the path is a folder, a link, a device or a pipe, which no key replaces.
     #[error("{path} is no plain file, and is left as it is")]
     InTheWay { path: String },
+    /// At the path stands an old key that was kept before, and isn't replaced by another one.
+    #[error("{path} is an old key that was kept before: move it elsewhere first")]
+    OldStands { path: String },
     /// Another process uses the key at the path, or its lock can't be had.
     #[error(transparent)]
     Lock(#[from] LockFault),

@@ -100,7 +100,7 @@ fn new_key<T: Threads + Sync>(
 /// Reads the entropy in a file. No more than 49 bytes are read, so a file may have no end.
 fn read_entropy(rt: &HostRuntime, path: &str) -> Result<Entropy, KeygenFault> {
     let alloc = rt.alloc();
-    let bytes = match File::open(rt, path).and_then(|file| first_bytes(alloc, file)) {
+    let bytes = match File::open(rt, path).and_then(|file| first_bytes(alloc, file, 49)) {
         Ok(bytes) => bytes,
         Err(reason) => return Err(KeygenFault::unread(alloc, path, reason)),
     };
@@ -117,12 +117,16 @@ fn read_entropy(rt: &HostRuntime, path: &str) -> Result<Entropy, KeygenFault> {
     })
 }
 
-/// Reads to the end, or 49 bytes.
-fn first_bytes<F: Read + Drop>(alloc: Global, reader: F) -> io::Result<Vec<u8>>
+/// Reads to the end, or so many bytes.
+pub(crate) fn first_bytes<F: Read + Drop>(
+    alloc: Global,
+    reader: F,
+    count: u64,
+) -> io::Result<Vec<u8>>
     ensures { IfOk result (λ bytes. (input : List ℕ) → F.remaining reader ≡ Some input →
-        bytes.items ≡ take 49 input) }
+        bytes.items ≡ take count input) }
 {
     let mut bytes = Vec::new(alloc);
-    reader.take(49).read_to_end(&mut bytes)?;
+    reader.take(count).read_to_end(&mut bytes)?;
     Ok(bytes)
 }

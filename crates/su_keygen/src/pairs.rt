@@ -7,7 +7,9 @@
 // 3. The key is locked, as each process does that signs with it, so that no key in use is replaced.
 // 4. What a run that was stopped left is removed, and standard error tells of it.
 // 5. Both are written whole under names of this run: the old pair stands, and perhaps these.
-// 6. The old public key is removed: the old key stands alone.
+// 6. The old public key is removed: the old key stands alone. Where that has signed, both get names
+//    that end in .old in its place, first the public key: so no key is lost that somebody's commits
+//    are signed with. Nothing is replaced where such an old key stands already.
 // 7. The new key takes its name: the new key stands alone.
 // 8. The new public key takes its name: the new pair stands.
 //
@@ -21,12 +23,14 @@ ghost use Rattle.std.specs.List.{list_all};
 ghost use Rattle.su_keygen.specs.Unfinished.{IsPart, IsUnfinished};
 
 use crate::faults::KeygenFault;
+use crate::keygen::first_bytes;
 use std::alloc::{AllocError, Global};
 use std::fs::{DirEntry, File, OpenFile, OpenOptions, TryLockError};
 use std::io::{ErrorKind, Write};
 use std::os::unix::fs::OpenOptionsExt;
 use std::{fs, io, process};
 use su_kept_key::lock_key;
+use su_lms::KeyFile;
 
 /// Only the owner may read or write.
 const PRIVATE: u32 = 0o600;
@@ -41,6 +45,8 @@ struct Places {
     public: String,
     new_key: String,
     new_public: String,
+    old_key: String,
+    old_public: String,
 }
 
 impl Places {
@@ -51,14 +57,17 @@ impl Places {
             public: format!(in alloc; "{out}.pub")?,
             new_key: format!(in alloc; "{out}.part.{run}")?,
             new_public: format!(in alloc; "{out}.pub.part.{run}")?,
+            old_key: format!(in alloc; "{out}.old")?,
+            old_public: format!(in alloc; "{out}.pub.old")?,
         })
     }
 }
 
 /// Writes a key to the file `out`, and its public key to `out.pub`, over what stood there. A fault
 /// before the old public key is removed leaves the old pair, and besides at most `out.lock`; a later
-/// one leaves what a run does that is stopped there. Faults in order: `NoName`; `Folder`;
-/// `InTheWay`; `Lock`, where another process uses the key or its lock can't be had; `Unwritten`.
+/// one leaves what a run does that is stopped there. A key that has signed stays, as `out.old` beside
+/// `out.pub.old`, and standard error tells of it. Faults in order: `NoName`; `Folder`; `InTheWay`;
+/// `Lock`, where another process uses the key or its lock can't be had; `OldStands`; `Unwritten`.
 /// `NoMemory` can come at any time, and so can `Folder`.
 pub fn keep_pair(
     rt: &HostRuntime,
@@ -79,15 +88,80 @@ pub fn keep_pair(
     leave_others(rt, places.public.as_str())?;
     let _key_lock = lock_key(rt, places.key.as_str())?;
     remove_left(rt, folder, name).map_err(in_folder)?;
+    let has_signed = has_signed(rt, places.key.as_str())?;
+    if has_signed {
+        leave_old(rt, places.old_key.as_str())?;
+    }
     let prepared = write_new(rt, places.new_key.as_str(), key, PRIVATE)
         .and_then(|()| write_new(rt, places.new_public.as_str(), public, PUBLIC))
-        .and_then(|()| remove_old(rt, places.public.as_str()));
+        .and_then(|()| clear_names(rt, &locked, &places, has_signed));
     if prepared.is_err() {
         let _ = fs::remove_file(rt, places.new_key.as_str());
         let _ = fs::remove_file(rt, places.new_public.as_str());
     }
     prepared?;
     take_names(rt, &locked, &places)
+}
+
+/// Whether what stands at a path is a key that has signed. One that can't be read is told as
+/// `Unwritten`, since it isn't replaced.
+fn has_signed(rt: &HostRuntime, path: &str) -> Result<bool, KeygenFault> {
+    let alloc = rt.alloc();
+    let bytes = match File::open(rt, path).and_then(|file| first_bytes(alloc, file, 65)) {
+        Ok(bytes) => bytes,
+        Err(reason) if reason.kind() == ErrorKind::NotFound => return Ok(false),
+        Err(reason) => return Err(KeygenFault::unwritten(alloc, path, reason)),
+    };
+    match KeyFile::decode(bytes.as_slice()) {
+        Ok(file) => Ok(0 < file.next),
+        Err(_) => Ok(false),
+    }
+}
+
+/// Refuses to replace an old key that was kept before.
+fn leave_old(rt: &HostRuntime, path: &str) -> Result<(), KeygenFault> {
+    match fs::symlink_metadata(rt, path) {
+        Err(reason) if reason.kind() == ErrorKind::NotFound => Ok(()),
+        Err(reason) => Err(KeygenFault::unwritten(rt.alloc(), path, reason)),
+        Ok(_) => Err(KeygenFault::OldStands {
+            path: String::from_str(rt.alloc(), path)?,
+        }),
+    }
+}
+
+/// Takes the names from the old pair: its public key goes, or both get names of their own where the
+/// key has signed.
+fn clear_names(
+    rt: &HostRuntime,
+    folder: &File,
+    places: &Places,
+    has_signed: bool,
+) -> Result<(), KeygenFault> {
+    if !has_signed {
+        return remove_old(rt, places.public.as_str());
+    }
+    let (key, public) = (places.key.as_str(), places.public.as_str());
+    let (old_key, old_public) = (places.old_key.as_str(), places.old_public.as_str());
+    move_if_there(rt, public, old_public)?;
+    let moved = folder
+        .sync_all()
+        .and_then(|()| fs::rename(rt, key, old_key));
+    if let Err(reason) = moved {
+        let _ = fs::rename(rt, old_public, public);
+        return Err(KeygenFault::unwritten(rt.alloc(), key, reason));
+    }
+    let _ = eprintln!(rt; "sundr: the key {key} has signed, so it is kept as {old_key}");
+    Ok(())
+}
+
+/// Gives a file another name, if it is there.
+fn move_if_there(rt: &HostRuntime, from: &str, to: &str) -> Result<(), KeygenFault> {
+    match fs::rename(rt, from, to) {
+        Err(reason) if reason.kind() != ErrorKind::NotFound => {
+            Err(KeygenFault::unwritten(rt.alloc(), from, reason))
+        }
+        _ => Ok(()),
+    }
 }
 
 /// Splits a path before its last name. `None` where it ends in none.
