@@ -81,7 +81,7 @@ def bytes_of(store):
 def ends(at):
     room, store, log = Room(at), f"{at}/store", f"{at}/log"
     with Keeping(room, store) as server:
-        yield f"listens: {server.said}", b"listening" in server.said
+        yield f"listens: {server.said}", f"listening on 127.0.0.1:{server.port} with 0 records, until".encode() in server.said
         with room.client(server.port, 0) as ann:
             yield "stores", ann.say(b"mkdir /d") == [b"ok 1"] and ann.say(b"create /d/f") == [b"ok 2"]
             yield "writes", ann.say(b"write /d/f 0 6869") == [b"ok 3"]
@@ -91,6 +91,7 @@ def ends(at):
         replied = serving.session_of(server.port, [serving.ASKED])
         yield f"all_requests_of_a_server_with_a_store: {replied}", replied == serving.TOLD
     with Keeping(room, store, sessions=3) as server:
+        yield f"tells_how_many_records: {server.said}", b" with 3 records, for 3 sessions" in server.said
         with room.client(server.port, 1) as bob:
             yield "shows_what_was_stored", bob.say(b"cat /d/f 0 9") == [b"6869"]
             yield "goes_on", bob.say(b"create /e") == [b"ok 4", b"ok 5"]

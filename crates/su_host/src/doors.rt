@@ -3,8 +3,8 @@ use std::net::{IpAddr, Ipv4Addr, Net, SocketAddr, TcpListener, TcpStream};
 use su_seat_service::Gate;
 use su_server::Stop;
 
-/// The gate of a server: it tells on standard error when sessions may come, and ends the wait for
-/// the next one once the server is to end.
+/// The gate of a server: it tells on standard error when sessions may come, and over how many
+/// records, and ends the wait for the next one once the server is to end.
 #[derive(Drop)]
 pub(crate) struct Door<'a, T> {
     pub rt: &'a HostRuntime,
@@ -15,11 +15,15 @@ pub(crate) struct Door<'a, T> {
 }
 
 impl<T: Net<Listener = TcpListener, Stream = TcpStream>> Gate for Door<'_, T> {
-    fn open(&self) {
+    fn open(&self, records: u64) {
         let address = self.address;
         let _ = match self.sessions {
-            Some(count) => eprintln!(self.rt; "sundr: listening on {address} for {count} sessions"),
-            None => eprintln!(self.rt; "sundr: listening on {address} until it is ended"),
+            Some(count) => eprintln!(self.rt;
+                "sundr: listening on {address} with {records} records, for {count} sessions"
+            ),
+            None => eprintln!(self.rt;
+                "sundr: listening on {address} with {records} records, until it is ended"
+            ),
         };
     }
 

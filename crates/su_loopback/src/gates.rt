@@ -38,7 +38,7 @@ struct Meeting<'a, R> {
 }
 
 impl<'a, R: Clock> Gate for Meeting<'a, R> {
-    fn open(&self) {}
+    fn open(&self, _records: u64) {}
 
     fn enter(&self, session: u64) {
         if self.entered.fetch_add(1, Ordering::SeqCst) != 0 {

@@ -8,8 +8,8 @@ use su_session::{Begin, Service};
 
 /// Is opened before the first session comes, and passed before and after each request of a session.
 pub trait Gate {
-    /// Is opened, once.
-    fn open(&self);
+    /// Is opened, once, over a book that has so many records by then.
+    fn open(&self, records: u64);
 
     /// Lets a request of this session in.
     fn enter(&self, session: u64);
@@ -23,7 +23,7 @@ pub trait Gate {
 pub struct OpenGate;
 
 impl Gate for OpenGate {
-    fn open(&self) {}
+    fn open(&self, _records: u64) {}
 
     fn enter(&self, _session: u64) {}
 

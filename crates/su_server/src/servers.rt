@@ -133,16 +133,18 @@ where
         ⊎ (f ≡ Refused LinkFailed) ⊎ (f ≡ Refused NoMemory)
         ⊎ ((n : ℕ) × (0 < n) × IsRecordFault K.may_fail 0 n f)) }
 {
-    let (book, first, _) = SharedBook::<N, K>::open(alloc, cells, roster, blank, keeper)?;
-    let (sessions, seats) = serve_at(rt, alloc, sessions, workers, &book, blocks, first, gate)?;
+    let (book, first, records) = SharedBook::<N, K>::open(alloc, cells, roster, blank, keeper)?;
+    let (sessions, seats) = serve_at(
+        rt, alloc, sessions, workers, &book, blocks, first, records, gate,
+    )?;
     let Ok(closed) = book.close(seats) else {
         return Err(BookFault::Refused(Refusal::LinkFailed));
     };
     Ok(Report { sessions, closed })
 }
 
-/// Serves all sessions over this book, whose first seat is that of the first worker, and hands the
-/// workers' seats back.
+/// Serves all sessions over this book of so many records, whose first seat is that of the first
+/// worker, and hands the workers' seats back.
 fn serve_at<N, K, R, I, L, G>(
     rt: &R,
     alloc: Global,
@@ -151,6 +153,7 @@ fn serve_at<N, K, R, I, L, G>(
     book: &SharedBook<N, K>,
     blocks: &SharedBlocks,
     first: Seat<N>,
+    records: u64,
     gate: &G,
 ) -> Result<(Vec<Served>, Vec<Seat<N>>), Refusal>
 where
@@ -171,7 +174,7 @@ where
 {
     match services_of(rt, alloc, workers, book, blocks, first, gate) {
         Ok(services) => {
-            gate.open();
+            gate.open(records);
             let (all, back) = serve_all(rt, alloc, sessions, services)?;
             Ok((all, seats_of(alloc, back)?))
         }
