@@ -2,3 +2,4 @@ mod TaggedLemmas
 mod LastNumbersLemmas
 mod RequestLemmas
 mod ReplyLemmas
+pub mod Public

@@ -6,14 +6,10 @@ mod digests;
 mod last_numbers;
 mod laws;
 mod replies;
-mod reply_tags;
-mod request_tags;
 mod requests;
 
 pub use byte_strings::Bytes;
 pub use last_numbers::LastNumbers;
 pub use laws::no_message_begins_another;
 pub use replies::Reply;
-pub use reply_tags::ReplyTag;
-pub use request_tags::RequestTag;
 pub use requests::Request;

@@ -1,5 +1,5 @@
 // Replies, in bytes.
-ghost use Rattle.std.specs.Prelude.{◌≡◌, ◌⊎◌, ◌++◌, ◌∷◌, Ok, Err, IfOk, IfErr, OnOk};
+ghost use Rattle.std.specs.Prelude.{◌≡◌, ◌⊎◌, ◌++◌, ◌∷◌, Ok, Err, IfOk, IfSome, IfNone, OnOk};
 ghost use Rattle.su_bytes.specs.declared.refusals.Refusal.TheVariants.{NoMemory};
 ghost use Rattle.su_bytes.specs.Refusal.{refusal_number};
 ghost use Rattle.su_format.specs.Reading.{Takes};
@@ -7,15 +7,12 @@ ghost use Rattle.su_format.specs.Part.{u64_bytes};
 ghost use Rattle.su_message.specs.LastNumbers.{AreLast, users_bytes};
 ghost use Rattle.su_message.specs.declared.replies.Reply.{Reply as Reply_};
 ghost use Rattle.su_message.specs.declared.replies.Reply.TheVariants as reply;
-ghost use Rattle.su_message.specs.declared.reply_tags.ReplyTag.TheVariants as tag;
-ghost use Rattle.su_message.specs.ReplyTag.{reply_number};
-ghost use Rattle.su_message.specs.Tagged.{ReadsTagged};
-ghost use Rattle.su_message.specs.Reply.{IsReply, field_bytes, reply_bytes, reply_fields, refused_argument};
+ghost use Rattle.su_message.specs.Tagged.{HasNoKind, ReadsTagged, fields_of};
+ghost use Rattle.su_message.specs.Reply.{IsReply, granted_fields, item_fields, kept_fields, put_done_fields, refused_argument, refused_fields, reply_bytes, reply_kinds, stored_fields};
 
 use crate::byte_strings::Bytes;
 use crate::digests::put_digest;
 use crate::last_numbers::LastNumbers;
-use crate::reply_tags::ReplyTag;
 use std::alloc::{AllocError, Global};
 use su_bytes::{Digest, FileId, Refusal};
 use su_format::{Reader, Writer};
@@ -62,8 +59,7 @@ impl Reply {
             IsReply self.now × (bytes.items ≡ reply_bytes self.now)) }
     {
         let mut writer = Writer::with_room(alloc, self.room())?;
-        writer.put_u8(ReplyTag::of(self).number())?;
-        self.write_fields(&mut writer)?;
+        self.write(&mut writer)?;
         Ok(writer.finish())
     }
 
@@ -76,24 +72,43 @@ impl Reply {
         }
     }
 
-    fn write_fields(&self, writer: &mut Writer) -> Result<(), AllocError>
+    /// Writes the number of its kind, and its fields.
+    fn write(&self, writer: &mut Writer) -> Result<(), AllocError>
         ensures { OnOk result
-            (IsReply self.now × (writer.new ≡ writer.old ++ field_bytes self.now)) }
+            (IsReply self.now × (writer.new ≡ writer.old ++ reply_bytes self.now)) }
     {
         match self {
-            Reply::Granted(count, last) => write_granted(writer, *count, last),
-            Reply::Stored(number) => writer.put_u64(*number),
-            Reply::Given => Ok(()),
-            Reply::Kept(bytes) => writer.put_bytes(bytes.as_slice()),
-            Reply::Nothing => Ok(()),
-            Reply::PutDone(digest) => put_digest(writer, digest),
-            Reply::Item(bytes) => writer.put_bytes(bytes.as_slice()),
-            Reply::Refused(number, argument) => write_refused(writer, *number, *argument),
+            Reply::Granted(count, last) => {
+                writer.put_u8(0x81)?;
+                write_granted(writer, *count, last)
+            }
+            Reply::Stored(number) => {
+                writer.put_u8(0x82)?;
+                writer.put_u64(*number)
+            }
+            Reply::Given => writer.put_u8(0x83),
+            Reply::Kept(bytes) => {
+                writer.put_u8(0x84)?;
+                writer.put_bytes(bytes.as_slice())
+            }
+            Reply::Nothing => writer.put_u8(0x85),
+            Reply::PutDone(digest) => {
+                writer.put_u8(0x86)?;
+                put_digest(writer, digest)
+            }
+            Reply::Item(bytes) => {
+                writer.put_u8(0x87)?;
+                writer.put_bytes(bytes.as_slice())
+            }
+            Reply::Refused(number, argument) => {
+                writer.put_u8(0xff)?;
+                write_refused(writer, *number, *argument)
+            }
         }
     }
 
-    /// Returns the reply that a message spells. `UnknownTag` where its first byte is no reply's
-    /// tag; `Malformed` with the place of the first part that isn't there, or of the first byte
+    /// Returns the reply that a message spells. `UnknownTag` where its first byte is the number
+    /// of no kind; `Malformed` with the place of the first part that isn't there, or of the first byte
     /// that is left over; `NoMemory`.
     pub fn decode(alloc: Global, message: &[u8]) -> Result<Reply, Refusal>
         // What is read is spelled so.
@@ -102,7 +117,7 @@ impl Reply {
         ensures only { (r : Reply_) → IsReply r → message.now ≡ reply_bytes r
             → (result ≡ Ok r) ⊎ (result ≡ Err NoMemory) }
         // What is refused has no such part at that place.
-        ensures reads { ReadsTagged reply_number reply_fields message.now result }
+        ensures reads { ReadsTagged reply_kinds message.now result }
     {
         read(alloc, message)
     }
@@ -124,38 +139,41 @@ fn write_refused(writer: &mut Writer, number: u8, argument: u64) -> Result<(), A
     writer.put_u64(argument)
 }
 
-/// Reads the tag, and the fields of that kind, to the end.
+/// Reads the number of a kind, and the fields of that kind, to the end.
 fn read(alloc: Global, message: &[u8]) -> Result<Reply, Refusal>
-    ensures { ReadsTagged reply_number reply_fields message.now result }
+    ensures { ReadsTagged reply_kinds message.now result }
 {
     let mut reader = Reader::new(message);
     let first = reader.take_bytes(1)?;
-    let Some(tag) = ReplyTag::with_number(first[0]) else {
+    let Some(read) = read_fields(alloc, &mut reader, first[0]) else {
         return Err(Refusal::UnknownTag);
     };
-    let reply = read_fields(alloc, &mut reader, tag)?;
+    let reply = read?;
     reader.finish()?;
     Ok(reply)
 }
 
-/// Reads the fields of a reply of that kind.
-fn read_fields(alloc: Global, reader: &mut Reader<'_>, tag: ReplyTag) -> Result<Reply, Refusal>
-    ensures { Takes (reply_fields tag) reader.old result reader.new }
+/// Reads the fields of the kind that has the number. `None` where none has it.
+fn read_fields(alloc: Global, reader: &mut Reader<'_>, number: u8) -> Option<Result<Reply, Refusal>>
+    ensures found { IfSome result (λ read.
+        Takes (fields_of reply_kinds number) reader.old read reader.new) }
+    ensures none { IfNone result (HasNoKind reply_kinds number) }
 {
-    match tag {
-        ReplyTag::Granted => read_granted(alloc, reader),
-        ReplyTag::Stored => read_stored(reader),
-        ReplyTag::Given => Ok(Reply::Given),
-        ReplyTag::Kept => read_kept(alloc, reader),
-        ReplyTag::Nothing => Ok(Reply::Nothing),
-        ReplyTag::PutDone => read_put_done(reader),
-        ReplyTag::Item => read_item(alloc, reader),
-        ReplyTag::Refused => read_refused(reader),
+    match number {
+        0x81 => Some(read_granted(alloc, reader)),
+        0x82 => Some(read_stored(reader)),
+        0x83 => Some(Ok(Reply::Given)),
+        0x84 => Some(read_kept(alloc, reader)),
+        0x85 => Some(Ok(Reply::Nothing)),
+        0x86 => Some(read_put_done(reader)),
+        0x87 => Some(read_item(alloc, reader)),
+        0xff => Some(read_refused(reader)),
+        _ => None,
     }
 }
 
 fn read_granted(alloc: Global, reader: &mut Reader<'_>) -> Result<Reply, Refusal>
-    ensures { Takes (reply_fields tag.Granted) reader.old result reader.new }
+    ensures { Takes granted_fields reader.old result reader.new }
 {
     // names the type for the prover (docs/ARCHITECTURE.md, "Forms the kit wants")
     let _file: Option<FileId> = None;
@@ -165,7 +183,7 @@ fn read_granted(alloc: Global, reader: &mut Reader<'_>) -> Result<Reply, Refusal
 }
 
 fn read_stored(reader: &mut Reader<'_>) -> Result<Reply, Refusal>
-    ensures { Takes (reply_fields tag.Stored) reader.old result reader.new }
+    ensures { Takes stored_fields reader.old result reader.new }
 {
     // names the type for the prover (docs/ARCHITECTURE.md, "Forms the kit wants")
     let _file: Option<FileId> = None;
@@ -174,7 +192,7 @@ fn read_stored(reader: &mut Reader<'_>) -> Result<Reply, Refusal>
 }
 
 fn read_kept(alloc: Global, reader: &mut Reader<'_>) -> Result<Reply, Refusal>
-    ensures { Takes (reply_fields tag.Kept) reader.old result reader.new }
+    ensures { Takes kept_fields reader.old result reader.new }
 {
     // names the type for the prover (docs/ARCHITECTURE.md, "Forms the kit wants")
     let _file: Option<FileId> = None;
@@ -183,7 +201,7 @@ fn read_kept(alloc: Global, reader: &mut Reader<'_>) -> Result<Reply, Refusal>
 }
 
 fn read_put_done(reader: &mut Reader<'_>) -> Result<Reply, Refusal>
-    ensures { Takes (reply_fields tag.PutDone) reader.old result reader.new }
+    ensures { Takes put_done_fields reader.old result reader.new }
 {
     // names the type for the prover (docs/ARCHITECTURE.md, "Forms the kit wants")
     let _file: Option<FileId> = None;
@@ -192,7 +210,7 @@ fn read_put_done(reader: &mut Reader<'_>) -> Result<Reply, Refusal>
 }
 
 fn read_item(alloc: Global, reader: &mut Reader<'_>) -> Result<Reply, Refusal>
-    ensures { Takes (reply_fields tag.Item) reader.old result reader.new }
+    ensures { Takes item_fields reader.old result reader.new }
 {
     // names the type for the prover (docs/ARCHITECTURE.md, "Forms the kit wants")
     let _file: Option<FileId> = None;
@@ -201,7 +219,7 @@ fn read_item(alloc: Global, reader: &mut Reader<'_>) -> Result<Reply, Refusal>
 }
 
 fn read_refused(reader: &mut Reader<'_>) -> Result<Reply, Refusal>
-    ensures { Takes (reply_fields tag.Refused) reader.old result reader.new }
+    ensures { Takes refused_fields reader.old result reader.new }
 {
     // names the type for the prover (docs/ARCHITECTURE.md, "Forms the kit wants")
     let _file: Option<FileId> = None;

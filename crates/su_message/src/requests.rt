@@ -1,16 +1,13 @@
 // Requests, in bytes.
-ghost use Rattle.std.specs.Prelude.{◌≡◌, ◌⊎◌, ◌++◌, Ok, Err, IfOk, IfErr, OnOk};
+ghost use Rattle.std.specs.Prelude.{◌≡◌, ◌⊎◌, ◌++◌, Ok, Err, IfOk, IfSome, IfNone, OnOk};
 ghost use Rattle.su_bytes.specs.declared.refusals.Refusal.TheVariants.{NoMemory};
 ghost use Rattle.su_format.specs.Reading.{Takes};
 ghost use Rattle.su_message.specs.declared.requests.Request.{Request as Request_};
-ghost use Rattle.su_message.specs.declared.request_tags.RequestTag.TheVariants as tag;
-ghost use Rattle.su_message.specs.RequestTag.{request_number};
-ghost use Rattle.su_message.specs.Tagged.{ReadsTagged};
-ghost use Rattle.su_message.specs.Request.{IsRequest, field_bytes, request_bytes, request_fields};
+ghost use Rattle.su_message.specs.Tagged.{HasNoKind, ReadsTagged, fields_of};
+ghost use Rattle.su_message.specs.Request.{IsRequest, commit_fields, fetch_fields, get_fields, put_fields, request_bytes, request_kinds};
 
 use crate::byte_strings::Bytes;
 use crate::digests::put_digest;
-use crate::request_tags::RequestTag;
 use std::alloc::{AllocError, Global};
 use su_bytes::{Digest, FileId, Refusal};
 use su_format::{Reader, Writer};
@@ -39,8 +36,7 @@ impl Request {
             IsRequest self.now × (bytes.items ≡ request_bytes self.now)) }
     {
         let mut writer = Writer::with_room(alloc, self.room())?;
-        writer.put_u8(RequestTag::of(self).number())?;
-        self.write_fields(&mut writer)?;
+        self.write(&mut writer)?;
         Ok(writer.finish())
     }
 
@@ -53,22 +49,35 @@ impl Request {
         }
     }
 
-    fn write_fields(&self, writer: &mut Writer) -> Result<(), AllocError>
+    /// Writes the number of its kind, and its fields.
+    fn write(&self, writer: &mut Writer) -> Result<(), AllocError>
         ensures { OnOk result
-            (IsRequest self.now × (writer.new ≡ writer.old ++ field_bytes self.now)) }
+            (IsRequest self.now × (writer.new ≡ writer.old ++ request_bytes self.now)) }
     {
         match self {
-            Request::Grant => Ok(()),
-            Request::Commit(bytes) => writer.put_bytes(bytes.as_slice()),
-            Request::Give => Ok(()),
-            Request::Fetch(number) => writer.put_u64(*number),
-            Request::Put(bytes) => writer.put_bytes(bytes.as_slice()),
-            Request::Get(digest) => put_digest(writer, digest),
+            Request::Grant => writer.put_u8(1),
+            Request::Commit(bytes) => {
+                writer.put_u8(2)?;
+                writer.put_bytes(bytes.as_slice())
+            }
+            Request::Give => writer.put_u8(3),
+            Request::Fetch(number) => {
+                writer.put_u8(4)?;
+                writer.put_u64(*number)
+            }
+            Request::Put(bytes) => {
+                writer.put_u8(5)?;
+                writer.put_bytes(bytes.as_slice())
+            }
+            Request::Get(digest) => {
+                writer.put_u8(6)?;
+                put_digest(writer, digest)
+            }
         }
     }
 
-    /// Returns the request that a message spells. `UnknownTag` where its first byte is no request's
-    /// tag; `Malformed` with the place of the first part that isn't there, or of the first byte
+    /// Returns the request that a message spells. `UnknownTag` where its first byte is the number
+    /// of no kind; `Malformed` with the place of the first part that isn't there, or of the first byte
     /// that is left over; `NoMemory`.
     pub fn decode(alloc: Global, message: &[u8]) -> Result<Request, Refusal>
         // What is read is spelled so.
@@ -77,42 +86,49 @@ impl Request {
         ensures only { (q : Request_) → IsRequest q → message.now ≡ request_bytes q
             → (result ≡ Ok q) ⊎ (result ≡ Err NoMemory) }
         // What is refused has no such part at that place.
-        ensures reads { ReadsTagged request_number request_fields message.now result }
+        ensures reads { ReadsTagged request_kinds message.now result }
     {
         read(alloc, message)
     }
 }
 
-/// Reads the tag, and the fields of that kind, to the end.
+/// Reads the number of a kind, and the fields of that kind, to the end.
 fn read(alloc: Global, message: &[u8]) -> Result<Request, Refusal>
-    ensures { ReadsTagged request_number request_fields message.now result }
+    ensures { ReadsTagged request_kinds message.now result }
 {
     let mut reader = Reader::new(message);
     let first = reader.take_bytes(1)?;
-    let Some(tag) = RequestTag::with_number(first[0]) else {
+    let Some(read) = read_fields(alloc, &mut reader, first[0]) else {
         return Err(Refusal::UnknownTag);
     };
-    let request = read_fields(alloc, &mut reader, tag)?;
+    let request = read?;
     reader.finish()?;
     Ok(request)
 }
 
-/// Reads the fields of a request of that kind.
-fn read_fields(alloc: Global, reader: &mut Reader<'_>, tag: RequestTag) -> Result<Request, Refusal>
-    ensures { Takes (request_fields tag) reader.old result reader.new }
+/// Reads the fields of the kind that has the number. `None` where none has it.
+fn read_fields(
+    alloc: Global,
+    reader: &mut Reader<'_>,
+    number: u8,
+) -> Option<Result<Request, Refusal>>
+    ensures found { IfSome result (λ read.
+        Takes (fields_of request_kinds number) reader.old read reader.new) }
+    ensures none { IfNone result (HasNoKind request_kinds number) }
 {
-    match tag {
-        RequestTag::Grant => Ok(Request::Grant),
-        RequestTag::Commit => read_commit(alloc, reader),
-        RequestTag::Give => Ok(Request::Give),
-        RequestTag::Fetch => read_fetch(reader),
-        RequestTag::Put => read_put(alloc, reader),
-        RequestTag::Get => read_get(reader),
+    match number {
+        1 => Some(Ok(Request::Grant)),
+        2 => Some(read_commit(alloc, reader)),
+        3 => Some(Ok(Request::Give)),
+        4 => Some(read_fetch(reader)),
+        5 => Some(read_put(alloc, reader)),
+        6 => Some(read_get(reader)),
+        _ => None,
     }
 }
 
 fn read_commit(alloc: Global, reader: &mut Reader<'_>) -> Result<Request, Refusal>
-    ensures { Takes (request_fields tag.Commit) reader.old result reader.new }
+    ensures { Takes commit_fields reader.old result reader.new }
 {
     // names the type for the prover (docs/ARCHITECTURE.md, "Forms the kit wants")
     let _file: Option<FileId> = None;
@@ -121,7 +137,7 @@ fn read_commit(alloc: Global, reader: &mut Reader<'_>) -> Result<Request, Refusa
 }
 
 fn read_fetch(reader: &mut Reader<'_>) -> Result<Request, Refusal>
-    ensures { Takes (request_fields tag.Fetch) reader.old result reader.new }
+    ensures { Takes fetch_fields reader.old result reader.new }
 {
     // names the type for the prover (docs/ARCHITECTURE.md, "Forms the kit wants")
     let _file: Option<FileId> = None;
@@ -130,7 +146,7 @@ fn read_fetch(reader: &mut Reader<'_>) -> Result<Request, Refusal>
 }
 
 fn read_put(alloc: Global, reader: &mut Reader<'_>) -> Result<Request, Refusal>
-    ensures { Takes (request_fields tag.Put) reader.old result reader.new }
+    ensures { Takes put_fields reader.old result reader.new }
 {
     // names the type for the prover (docs/ARCHITECTURE.md, "Forms the kit wants")
     let _file: Option<FileId> = None;
@@ -139,7 +155,7 @@ fn read_put(alloc: Global, reader: &mut Reader<'_>) -> Result<Request, Refusal>
 }
 
 fn read_get(reader: &mut Reader<'_>) -> Result<Request, Refusal>
-    ensures { Takes (request_fields tag.Get) reader.old result reader.new }
+    ensures { Takes get_fields reader.old result reader.new }
 {
     // names the type for the prover (docs/ARCHITECTURE.md, "Forms the kit wants")
     let _file: Option<FileId> = None;

@@ -1,15 +1,14 @@
 use Rattle.std.proofs.Common.{length, ap, arith}
 use Rattle.su_format.proofs.Public.{handed_on_to}
-use Rattle.su_message.specs.RequestTag.{request_number}
-use Rattle.su_message.specs.Request.{request_fields}
+use Rattle.su_message.specs.Request.{request_kinds}
 use Rattle.su_message.specs.Tagged.{ReadsTagged}
 use Rattle.su_message.proofs.TaggedLemmas.{tag_taken, no_tag, fields_read, fields_refused, more_left, unknown}
 use Rattle.su_message.proofs.requests.read.Goals as goal
 
 pub returns-in_err-first : goal.returns-in_err-first
 returns-in_err-first c =
-    handed_on_to (ReadsTagged request_number request_fields c.args.message.now) _ _ c.from_residual.ensures.1
-    (no_tag request_number request_fields c.args.message.now c.take_bytes.new.self _ (rw c.new-reader.ensures at c.in_err-first.ensures.refused.0) (rw c.new-reader.ensures at c.in_err-first.ensures.refused.1))
+    handed_on_to (ReadsTagged request_kinds c.args.message.now) _ _ c.from_residual.ensures.1
+    (no_tag request_kinds c.args.message.now c.take_bytes.new.self _ (rw c.new-reader.ensures at c.in_err-first.ensures.refused.0) (rw c.new-reader.ensures at c.in_err-first.ensures.refused.1))
 
 pub bounds-first-0 : goal.bounds-first-0
 bounds-first-0 c =
@@ -19,21 +18,21 @@ bounds-first-0 c =
 pub returns-in_default : goal.returns-in_default
 returns-in_default c =
     let t = tag_taken c.args.message.now _ c.take_bytes.new.self (rw c.new-reader.ensures at c.in_ok-first.ensures.found) in
-    unknown request_number request_fields c.args.message.now _ t.number t.message_is (rw t.first_is at c.in_default.ensures.none)
+    unknown request_kinds c.args.message.now _ t.number t.message_is (rw t.first_is at c.in_default.ensures.none)
 
 pub returns-in_err-request : goal.returns-in_err-request
 returns-in_err-request c =
     let t = tag_taken c.args.message.now _ c.take_bytes.new.self (rw c.new-reader.ensures at c.in_ok-first.ensures.found) in
-    handed_on_to (ReadsTagged request_number request_fields c.args.message.now) _ _ c.from_residual-in_err-request.ensures.1
-    (fields_refused request_number request_fields c.args.message.now c.take_bytes.new.self.left t.number c.in-Some.tag _ c.read_fields.new.reader t.message_is (rw t.first_is at c.in-Some.ensures.found) (rw t.new_is at c.in_err-request.ensures))
+    handed_on_to (ReadsTagged request_kinds c.args.message.now) _ _ c.from_residual-in_err-request.ensures.1
+    (fields_refused request_kinds c.args.message.now c.take_bytes.new.self.left t.number _ c.read_fields.new.reader t.message_is (rw (c.in_err-request.was, t.new_is, t.first_is) at c.in-Some.ensures.found))
 
 pub returns-in_err-finish : goal.returns-in_err-finish
 returns-in_err-finish c =
     let t = tag_taken c.args.message.now _ c.take_bytes.new.self (rw c.new-reader.ensures at c.in_ok-first.ensures.found) in
-    handed_on_to (ReadsTagged request_number request_fields c.args.message.now) _ _ c.from_residual-in_err-finish.ensures.1
-    (more_left request_number request_fields c.args.message.now c.take_bytes.new.self.left t.number c.in-Some.tag c.in_ok-request.request _ c.read_fields.new.reader t.message_is (rw t.first_is at c.in-Some.ensures.found) (rw t.new_is at c.in_ok-request.ensures) c.in_err-finish.ensures.refused.0 c.in_err-finish.ensures.refused.1)
+    handed_on_to (ReadsTagged request_kinds c.args.message.now) _ _ c.from_residual-in_err-finish.ensures.1
+    (more_left request_kinds c.args.message.now c.take_bytes.new.self.left t.number c.in_ok-request.request _ c.read_fields.new.reader t.message_is (rw (c.in_ok-request.was, t.new_is, t.first_is) at c.in-Some.ensures.found) c.in_err-finish.ensures.refused.0 c.in_err-finish.ensures.refused.1)
 
 pub returns : goal.returns
 returns c =
     let t = tag_taken c.args.message.now _ c.take_bytes.new.self (rw c.new-reader.ensures at c.in_ok-first.ensures.found) in
-    fields_read request_number request_fields c.args.message.now c.take_bytes.new.self.left t.number c.in-Some.tag c.in_ok-request.request c.read_fields.new.reader t.message_is (rw t.first_is at c.in-Some.ensures.found) (rw t.new_is at c.in_ok-request.ensures) c.in_ok-finish.ensures.found
+    fields_read request_kinds c.args.message.now c.take_bytes.new.self.left t.number c.in_ok-request.request c.read_fields.new.reader t.message_is (rw (c.in_ok-request.was, t.new_is, t.first_is) at c.in-Some.ensures.found) c.in_ok-finish.ensures.found
