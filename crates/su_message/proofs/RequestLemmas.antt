@@ -10,7 +10,7 @@ use Rattle.su_message.specs.declared.requests.Request.{Request}
 use Rattle.su_message.specs.declared.requests.Request.TheVariants.{Grant, Commit, Give, Fetch, Put, Get}
 use Rattle.su_message.specs.Tagged.{no_fields, fields_of, ReadsTagged}
 use Rattle.su_message.specs.Request.{IsRequest, EndsItself, request_bytes, request_kinds}
-use Rattle.su_message.proofs.TaggedLemmas.{of_each, all_lawful, BeginsAs, read_as_spelled, no_more, to_end}
+use Rattle.su_message.proofs.TaggedLemmas.{of_each, all_lawful, BeginsAs, begins_read, read_as_spelled, no_more, to_end}
 
 -- ---- fields
 
@@ -57,7 +57,7 @@ fields_spelled =
       ),
     )
 
-pub request_begins : (q : Request) → IsRequest q → BeginsAs request_kinds (request_bytes q) q []
+request_begins : (q : Request) → IsRequest q → BeginsAs request_kinds (request_bytes q) q []
 unfolding ◌>>=◌ making part u64_part bytes_part rest_part digest_part
 request_begins Grant is = (refl, refl)
 request_begins (Commit b) is = (b, [], (refl, refl), (refl, refl))
@@ -79,6 +79,9 @@ only message r read q is spelled =
 pub found_if : (message : List ℕ) (r : Result Request Refusal) → ReadsTagged request_kinds message r → IfOk r (λ q. IsRequest q × (message ≡ request_bytes q))
 found_if message (Ok q) read = found message q read
 found_if message (Err e) read = tt
+
+pub request_read : (q : Request) → IsRequest q → ReadsTagged request_kinds (request_bytes q) (Ok q)
+request_read q is = begins_read request_kinds (request_bytes q) q (request_begins q is)
 
 -- ---- where a request ends
 

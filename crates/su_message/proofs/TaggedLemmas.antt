@@ -72,7 +72,7 @@ nothing_fails (kind ∷ others) n none bytes rest fails = go (nat_eq n kind.0) r
     go true is other fails = none.0 (eqb-true _ _ is)
     go false is other fails = other fails
 
-nothing_begins : {A : Type 0} (kinds : List (ℕ × Format A)) (n : ℕ) → HasNoKind kinds n → (bytes : List ℕ) (a : A) (rest : List ℕ) → (fields_of kinds n).Begins bytes a rest → ⊥
+pub nothing_begins : {A : Type 0} (kinds : List (ℕ × Format A)) (n : ℕ) → HasNoKind kinds n → (bytes : List ℕ) (a : A) (rest : List ℕ) → (fields_of kinds n).Begins bytes a rest → ⊥
 unfolding no_fields
 nothing_begins [] n none bytes a rest begins = begins
 nothing_begins (kind ∷ others) n none bytes a rest begins = go (nat_eq n kind.0) refl (nothing_begins others n none.1 bytes a rest) begins
@@ -126,6 +126,10 @@ module _ {A : Type 0} (kinds : List (ℕ × Format A)) where
   abbrev pub BeginsAs : List ℕ → A → List ℕ → Type 0
   BeginsAs [] a rest = ⊥
   BeginsAs (n ∷ bytes) a rest = (fields_of kinds n).Begins bytes a rest
+
+  pub begins_read : (message : List ℕ) (a : A) → BeginsAs message a [] → ReadsTagged kinds message (Ok a)
+  begins_read [] a begins = begins
+  begins_read (n ∷ rest) a begins = begins
 
   module _ (lawful : (n : ℕ) → IsLawful (fields_of kinds n)) where
     -- one that is a value is read as it

@@ -8,8 +8,7 @@ use Rattle.su_message.specs.declared.requests.Request.{Request}
 use Rattle.su_message.specs.declared.requests.Request.TheVariants.{Give}
 use Rattle.su_message.specs.declared.replies.Reply.{Reply}
 use Rattle.su_message.specs.declared.replies.Reply.TheVariants.{Granted, Stored, Given, Kept, Nothing, PutDone, Item, Refused}
-use Rattle.su_message.specs.RequestTag.{request_number}
-use Rattle.su_message.specs.Request.{IsRequest, request_bytes, request_fields}
+use Rattle.su_message.specs.Request.{IsRequest, request_bytes, request_kinds}
 use Rattle.su_message.specs.Reply.{reply_bytes, refused_argument}
 use Rattle.su_message.specs.Tagged.{ReadsTagged}
 use Rattle.su_frames.specs.Stream.{frame}
@@ -21,7 +20,7 @@ Asks message q = IsRequest q × (message ≡ request_bytes q)
 -- the message is no request, for this reason; want of memory is no such reason
 abbrev pub AsksNothing : List ℕ → Refusal → Type 0
 AsksNothing message e =
-    (e ≡ NoMemory → ⊥) × ReadsTagged request_number request_fields message (Err e)
+    (e ≡ NoMemory → ⊥) × ReadsTagged request_kinds message (Err e)
 
 -- the reply that tells of a refusal
 abbrev pub refusal_reply : Refusal → Reply
