@@ -1,5 +1,4 @@
-pub mod Spellings
+pub mod Sizes
 pub mod Items
 pub mod Public
 mod Examples
-pub mod Sizes

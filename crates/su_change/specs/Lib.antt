@@ -1,4 +1,3 @@
-pub mod Tags
 pub mod NameAt
 pub mod Create
 pub mod Write

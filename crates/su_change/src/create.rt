@@ -1,5 +1,5 @@
 // A new file or directory, in bytes.
-ghost use Rattle.std.specs.Prelude.{◌≡◌, ◌++◌, OnOk};
+ghost use Rattle.std.specs.Prelude.{◌≡◌, ◌∷◌, ◌++◌, OnOk};
 ghost use Rattle.su_format.specs.Reading.{Takes};
 ghost use Rattle.su_change.specs.Create.{IsCreate, create_bytes, create_fields};
 
@@ -27,11 +27,12 @@ pub fn read(alloc: Global, reader: &mut Reader<'_>) -> Result<Change, Refusal>
     })))
 }
 
-/// Writes the fields in the same order.
-pub fn write(writer: &mut Writer, create: &Create) -> Result<(), AllocError>
+/// Writes the number of the kind, and the fields in the same order.
+pub fn write(writer: &mut Writer, number: u8, create: &Create) -> Result<(), AllocError>
     ensures { OnOk result
-        (IsCreate create.now × (writer.new ≡ writer.old ++ create_bytes create.now)) }
+        (IsCreate create.now × (writer.new ≡ writer.old ++ (number ∷ create_bytes create.now))) }
 {
+    writer.put_u8(number)?;
     NameAt::write(writer, create.dir, &create.name, create.file)?;
     writer.put_inum(create.body)?;
     writer.put_kind(create.kind)

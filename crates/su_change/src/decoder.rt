@@ -1,15 +1,12 @@
 // Reading the item of a change.
-ghost use Rattle.std.specs.Prelude.{◌≡◌, ◌⊎◌, Ok, Err, IfOk};
+ghost use Rattle.std.specs.Prelude.{◌≡◌, ◌+◌, ◌⊎◌, Ok, Err, IfOk};
 ghost use Rattle.su_bytes.specs.declared.refusals.Refusal.TheVariants.{NoMemory};
 ghost use Rattle.su_format.specs.Reading.{Decodes, Takes};
 ghost use Rattle.su_op.specs.declared.operations.Change.{Change as Change_};
-ghost use Rattle.su_change.specs.Tags.{tag_part};
-ghost use Rattle.su_change.specs.declared.tags.Tag.TheVariants.{Undo};
 ghost use Rattle.su_change.specs.NameAt.{link_fields, unlink_fields};
-ghost use Rattle.su_change.specs.Item.{HasItem, IsChange, fields, item_bytes, item_format};
+ghost use Rattle.su_change.specs.Item.{HasItem, IsChange, fields_of, item_bytes, item_format, kinds, tagged_format, undo_fields};
 
 use crate::name_at::NameAt;
-use crate::tags::Tag;
 use crate::{create, rename, take, truncate, write};
 use std::alloc::Global;
 use su_bytes::{FileId, Refusal};
@@ -43,42 +40,44 @@ fn read_item(alloc: Global, reader: &mut Reader<'_>) -> Result<Change, Refusal>
     // names the type for the prover (docs/ARCHITECTURE.md, "Forms the kit wants")
     let _file: Option<FileId> = None;
     reader.take_mark(FIRST_BYTE)?;
-    let tag = read_tag(reader)?;
-    read_fields(alloc, reader, tag)
+    read_tagged(alloc, reader)
 }
 
-/// Reads what kind of change it is.
-fn read_tag(reader: &mut Reader<'_>) -> Result<Tag, Refusal>
-    ensures { Takes tag_part reader.old result reader.new }
+/// Reads the number of a kind, and the fields of that kind.
+fn read_tagged(alloc: Global, reader: &mut Reader<'_>) -> Result<Change, Refusal>
+    ensures { Takes tagged_format reader.old result reader.new }
 {
-    let malformed = Refusal::Malformed(reader.place());
-    let Ok(number) = reader.take_u8() else {
-        return Err(malformed);
-    };
-    match Tag::with_number(number) {
-        Some(tag) => Ok(tag),
-        None => Err(malformed),
-    }
+    let place = reader.place();
+    let number = reader.take_u8()?;
+    read_fields(alloc, reader, place, number)
 }
 
-/// Reads the fields of a change of that kind.
-fn read_fields(alloc: Global, reader: &mut Reader<'_>, tag: Tag) -> Result<Change, Refusal>
-    ensures { Takes (fields tag) reader.old result reader.new }
+/// Reads the fields of a change of the kind that has the number. `Malformed` with the place of the
+/// number, in front of them, where none has it.
+fn read_fields(
+    alloc: Global,
+    reader: &mut Reader<'_>,
+    place: u64,
+    number: u8,
+) -> Result<Change, Refusal>
+    requires { place + 1 ≡ reader.old.place }
+    ensures { Takes (fields_of kinds number) reader.old result reader.new }
 {
-    match tag {
-        Tag::Undo => read_undo(reader),
-        Tag::Create => create::read(alloc, reader),
-        Tag::Write => write::read(alloc, reader),
-        Tag::Truncate => truncate::read(reader),
-        Tag::Link => read_link(alloc, reader),
-        Tag::Rename => rename::read(alloc, reader),
-        Tag::Unlink => read_unlink(alloc, reader),
-        Tag::Take => take::read(reader),
+    match number {
+        0 => read_undo(reader),
+        1 => create::read(alloc, reader),
+        2 => write::read(alloc, reader),
+        3 => truncate::read(reader),
+        4 => read_link(alloc, reader),
+        5 => rename::read(alloc, reader),
+        6 => read_unlink(alloc, reader),
+        7 => take::read(reader),
+        _ => Err(Refusal::Malformed(place)),
     }
 }
 
 fn read_undo(reader: &mut Reader<'_>) -> Result<Change, Refusal>
-    ensures { Takes (fields Undo) reader.old result reader.new }
+    ensures { Takes undo_fields reader.old result reader.new }
 {
     // names the type for the prover (docs/ARCHITECTURE.md, "Forms the kit wants")
     let _file: Option<FileId> = None;

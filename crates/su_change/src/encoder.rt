@@ -1,15 +1,16 @@
 // Writing the item of a change.
-ghost use Rattle.std.specs.Prelude.{◌≡◌, ◌≤◌, ◌⊎◌, ◌++◌, ◌↔◌, length, IfErr, IfOk, IsTrue, OnOk};
+ghost use Rattle.std.specs.Prelude.{◌≡◌, ◌≤◌, ◌⊎◌, ◌∷◌, ◌++◌, ◌↔◌, length, IfErr, IfOk, IsTrue, OnOk};
 ghost use Rattle.su_bytes.specs.declared.refusals.Refusal.TheVariants.{BadNumber, NoMemory};
-ghost use Rattle.su_change.specs.Item.{HasItem, IsChange, change_digest, field_bytes, item_bytes};
+ghost use Rattle.su_format.specs.Part.{u64_bytes};
+ghost use Rattle.su_change.specs.NameAt.{IsNameAt, name_at_bytes};
+ghost use Rattle.su_change.specs.Item.{HasItem, IsChange, change_digest, item_bytes, tagged_bytes};
 
 use crate::decoder::FIRST_BYTE;
 use crate::name_at::NameAt;
-use crate::tags::Tag;
 use crate::{create, rename, take, truncate, write};
 use sha2::Sha256;
 use std::alloc::{AllocError, Global};
-use su_bytes::{Digest, Refusal};
+use su_bytes::{Digest, FileId, Name, Refusal};
 use su_format::Writer;
 use su_op::{Change, Op};
 
@@ -63,8 +64,7 @@ fn written(alloc: Global, change: &Change) -> Result<Writer, AllocError>
 {
     let mut writer = Writer::with_room(alloc, room(change))?;
     writer.put_bytes(FIRST_BYTE)?;
-    writer.put_u8(Tag::of(change).number())?;
-    write_fields(&mut writer, change)?;
+    write_tagged(&mut writer, change)?;
     Ok(writer)
 }
 
@@ -76,22 +76,47 @@ fn room(change: &Change) -> usize {
     }
 }
 
-/// Writes the fields of a change.
-fn write_fields(writer: &mut Writer, change: &Change) -> Result<(), AllocError>
+/// Writes the number of its kind, and its fields.
+fn write_tagged(writer: &mut Writer, change: &Change) -> Result<(), AllocError>
     requires { HasItem change.now }
     ensures { OnOk result
-        (IsChange change.now × (writer.new ≡ writer.old ++ field_bytes change.now)) }
+        (IsChange change.now × (writer.new ≡ writer.old ++ tagged_bytes change.now)) }
 {
     match change {
-        Change::Undo(number) => writer.put_u64(*number),
-        Change::Do(Op::Create(create)) => create::write(writer, create),
-        Change::Do(Op::Write(write)) => write::write(writer, write),
-        Change::Do(Op::Truncate(truncate)) => truncate::write(writer, truncate),
-        Change::Do(Op::Link(link)) => NameAt::write(writer, link.dir, &link.name, link.file),
-        Change::Do(Op::Rename(rename)) => rename::write(writer, rename),
+        Change::Undo(undone) => write_undo(writer, 0, *undone),
+        Change::Do(Op::Create(create)) => create::write(writer, 1, create),
+        Change::Do(Op::Write(write)) => write::write(writer, 2, write),
+        Change::Do(Op::Truncate(truncate)) => truncate::write(writer, 3, truncate),
+        Change::Do(Op::Link(link)) => write_name(writer, 4, link.dir, &link.name, link.file),
+        Change::Do(Op::Rename(rename)) => rename::write(writer, 5, rename),
         Change::Do(Op::Unlink(unlink)) => {
-            NameAt::write(writer, unlink.dir, &unlink.name, unlink.file)
+            write_name(writer, 6, unlink.dir, &unlink.name, unlink.file)
         }
-        Change::Do(Op::Take(take)) => take::write(writer, take),
+        Change::Do(Op::Take(take)) => take::write(writer, 7, take),
     }
+}
+
+/// Writes the number of the kind, and the number of the operation that is undone.
+fn write_undo(writer: &mut Writer, number: u8, undone: u64) -> Result<(), AllocError>
+    ensures { OnOk result (writer.new ≡ writer.old ++ (number ∷ u64_bytes undone)) }
+{
+    writer.put_u8(number)?;
+    writer.put_u64(undone)
+}
+
+/// Writes the number of the kind, and a name in a directory with its file.
+fn write_name(
+    writer: &mut Writer,
+    number: u8,
+    dir: FileId,
+    name: &Name,
+    file: FileId,
+) -> Result<(), AllocError>
+    ensures meant { OnOk result
+        (IsNameAt (record { dir = dir; name = name.now; file = file })) }
+    ensures value { OnOk result (writer.new ≡ writer.old
+        ++ (number ∷ name_at_bytes (record { dir = dir; name = name.now; file = file }))) }
+{
+    writer.put_u8(number)?;
+    NameAt::write(writer, dir, name, file)
 }

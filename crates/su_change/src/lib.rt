@@ -7,7 +7,6 @@ mod encoder;
 mod laws;
 mod name_at;
 mod rename;
-mod tags;
 mod take;
 mod truncate;
 mod write;

@@ -1,5 +1,5 @@
 // A file gets another name, in bytes.
-ghost use Rattle.std.specs.Prelude.{◌≡◌, ◌++◌, OnOk};
+ghost use Rattle.std.specs.Prelude.{◌≡◌, ◌∷◌, ◌++◌, OnOk};
 ghost use Rattle.su_format.specs.Reading.{Takes};
 ghost use Rattle.su_change.specs.Rename.{IsRename, rename_bytes, rename_fields};
 
@@ -29,11 +29,12 @@ pub fn read(alloc: Global, reader: &mut Reader<'_>) -> Result<Change, Refusal>
     })))
 }
 
-/// Writes the fields in the same order.
-pub fn write(writer: &mut Writer, rename: &Rename) -> Result<(), AllocError>
+/// Writes the number of the kind, and the fields in the same order.
+pub fn write(writer: &mut Writer, number: u8, rename: &Rename) -> Result<(), AllocError>
     ensures { OnOk result
-        (IsRename rename.now × (writer.new ≡ writer.old ++ rename_bytes rename.now)) }
+        (IsRename rename.now × (writer.new ≡ writer.old ++ (number ∷ rename_bytes rename.now))) }
 {
+    writer.put_u8(number)?;
     writer.put_file_id(rename.from_)?;
     writer.put_name(&rename.old_)?;
     writer.put_file_id(rename.to_)?;

@@ -1,5 +1,5 @@
 // A group file is taken over, in bytes.
-ghost use Rattle.std.specs.Prelude.{◌≡◌, ◌++◌, OnOk};
+ghost use Rattle.std.specs.Prelude.{◌≡◌, ◌∷◌, ◌++◌, OnOk};
 ghost use Rattle.su_format.specs.Reading.{Takes};
 ghost use Rattle.su_change.specs.Take.{IsTake, take_bytes, take_fields};
 
@@ -19,11 +19,12 @@ pub fn read(reader: &mut Reader<'_>) -> Result<Change, Refusal>
     Ok(Change::Do(Op::Take(Take { file, body })))
 }
 
-/// Writes the fields in the same order.
-pub fn write(writer: &mut Writer, take: &Take) -> Result<(), AllocError>
+/// Writes the number of the kind, and the fields in the same order.
+pub fn write(writer: &mut Writer, number: u8, take: &Take) -> Result<(), AllocError>
     ensures { OnOk result
-        (IsTake take.now × (writer.new ≡ writer.old ++ take_bytes take.now)) }
+        (IsTake take.now × (writer.new ≡ writer.old ++ (number ∷ take_bytes take.now))) }
 {
+    writer.put_u8(number)?;
     writer.put_file_id(take.file)?;
     writer.put_inum(take.body)
 }

@@ -1,5 +1,5 @@
 // A file is cut or filled with zeros, in bytes.
-ghost use Rattle.std.specs.Prelude.{◌≡◌, ◌++◌, OnOk};
+ghost use Rattle.std.specs.Prelude.{◌≡◌, ◌∷◌, ◌++◌, OnOk};
 ghost use Rattle.su_format.specs.Reading.{Takes};
 ghost use Rattle.su_change.specs.Truncate.{IsTruncate, truncate_bytes, truncate_fields};
 
@@ -19,11 +19,12 @@ pub fn read(reader: &mut Reader<'_>) -> Result<Change, Refusal>
     Ok(Change::Do(Op::Truncate(Truncate { file, size })))
 }
 
-/// Writes the fields in the same order.
-pub fn write(writer: &mut Writer, truncate: &Truncate) -> Result<(), AllocError>
+/// Writes the number of the kind, and the fields in the same order.
+pub fn write(writer: &mut Writer, number: u8, truncate: &Truncate) -> Result<(), AllocError>
     ensures { OnOk result
-        (IsTruncate truncate.now × (writer.new ≡ writer.old ++ truncate_bytes truncate.now)) }
+        (IsTruncate truncate.now × (writer.new ≡ writer.old ++ (number ∷ truncate_bytes truncate.now))) }
 {
+    writer.put_u8(number)?;
     writer.put_file_id(truncate.file)?;
     writer.put_u32(truncate.size)
 }

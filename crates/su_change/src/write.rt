@@ -1,5 +1,5 @@
 // Bytes are written into a file, in bytes.
-ghost use Rattle.std.specs.Prelude.{◌≡◌, ◌++◌, ◌↔◌, IsTrue, OnOk};
+ghost use Rattle.std.specs.Prelude.{◌≡◌, ◌∷◌, ◌++◌, ◌↔◌, IsTrue, OnOk};
 ghost use Rattle.su_format.specs.Reading.{Takes};
 ghost use Rattle.su_change.specs.Write.{IsWrite, IsLength, HasLength, length_part, write_bytes, write_fields};
 
@@ -43,12 +43,13 @@ pub fn is_length(length: usize) -> bool
     (1..=LARGEST_WRITE).contains(&length)
 }
 
-/// Writes the fields in the same order.
-pub fn write(writer: &mut Writer, write: &Write) -> Result<(), AllocError>
+/// Writes the number of the kind, and the fields in the same order.
+pub fn write(writer: &mut Writer, number: u8, write: &Write) -> Result<(), AllocError>
     requires { HasLength write.now }
     ensures { OnOk result
-        (IsWrite write.now × (writer.new ≡ writer.old ++ write_bytes write.now)) }
+        (IsWrite write.now × (writer.new ≡ writer.old ++ (number ∷ write_bytes write.now))) }
 {
+    writer.put_u8(number)?;
     writer.put_file_id(write.file)?;
     writer.put_u32(write.off)?;
     writer.put_u32(write.bytes.len() as u32)?;

@@ -1,4 +1,4 @@
-use Rattle.su_format.proofs.Public.{goes_on, then_refused, first_refused, handed_on}
+use Rattle.su_format.proofs.Public.{goes_on, first_refused, handed_on}
 use Rattle.su_change.specs.Item.{item_format}
 use Rattle.su_change.proofs.decoder.read_item.Goals as goal
 
@@ -7,12 +7,6 @@ unfolding item_format
 returns-in_err-take_mark c =
     handed_on _ _ c.from_residual.ensures.1 (first_refused _ _ c.in_err-take_mark.ensures.refused.0)
 
-pub returns-in_err-tag : goal.returns-in_err-tag
-unfolding item_format
-returns-in_err-tag c =
-    handed_on _ _ c.from_residual-in_err-tag.ensures.1
-    (then_refused _ _ c.in_ok-take_mark.ensures.found (first_refused _ _ c.in_err-tag.ensures))
-
 pub returns : goal.returns
 unfolding item_format
-returns c = goes_on _ _ _ _ _ _ _ c.in_ok-take_mark.ensures.found (goes_on _ _ _ _ _ _ _ c.in_ok-tag.ensures c.read_fields.ensures)
+returns c = goes_on _ _ _ _ _ _ _ c.in_ok-take_mark.ensures.found c.read_tagged.ensures

@@ -1,5 +1,5 @@
 use Rattle.std.proofs.Common.{◌∙◌, refl}
-use Rattle.su_change.proofs.Sizes.{item_size}
+use Rattle.su_change.proofs.Items.{item_size}
 use Rattle.su_change.proofs.encoder.encode.Goals as goal
 
 pub returns-in-Ok-clause-size : goal.returns-in-Ok-clause-size
