@@ -37,6 +37,14 @@ pub enum WordKind {
 /// it are.
 pub type Form<V> = (&'static str, V, &'static [WordKind]);
 
+/// The rows of a table, of which each has a line of help behind, without these lines.
+#[macro_export]
+macro_rules! forms_of {
+    ($(($word:literal, $verb:expr, [$($kind:expr),*], $help:literal)),*) => {
+        [$(($word, $verb, &[$($kind),*])),*]
+    };
+}
+
 /// Finds the row of a command's own word. `None` where no command has it.
 pub fn find_form<'a, V>(forms: &'a [Form<V>], word: &[u8]) -> Option<&'a Form<V>>
     ensures { option_map (λ form. row_of form.now) result

@@ -16,10 +16,9 @@ pub use forms::{Form, WordKind, find_form};
 pub use lines::{LONGEST_LINE, LineReader, NextLine};
 pub use mistakes::{Mistake, mistake_in, mistake_in_command, words_in};
 pub use parse::{
-    DESK_WORDS, RawFile, RawPrincipal, Spoken, has_empty_word, parse_line, read_bytes, read_number,
-    split_words,
+    RawFile, RawPrincipal, Spoken, has_empty_word, parse_line, read_bytes, read_number, split_words,
 };
 pub use ranges::{Command, Question, check_ranges};
 pub use values::{Value, read_values};
-pub use verbs::{ChangeVerb, QuestionVerb, Verb};
+pub use verbs::{ChangeVerb, DESK_WORDS, QuestionVerb, Verb};
 pub use words::{Word, Words, check_values};

@@ -15,31 +15,6 @@ use hex::FromHexError;
 use memchr::memchr;
 use std::alloc::{AllocError, Global};
 
-/// The commands of a desk script, for a help text.
-pub const DESK_WORDS: &str = "Commands:
-  U mkdir DIR NAME FILE [BODY]   make a directory and give it a name
-  U create DIR NAME FILE [BODY]  make an empty file and give it a name
-  U write FILE OFF HEX           write bytes, in hex digits, from an offset on
-  U truncate FILE SIZE           cut a file, or fill it with zeros, to a size
-  U unlink DIR NAME FILE         take a name away
-  U take FILE BODY               take a group file over from who holds it
-  U link DIR NAME FILE           give a file a further name
-  U rename FROM OLD TO NEW FILE  give a file another name, here or elsewhere
-  U undo N                       undo operation N
-  U undo_last                    undo the last operation that stands
-  ls DIR                         list the names of a directory
-  cat FILE OFF LEN               show bytes of a file, in hex digits
-  stat FILE                      show what a file is
-  ihandle PRINCIPAL              show the digest of an i-table
-  versions                       show the version numbers of all
-  mark                           keep the digests of all i-tables
-  same                           compare them with those that were kept
-
-U is the number of a user. DIR, FROM, TO and FILE are file ids: U0:2 is number 2
-of user 0, G0:1 number 1 of group 0, which is the root directory. BODY is the
-number of the user at which the file stands then; a file of a user has its own
-number. PRINCIPAL is a user as U0 or a group as G0.";
-
 /// Digits of the longest number.
 const MOST_DIGITS: usize = 20;
 
