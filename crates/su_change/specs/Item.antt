@@ -57,6 +57,7 @@ change_digest c = sha256 (item_bytes c)
 
 -- ---- its parts
 
+-- the field of an undo, and the change that it makes
 abbrev pub undo_fields : Format Change
 undo_fields = u64_part >>= λ n. making (Undo n)
 

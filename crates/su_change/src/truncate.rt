@@ -22,7 +22,8 @@ pub fn read(reader: &mut Reader<'_>) -> Result<Change, Refusal>
 /// Writes the number of the kind, and the fields in the same order.
 pub fn write(writer: &mut Writer, number: u8, truncate: &Truncate) -> Result<(), AllocError>
     ensures { OnOk result
-        (IsTruncate truncate.now × (writer.new ≡ writer.old ++ (number ∷ truncate_bytes truncate.now))) }
+        (IsTruncate truncate.now
+        × (writer.new ≡ writer.old ++ (number ∷ truncate_bytes truncate.now))) }
 {
     writer.put_u8(number)?;
     writer.put_file_id(truncate.file)?;
