@@ -8,4 +8,5 @@ mod verbs;
 
 pub use commands::{ClientCommand, ClientLine};
 pub use lines::read_line;
-pub use mistakes::{CLIENT_WORDS, client_mistake_in};
+pub use mistakes::client_mistake_in;
+pub use verbs::CLIENT_WORDS;

@@ -1,6 +1,6 @@
 // The commands of a client's script, and the words after each.
-use su_desk_lines::Form;
 use su_desk_lines::WordKind::{FileName, Hex, Number, Path, Size};
+use su_desk_lines::{Form, forms_of};
 
 /// Which command of a client's script a line is.
 #[derive(Clone, Copy)]
@@ -25,18 +25,101 @@ pub enum PathVerb {
     Remove,
 }
 
+// The commands: of each its own word, which it is, the words after it, and its line of help.
+macro_rules! client_rows {
+    ($table:ident) => {
+        $table!(
+            (
+                "mkdir",
+                Verb::Change(PathVerb::Mkdir),
+                [Path],
+                "mkdir P          make a directory"
+            ),
+            (
+                "create",
+                Verb::Change(PathVerb::Create),
+                [Path],
+                "create P         make an empty file"
+            ),
+            (
+                "write",
+                Verb::Change(PathVerb::Write),
+                [Path, Size, Hex],
+                "write P OFF HEX  write bytes, in hex digits, from an offset on"
+            ),
+            (
+                "truncate",
+                Verb::Change(PathVerb::Truncate),
+                [Path, Size],
+                "truncate P SIZE  cut a file, or fill it with zeros, to a size"
+            ),
+            (
+                "link",
+                Verb::Change(PathVerb::Link),
+                [Path, Path],
+                "link OLD NEW     give a file a further name"
+            ),
+            (
+                "rename",
+                Verb::Change(PathVerb::Rename),
+                [Path, Path],
+                "rename OLD NEW   give a file another name; what had that name loses it"
+            ),
+            (
+                "remove",
+                Verb::Change(PathVerb::Remove),
+                [Path],
+                "remove P         take a name away, and the file with its last one"
+            ),
+            (
+                "undo",
+                Verb::Undo,
+                [Number],
+                "undo N           undo operation N"
+            ),
+            (
+                "undo_last",
+                Verb::UndoLast,
+                [],
+                "undo_last        undo the last operation that stands"
+            ),
+            (
+                "ls",
+                Verb::List,
+                [Path],
+                "ls P             list the names of a directory"
+            ),
+            (
+                "cat",
+                Verb::Read,
+                [Path, Number, Number],
+                "cat P OFF LEN    show bytes of a file, in hex digits"
+            ),
+            (
+                "save",
+                Verb::Save,
+                [FileName],
+                "save FILE        save the log of all commits to a file"
+            )
+        )
+    };
+}
+
+macro_rules! client_help {
+    ($(($word:literal, $verb:expr, $kinds:tt, $help:literal)),*) => {
+        concat!(
+            "Commands:\n",
+            $("  ", $help, "\n",)*
+            "
+P, OLD and NEW are paths: / is the root directory, and others are names with a /
+before each, as /a/b. A line's words have single spaces between them, so no path
+and no FILE has a space in it."
+        )
+    };
+}
+
 /// The commands, and the words after each.
-pub const CLIENT_FORMS: [Form<Verb>; 12] = [
-    ("mkdir", Verb::Change(PathVerb::Mkdir), &[Path]),
-    ("create", Verb::Change(PathVerb::Create), &[Path]),
-    ("write", Verb::Change(PathVerb::Write), &[Path, Size, Hex]),
-    ("truncate", Verb::Change(PathVerb::Truncate), &[Path, Size]),
-    ("link", Verb::Change(PathVerb::Link), &[Path, Path]),
-    ("rename", Verb::Change(PathVerb::Rename), &[Path, Path]),
-    ("remove", Verb::Change(PathVerb::Remove), &[Path]),
-    ("undo", Verb::Undo, &[Number]),
-    ("undo_last", Verb::UndoLast, &[]),
-    ("ls", Verb::List, &[Path]),
-    ("cat", Verb::Read, &[Path, Number, Number]),
-    ("save", Verb::Save, &[FileName]),
-];
+pub const CLIENT_FORMS: [Form<Verb>; 12] = client_rows!(forms_of);
+
+/// The commands of a client's script, for a help text.
+pub const CLIENT_WORDS: &str = client_rows!(client_help);
