@@ -149,13 +149,7 @@ pub without_item : (ro : Membership) (h : List Entry) (a : ℕ) (change : Change
 unfolding why
 without_item ro h a (Do (op.Write w)) member none =
     passed (has_user ro a) _ _ member ∙ demanded (nat_le 1 (length w.bytes) && nat_le (length w.bytes) largest_write) BadNumber _ (λ is. none (length_in_range (length w.bytes) is))
-without_item ro h a (Do (op.Create x)) member none = absurd (none tt)
-without_item ro h a (Do (op.Unlink x)) member none = absurd (none tt)
-without_item ro h a (Do (op.Truncate x)) member none = absurd (none tt)
-without_item ro h a (Do (op.Take x)) member none = absurd (none tt)
-without_item ro h a (Do (op.Link x)) member none = absurd (none tt)
-without_item ro h a (Do (op.Rename x)) member none = absurd (none tt)
-without_item ro h a (Undo n) member none = absurd (none tt)
+without_item ro h a _ member none = absurd (none tt)
 
 -- ---- a draft, as it is kept
 
