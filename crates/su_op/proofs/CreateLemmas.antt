@@ -24,10 +24,10 @@ use Rattle.su_op.specs.Create.{CreateRow}
 use Rattle.su_op.specs.Area.{kind_cell, links_cell, size_cell, name_cell}
 use Rattle.su_op.proofs.RuleLemmas.{pointer_written}
 use Rattle.su_op.proofs.RuleLemmas.{pointers_make_none}
-use Rattle.su_op.proofs.RuleLemmas.{PlanMakesNew}
+use Rattle.su_op.proofs.RuleLemmas.{Admissible, PlanMakesNew}
 
 module _ (ro : Membership) (a : ℕ) (c : Create) where
-  pub create_local : (T T' : Tree) (p : Plan) → Gives (create_rule ro T a c) p → AgreeOn (plan_reads p) T T' → Gives (create_rule ro T' a c) p
+  create_local : (T T' : Tree) (p : Plan) → Gives (create_rule ro T a c) p → AgreeOn (plan_reads p) T T' → Gives (create_rule ro T' a c) p
   create_local T T' p (own, (touch, (touch', (d, at, (is, (holder, (free, (new, plan)))))))) agree =
       let all : AgreeOn (plan_reads (create_plan a c d)) T T' = subst (λ p. AgreeOn (plan_reads p) T T') (sym plan) agree in
       let reads : AgreeOn (file_areas c.dir d) T T' = left (file_areas c.dir d) _ all in
@@ -36,7 +36,7 @@ module _ (ro : Membership) (a : ℕ) (c : Create) where
       let free' = ap (λ b. b && is_nothing (val T' (At (a, c.body) KindOf))) (is_pointer_free_same c.file (Some (a, c.body)) (later (later (later w2)))) ∙ ap (λ v. is_pointer_free T c.file && is_nothing v) (kind_same w2) ∙ free in
       (own, (touch, (touch', (d, body_same c.dir d at reads, (ap is_dir_kind (kind_same reads) ∙ is, (holder, (free', (ap is_nothing (name_same w1) ∙ new, plan))))))))
 
-  pub create_can : (T : Tree) (p : Plan) → Sound T → Gives (create_rule ro T a c) p → CanEdits T p.edits
+  create_can : (T : Tree) (p : Plan) → Sound T → Gives (create_rule ro T a c) p → CanEdits T p.edits
   create_can T p sound (own, (touch, (touch', (d, at, (is, (holder, (free, (new, plan)))))))) =
       let dir! : IsA Dir (get T.inodes d) = IsA_dir T d is in
       let (_, nothing) = and_parts (is_pointer_free T c.file) _ free in
@@ -50,13 +50,21 @@ module _ (ro : Membership) (a : ℕ) (c : Create) where
         ),
       )
 
-pub create_new : (ro : Membership) (T : Tree) (a : ℕ) (c : Create) (p : Plan) → Gives (create_rule ro T a c) p → PlanMakesNew T p
+create_new : (ro : Membership) (T : Tree) (a : ℕ) (c : Create) (p : Plan) → Gives (create_rule ro T a c) p → PlanMakesNew T p
 create_new ro T a c p (own, (touch, (touch', (d, at, (is, (holder, (free, (new, plan)))))))) =
     let (_, nothing) = and_parts (is_pointer_free T c.file) _ free in
     subst (PlanMakesNew T) plan (nothing, pointers_make_none T c.file _)
 
-pub create_row : (c : Create) → CreateRow c
+create_row : (c : Create) → CreateRow c
 create_row c a d = record {
   reads = refl;
   writes = ap (λ w. name_cell c.name d ∷ kind_cell (a, c.body) ∷ links_cell (a, c.body) ∷ size_cell (a, c.body) ∷ w) (pointer_written c.file _);
+}
+
+pub create_admissible : (c : Create) → Admissible (λ ro T x. create_rule ro T x.author c) (CreateRow c)
+create_admissible c = record {
+  local = λ ro x T T' p sound. create_local ro x.author c T T' p;
+  can = λ ro x. create_can ro x.author c;
+  new = λ ro x T. create_new ro T x.author c;
+  row = create_row c;
 }

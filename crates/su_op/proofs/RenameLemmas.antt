@@ -20,7 +20,7 @@ use Rattle.su_op.specs.Soundness.{IsA}
 use Rattle.su_op.proofs.EditLemmas.{CanEdits}
 use Rattle.su_op.proofs.RuleLemmas.{Gives, AgreeOn, left, right, later, kind_same, name_same, body_same, IsA_dir, kind_after_name}
 use Rattle.su_op.specs.Rename.{RenameRow}
-use Rattle.su_op.proofs.RuleLemmas.{OfEachPlan, PlanMakesNew}
+use Rattle.su_op.proofs.RuleLemmas.{Admissible, OfEachPlan, PlanMakesNew, of_given}
 
 there_is : {A : Type 0} (o : Option A) → is_some o ≡ true → (x : A) × (o ≡ Some x)
 there_is None e = absurd cc
@@ -39,7 +39,7 @@ module _ (T T' : Tree) (file : FileId) where
   moves_same (Some f) agree = ap is_dir_kind (kind_same agree)
 
 module _ (ro : Membership) (a : ℕ) (r : Rename) where
-  pub rename_local : (T T' : Tree) (p : Plan) → Gives (rename_rule ro T a r) p → AgreeOn (plan_reads p) T T' → Gives (rename_rule ro T' a r) p
+  rename_local : (T T' : Tree) (p : Plan) → Gives (rename_rule ro T a r) p → AgreeOn (plan_reads p) T T' → Gives (rename_rule ro T' a r) p
   rename_local T T' p (touch, (touch', (d, at_d, (t, at_t, (found, (dir_d, (dir_t, (holder_d, (holder_t, (named, (new, (stay, plan)))))))))))) agree =
       let m : Option Place = moved T r in
       let all : AgreeOn (plan_reads (rename_plan m r d t)) T T' = subst (λ p. AgreeOn (plan_reads p) T T') (sym plan) agree in
@@ -80,7 +80,7 @@ module _ (ro : Membership) (a : ℕ) (r : Rename) where
         ),
       )
 
-  pub rename_can : (T : Tree) (p : Plan) → Gives (rename_rule ro T a r) p → CanEdits T p.edits
+  rename_can : (T : Tree) (p : Plan) → Gives (rename_rule ro T a r) p → CanEdits T p.edits
   rename_can T p (touch, (touch', (d, at_d, (t, at_t, (found, (dir_d, (dir_t, (holder_d, (holder_t, (named, (new, (stay, plan)))))))))))) =
       let target! : IsA Dir (get T.inodes t) = IsA_dir T t dir_t in
       let named : Tree = edit T (Inodes t (Named r.new_ (Some r.file))) in
@@ -102,8 +102,16 @@ module _ (T : Tree) (a : ℕ) (r : Rename) (m : Option Place) (d t : Place) (dir
   pub accepted_at : is_name_free_at T t r.new_ ≡ true → moves_directory T m ≡ false → refusal (rename_rule_at T a r m d t) ≡ None
   accepted_at new stay = passes _ _ _ dir_d ∙ passes _ _ _ dir_t ∙ passes _ _ _ holder_d ∙ passes _ _ _ holder_t ∙ passes _ _ _ named ∙ passes _ _ _ new ∙ passes _ _ _ (ap not stay)
 
-pub rename_new : (ro : Membership) (T : Tree) (a : ℕ) (r : Rename) → OfEachPlan (PlanMakesNew T) (rename_rule ro T a r)
+rename_new : (ro : Membership) (T : Tree) (a : ℕ) (r : Rename) → OfEachPlan (PlanMakesNew T) (rename_rule ro T a r)
 rename_new ro T a r = λ d t. tt
 
-pub rename_row : (r : Rename) → RenameRow r
+rename_row : (r : Rename) → RenameRow r
 rename_row r moved d t = record { reads = refl; writes = refl }
+
+pub rename_admissible : (r : Rename) → Admissible (λ ro T x. rename_rule ro T x.author r) (RenameRow r)
+rename_admissible r = record {
+  local = λ ro x T T' p sound. rename_local ro x.author r T T' p;
+  can = λ ro x T p sound. rename_can ro x.author r T p;
+  new = λ ro x T p. of_given (PlanMakesNew T) (rename_rule ro T x.author r) p (rename_new ro T x.author r);
+  row = rename_row r;
+}

@@ -22,8 +22,10 @@ use Rattle.su_op.specs.declared.areas.Area.{Area}
 use Rattle.su_op.specs.declared.areas.Area.TheVariants.{Inode as InodeArea, Pointer as PointerArea}
 use Rattle.su_op.specs.Area.{in_area, has}
 use Rattle.su_op.specs.Footprint.{edits_areas}
-use Rattle.su_op.specs.Rule.{Plan, Rule, Rule.Accept, Rule.Demand, Rule.Find, refusal, plan_of, pointer_edits, file_areas}
+use Rattle.su_op.specs.Rule.{Plan, Rule, Rule.Accept, Rule.Demand, Rule.Find, refusal, plan_of, plan_reads, pointer_edits, file_areas}
 use Rattle.su_op.specs.Soundness.{IsA, IsBodyOf, Sound}
+use Rattle.su_op.specs.Action.{Action}
+use Rattle.su_bytes.specs.Membership.{Membership}
 use Rattle.su_op.proofs.KeyLemmas.{place_eq-itself, name_eq-itself}
 use Rattle.su_op.proofs.InodeChangeLemmas.{HasOneLink, inode_same}
 use Rattle.su_op.proofs.EditLemmas.{IsFree, CanEdits, MakesNew, edit_leaves, pointer_after}
@@ -182,6 +184,17 @@ can_pointer_some T (Group g k) p home = (home (g, k) refl, tt)
 -- the plan's inodes are made where nothing stood
 abbrev pub PlanMakesNew : Tree → Plan → Type 0
 PlanMakesNew T p = MakesNew T p.edits
+
+-- what is shown of an operation, by its rule for the action that has it, and its row
+pub record Admissible (rule : Membership → Tree → Action → Rule) (Row : Type 0) : Type 0 where
+  -- it is accepted with the same plan where the cells agree that it reads
+  pub local : (ro : Membership) (x : Action) (T T' : Tree) (p : Plan) → Sound T → Gives (rule ro T x) p → AgreeOn (plan_reads p) T T' → Gives (rule ro T' x) p
+  -- its edits can be made
+  pub can : (ro : Membership) (x : Action) (T : Tree) (p : Plan) → Sound T → Gives (rule ro T x) p → CanEdits T p.edits
+  -- its inodes are made where nothing stood
+  pub new : (ro : Membership) (x : Action) (T : Tree) (p : Plan) → Gives (rule ro T x) p → PlanMakesNew T p
+  -- its row of the table of cells
+  pub row : Row
 
 pub pointers_make_none : (T : Tree) (f : FileId) (v : Option Place) → MakesNew T (pointer_edits f v)
 pointers_make_none T (User u i) v = tt

@@ -21,7 +21,7 @@ use Rattle.su_op.specs.Footprint.{parts, edit_areas, edits_areas}
 use Rattle.su_op.specs.Operation.{rule_of, why, writes}
 use Rattle.su_op.specs.Rule.{plan_of}
 use Rattle.su_op.specs.Soundness.{IsA, Sound, WholeOrNew, KindOrFile}
-use Rattle.su_op.specs.Store.{Action}
+use Rattle.su_op.specs.Action.{Action}
 use Rattle.su_op.proofs.KeyLemmas.{place_eq-same}
 use Rattle.su_op.proofs.EditLemmas.{CanEdit, CanEdits, has_parts, written_kind, resized_kind, edit_leaves}
 use Rattle.su_op.proofs.StoreLemmas.{can_of_action, new_of_action}
@@ -145,18 +145,18 @@ edits_new T (Pointers g v ∷ es) new = (tt, edits_new T es new)
 -- ---- operations
 
 -- an accepted operation that writes the kind of an inode writes all of it, or nothing stood there
-pub kind_written : (ro : Membership) (T : Tree) (x : Action) (p : Place) → Sound T → is_none (why ro T x.author x.op) ≡ true → has (writes ro T x.author x.op) (At p KindOf) ≡ true → WholeOrNew T p (has (writes ro T x.author x.op))
+pub kind_written : (ro : Membership) (T : Tree) (x : Action) (p : Place) → Sound T → is_none (why ro T x) ≡ true → has (writes ro T x) (At p KindOf) ≡ true → WholeOrNew T p (has (writes ro T x))
 unfolding writes
-kind_written ro T x p sound ok wrote = edits_kind T (plan_of (rule_of ro T x.author x.op)).edits p (can_of_action ro T x sound ok) wrote
+kind_written ro T x p sound ok wrote = edits_kind T (plan_of (rule_of ro T x)).edits p (can_of_action ro T x sound ok) wrote
 
 -- an accepted operation that writes a block writes the kind too, or a file stands there
-pub block_written : (ro : Membership) (T : Tree) (x : Action) (p : Place) (n : ℕ) → Sound T → is_none (why ro T x.author x.op) ≡ true → has (writes ro T x.author x.op) (At p (BlockOf n)) ≡ true → KindOrFile T p (has (writes ro T x.author x.op))
+pub block_written : (ro : Membership) (T : Tree) (x : Action) (p : Place) (n : ℕ) → Sound T → is_none (why ro T x) ≡ true → has (writes ro T x) (At p (BlockOf n)) ≡ true → KindOrFile T p (has (writes ro T x))
 unfolding writes
-block_written ro T x p n sound ok wrote = edits_block T (plan_of (rule_of ro T x.author x.op)).edits p n (can_of_action ro T x sound ok) wrote
+block_written ro T x p n sound ok wrote = edits_block T (plan_of (rule_of ro T x)).edits p n (can_of_action ro T x sound ok) wrote
 
 -- an accepted operation writes a kind alone only where nothing stands
-pub kinds_new : (ro : Membership) (T : Tree) (x : Action) → is_none (why ro T x.author x.op) ≡ true → All (KindIsNew T) (writes ro T x.author x.op)
+pub kinds_new : (ro : Membership) (T : Tree) (x : Action) → is_none (why ro T x) ≡ true → All (KindIsNew T) (writes ro T x)
 unfolding writes
 kinds_new ro T x ok =
-    let es : List Edit = (plan_of (rule_of ro T x.author x.op)).edits in
+    let es : List Edit = (plan_of (rule_of ro T x)).edits in
     All-from_recursion (KindIsNew T) (edits_areas es) (edits_new T es (new_of_action ro T x ok))

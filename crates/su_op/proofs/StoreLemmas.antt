@@ -1,5 +1,5 @@
 -- The store is a lawful system: its operations are local, and keep its trees sound.
-use Rattle.std.proofs.Common.{◌≡◌, ℕ, Bool, true, false, cond, Option, Some, None, refl, sym, ap, ◌∙◌, subst, arith}
+use Rattle.std.proofs.Common.{◌≡◌, Bool, true, false, cond, Option, Some, None, refl, sym, ap, ◌∙◌, subst, arith}
 use Rattle.std.proofs.lemmas.List.Folds.{list_any-append}
 use Rattle.std.specs.Option.{is_none}
 use Rattle.std.specs.FinMap.{get, empty, get-empty}
@@ -19,76 +19,47 @@ use Rattle.su_op.specs.Rule.{Plan, refusal, plan_of, plan_reads, plan_writes}
 use Rattle.su_op.specs.Operation.{rule_by_user, rule_of, Row, why, effect, reads, writes}
 use Rattle.su_op.specs.Soundness.{WellLinked, IsBodyOf, Sound}
 use Rattle.su_undo.specs.System.{LeavesOthers, IsLocal, Lawful}
-use Rattle.su_op.specs.Store.{Action, store}
+use Rattle.su_op.specs.Action.{Action}
+use Rattle.su_op.specs.Store.{store}
 use Rattle.su_op.proofs.KeyLemmas.{get-set_place, place_eq-itself, place_eq-same}
 use Rattle.su_op.proofs.InodeChangeLemmas.{number_same}
 use Rattle.su_op.proofs.EditLemmas.{CanEdits, edits_leave, edits_alike, edits_sound, tree_same, place_same_value}
 use Rattle.su_op.proofs.AreaLemmas.{areas_apart}
-use Rattle.su_op.proofs.RuleLemmas.{Gives, AgreeOn, gives_of, of_gives}
-use Rattle.su_op.proofs.CreateLemmas.{create_local, create_can, create_new, create_row}
-use Rattle.su_op.proofs.UnlinkLemmas.{unlink_local, unlink_can, unlink_new, unlink_row}
-use Rattle.su_op.proofs.WriteLemmas.{write_local, write_can, write_new, write_row}
-use Rattle.su_op.proofs.TruncateLemmas.{truncate_local, truncate_can, truncate_new, truncate_row}
-use Rattle.su_op.proofs.TakeLemmas.{take_local, take_can, take_new, take_row}
-use Rattle.su_op.proofs.LinkLemmas.{link_local, link_can, link_new, link_row}
-use Rattle.su_op.proofs.RenameLemmas.{rename_local, rename_can, rename_new, rename_row}
-use Rattle.su_op.proofs.RuleLemmas.{PlanMakesNew, of_given}
-use Rattle.su_op.specs.Unlink.{unlink_rule}
-use Rattle.su_op.specs.Write.{write_rule}
-use Rattle.su_op.specs.Truncate.{truncate_rule}
-use Rattle.su_op.specs.Take.{take_rule}
-use Rattle.su_op.specs.Link.{link_rule}
-use Rattle.su_op.specs.Rename.{rename_rule}
+use Rattle.su_op.proofs.RuleLemmas.{Admissible, Gives, AgreeOn, PlanMakesNew, gives_of, of_gives}
+use Rattle.su_op.proofs.CreateLemmas.{create_admissible}
+use Rattle.su_op.proofs.UnlinkLemmas.{unlink_admissible}
+use Rattle.su_op.proofs.WriteLemmas.{write_admissible}
+use Rattle.su_op.proofs.TruncateLemmas.{truncate_admissible}
+use Rattle.su_op.proofs.TakeLemmas.{take_admissible}
+use Rattle.su_op.proofs.LinkLemmas.{link_admissible}
+use Rattle.su_op.proofs.RenameLemmas.{rename_admissible}
 use Rattle.std.proofs.lemmas.Bool.{or_right}
 
--- ---- by cases over the operations
+-- ---- operations
 
-local_by_user : (ro : Membership) (a : ℕ) (x : Op) (T T' : Tree) (p : Plan) → Sound T → Gives (rule_by_user ro T a x) p → AgreeOn (plan_reads p) T T' → Gives (rule_by_user ro T' a x) p
-local_by_user ro a (Create c) T T' p sound g agree = create_local ro a c T T' p g agree
-local_by_user ro a (Unlink u) T T' p sound g agree = unlink_local ro a u T T' p sound g agree
-local_by_user ro a (Write w) T T' p sound g agree = write_local ro a w T T' p g agree
-local_by_user ro a (Truncate t) T T' p sound g agree = truncate_local ro a t T T' p g agree
-local_by_user ro a (Take t) T T' p sound g agree = take_local ro a t T T' p g agree
-local_by_user ro a (Link l) T T' p sound g agree = link_local ro a l T T' p g agree
-local_by_user ro a (Rename r) T T' p sound g agree = rename_local ro a r T T' p g agree
+-- by cases over them
+admissible : (op : Op) → Admissible (λ ro T x. rule_by_user ro T x op) (Row op)
+admissible (Create c) = create_admissible c
+admissible (Unlink u) = unlink_admissible u
+admissible (Write w) = write_admissible w
+admissible (Truncate t) = truncate_admissible t
+admissible (Take t) = take_admissible t
+admissible (Link l) = link_admissible l
+admissible (Rename r) = rename_admissible r
 
-can_by_user : (ro : Membership) (a : ℕ) (x : Op) (T : Tree) (p : Plan) → Sound T → Gives (rule_by_user ro T a x) p → CanEdits T p.edits
-can_by_user ro a (Create c) T p sound g = create_can ro a c T p sound g
-can_by_user ro a (Unlink u) T p sound g = unlink_can ro a u T p sound g
-can_by_user ro a (Write w) T p sound g = write_can ro a w T p g
-can_by_user ro a (Truncate t) T p sound g = truncate_can ro a t T p g
-can_by_user ro a (Take t) T p sound g = take_can ro a t T p sound g
-can_by_user ro a (Link l) T p sound g = link_can ro a l T p sound g
-can_by_user ro a (Rename r) T p sound g = rename_can ro a r T p g
+pub row_of : (op : Op) → Row op
+row_of op = (admissible op).row
 
-new_by_user : (ro : Membership) (a : ℕ) (x : Op) (T : Tree) (p : Plan) → Gives (rule_by_user ro T a x) p → PlanMakesNew T p
-new_by_user ro a (Create c) T p g = create_new ro T a c p g
-new_by_user ro a (Unlink u) T p g = of_given (PlanMakesNew T) (unlink_rule ro T a u) p (unlink_new ro T a u) g
-new_by_user ro a (Write w) T p g = of_given (PlanMakesNew T) (write_rule ro T a w) p (write_new ro T a w) g
-new_by_user ro a (Truncate t) T p g = of_given (PlanMakesNew T) (truncate_rule ro T a t) p (truncate_new ro T a t) g
-new_by_user ro a (Take t) T p g = of_given (PlanMakesNew T) (take_rule ro T a t) p (take_new ro T a t) g
-new_by_user ro a (Link l) T p g = of_given (PlanMakesNew T) (link_rule ro T a l) p (link_new ro T a l) g
-new_by_user ro a (Rename r) T p g = of_given (PlanMakesNew T) (rename_rule ro T a r) p (rename_new ro T a r) g
+-- ---- the same of an action, with its author
 
--- ---- the same, with the user
+local_of : (ro : Membership) (x : Action) (T T' : Tree) (p : Plan) → Sound T → Gives (rule_of ro T x) p → AgreeOn (plan_reads p) T T' → Gives (rule_of ro T' x) p
+local_of ro x T T' p sound (user, g) agree = (user, (admissible x.op).local ro x T T' p sound g agree)
 
-local_of : (ro : Membership) (a : ℕ) (x : Op) (T T' : Tree) (p : Plan) → Sound T → Gives (rule_of ro T a x) p → AgreeOn (plan_reads p) T T' → Gives (rule_of ro T' a x) p
-local_of ro a x T T' p sound (user, g) agree = (user, local_by_user ro a x T T' p sound g agree)
+can_of : (ro : Membership) (x : Action) (T : Tree) (p : Plan) → Sound T → Gives (rule_of ro T x) p → CanEdits T p.edits
+can_of ro x T p sound (user, g) = (admissible x.op).can ro x T p sound g
 
-can_of : (ro : Membership) (a : ℕ) (x : Op) (T : Tree) (p : Plan) → Sound T → Gives (rule_of ro T a x) p → CanEdits T p.edits
-can_of ro a x T p sound (user, g) = can_by_user ro a x T p sound g
-
-new_of : (ro : Membership) (a : ℕ) (x : Op) (T : Tree) (p : Plan) → Gives (rule_of ro T a x) p → PlanMakesNew T p
-new_of ro a x T p (user, g) = new_by_user ro a x T p g
-
-pub row_of : (x : Op) → Row x
-row_of (Create c) = create_row c
-row_of (Unlink u) = unlink_row u
-row_of (Write w) = write_row w
-row_of (Truncate t) = truncate_row t
-row_of (Take t) = take_row t
-row_of (Link l) = link_row l
-row_of (Rename r) = rename_row r
+new_of : (ro : Membership) (x : Action) (T : Tree) (p : Plan) → Gives (rule_of ro T x) p → PlanMakesNew T p
+new_of ro x T p (user, g) = (admissible x.op).new ro x T p g
 
 -- ---- the laws
 
@@ -100,42 +71,42 @@ in_reads : (p : Plan) (c : Cell) → has (plan_writes p) c ≡ true → has (pla
 in_reads p c e = list_any-append (λ a. in_area a c) p.reads (plan_writes p) ∙ or_right (has p.reads c) (has (plan_writes p) c) e
 
 module _ (ro : Membership) where
-  given : (T : Tree) (x : Action) → is_none (why ro T x.author x.op) ≡ true → Gives (rule_of ro T x.author x.op) (plan_of (rule_of ro T x.author x.op))
+  given : (T : Tree) (x : Action) → is_none (why ro T x) ≡ true → Gives (rule_of ro T x) (plan_of (rule_of ro T x))
   unfolding why
-  given T x ok = gives_of (rule_of ro T x.author x.op) (none_is (refusal (rule_of ro T x.author x.op)) ok)
+  given T x ok = gives_of (rule_of ro T x) (none_is (refusal (rule_of ro T x)) ok)
 
-  pub can_of_action : (T : Tree) (x : Action) → Sound T → is_none (why ro T x.author x.op) ≡ true → CanEdits T (plan_of (rule_of ro T x.author x.op)).edits
-  can_of_action T x sound ok = can_of ro x.author x.op T (plan_of (rule_of ro T x.author x.op)) sound (given T x ok)
+  pub can_of_action : (T : Tree) (x : Action) → Sound T → is_none (why ro T x) ≡ true → CanEdits T (plan_of (rule_of ro T x)).edits
+  can_of_action T x sound ok = can_of ro x T (plan_of (rule_of ro T x)) sound (given T x ok)
 
-  pub new_of_action : (T : Tree) (x : Action) → is_none (why ro T x.author x.op) ≡ true → PlanMakesNew T (plan_of (rule_of ro T x.author x.op))
-  new_of_action T x ok = new_of ro x.author x.op T (plan_of (rule_of ro T x.author x.op)) (given T x ok)
+  pub new_of_action : (T : Tree) (x : Action) → is_none (why ro T x) ≡ true → PlanMakesNew T (plan_of (rule_of ro T x))
+  new_of_action T x ok = new_of ro x T (plan_of (rule_of ro T x)) (given T x ok)
 
   store_leaves : LeavesOthers (store ro)
   unfolding effect writes
-  store_leaves T x sound ok c out = edits_leave T (plan_of (rule_of ro T x.author x.op)).edits c (can_of_action T x sound ok) out
+  store_leaves T x sound ok c out = edits_leave T (plan_of (rule_of ro T x)).edits c (can_of_action T x sound ok) out
 
   store_local : IsLocal (store ro)
   unfolding why effect reads writes
   store_local T T' x sound sound' ok agree =
-      let p : Plan = plan_of (rule_of ro T x.author x.op) in
-      let g : Gives (rule_of ro T' x.author x.op) p = local_of ro x.author x.op T T' p sound (given T x ok) (record { each = agree }) in
-      let (fine, same) = of_gives (rule_of ro T' x.author x.op) p g in
-      let ok' : is_none (refusal (rule_of ro T' x.author x.op)) ≡ true = ap is_none fine in
+      let p : Plan = plan_of (rule_of ro T x) in
+      let g : Gives (rule_of ro T' x) p = local_of ro x T T' p sound (given T x ok) (record { each = agree }) in
+      let (fine, same) = of_gives (rule_of ro T' x) p g in
+      let ok' : is_none (refusal (rule_of ro T' x)) ≡ true = ap is_none fine in
       record {
         ok = ok';
         reads = ap plan_reads same;
         writes = ap plan_writes same;
         values = λ c wrote. ap (λ (q : Plan). val (edits T' q.edits) c) same
-            ∙ edits_alike T' T p.edits c (can_of ro x.author x.op T' p sound' g) (can_of_action T x sound ok) (agree c (in_reads p c wrote));
+            ∙ edits_alike T' T p.edits c (can_of ro x T' p sound' g) (can_of_action T x sound ok) (agree c (in_reads p c wrote));
       }
 
-  store_within : (T : Tree) (x : Action) (c : Cell) → Sound T → is_none (why ro T x.author x.op) ≡ true → has (writes ro T x.author x.op) c ≡ true → has (reads ro T x.author x.op) c ≡ true
+  store_within : (T : Tree) (x : Action) (c : Cell) → Sound T → is_none (why ro T x) ≡ true → has (writes ro T x) c ≡ true → has (reads ro T x) c ≡ true
   unfolding reads writes
-  store_within T x c sound ok wrote = in_reads (plan_of (rule_of ro T x.author x.op)) c wrote
+  store_within T x c sound ok wrote = in_reads (plan_of (rule_of ro T x)) c wrote
 
-  store_stays_sound : (T : Tree) (x : Action) → Sound T → is_none (why ro T x.author x.op) ≡ true → Sound (effect ro T x.author x.op)
+  store_stays_sound : (T : Tree) (x : Action) → Sound T → is_none (why ro T x) ≡ true → Sound (effect ro T x)
   unfolding effect
-  store_stays_sound T x sound ok = edits_sound T (plan_of (rule_of ro T x.author x.op)).edits (can_of_action T x sound ok) sound
+  store_stays_sound T x sound ok = edits_sound T (plan_of (rule_of ro T x)).edits (can_of_action T x sound ok) sound
 
   root : Inode
   root = new_inode (Group 0 1) Dir

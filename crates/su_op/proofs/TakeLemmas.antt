@@ -26,7 +26,7 @@ use Rattle.su_op.proofs.RuleLemmas.{Gives, AgreeOn, left, right, later, field_sa
 use Rattle.su_op.specs.Take.{TakeRow}
 use Rattle.su_op.proofs.RuleLemmas.{pointer_written}
 use Rattle.su_op.proofs.RuleLemmas.{pointers_make_none}
-use Rattle.su_op.proofs.RuleLemmas.{OfEachPlan, PlanMakesNew}
+use Rattle.su_op.proofs.RuleLemmas.{Admissible, OfEachPlan, PlanMakesNew, of_given}
 
 copy_parts : (o : Option Inode) → parts (copy_of o) ≡ WholePart ∷ []
 copy_parts None = refl
@@ -56,7 +56,7 @@ unfolding val
 copied_body T p f g (k, home) = (k, field_after T p (copy_of (get T.inodes f)) KindOf ∙ ap (λ o. field_value o KindOf) (copied_is (get T.inodes f) (get T.inodes p)) ∙ home)
 
 module _ (ro : Membership) (a : ℕ) (t : Take) where
-  pub take_local : (T T' : Tree) (p : Plan) → Gives (take_rule ro T a t) p → AgreeOn (plan_reads p) T T' → Gives (take_rule ro T' a t) p
+  take_local : (T T' : Tree) (p : Plan) → Gives (take_rule ro T a t) p → AgreeOn (plan_reads p) T T' → Gives (take_rule ro T' a t) p
   take_local T T' p (group, (touch, (f, at, (free, plan)))) agree =
       let o : Option Inode = get T.inodes f in
       let all : AgreeOn (plan_reads (take_plan o a t f)) T T' = subst (λ p. AgreeOn (plan_reads p) T T') (sym plan) agree in
@@ -66,7 +66,7 @@ module _ (ro : Membership) (a : ℕ) (t : Take) where
       let free' = ap (λ v. not (nat_eq f.0 a) && is_nothing v) (field_same KindOf new) ∙ free in
       (group, (touch, (f, body_same t.file f at (later reads), (free', ap (λ o. take_plan o a t f) (whole_same reads) ∙ plan))))
 
-  pub take_can : (T : Tree) (p : Plan) → Sound T → Gives (take_rule ro T a t) p → CanEdits T p.edits
+  take_can : (T : Tree) (p : Plan) → Sound T → Gives (take_rule ro T a t) p → CanEdits T p.edits
   take_can T p sound (group, (touch, (f, at, (free, plan)))) =
       let o : Option Inode = get T.inodes f in
       let (_, nothing) = and_parts (not (nat_eq f.0 a)) _ free in
@@ -88,8 +88,16 @@ pub copied_back : (T : Tree) (p : Place) (o : Option Inode) → is_free_at T p �
 copied_back T p (Some i) free = copied_gone T p i free
 copied_back T p None free = ap (edit (edit T (Inodes p Gone))) (sym (gone_free T p free)) ∙ edit-back T (Inodes p Gone)
 
-pub take_new : (ro : Membership) (T : Tree) (a : ℕ) (t : Take) → OfEachPlan (PlanMakesNew T) (take_rule ro T a t)
+take_new : (ro : Membership) (T : Tree) (a : ℕ) (t : Take) → OfEachPlan (PlanMakesNew T) (take_rule ro T a t)
 take_new ro T a t = λ f. copy_makes_none T (a, t.body) (get T.inodes f) t.file (Some (a, t.body))
 
-pub take_row : (t : Take) → TakeRow t
+take_row : (t : Take) → TakeRow t
 take_row t o a f = record { reads = refl; writes = take_writes o a t f }
+
+pub take_admissible : (t : Take) → Admissible (λ ro T x. take_rule ro T x.author t) (TakeRow t)
+take_admissible t = record {
+  local = λ ro x T T' p sound. take_local ro x.author t T T' p;
+  can = λ ro x. take_can ro x.author t;
+  new = λ ro x T p. of_given (PlanMakesNew T) (take_rule ro T x.author t) p (take_new ro T x.author t);
+  row = take_row t;
+}

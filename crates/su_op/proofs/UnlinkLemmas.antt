@@ -27,7 +27,7 @@ use Rattle.su_op.proofs.RuleLemmas.{Gives, AgreeOn, left, right, later, kind_sam
 use Rattle.su_op.specs.Unlink.{UnlinkRow}
 use Rattle.su_op.specs.Area.{links_cell, name_cell, all_cells}
 use Rattle.su_op.specs.Rule.{pointer_areas}
-use Rattle.su_op.proofs.RuleLemmas.{OfEachPlan, PlanMakesNew}
+use Rattle.su_op.proofs.RuleLemmas.{Admissible, OfEachPlan, PlanMakesNew, of_given}
 use Rattle.su_table.specs.Query.{links_at}
 
 whole_of : (T T' : Tree) (f : Place) (file : FileId) → AgreeOn (edits_areas (file_goes file f)) T T' → AgreeOn (InodeArea f WholePart ∷ []) T T'
@@ -35,7 +35,7 @@ whole_of T T' f (User u i) agree = agree
 whole_of T T' f (Group g k) agree = later agree
 
 module _ (ro : Membership) (a : ℕ) (u : Unlink) where
-  pub unlink_local : (T T' : Tree) (p : Plan) → Sound T → Gives (unlink_rule ro T a u) p → AgreeOn (plan_reads p) T T' → Gives (unlink_rule ro T' a u) p
+  unlink_local : (T T' : Tree) (p : Plan) → Sound T → Gives (unlink_rule ro T a u) p → AgreeOn (plan_reads p) T T' → Gives (unlink_rule ro T' a u) p
   unlink_local T T' p sound (touch, (touch', (d, at, (f, at_f, (is, (holder, (holder', (named, (empty, plan))))))))) agree =
       let l : ℕ = value_number (val T (At f LinksOf)) in
       let all : AgreeOn (plan_reads (unlink_plan l u d f)) T T' = subst (λ p. AgreeOn (plan_reads p) T T') (sym plan) agree in
@@ -74,7 +74,7 @@ module _ (ro : Membership) (a : ℕ) (u : Unlink) where
           apart : true ≡ false → ⊥
           apart e = absurd cc
 
-  pub unlink_can : (T : Tree) (p : Plan) → Sound T → Gives (unlink_rule ro T a u) p → CanEdits T p.edits
+  unlink_can : (T : Tree) (p : Plan) → Sound T → Gives (unlink_rule ro T a u) p → CanEdits T p.edits
   unlink_can T p sound (touch, (touch', (d, at, (f, at_f, (is, (holder, (holder', (named, (empty, plan))))))))) =
       let dir! : IsA Dir (get T.inodes d) = IsA_dir T d is in
       let links : ℕ = value_number (val T (At f LinksOf)) in
@@ -87,7 +87,7 @@ module _ (ro : Membership) (a : ℕ) (u : Unlink) where
           (((IsA_file (edit T (Inodes d (Named u.name None))) f (ap is_file_kind (kind_after_name T d u.name None f dir!) ∙ many_links T f ((sound.linked f).one) many), omega arith, omega arith), tt), tt)
       go d f at_f dir! false last = last_can T d f sound u.file at_f
 
-pub unlink_new : (ro : Membership) (T : Tree) (a : ℕ) (u : Unlink) → OfEachPlan (PlanMakesNew T) (unlink_rule ro T a u)
+unlink_new : (ro : Membership) (T : Tree) (a : ℕ) (u : Unlink) → OfEachPlan (PlanMakesNew T) (unlink_rule ro T a u)
 unlink_new ro T a u = λ d f. go (nat_le 2 (links_at T f)) u.file (links_at T f) f
   where
     go : (b : Bool) (file : FileId) (links : ℕ) (f : Place) → MakesNew T (if b then fewer_links links f else file_goes file f)
@@ -95,10 +95,18 @@ unlink_new ro T a u = λ d f. go (nat_le 2 (links_at T f)) u.file (links_at T f)
     go false (User v i) links f = tt
     go false (Group g k) links f = tt
 
-pub unlink_row : (u : Unlink) → UnlinkRow u
+unlink_row : (u : Unlink) → UnlinkRow u
 unlink_row u l d f = record { reads = refl; writes = ap (λ w. name_cell u.name d ∷ w) (go (nat_le 2 l) u.file) }
   where
     go : (b : Bool) (file : FileId) → edits_areas (if b then fewer_links l f else file_goes file f) ≡ (if b then links_cell f ∷ [] else pointer_areas file ++ all_cells f ∷ [])
     go true file = refl
     go false (User v i) = refl
     go false (Group g k) = refl
+
+pub unlink_admissible : (u : Unlink) → Admissible (λ ro T x. unlink_rule ro T x.author u) (UnlinkRow u)
+unlink_admissible u = record {
+  local = λ ro x. unlink_local ro x.author u;
+  can = λ ro x. unlink_can ro x.author u;
+  new = λ ro x T p. of_given (PlanMakesNew T) (unlink_rule ro T x.author u) p (unlink_new ro T x.author u);
+  row = unlink_row u;
+}

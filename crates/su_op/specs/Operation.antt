@@ -1,5 +1,5 @@
 -- The operations by cases: whether one is accepted, and what it then makes of the tree.
-use Rattle.std.specs.Prelude.{ℕ, List, Option, ⊤}
+use Rattle.std.specs.Prelude.{List, Option, ⊤}
 use Rattle.su_bytes.specs.declared.refusals.Refusal.{Refusal}
 use Rattle.su_bytes.specs.declared.refusals.Refusal.TheVariants.{NoUser}
 use Rattle.su_bytes.specs.Membership.{Membership, has_user}
@@ -10,6 +10,7 @@ use Rattle.su_op.specs.declared.operations.Op.{Op}
 use Rattle.su_op.specs.declared.operations.Op.TheVariants.{Create, Unlink, Write, Truncate, Take, Link, Rename}
 use Rattle.su_op.specs.declared.operations.Accepted.{Accepted}
 use Rattle.su_op.specs.declared.operations.Accepted.TheVariants as accepted
+use Rattle.su_op.specs.Action.{Action}
 use Rattle.su_op.specs.Rule.{Plan, Rule, Rule.Demand, refusal, plan_of, plan_reads, plan_writes}
 use Rattle.su_op.specs.Create.{create_rule, accepted_create_plan, CreateFits, CreateRow}
 use Rattle.su_op.specs.Unlink.{unlink_rule, accepted_unlink_plan, UnlinkFits, UnlinkRow}
@@ -19,19 +20,19 @@ use Rattle.su_op.specs.Take.{take_rule, accepted_take_plan, TakeFits, TakeRow}
 use Rattle.su_op.specs.Link.{link_rule, accepted_link_plan, LinkFits, LinkRow}
 use Rattle.su_op.specs.Rename.{rename_rule, accepted_rename_plan, RenameRow}
 
--- the rule of each operation, by one of the users
-abbrev pub rule_by_user : Membership → Tree → ℕ → Op → Rule
-rule_by_user ro T a (Create c) = create_rule ro T a c
-rule_by_user ro T a (Unlink u) = unlink_rule ro T a u
-rule_by_user ro T a (Write w) = write_rule ro T a w
-rule_by_user ro T a (Truncate t) = truncate_rule ro T a t
-rule_by_user ro T a (Take t) = take_rule ro T a t
-rule_by_user ro T a (Link l) = link_rule ro T a l
-rule_by_user ro T a (Rename r) = rename_rule ro T a r
+-- the rule of an action by one of the users, by cases over its operation
+abbrev pub rule_by_user : Membership → Tree → Action → Op → Rule
+rule_by_user ro T x (Create c) = create_rule ro T x.author c
+rule_by_user ro T x (Unlink u) = unlink_rule ro T x.author u
+rule_by_user ro T x (Write w) = write_rule ro T x.author w
+rule_by_user ro T x (Truncate t) = truncate_rule ro T x.author t
+rule_by_user ro T x (Take t) = take_rule ro T x.author t
+rule_by_user ro T x (Link l) = link_rule ro T x.author l
+rule_by_user ro T x (Rename r) = rename_rule ro T x.author r
 
--- the rule of an operation by user a, who has to be one
-abbrev pub rule_of : Membership → Tree → ℕ → Op → Rule
-rule_of ro T a op = Demand (has_user ro a) (NoUser a) (rule_by_user ro T a op)
+-- the rule of an action, whose author has to be a user
+abbrev pub rule_of : Membership → Tree → Action → Rule
+rule_of ro T x = Demand (has_user ro x.author) (NoUser x.author) (rule_by_user ro T x x.op)
 
 -- what an accepted operation does in T
 abbrev pub accepted_plan : Tree → Accepted → Plan
@@ -64,22 +65,22 @@ Row (Take t) = TakeRow t
 Row (Link l) = LinkRow l
 Row (Rename r) = RenameRow r
 
--- ---- what an operation by user a is and does in T
+-- ---- what an action is and does in T
 
 -- why it is not accepted: the first refusal, or none
-unfoldable pub why : Membership → Tree → ℕ → Op → Option Refusal
-why ro T a op = refusal (rule_of ro T a op)
+unfoldable pub why : Membership → Tree → Action → Option Refusal
+why ro T x = refusal (rule_of ro T x)
 
--- ---- of an accepted operation; where `why` is a refusal these say nothing
+-- ---- of an accepted action; where `why` is a refusal these say nothing
 
 -- the tree after it
-unfoldable pub effect : Membership → Tree → ℕ → Op → Tree
-effect ro T a op = edits T (plan_of (rule_of ro T a op)).edits
+unfoldable pub effect : Membership → Tree → Action → Tree
+effect ro T x = edits T (plan_of (rule_of ro T x)).edits
 
 -- the cells that it reads
-unfoldable pub reads : Membership → Tree → ℕ → Op → List Area
-reads ro T a op = plan_reads (plan_of (rule_of ro T a op))
+unfoldable pub reads : Membership → Tree → Action → List Area
+reads ro T x = plan_reads (plan_of (rule_of ro T x))
 
 -- the cells that it writes
-unfoldable pub writes : Membership → Tree → ℕ → Op → List Area
-writes ro T a op = plan_writes (plan_of (rule_of ro T a op))
+unfoldable pub writes : Membership → Tree → Action → List Area
+writes ro T x = plan_writes (plan_of (rule_of ro T x))

@@ -1,21 +1,16 @@
 -- The store as a system of cells.
-use Rattle.std.specs.Prelude.{ℕ, List}
+use Rattle.std.specs.Prelude.{List}
 use Rattle.std.specs.Option.{is_none}
 use Rattle.su_bytes.specs.Membership.{Membership}
 use Rattle.su_table.specs.Tree.{Tree, genesis}
 use Rattle.su_node.specs.Field.{Value}
 use Rattle.su_table.specs.Cell.{Cell, val}
 use Rattle.su_op.specs.declared.areas.Area.{Area}
-use Rattle.su_op.specs.declared.operations.Op.{Op}
 use Rattle.su_op.specs.Area.{has, meet}
+use Rattle.su_op.specs.Action.{Action}
 use Rattle.su_op.specs.Operation.{why, effect, reads, writes}
 use Rattle.su_op.specs.Soundness.{Sound}
 use Rattle.su_undo.specs.System.{System}
-
--- an operation by a user
-pub record Action : Type 0 where
-  pub author : ℕ
-  pub op : Op
 
 -- the trees of a roster's users, and their operations
 abbrev pub store : Membership → System
@@ -30,8 +25,8 @@ store ro = record {
   has = has;
   meet = meet;
   Sound = Sound;
-  ok = λ T x. is_none (why ro T x.author x.op);
-  act = λ T x. effect ro T x.author x.op;
-  reads = λ T x. reads ro T x.author x.op;
-  writes = λ T x. writes ro T x.author x.op;
+  ok = λ T x. is_none (why ro T x);
+  act = effect ro;
+  reads = reads ro;
+  writes = writes ro;
 }

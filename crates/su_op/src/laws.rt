@@ -11,7 +11,8 @@ ghost use Rattle.su_op.specs.Area.{has};
 ghost use Rattle.su_op.specs.Operation.{why, writes, Row};
 ghost use Rattle.su_op.specs.Soundness.{Sound, WholeOrNew, KindIsNew, KindOrFile};
 ghost use Rattle.su_undo.specs.System.{Lawful};
-ghost use Rattle.su_op.specs.Store.{Action, store};
+ghost use Rattle.su_op.specs.Action.{Action};
+ghost use Rattle.su_op.specs.Store.{store};
 ghost use Rattle.su_op.specs.declared.operations.Op.{Op};
 
 /// An operation depends on the cells that it reads alone, leaves the cells that it doesn't write,
@@ -26,16 +27,16 @@ pub fn operations_are_local()
 /// it stays a file.)
 pub fn kinds_change_whole()
     ensures kind { (ro : Membership) (T : Tree) (x : Action) (p : Place) → Sound T
-        → is_none (why ro T x.author x.op) ≡ true
-        → has (writes ro T x.author x.op) (At p KindOf) ≡ true
-        → WholeOrNew T p (has (writes ro T x.author x.op)) }
+        → is_none (why ro T x) ≡ true
+        → has (writes ro T x) (At p KindOf) ≡ true
+        → WholeOrNew T p (has (writes ro T x)) }
     ensures new { (ro : Membership) (T : Tree) (x : Action)
-        → is_none (why ro T x.author x.op) ≡ true
-        → All (KindIsNew T) (writes ro T x.author x.op) }
+        → is_none (why ro T x) ≡ true
+        → All (KindIsNew T) (writes ro T x) }
     ensures block { (ro : Membership) (T : Tree) (x : Action) (p : Place) (n : ℕ) → Sound T
-        → is_none (why ro T x.author x.op) ≡ true
-        → has (writes ro T x.author x.op) (At p (BlockOf n)) ≡ true
-        → KindOrFile T p (has (writes ro T x.author x.op)) }
+        → is_none (why ro T x) ≡ true
+        → has (writes ro T x) (At p (BlockOf n)) ≡ true
+        → KindOrFile T p (has (writes ro T x)) }
 {}
 
 /// The table of cells: what each operation reads and writes.

@@ -3,6 +3,7 @@ ghost use Rattle.std.specs.Prelude.{◌≡◌, ◌⊎◌, Some, None, IfOk, IfEr
 ghost use Rattle.su_table.specs.Tree.{Tree};
 ghost use Rattle.su_table.specs.Edit.{edits};
 ghost use Rattle.su_op.specs.Rule.{plan_reads, plan_writes};
+ghost use Rattle.su_op.specs.Action.{action_by};
 ghost use Rattle.su_op.specs.Operation.{why, effect, reads, writes, accepted_plan, StillFits};
 ghost use Rattle.su_bytes.specs.declared.refusals.Refusal.TheVariants.{NoMemory};
 
@@ -60,19 +61,22 @@ impl Op {
         roster: &Roster,
         author: User,
     ) -> Result<Accepted<'_>, Refusal>
-        ensures accepted { OnOk result (why roster.now forest.now author self.now ≡ None) }
+        ensures accepted { OnOk result
+            (why roster.now forest.now (action_by author self.now) ≡ None) }
         ensures fits { IfOk result (λ x. StillFits forest.now x) }
 
         // What the accepted operation does is what the operation does.
         ensures effect { IfOk result (λ x.
-            effect roster.now forest.now author self.now
+            effect roster.now forest.now (action_by author self.now)
             ≡ edits forest.now (accepted_plan forest.now x).edits) }
         ensures reads { IfOk result (λ x.
-            reads roster.now forest.now author self.now ≡ plan_reads (accepted_plan forest.now x)) }
+            reads roster.now forest.now (action_by author self.now)
+            ≡ plan_reads (accepted_plan forest.now x)) }
         ensures writes { IfOk result (λ x.
-            writes roster.now forest.now author self.now
+            writes roster.now forest.now (action_by author self.now)
             ≡ plan_writes (accepted_plan forest.now x)) }
-        ensures refused { IfErr result (λ e. why roster.now forest.now author self.now ≡ Some e) }
+        ensures refused { IfErr result (λ e.
+            why roster.now forest.now (action_by author self.now) ≡ Some e) }
     {
         if !roster.has_user(author) {
             return Err(Refusal::NoUser(author));
@@ -142,10 +146,10 @@ pub fn apply(
     author: User,
     op: &Op,
 ) -> Result<(), Refusal>
-    ensures accepted { OnOk result (why roster.now forest.old author op.now ≡ None) }
-    ensures done { OnOk result (forest.new ≡ effect roster.now forest.old author op.now) }
+    ensures accepted { OnOk result (why roster.now forest.old (action_by author op.now) ≡ None) }
+    ensures done { OnOk result (forest.new ≡ effect roster.now forest.old (action_by author op.now)) }
     ensures refused { IfErr result (λ e.
-        (e ≡ NoMemory) ⊎ (why roster.now forest.old author op.now ≡ Some e)) }
+        (e ≡ NoMemory) ⊎ (why roster.now forest.old (action_by author op.now) ≡ Some e)) }
     ensures err { OnErr result (forest.new ≡ forest.old) }
 {
     // no `?`, for the prover (docs/ARCHITECTURE.md, "Forms the kit wants")
@@ -164,13 +168,13 @@ pub fn footprint(
     author: User,
     op: &Op,
 ) -> Result<Footprint, Refusal>
-    ensures accepted { OnOk result (why roster.now forest.now author op.now ≡ None) }
+    ensures accepted { OnOk result (why roster.now forest.now (action_by author op.now) ≡ None) }
     ensures reads { IfOk result (λ footprint.
-        footprint.reads.items ≡ reads roster.now forest.now author op.now) }
+        footprint.reads.items ≡ reads roster.now forest.now (action_by author op.now)) }
     ensures writes { IfOk result (λ footprint.
-        footprint.writes.items ≡ writes roster.now forest.now author op.now) }
+        footprint.writes.items ≡ writes roster.now forest.now (action_by author op.now)) }
     ensures refused { IfErr result (λ e.
-        (e ≡ NoMemory) ⊎ (why roster.now forest.now author op.now ≡ Some e)) }
+        (e ≡ NoMemory) ⊎ (why roster.now forest.now (action_by author op.now) ≡ Some e)) }
 {
     // no `?`, for the prover (docs/ARCHITECTURE.md, "Forms the kit wants")
     match op.check(forest, roster, author) {
