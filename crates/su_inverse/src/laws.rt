@@ -1,10 +1,10 @@
 // Laws: what holds of the definitions themselves.
-ghost use Rattle.std.specs.Prelude.{◌≡◌, ℕ, None};
+ghost use Rattle.std.specs.Prelude.{◌≡◌, None};
 ghost use Rattle.std.specs.List.{All};
 ghost use Rattle.su_bytes.specs.Membership.{Membership};
 ghost use Rattle.su_table.specs.Tree.{Tree};
 ghost use Rattle.su_table.specs.Cell.{Cell};
-ghost use Rattle.su_op.specs.declared.operations.Op.{Op};
+ghost use Rattle.su_op.specs.Action.{Action};
 ghost use Rattle.su_op.specs.Area.{has};
 ghost use Rattle.su_op.specs.Operation.{why, effect, writes};
 ghost use Rattle.su_op.specs.Soundness.{Sound};
@@ -13,8 +13,8 @@ ghost use Rattle.su_inverse.specs.Kept.{CanKeep, inverse_areas, IsKeptOf, IsPutB
 
 /// What an accepted operation writes can be kept.
 pub fn writes_can_be_kept()
-    ensures { (ro : Membership) (T : Tree) (a : ℕ) (op : Op) → why ro T a op ≡ None
-        → All (CanKeep T) (writes ro T a op) }
+    ensures { (ro : Membership) (T : Tree) (x : Action) → why ro T x ≡ None
+        → All (CanKeep T) (writes ro T x) }
 {}
 
 /// What is kept of a tree is kept of every tree that holds the same in its areas, and has files
@@ -27,8 +27,8 @@ pub fn kept_of_trees_alike()
 /// Right after an operation, what was kept of the areas that it writes puts back the tree before
 /// it.
 pub fn undo_after_apply()
-    ensures { (ro : Membership) (T : Tree) (a : ℕ) (op : Op) (i : Inverse) → Sound T
-        → why ro T a op ≡ None
-        → ((c : Cell) → has (inverse_areas i) c ≡ has (writes ro T a op) c) → IsKeptOf i T
-        → IsPutBack i (effect ro T a op) T }
+    ensures { (ro : Membership) (T : Tree) (x : Action) (i : Inverse) → Sound T
+        → why ro T x ≡ None
+        → ((c : Cell) → has (inverse_areas i) c ≡ has (writes ro T x) c) → IsKeptOf i T
+        → IsPutBack i (effect ro T x) T }
 {}
