@@ -5,7 +5,7 @@ use Rattle.std.proofs.lemmas.Bool.{eq-eqb}
 use Rattle.su_bytes.specs.Membership.{Membership, has_user}
 use Rattle.su_bytes.specs.declared.refusals.Refusal.TheVariants.{NotAuthor}
 use Rattle.su_table.specs.Tree.{Tree, genesis}
-use Rattle.su_op.specs.declared.operations.Op.{Op}
+use Rattle.su_op.specs.Action.{Action}
 use Rattle.su_op.specs.Rule.{Plan}
 use Rattle.su_op.specs.Operation.{rule_of, why}
 use Rattle.su_op.proofs.Public.{Gives, gives_of, none_is}
@@ -22,12 +22,12 @@ use Rattle.su_desk.proofs.Replays.{Replayed, HasTree, tree_replayed, split_live,
 
 -- ---- who did an accepted operation belongs to the roster
 
-author_demanded : (ro : Membership) (T : Tree) (a : ℕ) (op : Op) (p : Plan) → Gives (rule_of ro T a op) p → has_user ro a ≡ true
-author_demanded ro T a op p (user, rest) = user
+author_demanded : (ro : Membership) (T : Tree) (x : Action) (p : Plan) → Gives (rule_of ro T x) p → has_user ro x.author ≡ true
+author_demanded ro T x p (user, rest) = user
 
-author_known : (ro : Membership) (T : Tree) (a : ℕ) (op : Op) → why ro T a op ≡ None → has_user ro a ≡ true
+author_known : (ro : Membership) (T : Tree) (x : Action) → why ro T x ≡ None → has_user ro x.author ≡ true
 unfolding why
-author_known ro T a op ok = author_demanded ro T a op _ (gives_of (rule_of ro T a op) ok)
+author_known ro T x ok = author_demanded ro T x _ (gives_of (rule_of ro T x) ok)
 
 -- ---- the undo of a live operation by its author
 
@@ -37,7 +37,7 @@ refused_by_blocker ro h T r before after t is =
     let a = t.action.author in
     let n = t.number in
     let p = split_live ro h T before after t r is in
-    let known = author_known ro p.earlier a t.action.op (none_is (why ro p.earlier a t.action.op) p.here.goes.alike.ok) in
+    let known = author_known ro p.earlier t.action (none_is (why ro p.earlier t.action) p.here.goes.alike.ok) in
     let own : author_refusal a (entry_at h n) ≡ None = ap (author_refusal a) p.here.entry ∙ ap (λ b. cond b None (Some (NotAuthor a))) (eq-eqb a a refl) in
     by_blocker_alone ro h a n known (live_alone h before after t is p.here.entry) own
 

@@ -9,11 +9,11 @@ use Rattle.su_table.specs.Tree.{Tree, genesis}
 use Rattle.su_table.specs.Cell.{Cell, Cell.At, val}
 use Rattle.su_table.specs.Query.{is_file_kind, is_file_at}
 use Rattle.su_op.specs.declared.areas.Area.{Area}
-use Rattle.su_op.specs.declared.operations.Change.TheVariants.{Do}
 use Rattle.su_op.specs.Area.{has}
 use Rattle.su_op.specs.Operation.{why}
 use Rattle.su_op.specs.Soundness.{Sound, KindOrFile}
-use Rattle.su_op.specs.Store.{Action, store}
+use Rattle.su_op.specs.Action.{Action}
+use Rattle.su_op.specs.Store.{store}
 use Rattle.su_op.proofs.Public.{block_written, none_is, store_lawful}
 use Rattle.su_inverse.specs.Kept.{inverse_areas, IsPutBack}
 use Rattle.su_inverse.proofs.Public.{kept_again}
@@ -21,7 +21,7 @@ use Rattle.su_undo.specs.System.{Agree}
 use Rattle.su_undo.proofs.TakingOut.{Beside, AllBeside, led_to, replay-cons, replayed_to, agree_read, leaves_others, past_it, stay_inside, same_outside}
 use Rattle.su_desk.specs.declared.entries.Entry.{Entry}
 use Rattle.su_desk.specs.declared.kept.KeptOperation.{KeptOperation}
-use Rattle.su_desk.specs.History.{NumberedAction, actions, entry_by, undo_by, live, live_numbers, replay, tree, entry_at, last_number, last_live}
+use Rattle.su_desk.specs.History.{NumberedAction, actions, entry_doing, undo_by, live, live_numbers, replay, tree, entry_at, last_number, last_live}
 use Rattle.su_desk.specs.Applied.{reads_where_applied, writes_where_applied, written_by}
 use Rattle.su_desk.specs.Blocker.{blocker}
 use Rattle.su_desk.specs.Answer.{undo_refusal}
@@ -76,12 +76,12 @@ replayed_kept ro h ks T keeps = good_replayed ro h T keeps.good (tree_kept ro h 
 
 -- one operation more
 pub keeps_do : (ro : Membership) (h : List Entry) (ks : List KeptOperation) (T : Tree) (x : Action) (k : KeptOperation) → Keeps ro h ks T
-    → Fits ro T (record { number = length h + 1; action = x }) k → Keeps ro (h ++ entry_by x.author (Do x.op) ∷ []) (ks ++ k ∷ []) ((store ro).act T x)
+    → Fits ro T (record { number = length h + 1; action = x }) k → Keeps ro (h ++ entry_doing x ∷ []) (ks ++ k ∷ []) ((store ro).act T x)
 keeps_do ro h ks T x k keeps fits =
-    let e : Entry = entry_by x.author (Do x.op) in
+    let e : Entry = entry_doing x in
     let t : NumberedAction = record { number = length h + 1; action = x } in
     record {
-      good = good_further ro h e keeps.good (ap (λ o. why ro (unwrap_or o genesis) x.author x.op) (tree_kept ro h ks T keeps) ∙ fits.accepted);
+      good = good_further ro h e keeps.good (ap (λ o. why ro (unwrap_or o genesis) x) (tree_kept ro h ks T keeps) ∙ fits.accepted);
       leads = subst (λ ts. Leads ro genesis ts (ks ++ k ∷ []) ((store ro).act T x)) (sym (live-do h x ((replayed_kept ro h ks T keeps).past (length h + 1) (omega arith)))) (led_further ro genesis T (live h) ks t k keeps.leads fits);
     }
 
@@ -91,7 +91,7 @@ keeps_do ro h ks T x k keeps fits =
 -- read and wrote where it was applied.
 pub record IsAsApplied (ro : Membership) (h : List Entry) (t : NumberedAction) (k : KeptOperation) : Type 0 where
   pub number : k.number ≡ t.number
-  pub entry : entry_at h t.number ≡ Some (entry_by t.action.author (Do t.action.op))
+  pub entry : entry_at h t.number ≡ Some (entry_doing t.action)
   pub reads : k.footprint.reads.items ≡ reads_where_applied ro h t
   pub writes : k.footprint.writes.items ≡ writes_where_applied ro h t
 
@@ -150,7 +150,7 @@ module _ (ro : Membership) where
       let x = t.action in
       let wrote : (c : Cell) → has (inverse_areas k.inverse) c ≡ true → has ((store ro).writes S x) c ≡ true = λ c is. ap (λ a. has a c) (sym fits.writes) ∙ sym (fits.areas c) ∙ is in
       record {
-        accepted = none_is (why ro S' x.author x.op) b.goes.ok;
+        accepted = none_is (why ro S' x) b.goes.ok;
         number = fits.number;
         reads = fits.reads ∙ sym b.goes.reads;
         writes = fits.writes ∙ sym b.goes.writes;

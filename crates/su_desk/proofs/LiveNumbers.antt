@@ -7,11 +7,11 @@ use Rattle.std.specs.Option.{option_or}
 use Rattle.su_bytes.specs.Membership.{Membership, has_user}
 use Rattle.su_bytes.specs.declared.refusals.Refusal.{Refusal}
 use Rattle.su_bytes.specs.declared.refusals.Refusal.TheVariants.{NoUser, NoOperation, NotOperation, AlreadyUndone, Blocked}
-use Rattle.su_op.specs.declared.operations.Op.{Op}
+use Rattle.su_op.specs.Action.{Action}
 use Rattle.su_op.specs.declared.operations.Change.{Change}
 use Rattle.su_op.specs.declared.operations.Change.TheVariants.{Do, Undo}
 use Rattle.su_desk.specs.declared.entries.Entry.{Entry}
-use Rattle.su_desk.specs.History.{NumberedAction, entry_by, operation_of, operations_from, undoes, is_undone, live, entry_at, undoer_from, undoer}
+use Rattle.su_desk.specs.History.{NumberedAction, entry_doing, action_of, operation_of, operations_from, undoes, is_undone, live, entry_at, undoer_from, undoer}
 use Rattle.su_desk.specs.Blocker.{blocker}
 use Rattle.su_desk.specs.Answer.{blocked_refusal, undone_refusal, change_refusal, entry_refusal, live_refusal, author_refusal, undo_refusal}
 
@@ -35,9 +35,8 @@ not_undone k (x ∷ h) n e = go (undoes n x.change) e (not_undone (k + 1) h n)
 
 -- what a live number has
 pub record IsLive (h : List Entry) (n : ℕ) : Type 0 where
-  pub author : ℕ
-  pub op : Op
-  pub entry : entry_at h n ≡ Some (entry_by author (Do op))
+  pub action : Action
+  pub entry : entry_at h n ≡ Some (entry_doing action)
   pub free : undoer h n ≡ None
 
 pub is_live : (h : List Entry) (n : ℕ) → live_refusal h n ≡ None → IsLive h n
@@ -47,27 +46,27 @@ is_live h n e = go (entry_at h n) refl e
     free None e = refl
     free (Some by) e = absurd (let bad : Some (AlreadyUndone n by) ≡ None = e in cc)
 
-    change : (a : ℕ) (c : Change) → entry_at h n ≡ Some (entry_by a c) → change_refusal h n c ≡ None → IsLive h n
-    change a (Undo m) is e = absurd (let bad : Some (NotOperation n) ≡ None = e in cc)
-    change a (Do op) is e = record { author = a; op = op; entry = is; free = free (undoer h n) e }
+    change : (x : Entry) (c : Change) → entry_at h n ≡ Some (record x { change = c }) → change_refusal h n c ≡ None → IsLive h n
+    change x (Undo m) is e = absurd (let bad : Some (NotOperation n) ≡ None = e in cc)
+    change x (Do op) is e = record { action = action_of x op; entry = is; free = free (undoer h n) e }
 
     go : (o : Option Entry) → entry_at h n ≡ o → entry_refusal h n o ≡ None → IsLive h n
     go None is e = absurd (let bad : Some (NoOperation n) ≡ None = e in cc)
-    go (Some x) is e = change x.author x.change is e
+    go (Some x) is e = change x x.change is e
 
 -- and is among the operations
-operation_there : (m i : ℕ) (h : List Entry) (a : ℕ) (op : Op) → slice_get h i ≡ Some (entry_by a (Do op)) → list_any (λ (t : NumberedAction). nat_eq t.number (m + i)) (operations_from m h) ≡ true
-operation_there m i [] a op e = absurd (let bad : None ≡ Some (entry_by a (Do op)) = e in cc)
-operation_there m zero (x ∷ h) a op e =
-    let same : x ≡ entry_by a (Do op) = cc in
-    ap (λ (y : Entry). list_any (λ (t : NumberedAction). nat_eq t.number (m + zero)) (operation_of m y.author y.change ++ operations_from (m + 1) h)) same
+operation_there : (m i : ℕ) (h : List Entry) (x : Action) → slice_get h i ≡ Some (entry_doing x) → list_any (λ (t : NumberedAction). nat_eq t.number (m + i)) (operations_from m h) ≡ true
+operation_there m i [] x e = absurd (let bad : None ≡ Some (entry_doing x) = e in cc)
+operation_there m zero (f ∷ h) x e =
+    let same : f ≡ entry_doing x = cc in
+    ap (λ (y : Entry). list_any (λ (t : NumberedAction). nat_eq t.number (m + zero)) (operation_of m y ++ operations_from (m + 1) h)) same
     ∙ or_left (nat_eq m (m + zero)) (list_any (λ (t : NumberedAction). nat_eq t.number (m + zero)) (operations_from (m + 1) h)) (grind arith)
-operation_there m (suc i) (x ∷ h) a op e =
+operation_there m (suc i) (f ∷ h) x e =
     let index : m + 1 + i ≡ m + suc i = omega arith in
     let later : list_any (λ (t : NumberedAction). nat_eq t.number (m + suc i)) (operations_from (m + 1) h) ≡ true
-    = ap (λ n. list_any (λ (t : NumberedAction). nat_eq t.number n) (operations_from (m + 1) h)) (sym index) ∙ operation_there (m + 1) i h a op e in
-    list_any-append (λ (t : NumberedAction). nat_eq t.number (m + suc i)) (operation_of m x.author x.change) (operations_from (m + 1) h)
-    ∙ or_right (list_any (λ (t : NumberedAction). nat_eq t.number (m + suc i)) (operation_of m x.author x.change)) (list_any (λ (t : NumberedAction). nat_eq t.number (m + suc i)) (operations_from (m + 1) h)) later
+    = ap (λ n. list_any (λ (t : NumberedAction). nat_eq t.number n) (operations_from (m + 1) h)) (sym index) ∙ operation_there (m + 1) i h x e in
+    list_any-append (λ (t : NumberedAction). nat_eq t.number (m + suc i)) (operation_of m f) (operations_from (m + 1) h)
+    ∙ or_right (list_any (λ (t : NumberedAction). nat_eq t.number (m + suc i)) (operation_of m f)) (list_any (λ (t : NumberedAction). nat_eq t.number (m + suc i)) (operations_from (m + 1) h)) later
 
 filter_keeps : (p q : NumberedAction → Bool) (ts : List NumberedAction) → ((t : NumberedAction) → p t ≡ true → q t ≡ true) → list_any p ts ≡ true → list_any p (filter q ts) ≡ true
 filter_keeps p q [] all e = e
@@ -91,9 +90,9 @@ live_number h n e =
     stands : undoer h n ≡ None → (t : NumberedAction) → nat_eq t.number n ≡ true → not (is_undone h t.number) ≡ true
     stands free t is = ap (λ m. not (is_undone h m)) (number t.number is) ∙ ap not (not_undone 1 h n free)
 
-    there : {a : ℕ} {op : Op} → (b : Bool) → nat_eq n 0 ≡ b → cond b None (slice_get h (n - 1)) ≡ Some (entry_by a (Do op)) → list_any (λ (t : NumberedAction). nat_eq t.number n) (operations_from 1 h) ≡ true
-    there {a} {op} true is e = absurd (let bad : None ≡ Some (entry_by a (Do op)) = e in cc)
-    there {a} {op} false is e = let index : 1 + (n - 1) ≡ n = grind arith in ap (λ m. list_any (λ (t : NumberedAction). nat_eq t.number m) (operations_from 1 h)) (sym index) ∙ operation_there 1 (n - 1) h a op e
+    there : {x : Action} → (b : Bool) → nat_eq n 0 ≡ b → cond b None (slice_get h (n - 1)) ≡ Some (entry_doing x) → list_any (λ (t : NumberedAction). nat_eq t.number n) (operations_from 1 h) ≡ true
+    there {x} true is e = absurd (let bad : None ≡ Some (entry_doing x) = e in cc)
+    there {x} false is e = let index : 1 + (n - 1) ≡ n = grind arith in ap (λ m. list_any (λ (t : NumberedAction). nat_eq t.number m) (operations_from 1 h)) (sym index) ∙ operation_there 1 (n - 1) h x e
 
 -- with those before and after it
 pub record LiveOperation (ts : List NumberedAction) (n : ℕ) : Type 0 where
@@ -130,7 +129,7 @@ passed p (z ∷ xs) ys zs x e = go (p z) refl (λ ys. passed p xs ys zs x) ys e
 pub not_named : (h : List Entry) (before after : List NumberedAction) (t : NumberedAction) → live h ≡ before ++ t ∷ after → undoer h t.number ≡ None
 not_named h before after t is = none_undoes 1 h t.number (not-true (is_undone h t.number) (passed (λ u. not (is_undone h u.number)) (operations_from 1 h) before after t is))
 
-pub live_alone : (h : List Entry) (before after : List NumberedAction) (t : NumberedAction) → live h ≡ before ++ t ∷ after → entry_at h t.number ≡ Some (entry_by t.action.author (Do t.action.op)) → live_refusal h t.number ≡ None
+pub live_alone : (h : List Entry) (before after : List NumberedAction) (t : NumberedAction) → live h ≡ before ++ t ∷ after → entry_at h t.number ≡ Some (entry_doing t.action) → live_refusal h t.number ≡ None
 live_alone h before after t is entry = ap (entry_refusal h t.number) entry ∙ ap (undone_refusal t.number) (not_named h before after t is)
 
 -- ---- what an undo that is accepted names

@@ -6,11 +6,11 @@ use Rattle.std.proofs.lemmas.List.Elements.{filter-append}
 use Rattle.std.proofs.lemmas.List.Folds.{list_any-append}
 use Rattle.std.proofs.lemmas.Bool.{eq-eqb}
 use Rattle.std.proofs.Math.Bool.{or-false}
-use Rattle.su_op.specs.Store.{Action}
+use Rattle.su_op.specs.Action.{Action}
 use Rattle.su_op.specs.declared.operations.Change.{Change}
 use Rattle.su_op.specs.declared.operations.Change.TheVariants.{Do, Undo}
 use Rattle.su_desk.specs.declared.entries.Entry.{Entry}
-use Rattle.su_desk.specs.History.{NumberedAction, entry_by, undo_by, operation_of, operations_from, undoes, is_undone, live, live_numbers}
+use Rattle.su_desk.specs.History.{NumberedAction, entry_doing, undo_by, operation_by_change, operation_of, operations_from, undoes, is_undone, live, live_numbers}
 
 -- ---- lists
 
@@ -47,7 +47,7 @@ rising_operations : (low n : ℕ) (h : List Entry) → low < n → Rising low (o
 rising_operations low n [] l = tt
 rising_operations low n (e ∷ es) l = go (rising_operations n (n + 1) es (omega arith)) (rising_operations low (n + 1) es (omega arith)) e.change
   where
-    go : Rising n (operations_from (n + 1) es) → Rising low (operations_from (n + 1) es) → (c : Change) → Rising low (operation_of n e.author c ++ operations_from (n + 1) es)
+    go : Rising n (operations_from (n + 1) es) → Rising low (operations_from (n + 1) es) → (c : Change) → Rising low (operation_by_change n e c ++ operations_from (n + 1) es)
     go above rest (Do op) = (l, above)
     go above rest (Undo m) = rest
 
@@ -92,24 +92,24 @@ one_taken_out low (x ∷ ts) us t (l, r) =
 
 -- ---- one more entry
 
-pub operations_from-append : (n : ℕ) (h : List Entry) (e : Entry) → operations_from n (h ++ e ∷ []) ≡ operations_from n h ++ operation_of (n + length h) e.author e.change
+pub operations_from-append : (n : ℕ) (h : List Entry) (e : Entry) → operations_from n (h ++ e ∷ []) ≡ operations_from n h ++ operation_of (n + length h) e
 operations_from-append n [] e = go (n + 0) (omega arith)
   where
-    go : (m : ℕ) → m ≡ n → operation_of n e.author e.change ++ [] ≡ operation_of m e.author e.change
-    go m is = append-nil (operation_of n e.author e.change) ∙ ap (λ k. operation_of k e.author e.change) (sym is)
+    go : (m : ℕ) → m ≡ n → operation_of n e ++ [] ≡ operation_of m e
+    go m is = append-nil (operation_of n e) ∙ ap (λ k. operation_of k e) (sym is)
 operations_from-append n (x ∷ h) e =
-    ap (λ ts. operation_of n x.author x.change ++ ts) (operations_from-append (n + 1) h e)
-    ∙ sym (append_assoc (operation_of n x.author x.change) (operations_from (n + 1) h) (operation_of (n + 1 + length h) e.author e.change))
-    ∙ ap (λ k. (operation_of n x.author x.change ++ operations_from (n + 1) h) ++ operation_of k e.author e.change) (omega arith)
+    ap (λ ts. operation_of n x ++ ts) (operations_from-append (n + 1) h e)
+    ∙ sym (append_assoc (operation_of n x) (operations_from (n + 1) h) (operation_of (n + 1 + length h) e))
+    ∙ ap (λ k. (operation_of n x ++ operations_from (n + 1) h) ++ operation_of k e) (omega arith)
 
 pub is_undone-append : (h : List Entry) (e : Entry) (n : ℕ) → is_undone (h ++ e ∷ []) n ≡ (is_undone h n || undoes n e.change)
 is_undone-append h e n = list_any-append (λ x. undoes n x.change) h (e ∷ []) ∙ ap (λ b. is_undone h n || b) (or-false (undoes n e.change))
 
 -- an operation that is added is live, if no undo named it before it came
 pub live-do : (h : List Entry) (x : Action) → is_undone h (length h + 1) ≡ false
-    → live (h ++ entry_by x.author (Do x.op) ∷ []) ≡ live h ++ record { number = length h + 1; action = x } ∷ []
+    → live (h ++ entry_doing x ∷ []) ≡ live h ++ record { number = length h + 1; action = x } ∷ []
 live-do h x new =
-    filter_same (λ t. not (is_undone (h ++ entry_by x.author (Do x.op) ∷ []) t.number)) (λ t. not (is_undone h t.number)) _ (λ t. ap not (is_undone-append h _ t.number ∙ or-false (is_undone h t.number)))
+    filter_same (λ t. not (is_undone (h ++ entry_doing x ∷ []) t.number)) (λ t. not (is_undone h t.number)) _ (λ t. ap not (is_undone-append h _ t.number ∙ or-false (is_undone h t.number)))
     ∙ ap (filter (λ (t : NumberedAction). not (is_undone h t.number))) (operations_from-append 1 h _)
     ∙ filter-append (λ t. not (is_undone h t.number)) (operations_from 1 h) _
     ∙ ap (λ ts. live h ++ ts) (go (1 + length h) (omega arith))

@@ -1,24 +1,24 @@
 -- What an operation that is rehearsed meets, and makes of the tree of a desk.
-use Rattle.std.proofs.Common.{◌≡◌, ℕ, ◌+◌, length, Option, Some, None, Ok, Err, ap}
+use Rattle.std.proofs.Common.{◌≡◌, ◌+◌, length, Option, Some, None, Ok, Err, ap}
 use Rattle.std.specs.Option.{unwrap_or}
 use Rattle.su_bytes.specs.declared.refusals.Refusal.{Refusal}
 use Rattle.su_table.specs.Tree.{genesis}
-use Rattle.su_op.specs.declared.operations.Op.{Op}
-use Rattle.su_op.specs.declared.operations.Change.TheVariants.{Do}
+use Rattle.su_op.specs.Action.{Action}
 use Rattle.su_op.specs.Operation.{why, effect}
+use Rattle.su_desk.specs.History.{entry_doing}
 use Rattle.su_desk.specs.Answer.{Good, answer, reply}
 use Rattle.su_desk.specs.Desk.{DeskState, with_entry}
 use Rattle.su_desk.specs.Trial.{tree_of}
 use Rattle.su_desk.proofs.Replays.{tree_done}
 
 -- an accepted operation has its effect on the tree of a desk
-pub effect_done : (d : DeskState) (a : ℕ) (op : Op) → Good d.roster d.history → why d.roster (tree_of d) a op ≡ None → tree_of (with_entry d a (Do op)) ≡ effect d.roster (tree_of d) a op
-effect_done d a op good accepted = ap (λ o. unwrap_or o genesis) (tree_done d.roster d.history (record { author = a; op = op }) good accepted)
+pub effect_done : (d : DeskState) (x : Action) → Good d.roster d.history → why d.roster (tree_of d) x ≡ None → tree_of (with_entry d (entry_doing x)) ≡ effect d.roster (tree_of d) x
+effect_done d x good accepted = ap (λ o. unwrap_or o genesis) (tree_done d.roster d.history x good accepted)
 
 -- a refusal of the change is one of the operation
-pub why_refused : (d : DeskState) (a : ℕ) (op : Op) (e : Refusal) → answer d.roster d.history a (Do op) ≡ Err e → why d.roster (tree_of d) a op ≡ Some e
+pub why_refused : (d : DeskState) (x : Action) (e : Refusal) → answer d.roster d.history (entry_doing x) ≡ Err e → why d.roster (tree_of d) x ≡ Some e
 unfolding answer
-why_refused d a op e is = go (why d.roster (tree_of d) a op) is
+why_refused d x e is = go (why d.roster (tree_of d) x) is
   where
     go : (o : Option Refusal) → reply (length d.history + 1) o ≡ Err e → o ≡ Some e
     go None f = absurd (let bad : Ok (length d.history + 1) ≡ Err e = f in cc)

@@ -13,15 +13,16 @@ use Rattle.su_op.specs.declared.operations.Change.TheVariants.{Do, Undo}
 use Rattle.su_op.specs.Area.{meet}
 use Rattle.su_op.specs.Operation.{why}
 use Rattle.su_op.specs.Soundness.{Sound}
-use Rattle.su_op.specs.Store.{Action, store}
+use Rattle.su_op.specs.Action.{Action}
+use Rattle.su_op.specs.Store.{store}
 use Rattle.su_op.proofs.Public.{store_lawful}
 use Rattle.su_undo.specs.Replay.{replay as replay_actions, NoneReads, CanBeTakenOut}
 use Rattle.su_undo.proofs.TakingOut.{AllBeside, led_to, agree_read, past_it, undo_is_safe}
 use Rattle.su_desk.specs.declared.entries.Entry.{Entry}
-use Rattle.su_desk.specs.History.{NumberedAction, actions, entry_by, undo_by, is_undone, live, replay, tree}
+use Rattle.su_desk.specs.History.{NumberedAction, actions, entry_doing, action_of, undo_by, is_undone, live, replay, tree}
 use Rattle.su_desk.specs.Applied.{tree_after, GoesAsApplied}
 use Rattle.su_desk.specs.Blocker.{blocker}
-use Rattle.su_desk.specs.Answer.{refusal_of, live_refusal, Good, GoodAfter}
+use Rattle.su_desk.specs.Answer.{refusal_by_change, refusal_of, live_refusal, Good, GoodAfter}
 use Rattle.su_desk.proofs.Operations.{Rising, rising_live, one_taken_out, is_undone-append, live-do, live-undo}
 use Rattle.su_desk.proofs.WhereApplied.{InReplay, AllInReplay, entry_within, replay_reached, goes_beside, all_further, all_added, in_replay_now, written_of}
 use Rattle.su_desk.proofs.LiveNumbers.{is_live, live_number, live_operation, undo_accepted}
@@ -131,9 +132,9 @@ pub record HasTree (ro : Membership) (h : List Entry) : Type 0 where
   pub state : Tree
   pub replayed : Replayed ro h state
 
-next_do : (ro : Membership) (h : List Entry) (T : Tree) (x : Action) → Replayed ro h T → IsTrue ((store ro).ok T x) → Replayed ro (h ++ entry_by x.author (Do x.op) ∷ []) ((store ro).act T x)
+next_do : (ro : Membership) (h : List Entry) (T : Tree) (x : Action) → Replayed ro h T → IsTrue ((store ro).ok T x) → Replayed ro (h ++ entry_doing x ∷ []) ((store ro).act T x)
 next_do ro h T x r ok =
-    let e : Entry = entry_by x.author (Do x.op) in
+    let e : Entry = entry_doing x in
     let t : NumberedAction = record { number = length h + 1; action = x } in
     record {
       in_replay = subst (λ ts. AllInReplay ro (h ++ e ∷ []) genesis ts ((store ro).act T x)) (sym (live-do h x (r.past (length h + 1) (omega arith))))
@@ -159,31 +160,34 @@ next_undo ro h T a n r lives free =
       };
     }
 
-next : (ro : Membership) (h : List Entry) (a : ℕ) (c : Change) → HasTree ro h → refusal_of ro h a c ≡ None → HasTree ro (h ++ entry_by a c ∷ [])
-next ro h a (Do op) r accepted =
-    let x : Action = record { author = a; op = op } in
-    record {
-      state = (store ro).act r.state x;
-      replayed = next_do ro h r.state x r.replayed (ap is_none (ap (λ o. why ro (unwrap_or o genesis) a op) (sym (tree_replayed ro h r.state r.replayed)) ∙ accepted));
-    }
-next ro h a (Undo n) r accepted = let u = undo_accepted ro h a n accepted in next_undo ro h r.state a n r.replayed u.stands u.free
+next : (ro : Membership) (h : List Entry) (e : Entry) → HasTree ro h → refusal_of ro h e ≡ None → HasTree ro (h ++ e ∷ [])
+next ro h e r = go e.change
+  where
+    go : (c : Change) → refusal_by_change ro h e c ≡ None → HasTree ro (h ++ record e { change = c } ∷ [])
+    go (Do op) accepted =
+        let x : Action = action_of e op in
+        record {
+          state = (store ro).act r.state x;
+          replayed = next_do ro h r.state x r.replayed (ap is_none (ap (λ o. why ro (unwrap_or o genesis) x) (sym (tree_replayed ro h r.state r.replayed)) ∙ accepted));
+        }
+    go (Undo n) accepted = let u = undo_accepted ro h e.author n accepted in next_undo ro h r.state e.author n r.replayed u.stands u.free
 
 -- ---- good histories
 
 pub good_after : (ro : Membership) (h es : List Entry) → HasTree ro h → GoodAfter ro h es → HasTree ro (h ++ es)
 good_after ro h [] r g = subst (HasTree ro) (sym (append-nil h)) r
-good_after ro h (e ∷ es) r (accepted, g) = subst (HasTree ro) (append_assoc h (e ∷ []) es) (good_after ro (h ++ e ∷ []) es (next ro h e.author e.change r accepted) g)
+good_after ro h (e ∷ es) r (accepted, g) = subst (HasTree ro) (append_assoc h (e ∷ []) es) (good_after ro (h ++ e ∷ []) es (next ro h e r accepted) g)
 
 pub good_has_tree : (ro : Membership) (h : List Entry) → Good ro h → HasTree ro h
 good_has_tree ro h g = good_after ro [] h (record { state = genesis; replayed = record { in_replay = refl; past = λ n l. refl } }) g
 
-pub good_further_after : (ro : Membership) (h es : List Entry) (e : Entry) → GoodAfter ro h es → refusal_of ro (h ++ es) e.author e.change ≡ None → GoodAfter ro h (es ++ e ∷ [])
-good_further_after ro h [] e g accepted = (ap (λ l. refusal_of ro l e.author e.change) (sym (append-nil h)) ∙ accepted, tt)
+pub good_further_after : (ro : Membership) (h es : List Entry) (e : Entry) → GoodAfter ro h es → refusal_of ro (h ++ es) e ≡ None → GoodAfter ro h (es ++ e ∷ [])
+good_further_after ro h [] e g accepted = (ap (λ l. refusal_of ro l e) (sym (append-nil h)) ∙ accepted, tt)
 good_further_after ro h (x ∷ es) e (first, g) accepted =
-    (first, good_further_after ro (h ++ x ∷ []) es e g (ap (λ l. refusal_of ro l e.author e.change) (append_assoc h (x ∷ []) es) ∙ accepted))
+    (first, good_further_after ro (h ++ x ∷ []) es e g (ap (λ l. refusal_of ro l e) (append_assoc h (x ∷ []) es) ∙ accepted))
 
 -- a good history with an accepted entry more
-pub good_further : (ro : Membership) (h : List Entry) (e : Entry) → Good ro h → refusal_of ro h e.author e.change ≡ None → Good ro (h ++ e ∷ [])
+pub good_further : (ro : Membership) (h : List Entry) (e : Entry) → Good ro h → refusal_of ro h e ≡ None → Good ro (h ++ e ∷ [])
 good_further ro h e g accepted = good_further_after ro [] h e g accepted
 
 -- the tree that a good history has
@@ -194,23 +198,23 @@ good_replayed ro h T g is =
     let same : r.state ≡ T = cc in subst (Replayed ro h) same r.replayed
 
 -- of a history and one entry more
-accepted_apart : (ro : Membership) (h es : List Entry) (e : Entry) → GoodAfter ro h (es ++ e ∷ []) → GoodAfter ro h es × (refusal_of ro (h ++ es) e.author e.change ≡ None)
-accepted_apart ro h [] e (accepted, g) = (tt, ap (λ l. refusal_of ro l e.author e.change) (append-nil h) ∙ accepted)
+accepted_apart : (ro : Membership) (h es : List Entry) (e : Entry) → GoodAfter ro h (es ++ e ∷ []) → GoodAfter ro h es × (refusal_of ro (h ++ es) e ≡ None)
+accepted_apart ro h [] e (accepted, g) = (tt, ap (λ l. refusal_of ro l e) (append-nil h) ∙ accepted)
 accepted_apart ro h (x ∷ es) e (first, g) =
-    let r = accepted_apart ro (h ++ x ∷ []) es e g in ((first, r.0), ap (λ l. refusal_of ro l e.author e.change) (sym (append_assoc h (x ∷ []) es)) ∙ r.1)
+    let r = accepted_apart ro (h ++ x ∷ []) es e g in ((first, r.0), ap (λ l. refusal_of ro l e) (sym (append_assoc h (x ∷ []) es)) ∙ r.1)
 
-pub good_exact : (ro : Membership) (h : List Entry) (e : Entry) → Good ro (h ++ e ∷ []) ↔ (Good ro h × (refusal_of ro h e.author e.change ≡ None))
+pub good_exact : (ro : Membership) (h : List Entry) (e : Entry) → Good ro (h ++ e ∷ []) ↔ (Good ro h × (refusal_of ro h e ≡ None))
 good_exact ro h e = (accepted_apart ro [] h e, λ (good, accepted). good_further ro h e good accepted)
 
 -- an operation after a good history is live
-pub live_done : (ro : Membership) (h : List Entry) (x : Action) → Good ro h → live (h ++ entry_by x.author (Do x.op) ∷ []) ≡ live h ++ record { number = length h + 1; action = x } ∷ []
+pub live_done : (ro : Membership) (h : List Entry) (x : Action) → Good ro h → live (h ++ entry_doing x ∷ []) ≡ live h ++ record { number = length h + 1; action = x } ∷ []
 live_done ro h x good = live-do h x ((good_has_tree ro h good).replayed.past (length h + 1) (omega arith))
 
 -- and an accepted one does what it does to the tree that the history left
-pub tree_done : (ro : Membership) (h : List Entry) (x : Action) → Good ro h → why ro (tree_after ro h) x.author x.op ≡ None → tree ro (h ++ entry_by x.author (Do x.op) ∷ []) ≡ Some ((store ro).act (tree_after ro h) x)
+pub tree_done : (ro : Membership) (h : List Entry) (x : Action) → Good ro h → why ro (tree_after ro h) x ≡ None → tree ro (h ++ entry_doing x ∷ []) ≡ Some ((store ro).act (tree_after ro h) x)
 tree_done ro h x good accepted =
     let r = good_has_tree ro h good in
     let same : tree_after ro h ≡ r.state = ap (λ o. unwrap_or o genesis) (tree_replayed ro h r.state r.replayed) in
-    let ok : IsTrue ((store ro).ok r.state x) = ap is_none (ap (λ R. why ro R x.author x.op) (sym same) ∙ accepted) in
-    tree_replayed ro (h ++ entry_by x.author (Do x.op) ∷ []) ((store ro).act r.state x) (next_do ro h r.state x r.replayed ok)
+    let ok : IsTrue ((store ro).ok r.state x) = ap is_none (ap (λ R. why ro R x) (sym same) ∙ accepted) in
+    tree_replayed ro (h ++ entry_doing x ∷ []) ((store ro).act r.state x) (next_do ro h r.state x r.replayed ok)
     ∙ ap (λ R. Some ((store ro).act R x)) (sym same)

@@ -7,12 +7,10 @@ use Rattle.su_bytes.specs.declared.refusals.Refusal.{Refusal}
 use Rattle.su_bytes.specs.declared.refusals.Refusal.TheVariants.{NoMemory}
 use Rattle.su_table.specs.Tree.{Tree, genesis}
 use Rattle.su_inverse.specs.Kept.{IsPutBack}
-use Rattle.su_op.specs.declared.operations.Op.{Op}
-use Rattle.su_op.specs.declared.operations.Change.{Change}
-use Rattle.su_op.specs.declared.operations.Change.TheVariants.{Do}
+use Rattle.su_op.specs.Action.{Action}
 use Rattle.su_op.specs.Operation.{why}
 use Rattle.su_desk.specs.declared.entries.Entry.{Entry}
-use Rattle.su_desk.specs.History.{undo_by, tree, last_live}
+use Rattle.su_desk.specs.History.{entry_doing, undo_by, tree, last_live}
 use Rattle.su_desk.specs.declared.kept.KeptOperation.{KeptOperation}
 use Rattle.su_desk.specs.Desk.{DeskState, Answers}
 use Rattle.su_desk.specs.Applied.{written_by}
@@ -21,31 +19,31 @@ use Rattle.su_desk.proofs.KeptOperations.{keeps_undo, written_there, last_kept, 
 use Rattle.su_desk.proofs.KeptIndexes.{split_at}
 use Rattle.su_desk.specs.Answer.{undo_refusal, refusal_of, reply, answer}
 
-pub answer_done : (ro : Membership) (h : List Entry) (a : ℕ) (c : Change) → refusal_of ro h a c ≡ None → answer ro h a c ≡ Ok (length h + 1)
+pub answer_done : (ro : Membership) (h : List Entry) (e : Entry) → refusal_of ro h e ≡ None → answer ro h e ≡ Ok (length h + 1)
 unfolding answer
-answer_done ro h a c e = ap (reply (length h + 1)) e
+answer_done ro h e accepted = ap (reply (length h + 1)) accepted
 
-pub answer_refused : (ro : Membership) (h : List Entry) (a : ℕ) (c : Change) (r : Refusal) → refusal_of ro h a c ≡ Some r → answer ro h a c ≡ Err r
+pub answer_refused : (ro : Membership) (h : List Entry) (e : Entry) (r : Refusal) → refusal_of ro h e ≡ Some r → answer ro h e ≡ Err r
 unfolding answer
-answer_refused ro h a c r e = ap (reply (length h + 1)) e
+answer_refused ro h e r refused = ap (reply (length h + 1)) refused
 
 -- what is answered with a number isn't refused
-pub answer_accepted : (ro : Membership) (h : List Entry) (a : ℕ) (c : Change) (n : ℕ) → answer ro h a c ≡ Ok n → refusal_of ro h a c ≡ None
+pub answer_accepted : (ro : Membership) (h : List Entry) (e : Entry) (n : ℕ) → answer ro h e ≡ Ok n → refusal_of ro h e ≡ None
 unfolding answer
-answer_accepted ro h a c n e = go (refusal_of ro h a c) e
+answer_accepted ro h e n is = go (refusal_of ro h e) is
   where
     go : (o : Option Refusal) → reply (length h + 1) o ≡ Ok n → o ≡ None
     go None e = refl
     go (Some r) e = absurd (let bad : Err r ≡ Ok n = e in cc)
 
 -- a refusal that is passed on
-pub passed_on : (d : DeskState) (a : ℕ) (c : Change) (r : Result ℕ Refusal) (x : Refusal) → IsErrAnd r (λ e. e ≡ x) → (x ≡ NoMemory) ⊎ (answer d.roster d.history a c ≡ Err x) → Answers d a c r d
-passed_on d a c (Ok n) x is why = absurd is
-passed_on d a c (Err e) x is why = (⊎_elim (λ m. inl (is ∙ m)) (λ f. inr (f ∙ ap Err (sym is))) why, refl)
+pub passed_on : (d : DeskState) (e : Entry) (r : Result ℕ Refusal) (x : Refusal) → IsErrAnd r (λ e. e ≡ x) → (x ≡ NoMemory) ⊎ (answer d.roster d.history e ≡ Err x) → Answers d e r d
+passed_on d e (Ok n) x is why = absurd is
+passed_on d e (Err r) x is why = (⊎_elim (λ m. inl (is ∙ m)) (λ f. inr (f ∙ ap Err (sym is))) why, refl)
 
 -- an operation is answered from the tree
-pub refusal_of-do : (ro : Membership) (h : List Entry) (T : Tree) (a : ℕ) (op : Op) → tree ro h ≡ Some T → refusal_of ro h a (Do op) ≡ why ro T a op
-refusal_of-do ro h T a op e = ap (λ o. why ro (unwrap_or o genesis) a op) e
+pub refusal_of-do : (ro : Membership) (h : List Entry) (T : Tree) (x : Action) → tree ro h ≡ Some T → refusal_of ro h (entry_doing x) ≡ why ro T x
+refusal_of-do ro h T x e = ap (λ o. why ro (unwrap_or o genesis) x) e
 
 -- a list ends with its last element
 ends_at : {A : Type 0} (xs : List A) (n : ℕ) (x : A) → length xs ≡ suc n → slice_get xs n ≡ Some x → xs ≡ take n xs ++ x ∷ []

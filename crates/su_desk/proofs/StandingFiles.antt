@@ -11,7 +11,8 @@ use Rattle.su_table.specs.Query.{is_file_kind, is_file_at}
 use Rattle.su_op.specs.declared.areas.Area.{Area}
 use Rattle.su_op.specs.Area.{has, meet}
 use Rattle.su_op.specs.Soundness.{Sound, WholeOrNew, KindOrFile}
-use Rattle.su_op.specs.Store.{Action, store}
+use Rattle.su_op.specs.Action.{Action}
+use Rattle.su_op.specs.Store.{store}
 use Rattle.su_op.proofs.Public.{block_written, kind_written, store_lawful}
 use Rattle.su_undo.proofs.TakingOut.{Beside, AllBeside, led_to, unwritten, agree_read, clear_beside}
 

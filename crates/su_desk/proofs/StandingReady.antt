@@ -3,10 +3,8 @@
 use Rattle.std.proofs.Common.{◌≡◌, ℕ, ◌-◌, suc, List, [], ◌∷◌, ◌++◌, length, length-append, take, drop, slice_get, Some, None, refl, sym, ap, ◌∙◌, subst, arith, append_assoc, append-nil}
 use Rattle.std.proofs.Math.Seq.{take-append_seam, drop-append_seam}
 use Rattle.std.proofs.lemmas.List.{take-append-drop}
-use Rattle.su_op.specs.declared.operations.Change.{Change}
 use Rattle.su_desk.specs.declared.entries.Entry.{Entry}
 use Rattle.su_desk.specs.declared.prepared.Tried.{Tried}
-use Rattle.su_desk.specs.History.{entry_by}
 use Rattle.su_desk.specs.Desk.{DeskState, with_entry}
 use Rattle.su_desk.specs.Version.{versions}
 use Rattle.su_desk.specs.Trial.{TrialState, with_ready, without_last, before_last, split_before, seen_of}
@@ -18,26 +16,26 @@ use Rattle.su_desk.proofs.TrialLemmas.{all_but_last, before_with}
 pub with_none : (d : DeskState) → with_ready d [] ≡ d
 with_none d = ap (λ (h : List Entry). record { roster = d.roster; history = h }) (append-nil d.history)
 
-with_first : (d : DeskState) (e : Entry) (es : List Entry) → with_ready (with_entry d e.author e.change) es ≡ with_ready d (e ∷ es)
+with_first : (d : DeskState) (e : Entry) (es : List Entry) → with_ready (with_entry d e) es ≡ with_ready d (e ∷ es)
 with_first d e es = ap (λ (h : List Entry). record { roster = d.roster; history = h }) (append_assoc d.history (e ∷ []) es)
 
-pub with_more : (d : DeskState) (es : List Entry) (e : Entry) → with_ready d (es ++ e ∷ []) ≡ with_entry (with_ready d es) e.author e.change
+pub with_more : (d : DeskState) (es : List Entry) (e : Entry) → with_ready d (es ++ e ∷ []) ≡ with_entry (with_ready d es) e
 with_more d es e = ap (λ (h : List Entry). record { roster = d.roster; history = h }) (sym (append_assoc d.history es (e ∷ [])))
 
 -- ---- each entry is taken back by its own
 
 pub as_many : (d : DeskState) (es : List Entry) (ts : List Tried) → TakeAllBack d es ts → length es ≡ length ts
 as_many d [] [] back = refl
-as_many d (e ∷ es) (t ∷ ts) back = ap suc (as_many (with_entry d e.author e.change) es ts back.1)
+as_many d (e ∷ es) (t ∷ ts) back = ap suc (as_many (with_entry d e) es ts back.1)
 as_many d [] (t ∷ ts) back = absurd back
 as_many d (e ∷ es) [] back = absurd back
 
 -- one more, made last
-back_more : (d : DeskState) (es : List Entry) (ts : List Tried) (e : Entry) (t : Tried) → TakeAllBack d es ts → TakesBack (with_ready d es) e.author e.change t → TakeAllBack d (es ++ e ∷ []) (ts ++ t ∷ [])
-back_more d [] [] e t back last = (subst (λ (x : DeskState). TakesBack x e.author e.change t) (with_none d) last, tt)
+back_more : (d : DeskState) (es : List Entry) (ts : List Tried) (e : Entry) (t : Tried) → TakeAllBack d es ts → TakesBack (with_ready d es) e t → TakeAllBack d (es ++ e ∷ []) (ts ++ t ∷ [])
+back_more d [] [] e t back last = (subst (λ (x : DeskState). TakesBack x e t) (with_none d) last, tt)
 back_more d (f ∷ es) (u ∷ ts) e t (first, rest) last = (
   first,
-  back_more (with_entry d f.author f.change) es ts e t rest (subst (λ (x : DeskState). TakesBack x e.author e.change t) (sym (with_first d f es)) last),
+  back_more (with_entry d f) es ts e t rest (subst (λ (x : DeskState). TakesBack x e t) (sym (with_first d f es)) last),
 )
 back_more d [] (u ∷ ts) e t back last = absurd back
 back_more d (f ∷ es) [] e t back last = absurd back
@@ -48,7 +46,7 @@ record AllButLast (d : DeskState) (es : List Entry) (ts : List Tried) (t : Tried
   pub entry : Entry
   pub whole : es ≡ earlier ++ entry ∷ []
   pub back : TakeAllBack d earlier ts
-  pub last : TakesBack (with_ready d earlier) entry.author entry.change t
+  pub last : TakesBack (with_ready d earlier) entry t
 
 back_less : (d : DeskState) (es : List Entry) (ts : List Tried) (t : Tried) → TakeAllBack d es (ts ++ t ∷ []) → AllButLast d es ts t
 back_less d (e ∷ []) [] t (last, rest) = record {
@@ -56,15 +54,15 @@ back_less d (e ∷ []) [] t (last, rest) = record {
   entry = e;
   whole = refl;
   back = tt;
-  last = subst (λ (x : DeskState). TakesBack x e.author e.change t) (sym (with_none d)) last;
+  last = subst (λ (x : DeskState). TakesBack x e t) (sym (with_none d)) last;
 }
 back_less d (e ∷ es) (u ∷ ts) t (first, rest) =
-    let l = back_less (with_entry d e.author e.change) es ts t rest in record {
+    let l = back_less (with_entry d e) es ts t rest in record {
       earlier = e ∷ l.earlier;
       entry = l.entry;
       whole = ap (λ xs. e ∷ xs) l.whole;
       back = (first, l.back);
-      last = subst (λ (x : DeskState). TakesBack x l.entry.author l.entry.change t) (with_first d e l.earlier) l.last;
+      last = subst (λ (x : DeskState). TakesBack x l.entry t) (with_first d e l.earlier) l.last;
     }
 back_less d [] [] t back = absurd back
 back_less d [] (u ∷ ts) t back = absurd back
@@ -103,11 +101,11 @@ pub alone : (s : DeskState) (ts : List Tried) (v : TrialState) → Stand s ts v 
 alone s ts v there none = there.whole ∙ ap (with_ready v.settled) none ∙ with_none v.settled
 
 -- one more stands ready
-pub stands_more : (s s' : DeskState) (ts : List Tried) (v : TrialState) (a : ℕ) (c : Change) (t : Tried) → Stand s ts v → s' ≡ with_entry s a c → TakesBack s a c t
-    → Stand s' (ts ++ t ∷ []) (record { settled = v.settled; ready = v.ready ++ entry_by a c ∷ [] })
-stands_more s s' ts v a c t there is back = record {
-  whole = is ∙ ap (λ (x : DeskState). with_entry x a c) there.whole ∙ sym (with_more v.settled v.ready (entry_by a c));
-  back = back_more v.settled v.ready ts (entry_by a c) t there.back (subst (λ (x : DeskState). TakesBack x a c t) there.whole back);
+pub stands_more : (s s' : DeskState) (ts : List Tried) (v : TrialState) (e : Entry) (t : Tried) → Stand s ts v → s' ≡ with_entry s e → TakesBack s e t
+    → Stand s' (ts ++ t ∷ []) (record { settled = v.settled; ready = v.ready ++ e ∷ [] })
+stands_more s s' ts v e t there is back = record {
+  whole = is ∙ ap (λ (x : DeskState). with_entry x e) there.whole ∙ sym (with_more v.settled v.ready e);
+  back = back_more v.settled v.ready ts e t there.back (subst (λ (x : DeskState). TakesBack x e t) there.whole back);
 }
 
 -- the last one is taken back
@@ -119,11 +117,11 @@ stands_less : (s : DeskState) (ts : List Tried) (t : Tried) (v : TrialState) →
 stands_less s ts t v there =
     let l = back_less v.settled v.ready ts t there.back in
     let d : DeskState = with_ready v.settled l.earlier in
-    let is : s ≡ with_entry d l.entry.author l.entry.change = there.whole ∙ ap (with_ready v.settled) l.whole ∙ with_more v.settled l.earlier l.entry in
+    let is : s ≡ with_entry d l.entry = there.whole ∙ ap (with_ready v.settled) l.whole ∙ with_more v.settled l.earlier l.entry in
     let earlier : l.earlier ≡ (without_last v).ready = sym (ap (λ (es : List Entry). take (length es - 1) es) l.whole ∙ all_but_last l.earlier l.entry) in record {
-      last = (d, l.entry.author, l.entry.change, is, l.last);
+      last = (d, l.entry, is, l.last);
       before = record {
-        whole = ap before_last is ∙ before_with d l.entry.author l.entry.change ∙ ap (with_ready v.settled) earlier;
+        whole = ap before_last is ∙ before_with d l.entry ∙ ap (with_ready v.settled) earlier;
         back = subst (λ (es : List Entry). TakeAllBack v.settled es ts) earlier l.back;
       };
     }

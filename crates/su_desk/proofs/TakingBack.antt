@@ -9,11 +9,12 @@ use Rattle.su_node.specs.Field.{Field.BlockOf}
 use Rattle.su_table.specs.Tree.{Tree, genesis}
 use Rattle.su_table.specs.Cell.{Cell, Cell.At, val}
 use Rattle.su_op.specs.declared.areas.Area.{Area}
-use Rattle.su_op.specs.declared.operations.Change.TheVariants.{Do}
+use Rattle.su_op.specs.declared.operations.Change.TheVariants.{Undo}
 use Rattle.su_op.specs.Area.{has}
 use Rattle.su_op.specs.Operation.{why, writes}
 use Rattle.su_op.specs.Soundness.{Sound}
-use Rattle.su_op.specs.Store.{Action, store}
+use Rattle.su_op.specs.Action.{Action}
+use Rattle.su_op.specs.Store.{store}
 use Rattle.su_op.proofs.Public.{none_is, store_lawful}
 use Rattle.std.proofs.lemmas.Bool.{both_ways}
 use Rattle.su_inverse.specs.declared.inverses.Inverse.{Inverse}
@@ -23,7 +24,7 @@ use Rattle.su_undo.specs.Replay.{replay as replay_actions}
 use Rattle.su_undo.proofs.TakingOut.{Beside, AllBeside, led_to, replay-cons, replayed_to, agree_read, past_it}
 use Rattle.su_desk.specs.declared.entries.Entry.{Entry}
 use Rattle.su_desk.specs.declared.kept.KeptOperation.{KeptOperation}
-use Rattle.su_desk.specs.History.{NumberedAction, actions, entry_by, undo_by, live, replay, tree}
+use Rattle.su_desk.specs.History.{NumberedAction, actions, entry_doing, undo_by, live, replay, tree}
 use Rattle.su_desk.specs.Applied.{tree_after, written_by}
 use Rattle.su_desk.specs.Blocker.{blocker}
 use Rattle.su_desk.specs.Answer.{undo_refusal, Good}
@@ -72,12 +73,12 @@ pub record LastKept (ro : Membership) (h : List Entry) (x : Action) (ks : List K
   pub earlier : Tree
   pub whole : ks ≡ front ++ kept ∷ []
   pub keeps : Keeps ro h front earlier
-  pub written : kept.footprint.writes.items ≡ writes ro (tree_after ro h) x.author x.op
+  pub written : kept.footprint.writes.items ≡ writes ro (tree_after ro h) x
   pub back : IsPutBack kept.inverse T earlier
 
-pub last_done : (ro : Membership) (h : List Entry) (x : Action) (ks : List KeptOperation) (T : Tree) → Keeps ro (h ++ entry_by x.author (Do x.op) ∷ []) ks T → LastKept ro h x ks T
+pub last_done : (ro : Membership) (h : List Entry) (x : Action) (ks : List KeptOperation) (T : Tree) → Keeps ro (h ++ entry_doing x ∷ []) ks T → LastKept ro h x ks T
 last_done ro h x ks T keeps =
-    let e : Entry = entry_by x.author (Do x.op) in
+    let e : Entry = entry_doing x in
     let t : NumberedAction = record { number = length h + 1; action = x } in
     let good : Good ro h = ((good_exact ro h e).0 keeps.good).0 in
     let lives : live (h ++ e ∷ []) ≡ live h ++ t ∷ [] = live_done ro h x good in
@@ -93,7 +94,7 @@ last_done ro h x ks T keeps =
       earlier = r.earlier;
       whole = r.whole;
       keeps = keeps';
-      written = r.fits.writes ∙ ap (λ R. writes ro R x.author x.op) (left_by ro h r.earlier (tree_kept ro h r.front r.earlier keeps'));
+      written = r.fits.writes ∙ ap (λ R. writes ro R x) (left_by ro h r.earlier (tree_kept ro h r.front r.earlier keeps'));
       back = record {
         kept = r.fits.kept;
         others = λ c out. ap (λ R. val R c) (sym r.ends)
@@ -202,7 +203,7 @@ module _ (ro : Membership) where
       let x = t.action in
       let wrote : (c : Cell) → has (inverse_areas k.inverse) c ≡ true → has ((store ro).writes S x) c ≡ true = λ c is. ap (λ a. has a c) (sym (fits.writes ∙ b.goes.writes)) ∙ sym (fits.areas c) ∙ is in
       record {
-        accepted = none_is (why ro S x.author x.op) b.ok;
+        accepted = none_is (why ro S x) b.ok;
         number = fits.number;
         reads = fits.reads ∙ b.goes.reads;
         writes = fits.writes ∙ b.goes.writes;
@@ -252,8 +253,8 @@ module _ (ro : Membership) where
     pub within : i ≤ length ks
     pub keeps : Keeps ro h (insert ks i k) (tree_after ro h)
 
-  pub put_again : (h : List Entry) (a n i : ℕ) (k : KeptOperation) (ks : List KeptOperation) (T : Tree) → Keeps ro (h ++ undo_by a n ∷ []) ks T → IsKeptAt ro h n i k → PutAgain h ks i k
-  put_again h a n i k ks T keeps at =
+  undo_put_again : (h : List Entry) (a n i : ℕ) (k : KeptOperation) (ks : List KeptOperation) (T : Tree) → Keeps ro (h ++ undo_by a n ∷ []) ks T → IsKeptAt ro h n i k → PutAgain h ks i k
+  undo_put_again h a n i k ks T keeps at =
       let both = (good_exact ro h (undo_by a n)).0 keeps.good in
       let r = good_has_tree ro h both.0 in
       let ended : r.state ≡ tree_after ro h = left_by ro h r.state (tree_replayed ro h r.state r.replayed) in
@@ -281,3 +282,6 @@ module _ (ro : Membership) where
           leads = subst (λ ts. Leads ro genesis ts (insert ks i k) (tree_after ro h)) (sym at.whole) (subst (λ xs. Leads ro genesis (at.before ++ at.operation ∷ at.after) xs (tree_after ro h)) (sym list) again);
         };
       }
+
+  pub put_again : (h : List Entry) (e : Entry) (n i : ℕ) (k : KeptOperation) (ks : List KeptOperation) (T : Tree) → e.change ≡ Undo n → Keeps ro (h ++ e ∷ []) ks T → IsKeptAt ro h n i k → PutAgain h ks i k
+  put_again h e n i k ks T is keeps = undo_put_again h e.author n i k ks T (subst (λ c. Keeps ro (h ++ record e { change = c } ∷ []) ks T) is keeps)

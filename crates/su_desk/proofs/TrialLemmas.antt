@@ -13,14 +13,14 @@ use Rattle.su_table.specs.Tree.{Tree}
 use Rattle.su_op.specs.declared.areas.Area.{Area}
 use Rattle.su_op.specs.declared.operations.Change.{Change}
 use Rattle.su_op.specs.declared.operations.Change.TheVariants.{Do, Undo}
-use Rattle.su_op.specs.Store.{Action}
+use Rattle.su_op.specs.Action.{Action}
 use Rattle.su_desk.specs.declared.entries.Entry.{Entry}
 use Rattle.su_desk.specs.declared.kept.KeptOperation.{KeptOperation}
 use Rattle.su_desk.specs.declared.prepared.Undone.{Undone}
-use Rattle.su_desk.specs.History.{entry_by}
+use Rattle.su_desk.specs.History.{entry_doing, action_of}
 use Rattle.su_desk.specs.Answer.{Good}
 use Rattle.su_desk.specs.Desk.{DeskState, with_entry}
-use Rattle.su_desk.specs.Version.{carries, cells_of}
+use Rattle.su_desk.specs.Version.{carries, cells_by_change, cells_of}
 use Rattle.su_desk.specs.Keeping.{Keeps}
 use Rattle.su_desk.specs.Trial.{tree_of, before_last, with_handle, carried_handles}
 use Rattle.su_desk.specs.Tried.{TakesChangeBack}
@@ -55,12 +55,12 @@ none_last ks front l whole e = absurd (not_empty front l (sym (is_empty ks e) �
 
 -- ---- what is seen
 
-pub before_with : (d : DeskState) (a : ℕ) (c : Change) → before_last (with_entry d a c) ≡ d
-before_with d a c = ap (λ (h : List Entry). record { roster = d.roster; history = h }) (all_but_last d.history (entry_by a c))
+pub before_with : (d : DeskState) (e : Entry) → before_last (with_entry d e) ≡ d
+before_with d e = ap (λ (h : List Entry). record { roster = d.roster; history = h }) (all_but_last d.history e)
 
 -- the entries without the last one
-pub history_before : (ro : Membership) (h : List Entry) (d : DeskState) (a : ℕ) (c : Change) → record { roster = ro; history = h } ≡ with_entry d a c → take (length h - 1) h ≡ d.history
-history_before ro h d a c e = ap (λ (x : DeskState). take (length x.history - 1) x.history) e ∙ all_but_last d.history (entry_by a c)
+pub history_before : (ro : Membership) (h : List Entry) (d : DeskState) (e : Entry) → record { roster = ro; history = h } ≡ with_entry d e → take (length h - 1) h ≡ d.history
+history_before ro h d e is = ap (λ (x : DeskState). take (length x.history - 1) x.history) is ∙ all_but_last d.history e
 
 -- ---- what is kept of the last entry
 
@@ -72,31 +72,47 @@ pub forest_with : (ro : Membership) (h : List Entry) (ks : List KeptOperation) (
 forest_with ro h ks T s e keeps = left_by ro h T (tree_kept ro h ks T keeps) ∙ ap tree_of e
 
 -- the history before the last entry is a good one
-pub good_before : (ro : Membership) (h : List Entry) (ks : List KeptOperation) (T : Tree) (d : DeskState) (a : ℕ) (c : Change) → record { roster = ro; history = h } ≡ with_entry d a c → Keeps ro h ks T → Good d.roster d.history
-good_before ro h ks T d a c e keeps = ((good_exact d.roster d.history (entry_by a c)).0 (keeps_seen ro h ks T (with_entry d a c) e keeps).good).0
+pub good_before : (ro : Membership) (h : List Entry) (ks : List KeptOperation) (T : Tree) (d : DeskState) (e : Entry) → record { roster = ro; history = h } ≡ with_entry d e → Keeps ro h ks T → Good d.roster d.history
+good_before ro h ks T d e is keeps = ((good_exact d.roster d.history e).0 (keeps_seen ro h ks T (with_entry d e) is keeps).good).0
 
-pub last_operation : (ro : Membership) (h : List Entry) (ks : List KeptOperation) (T : Tree) (d : DeskState) (x : Action) → record { roster = ro; history = h } ≡ with_entry d x.author (Do x.op) → Keeps ro h ks T → LastKept d.roster d.history x ks T
-last_operation ro h ks T d x e keeps = last_done d.roster d.history x ks T (keeps_seen ro h ks T (with_entry d x.author (Do x.op)) e keeps)
+pub last_operation : (ro : Membership) (h : List Entry) (ks : List KeptOperation) (T : Tree) (d : DeskState) (x : Action) → record { roster = ro; history = h } ≡ with_entry d (entry_doing x) → Keeps ro h ks T → LastKept d.roster d.history x ks T
+last_operation ro h ks T d x e keeps = last_done d.roster d.history x ks T (keeps_seen ro h ks T (with_entry d (entry_doing x)) e keeps)
+
+-- an entry that no undone operation takes back is of an action
+pub of_action : (d s : DeskState) (e : Entry) → s ≡ with_entry d e → TakesChangeBack d e e.change None → (x : Action) × (s ≡ with_entry d (entry_doing x))
+of_action d s e = go e.change
+  where
+    go : (c : Change) → s ≡ with_entry d (record e { change = c }) → TakesChangeBack d e c None → (x : Action) × (s ≡ with_entry d (entry_doing x))
+    go (Do op) is back = (action_of e op, is)
+    go (Undo n) is back = absurd back
 
 -- something is kept of an operation
-pub some_kept : {P : Type 0} (ro : Membership) (h : List Entry) (ks : List KeptOperation) (T : Tree) (d : DeskState) (a : ℕ) (c : Change) → record { roster = ro; history = h } ≡ with_entry d a c → Keeps ro h ks T → TakesChangeBack d a c None
+pub some_kept : {P : Type 0} (ro : Membership) (h : List Entry) (ks : List KeptOperation) (T : Tree) (d : DeskState) (e : Entry) → record { roster = ro; history = h } ≡ with_entry d e → Keeps ro h ks T → TakesChangeBack d e e.change None
     → slice_get ks (length ks - 1) ≡ None → P
-some_kept ro h ks T d a (Do op) e keeps back none =
-    let l = last_operation ro h ks T d (record { author = a; op = op }) e keeps in none_last ks l.front l.kept l.whole none
-some_kept ro h ks T d a (Undo n) e keeps back none = absurd back
+some_kept {P} ro h ks T d e is keeps back none = go e.change is back
+  where
+    go : (c : Change) → record { roster = ro; history = h } ≡ with_entry d (record e { change = c }) → TakesChangeBack d e c None → P
+    go (Do op) is back = let l = last_operation ro h ks T d (action_of e op) is keeps in none_last ks l.front l.kept l.whole none
+    go (Undo n) is back = absurd back
 
 -- and last its cells
-pub last_cells : (ro : Membership) (h : List Entry) (ks : List KeptOperation) (T : Tree) (k : KeptOperation) (d : DeskState) (a : ℕ) (c : Change) → record { roster = ro; history = h } ≡ with_entry d a c → Keeps ro h ks T → TakesChangeBack d a c None
-    → slice_get ks (length ks - 1) ≡ Some k → k.footprint.writes.items ≡ cells_of d.roster d.history a c
-last_cells ro h ks T k d a (Do op) e keeps back last =
-    let l = last_operation ro h ks T d (record { author = a; op = op }) e keeps in
-    ap (λ (x : KeptOperation). x.footprint.writes.items) (last_is ks l.front k l.kept l.whole last) ∙ l.written
-last_cells ro h ks T k d a (Undo n) e keeps back last = absurd back
+pub last_cells : (ro : Membership) (h : List Entry) (ks : List KeptOperation) (T : Tree) (k : KeptOperation) (d : DeskState) (e : Entry) → record { roster = ro; history = h } ≡ with_entry d e → Keeps ro h ks T → TakesChangeBack d e e.change None
+    → slice_get ks (length ks - 1) ≡ Some k → k.footprint.writes.items ≡ cells_of d.roster d.history e
+last_cells ro h ks T k d e is keeps back last = go e.change is back
+  where
+    go : (c : Change) → record { roster = ro; history = h } ≡ with_entry d (record e { change = c }) → TakesChangeBack d e c None → k.footprint.writes.items ≡ cells_by_change d.roster d.history e c
+    go (Do op) is back =
+        let l = last_operation ro h ks T d (action_of e op) is keeps in
+        ap (λ (x : KeptOperation). x.footprint.writes.items) (last_is ks l.front k l.kept l.whole last) ∙ l.written
+    go (Undo n) is back = absurd back
 
 -- the cells of an undo are those that were kept of the operation
-pub undone_cells : (d : DeskState) (a : ℕ) (c : Change) (u : Undone) → Good d.roster d.history → TakesChangeBack d a c (Some u) → u.operation.footprint.writes.items ≡ cells_of d.roster d.history a c
-undone_cells d a (Do op) u good back = absurd back
-undone_cells d a (Undo n) u good back = kept_writes d.roster d.history n u.index u.operation good back.kept
+pub undone_cells : (d : DeskState) (e : Entry) (u : Undone) → Good d.roster d.history → TakesChangeBack d e e.change (Some u) → u.operation.footprint.writes.items ≡ cells_of d.roster d.history e
+undone_cells d e u good = go e.change
+  where
+    go : (c : Change) → TakesChangeBack d e c (Some u) → u.operation.footprint.writes.items ≡ cells_by_change d.roster d.history e c
+    go (Do op) back = absurd back
+    go (Undo n) back = kept_writes d.roster d.history n u.index u.operation good back.kept
 
 -- ---- a refusal that is passed on
 

@@ -19,7 +19,7 @@ use Rattle.su_desk.specs.Version.{carries, carried_groups, cells_of, raises, rai
 
 -- by how much an entry after a history raises a number
 abbrev pub rise : Membership → List Entry → Entry → Principal → ℕ
-rise ro h e p = cond (raises e.author (cells_of ro h e.author e.change) p) 1 0
+rise ro h e p = cond (raises e.author (cells_of ro h e) p) 1 0
 
 nothing_more : (a b : ℕ) → a ≡ b → a + 0 ≡ 0 + b
 nothing_more a b e = omega arith
@@ -56,7 +56,7 @@ at_most_one false n m l = omega arith
 version_after_within : (ro : Membership) (h es : List Entry) (p : Principal) → version_after ro h es p ≤ length es
 version_after_within ro h [] p = omega arith
 version_after_within ro h (x ∷ es) p =
-    let l = at_most_one (raises x.author (cells_of ro h x.author x.change) p) (version_after ro (h ++ x ∷ []) es p) (length es) (version_after_within ro (h ++ x ∷ []) es p) in omega arith
+    let l = at_most_one (raises x.author (cells_of ro h x) p) (version_after ro (h ++ x ∷ []) es p) (length es) (version_after_within ro (h ++ x ∷ []) es p) in omega arith
 
 all_within : (ro : Membership) (h : List Entry) (ps : List Principal) → length h + 1 < 2 ^ 64 → AllByRecursion (λ (v : Principal × ℕ). v.1 + 1 < 2 ^ 64) (map (numbered ro h) ps)
 all_within ro h [] l = tt
@@ -67,12 +67,12 @@ versions_within ro h l = All-from_recursion (λ (v : Principal × ℕ). v.1 + 1 
 
 -- ---- all numbers after one more entry
 
-all_raised : (ro : Membership) (h : List Entry) (e : Entry) (ps : List Principal) → map (numbered ro (h ++ e ∷ [])) ps ≡ map (raised e.author (cells_of ro h e.author e.change)) (map (numbered ro h) ps)
+all_raised : (ro : Membership) (h : List Entry) (e : Entry) (ps : List Principal) → map (numbered ro (h ++ e ∷ [])) ps ≡ map (raised e.author (cells_of ro h e)) (map (numbered ro h) ps)
 all_raised ro h e [] = refl
 all_raised ro h e (p ∷ ps) = λ i. (p, version-append ro h e p i) ∷ all_raised ro h e ps i
 
 -- what is written is given by another spelling
-pub versions-append : (ro : Membership) (h : List Entry) (e : Entry) (w : List Area) → w ≡ cells_of ro h e.author e.change → versions ro (h ++ e ∷ []) ≡ map (raised e.author w) (versions ro h)
+pub versions-append : (ro : Membership) (h : List Entry) (e : Entry) (w : List Area) → w ≡ cells_of ro h e → versions ro (h ++ e ∷ []) ≡ map (raised e.author w) (versions ro h)
 versions-append ro h e w is = all_raised ro h e (principals ro) ∙ ap (λ w. map (raised e.author w) (versions ro h)) (sym is)
 
 -- ---- the groups that are carried
@@ -137,7 +137,7 @@ pub put_back_whole : {A : Type 0} (n : ℕ) (xs ys : List A) → n ≡ length xs
 put_back_whole n xs ys is = ap (λ m. take m (xs ++ ys)) is ∙ take-append_seam xs ys
 
 -- the numbers after one more entry, as they stand in a list that is written back
-pub counters_next : (ro : Membership) (h : List Entry) (e : Entry) (w : List Area) (n : ℕ) (vs now new rest : List (Principal × ℕ)) → w ≡ cells_of ro h e.author e.change → vs ≡ versions ro h → n ≡ length vs → now ≡ vs
+pub counters_next : (ro : Membership) (h : List Entry) (e : Entry) (w : List Area) (n : ℕ) (vs now new rest : List (Principal × ℕ)) → w ≡ cells_of ro h e → vs ≡ versions ro h → n ≡ length vs → now ≡ vs
     → new ≡ map (raised e.author w) now → take n (new ++ rest) ≡ versions ro (h ++ e ∷ [])
 counters_next ro h e w n vs now new rest is were long same raised_all =
     let all : new ≡ map (raised e.author w) vs = raised_all ∙ ap (map (raised e.author w)) same in

@@ -6,12 +6,12 @@ use Rattle.std.proofs.Math.Seq.{take-length}
 use Rattle.std.proofs.lemmas.Option.{slice_get_within}
 use Rattle.su_bytes.specs.Membership.{Membership}
 use Rattle.su_table.specs.Tree.{Tree, genesis}
-use Rattle.su_op.specs.declared.operations.Change.TheVariants.{Do}
-use Rattle.su_op.specs.Store.{Action, store}
+use Rattle.su_op.specs.Action.{Action}
+use Rattle.su_op.specs.Store.{store}
 use Rattle.su_undo.specs.System.{Agree, GoesAlike}
 use Rattle.su_undo.proofs.TakingOut.{replay-cons, alike_alike, alike_itself}
 use Rattle.su_desk.specs.declared.entries.Entry.{Entry}
-use Rattle.su_desk.specs.History.{NumberedAction, actions, entry_by, replay, tree, entry_at}
+use Rattle.su_desk.specs.History.{NumberedAction, actions, entry_doing, replay, tree, entry_at}
 use Rattle.su_desk.specs.Applied.{tree_after, tree_before, entry_writes, writes_where_applied, written_by, GoesAsApplied}
 
 -- ---- entries by their numbers
@@ -62,7 +62,7 @@ tree_before_next ro h T is =
 -- entry
 pub record InReplay (ro : Membership) (h : List Entry) (S : Tree) (t : NumberedAction) : Type 0 where
   pub goes : GoesAsApplied ro h S t
-  pub entry : entry_at h t.number ≡ Some (entry_by t.action.author (Do t.action.op))
+  pub entry : entry_at h t.number ≡ Some (entry_doing t.action)
 
 -- operations one after another from S to T
 abbrev pub AllInReplay : Membership → List Entry → Tree → List NumberedAction → Tree → Type 0
@@ -104,9 +104,9 @@ all_added ro h S T (u ∷ ts) t (v, rest) s = (v, all_added ro h ((store ro).act
 
 -- the operation of the entry that is added
 pub in_replay_now : (ro : Membership) (h : List Entry) (T : Tree) (x : Action) → tree ro h ≡ Some T → IsTrue ((store ro).ok T x)
-    → InReplay ro (h ++ entry_by x.author (Do x.op) ∷ []) T (record { number = length h + 1; action = x })
+    → InReplay ro (h ++ entry_doing x ∷ []) T (record { number = length h + 1; action = x })
 in_replay_now ro h T x is ok =
-    let e : Entry = entry_by x.author (Do x.op) in
+    let e : Entry = entry_doing x in
     let same : tree_before ro (h ++ e ∷ []) (length h + 1) ≡ T = tree_before-append ro h e (length h + 1) (omega arith) ∙ tree_before_next ro h T is in
     record {
       goes = record {
@@ -117,5 +117,5 @@ in_replay_now ro h T x is ok =
     }
 
 -- what an entry wrote is what its operation wrote
-pub written_of : (ro : Membership) (h : List Entry) (t : NumberedAction) → entry_at h t.number ≡ Some (entry_by t.action.author (Do t.action.op)) → writes_where_applied ro h t ≡ written_by ro h t.number
+pub written_of : (ro : Membership) (h : List Entry) (t : NumberedAction) → entry_at h t.number ≡ Some (entry_doing t.action) → writes_where_applied ro h t ≡ written_by ro h t.number
 written_of ro h t is = ap (entry_writes ro (tree_before ro h t.number)) (sym is)

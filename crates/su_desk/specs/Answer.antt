@@ -8,7 +8,7 @@ use Rattle.su_op.specs.declared.operations.Change.{Change}
 use Rattle.su_op.specs.declared.operations.Change.TheVariants.{Do, Undo}
 use Rattle.su_op.specs.Operation.{why}
 use Rattle.su_desk.specs.declared.entries.Entry.{Entry}
-use Rattle.su_desk.specs.History.{entry_at, undoer}
+use Rattle.su_desk.specs.History.{action_of, entry_at, undoer}
 use Rattle.su_desk.specs.Applied.{tree_after}
 use Rattle.su_desk.specs.Blocker.{blocker}
 
@@ -49,24 +49,29 @@ undo_refusal ro h a n =
     (option_or (author_refusal a (entry_at h n)) (blocked_refusal (blocker ro h n))))
     (Some (NoUser a))
 
--- why a change by user a is refused after a history. (After a good history there always is a tree.)
-abbrev pub refusal_of : Membership → List Entry → ℕ → Change → Option Refusal
-refusal_of ro h a (Do op) = why ro (tree_after ro h) a op
-refusal_of ro h a (Undo n) = undo_refusal ro h a n
+-- why an entry, whose change is given, is refused after a history. (After a good history there
+-- always is a tree.)
+abbrev pub refusal_by_change : Membership → List Entry → Entry → Change → Option Refusal
+refusal_by_change ro h e (Do op) = why ro (tree_after ro h) (action_of e op)
+refusal_by_change ro h e (Undo n) = undo_refusal ro h e.author n
+
+-- why an entry is refused after a history
+abbrev pub refusal_of : Membership → List Entry → Entry → Option Refusal
+refusal_of ro h e = refusal_by_change ro h e e.change
 
 -- number n, or the refusal if there is one
 abbrev pub reply : ℕ → Option Refusal → Result ℕ Refusal
 reply n None = Ok n
 reply n (Some r) = Err r
 
--- The answer to a change by user a: the number of its entry, or the refusal.
-unfoldable pub answer : Membership → List Entry → ℕ → Change → Result ℕ Refusal
-answer ro h a c = reply (length h + 1) (refusal_of ro h a c)
+-- The answer to an entry: its number, or the refusal.
+unfoldable pub answer : Membership → List Entry → Entry → Result ℕ Refusal
+answer ro h e = reply (length h + 1) (refusal_of ro h e)
 
 -- each of the further entries was accepted after those before it
 abbrev pub GoodAfter : Membership → List Entry → List Entry → Type 0
 GoodAfter ro h [] = Unit {0}
-GoodAfter ro h (e ∷ es) = (refusal_of ro h e.author e.change ≡ None) × GoodAfter ro (h ++ e ∷ []) es
+GoodAfter ro h (e ∷ es) = (refusal_of ro h e ≡ None) × GoodAfter ro (h ++ e ∷ []) es
 
 -- a good history: each of its entries was accepted after those before it
 abbrev pub Good : Membership → List Entry → Type 0

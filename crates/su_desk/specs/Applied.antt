@@ -11,7 +11,7 @@ use Rattle.su_op.specs.Operation.{reads, writes}
 use Rattle.su_op.specs.Store.{store}
 use Rattle.su_undo.specs.System.{Agree, GoesAlike}
 use Rattle.su_desk.specs.declared.entries.Entry.{Entry}
-use Rattle.su_desk.specs.History.{NumberedAction, tree, entry_at}
+use Rattle.su_desk.specs.History.{NumberedAction, action_of, tree, entry_at}
 
 -- the tree that a history leaves. (A good history always has one.)
 abbrev pub tree_after : Membership → List Entry → Tree
@@ -23,21 +23,21 @@ tree_before ro h n = tree_after ro (take (n - 1) h)
 
 -- what an operation read there
 abbrev pub reads_where_applied : Membership → List Entry → NumberedAction → List Area
-reads_where_applied ro h t = reads ro (tree_before ro h t.number) t.action.author t.action.op
+reads_where_applied ro h t = reads ro (tree_before ro h t.number) t.action
 
 -- and what it wrote
 abbrev pub writes_where_applied : Membership → List Entry → NumberedAction → List Area
-writes_where_applied ro h t = writes ro (tree_before ro h t.number) t.action.author t.action.op
+writes_where_applied ro h t = writes ro (tree_before ro h t.number) t.action
 
--- what a change by user a writes in T: an undo nothing of its own
-abbrev pub change_writes : Membership → Tree → ℕ → Change → List Area
-change_writes ro T a (Do op) = writes ro T a op
-change_writes ro T a _ = []
+-- what an entry, whose change is given, writes in T: an undo nothing of its own
+abbrev pub writes_by_change : Membership → Tree → Entry → Change → List Area
+writes_by_change ro T e (Do op) = writes ro T (action_of e op)
+writes_by_change ro T e _ = []
 
--- the same of an entry, if there is one
+-- the same where there may be no entry
 abbrev pub entry_writes : Membership → Tree → Option Entry → List Area
 entry_writes ro T None = []
-entry_writes ro T (Some e) = change_writes ro T e.author e.change
+entry_writes ro T (Some e) = writes_by_change ro T e e.change
 
 -- what the operation of entry n wrote where it was applied; nothing where entry n is no operation
 abbrev pub written_by : Membership → List Entry → ℕ → List Area

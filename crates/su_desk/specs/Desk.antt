@@ -16,24 +16,24 @@ pub record DeskState : Type 0 where
   pub history : List Entry
 
 -- the desk with one entry more
-abbrev pub with_entry : DeskState → ℕ → Change → DeskState
-with_entry d a c = record { roster = d.roster; history = d.history ++ entry_by a c ∷ [] }
+abbrev pub with_entry : DeskState → Entry → DeskState
+with_entry d e = record { roster = d.roster; history = d.history ++ e ∷ [] }
 
--- What may be answered to a change by user a, and what the desk then is: the answer of its history,
--- with one entry more where that is Done; or want of memory, with no change.
-abbrev pub Answers : DeskState → ℕ → Change → Result ℕ Refusal → DeskState → Type 0
-Answers d a c (Ok n) d' = (answer d.roster d.history a c ≡ Ok n) × (d' ≡ with_entry d a c)
-Answers d a c (Err r) d' = ((r ≡ NoMemory) ⊎ (answer d.roster d.history a c ≡ Err r)) × (d' ≡ d)
+-- What may be answered to an entry, and what the desk then is: the answer of its history, with the
+-- entry where that is Done; or want of memory, with no change.
+abbrev pub Answers : DeskState → Entry → Result ℕ Refusal → DeskState → Type 0
+Answers d e (Ok n) d' = (answer d.roster d.history e ≡ Ok n) × (d' ≡ with_entry d e)
+Answers d e (Err r) d' = ((r ≡ NoMemory) ⊎ (answer d.roster d.history e ≡ Err r)) × (d' ≡ d)
 
 -- a reply as the result of one change
 abbrev pub result_of : DeskReply → Result ℕ Refusal
 result_of (Done n) = Ok n
 result_of (Refused r) = Err r
 
--- the replies to changes, each made after those before it
+-- the replies to changes by users, each made after those before it
 abbrev pub Runs : DeskState → List (ℕ × Change) → List DeskReply → DeskState → Type 0
 Runs d [] [] d' = d' ≡ d
 Runs d (c ∷ cs) (r ∷ rs) d' =
-    (mid : DeskState) × Answers d c.0 c.1 (result_of r) mid × Runs mid cs rs d'
+    (mid : DeskState) × Answers d (entry_by c.0 c.1) (result_of r) mid × Runs mid cs rs d'
 Runs d [] (r ∷ rs) d' = ⊥
 Runs d (c ∷ cs) [] d' = ⊥

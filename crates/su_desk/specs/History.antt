@@ -5,9 +5,11 @@ use Rattle.std.specs.List.{filter, list_any}
 use Rattle.std.specs.Option.{option_or, unwrap_or}
 use Rattle.su_bytes.specs.Membership.{Membership}
 use Rattle.su_table.specs.Tree.{Tree, genesis}
+use Rattle.su_op.specs.declared.operations.Op.{Op}
 use Rattle.su_op.specs.declared.operations.Change.{Change}
 use Rattle.su_op.specs.declared.operations.Change.TheVariants.{Do, Undo}
-use Rattle.su_op.specs.Store.{Action, store}
+use Rattle.su_op.specs.Action.{Action, action_by}
+use Rattle.su_op.specs.Store.{store}
 use Rattle.su_undo.specs.Replay.{replay as replay_actions}
 use Rattle.su_desk.specs.declared.entries.Entry.{Entry}
 
@@ -24,19 +26,31 @@ actions ts = map (λ t. t.action) ts
 abbrev pub entry_by : ℕ → Change → Entry
 entry_by a c = record { author = a; change = c }
 
+-- the entry that does an action
+abbrev pub entry_doing : Action → Entry
+entry_doing x = entry_by x.author (Do x.op)
+
 -- the entry of the undo of n by user a
 abbrev pub undo_by : ℕ → ℕ → Entry
 undo_by a n = entry_by a (Undo n)
 
--- the operation of entry n by user a, if its change is one
-abbrev pub operation_of : ℕ → ℕ → Change → List NumberedAction
-operation_of n a (Do op) = record { number = n; action = record { author = a; op = op } } ∷ []
-operation_of n a _ = []
+-- the action of an entry that does that operation
+abbrev pub action_of : Entry → Op → Action
+action_of e op = action_by e.author op
+
+-- the operation of entry n, whose change is given, if that is one
+abbrev pub operation_by_change : ℕ → Entry → Change → List NumberedAction
+operation_by_change n e (Do op) = record { number = n; action = action_of e op } ∷ []
+operation_by_change n e _ = []
+
+-- the operation of entry n, if its change is one
+abbrev pub operation_of : ℕ → Entry → List NumberedAction
+operation_of n e = operation_by_change n e e.change
 
 -- the operations among entries of which the first has number n
 abbrev pub operations_from : ℕ → List Entry → List NumberedAction
 operations_from n [] = []
-operations_from n (e ∷ es) = operation_of n e.author e.change ++ operations_from (n + 1) es
+operations_from n (e ∷ es) = operation_of n e ++ operations_from (n + 1) es
 
 -- the change is the undo of n
 abbrev pub undoes : ℕ → Change → Bool

@@ -17,10 +17,10 @@ use Rattle.su_desk.specs.Answer.{Good}
 -- The operation is accepted in T; and what is kept of it is its number, the cells that it reads and
 -- writes there, and what those that it writes hold in T.
 pub record Fits (ro : Membership) (T : Tree) (t : NumberedAction) (k : KeptOperation) : Type 0 where
-  pub accepted : why ro T t.action.author t.action.op ≡ None
+  pub accepted : why ro T t.action ≡ None
   pub number : k.number ≡ t.number
-  pub reads : k.footprint.reads.items ≡ reads ro T t.action.author t.action.op
-  pub writes : k.footprint.writes.items ≡ writes ro T t.action.author t.action.op
+  pub reads : k.footprint.reads.items ≡ reads ro T t.action
+  pub writes : k.footprint.writes.items ≡ writes ro T t.action
   pub areas : (c : Cell) → has (inverse_areas k.inverse) c ≡ has k.footprint.writes.items c
   pub kept : IsKeptOf k.inverse T
 

@@ -5,10 +5,11 @@ use Rattle.su_bytes.specs.Membership.{Membership}
 use Rattle.su_bytes.specs.declared.refusals.Refusal.{Refusal}
 use Rattle.su_table.specs.Tree.{Tree}
 use Rattle.su_op.specs.declared.operations.Op.{Op}
+use Rattle.su_op.specs.Action.{action_by}
 use Rattle.su_op.specs.Operation.{why, effect}
 
 -- the first refusal that operations by user a meet, made one after another from T, if they meet one
 abbrev pub first_refusal : Membership → Tree → ℕ → List Op → Option Refusal
 first_refusal ro T a [] = None
 first_refusal ro T a (op ∷ ops) =
-    option_or (why ro T a op) (first_refusal ro (effect ro T a op) a ops)
+    option_or (why ro T (action_by a op)) (first_refusal ro (effect ro T (action_by a op)) a ops)

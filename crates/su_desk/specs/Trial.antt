@@ -6,11 +6,9 @@ use Rattle.su_bytes.specs.declared.principals.Principal.TheVariants.{User, Group
 use Rattle.su_table.specs.Tree.{Tree}
 use Rattle.su_table.specs.Handle.{handle}
 use Rattle.su_op.specs.declared.areas.Area.{Area}
-use Rattle.su_op.specs.declared.operations.Change.{Change}
 use Rattle.su_desk.specs.declared.entries.Entry.{Entry}
 use Rattle.su_desk.specs.declared.prepared.Prepared.{Prepared}
 use Rattle.su_desk.specs.declared.prepared.Tried.{Tried}
-use Rattle.su_desk.specs.History.{entry_by}
 use Rattle.su_desk.specs.Applied.{tree_after}
 use Rattle.su_desk.specs.Version.{carried_groups, cells_of, versions}
 use Rattle.su_desk.specs.Desk.{DeskState, with_entry}
@@ -25,15 +23,15 @@ pub record TrialState : Type 0 where
 abbrev pub nothing_ready : DeskState → TrialState
 nothing_ready d = record { settled = d; ready = [] }
 
--- a change by user a stands ready, and nothing else
-abbrev pub ready_with : DeskState → ℕ → Change → TrialState
-ready_with d a c = record { settled = d; ready = entry_by a c ∷ [] }
+-- an entry stands ready, and nothing else
+abbrev pub ready_with : DeskState → Entry → TrialState
+ready_with d e = record { settled = d; ready = e ∷ [] }
 
 -- a desk with the entries that stood ready
 abbrev pub with_ready : DeskState → List Entry → DeskState
 with_ready d es = record { roster = d.roster; history = d.history ++ es }
 
--- ---- what is told of a change that stands ready
+-- ---- what is told of an entry that stands ready
 
 -- the tree of a desk
 abbrev pub tree_of : DeskState → Tree
@@ -48,18 +46,18 @@ with_handle T g = (g, handle T (Group g))
 abbrev pub carried_handles : Membership → List Area → Tree → List (ℕ × List ℕ)
 carried_handles ro w T = map (with_handle T) (carried_groups ro w)
 
--- What is told of a change by user a, of the history and the tree with it: the number of its entry,
--- the version numbers, the i-handle of a, and those of the groups that it carries.
-pub record Tells (d : DeskState) (a : ℕ) (c : Change) (p : Prepared) : Type 0 where
+-- What is told of an entry, of the history and the tree with it: its number, the version numbers,
+-- the i-handle of its author, and those of the groups that it carries.
+pub record Tells (d : DeskState) (e : Entry) (p : Prepared) : Type 0 where
   pub number : p.number ≡ length d.history + 1
-  pub versions : p.versions.items ≡ versions d.roster (with_entry d a c).history
-  pub author_handle : p.author_handle ≡ handle (tree_of (with_entry d a c)) (User a)
+  pub versions : p.versions.items ≡ versions d.roster (with_entry d e).history
+  pub author_handle : p.author_handle ≡ handle (tree_of (with_entry d e)) (User e.author)
   pub groups : p.groups.items
-      ≡ carried_handles d.roster (cells_of d.roster d.history a c) (tree_of (with_entry d a c))
+      ≡ carried_handles d.roster (cells_of d.roster d.history e) (tree_of (with_entry d e))
 
 -- just one entry stands ready, the one of which this is told
 abbrev pub IsReady : TrialState → Prepared → Type 0
-IsReady t p = (e : Entry) × (t.ready ≡ e ∷ []) × Tells t.settled e.author e.change p
+IsReady t p = (e : Entry) × (t.ready ≡ e ∷ []) × Tells t.settled e p
 
 -- ---- steps between
 

@@ -29,34 +29,33 @@ pub record IsKeptAt (ro : Membership) (h : List Entry) (n : ℕ) (index : ℕ) (
   pub reached : replay ro genesis before ≡ Some earlier
   pub fits : Fits ro earlier operation k
 
--- Of an undo of n by user a: what it took out is what was kept of n, and what was held puts the
+-- Of an entry that undoes n: what it took out is what was kept of n, and what was held puts the
 -- tree before it back.
-pub record TakesUndoBack (d : DeskState) (a n : ℕ) (u : Undone) : Type 0 where
+pub record TakesUndoBack (d : DeskState) (e : Entry) (n : ℕ) (u : Undone) : Type 0 where
   pub kept : IsKeptAt d.roster d.history n u.index u.operation
-  pub back : IsPutBack u.held (tree_of (with_entry d a (Undo n))) (tree_of d)
+  pub back : IsPutBack u.held (tree_of (with_entry d e)) (tree_of d)
 
--- of a change by user a: what takes an operation back is kept with it
-abbrev pub TakesChangeBack : DeskState → ℕ → Change → Option Undone → Type 0
-TakesChangeBack d a (Do op) None = ⊤
-TakesChangeBack d a (Undo n) (Some u) = TakesUndoBack d a n u
-TakesChangeBack d a (Do op) (Some u) = ⊥
-TakesChangeBack d a (Undo n) None = ⊥
+-- of an entry, whose change is given: what takes an operation back is kept with it
+abbrev pub TakesChangeBack : DeskState → Entry → Change → Option Undone → Type 0
+TakesChangeBack d e (Do op) None = ⊤
+TakesChangeBack d e (Undo n) (Some u) = TakesUndoBack d e n u
+TakesChangeBack d e (Do op) (Some u) = ⊥
+TakesChangeBack d e (Undo n) None = ⊥
 
--- this takes a change by user a back, after which a desk is d again
-pub record TakesBack (d : DeskState) (a : ℕ) (c : Change) (t : Tried) : Type 0 where
+-- this takes an entry back, after which a desk is d again
+pub record TakesBack (d : DeskState) (e : Entry) (t : Tried) : Type 0 where
   pub versions : t.versions.items ≡ versions d.roster d.history
-  pub change : TakesChangeBack d a c t.undone
+  pub change : TakesChangeBack d e e.change t.undone
 
 -- this takes the last entry of a desk back
 abbrev pub TakesLastBack : DeskState → Tried → Type 0
-TakesLastBack s t =
-    (d : DeskState) × (a : ℕ) × (c : Change) × (s ≡ with_entry d a c) × TakesBack d a c t
+TakesLastBack s t = (d : DeskState) × (e : Entry) × (s ≡ with_entry d e) × TakesBack d e t
 
 -- these take entries back that were made from d one after another, each its own
 abbrev pub TakeAllBack : DeskState → List Entry → List Tried → Type 0
 TakeAllBack d [] [] = ⊤
 TakeAllBack d (e ∷ es) (t ∷ ts) =
-    TakesBack d e.author e.change t × TakeAllBack (with_entry d e.author e.change) es ts
+    TakesBack d e t × TakeAllBack (with_entry d e) es ts
 TakeAllBack d [] (t ∷ ts) = ⊥
 TakeAllBack d (e ∷ es) [] = ⊥
 

@@ -12,6 +12,7 @@ use Rattle.su_op.specs.declared.operations.Change.{Change}
 use Rattle.su_op.specs.declared.operations.Change.TheVariants.{Do, Undo}
 use Rattle.su_op.specs.Operation.{writes}
 use Rattle.su_desk.specs.declared.entries.Entry.{Entry}
+use Rattle.su_desk.specs.History.{action_of}
 use Rattle.su_desk.specs.Applied.{tree_after, written_by}
 
 -- the area is a pointer of group g
@@ -27,11 +28,15 @@ carries g w = list_any (is_pointer_of g) w
 abbrev pub carried_groups : Membership → List Area → List ℕ
 carried_groups ro w = filter (λ g. carries g w) (map (λ g. g.0) ro.groups)
 
--- what the cells are of a change by user a after a history: those that the operation writes, or
--- those that the operation wrote that it undoes
-abbrev pub cells_of : Membership → List Entry → ℕ → Change → List Area
-cells_of ro h a (Do op) = writes ro (tree_after ro h) a op
-cells_of ro h a (Undo n) = written_by ro h n
+-- what the cells are of an entry after a history, whose change is given: those that the operation
+-- writes, or those that the operation wrote that it undoes
+abbrev pub cells_by_change : Membership → List Entry → Entry → Change → List Area
+cells_by_change ro h e (Do op) = writes ro (tree_after ro h) (action_of e op)
+cells_by_change ro h e (Undo n) = written_by ro h n
+
+-- what the cells are of an entry after a history
+abbrev pub cells_of : Membership → List Entry → Entry → List Area
+cells_of ro h e = cells_by_change ro h e e.change
 
 -- an entry by user a that writes these areas raises the number of a, and of the groups that it
 -- carries
@@ -47,8 +52,7 @@ raised a w v = (v.0, v.1 + cond (raises a w v.0) 1 0)
 abbrev pub version_after : Membership → List Entry → List Entry → Principal → ℕ
 version_after ro h [] p = 0
 version_after ro h (e ∷ es) p =
-    cond (raises e.author (cells_of ro h e.author e.change) p) 1 0
-    + version_after ro (h ++ e ∷ []) es p
+    cond (raises e.author (cells_of ro h e) p) 1 0 + version_after ro (h ++ e ∷ []) es p
 
 -- the version number of a principal: of a user how many entries are his, of a group how many carry
 -- it

@@ -3,8 +3,8 @@ ghost use Rattle.std.specs.Prelude.{◌≡◌, ◌⊎◌, [], map, option_copied
 ghost use Rattle.su_desk.specs.Version.{versions};
 ghost use Rattle.su_desk.specs.Headline.{Headline};
 ghost use Rattle.su_bytes.specs.declared.refusals.Refusal.TheVariants.{NoMemory};
-ghost use Rattle.su_op.specs.declared.operations.Change.TheVariants.{Do, Undo};
-ghost use Rattle.su_desk.specs.History.{tree, live_numbers, last_live, entry_at, undoer};
+ghost use Rattle.su_op.specs.declared.operations.Change.TheVariants.{Do};
+ghost use Rattle.su_desk.specs.History.{entry_by, undo_by, tree, live_numbers, last_live, entry_at, undoer};
 ghost use Rattle.su_desk.specs.Blocker.{blocker};
 ghost use Rattle.su_desk.specs.Answer.{live_refusal, undo_refusal, Good};
 ghost use Rattle.su_desk.specs.Desk.{Answers, Runs, result_of, with_entry};
@@ -115,7 +115,7 @@ impl Desk {
     /// Makes a change, and returns the number of its entry. A refusal, the first in order or
     /// `NoMemory`, changes nothing.
     pub fn apply(&mut self, author: User, change: Change) -> Result<u64, Refusal>
-        ensures { Answers self.old author change result self.new }
+        ensures { Answers self.old (entry_by author change) result self.new }
     {
         match change {
             Change::Do(op) => self.operate(author, op),
@@ -125,7 +125,7 @@ impl Desk {
 
     /// Undoes the last live operation. Fails with `NoOperation` of 0 where there is none.
     pub fn undo_last(&mut self, author: User) -> Result<u64, Refusal>
-        ensures { Answers self.old author (Undo (last_live self.old.history)) result self.new }
+        ensures { Answers self.old (undo_by author (last_live self.old.history)) result self.new }
     {
         let number = self.last();
         self.undo(author, number)
@@ -159,7 +159,7 @@ impl Desk {
 
     /// Does an operation, and adds it to the history.
     fn operate(&mut self, author: User, op: Op) -> Result<u64, Refusal>
-        ensures { Answers self.old author (Do op) result self.new }
+        ensures { Answers self.old (entry_by author (Do op)) result self.new }
     {
         // no `?`, for the prover (docs/ARCHITECTURE.md, "Forms the kit wants")
         let accepted = match op.check(&self.forest, &self.roster, author) {
@@ -185,7 +185,7 @@ impl Desk {
 
     /// Undoes an operation, and adds that to the history.
     fn undo(&mut self, author: User, number: u64) -> Result<u64, Refusal>
-        ensures { Answers self.old author (Undo number) result self.new }
+        ensures { Answers self.old (undo_by author number) result self.new }
     {
         self.take_out(author, number)?;
         Ok(self.entries.len() as u64)
@@ -196,7 +196,7 @@ impl Desk {
     fn take_out(&mut self, author: User, number: u64) -> Result<(usize, KeptOperation), Refusal>
         ensures accepted { OnOk result
             (undo_refusal self.old.roster self.old.history author number ≡ None) }
-        ensures done { OnOk result (self.new ≡ with_entry self.old author (Undo number)) }
+        ensures done { OnOk result (self.new ≡ with_entry self.old (undo_by author number)) }
         ensures kept { IfOk result (λ out.
             IsKeptAt self.old.roster self.old.history number out.0 out.1) }
         ensures refused { IfErr result (λ e.
@@ -216,7 +216,8 @@ impl Desk {
 
     /// Makes one of several changes, and returns the reply to it.
     fn reply(&mut self, change: &(User, Change)) -> DeskReply
-        ensures { Answers self.old change.now.0 change.now.1 (result_of result) self.new }
+        ensures { Answers self.old (entry_by change.now.0 change.now.1) (result_of result)
+            self.new }
     {
         let Ok(copy) = change.1.clone() else {
             return DeskReply::Refused(Refusal::NoMemory);

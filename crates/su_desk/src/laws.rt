@@ -6,13 +6,13 @@ ghost use Rattle.su_bytes.specs.Membership.{Membership, IsRoster, has_number};
 ghost use Rattle.su_bytes.specs.declared.principals.Principal.{Principal};
 ghost use Rattle.su_bytes.specs.declared.principals.Principal.TheVariants.{User};
 ghost use Rattle.su_op.specs.declared.areas.Area.{Area};
-ghost use Rattle.su_op.specs.declared.operations.Change.TheVariants.{Do};
 ghost use Rattle.su_op.specs.Area.{meet};
 ghost use Rattle.su_op.specs.Operation.{why, effect};
-ghost use Rattle.su_op.specs.Store.{Action, store};
+ghost use Rattle.su_op.specs.Action.{Action};
+ghost use Rattle.su_op.specs.Store.{store};
 ghost use Rattle.su_undo.specs.Replay.{UndoIsSafe};
 ghost use Rattle.su_desk.specs.declared.entries.Entry.{Entry};
-ghost use Rattle.su_desk.specs.History.{NumberedAction, entry_by, undo_by, live, live_numbers, last_live, tree};
+ghost use Rattle.su_desk.specs.History.{NumberedAction, entry_doing, undo_by, live, live_numbers, last_live, tree};
 ghost use Rattle.su_desk.specs.Blocker.{blocker, HaveCommonCell};
 ghost use Rattle.su_desk.specs.Answer.{refusal_of, Good};
 ghost use Rattle.su_desk.specs.Applied.{tree_after};
@@ -51,17 +51,16 @@ pub fn live_numbers_ascend()
 /// history is good if it was, and the entry is accepted after it.
 pub fn one_entry_more()
     ensures done { (ro : Membership) (h : List Entry) (x : Action) → Good ro h
-        → live (h ++ entry_by x.author (Do x.op) ∷ [])
+        → live (h ++ entry_doing x ∷ [])
         ≡ live h ++ record { number = length h + 1; action = x } ∷ [] }
     ensures effect { (ro : Membership) (h : List Entry) (x : Action) → Good ro h
-        → why ro (tree_after ro h) x.author x.op ≡ None
-        → tree ro (h ++ entry_by x.author (Do x.op) ∷ [])
-        ≡ Some (effect ro (tree_after ro h) x.author x.op) }
+        → why ro (tree_after ro h) x ≡ None
+        → tree ro (h ++ entry_doing x ∷ []) ≡ Some (effect ro (tree_after ro h) x) }
     ensures undone { (h : List Entry) (a n : ℕ)
         → live (h ++ undo_by a n ∷ [])
         ≡ filter (λ (t : NumberedAction). not (nat_eq t.number n)) (live h) }
     ensures good { (ro : Membership) (h : List Entry) (e : Entry)
-        → Good ro (h ++ e ∷ []) ↔ (Good ro h × (refusal_of ro h e.author e.change ≡ None)) }
+        → Good ro (h ++ e ∷ []) ↔ (Good ro h × (refusal_of ro h e ≡ None)) }
 {}
 
 /// With each entry, also with an undo, no version number falls, and that of its author rises by
@@ -74,7 +73,7 @@ pub fn versions_rise()
         → version ro (h ++ e ∷ []) (User e.author) ≡ version ro h (User e.author) + 1 }
     ensures all { (ro : Membership) (h : List Entry) (e : Entry)
         → versions ro (h ++ e ∷ [])
-        ≡ map (raised e.author (cells_of ro h e.author e.change)) (versions ro h) }
+        ≡ map (raised e.author (cells_of ro h e)) (versions ro h) }
 {}
 
 /// The groups that an entry carries, as a list: those of the roster of which it writes a pointer.

@@ -4,7 +4,7 @@ ghost use Rattle.su_bytes.specs.declared.refusals.Refusal.TheVariants.{NoMemory}
 ghost use Rattle.su_desk.specs.Answer.{answer, Good};
 ghost use Rattle.su_desk.specs.Desk.{Answers};
 ghost use Rattle.su_desk.specs.Headline.{Headline};
-ghost use Rattle.su_desk.specs.History.{tree, live_numbers};
+ghost use Rattle.su_desk.specs.History.{entry_by, tree, live_numbers};
 ghost use Rattle.su_desk.specs.Trial.{nothing_ready, ready_with, with_ready, without_last, Tells, IsReady};
 ghost use Rattle.su_desk.specs.Version.{versions};
 
@@ -78,13 +78,15 @@ impl TrialDesk {
     /// and stays so where the change is refused: by the first refusal in order, or `NoMemory`.
     pub fn prepare(&mut self, author: User, change: Change) -> Result<Prepared, Refusal>
         ensures accepted { IfOk result (λ prepared.
-            answer self.old.settled.roster self.old.settled.history author change
+            answer self.old.settled.roster self.old.settled.history (entry_by author change)
             ≡ Ok prepared.number) }
-        ensures told { IfOk result (Tells self.old.settled author change) }
-        ensures ready { OnOk result (self.new ≡ ready_with self.old.settled author change) }
+        ensures told { IfOk result (Tells self.old.settled (entry_by author change)) }
+        ensures ready { OnOk result
+            (self.new ≡ ready_with self.old.settled (entry_by author change)) }
         ensures refused { IfErr result (λ e.
             (e ≡ NoMemory)
-            ⊎ (answer self.old.settled.roster self.old.settled.history author change ≡ Err e)) }
+            ⊎ (answer self.old.settled.roster self.old.settled.history (entry_by author change)
+            ≡ Err e)) }
         ensures err { OnErr result (self.new.settled ≡ self.old.settled) }
     {
         self.take_back()?;
@@ -109,7 +111,7 @@ impl TrialDesk {
     /// Makes a change for good: prepares it, and settles it. What stood ready is taken back before;
     /// a refusal, the first in order or `NoMemory`, changes nothing that is settled.
     pub fn apply(&mut self, author: User, change: Change) -> Result<u64, Refusal>
-        ensures answered { Answers self.old.settled author change result self.new.settled }
+        ensures answered { Answers self.old.settled (entry_by author change) result self.new.settled }
         ensures none_ready { OnOk result (self.new.ready ≡ []) }
     {
         let prepared = self.prepare(author, change)?;

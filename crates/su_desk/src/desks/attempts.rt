@@ -1,12 +1,13 @@
 // Changes that are made so that they can be taken back.
 ghost use Rattle.std.specs.Prelude.{◌≡◌, ◌⊎◌, ℕ, true, None, Some, Err, IfOk, IfErr, OnOk, OnErr};
 ghost use Rattle.su_bytes.specs.declared.refusals.Refusal.TheVariants.{NoMemory};
-ghost use Rattle.su_op.specs.declared.operations.Change.{Change};
-ghost use Rattle.su_op.specs.declared.operations.Change.TheVariants.{Do, Undo};
+ghost use Rattle.su_op.specs.declared.operations.Change.TheVariants.{Undo};
 ghost use Rattle.su_op.specs.Area.{has};
-ghost use Rattle.su_op.specs.declared.operations.Op.{Op};
+ghost use Rattle.su_op.specs.Action.{Action};
 ghost use Rattle.su_table.specs.Cell.{Cell};
 ghost use Rattle.su_inverse.specs.Kept.{inverse_areas, IsKeptOf};
+ghost use Rattle.su_desk.specs.declared.entries.Entry.{Entry};
+ghost use Rattle.su_desk.specs.History.{entry_by, entry_doing};
 ghost use Rattle.su_desk.specs.Answer.{answer, refusal_of, undo_refusal, Good};
 ghost use Rattle.su_desk.specs.Applied.{written_by};
 ghost use Rattle.su_desk.specs.Desk.{DeskState, with_entry};
@@ -26,12 +27,13 @@ impl Desk {
     /// Makes a change as `apply` does, and returns what takes it back.
     pub(crate) fn attempt(&mut self, author: User, change: Change) -> Result<Tried, Refusal>
         ensures accepted { OnOk result
-            (refusal_of self.old.roster self.old.history author change ≡ None) }
+            (refusal_of self.old.roster self.old.history (entry_by author change) ≡ None) }
         ensures good { OnOk result (Good self.old.roster self.old.history) }
-        ensures done { OnOk result (self.new ≡ with_entry self.old author change) }
-        ensures tried { IfOk result (TakesBack self.old author change) }
+        ensures done { OnOk result (self.new ≡ with_entry self.old (entry_by author change)) }
+        ensures tried { IfOk result (TakesBack self.old (entry_by author change)) }
         ensures refused { IfErr result (λ e.
-            (e ≡ NoMemory) ⊎ (answer self.old.roster self.old.history author change ≡ Err e)) }
+            (e ≡ NoMemory)
+            ⊎ (answer self.old.roster self.old.history (entry_by author change) ≡ Err e)) }
         ensures err { OnErr result (self.new ≡ self.old) }
     {
         let versions = Vec::from_slice(self.alloc, self.counters.as_slice())?;
@@ -77,8 +79,8 @@ impl Desk {
     pub(crate) fn tell(&self, author: User, tried: &Tried) -> Result<Prepared, Refusal>
         requires { TakesLastBack self.now tried.now }
         ensures told { IfOk result (λ prepared.
-            (d : DeskState) (c : Change) → self.now ≡ with_entry d author c
-            → TakesBack d author c tried.now → Tells d author c prepared) }
+            (d : DeskState) (e : Entry) → e.author ≡ author → self.now ≡ with_entry d e
+            → TakesBack d e tried.now → Tells d e prepared) }
         ensures refused { IfErr result (λ e. e ≡ NoMemory) }
     {
         let versions = Vec::from_slice(self.alloc, self.counters.as_slice())?;
@@ -97,8 +99,8 @@ impl Desk {
     /// undid.
     fn last_written<'a>(&'a self, tried: &'a Tried) -> &'a [Area]
         requires { TakesLastBack self.now tried.now }
-        ensures { (d : DeskState) (a : ℕ) (c : Change) → self.now ≡ with_entry d a c
-            → TakesBack d a c tried.now → result.now ≡ cells_of d.roster d.history a c }
+        ensures { (d : DeskState) (e : Entry) → self.now ≡ with_entry d e
+            → TakesBack d e tried.now → result.now ≡ cells_of d.roster d.history e }
     {
         match &tried.undone {
             Some(undone) => undone.operation.footprint.writes.as_slice(),
@@ -139,7 +141,7 @@ impl Desk {
     /// Takes the operation of the last entry back. Fails only with `NoMemory`, and then changes
     /// nothing.
     fn take_operation_back(&mut self, numbers: &[(Principal, u64)]) -> Result<(), Refusal>
-        requires { (d : DeskState) × (a : ℕ) × (op : Op) × (self.old ≡ with_entry d a (Do op))
+        requires { (d : DeskState) × (x : Action) × (self.old ≡ with_entry d (entry_doing x))
             × (numbers.now ≡ versions d.roster d.history) }
         ensures ok { OnOk result (self.new ≡ before_last self.old) }
         ensures err { OnErr result (self.new ≡ self.old) }
@@ -157,8 +159,9 @@ impl Desk {
     /// Takes the undo of the last entry back. Fails only where there is no memory for it: then
     /// changes nothing, and gives back what it was to be taken back by.
     fn take_undo_back(&mut self, numbers: &[(Principal, u64)], undone: Undone) -> Result<(), Undone>
-        requires { (d : DeskState) × (a : ℕ) × (n : ℕ) × (self.old ≡ with_entry d a (Undo n))
-            × (numbers.now ≡ versions d.roster d.history) × TakesUndoBack d a n undone }
+        requires { (d : DeskState) × (e : Entry) × (n : ℕ) × (e.change ≡ Undo n)
+            × (self.old ≡ with_entry d e) × (numbers.now ≡ versions d.roster d.history)
+            × TakesUndoBack d e n undone }
         ensures ok { OnOk result (self.new ≡ before_last self.old) }
         ensures undone { IfErr result (λ again. again ≡ undone) }
         ensures err { OnErr result (self.new ≡ self.old) }

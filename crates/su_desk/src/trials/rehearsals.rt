@@ -1,6 +1,7 @@
 // Operations that are made on trial one after another, and taken back.
 ghost use Rattle.std.specs.Prelude.{◌≡◌, ◌⊎◌, [], None, Some, IfErr, OnOk, OnErr};
 ghost use Rattle.su_bytes.specs.declared.refusals.Refusal.TheVariants.{NoMemory};
+ghost use Rattle.su_op.specs.Action.{action_by};
 ghost use Rattle.su_op.specs.Operation.{why, effect};
 ghost use Rattle.su_desk.specs.Rehearsal.{first_refusal};
 ghost use Rattle.su_desk.specs.Trial.{nothing_ready, tree_of, tree_with_ready};
@@ -56,15 +57,17 @@ impl TrialDesk {
     /// `NoMemory`, changes nothing.
     fn try_next(&mut self, author: User, operation: &Op) -> Result<(), Refusal>
         ensures accepted { OnOk result
-            (why self.old.settled.roster (tree_with_ready self.old) author operation.now ≡ None) }
+            (why self.old.settled.roster (tree_with_ready self.old)
+            (action_by author operation.now) ≡ None) }
         ensures effect { OnOk result
             (tree_with_ready self.new
-            ≡ effect self.old.settled.roster (tree_with_ready self.old) author operation.now) }
+            ≡ effect self.old.settled.roster (tree_with_ready self.old)
+            (action_by author operation.now)) }
         ensures settled { self.new.settled ≡ self.old.settled }
         ensures refused { IfErr result (λ e.
             (e ≡ NoMemory)
-            ⊎ (why self.old.settled.roster (tree_with_ready self.old) author operation.now
-            ≡ Some e)) }
+            ⊎ (why self.old.settled.roster (tree_with_ready self.old)
+            (action_by author operation.now) ≡ Some e)) }
         ensures err { OnErr result (self.new ≡ self.old) }
     {
         let change = Change::Do(operation.clone()?);

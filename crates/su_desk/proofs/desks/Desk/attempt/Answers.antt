@@ -1,10 +1,11 @@
 use Rattle.std.proofs.Common.{◌≡◌, ◌∙◌, ◌⊎◌, inl, inr, Some, Err, sym, ap, subst, ℕ}
 use Rattle.su_bytes.specs.declared.refusals.Refusal.{Refusal}
 use Rattle.su_bytes.specs.declared.refusals.Refusal.TheVariants.{NoMemory}
-use Rattle.su_op.specs.declared.operations.Change.{Change}
 use Rattle.su_op.specs.declared.operations.Change.TheVariants.{Undo}
 use Rattle.su_desk.specs.declared.prepared.Tried.{Tried}
-use Rattle.su_desk.specs.Answer.{answer, refusal_of, undo_refusal, Good}
+use Rattle.su_desk.specs.Answer.{answer, refusal_by_change, undo_refusal, Good}
+use Rattle.su_desk.specs.declared.entries.Entry.{Entry}
+use Rattle.su_desk.specs.History.{entry_by}
 use Rattle.su_desk.specs.Desk.{DeskState}
 use Rattle.su_desk.specs.Tried.{TakesBack}
 use Rattle.su_desk.specs.Version.{versions}
@@ -14,28 +15,28 @@ use Rattle.su_desk.proofs.TrialLemmas.{refused_by}
 use Rattle.su_desk.proofs.desks.Desk.attempt.Goals as goal
 
 -- a refused undo, as the answer to the change
-undo_answer : (d : DeskState) (a n : ℕ) (c : Change) (x : Refusal) → c ≡ Undo n → (x ≡ NoMemory) ⊎ (undo_refusal d.roster d.history a n ≡ Some x) → (x ≡ NoMemory) ⊎ (answer d.roster d.history a c ≡ Err x)
-undo_answer d a n c x is (inl none) = inl none
-undo_answer d a n c x is (inr refused) = inr (ap (answer d.roster d.history a) is ∙ answer_refused d.roster d.history a (Undo n) x refused)
+undo_answer : (d : DeskState) (e : Entry) (n : ℕ) (x : Refusal) → e.change ≡ Undo n → (x ≡ NoMemory) ⊎ (undo_refusal d.roster d.history e.author n ≡ Some x) → (x ≡ NoMemory) ⊎ (answer d.roster d.history e ≡ Err x)
+undo_answer d e n x is (inl none) = inl none
+undo_answer d e n x is (inr refused) = inr (answer_refused d.roster d.history e x (ap (refusal_by_change d.roster d.history e) is ∙ refused))
 
 pub returns-in_err-held-in-Undo-clause-refused : goal.returns-in_err-held-in-Undo-clause-refused
 returns-in_err-held-in-Undo-clause-refused c =
     let d = c.args.self.now in
     let x = c.in_err-held-in-Undo.field-0.0 in
-    refused_by (λ e. (e ≡ NoMemory) ⊎ (answer d.roster d.history c.args.author c.args.change ≡ Err e)) c.from_residual-in_err-held-in-Undo.result x c.from_residual-in_err-held-in-Undo.ensures.1
-    (undo_answer d c.args.author c.in-Undo.number c.args.change x c.in-Undo.is c.in_err-held-in-Undo.ensures.refused)
+    refused_by (λ e. (e ≡ NoMemory) ⊎ (answer d.roster d.history (entry_by c.args.author c.args.change) ≡ Err e)) c.from_residual-in_err-held-in-Undo.result x c.from_residual-in_err-held-in-Undo.ensures.1
+    (undo_answer d (entry_by c.args.author c.args.change) c.in-Undo.number x c.in-Undo.is c.in_err-held-in-Undo.ensures.refused)
 
 pub returns-in_err-index-in-Undo-clause-refused : goal.returns-in_err-index-in-Undo-clause-refused
 returns-in_err-index-in-Undo-clause-refused c =
     let d = c.args.self.now in
     let x = c.in_err-index-in-Undo.field-0.0 in
-    refused_by (λ e. (e ≡ NoMemory) ⊎ (answer d.roster d.history c.args.author c.args.change ≡ Err e)) c.from_residual-in_err-index-in-Undo.result x c.from_residual-in_err-index-in-Undo.ensures.1
-    (undo_answer d c.args.author c.in-Undo.number c.args.change x c.in-Undo.is c.in_err-index-in-Undo.ensures.refused)
+    refused_by (λ e. (e ≡ NoMemory) ⊎ (answer d.roster d.history (entry_by c.args.author c.args.change) ≡ Err e)) c.from_residual-in_err-index-in-Undo.result x c.from_residual-in_err-index-in-Undo.ensures.1
+    (undo_answer d (entry_by c.args.author c.args.change) c.in-Undo.number x c.in-Undo.is c.in_err-index-in-Undo.ensures.refused)
 
 pub returns-in_ok-operate-in-Do-clause-accepted : goal.returns-in_ok-operate-in-Do-clause-accepted
 returns-in_ok-operate-in-Do-clause-accepted c =
     let d = c.args.self.now in
-    ap (refusal_of d.roster d.history c.args.author) c.in-Do.is ∙ answer_accepted _ _ _ _ _ c.in_ok-operate-in-Do.ensures.0
+    ap (refusal_by_change d.roster d.history (entry_by c.args.author c.args.change)) c.in-Do.is ∙ answer_accepted _ _ _ _ c.in_ok-operate-in-Do.ensures.0
 
 pub returns-in_ok-index-in-Undo-clause-tried : goal.returns-in_ok-index-in-Undo-clause-tried
 returns-in_ok-index-in-Undo-clause-tried c =
@@ -45,7 +46,7 @@ returns-in_ok-index-in-Undo-clause-tried c =
     let out = c.in_ok-index-in-Undo.ensures in
     let good : Good d.roster d.history = subst (λ x. Good x.roster x.history) c.self.view_is c.self.invariant.0.good in
     let t : Tried = record { versions = c.in_ok-versions.versions; undone = Some (record { index = c.in_ok-index-in-Undo.index; operation = c.in_ok-index-in-Undo.operation; held = c.in_ok-held-in-Undo.held }) } in
-    subst (λ ch. TakesBack d c.args.author ch t) (sym c.in-Undo.is)
+    subst (λ ch. TakesBack d (entry_by c.args.author ch) t) (sym c.in-Undo.is)
     (record {
       versions = c.in_ok-versions.ensures.items ∙ c.as_slice.ensures.value ∙ c.self.invariant.1 ∙ ap (λ x. versions x.roster x.history) c.self.view_is;
       change = record {

@@ -7,21 +7,21 @@ use Rattle.su_desk.proofs.desks.Desk.last_written.Goals as goal
 pub unreachable-requires : goal.unreachable-requires
 unreachable-requires c =
     let s = c.self.inside in
-    let (d, a, ch, is, back) = c.requires in
+    let (d, e, is, back) = c.requires in
     let none : slice_get s.kept.items (length s.kept.items - 1) ≡ None
     = ap (λ ks. slice_get ks (length ks - 1)) (sym c.deref.ensures.value) ∙ sym c.last.ensures.value ∙ ap option_copied c.in-None-last.is in
-    some_kept s.roster s.entries.items s.kept.items s.forest d a ch (c.self.view_is ∙ is) c.self.invariant.0 (subst (TakesChangeBack d a ch) c.in-None.is back.change) none
+    some_kept s.roster s.entries.items s.kept.items s.forest d e (c.self.view_is ∙ is) c.self.invariant.0 (subst (TakesChangeBack d e e.change) c.in-None.is back.change) none
 
 pub returns-in-Some : goal.returns-in-Some
-returns-in-Some c d a ch is back =
+returns-in-Some c d e is back =
     let s = c.self.inside in
     c.as_slice.ensures.value
-    ∙ undone_cells d a ch c.in-Some.undone (good_before s.roster s.entries.items s.kept.items s.forest d a ch (c.self.view_is ∙ is) c.self.invariant.0) (subst (TakesChangeBack d a ch) c.in-Some.is back.change)
+    ∙ undone_cells d e c.in-Some.undone (good_before s.roster s.entries.items s.kept.items s.forest d e (c.self.view_is ∙ is) c.self.invariant.0) (subst (TakesChangeBack d e e.change) c.in-Some.is back.change)
 
 pub returns-in-Some-last : goal.returns-in-Some-last
-returns-in-Some-last c d a ch is back =
+returns-in-Some-last c d e is back =
     let s = c.self.inside in
     let last : slice_get s.kept.items (length s.kept.items - 1) ≡ Some c.in-Some-last.operation.now
     = ap (λ ks. slice_get ks (length ks - 1)) (sym c.deref.ensures.value) ∙ sym c.last.ensures.value ∙ ap option_copied c.in-Some-last.is in
     c.as_slice-in-Some-last.ensures.value
-    ∙ last_cells s.roster s.entries.items s.kept.items s.forest c.in-Some-last.operation.now d a ch (c.self.view_is ∙ is) c.self.invariant.0 (subst (TakesChangeBack d a ch) c.in-None.is back.change) last
+    ∙ last_cells s.roster s.entries.items s.kept.items s.forest c.in-Some-last.operation.now d e (c.self.view_is ∙ is) c.self.invariant.0 (subst (TakesChangeBack d e e.change) c.in-None.is back.change) last

@@ -1,7 +1,6 @@
 use Rattle.std.proofs.Common.{◌∙◌, ◌+◌, ◌++◌, ◌∷◌, [], List, sym, ap, subst, ◌≡◌, length, take, drop, arith, ℕ, ◌<◌, ◌^◌}
 use Rattle.std.specs.List.{All}
 use Rattle.su_bytes.specs.declared.principals.Principal.{Principal}
-use Rattle.su_op.specs.declared.operations.Change.TheVariants.{Undo}
 use Rattle.su_desk.specs.declared.entries.Entry.{Entry}
 use Rattle.su_desk.specs.declared.kept.KeptOperation.{KeptOperation}
 use Rattle.su_desk.specs.History.{undo_by}
@@ -29,7 +28,7 @@ invariant_of-self-2 c =
     let i = c.in_ok-index.index in
     let there : Found s.roster s.entries.items s.kept.items k i c.args.number s.forest
     = found s.roster s.entries.items s.kept.items k i c.args.number s.forest c.self.invariant.0 (subst (λ ks. IsIndexOf c.args.number ks i) c.deref-2.ensures.value c.in_ok-index.ensures.found) (sym c.index.ensures) in
-    let written : c.deref-3.result.now ≡ cells_of s.roster s.entries.items c.args.author (Undo c.args.number)
+    let written : c.deref-3.result.now ≡ cells_of s.roster s.entries.items (undo_by c.args.author c.args.number)
     = c.deref-3.ensures.value ∙ ap (λ (x : KeptOperation). x.footprint.writes.items) (same_there s.kept.items i c.remove-undone.result k (subst (λ ks. IsIndexOf c.args.number ks i) c.deref-2.ensures.value c.in_ok-index.ensures.found).within c.remove-undone.ensures.value (sym c.index.ensures)) ∙ undone_written s.roster s.entries.items s.kept.items k i c.args.number s.forest there in (
       subst (λ h. Keeps s.roster h c.remove-undone.new.self.items c.undo_on.new.forest) (sym entries)
           (subst (λ ks. Keeps s.roster (s.entries.items ++ e ∷ []) ks c.undo_on.new.forest) (sym c.remove-undone.ensures.by_index.2)
@@ -42,7 +41,7 @@ pub returns-clause-done : goal.returns-clause-done
 returns-clause-done c =
     let entries = c.push_reserved.ensures.items ∙ ap (λ h. h ++ undo_by c.args.author c.args.number ∷ []) c.in_ok-reserve.ensures.items in
     let seen : List Entry → DeskState = λ h. record { roster = c.self.inside.roster; history = h } in
-    ap seen entries ∙ ap (λ d. with_entry d c.args.author (Undo c.args.number)) c.self.view_is
+    ap seen entries ∙ ap (λ d. with_entry d (undo_by c.args.author c.args.number)) c.self.view_is
 
 pub raise-requires : goal.raise-requires
 raise-requires c =

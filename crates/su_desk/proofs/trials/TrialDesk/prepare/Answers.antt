@@ -1,6 +1,7 @@
 use Rattle.std.proofs.Common.{◌≡◌, ◌∙◌, ◌++◌, ◌∷◌, [], Ok, sym, ap, subst, refl}
 use Rattle.std.proofs.lemmas.Result.{IfOk-weaker}
 use Rattle.su_desk.specs.Answer.{answer}
+use Rattle.su_desk.specs.History.{entry_by}
 use Rattle.su_desk.specs.Desk.{DeskState}
 use Rattle.su_desk.specs.Trial.{TrialState, Tells, nothing_ready, ready_with}
 use Rattle.su_desk.proofs.Replies.{answer_done}
@@ -16,11 +17,11 @@ same : (c : goal.After-push_reserved) → c.self.inside.desk ≡ c.args.self.now
 same c = alone c.self.inside.desk c.self.inside.tried.items (nothing_ready c.args.self.now.settled) (settled c) refl
 
 -- the change stands ready
-ready : (c : goal.After-push_reserved) → Stand c.attempt.new.self c.push_reserved.new.self.items (ready_with c.args.self.now.settled c.args.author c.args.change)
+ready : (c : goal.After-push_reserved) → Stand c.attempt.new.self c.push_reserved.new.self.items (ready_with c.args.self.now.settled (entry_by c.args.author c.args.change))
 ready c =
-    subst (λ ts. Stand c.attempt.new.self ts (ready_with c.args.self.now.settled c.args.author c.args.change))
+    subst (λ ts. Stand c.attempt.new.self ts (ready_with c.args.self.now.settled (entry_by c.args.author c.args.change)))
     (ap (λ ts. ts ++ c.in_ok-tried.tried ∷ []) (sym c.in_ok-reserve.ensures.items) ∙ sym c.push_reserved.ensures.items)
-    (stands_more c.self.inside.desk c.attempt.new.self c.self.inside.tried.items (nothing_ready c.args.self.now.settled) c.args.author c.args.change c.in_ok-tried.tried (settled c)
+    (stands_more c.self.inside.desk c.attempt.new.self c.self.inside.tried.items (nothing_ready c.args.self.now.settled) (entry_by c.args.author c.args.change) c.in_ok-tried.tried (settled c)
     c.in_ok-tried.ensures.done c.in_ok-tried.ensures.tried)
 
 pub invariant_of-self-2 : goal.invariant_of-self-2
@@ -28,19 +29,18 @@ invariant_of-self-2 c = fits_so _ _ _ (ready c)
 
 pub returns-clause-accepted : goal.returns-clause-accepted
 returns-clause-accepted c =
-    let a = c.args.author in
     IfOk-weaker c.tell-prepared.result _ _
     (λ prepared told.
-    subst (λ (x : DeskState). answer x.roster x.history a c.args.change ≡ Ok prepared.number) (same c)
-    (answer_done c.self.inside.desk.roster c.self.inside.desk.history a c.args.change c.in_ok-tried.ensures.accepted
-    ∙ ap Ok (sym (told c.self.inside.desk c.args.change c.in_ok-tried.ensures.done c.in_ok-tried.ensures.tried).number)))
+    subst (λ (x : DeskState). answer x.roster x.history (entry_by c.args.author c.args.change) ≡ Ok prepared.number) (same c)
+    (answer_done c.self.inside.desk.roster c.self.inside.desk.history (entry_by c.args.author c.args.change) c.in_ok-tried.ensures.accepted
+    ∙ ap Ok (sym (told c.self.inside.desk (entry_by c.args.author c.args.change) refl c.in_ok-tried.ensures.done c.in_ok-tried.ensures.tried).number)))
     c.tell-prepared.ensures.told
 
 pub returns-clause-told : goal.returns-clause-told
 returns-clause-told c =
     IfOk-weaker c.tell-prepared.result _ _
     (λ prepared told.
-    subst (λ (x : DeskState). Tells x c.args.author c.args.change prepared) (same c) (told c.self.inside.desk c.args.change c.in_ok-tried.ensures.done c.in_ok-tried.ensures.tried))
+    subst (λ (x : DeskState). Tells x (entry_by c.args.author c.args.change) prepared) (same c) (told c.self.inside.desk (entry_by c.args.author c.args.change) refl c.in_ok-tried.ensures.done c.in_ok-tried.ensures.tried))
     c.tell-prepared.ensures.told
 
 pub returns-clause-ready : goal.returns-clause-ready
