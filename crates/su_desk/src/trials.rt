@@ -111,7 +111,8 @@ impl TrialDesk {
     /// Makes a change for good: prepares it, and settles it. What stood ready is taken back before;
     /// a refusal, the first in order or `NoMemory`, changes nothing that is settled.
     pub fn apply(&mut self, author: User, change: Change) -> Result<u64, Refusal>
-        ensures answered { Answers self.old.settled (entry_by author change) result self.new.settled }
+        ensures answered { Answers self.old.settled (entry_by author change) result
+            self.new.settled }
         ensures none_ready { OnOk result (self.new.ready ≡ []) }
     {
         let prepared = self.prepare(author, change)?;

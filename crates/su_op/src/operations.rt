@@ -147,7 +147,8 @@ pub fn apply(
     op: &Op,
 ) -> Result<(), Refusal>
     ensures accepted { OnOk result (why roster.now forest.old (action_by author op.now) ≡ None) }
-    ensures done { OnOk result (forest.new ≡ effect roster.now forest.old (action_by author op.now)) }
+    ensures done { OnOk result
+        (forest.new ≡ effect roster.now forest.old (action_by author op.now)) }
     ensures refused { IfErr result (λ e.
         (e ≡ NoMemory) ⊎ (why roster.now forest.old (action_by author op.now) ≡ Some e)) }
     ensures err { OnErr result (forest.new ≡ forest.old) }
