@@ -9,23 +9,21 @@ use Rattle.su_bytes.specs.Principal.{principals, user_principal, group_principal
 use Rattle.su_bytes.specs.declared.principals.Principal.{Principal}
 use Rattle.su_bytes.specs.declared.principals.Principal.TheVariants.{User, Group}
 use Rattle.su_op.specs.declared.areas.Area.{Area}
-use Rattle.su_op.specs.declared.operations.Change.{Change}
 use Rattle.su_desk.specs.declared.entries.Entry.{Entry}
-use Rattle.su_desk.specs.History.{entry_by}
 use Rattle.su_desk.specs.Answer.{Good, GoodAfter}
 use Rattle.su_desk.specs.Version.{cells_of, carries, carried_groups, raises, raised, numbered, version, versions}
 use Rattle.su_desk.proofs.VersionNumbers.{versions-append}
 use Rattle.su_vector.specs.Vector.{zeros, concerns, numbers_after, bump}
 use Rattle.su_version.specs.Chain.{last_vector, chain_vector}
 use Rattle.su_version.proofs.Public.{next_counts}
-use Rattle.su_legal.specs.Legal.{Committed, commits_of, author_of, history, vector_of, group_handles, MayJoin, LegalAfter, Legal}
+use Rattle.su_legal.specs.Legal.{Committed, commits_of, author_of, entry_of, history, vector_of, group_handles, MayJoin, LegalAfter, Legal}
 use Rattle.su_legal.proofs.Lists.{found_split, from_the_end, none_in_empty, only_in, is_in_middle}
 use Rattle.su_legal.proofs.LegalLists.{legal_front, legal_next}
 
 good_after : (ro : Membership) (before cs : List Committed) → LegalAfter ro before cs → GoodAfter ro (history before) (history cs)
 good_after ro before [] l = tt
 good_after ro before (c ∷ cs) (f, l) =
-    (f.accepted, subst (λ h. GoodAfter ro h (history cs)) (map-append (λ c. entry_by (author_of c) c.change) before (c ∷ [])) (good_after ro (before ++ c ∷ []) cs l))
+    (f.accepted, subst (λ h. GoodAfter ro h (history cs)) (map-append entry_of before (c ∷ [])) (good_after ro (before ++ c ∷ []) cs l))
 
 pub good_history : (ro : Membership) (cs : List Committed) → Legal ro cs → Good ro (history cs)
 good_history ro cs l = good_after ro [] cs l
@@ -121,27 +119,27 @@ all_ids ro p c = go (Contains-append_cases (map user_principal ro.users) (map gr
 
 -- the vector after a commit that carries the groups of which it writes a pointer is that of the history with one entry
 -- more
-pub bump_counts : (ro : Membership) (h : List Entry) (a : ℕ) (change : Change)
-    → bump ro (map (λ v. v.1) (versions ro h)) a (carried_groups ro (cells_of ro h a change))
-    ≡ map (λ v. v.1) (versions ro (h ++ entry_by a change ∷ []))
+pub bump_counts : (ro : Membership) (h : List Entry) (e : Entry)
+    → bump ro (map (λ v. v.1) (versions ro h)) e.author (carried_groups ro (cells_of ro h e))
+    ≡ map (λ v. v.1) (versions ro (h ++ e ∷ []))
 unfolding bump
-bump_counts ro h a change =
-    bumped ro h a (cells_of ro h a change) (map (λ g. g.0) ro.groups) (principals ro) (all_ids ro)
-    ∙ ap (map (λ (v : Principal × ℕ). v.1)) (sym (versions-append ro h (entry_by a change) (cells_of ro h a change) refl))
+bump_counts ro h e =
+    bumped ro h e.author (cells_of ro h e) (map (λ g. g.0) ro.groups) (principals ro) (all_ids ro)
+    ∙ ap (map (λ (v : Principal × ℕ). v.1)) (sym (versions-append ro h e (cells_of ro h e) refl))
 
 -- the groups with i-handles are those that the change carries
-pub groups_listed : (ro : Membership) (h : List Entry) (a : ℕ) (change : Change)
-    → map (λ g. g.0) (group_handles ro h a change) ≡ carried_groups ro (cells_of ro h a change)
-groups_listed ro h a change = firsts _ (carried_groups ro (cells_of ro h a change))
+pub groups_listed : (ro : Membership) (h : List Entry) (e : Entry)
+    → map (λ g. g.0) (group_handles ro h e) ≡ carried_groups ro (cells_of ro h e)
+groups_listed ro h e = firsts _ (carried_groups ro (cells_of ro h e))
   where
     firsts : (f : ℕ → List ℕ) (gs : List ℕ) → map (λ (g : ℕ × List ℕ). g.0) (map (λ g. (g, f g)) gs) ≡ gs
     firsts f [] = refl
     firsts f (g ∷ gs) = ap (λ l. g ∷ l) (firsts f gs)
 
 pub carried_listed : (ro : Membership) (cs : List Committed) (c : Committed) → MayJoin ro cs c
-    → map (λ g. g.0) c.commit.version.groups ≡ carried_groups ro (cells_of ro (history cs) (author_of c) c.change)
+    → map (λ g. g.0) c.commit.version.groups ≡ carried_groups ro (cells_of ro (history cs) (entry_of c))
 carried_listed ro cs c f =
-    ap (map (λ (g : ℕ × List ℕ). g.0)) f.fits.group_handles_are ∙ groups_listed ro (history cs) (author_of c) c.change
+    ap (map (λ (g : ℕ × List ℕ). g.0)) f.fits.group_handles_are ∙ groups_listed ro (history cs) (entry_of c)
 
 zeros_count : (ro : Membership) (ps : List Principal) → map (λ p. 0) ps ≡ map (λ v. v.1) (map (numbered ro []) ps)
 zeros_count ro [] = refl
@@ -160,5 +158,5 @@ vector_counts ro = from_the_end (Counts ro) (λ l. zeros_count ro (principals ro
         let f = legal_next ro cs [] c l in
         vector_last ro cs c ∙ (next_counts ro (commits_of cs) c.commit f.next).vector_is
         ∙ (λ i. bump ro (ih (legal_front ro cs (c ∷ []) l) i) (author_of c) (carried_listed ro cs c f i))
-        ∙ bump_counts ro (history cs) (author_of c) c.change
-        ∙ ap (λ h. map (λ (v : Principal × ℕ). v.1) (versions ro h)) (sym (map-append (λ c. entry_by (author_of c) c.change) cs (c ∷ [])))
+        ∙ bump_counts ro (history cs) (entry_of c)
+        ∙ ap (λ h. map (λ (v : Principal × ℕ). v.1) (versions ro h)) (sym (map-append entry_of cs (c ∷ [])))

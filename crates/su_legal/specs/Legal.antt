@@ -27,9 +27,17 @@ author_of c = c.commit.version.author
 abbrev pub commits_of : List Committed → List Commit
 commits_of cs = map (λ c. c.commit) cs
 
+-- the entry that a commit makes of a change
+abbrev pub entry_made : Commit → Change → Entry
+entry_made c change = entry_by c.version.author change
+
+-- the entry of a commit with its change
+abbrev pub entry_of : Committed → Entry
+entry_of c = entry_made c.commit c.change
+
 -- the history that a list of commits tells
 abbrev pub history : List Committed → List Entry
-history cs = map (λ c. entry_by (author_of c) c.change) cs
+history cs = map entry_of cs
 
 -- what the next commit names as the one before it
 abbrev pub head_of : Membership → List Committed → List ℕ
@@ -41,18 +49,17 @@ vector_of ro cs = chain_vector ro (commits_of cs)
 
 -- ---- a change, and the commit that names it
 
--- the tree after a change by user a that comes after a history
-abbrev pub tree_with : Membership → List Entry → ℕ → Change → Tree
-tree_with ro h a change = tree_after ro (h ++ entry_by a change ∷ [])
+-- the tree after an entry that comes after a history
+abbrev pub tree_with : Membership → List Entry → Entry → Tree
+tree_with ro h e = tree_after ro (h ++ e ∷ [])
 
--- the i-handle of the author then
-abbrev pub author_handle : Membership → List Entry → ℕ → Change → List ℕ
-author_handle ro h a change = handle (tree_with ro h a change) (User a)
+-- the i-handle of its author then
+abbrev pub author_handle : Membership → List Entry → Entry → List ℕ
+author_handle ro h e = handle (tree_with ro h e) (User e.author)
 
--- the groups of which the change writes a pointer, each with its i-handle then
-abbrev pub group_handles : Membership → List Entry → ℕ → Change → List (ℕ × List ℕ)
-group_handles ro h a change =
-    carried_handles ro (cells_of ro h a change) (tree_with ro h a change)
+-- the groups of which it writes a pointer, each with its i-handle then
+abbrev pub group_handles : Membership → List Entry → Entry → List (ℕ × List ℕ)
+group_handles ro h e = carried_handles ro (cells_of ro h e) (tree_with ro h e)
 
 -- The commit names the change, and holds what comes of it after a history.
 pub record ChangeFits (ro : Membership) (h : List Entry) (c : Commit) (change : Change) : Type 0 where
@@ -61,8 +68,8 @@ pub record ChangeFits (ro : Membership) (h : List Entry) (c : Commit) (change : 
   pub has_item : HasItem change
   pub named : c.version.change ≡ change_digest change
   -- the i-handles of the tree with it: the author's, and those of just the groups that it carries
-  pub author_handle_is : c.version.handle ≡ author_handle ro h c.version.author change
-  pub group_handles_are : c.version.groups ≡ group_handles ro h c.version.author change
+  pub author_handle_is : c.version.handle ≡ author_handle ro h (entry_made c change)
+  pub group_handles_are : c.version.groups ≡ group_handles ro h (entry_made c change)
 
 -- ---- legal lists
 
@@ -71,7 +78,7 @@ pub record MayJoin (ro : Membership) (cs : List Committed) (c : Committed) : Typ
   -- it may be the next of the commits
   pub next : MayBeNext ro (commits_of cs) c.commit
   -- its change is accepted after the changes before it
-  pub accepted : refusal_of ro (history cs) (author_of c) c.change ≡ None
+  pub accepted : refusal_of ro (history cs) (entry_of c) ≡ None
   pub fits : ChangeFits ro (history cs) c.commit c.change
 
 -- each of these may join the list after those before it
