@@ -13,8 +13,7 @@ use Rattle.su_bytes.specs.Place.{Place}
 use Rattle.su_table.specs.Tree.{Tree, genesis}
 use Rattle.su_table.specs.Query.{body, listing, contents_within}
 use Rattle.su_table.specs.Handle.{handle}
-use Rattle.su_op.specs.declared.operations.Change.TheVariants.{Undo}
-use Rattle.su_desk.specs.History.{tree, last_live}
+use Rattle.su_desk.specs.History.{entry_by, undo_by, tree, last_live}
 use Rattle.su_desk.specs.Version.{versions}
 use Rattle.su_desk.specs.Desk.{DeskState, Answers}
 use Rattle.su_desk_lines.specs.declared.ranges.Command.{Command}
@@ -71,10 +70,10 @@ IsText text out = (out ≡ text) ⊎ (out ≡ refused_text NoMemory)
 -- then. A question and a mark may be refused for want of memory.
 abbrev pub Does : SessionState → Command → List ℕ → SessionState → Type 0
 Does s (Apply a c) out s' =
-    (r : Result ℕ Refusal) × Answers s.desk a c r s'.desk
+    (r : Result ℕ Refusal) × Answers s.desk (entry_by a c) r s'.desk
     × (s'.mark ≡ s.mark) × (out ≡ answer_text r)
 Does s (UndoLast a) out s' =
-    (r : Result ℕ Refusal) × Answers s.desk a (Undo (last_live s.desk.history)) r s'.desk
+    (r : Result ℕ Refusal) × Answers s.desk (undo_by a (last_live s.desk.history)) r s'.desk
     × (s'.mark ≡ s.mark) × (out ≡ answer_text r)
 Does s (Ask q) out s' = IsText (question_text (desk_tree s.desk) q) out × (s' ≡ s)
 Does s Versions out s' =

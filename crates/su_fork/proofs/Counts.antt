@@ -8,19 +8,14 @@ use Rattle.su_bytes.specs.Membership.{Membership, has_number, has_user}
 use Rattle.su_bytes.specs.Principal.{user_principal, group_principal}
 use Rattle.su_bytes.specs.declared.principals.Principal.{Principal}
 use Rattle.su_bytes.specs.declared.principals.Principal.TheVariants.{User}
-use Rattle.su_desk.specs.declared.entries.Entry.{Entry}
-use Rattle.su_desk.specs.History.{entry_by}
 use Rattle.su_desk.specs.Version.{version, numbered}
 use Rattle.su_desk.proofs.VersionNumbers.{version-append, never_falls, author_rises}
 use Rattle.su_vector.specs.Vector.{number_in, number_of, le}
-use Rattle.su_legal.specs.Legal.{Committed, author_of, history, Legal}
+use Rattle.su_legal.specs.Legal.{Committed, author_of, entry_of, history, Legal}
 use Rattle.su_legal.proofs.Public.{legal_front, vector_last, vector_counts}
 use Rattle.su_fork.specs.Numbered.{at}
 use Rattle.su_fork.proofs.Places.{split, take_at}
 use Rattle.su_fork.proofs.Heads.{placed}
-
-abbrev entry_of : Committed → Entry
-entry_of c = entry_by (author_of c) c.change
 
 -- how many commits of a list are user u's
 abbrev pub count : Membership → ℕ → List Committed → ℕ

@@ -13,7 +13,6 @@ use Rattle.su_op.specs.declared.operations.Change.{Change}
 use Rattle.su_desk.specs.declared.entries.Entry.{Entry}
 use Rattle.su_desk.specs.declared.prepared.Prepared.{Prepared}
 use Rattle.su_desk.specs.Desk.{DeskState, with_entry}
-use Rattle.su_desk.specs.History.{entry_by}
 use Rattle.su_desk.specs.Answer.{refusal_of, reply, answer}
 use Rattle.su_desk.specs.Version.{cells_of, carried_groups}
 use Rattle.su_table.specs.Handle.{handle}
@@ -24,7 +23,7 @@ use Rattle.su_version.specs.Version.{IsCarried}
 use Rattle.su_version.specs.Commit.{Commit, commit_bytes}
 use Rattle.su_version.specs.Chain.{MayBeNext}
 use Rattle.su_change.specs.Item.{IsChange, HasItem, item_bytes}
-use Rattle.su_legal.specs.Legal.{commits_of, history, author_handle, group_handles, MayJoin}
+use Rattle.su_legal.specs.Legal.{commits_of, entry_made, history, author_handle, group_handles, MayJoin}
 use Rattle.su_view.specs.Holding.{HoldingState, with_more, Took}
 use Rattle.su_view.specs.Keeping.{held_in, holding_of, IsKeeping, JoinsNext}
 use Rattle.su_view.specs.declared.records.Keeping.{Keeping}
@@ -42,13 +41,13 @@ accepted_reply : (n m : ℕ) (o : Option Refusal) → reply n o ≡ Ok m → o �
 accepted_reply n m None is = refl
 accepted_reply n m (Some x) is = absurd cc
 
-pub refused_answer : (ro : Membership) (h : List Entry) (a : ℕ) (change : Change) (e : Refusal) → answer ro h a change ≡ Err e → refusal_of ro h a change ≡ Some e
+pub refused_answer : (ro : Membership) (h : List Entry) (e : Entry) (r : Refusal) → answer ro h e ≡ Err r → refusal_of ro h e ≡ Some r
 unfolding answer
-refused_answer ro h a change e is = refused_reply (length h + 1) (refusal_of ro h a change) e is
+refused_answer ro h e r is = refused_reply (length h + 1) (refusal_of ro h e) r is
 
-pub accepted_answer : (ro : Membership) (h : List Entry) (a n : ℕ) (change : Change) → answer ro h a change ≡ Ok n → refusal_of ro h a change ≡ None
+pub accepted_answer : (ro : Membership) (h : List Entry) (e : Entry) (n : ℕ) → answer ro h e ≡ Ok n → refusal_of ro h e ≡ None
 unfolding answer
-accepted_answer ro h a n change is = accepted_reply (length h + 1) n (refusal_of ro h a change) is
+accepted_answer ro h e n is = accepted_reply (length h + 1) n (refusal_of ro h e) is
 
 -- ---- groups ascend
 
@@ -76,13 +75,13 @@ module _ (v : HoldingState) (c : Commit) (change : Change) (item : List ℕ) (is
 
   -- the desk refused the change, or there was no room
   pub not_prepared : (e : Refusal) (r : ViewRefusal)
-      → ((e ≡ NoMemory) ⊎ (answer v.roster (history v.held) c.version.author change ≡ Err e))
+      → ((e ≡ NoMemory) ⊎ (answer v.roster (history v.held) (entry_made c change) ≡ Err e))
       → (((e ≡ NoMemory) × (r ≡ Plain NoMemory)) ⊎ ((e ≢ NoMemory) × (r ≡ ChangeRefused e)))
       → (r ≡ Plain NoMemory) ⊎ IsRefusedWith v c item r
   not_prepared e r why (inl (none, is)) = inl is
   not_prepared e r (inl none) (inr (other, is)) = absurd (other none)
   not_prepared e r (inr refused) (inr (other, is)) =
-      let why = refused_answer v.roster (history v.held) c.version.author change e refused in
+      let why = refused_answer v.roster (history v.held) (entry_made c change) e refused in
       inr (unfit r (inl ((e, is, why), λ none. let clash : Some e ≡ None = sym why ∙ none in absurd cc)))
 
   -- where one is another, they aren't all held
@@ -92,24 +91,24 @@ module _ (v : HoldingState) (c : Commit) (change : Change) (item : List ℕ) (is
 
   -- a handle is another than the one that was told
   pub other_handle : (n : ℕ) (handle : List ℕ) (groups : List (ℕ × List ℕ)) (p : Principal)
-      → answer v.roster (history v.held) c.version.author change ≡ Ok n
-      → handle ≡ author_handle v.roster (history v.held) c.version.author change
-      → groups ≡ group_handles v.roster (history v.held) c.version.author change
+      → answer v.roster (history v.held) (entry_made c change) ≡ Ok n
+      → handle ≡ author_handle v.roster (history v.held) (entry_made c change)
+      → groups ≡ group_handles v.roster (history v.held) (entry_made c change)
       → IsOtherHandle c.version handle groups p → IsRefusedWith v c item (WrongHandle p)
   other_handle n handle groups p accepted told_handle told_groups other =
-      let wrong = subst (λ gs. IsOtherHandle c.version (author_handle v.roster (history v.held) c.version.author change) gs p) told_groups
+      let wrong = subst (λ gs. IsOtherHandle c.version (author_handle v.roster (history v.held) (entry_made c change)) gs p) told_groups
       (subst (λ d. IsOtherHandle c.version d groups p) told_handle other) in
-      unfit (WrongHandle p) (inr (accepted_answer v.roster (history v.held) c.version.author n change accepted, inl ((p, refl, wrong), other_than p wrong)))
+      unfit (WrongHandle p) (inr (accepted_answer v.roster (history v.held) (entry_made c change) n accepted, inl ((p, refl, wrong), other_than p wrong)))
 
   -- all handles are those that were told
   pub may_join : (n : ℕ) → MayBeNext v.roster (commits_of v.held) c → sha256 item ≡ c.version.change
-      → answer v.roster (history v.held) c.version.author change ≡ Ok n
-      → c.version.handle ≡ author_handle v.roster (history v.held) c.version.author change
-      → c.version.groups ≡ group_handles v.roster (history v.held) c.version.author change
+      → answer v.roster (history v.held) (entry_made c change) ≡ Ok n
+      → c.version.handle ≡ author_handle v.roster (history v.held) (entry_made c change)
+      → c.version.groups ≡ group_handles v.roster (history v.held) (entry_made c change)
       → MayJoin v.roster v.held (record { commit = c; change = change })
   may_join n next named accepted handle groups = record {
     next = next;
-    accepted = accepted_answer v.roster (history v.held) c.version.author n change accepted;
+    accepted = accepted_answer v.roster (history v.held) (entry_made c change) n accepted;
     fits = record {
       is_change = is_change;
       has_item = has_item;
@@ -121,40 +120,40 @@ module _ (v : HoldingState) (c : Commit) (change : Change) (item : List ℕ) (is
 
 -- ---- of what a client keeps
 
-module _ (k : Keeping) (kept : IsKeeping k) (a : ℕ) (c : Commit) (author : a ≡ c.version.author) (change : Change) where
+module _ (k : Keeping) (kept : IsKeeping k) (e : Entry) (c : Commit) (change : Change) (made : e ≡ entry_made c change) where
   abbrev v : HoldingState
   v = holding_of k
 
-  pub answered : (r : Result ℕ Refusal) → answer k.desk.settled.roster k.desk.settled.history a change ≡ r → answer v.roster (history v.held) c.version.author change ≡ r
-  answered r is = (λ i. answer k.desk.settled.roster (kept.entries i) (sym author i) change) ∙ is
+  pub answered : (r : Result ℕ Refusal) → answer k.desk.settled.roster k.desk.settled.history e ≡ r → answer v.roster (history v.held) (entry_made c change) ≡ r
+  answered r is = (λ i. answer k.desk.settled.roster (kept.entries i) (sym made i)) ∙ is
 
-  pub told_handle : (p : Prepared) → Tells k.desk.settled a change p → p.author_handle ≡ author_handle v.roster (history v.held) c.version.author change
+  pub told_handle : (p : Prepared) → Tells k.desk.settled e p → p.author_handle ≡ author_handle v.roster (history v.held) (entry_made c change)
   told_handle p told = told.author_handle ∙ same
     where
-      same : author_handle k.desk.settled.roster k.desk.settled.history a change ≡ author_handle v.roster (history v.held) c.version.author change
-      same = λ i. author_handle k.desk.settled.roster (sym kept.entries i) (author i) change
+      same : author_handle k.desk.settled.roster k.desk.settled.history e ≡ author_handle v.roster (history v.held) (entry_made c change)
+      same = λ i. author_handle k.desk.settled.roster (sym kept.entries i) (made i)
 
-  pub told_groups : (p : Prepared) → Tells k.desk.settled a change p → p.groups.items ≡ group_handles v.roster (history v.held) c.version.author change
+  pub told_groups : (p : Prepared) → Tells k.desk.settled e p → p.groups.items ≡ group_handles v.roster (history v.held) (entry_made c change)
   told_groups p told = told.groups ∙ same
     where
-      same : group_handles k.desk.settled.roster k.desk.settled.history a change ≡ group_handles v.roster (history v.held) c.version.author change
-      same = λ i. group_handles k.desk.settled.roster (sym kept.entries i) (author i) change
+      same : group_handles k.desk.settled.roster k.desk.settled.history e ≡ group_handles v.roster (history v.held) (entry_made c change)
+      same = λ i. group_handles k.desk.settled.roster (sym kept.entries i) (made i)
 
-  pub told_ascend : (p : Prepared) → Tells k.desk.settled a change p → AscendFrom 0 p.groups.items
+  pub told_ascend : (p : Prepared) → Tells k.desk.settled e p → AscendFrom 0 p.groups.items
   told_ascend p told = subst (AscendFrom 0) (sym told.groups)
-      (handles_ascend (λ g. handle (tree_of (with_entry k.desk.settled a change)) (Group g)) (carried_groups k.desk.settled.roster w) (groups_ascend k.desk.settled.roster w kept.roster))
+      (handles_ascend (λ g. handle (tree_of (with_entry k.desk.settled e)) (Group g)) (carried_groups k.desk.settled.roster w) (groups_ascend k.desk.settled.roster w kept.roster))
     where
       w : List Area
-      w = cells_of k.desk.settled.roster k.desk.settled.history a change
+      w = cells_of k.desk.settled.roster k.desk.settled.history e
 
-  pub prepared_so : (e : Refusal) → (e ≡ NoMemory) ⊎ (answer k.desk.settled.roster k.desk.settled.history a change ≡ Err e)
-      → (e ≡ NoMemory) ⊎ (answer v.roster (history v.held) c.version.author change ≡ Err e)
-  prepared_so e (inl none) = inl none
-  prepared_so e (inr refused) = inr (answered (Err e) refused)
+  pub prepared_so : (r : Refusal) → (r ≡ NoMemory) ⊎ (answer k.desk.settled.roster k.desk.settled.history e ≡ Err r)
+      → (r ≡ NoMemory) ⊎ (answer v.roster (history v.held) (entry_made c change) ≡ Err r)
+  prepared_so r (inl none) = inl none
+  prepared_so r (inr refused) = inr (answered (Err r) refused)
 
 -- what is kept with a change that stands ready, and room
 pub joins_with : (k : Keeping) (c : Commit) (change : Change) (l : Keeping) → l.records.items ≡ k.records.items → l.desk.settled ≡ k.desk.settled
-    → l.desk.ready ≡ entry_by c.version.author change ∷ [] → (bytes item : List ℕ) → bytes ≡ commit_bytes c → item ≡ item_bytes change
+    → l.desk.ready ≡ entry_made c change ∷ [] → (bytes item : List ℕ) → bytes ≡ commit_bytes c → item ≡ item_bytes change
     → MayJoin (holding_of k).roster (holding_of k).held (record { commit = c; change = change }) → JoinsNext l c change bytes item
 joins_with k c change l records settled ready bytes item bytes_are item_is joins = record {
   ready = ready;
@@ -165,19 +164,19 @@ joins_with k c change l records settled ready bytes item bytes_are item_is joins
 }
 
 -- the same from what the desk told, where the commit holds the handles that were told
-module _ (k : Keeping) (kept : IsKeeping k) (a : ℕ) (c : Commit) (author : a ≡ c.version.author) (change : Change) (p : Prepared) (bytes item : List ℕ)
+module _ (k : Keeping) (kept : IsKeeping k) (e : Entry) (c : Commit) (change : Change) (made : e ≡ entry_made c change) (p : Prepared) (bytes item : List ℕ)
     (is_change : IsChange change) (has_item : HasItem change) (spelled : item ≡ item_bytes change) where
   pub joined_so : MayBeNext (holding_of k).roster (commits_of (holding_of k).held) c → sha256 item ≡ c.version.change
-      → answer k.desk.settled.roster k.desk.settled.history a change ≡ Ok p.number → Tells k.desk.settled a change p
+      → answer k.desk.settled.roster k.desk.settled.history e ≡ Ok p.number → Tells k.desk.settled e p
       → c.version.handle ≡ p.author_handle → c.version.groups ≡ p.groups.items → bytes ≡ commit_bytes c
-      → (l : Keeping) → l.records.items ≡ k.records.items → l.desk ≡ ready_with k.desk.settled a change → JoinsNext l c change bytes item
+      → (l : Keeping) → l.records.items ≡ k.records.items → l.desk ≡ ready_with k.desk.settled e → JoinsNext l c change bytes item
   joined_so next named accepted told handle groups bytes_are l records ready =
       joins_with k c change l records (ap (λ (t : TrialState). t.settled) ready)
-      (ap (λ (t : TrialState). t.ready) ready ∙ ap (λ a. entry_by a change ∷ []) author) bytes item bytes_are spelled
+      (ap (λ (t : TrialState). t.ready) ready ∙ ap (λ x. x ∷ []) made) bytes item bytes_are spelled
       (may_join (holding_of k) c change item is_change has_item spelled p.number next named
-      (answered k kept a c author change (Ok p.number) accepted)
-      (handle ∙ told_handle k kept a c author change p told)
-      (groups ∙ told_groups k kept a c author change p told))
+      (answered k kept e c change made (Ok p.number) accepted)
+      (handle ∙ told_handle k kept e c change made p told)
+      (groups ∙ told_groups k kept e c change made p told))
 
 -- what is held then
 pub took_next : (k l m : Keeping) (v : HoldingState) (c : Commit) (change : Change) (bytes item : List ℕ) → holding_of k ≡ v

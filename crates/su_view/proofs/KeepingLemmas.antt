@@ -8,13 +8,12 @@ use Rattle.su_bytes.specs.Membership.{Membership, IsRoster, has_user}
 use Rattle.su_format.specs.Part.{u32_bytes}
 use Rattle.su_op.specs.declared.operations.Change.{Change}
 use Rattle.su_desk.specs.declared.entries.Entry.{Entry}
-use Rattle.su_desk.specs.History.{entry_by}
 use Rattle.su_desk.specs.Desk.{DeskState, with_entry}
 use Rattle.su_version.specs.Version.{version_bytes}
 use Rattle.su_version.specs.Commit.{Commit, commit_bytes}
 use Rattle.su_version.specs.Chain.{MayBeNext}
 use Rattle.su_chain.specs.ChainEnd.{IsEndOf}
-use Rattle.su_legal.specs.Legal.{Committed, author_of, commits_of, history, Legal}
+use Rattle.su_legal.specs.Legal.{Committed, author_of, commits_of, entry_made, entry_of, history, Legal}
 use Rattle.su_legal.proofs.Public.{legal_further}
 use Rattle.su_view.specs.LastCommits.{last_by}
 use Rattle.su_view.specs.Entry.{AreBytesAt}
@@ -105,14 +104,14 @@ module _ (k : Keeping) (c : Commit) (change : Change) (r : Record) (kept : IsKee
   x = record { commit = c; change = change }
 
   abbrev e : Entry
-  e = entry_by c.version.author change
+  e = entry_made c change
 
   abbrev held : List Committed
   held = held_in rs h
 
   long : length (map commit_in rs) ≡ length h
   long =
-      ap length (sym kept.commits) ∙ length-map held (λ c. c.commit) ∙ sym (length-map held (λ c. entry_by (author_of c) c.change)) ∙ ap length kept.entries
+      ap length (sym kept.commits) ∙ length-map held (λ c. c.commit) ∙ sym (length-map held entry_of) ∙ ap length kept.entries
 
   pub held_more : held_in (rs ++ r ∷ []) (h ++ e ∷ []) ≡ held ++ x ∷ []
   held_more =
@@ -126,12 +125,12 @@ module _ (k : Keeping) (c : Commit) (change : Change) (r : Record) (kept : IsKee
   pub next_kept : MayBeNext ro (map commit_in rs) c
   next_kept = subst (λ cs. MayBeNext ro cs c) kept.commits next.joins.next
 
-  pub keeping_more : (l : Keeping) → l.user ≡ k.user → l.records.items ≡ rs ++ r ∷ [] → l.desk.settled ≡ with_entry k.desk.settled c.version.author change
+  pub keeping_more : (l : Keeping) → l.user ≡ k.user → l.records.items ≡ rs ++ r ∷ [] → l.desk.settled ≡ with_entry k.desk.settled e
       → IsEndOf ro (map commit_in rs ++ c ∷ []) l.end → IsLastIndex k.user (held ++ x ∷ []) l.own → IsKeeping l
   keeping_more l user records settled end own = record {
     roster = subst (λ (d : DeskState). IsRoster d.roster) (sym settled) kept.roster;
     commits = ap commits_of all ∙ map-append (λ c. c.commit) held (x ∷ []) ∙ ap (λ cs. cs ++ c ∷ []) kept.commits ∙ sym commits_more ∙ ap (map commit_in) (sym records);
-    entries = ap history all ∙ map-append (λ c. entry_by (author_of c) c.change) held (x ∷ []) ∙ ap (λ es. es ++ e ∷ []) kept.entries ∙ sym (ap (λ (d : DeskState). d.history) settled);
+    entries = ap history all ∙ map-append entry_of held (x ∷ []) ∙ ap (λ es. es ++ e ∷ []) kept.entries ∙ sym (ap (λ (d : DeskState). d.history) settled);
     bytes = subst (AreBytes l.records.items) (sym all) (subst (λ zs. AreBytes zs (held ++ x ∷ [])) (sym records)
         (bytes_more rs held r x kept.bytes (record { commit = next.bytes_are; change = next.item_is })));
     legal = subst (λ (d : DeskState). Legal d.roster (holding_of l).held) (sym settled) (subst (Legal ro) (sym all) (legal_further ro held x kept.legal next.joins));

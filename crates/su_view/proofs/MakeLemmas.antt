@@ -20,8 +20,7 @@ use Rattle.su_op.specs.Rule.{Rule, Rule.Demand, refusal}
 use Rattle.su_op.specs.declared.areas.Area.{Area}
 use Rattle.su_table.specs.Handle.{handle}
 use Rattle.su_desk.specs.declared.entries.Entry.{Entry}
-use Rattle.su_desk.specs.History.{entry_by}
-use Rattle.su_desk.specs.Answer.{refusal_of, answer}
+use Rattle.su_desk.specs.Answer.{refusal_by_change, refusal_of, answer}
 use Rattle.su_desk.specs.Version.{cells_of, carried_groups, numbered, versions}
 use Rattle.su_desk.proofs.VersionNumbers.{carried_ascend as groups_ascend}
 use Rattle.su_desk.specs.Trial.{Tells}
@@ -33,12 +32,12 @@ use Rattle.su_vector.specs.Vector.{bump}
 use Rattle.su_version.specs.Version.{Version, IsVersion, IsCarried}
 use Rattle.su_version.specs.Commit.{Commit, IsCommit}
 use Rattle.su_version.specs.Chain.{ChainAfter, IsChain, IsNewLeaf, IsSignedBy, last_leaf, tip, MayBeNext, chain_head}
-use Rattle.su_legal.specs.Legal.{Committed, commits_of, history, head_of, vector_of, tree_with, author_handle, group_handles, MayJoin, LegalAfter, Legal}
+use Rattle.su_legal.specs.Legal.{Committed, commits_of, entry_made, history, head_of, vector_of, tree_with, author_handle, group_handles, MayJoin, LegalAfter, Legal}
 use Rattle.su_legal.proofs.Public.{vector_counts, bump_counts, groups_listed}
 use Rattle.su_view.specs.Holding.{HoldingState}
 use Rattle.su_view.specs.Joining.{AscendFrom}
 use Rattle.su_view.specs.Keeping.{holding_of, IsKeeping}
-use Rattle.su_view.specs.Making.{next_version, IsMade, IsDraft}
+use Rattle.su_view.specs.Making.{own_entry, next_version, IsMade, IsDraft}
 use Rattle.su_view.specs.declared.holdings.drafts.Draft.{Draft}
 use Rattle.su_view.specs.declared.records.Keeping.{Keeping}
 use Rattle.su_view.specs.declared.refusals.ViewRefusal.{ViewRefusal}
@@ -57,10 +56,10 @@ is_chain ro cs legal = chained ro [] cs legal
 
 -- ---- the next vector
 
-pub next_vector : (ro : Membership) (cs : List Committed) (a : ℕ) (change : Change) → Legal ro cs
-    → bump ro (vector_of ro cs) a (map (λ g. g.0) (group_handles ro (history cs) a change)) ≡ map (λ v. v.1) (versions ro (history cs ++ entry_by a change ∷ []))
-next_vector ro cs a change legal =
-    (λ i. bump ro (vector_counts ro cs legal i) a (groups_listed ro (history cs) a change i)) ∙ bump_counts ro (history cs) a change
+pub next_vector : (ro : Membership) (cs : List Committed) (e : Entry) → Legal ro cs
+    → bump ro (vector_of ro cs) e.author (map (λ g. g.0) (group_handles ro (history cs) e)) ≡ map (λ v. v.1) (versions ro (history cs ++ e ∷ []))
+next_vector ro cs e legal =
+    (λ i. bump ro (vector_counts ro cs legal i) e.author (groups_listed ro (history cs) e i)) ∙ bump_counts ro (history cs) e
 
 -- ---- carried groups are in the roster
 
@@ -84,8 +83,8 @@ listed p f all (g ∷ gs) within =
     go true here others = (here, others)
     go false here others = others
 
-pub groups_known : (ro : Membership) (h : List Entry) (a : ℕ) (change : Change) → AllByRecursion (λ (g : ℕ × List ℕ). has_number ro.groups g.0 ≡ true) (group_handles ro h a change)
-groups_known ro h a change = listed _ (λ g. handle (tree_with ro h a change) (Group g)) ro.groups ro.groups (λ x has. has)
+pub groups_known : (ro : Membership) (h : List Entry) (e : Entry) → AllByRecursion (λ (g : ℕ × List ℕ). has_number ro.groups g.0 ≡ true) (group_handles ro h e)
+groups_known ro h e = listed _ (λ g. handle (tree_with ro h e) (Group g)) ro.groups ro.groups (λ x has. has)
 
 -- ---- a commit that is made joins the list
 
@@ -102,7 +101,7 @@ module _ (v : HoldingState) (change : Change) (leaf : ℕ) (c : Commit) (legal :
         (
           record {
             groups = subst (λ (s : Version). AllByRecursion (λ (g : ℕ × List ℕ). has_number v.roster.groups g.0 ≡ true) s.groups) (sym made.version)
-                (groups_known v.roster (history v.held) v.user change);
+                (groups_known v.roster (history v.held) (own_entry v change));
             vector_is = ap (λ (s : Version). s.vector) made.version
                 ∙ ap (λ (s : Version). bump v.roster (vector_of v.roster v.held) s.author (map (λ g. g.0) s.groups)) (sym made.version);
           },
@@ -120,15 +119,15 @@ module _ (v : HoldingState) (change : Change) (leaf : ℕ) (c : Commit) (legal :
       → MayJoin v.roster v.held (record { commit = c; change = change })
   made_joins is_change has_item new = record {
     next = made_next new;
-    accepted = ap (λ (s : Version). refusal_of v.roster (history v.held) s.author change) made.version ∙ made.accepted;
+    accepted = ap (λ (s : Version). refusal_of v.roster (history v.held) (entry_made (record c { version = s }) change)) made.version ∙ made.accepted;
     fits = record {
       is_change = is_change;
       has_item = has_item;
       named = ap (λ (s : Version). s.change) made.version;
       author_handle_is = ap (λ (s : Version). s.handle) made.version
-          ∙ ap (λ (s : Version). author_handle v.roster (history v.held) s.author change) (sym made.version);
+          ∙ ap (λ (s : Version). author_handle v.roster (history v.held) (entry_made (record c { version = s }) change)) (sym made.version);
       group_handles_are = ap (λ (s : Version). s.groups) made.version
-          ∙ ap (λ (s : Version). group_handles v.roster (history v.held) s.author change) (sym made.version);
+          ∙ ap (λ (s : Version). group_handles v.roster (history v.held) (entry_made (record c { version = s }) change)) (sym made.version);
     };
   }
 
@@ -145,11 +144,11 @@ passed false r k is = absurd cc
 length_in_range : (n : ℕ) → (nat_le 1 n && nat_le n largest_write) ≡ true → (1 ≤ n) × (n ≤ largest_write)
 length_in_range n is = grind (arith, is)
 
-pub without_item : (ro : Membership) (h : List Entry) (a : ℕ) (change : Change) → has_user ro a ≡ true → (HasItem change → ⊥) → refusal_of ro h a change ≡ Some BadNumber
+pub without_item : (ro : Membership) (h : List Entry) (e : Entry) (change : Change) → has_user ro e.author ≡ true → (HasItem change → ⊥) → refusal_by_change ro h e change ≡ Some BadNumber
 unfolding why
-without_item ro h a (Do (op.Write w)) member none =
-    passed (has_user ro a) _ _ member ∙ demanded (nat_le 1 (length w.bytes) && nat_le (length w.bytes) largest_write) BadNumber _ (λ is. none (length_in_range (length w.bytes) is))
-without_item ro h a _ member none = absurd (none tt)
+without_item ro h e (Do (op.Write w)) member none =
+    passed (has_user ro e.author) _ _ member ∙ demanded (nat_le 1 (length w.bytes) && nat_le (length w.bytes) largest_write) BadNumber _ (λ is. none (length_in_range (length w.bytes) is))
+without_item ro h e _ member none = absurd (none tt)
 
 -- ---- a draft, as it is kept
 
@@ -160,39 +159,39 @@ module _ (k : Keeping) (kept : IsKeeping k) (change : Change) where
   abbrev settled : List Entry
   settled = k.desk.settled.history
 
-  pub draft_answered : (r : Result ℕ Refusal) → answer k.desk.settled.roster settled k.user change ≡ r → answer w.roster (history w.held) w.user change ≡ r
-  draft_answered r is = (λ i. answer w.roster (kept.entries i) w.user change) ∙ is
+  pub draft_answered : (r : Result ℕ Refusal) → answer k.desk.settled.roster settled (own_entry w change) ≡ r → answer w.roster (history w.held) (own_entry w change) ≡ r
+  draft_answered r is = (λ i. answer w.roster (kept.entries i) (own_entry w change)) ∙ is
 
   pub drafted_so : (p : Prepared) (item : List ℕ) (d : Draft) → d.prepared ≡ p → d.item.items ≡ item
-      → answer k.desk.settled.roster settled k.user change ≡ Ok p.number → Tells k.desk.settled k.user change p
+      → answer k.desk.settled.roster settled (own_entry w change) ≡ Ok p.number → Tells k.desk.settled (own_entry w change) p
       → IsChange change → HasItem change → item ≡ item_bytes change → 1 ≤ length item → length item ≤ 70000 → IsDraft w change d
   drafted_so p item d prepared item_is accepted told is_change has_item spelled some few = record {
-    accepted = accepted_answer w.roster (history w.held) w.user p.number change (draft_answered (Ok p.number) accepted);
+    accepted = accepted_answer w.roster (history w.held) (own_entry w change) p.number (draft_answered (Ok p.number) accepted);
     is_change = is_change;
     has_item = has_item;
     spelled = item_is ∙ spelled;
     some_bytes = subst (λ l. 1 ≤ length l) (sym item_is) some;
     few_bytes = subst (λ l. length l ≤ 70000) (sym item_is) few;
-    handle = ap (λ (p : Prepared). p.author_handle) prepared ∙ told.author_handle ∙ (λ i. author_handle w.roster (sym kept.entries i) w.user change);
-    groups = ap (λ (p : Prepared). p.groups.items) prepared ∙ told.groups ∙ (λ i. group_handles w.roster (sym kept.entries i) w.user change);
-    numbers = ap (λ (p : Prepared). p.versions.items) prepared ∙ told.versions ∙ (λ i. versions w.roster (sym kept.entries i ++ entry_by w.user change ∷ []));
+    handle = ap (λ (p : Prepared). p.author_handle) prepared ∙ told.author_handle ∙ (λ i. author_handle w.roster (sym kept.entries i) (own_entry w change));
+    groups = ap (λ (p : Prepared). p.groups.items) prepared ∙ told.groups ∙ (λ i. group_handles w.roster (sym kept.entries i) (own_entry w change));
+    numbers = ap (λ (p : Prepared). p.versions.items) prepared ∙ told.versions ∙ (λ i. versions w.roster (sym kept.entries i ++ own_entry w change ∷ []));
   }
 
-  pub draft_refused : (e : Refusal) → (e ≡ NoMemory) ⊎ (answer k.desk.settled.roster settled k.user change ≡ Err e) → (r : ViewRefusal)
+  pub draft_refused : (e : Refusal) → (e ≡ NoMemory) ⊎ (answer k.desk.settled.roster settled (own_entry w change) ≡ Err e) → (r : ViewRefusal)
       → (((e ≡ NoMemory) × (r ≡ Plain NoMemory)) ⊎ ((e ≢ NoMemory) × (r ≡ ChangeRefused e)))
-      → (r ≡ Plain NoMemory) ⊎ ((why : Refusal) × (r ≡ ChangeRefused why) × (refusal_of w.roster (history w.held) w.user change ≡ Some why))
+      → (r ≡ Plain NoMemory) ⊎ ((why : Refusal) × (r ≡ ChangeRefused why) × (refusal_of w.roster (history w.held) (own_entry w change) ≡ Some why))
   draft_refused e why r (inl (none, is)) = inl is
   draft_refused e (inl none) r (inr (other, is)) = absurd (other none)
-  draft_refused e (inr refused) r (inr (other, is)) = inr (e, is, refused_answer w.roster (history w.held) w.user change e (draft_answered (Err e) refused))
+  draft_refused e (inr refused) r (inr (other, is)) = inr (e, is, refused_answer w.roster (history w.held) (own_entry w change) e (draft_answered (Err e) refused))
 
   -- a change without an item is refused for that
   pub item_refused : (e : Refusal) → (((e ≡ BadNumber) × (HasItem change → ⊥)) ⊎ ((e ≡ NoMemory) × HasItem change)) → (r : ViewRefusal)
       → (((e ≡ NoMemory) × (r ≡ Plain NoMemory)) ⊎ ((e ≢ NoMemory) × (r ≡ ChangeRefused e)))
-      → (r ≡ Plain NoMemory) ⊎ ((why : Refusal) × (r ≡ ChangeRefused why) × (refusal_of w.roster (history w.held) w.user change ≡ Some why))
+      → (r ≡ Plain NoMemory) ⊎ ((why : Refusal) × (r ≡ ChangeRefused why) × (refusal_of w.roster (history w.held) (own_entry w change) ≡ Some why))
   item_refused e (inr (none, has)) r so = draft_refused e (inl none) r so
   item_refused e (inl (bad, lacks)) r (inl (none, is)) = inl is
   item_refused e (inl (bad, lacks)) r (inr (other, is)) =
-      inr (BadNumber, is ∙ ap ChangeRefused bad, without_item w.roster (history w.held) w.user change kept.member lacks)
+      inr (BadNumber, is ∙ ap ChangeRefused bad, without_item w.roster (history w.held) (own_entry w change) change kept.member lacks)
 
 -- ---- the parts of its version structure are in their ranges
 
@@ -203,13 +202,13 @@ le_true a b low = go (nat_le a b) refl
     go true is = is
     go false is = absurd (grind (arith, is, low))
 
-pub handles_ascend_so : (k : Keeping) → IsKeeping k → (change : Change) → AscendFrom 0 (group_handles (holding_of k).roster (history (holding_of k).held) k.user change)
+pub handles_ascend_so : (k : Keeping) → IsKeeping k → (change : Change) → AscendFrom 0 (group_handles (holding_of k).roster (history (holding_of k).held) (own_entry (holding_of k) change))
 handles_ascend_so k kept change =
-    handles_ascend (λ g. handle (tree_with (holding_of k).roster (history (holding_of k).held) k.user change) (Group g)) (carried_groups (holding_of k).roster w)
+    handles_ascend (λ g. handle (tree_with (holding_of k).roster (history (holding_of k).held) (own_entry (holding_of k) change)) (Group g)) (carried_groups (holding_of k).roster w)
     (groups_ascend (holding_of k).roster w kept.roster)
   where
     w : List Area
-    w = cells_of (holding_of k).roster (history (holding_of k).held) k.user change
+    w = cells_of (holding_of k).roster (history (holding_of k).held) (own_entry (holding_of k) change)
 
 pub versions_long : (ro : Membership) (h : List Entry) → length (map (λ v. v.1) (versions ro h)) ≡ length (principals ro)
 versions_long ro h = length-map (versions ro h) (λ v. v.1) ∙ length-map (principals ro) (numbered ro h)
@@ -255,7 +254,7 @@ module _ (k : Keeping) (kept : IsKeeping k) (v : HoldingState) (is : holding_of 
 
       long : length vector ≡ length (principals k.desk.settled.roster)
       long = ap length numbers ∙ ap (λ ns. length (map (λ (n : Principal × ℕ). n.1) ns)) kept_draft.numbers
-          ∙ versions_long k.desk.settled.roster (history (holding_of k).held ++ entry_by k.user change ∷ [])
+          ∙ versions_long k.desk.settled.roster (history (holding_of k).held ++ own_entry (holding_of k) change ∷ [])
 
   pub version_is : (head digest vector : List ℕ) → head ≡ k.end.head → digest ≡ change_digest change → vector ≡ map (λ n. n.1) d.prepared.versions.items
       → drafted head digest vector ≡ next_version v change
@@ -265,8 +264,8 @@ module _ (k : Keeping) (kept : IsKeeping k) (v : HoldingState) (is : holding_of 
       head_so = head_is ∙ kept.end_is.head ∙ ap (chain_head k.desk.settled.roster) (sym kept.commits)
 
       numbers_so : vector ≡ bump k.desk.settled.roster (vector_of k.desk.settled.roster (holding_of k).held) k.user
-          (map (λ g. g.0) (group_handles k.desk.settled.roster (history (holding_of k).held) k.user change))
-      numbers_so = vector_is ∙ ap (map (λ (n : Principal × ℕ). n.1)) kept_draft.numbers ∙ sym (next_vector k.desk.settled.roster (holding_of k).held k.user change kept.legal)
+          (map (λ g. g.0) (group_handles k.desk.settled.roster (history (holding_of k).held) (own_entry (holding_of k) change)))
+      numbers_so = vector_is ∙ ap (map (λ (n : Principal × ℕ). n.1)) kept_draft.numbers ∙ sym (next_vector k.desk.settled.roster (holding_of k).held (own_entry (holding_of k) change) kept.legal)
 
       made : drafted head digest vector ≡ next_version (holding_of k) change
       made = λ i. record {

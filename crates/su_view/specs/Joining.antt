@@ -12,11 +12,12 @@ use Rattle.su_format.specs.Reading.{IsRefusedAt, start}
 use Rattle.su_bytes.specs.declared.refusals.Refusal.TheVariants.{Malformed}
 use Rattle.su_op.specs.declared.operations.Change.{Change}
 use Rattle.su_change.specs.Item.{IsChange, HasItem, item_bytes, item_format}
+use Rattle.su_desk.specs.declared.entries.Entry.{Entry}
 use Rattle.su_desk.specs.Answer.{refusal_of}
 use Rattle.su_version.specs.Version.{Version}
 use Rattle.su_version.specs.Commit.{Commit, commit_format}
 use Rattle.su_version.specs.Chain.{MayBeNext, next_order, tip}
-use Rattle.su_legal.specs.Legal.{commits_of, history, author_handle, group_handles}
+use Rattle.su_legal.specs.Legal.{commits_of, entry_made, history, author_handle, group_handles}
 use Rattle.su_view.specs.Holding.{HoldingState}
 use Rattle.su_view.specs.declared.refusals.ViewRefusal.{ViewRefusal}
 use Rattle.su_view.specs.declared.refusals.ViewRefusal.TheVariants.{Plain, WrongHandle, Change as ChangeRefused}
@@ -49,8 +50,8 @@ IsOtherHandle v handle groups (Group g) = (v.handle ≡ handle) × IsFirstOther 
 abbrev pub IsWrongHandle : HoldingState → Commit → Change → Principal → Type 0
 IsWrongHandle v c change p =
     IsOtherHandle c.version
-    (author_handle v.roster (history v.held) c.version.author change)
-    (group_handles v.roster (history v.held) c.version.author change) p
+    (author_handle v.roster (history v.held) (entry_made c change))
+    (group_handles v.roster (history v.held) (entry_made c change)) p
 
 -- ---- refusals
 
@@ -73,25 +74,25 @@ pub record IsNoChange (bytes : List ℕ) (e : ViewRefusal) : Type 0 where
   pub refusal : e ≡ ChangeRefused (Malformed place)
   pub fails : IsRefusedAt (whole item_format) (start bytes) place
 
--- the line of a change that user a makes: it is accepted after the list's history
-abbrev pub accepting : HoldingState → ℕ → Change → Line ViewRefusal
-accepting v a change = record {
-  holds = refusal_of v.roster (history v.held) a change ≡ None;
-  refusal = λ e. (why : Refusal) × (e ≡ ChangeRefused why)
-      × (refusal_of v.roster (history v.held) a change ≡ Some why);
+-- the line of an entry: it is accepted after the list's history
+abbrev pub accepting : HoldingState → Entry → Line ViewRefusal
+accepting v e = record {
+  holds = refusal_of v.roster (history v.held) e ≡ None;
+  refusal = λ r. (why : Refusal) × (r ≡ ChangeRefused why)
+      × (refusal_of v.roster (history v.held) e ≡ Some why);
 }
 
 -- the i-handles that a commit holds are the tree's with the change
 abbrev pub HoldsHandles : HoldingState → Commit → Change → Type 0
 HoldsHandles v c change =
-    (c.version.handle ≡ author_handle v.roster (history v.held) c.version.author change)
-    × (c.version.groups ≡ group_handles v.roster (history v.held) c.version.author change)
+    (c.version.handle ≡ author_handle v.roster (history v.held) (entry_made c change))
+    × (c.version.groups ≡ group_handles v.roster (history v.held) (entry_made c change))
 
 -- What a change has to meet to fit a commit that may be next, in this order: it is accepted; the
 -- commit holds its i-handles.
 abbrev pub fitting_order : HoldingState → Commit → Change → List (Line ViewRefusal)
 fitting_order v c change =
-    accepting v c.version.author change
+    accepting v (entry_made c change)
     ∷ record {
       holds = HoldsHandles v c change;
       refusal = λ e. (p : Principal) × (e ≡ WrongHandle p) × IsWrongHandle v c change p;

@@ -4,12 +4,11 @@ use Rattle.std.specs.Prelude.{◌≡◌, ◌+◌, ◌<◌, ℕ, true, List, [], 
 use Rattle.su_bytes.specs.Membership.{IsRoster, has_user}
 use Rattle.su_op.specs.declared.operations.Change.{Change}
 use Rattle.su_desk.specs.declared.entries.Entry.{Entry}
-use Rattle.su_desk.specs.History.{entry_by}
 use Rattle.su_change.specs.Item.{item_bytes}
 use Rattle.su_version.specs.Version.{version_bytes}
 use Rattle.su_version.specs.Commit.{Commit, commit_bytes}
 use Rattle.su_chain.specs.ChainEnd.{IsEndOf}
-use Rattle.su_legal.specs.Legal.{Committed, commits_of, history, MayJoin, Legal}
+use Rattle.su_legal.specs.Legal.{Committed, commits_of, entry_made, history, MayJoin, Legal}
 use Rattle.su_view.specs.declared.records.Record.{Record}
 use Rattle.su_view.specs.declared.records.Keeping.{Keeping}
 use Rattle.su_view.specs.Holding.{HoldingState}
@@ -68,7 +67,7 @@ pub record IsKeeping (k : Keeping) : Type 0 where
 -- The change stands ready, and the commit with it may join the list; these are their bytes.
 pub record JoinsNext (k : Keeping) (c : Commit) (change : Change) (bytes item : List ℕ)
     : Type 0 where
-  pub ready : k.desk.ready ≡ entry_by c.version.author change ∷ []
+  pub ready : k.desk.ready ≡ entry_made c change ∷ []
   pub joins : MayJoin k.desk.settled.roster (holding_of k).held
       (record { commit = c; change = change })
   pub bytes_are : bytes ≡ commit_bytes c

@@ -5,6 +5,7 @@ use Rattle.su_bytes.specs.declared.refusals.Refusal.TheVariants.{BadSignature, K
 use Rattle.su_block.specs.declared.failures.Failures.{Failures}
 use Rattle.su_bytes.specs.RosterBytes.{user_key}
 use Rattle.su_op.specs.declared.operations.Change.{Change}
+use Rattle.su_desk.specs.declared.entries.Entry.{Entry}
 use Rattle.su_desk.specs.Answer.{refusal_of}
 use Rattle.su_desk.specs.History.{entry_by}
 use Rattle.su_desk.specs.Version.{versions}
@@ -21,6 +22,10 @@ use Rattle.su_view.specs.declared.refusals.ViewRefusal.{ViewRefusal}
 use Rattle.su_view.specs.declared.refusals.ViewRefusal.TheVariants.{Plain}
 use Rattle.su_view.specs.declared.holdings.drafts.Draft.{Draft}
 
+-- the entry that the client's user makes of a change
+abbrev pub own_entry : HoldingState → Change → Entry
+own_entry v change = entry_by v.user change
+
 -- the version structure of a change that comes next: it names the list's head and the change, and
 -- has the i-handles and the numbers of the tree with it
 abbrev pub next_version : HoldingState → Change → Version
@@ -28,15 +33,15 @@ next_version v change = record {
   author = v.user;
   prev = head_of v.roster v.held;
   change = change_digest change;
-  handle = author_handle v.roster (history v.held) v.user change;
-  groups = group_handles v.roster (history v.held) v.user change;
+  handle = author_handle v.roster (history v.held) (own_entry v change);
+  groups = group_handles v.roster (history v.held) (own_entry v change);
   vector = bump v.roster (vector_of v.roster v.held) v.user
-      (map (λ g. g.0) (group_handles v.roster (history v.held) v.user change));
+      (map (λ g. g.0) (group_handles v.roster (history v.held) (own_entry v change)));
 }
 
 -- This is a commit of that change, made by the client's user with this leaf.
 pub record IsMade (v : HoldingState) (change : Change) (leaf : ℕ) (c : Commit) : Type 0 where
-  pub accepted : refusal_of v.roster (history v.held) v.user change ≡ None
+  pub accepted : refusal_of v.roster (history v.held) (own_entry v change) ≡ None
   pub version : c.version ≡ next_version v change
   pub signed : IsSignedBy (user_key v.roster v.user) c
   pub leaf_is : leaf_of c.signature ≡ leaf
@@ -46,7 +51,7 @@ pub record IsMade (v : HoldingState) (change : Change) (leaf : ℕ) (c : Commit)
 abbrev pub making_order : List ℕ → HoldingState → Change → List (Line ViewRefusal)
 making_order key v change =
     demand (user_key v.roster v.user ≡ Some key) (Plain BadSignature)
-    ∷ accepting v v.user change
+    ∷ accepting v (own_entry v change)
     ∷ []
 
 -- Why no commit is made of a change: that doesn't hold; or then the source failed when it was given
@@ -62,13 +67,15 @@ IsRefusedMaking before after key Spent v change e =
 -- What is at hand of a change before it is signed: it is accepted, and these are its item, and the
 -- i-handles and numbers of the tree with it.
 pub record IsDraft (v : HoldingState) (change : Change) (d : Draft) : Type 0 where
-  pub accepted : refusal_of v.roster (history v.held) v.user change ≡ None
+  pub accepted : refusal_of v.roster (history v.held) (own_entry v change) ≡ None
   pub is_change : IsChange change
   pub has_item : HasItem change
   pub spelled : d.item.items ≡ item_bytes change
   pub some_bytes : 1 ≤ length d.item.items
   pub few_bytes : length d.item.items ≤ 70000
-  pub handle : d.prepared.author_handle ≡ author_handle v.roster (history v.held) v.user change
-  pub groups : d.prepared.groups.items ≡ group_handles v.roster (history v.held) v.user change
+  pub handle : d.prepared.author_handle
+      ≡ author_handle v.roster (history v.held) (own_entry v change)
+  pub groups : d.prepared.groups.items
+      ≡ group_handles v.roster (history v.held) (own_entry v change)
   pub numbers : d.prepared.versions.items
-      ≡ versions v.roster (history v.held ++ entry_by v.user change ∷ [])
+      ≡ versions v.roster (history v.held ++ own_entry v change ∷ [])

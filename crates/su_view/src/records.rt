@@ -1,7 +1,6 @@
 // How the commits that are held are kept.
 ghost use Rattle.std.specs.Prelude.{◌≡◌, ◌<◌, ◌∷◌, [], Some, cond, length, vec_capacity};
 ghost use Rattle.su_op.specs.declared.operations.Change.{Change};
-ghost use Rattle.su_desk.specs.History.{entry_by};
 ghost use Rattle.su_desk.specs.Trial.{IsReady};
 ghost use Rattle.su_version.specs.Commit.{commit_bytes};
 ghost use Rattle.su_change.specs.Item.{item_bytes};

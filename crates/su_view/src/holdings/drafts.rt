@@ -13,7 +13,7 @@ ghost use Rattle.su_change.specs.Item.{change_digest};
 ghost use Rattle.su_legal.specs.Legal.{history, Legal};
 ghost use Rattle.su_bytes.specs.Membership.{has_user};
 ghost use Rattle.su_view.specs.Joining.{AscendFrom};
-ghost use Rattle.su_view.specs.Making.{IsDraft, next_version};
+ghost use Rattle.su_view.specs.Making.{own_entry, IsDraft, next_version};
 ghost use Rattle.su_view.specs.declared.refusals.ViewRefusal.TheVariants.{Plain, Change as ChangeRefused};
 
 use crate::holdings::{Holding, within};
@@ -52,7 +52,7 @@ impl Holding {
         ensures drafted { IfOk result (IsDraft self.old change) }
         ensures refused { IfErr result (λ e. (e ≡ Plain NoMemory)
             ⊎ ((why : Refusal_) × (e ≡ ChangeRefused why)
-            × (refusal_of self.old.roster (history self.old.held) self.old.user change
+            × (refusal_of self.old.roster (history self.old.held) (own_entry self.old change)
             ≡ Some why))) }
         ensures same { self.new ≡ self.old }
     {

@@ -4,7 +4,7 @@ use Rattle.su_bytes.specs.declared.refusals.Refusal.TheVariants.{NoMemory}
 use Rattle.su_desk.specs.Answer.{refusal_of}
 use Rattle.su_legal.specs.Legal.{history}
 use Rattle.su_view.specs.Holding.{HoldingState}
-use Rattle.su_view.specs.Making.{IsDraft}
+use Rattle.su_view.specs.Making.{own_entry, IsDraft}
 use Rattle.su_view.specs.declared.refusals.ViewRefusal.{ViewRefusal}
 use Rattle.su_view.specs.declared.refusals.ViewRefusal.TheVariants.{Plain, Change as ChangeRefused}
 use Rattle.su_view.specs.declared.holdings.drafts.Draft.{Draft}
@@ -14,7 +14,7 @@ use Rattle.su_view.proofs.holdings.Holding.draft.Goals as goal
 
 Refused : HoldingState → Change → ViewRefusal → Type 0
 Refused v change r =
-    (r ≡ Plain NoMemory) ⊎ ((why : Refusal) × (r ≡ ChangeRefused why) × (refusal_of v.roster (history v.held) v.user change ≡ Some why))
+    (r ≡ Plain NoMemory) ⊎ ((why : Refusal) × (r ≡ ChangeRefused why) × (refusal_of v.roster (history v.held) (own_entry v change) ≡ Some why))
 
 pub returns-in-Err-clause-refused : goal.returns-in-Err-clause-refused
 unfolding Refused

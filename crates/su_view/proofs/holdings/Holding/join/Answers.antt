@@ -16,48 +16,48 @@ use Rattle.su_view.proofs.holdings.Holding.join.Goals as goal
 pub returns-in-Err-prepare-clause-refused : goal.returns-in-Err-prepare-clause-refused
 returns-in-Err-prepare-clause-refused c =
     let k = c.self.inside.keeping in
-    let author = c.author.ensures.value ∙ ap (λ (v : Version). v.author) c.version.ensures.value in
+    let made = ap (λ a. entry_by a c.in-Ok.change) (c.author.ensures.value ∙ ap (λ (v : Version). v.author) c.version.ensures.value) in
     let found = c.in-Ok.ensures.found in
     subst (λ v. (c.within-in-Err-prepare.result ≡ Plain NoMemory) ⊎ IsRefusedWith v c.args.commit c.args.item.items c.within-in-Err-prepare.result) c.self.view_is
     (not_prepared (holding_of k) c.args.commit c.in-Ok.change c.args.item.items found.0 found.1 (sym c.as_slice.ensures.value ∙ found.2)
     c.in-Err-prepare.refusal c.within-in-Err-prepare.result
-    (prepared_so k c.self.invariant c.author.result c.args.commit author c.in-Ok.change c.in-Err-prepare.refusal c.in-Err-prepare.ensures.refused)
+    (prepared_so k c.self.invariant (entry_by c.author.result c.in-Ok.change) c.args.commit c.in-Ok.change made c.in-Err-prepare.refusal c.in-Err-prepare.ensures.refused)
     c.within-in-Err-prepare.ensures)
 
 pub returns-in-Some-clause-refused : goal.returns-in-Some-clause-refused
 returns-in-Some-clause-refused c =
     let k = c.self.inside.keeping in
     let kept = c.self.invariant in
-    let author = c.author.ensures.value ∙ ap (λ (v : Version). v.author) c.version.ensures.value in
+    let made = ap (λ a. entry_by a c.in-Ok.change) (c.author.ensures.value ∙ ap (λ (v : Version). v.author) c.version.ensures.value) in
     let found = c.in-Ok.ensures.found in
     let told = c.in-Ok-prepare.ensures.told in
     let p = c.in-Ok-prepare.prepared in
     let other = c.in-Some.ensures.other 0
     (subst (λ (v : Version). AscendFrom 0 v.groups) (sym c.version-2.ensures.value) (carried_ascend 0 c.args.commit.version.groups c.requires.next.spelled.version.groups))
-    (told_ascend k kept c.author.result c.args.commit author c.in-Ok.change p told) in
+    (told_ascend k kept (entry_by c.author.result c.in-Ok.change) c.args.commit c.in-Ok.change made p told) in
     inr (subst (λ v. IsRefusedWith v c.args.commit c.args.item.items (WrongHandle c.in-Some.principal)) c.self.view_is
     (other_handle (holding_of k) c.args.commit c.in-Ok.change c.args.item.items found.0 found.1 (sym c.as_slice.ensures.value ∙ found.2)
     p.number p.author_handle p.groups.items c.in-Some.principal
-    (answered k kept c.author.result c.args.commit author c.in-Ok.change (Ok p.number) c.in-Ok-prepare.ensures.accepted)
-    (told_handle k kept c.author.result c.args.commit author c.in-Ok.change p told)
-    (told_groups k kept c.author.result c.args.commit author c.in-Ok.change p told)
+    (answered k kept (entry_by c.author.result c.in-Ok.change) c.args.commit c.in-Ok.change made (Ok p.number) c.in-Ok-prepare.ensures.accepted)
+    (told_handle k kept (entry_by c.author.result c.in-Ok.change) c.args.commit c.in-Ok.change made p told)
+    (told_groups k kept (entry_by c.author.result c.in-Ok.change) c.args.commit c.in-Ok.change made p told)
     (subst (λ (v : Version). IsOtherHandle v p.author_handle p.groups.items c.in-Some.principal) c.version-2.ensures.value other)))
 
 pub push-requires-clause-ready : goal.push-requires-clause-ready
 push-requires-clause-ready c = (
   entry_by c.author.result c.in-Ok.change,
   ap (λ (t : TrialState). t.ready) c.in-Ok-prepare.ensures.ready,
-  subst (λ (t : TrialState). Tells t.settled c.author.result c.in-Ok.change c.in-Ok-prepare.prepared) (sym c.in-Ok-prepare.ensures.ready) c.in-Ok-prepare.ensures.told,
+  subst (λ (t : TrialState). Tells t.settled (entry_by c.author.result c.in-Ok.change) c.in-Ok-prepare.prepared) (sym c.in-Ok-prepare.ensures.ready) c.in-Ok-prepare.ensures.told,
 )
 
 pub push-requires-clause-joins : goal.push-requires-clause-joins
 push-requires-clause-joins c =
     let k = c.self.inside.keeping in
-    let author = c.author.ensures.value ∙ ap (λ (v : Version). v.author) c.version.ensures.value in
+    let made = ap (λ a. entry_by a c.in-Ok.change) (c.author.ensures.value ∙ ap (λ (v : Version). v.author) c.version.ensures.value) in
     let found = c.in-Ok.ensures.found in
     let same = c.in_default.ensures.same refl in (
       c.in-Ok.change,
-      joined_so k c.self.invariant c.author.result c.args.commit author c.in-Ok.change c.in-Ok-prepare.prepared c.args.bytes.items c.args.item.items
+      joined_so k c.self.invariant (entry_by c.author.result c.in-Ok.change) c.args.commit c.in-Ok.change made c.in-Ok-prepare.prepared c.args.bytes.items c.args.item.items
           found.0 found.1 (sym c.as_slice.ensures.value ∙ found.2)
           (subst (λ (v : HoldingState). MayBeNext v.roster (commits_of v.held) c.args.commit) (sym c.self.view_is) c.requires.next)
           c.requires.named c.in-Ok-prepare.ensures.accepted c.in-Ok-prepare.ensures.told
@@ -69,11 +69,11 @@ push-requires-clause-joins c =
 pub returns-clause-took : goal.returns-clause-took
 returns-clause-took c =
     let k = c.self.inside.keeping in
-    let author = c.author.ensures.value ∙ ap (λ (v : Version). v.author) c.version.ensures.value in
+    let made = ap (λ a. entry_by a c.in-Ok.change) (c.author.ensures.value ∙ ap (λ (v : Version). v.author) c.version.ensures.value) in
     let found = c.in-Ok.ensures.found in
     let same = c.in_default.ensures.same refl in
     let l : Keeping = record { user = k.user; own = k.own; records = c.reserve.new.self; end = k.end; desk = c.prepare.new.self } in
-    let next = joined_so k c.self.invariant c.author.result c.args.commit author c.in-Ok.change c.in-Ok-prepare.prepared c.args.bytes.items c.args.item.items
+    let next = joined_so k c.self.invariant (entry_by c.author.result c.in-Ok.change) c.args.commit c.in-Ok.change made c.in-Ok-prepare.prepared c.args.bytes.items c.args.item.items
     found.0 found.1 (sym c.as_slice.ensures.value ∙ found.2)
     (subst (λ (v : HoldingState). MayBeNext v.roster (commits_of v.held) c.args.commit) (sym c.self.view_is) c.requires.next)
     c.requires.named c.in-Ok-prepare.ensures.accepted c.in-Ok-prepare.ensures.told

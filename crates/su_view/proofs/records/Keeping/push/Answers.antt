@@ -5,13 +5,14 @@ use Rattle.su_desk.specs.Trial.{TrialState, with_ready}
 use Rattle.su_version.specs.Version.{Version}
 use Rattle.su_version.specs.Chain.{MayBeNext}
 use Rattle.su_chain.specs.ChainEnd.{IsEndOf}
+use Rattle.su_legal.specs.Legal.{entry_made}
 use Rattle.su_view.specs.Keeping.{commit_in, held_in, holding_of, IsLastIndex, JoinsNext}
 use Rattle.su_view.specs.declared.records.Record.{Record}
 use Rattle.su_view.proofs.KeepingLemmas.{held_more, next_kept, keeping_more, last_index_more, length-held}
 use Rattle.su_view.proofs.records.Keeping.push.Goals as goal
 
 settled_is : (c : goal.After-push_reserved) (change : Change) → JoinsNext c.args.self.now c.args.commit change c.args.bytes.items c.args.item.items
-    → c.settle.new.self.settled ≡ with_entry c.args.self.now.desk.settled c.args.commit.version.author change
+    → c.settle.new.self.settled ≡ with_entry c.args.self.now.desk.settled (entry_made c.args.commit change)
 settled_is c change next =
     ap (λ (t : TrialState). t.settled) c.settle.ensures.settled ∙ ap (with_ready c.args.self.now.desk.settled) next.ready
 
