@@ -8,6 +8,7 @@ use Rattle.su_bytes.specs.Membership.{Membership, has_number, has_user}
 use Rattle.su_bytes.specs.Principal.{user_principal, group_principal}
 use Rattle.su_bytes.specs.declared.principals.Principal.{Principal}
 use Rattle.su_bytes.specs.declared.principals.Principal.TheVariants.{User}
+use Rattle.su_desk.specs.declared.entries.Entry.{Entry}
 use Rattle.su_desk.specs.Version.{version, numbered}
 use Rattle.su_desk.proofs.VersionNumbers.{version-append, never_falls, author_rises}
 use Rattle.su_vector.specs.Vector.{number_in, number_of, le}
