@@ -4,4 +4,3 @@ pub mod JoinLemmas
 pub mod ShownLemmas
 pub mod MakeLemmas
 pub mod ListLemmas
-pub mod Public
