@@ -79,7 +79,7 @@ fn holds_log(rt: &HostRuntime, path: &str) -> io::Result<bool> {
 fn begins_log(front: &[u8]) -> bool
     ensures { IsTrue result ↔ BeginsLog front.now }
 {
-    front.is_empty() || (front.len() == 8 && &front[4..] == b"SV01")
+    front.is_empty() || (front.len() == 8 && &front[4..] == b"SV01".as_slice())
 }
 
 /// Returns the folder of a path.
