@@ -116,7 +116,7 @@ in memory: with its end it is gone, but for what clients saved.
 It listens on 127.0.0.1, so that only this machine reaches it, and tunnels that
 end there; --listen 0.0.0.0 opens it to all addresses. Whoever connects can
 read, and can take the turn: a session that has it and says nothing keeps it for
---turn-seconds, and is ended then; so is one that doesn't read for 30 seconds.
+--turn-seconds, and is ended then; so is one that doesn't read what it asks for.
 Standard error tells when it listens, and at its end what it served.";
 
 pub const BACKUP_ABOUT: &str = "Copies what a running server has stored into a folder

@@ -14,8 +14,10 @@ pub const MOST_FAILURES: u32 = 1000;
 /// How many times a second a read that waits for bytes looks whether it is to end.
 const LOOKS_A_SECOND: u32 = 2;
 
-/// How many seconds a write waits for a peer that doesn't read. Then its session ends.
-const WRITES_FOR_SECONDS: u64 = 30;
+/// How many seconds a write waits for a peer that doesn't read. One that takes nothing in that time
+/// ends the session; as a message can take a few writes until the link is full, that is after some
+/// half a minute.
+const WRITES_FOR_SECONDS: u64 = 10;
 
 /// The connections that a listener is offered, as sessions: so many, and then no more. What fails
 /// while it is accepted is no session; after `MOST_FAILURES` such failures in a row no more come,
