@@ -6,3 +6,6 @@
 pub enum Format {
     V1,
 }
+
+/// The format in which changes are made.
+pub const NEWEST_FORMAT: Format = Format::V1;
