@@ -1,8 +1,8 @@
 -- What a line of a client's script says: a command, and what the words after its own word say.
 use Rattle.std.specs.Prelude.{List, [], ◌∷◌}
 use Rattle.su_bytes.specs.declared.refusals.Refusal.{Refusal}
-use Rattle.su_plan.specs.declared.commands.Command.{Command}
-use Rattle.su_plan.specs.declared.commands.Command.TheVariants as command
+use Rattle.su_draft.specs.declared.commands.Command.{Command}
+use Rattle.su_draft.specs.declared.commands.Command.TheVariants as command
 use Rattle.su_desk_lines.specs.Form.{Value, Value.Number, Value.Size, Value.Bytes, Value.Text}
 use Rattle.su_client_lines.specs.declared.commands.ClientCommand.{ClientCommand}
 use Rattle.su_client_lines.specs.declared.commands.ClientCommand.TheVariants as client

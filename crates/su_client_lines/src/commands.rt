@@ -1,6 +1,6 @@
 // What the lines of a client's script say.
 use su_bytes::Refusal;
-use su_plan::Command;
+use su_draft::Command;
 
 /// What a line of a client's script asks for. Paths are the words as they are written: whether a
 /// word is a path is seen where the command is planned.

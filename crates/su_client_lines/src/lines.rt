@@ -14,7 +14,7 @@ use su_desk_lines::{
     LONGEST_LINE, Value, WordKind, Words, check_values, find_form, has_empty_word, read_values,
     split_words,
 };
-use su_plan::Command;
+use su_draft::Command;
 
 /// Reads a line. It says no command where it has more than `LONGEST_LINE` bytes or an empty word,
 /// where no command has its first word, and where its further words are too few, too many or not

@@ -4,7 +4,7 @@ use Rattle.su_bytes.specs.declared.file_ids.FileId.{FileId}
 use Rattle.su_node.specs.Name.{Name}
 use Rattle.su_version.specs.Commit.{Commit}
 use Rattle.su_table.specs.Query.{listing, contents_within}
-use Rattle.su_plan.specs.Plan.{found}
+use Rattle.su_draft.specs.Walk.{found}
 use Rattle.su_view.specs.Holding.{HoldingState, tree_of_list}
 use Rattle.su_view.specs.LastCommits.{own_last, shown_order}
 use Rattle.su_bytes.specs.Order.{Passes}

@@ -1,22 +1,10 @@
 //! The planner: a command on paths becomes operations that are all accepted in turn.
 #![tactic(auto)]
 
-mod commands;
-mod drafts;
-mod laws;
-mod link;
-mod make;
-mod numbers;
-mod paths;
 mod plans;
-mod remove;
-mod rename;
-mod truncate;
-mod walks;
-mod write;
 
-pub use commands::Command;
-pub use laws::{
-    files_are_taken_once, numbers_are_counted_through, numbers_are_least, paths_have_one_spelling,
-};
 pub use plans::{find, plan};
+pub use su_draft::{
+    Command, files_are_taken_once, numbers_are_counted_through, numbers_are_least,
+    paths_have_one_spelling,
+};

@@ -3,32 +3,21 @@ ghost use Rattle.std.specs.Prelude.{◌≡◌, ◌⊎◌, None, Some, Ok, Err, I
 ghost use Rattle.su_bytes.specs.declared.refusals.Refusal.TheVariants.{NoMemory};
 ghost use Rattle.su_desk.specs.Trial.{nothing_ready, tree_of};
 ghost use Rattle.su_desk.specs.Rehearsal.{first_refusal};
-ghost use Rattle.su_plan.specs.Refusable.{Gives};
-ghost use Rattle.su_plan.specs.Plan.{draft, plan, found};
+ghost use Rattle.su_draft.specs.Walk.{found};
+ghost use Rattle.su_plan.specs.Plan.{plan};
 
-use crate::commands::Command;
-use crate::link::link;
-use crate::make::make;
-use crate::paths::read_path;
-use crate::remove::remove;
-use crate::rename::rename;
-use crate::truncate::truncate;
-use crate::walks::at;
-use crate::write::write;
 use std::alloc::Global;
-use su_bytes::{FileId, Kind, Refusal, Roster, User};
+use su_bytes::{FileId, Refusal, User};
 use su_desk::TrialDesk;
+use su_draft::Command;
 use su_op::Op;
-use su_table::Forest;
 
 /// Plans a command: returns operations by the user that carry it out, each of which is accepted
 /// after those before it. What stands ready on the desk is taken back before, and nothing is
 /// settled.
 ///
-/// The first refusal in order: `NoUser`; `BadPath` of what is no path, or of the root where a name
-/// is needed; on the way from the root, along the old path first, `NoName` where a name is missing
-/// and `WrongKind` of a file in the middle; `BadNumber` where no number is free; then the first
-/// refusal that the operations meet. Or `NoMemory`.
+/// The first refusal in order: those of `Command::draft`; then the first refusal that the operations
+/// meet. Or `NoMemory`.
 #[tactic(auto, unfolding(crate::specs::Plan::plan))]
 pub fn plan(
     alloc: Global,
@@ -49,7 +38,7 @@ pub fn plan(
     ensures err { OnErr result (desk.new.settled ≡ desk.old.settled) }
 {
     desk.take_back()?;
-    let operations = draft(alloc, desk.forest(), desk.roster(), user, command)?;
+    let operations = command.draft(alloc, desk.forest(), desk.roster(), user)?;
     desk.rehearse(user, operations.as_slice())?;
     Ok(operations)
 }
@@ -65,47 +54,5 @@ pub fn find(alloc: Global, desk: &mut TrialDesk, path: &[u8]) -> Result<FileId, 
     ensures err { OnErr result (desk.new.settled ≡ desk.old.settled) }
 {
     desk.take_back()?;
-    find_in(alloc, desk.forest(), path)
-}
-
-/// Returns the file that a path leads to in the forest.
-#[tactic(auto, unfolding(crate::specs::Plan::found))]
-fn find_in(alloc: Global, forest: &Forest, path: &[u8]) -> Result<FileId, Refusal>
-    ensures { Gives (λ file. file) result (found forest.now path.now) }
-{
-    let names = read_path(alloc, path)?;
-    at(forest, names.as_slice())
-}
-
-/// Returns the operations of a command, before it is known whether they are accepted.
-#[tactic(auto, unfolding(crate::specs::Plan::draft))]
-fn draft(
-    alloc: Global,
-    forest: &Forest,
-    roster: &Roster,
-    user: User,
-    command: &Command,
-) -> Result<Vec<Op>, Refusal>
-    ensures { Gives (λ v. v.items) result (draft roster.now forest.now user command.now) }
-{
-    if !roster.has_user(user) {
-        return Err(Refusal::NoUser(user));
-    }
-    match command {
-        Command::Mkdir { path } => make(alloc, forest, user, Kind::Dir, path.as_slice()),
-        Command::Create { path } => make(alloc, forest, user, Kind::File, path.as_slice()),
-        Command::Write { path, off, bytes } => {
-            write(alloc, forest, user, path.as_slice(), *off, bytes.as_slice())
-        }
-        Command::Truncate { path, size } => {
-            truncate(alloc, forest, user, path.as_slice(), *size)
-        }
-        Command::Link { old_, new_ } => {
-            link(alloc, forest, user, old_.as_slice(), new_.as_slice())
-        }
-        Command::Rename { old_, new_ } => {
-            rename(alloc, forest, user, old_.as_slice(), new_.as_slice())
-        }
-        Command::Remove { path } => remove(alloc, forest, user, path.as_slice()),
-    }
+    su_draft::find(alloc, desk.forest(), path)
 }

@@ -4,7 +4,8 @@ ghost use Rattle.su_bytes.specs.declared.refusals.Refusal.TheVariants.{NoMemory}
 ghost use Rattle.su_desk.specs.History.{live_numbers};
 ghost use Rattle.su_desk.specs.Rehearsal.{first_refusal};
 ghost use Rattle.su_desk.specs.Version.{versions};
-ghost use Rattle.su_plan.specs.Plan.{plan, found};
+ghost use Rattle.su_draft.specs.Walk.{found};
+ghost use Rattle.su_plan.specs.Plan.{plan};
 ghost use Rattle.su_legal.specs.Legal.{head_of, history, Legal};
 ghost use Rattle.su_table.specs.Query.{listing, contents_within};
 ghost use Rattle.su_view.specs.Holding.{tree_of_list};

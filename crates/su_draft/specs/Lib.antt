@@ -1,0 +1,15 @@
+pub mod Refusable
+pub mod Path
+pub mod Walk
+pub mod Number
+pub mod Draft
+pub mod Seen
+pub mod Make
+pub mod Write
+pub mod Truncate
+pub mod Link
+pub mod Rename
+pub mod Remove
+pub mod Command
+pub mod Taking
+pub mod Counting

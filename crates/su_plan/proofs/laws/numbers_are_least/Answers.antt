@@ -1,5 +1,0 @@
-use Rattle.su_plan.proofs.LeastFree.{least_free-least}
-use Rattle.su_plan.proofs.laws.numbers_are_least.Goals as goal
-
-pub returns : goal.returns
-returns c = least_free-least
