@@ -33,6 +33,9 @@ LONGEST_BACKUP = 0.06  # seconds from the start of a backup to its kill, at most
 MOST_SECONDS = 90  # for the kills of servers
 LONGEST_ROUND = 0.3  # seconds from the first commit of a round to its kill, at most
 FILE = "records.db"
+COUNT = "records.count"
+FLIPS = 200
+FLIPPED = 40  # commits of the store whose bits are flipped
 LIMIT = 5_000_000  # bytes of a file where there is no room: the log that is written first has 4 MiB
 FILES = (460, 560, 1060)  # writes of 64 KiB after which there is one file, two, and three
 MOST_OF_FILES = 120_000_000  # bytes of memory over three files, of which two are read at most
@@ -198,6 +201,76 @@ def kills(at):
     yield f"nothing_acknowledged_is_lost: {sorted(lost)[:5]}", not lost
     yield f"no_client_refuses_the_server: {refused[:3]}", not refused
     yield f"kills_while_clients_commit: {rounds} rounds, {count} files", rounds >= 10 and count >= rounds
+
+
+# ---- damage
+
+def with_a_flipped_bit(chance, store, copy):
+    """A copy of a store's folder with one bit of its file or of the log changed: which file, and where."""
+    shutil.rmtree(copy, ignore_errors=True)
+    shutil.copytree(store, copy)
+    sizes = {name: os.path.getsize(f"{copy}/{name}") for name in (FILE, f"{FILE}-wal") if os.path.exists(f"{copy}/{name}")}
+    place = chance.randrange(8 * sum(sizes.values()))
+    for name, size in sizes.items():
+        if place < 8 * size:
+            break
+        place -= 8 * size
+    with open(f"{copy}/{name}", "r+b") as file:
+        file.seek(place // 8)
+        byte = file.read(1)[0]
+        file.seek(place // 8)
+        file.write(bytes([byte ^ 1 << place % 8]))
+    return f"{name}:{place}"
+
+
+def start_of(room, store, names):
+    """What becomes of a server over a folder: it is refused with one line, shows these names, or fewer."""
+    with Keeping(room, store, sessions=1) as server:
+        if server.said and b"listening" in server.said:
+            shown = names_in(room.run(server.port, 0, b"ls /\n")[0])
+            return "all" if shown == names and b" with %d records" % len(names) in server.said else "fewer"
+        printed, told, status = server.end()
+        return "refused" if (printed, status) == ([], 1) and is_told([server.said, *told], store) else "unsaid"
+
+
+def damage(at):
+    """Whatever bit of a store flips that was ended or killed: a server says so, or shows all that was acknowledged."""
+    room, store, copy, chance = Room(at), f"{at}/store", f"{at}/copy", random.Random(41)
+    names, became = set(), {}
+    with Keeping(room, store) as server:
+        for line in room.run(server.port, 0, b"".join(b"create /%d\n" % number for number in range(FLIPPED)))[0]:
+            names.add(b"%d" % (int(line.split(b" ")[1]) - 1))
+        server.process.send_signal(signal.SIGINT)
+        server.process.wait(serving.WAIT)
+    for _ in range(FLIPS):
+        place = with_a_flipped_bit(chance, store, copy)
+        became.setdefault(start_of(room, copy, names), []).append(place)
+    counts = {how: len(places) for how, places in sorted(became.items())}
+    print(f"storing: {FLIPS} copies of a store with one bit flipped: {counts}")
+    yield f"a_flipped_bit_is_told_or_harmless: {counts} {became.get('fewer', [])[:3]}", set(counts) <= {"all", "refused"}
+    yield "and_some_are_told", counts.get("refused", 0) > FLIPS // 4
+    yield from without_parts(room, store, copy, names)
+
+
+def without_parts(room, store, copy, names):
+    """A log, a file or a count that is gone or emptied is told too."""
+    def left(*gone):
+        shutil.rmtree(copy, ignore_errors=True)
+        shutil.copytree(store, copy)
+        for name in gone:
+            os.remove(f"{copy}/{name}")
+        return start_of(room, copy, names)
+
+    yield "all_of_it_is_served", left() == "all"
+    yield "without_its_log_it_is_told", left(f"{FILE}-wal") == "refused"
+    yield "without_its_count_it_is_served", left(COUNT) == "all"
+    yield "what_is_left_is_served_once_that_is_asked_for", left(f"{FILE}-wal", COUNT) == "fewer"
+    yield "and_then_counted_anew", start_of(room, copy, names) == "fewer"
+    left()
+    yield f"the_count_is_noted: {read(f'{copy}/{COUNT}')}", read(f"{copy}/{COUNT}") == b"%d\n" % len(names)
+    with open(f"{copy}/{COUNT}", "wb") as file:
+        file.write(b"many\n")
+    yield "what_is_no_count_is_told", start_of(room, copy, names) == "refused"
 
 
 # ---- no room
@@ -484,8 +557,10 @@ def bad_folders(room, store):
     os.rename(f"{store}/records-2.db", f"{store}/away")
     with open(f"{store}/records-2.db", "wb") as file:
         file.write(b"")
+    yield told_of("an_empty_last_file", f"{store}: damaged behind record", f"{store}/{COUNT}")
+    os.remove(f"{store}/{COUNT}")
     with Keeping(room, store) as server:
-        yield "an_empty_last_file_is_begun_with", reads_of(room, server.port, (0, FILES[0] + 50))
+        yield "an_empty_last_file_is_begun_with_once_that_is_asked_for", reads_of(room, server.port, (0, FILES[0] + 50))
         server.kill()
 
 
@@ -710,7 +785,7 @@ def copies_of_lies(at):
 
 
 PARTS = (
-    ends, two_servers, kills, no_room, small_cache, room_of_items, several_files, bad_files, backs_up, backup_kills, bad_backups,
+    ends, two_servers, kills, damage, no_room, small_cache, room_of_items, several_files, bad_files, backs_up, backup_kills, bad_backups,
     copies_of_lies)
 
 

@@ -2,6 +2,7 @@
 ghost use Rattle.std.specs.Prelude.{◌≡◌, ◌↔◌, []};
 ghost use Rattle.su_store_files.specs.Volumes.{WereSound};
 
+use crate::counts::CountFile;
 use crate::faults::tell_fault;
 use crate::guards::Guard;
 use crate::links::{Link, connect};
@@ -23,6 +24,7 @@ use su_shared_items::SharedBlocks;
 use su_store::FileFault;
 use su_store_files::{ArchiveFiles, ArchiveName, Opened};
 use su_store_keeper::Archive;
+use su_tally::Tallied;
 use su_vault::{Shelf, Vault, Volume};
 
 /// What a backup made: how many records the copy has, and how many of them are new.
@@ -121,6 +123,10 @@ where
     requires { V.holds vault [] }
 {
     let (rt, stop) = (setting.rt, setting.stop);
+    let (count, noted) = match CountFile::of(&folder) {
+        Ok(found) => found,
+        Err(fault) => return refuse(rt, fault),
+    };
     let archive: Archive<'_, V, T> = Archive::new(
         setting.host,
         rt.alloc(),
@@ -128,7 +134,8 @@ where
         FULL,
         setting.blocks,
     );
-    let guard = Guard::new(archive, folder, stop);
+    let tallied = Tallied::new(archive, count, noted);
+    let guard = Guard::new(tallied, folder, stop);
     let mut client = Checked::new(link);
     match copy_book(
         setting.host,

@@ -10,6 +10,7 @@ use su_keeper::{Keeper, NotKept};
 use su_server::Stop;
 use su_store::FileFault;
 use su_store_keeper::Archive;
+use su_tally::{Loss, Notebook, Tallied};
 use su_vault::Vault;
 
 /// Works on files of a folder, and knows why a call of its own failed.
@@ -19,6 +20,9 @@ pub(crate) trait HasFiles {
 
     /// The number of the file that it asked last.
     fn number(&self) -> usize;
+
+    /// Returns what the files lack of the records that were kept, if they do.
+    fn loss(&self) -> Option<Loss>;
 
     /// Shuts the files, when all is copied from their logs.
     fn close(self) -> Result<(), FileFault>;
@@ -33,8 +37,30 @@ impl<'a, V: Vault<Fault = FileFault>, R: Wait> HasFiles for Archive<'a, V, R> {
         Archive::number(self)
     }
 
+    fn loss(&self) -> Option<Loss> {
+        None
+    }
+
     fn close(self) -> Result<(), FileFault> {
         Archive::close(self)
+    }
+}
+
+impl<K: Keeper + HasFiles, N: Notebook> HasFiles for Tallied<K, N> {
+    fn fault(&self) -> Option<&FileFault> {
+        self.keeper().fault()
+    }
+
+    fn number(&self) -> usize {
+        self.keeper().number()
+    }
+
+    fn loss(&self) -> Option<Loss> {
+        Tallied::loss(self)
+    }
+
+    fn close(self) -> Result<(), FileFault> {
+        self.into_keeper().close()
     }
 }
 
@@ -62,14 +88,26 @@ impl<'a, 'f, 'n, K: Keeper> Guard<'a, 'f, 'n, K> {
 }
 
 impl<'a, 'f, 'n, K: HasFiles> Guard<'a, 'f, 'n, K> {
-    /// Tells of the keeper's fault, once, and stops the server.
+    /// Tells of the keeper's fault, or of what its files lack, once, and stops the server.
     fn alarm(&self) {
-        if let Some(fault) = self.keeper.fault() {
-            if !self.stop.is_set() {
-                self.tell(self.keeper.number(), fault);
+        if !self.stop.is_set() {
+            match (self.keeper.fault(), self.keeper.loss()) {
+                (Some(fault), _) => self.tell(self.keeper.number(), fault),
+                (None, Some(loss)) => self.tell_loss(loss),
+                (None, None) => {}
             }
         }
         self.stop.set();
+    }
+
+    /// Tells that the files lack records.
+    fn tell_loss(&self, loss: Loss) {
+        let (name, Loss { kept, noted }) = (self.folder.name, loss);
+        let fault = format_args!(
+            "{name}: damaged behind record {kept}: {noted} records were kept; put a copy of the \
+             folder in its place, or remove {name}/records.count to serve what is left"
+        );
+        tell_fault(self.folder.rt, fault);
     }
 
     /// Tells a fault of the file of a number.

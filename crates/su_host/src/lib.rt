@@ -3,6 +3,7 @@
 #![tactic(auto)]
 
 mod backups;
+mod counts;
 mod doors;
 mod faults;
 mod guards;
@@ -14,3 +15,4 @@ mod stores;
 pub use backups::{Copied, backup};
 pub use links::{Link, connect};
 pub use serving::{Options, serve};
+pub use su_server::Patience;

@@ -2,6 +2,7 @@
 ghost use Rattle.std.specs.Prelude.{◌≡◌, ◌↔◌, []};
 ghost use Rattle.su_store_files.specs.Volumes.{WereSound};
 
+use crate::counts::CountFile;
 use crate::doors::Door;
 use crate::faults::tell_fault;
 use crate::guards::Guard;
@@ -15,26 +16,27 @@ use std::thread::Threads;
 use su_bytes::Roster;
 use su_keeper::{Forgetful, Keeper};
 use su_places::StoreVolume;
-use su_server::{Connections, Report, Stop, serve_book};
+use su_server::{Connections, Crowd, Patience, Report, Stop, serve_book};
 use su_session::End;
 use su_shared::{BookFault, Closed};
 use su_shared_items::SharedBlocks;
 use su_store::FileFault;
 use su_store_files::{ArchiveFiles, ArchiveName, Opened};
 use su_store_keeper::Archive;
+use su_tally::Tallied;
 use su_vault::{Shelf, Vault, Volume};
 
 /// How many bytes a MiB has.
 const MIB: usize = 1_048_576;
 
-/// What a server is asked for: its address, for how many seconds a session may have the turn and be
-/// silent, how many workers it has and commits it may store, after
-/// how many sessions it ends, if so, the folder in which it keeps what is stored, if there is one,
-/// and how many MiB those records and items may take in memory that are kept there too.
+/// What a server is asked for: its address, for how long a session may be silent, how many workers
+/// it has and commits it may store, after how many sessions it ends, if so, the folder in which it
+/// keeps what is stored, if there is one, and how many MiB those records and items may take in memory
+/// that are kept there too.
 #[derive(Clone, Copy)]
 pub struct Options<'a> {
     pub address: SocketAddr,
-    pub turn_seconds: u32,
+    pub patience: Patience,
     pub workers: usize,
     pub capacity: u64,
     pub sessions: Option<u32>,
@@ -46,7 +48,7 @@ pub struct Options<'a> {
 #[derive(Clone, Copy)]
 struct Terms {
     address: SocketAddr,
-    turn_seconds: u32,
+    patience: Patience,
     workers: usize,
     capacity: u64,
     sessions: Option<u32>,
@@ -67,7 +69,7 @@ where
     let stop = Stop::new();
     let terms = Terms {
         address: options.address,
-        turn_seconds: options.turn_seconds,
+        patience: options.patience,
         workers: options.workers,
         capacity: options.capacity,
         sessions: options.sessions,
@@ -150,6 +152,10 @@ where
     T: Net<Listener = TcpListener, Stream = TcpStream> + Threads + Wait + Sync,
     requires { V.holds vault [] }
 {
+    let (count, noted) = match CountFile::of(&folder) {
+        Ok(found) => found,
+        Err(fault) => return tell_fault(setting.rt, fault),
+    };
     let archive: Archive<'_, V, T> = Archive::new(
         setting.host,
         setting.rt.alloc(),
@@ -157,7 +163,8 @@ where
         FULL,
         setting.blocks,
     );
-    let guard = Guard::new(archive, folder, setting.stop);
+    let tallied = Tallied::new(archive, count, noted);
+    let guard = Guard::new(tallied, folder, setting.stop);
     let (good, guard) = serve_over(setting, terms, roster, guard);
     match guard {
         Some(guard) => !setting.stop.is_set() && guard.close() && good,
@@ -204,7 +211,16 @@ where
     let (rt, host, stop) = (setting.rt, setting.host, setting.stop);
     let sessions = terms.sessions;
     let count = sessions.unwrap_or(u32::MAX);
-    let connections = Connections::new(listener, stop, count, terms.turn_seconds);
+    let crowd = Crowd::new(terms.workers);
+    let connections = Connections::new(
+        rt.alloc(),
+        listener,
+        rt,
+        stop,
+        &crowd,
+        terms.patience,
+        count,
+    );
     let door = Door {
         rt,
         host,

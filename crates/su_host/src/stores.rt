@@ -35,6 +35,8 @@ pub(crate) enum FolderFault {
     File { path: String, fault: FileFault },
     #[error("{0}: the file is missing, and a later one is there; put it back")]
     Missing(String),
+    #[error("{0}: no count of records; put the file back, or remove it to serve what is there")]
+    NoCount(String),
 }
 
 impl From<AllocError> for FolderFault {
@@ -67,6 +69,12 @@ impl Folder<'_, '_> {
         } else {
             format!(in self.rt.alloc(); "{folder}/records-{number}.db")
         }
+    }
+
+    /// Returns the path of the count of all records.
+    pub fn count_path(&self) -> Result<String, AllocError> {
+        let folder = self.name;
+        format!(in self.rt.alloc(); "{folder}/records.count")
     }
 
     /// Opens the files that are there; where there are none, the folder and the first one are made.

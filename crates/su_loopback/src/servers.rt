@@ -5,9 +5,10 @@ use std::net::{Ipv4Addr, Net, SocketAddr, TcpListener, TcpStream};
 use std::sync::Wait;
 use std::test::Fail;
 use std::thread::Threads;
+use std::time::Clock;
 use su_keeper::Forgetful;
 use su_seat_service::OpenGate;
-use su_server::{BookFault, Connections, Report, Stop, serve_book};
+use su_server::{BookFault, Connections, Crowd, Patience, Report, Stop, serve_book};
 use su_shared_items::SharedBlocks;
 
 /// How many sessions are served at once.
@@ -26,14 +27,19 @@ where
 }
 
 /// Serves so many connections of a listener, over a new book.
-pub(crate) fn serve<R: Threads + Wait + Sync>(
+pub(crate) fn serve<R: Threads + Wait + Clock + Sync>(
     rt: &R,
     alloc: Global,
     listener: &TcpListener,
     sessions: u32,
 ) -> Result<Report<Forgetful>, BookFault> {
     let stop = Stop::new();
-    let came = Connections::new(listener, &stop, sessions, 60);
+    let crowd = Crowd::new(WORKERS);
+    let patience = Patience {
+        turn_seconds: 60,
+        idle_minutes: 10,
+    };
+    let came = Connections::new(alloc, listener, rt, &stop, &crowd, patience, sessions);
     let roster = roster(alloc)?;
     let blocks = SharedBlocks::new(alloc)?;
     let (keeper, gate) = (Forgetful, &OpenGate);

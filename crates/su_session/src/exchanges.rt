@@ -55,8 +55,8 @@ pub(crate) fn exchange<W: Write, S: Service>(
     send(alloc, &reply, writer)
 }
 
-/// Writes the refusal of a length, with which a session ends.
-pub(crate) fn refuse<W: Write>(alloc: Global, refusal: Refusal, writer: &mut W) -> End
+/// Writes a refusal with which a session ends: of a length, or of a session that isn't served.
+pub fn refuse<W: Write>(alloc: Global, refusal: Refusal, writer: &mut W) -> End
     ensures { Refusing refusal (W.contents writer.old) result (W.contents writer.new) }
 {
     match send(alloc, &Reply::refused(&refusal), writer) {

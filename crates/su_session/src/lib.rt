@@ -12,6 +12,7 @@ mod sessions;
 mod talks;
 
 pub use begins::Begin;
+pub use exchanges::refuse;
 pub use incoming::Incoming;
 pub use laws::{all_messages, first_messages};
 pub use services::Service;

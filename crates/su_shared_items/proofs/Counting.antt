@@ -20,10 +20,10 @@ use Rattle.lru.specs.LruCache.{LruCache, promoted, last_entry, put_entries}
 use Rattle.lru.proofs.CallerLemmas.{Contains-lookup_entry}
 use Rattle.sha2.specs.Sha256.{sha256}
 use Rattle.su_block.specs.Memory.{AreUnderTheirDigests}
-use Rattle.su_shared_items.specs.Shard.{Items, bytes_of, IsCounted, item_under, with_newest}
+use Rattle.su_shared_items.specs.Shard.{cost_of, Items, bytes_of, IsCounted, item_under, with_newest}
 
 abbrev pub size_of : Option (List ℕ) → ℕ
-size_of found = unwrap_or (option_map length found) 0
+size_of found = unwrap_or (option_map cost_of found) 0
 
 module _ (test : List ℕ → Bool) where
   pub digests-remove_entry : (es : Items) → AreUnderTheirDigests es → AreUnderTheirDigests (remove_entry test es)
@@ -56,12 +56,12 @@ module _ (test : List ℕ → Bool) where
   ]) (own_digest es under)
 
   pub bytes_of-remove_entry : (es : Items) → bytes_of (remove_entry test es) + size_of (lookup test es) ≡ bytes_of es
-  bytes_of-remove_entry es = sum_by-remove_entry length test es
+  bytes_of-remove_entry es = sum_by-remove_entry cost_of test es
 
   pub bytes_of-promoted : (es : Items) → bytes_of (promoted test es) ≡ bytes_of es
   bytes_of-promoted es = (elim (lookup_entry test es) as (λ o. lookup test es ≡ option_map (λ e. e.1) o → bytes_of (option_map_or (λ e. e ∷ remove_entry test es) o es) ≡ bytes_of es) [
     | None ↦ λ _. refl
-    | Some e ↦ λ is. sum_by-cons length e.1 (values_of (remove_entry test es)) ∙ omega (arith, ap size_of is, bytes_of-remove_entry es)
+    | Some e ↦ λ is. sum_by-cons cost_of e.1 (values_of (remove_entry test es)) ∙ omega (arith, ap size_of is, bytes_of-remove_entry es)
   ]) (looked_up es)
 
   -- to make an item the newest changes no count
@@ -101,15 +101,15 @@ found_by_digest d = found_has_digest (bytes_eq d) d (one_digest d)
 
 -- ---- what goes
 
-bytes_of-more : (es : Items) (i : ℕ) (e : List ℕ × List ℕ) → slice_get es i ≡ Some e → bytes_of (take (suc i) es) ≡ bytes_of (take i es) + length e.1
+bytes_of-more : (es : Items) (i : ℕ) (e : List ℕ × List ℕ) → slice_get es i ≡ Some e → bytes_of (take (suc i) es) ≡ bytes_of (take i es) + cost_of e.1
 bytes_of-more [] i e is = absurd (cc)
-bytes_of-more (x ∷ xs) zero e is = let same : x ≡ e = cc in ap (λ y. 0 + length y.1) same
+bytes_of-more (x ∷ xs) zero e is = let same : x ≡ e = cc in ap (λ y. 0 + cost_of y.1) same
 bytes_of-more (x ∷ xs) (suc i) e is =
-    sum_by-cons length x.1 (values_of (take (suc i) xs))
-    ∙ omega (arith, bytes_of-more xs i e is, sum_by-cons length x.1 (values_of (take i xs)))
+    sum_by-cons cost_of x.1 (values_of (take (suc i) xs))
+    ∙ omega (arith, bytes_of-more xs i e is, sum_by-cons cost_of x.1 (values_of (take i xs)))
 
 -- the last one, beside the others
-pub bytes_of-last : (es : Items) (e : List ℕ × List ℕ) → last_entry es ≡ Some e → bytes_of (take (length es - 1) es) + length e.1 ≡ bytes_of es
+pub bytes_of-last : (es : Items) (e : List ℕ × List ℕ) → last_entry es ≡ Some e → bytes_of (take (length es - 1) es) + cost_of e.1 ≡ bytes_of es
 bytes_of-last es e is =
     let within = slice_get_within es (length es - 1) e is in
     let all : suc (length es - 1) ≡ length es = omega (arith, within) in
@@ -159,9 +159,9 @@ put_is_newest c k v unbounded few =
 -- ---- the count
 
 pub counted-remove_entry : (test : List ℕ → Bool) (es : Items) (v : List ℕ) (taken room : ℕ) → IsCounted es taken room → lookup test es ≡ Some v
-    → (length v ≤ taken) × IsCounted (remove_entry test es) (taken - length v) room
+    → (cost_of v ≤ taken) × IsCounted (remove_entry test es) (taken - cost_of v) room
 counted-remove_entry test es v taken room was found =
-    let size : size_of (lookup test es) ≡ length v = ap size_of found in
+    let size : size_of (lookup test es) ≡ cost_of v = ap size_of found in
     let bytes = bytes_of-remove_entry test es in (
       omega (arith, size, bytes, was.counted),
       record {
@@ -172,7 +172,7 @@ counted-remove_entry test es v taken room was found =
     )
 
 pub counted-last : (es : Items) (e : List ℕ × List ℕ) (taken room : ℕ) → IsCounted es taken room → last_entry es ≡ Some e
-    → (length e.1 ≤ taken) × (0 < length es) × IsCounted (take (length es - 1) es) (taken - length e.1) room
+    → (cost_of e.1 ≤ taken) × (0 < length es) × IsCounted (take (length es - 1) es) (taken - cost_of e.1) room
 counted-last es e taken room was last =
     let bytes = bytes_of-last es e last in (
       omega (arith, bytes, was.counted),
@@ -184,11 +184,11 @@ counted-last es e taken room was last =
       },
     )
 
-pub counted-newest : (k v : List ℕ) (es : Items) (taken room : ℕ) → IsCounted es taken room → sha256 v ≡ k → taken + length v ≤ room
-    → (size_of (lookup (bytes_eq k) es) ≤ taken + length v) × IsCounted (with_newest k v es) (taken + length v - size_of (lookup (bytes_eq k) es)) room
+pub counted-newest : (k v : List ℕ) (es : Items) (taken room : ℕ) → IsCounted es taken room → sha256 v ≡ k → taken + cost_of v ≤ room
+    → (size_of (lookup (bytes_eq k) es) ≤ taken + cost_of v) × IsCounted (with_newest k v es) (taken + cost_of v - size_of (lookup (bytes_eq k) es)) room
 counted-newest k v es taken room was own fits =
     let bytes = bytes_of-remove_entry (bytes_eq k) es in
-    let more = sum_by-cons length v (values_of (remove_entry (bytes_eq k) es)) in (
+    let more = sum_by-cons cost_of v (values_of (remove_entry (bytes_eq k) es)) in (
       omega (arith, bytes, was.counted),
       record {
         digests = (own, digests-remove_entry (bytes_eq k) es was.digests);
@@ -199,8 +199,8 @@ counted-newest k v es taken room was own fits =
 
 -- the count after a put: what was under the digest no longer counts
 pub counted-put : (c : LruCache (List ℕ) (List ℕ)) (k v : List ℕ) (taken room : ℕ) (older : Option (List ℕ)) → IsCounted c.entries taken room → c.cap ≡ 2 ^ 64 - 1 → length c.entries < 2 ^ 63
-    → sha256 v ≡ k → bytes_of c.entries + length v ≤ room → older ≡ lookup (bytes_eq k) c.entries
-    → (size_of older ≤ taken + length v) × IsCounted (put_entries bytes_eq c k v) (taken + length v - size_of older) room
+    → sha256 v ≡ k → bytes_of c.entries + cost_of v ≤ room → older ≡ lookup (bytes_eq k) c.entries
+    → (size_of older ≤ taken + cost_of v) × IsCounted (put_entries bytes_eq c k v) (taken + cost_of v - size_of older) room
 counted-put c k v taken room older was unbounded few own fits old =
     rw (put_is_newest c k v unbounded few, old) (counted-newest k v c.entries taken room was own (omega (arith, fits, was.counted)))
 
@@ -242,25 +242,25 @@ module _ (k v : List ℕ) (own : sha256 v ≡ k) where
 
 module _ (k v : List ℕ) where
   bytes_at : (o : Ordering) (e : List ℕ × List ℕ) (es more : Items) → slice_cmp nat_cmp k e.0 ≡ o → cond (is_eq o) (Some e.1) (lookup (is_at (slice_cmp nat_cmp k)) es) ≡ None
-      → (lookup (is_at (slice_cmp nat_cmp k)) es ≡ None → bytes_of more ≡ bytes_of es + length v)
-      → bytes_of (match_ordering o ((k, v) ∷ e ∷ es) ((e.0, v) ∷ es) (e ∷ more)) ≡ bytes_of (e ∷ es) + length v
-  bytes_at Less e es more is none rest = sum_by-cons length v (values_of (e ∷ es)) ∙ omega arith
+      → (lookup (is_at (slice_cmp nat_cmp k)) es ≡ None → bytes_of more ≡ bytes_of es + cost_of v)
+      → bytes_of (match_ordering o ((k, v) ∷ e ∷ es) ((e.0, v) ∷ es) (e ∷ more)) ≡ bytes_of (e ∷ es) + cost_of v
+  bytes_at Less e es more is none rest = sum_by-cons cost_of v (values_of (e ∷ es)) ∙ omega arith
   bytes_at Equal e es more is none rest = absurd (cc)
   bytes_at Greater e es more is none rest =
-      sum_by-cons length e.1 (values_of more) ∙ omega (arith, rest none, sum_by-cons length e.1 (values_of es))
+      sum_by-cons cost_of e.1 (values_of more) ∙ omega (arith, rest none, sum_by-cons cost_of e.1 (values_of es))
 
   -- one item more, where there was none
-  pub bytes_of-insert_entry : (es : Items) → lookup (is_at (slice_cmp nat_cmp k)) es ≡ None → bytes_of (insert_entry (slice_cmp nat_cmp) es k v) ≡ bytes_of es + length v
+  pub bytes_of-insert_entry : (es : Items) → lookup (is_at (slice_cmp nat_cmp k)) es ≡ None → bytes_of (insert_entry (slice_cmp nat_cmp) es k v) ≡ bytes_of es + cost_of v
   bytes_of-insert_entry [] none = refl
   bytes_of-insert_entry (e ∷ es) none =
       bytes_at (slice_cmp nat_cmp k e.0) e es (insert_entry (slice_cmp nat_cmp) es k v) refl none (bytes_of-insert_entry es)
 
 -- the count of those that stay, with one more
-pub counted-insert_entry : (k v : List ℕ) (es : Items) (taken room : ℕ) → IsCounted es taken room → sha256 v ≡ k → lookup (is_at (slice_cmp nat_cmp k)) es ≡ None → taken + length v ≤ room
-    → IsCounted (insert_entry (slice_cmp nat_cmp) es k v) (taken + length v) room
+pub counted-insert_entry : (k v : List ℕ) (es : Items) (taken room : ℕ) → IsCounted es taken room → sha256 v ≡ k → lookup (is_at (slice_cmp nat_cmp k)) es ≡ None → taken + cost_of v ≤ room
+    → IsCounted (insert_entry (slice_cmp nat_cmp) es k v) (taken + cost_of v) room
 counted-insert_entry k v es taken room was own none fits = record {
   digests = digests-insert_entry k v own es was.digests;
-  counted = bytes_of-insert_entry k v es none ∙ ap (λ n. n + length v) was.counted;
+  counted = bytes_of-insert_entry k v es none ∙ ap (λ n. n + cost_of v) was.counted;
   bounded = fits;
 }
 

@@ -4,6 +4,7 @@ use Rattle.std.specs.List.{sum_by}
 use Rattle.std.specs.Map.{lookup, remove_entry, values_of}
 use Rattle.std.specs.Str.{bytes_eq}
 use Rattle.su_block.specs.Memory.{AreUnderTheirDigests}
+use Rattle.su_shared_items.specs.declared.items.TheConstants.{ITEM_COST}
 
 -- items, each beside the digest that it is under
 abbrev pub Items : Type 0
@@ -13,9 +14,13 @@ Items = List (List ℕ × List ℕ)
 abbrev pub item_under : Items → List ℕ → Option (List ℕ)
 item_under items digest = lookup (bytes_eq digest) items
 
+-- the bytes that an item takes: its own, and 128 for the place where it is held and what finds it
+unfoldable pub cost_of : List ℕ → ℕ
+cost_of item = length item + ITEM_COST
+
 -- the bytes that the items take
 abbrev pub bytes_of : Items → ℕ
-bytes_of items = sum_by length (values_of items)
+bytes_of items = sum_by cost_of (values_of items)
 
 -- the items that stay, and the bytes that they may take
 pub record Staying : Type 0 where
@@ -50,15 +55,15 @@ with_newest digest item items = (digest, item) ∷ remove_entry (bytes_eq digest
 -- more bytes than there is room for at all: then nothing changes.
 abbrev pub Adds : List ℕ → List ℕ → Spare → Spare → Type 0
 Adds digest item old new =
-    ((old.room < length item) × (new ≡ old))
-    ⊎ ((between : Spare) × HasRoomFor (length item) old between × (new.room ≡ old.room)
+    ((old.room < cost_of item) × (new ≡ old))
+    ⊎ ((between : Spare) × HasRoomFor (cost_of item) old between × (new.room ≡ old.room)
     × (new.items ≡ with_newest digest item between.items))
 
 -- The item that stayed may go: it is added to those, or there was no memory for that, and it is
 -- gone. Where none stayed nothing changes.
 abbrev pub LetsGo : List ℕ → Option (List ℕ) → Spare → Spare → Type 0
 LetsGo digest stayed old new = MatchOption stayed (new ≡ old)
-    (λ item. Adds digest item old new ⊎ HasRoomFor (length item) old new)
+    (λ item. Adds digest item old new ⊎ HasRoomFor (cost_of item) old new)
 
 -- the items that stay, the bytes that they may take, and the items that may go
 pub record Held : Type 0 where

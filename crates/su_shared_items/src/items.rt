@@ -1,10 +1,23 @@
 // Items, as they are held.
-ghost use Rattle.std.specs.Prelude.{◌≡◌, length, IfOk, IfErr};
+ghost use Rattle.std.specs.Prelude.{◌≡◌, IfOk, IfErr};
 ghost use Rattle.su_bytes.specs.declared.refusals.Refusal.TheVariants.{NoMemory};
+ghost use Rattle.su_shared_items.specs.Shard.{cost_of};
 
 use std::alloc::Global;
 use std::marker::Model;
 use su_bytes::Refusal;
+
+/// How many bytes of memory an item takes beside its own, for the place where it is held and what
+/// finds it.
+const ITEM_COST: usize = 128;
+
+/// Returns how many bytes an item takes, which has these.
+#[tactic(auto, unfolding(crate::specs::Shard::cost_of))]
+pub(crate) fn cost_of(item: &[u8]) -> usize
+    ensures { result ≡ cost_of item.now }
+{
+    item.len() + ITEM_COST
+}
 
 /// The bytes of an item that is held.
 #[derive(Drop)]
@@ -30,11 +43,11 @@ impl Item {
         Ok(Item { bytes })
     }
 
-    /// Returns how many bytes there are.
-    pub(crate) fn len(&self) -> usize
-        ensures { result ≡ length self.now }
+    /// Returns how many bytes it takes.
+    pub(crate) fn cost(&self) -> usize
+        ensures { result ≡ cost_of self.now }
     {
-        self.bytes.len()
+        cost_of(self.bytes.as_slice())
     }
 
     /// Copies the bytes. `NoMemory` where there is no room for them.

@@ -1,11 +1,11 @@
 // One of the shards.
-ghost use Rattle.std.specs.Prelude.{◌≡◌, ◌⊎◌, ◌<◌, ◌≤◌, ℕ, List, [], Ok, Err, Some, None, IsSome, IfOk, IfErr, OnOk, OnErr, length};
+ghost use Rattle.std.specs.Prelude.{◌≡◌, ◌⊎◌, ◌<◌, ◌≤◌, ℕ, List, [], Ok, Err, Some, None, IsSome, IfOk, IfErr, OnOk, OnErr};
 ghost use Rattle.std.specs.Map.{remove_entry};
 ghost use Rattle.std.specs.Str.{bytes_eq};
 ghost use Rattle.sha2.specs.Sha256.{sha256};
 ghost use Rattle.lru.specs.LruCache.{promoted};
 ghost use Rattle.su_bytes.specs.declared.refusals.Refusal.TheVariants.{MissingBlock, NoMemory};
-ghost use Rattle.su_shared_items.specs.Shard.{item_under, bytes_of, Holds, HoldsNone, LetsGo};
+ghost use Rattle.su_shared_items.specs.Shard.{item_under, bytes_of, cost_of, Holds, HoldsNone, LetsGo};
 
 use crate::items::Item;
 use crate::spare::SpareItems;
@@ -108,9 +108,9 @@ impl Shard {
         item: &[u8],
     ) -> Result<(), Refusal>
         requires { sha256 item.now ≡ digest.now }
-        // An item is held under the digest, unless it has more bytes than there is room for at all.
+        // An item is held under the digest, unless it takes more than there is room for at all.
         ensures held { OnOk result (Holds self.new digest.now
-            ⊎ (self.old.spare.room < length item.now)) }
+            ⊎ (self.old.spare.room < cost_of item.now)) }
         ensures staying { self.new.staying ≡ self.old.staying }
         ensures room { self.new.spare.room ≡ self.old.spare.room }
         ensures staying_room { self.new.staying_room ≡ self.old.staying_room }

@@ -1,11 +1,11 @@
 // Items that may go, since they are kept elsewhere too.
-ghost use Rattle.std.specs.Prelude.{◌≡◌, ◌≤◌, ◌∷◌, [], Some, None, IfOk, IfErr, OnOk, OnErr, IfSome, IfNone, is_some, length};
+ghost use Rattle.std.specs.Prelude.{◌≡◌, ◌≤◌, ◌∷◌, [], Some, None, IfOk, IfErr, OnOk, OnErr, IfSome, IfNone, is_some};
 ghost use Rattle.std.specs.Map.{remove_entry};
 ghost use Rattle.std.specs.Str.{bytes_eq};
 ghost use Rattle.sha2.specs.Sha256.{sha256};
 ghost use Rattle.lru.specs.LruCache.{promoted};
 ghost use Rattle.su_bytes.specs.declared.refusals.Refusal.TheVariants.{NoMemory};
-ghost use Rattle.su_shared_items.specs.Shard.{HasRoomFor, Adds, item_under};
+ghost use Rattle.su_shared_items.specs.Shard.{cost_of, HasRoomFor, Adds, item_under};
 
 use crate::items::Item;
 use lru::LruCache;
@@ -88,20 +88,20 @@ impl SpareItems {
         ensures room { self.new.room ≡ self.old.room }
     {
         let item = self.items.pop(digest.as_bytes())?;
-        self.taken -= item.len();
+        self.taken -= item.cost();
         Some(item)
     }
 
-    /// Adds an item under its digest, as the newest, unless it has more bytes than there is room
-    /// for at all. `NoMemory` where there is none to note it; then it isn't added, but those that
+    /// Adds an item under its digest, as the newest, unless it takes more than there is room for
+    /// at all. `NoMemory` where there is none to note it; then it isn't added, but those that
     /// had to go for it are gone.
     pub(crate) fn add(&mut self, digest: &Digest, item: Item) -> Result<(), Refusal>
         requires { sha256 item ≡ digest.now }
         ensures added { OnOk result (Adds digest.now item self.old self.new) }
-        ensures err { OnErr result (HasRoomFor (length item) self.old self.new) }
+        ensures err { OnErr result (HasRoomFor (cost_of item) self.old self.new) }
         ensures refused { IfErr result (λ e. e ≡ NoMemory) }
     {
-        let size = item.len();
+        let size = item.cost();
         if size > self.room {
             return Ok(());
         }
@@ -111,7 +111,7 @@ impl SpareItems {
         let older = self.items.put(*digest.as_bytes(), item)?;
         self.taken += size;
         if let Some(older) = older {
-            self.taken -= older.len();
+            self.taken -= older.cost();
         }
         Ok(())
     }
@@ -125,7 +125,7 @@ impl SpareItems {
             let Some((_, item)) = self.items.pop_lru() else {
                 unreachable!()
             };
-            self.taken -= item.len();
+            self.taken -= item.cost();
         }
     }
 }

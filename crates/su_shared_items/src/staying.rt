@@ -6,7 +6,7 @@ ghost use Rattle.sha2.specs.Sha256.{sha256};
 ghost use Rattle.su_bytes.specs.declared.refusals.Refusal.TheVariants.{NoMemory};
 ghost use Rattle.su_shared_items.specs.Shard.{item_under, bytes_of};
 
-use crate::items::Item;
+use crate::items::{Item, cost_of};
 use std::alloc::Global;
 use std::collections::BTreeMap;
 use std::marker::Model;
@@ -74,13 +74,14 @@ impl StayingItems {
         ensures refused { IfErr result (λ e. e ≡ NoMemory) }
         ensures unchanged { OnErr result (self.new ≡ self.old) }
     {
-        if item.len() > self.room - self.taken {
+        let cost = cost_of(item);
+        if cost > self.room - self.taken {
             return Err(Refusal::NoMemory);
         }
-        prove!(self.taken + item.len() <= self.room);
+        prove!(self.taken + cost <= self.room);
         let held = Item::copy_of(alloc, item)?;
         self.items.insert(*digest.as_bytes(), held)?;
-        self.taken += item.len();
+        self.taken += cost;
         Ok(())
     }
 
@@ -92,7 +93,7 @@ impl StayingItems {
         ensures room { self.new.room ≡ self.old.room }
     {
         let item = self.items.remove(digest.as_bytes())?;
-        self.taken -= item.len();
+        self.taken -= item.cost();
         Some(item)
     }
 }

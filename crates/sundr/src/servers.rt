@@ -9,7 +9,7 @@ use std::sync::Wait;
 use std::thread::Threads;
 use su_arguments::ServeArgs;
 use su_desk_script::Status;
-use su_host::Options;
+use su_host::{Options, Patience};
 
 /// Serves a shared folder, as the command line asks for it.
 /// `Fault` where a key can't be read, and where `su_host` ends with a fault, which standard error
@@ -29,7 +29,10 @@ where
     };
     let options = Options {
         address: SocketAddr::new(args.listen, args.port),
-        turn_seconds: args.turn_seconds,
+        patience: Patience {
+            turn_seconds: args.turn_seconds,
+            idle_minutes: args.idle_minutes,
+        },
         workers: args.workers,
         capacity: args.capacity,
         sessions: args.sessions,

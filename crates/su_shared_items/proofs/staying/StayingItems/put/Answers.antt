@@ -5,7 +5,7 @@ use Rattle.std.specs.BTreeMap.{is_at}
 use Rattle.std.specs.Ordering.{nat_cmp}
 use Rattle.std.specs.Cmp.Lexicographic.{slice_cmp}
 use Rattle.sha2.specs.Sha256.{sha256}
-use Rattle.su_shared_items.specs.Shard.{item_under}
+use Rattle.su_shared_items.specs.Shard.{cost_of, item_under}
 use Rattle.su_shared_items.proofs.Counting.{at_digest, counted-insert_entry, stays-insert, within_room}
 use Rattle.su_shared_items.proofs.staying.StayingItems.put.Goals as goal
 
@@ -18,9 +18,9 @@ none c =
 pub invariant_of-self-2 : goal.invariant_of-self-2
 invariant_of-self-2 c =
     let own : sha256 c.in_ok-held.held ≡ c.as_bytes.result.now = ap sha256 c.in_ok-held.ensures.bytes ∙ c.requires.own ∙ sym c.as_bytes.ensures in
-    let size : length c.in_ok-held.held ≡ length c.args.item.now = ap length c.in_ok-held.ensures.bytes in
-    let fits : c.self.inside.taken + length c.in_ok-held.held ≤ c.self.inside.room = omega (arith, size, c.if-prove.false) in
-    rw (c.in_ok-insert.ensures.entries, ← size) (counted-insert_entry c.as_bytes.result.now c.in_ok-held.held c.self.inside.items.entries c.self.inside.taken c.self.inside.room c.self.invariant own (none c) fits)
+    let size : cost_of c.in_ok-held.held ≡ cost_of c.args.item.now = ap cost_of c.in_ok-held.ensures.bytes in
+    let fits : c.self.inside.taken + cost_of c.in_ok-held.held ≤ c.self.inside.room = omega (arith, size, c.cost_of-cost.ensures, c.if-prove.false) in
+    rw (c.in_ok-insert.ensures.entries, c.cost_of-cost.ensures, ← size) (counted-insert_entry c.as_bytes.result.now c.in_ok-held.held c.self.inside.items.entries c.self.inside.taken c.self.inside.room c.self.invariant own (none c) fits)
 
 pub returns-clause-held : goal.returns-clause-held
 returns-clause-held c =
@@ -33,4 +33,4 @@ returns-clause-stays c = λ d item was.
 
 pub returns-clause-bounded : goal.returns-clause-bounded
 returns-clause-bounded c =
-    within_room c.insert.new.self.entries (c.self.inside.taken + length c.args.item.now) c.self.inside.room (invariant_of-self-2 c)
+    within_room c.insert.new.self.entries (c.self.inside.taken + c.cost_of-cost.result) c.self.inside.room (invariant_of-self-2 c)

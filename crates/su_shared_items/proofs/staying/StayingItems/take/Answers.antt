@@ -30,12 +30,12 @@ overflow_sub-self c =
     sym (at_digest c.as_bytes.result.now c.args.digest.now c.self.inside.items.entries c.as_bytes.ensures)
     ∙ sym c.remove.ensures.value ∙ c.in_ok-item.was in
     let left = counted-remove_entry (bytes_eq c.args.digest.now) c.self.inside.items.entries c.in_ok-item.item c.self.inside.taken c.self.inside.room c.self.invariant was in
-    rw c.len.ensures left.0
+    rw c.cost.ensures left.0
 
 pub invariant_of-self-2 : goal.invariant_of-self-2
 invariant_of-self-2 c =
     let left = counted-remove_entry (bytes_eq c.args.digest.now) c.self.inside.items.entries c.in_ok-item.item c.self.inside.taken c.self.inside.room c.self.invariant (found c) in
-    rw (c.remove.ensures.entries, removed_at_digest c.as_bytes.result.now c.args.digest.now c.self.inside.items.entries c.as_bytes.ensures, c.len.ensures) left.1
+    rw (c.remove.ensures.entries, removed_at_digest c.as_bytes.result.now c.args.digest.now c.self.inside.items.entries c.as_bytes.ensures, c.cost.ensures) left.1
 
 pub returns-clause-checked : goal.returns-clause-checked
 returns-clause-checked c =
