@@ -16,14 +16,14 @@ use crate::truncate::truncate;
 use crate::walks::at;
 use crate::write::write;
 use std::alloc::Global;
-use su_bytes::{FileId, Kind, Refusal, Roster, User};
+use su_bytes::{FileId, Kind, NEWEST_FORMAT, Refusal, Roster, User};
 use su_desk::TrialDesk;
 use su_op::Op;
 use su_table::Forest;
 
-/// Plans a command: returns operations by the user that carry it out, each of which is accepted
-/// after those before it. What stands ready on the desk is taken back before, and nothing is
-/// settled.
+/// Plans a command: returns operations by the user that carry it out, each of which is accepted,
+/// in the newest format, after those before it. What stands ready on the desk is taken back before,
+/// and nothing is settled.
 ///
 /// The first refusal in order: `NoUser`; `BadPath` of what is no path, or of the root where a name
 /// is needed; on the way from the root, along the old path first, `NoName` where a name is missing
@@ -40,8 +40,8 @@ pub fn plan(
         plan desk.old.settled.roster (tree_of desk.old.settled) user command.now
         ≡ Ok operations.items) }
     ensures accepted { IfOk result (λ operations.
-        first_refusal desk.old.settled.roster (tree_of desk.old.settled) user operations.items
-        ≡ None) }
+        first_refusal desk.old.settled.roster (tree_of desk.old.settled) user NEWEST_FORMAT
+        operations.items ≡ None) }
     ensures none_ready { OnOk result (desk.new ≡ nothing_ready desk.old.settled) }
     ensures refused { IfErr result (λ e.
         (e ≡ NoMemory)
