@@ -122,12 +122,7 @@ impl Desk {
 
     /// Makes a change in that format, and returns the number of its entry. A refusal, the first in
     /// order or `NoMemory`, changes nothing.
-    pub fn apply_as(
-        &mut self,
-        format: Format,
-        author: User,
-        change: Change,
-    ) -> Result<u64, Refusal>
+    pub fn apply_as(&mut self, format: Format, author: User, change: Change) -> Result<u64, Refusal>
         ensures { Answers self.old (entry_by author format change) result self.new }
     {
         match change {
