@@ -3,6 +3,7 @@ use Rattle.std.proofs.Common.{◌≡◌, ℕ, true, cond, List, [], ◌∷◌, �
 use Rattle.std.specs.Option.{option_or, unwrap_or}
 use Rattle.std.proofs.lemmas.Bool.{eq-eqb}
 use Rattle.su_bytes.specs.Membership.{Membership, has_user}
+use Rattle.su_bytes.specs.declared.formats.Format.{Format}
 use Rattle.su_bytes.specs.declared.refusals.Refusal.TheVariants.{NotAuthor}
 use Rattle.su_table.specs.Tree.{Tree, genesis}
 use Rattle.su_op.specs.Action.{Action}
@@ -54,28 +55,28 @@ last_accepted ro h T r ts t is =
     refused_by_blocker ro h T r ts [] t is ∙ ap blocked_refusal (ap (blocker ro h) (sym last) ∙ latest_free ro h)
 
 -- so can all behind a point, and then those before it are left
-record ComeBack (ro : Membership) (h : List Entry) (ts us : List NumberedAction) : Type 0 where
-  good : GoodAfter ro h (undos us)
-  left : live (h ++ undos us) ≡ ts
+record ComeBack (ro : Membership) (h : List Entry) (f : Format) (ts us : List NumberedAction) : Type 0 where
+  good : GoodAfter ro h (undos f us)
+  left : live (h ++ undos f us) ≡ ts
 
-come_back : (ro : Membership) (h : List Entry) → HasTree ro h → (ts us : List NumberedAction) → live h ≡ ts ++ us → ComeBack ro h ts us
-come_back ro h r ts [] is = record { good = tt; left = ap live (append-nil h) ∙ is ∙ append-nil ts }
-come_back ro h r ts (t ∷ us) is =
-    let e : Entry = undo_by t.action.author t.number in
-    let b = come_back ro h r (ts ++ t ∷ []) us (is ∙ sym (append_assoc ts (t ∷ []) us)) in
-    let q = good_after ro h (undos us) r b.good in
+come_back : (ro : Membership) (h : List Entry) → HasTree ro h → (f : Format) (ts us : List NumberedAction) → live h ≡ ts ++ us → ComeBack ro h f ts us
+come_back ro h r f ts [] is = record { good = tt; left = ap live (append-nil h) ∙ is ∙ append-nil ts }
+come_back ro h r f ts (t ∷ us) is =
+    let e : Entry = undo_by t.action.author f t.number in
+    let b = come_back ro h r f (ts ++ t ∷ []) us (is ∙ sym (append_assoc ts (t ∷ []) us)) in
+    let q = good_after ro h (undos f us) r b.good in
     record {
-      good = good_further_after ro h (undos us) e b.good (last_accepted ro (h ++ undos us) q.state q.replayed ts t b.left);
-      left = ap live (sym (append_assoc h (undos us) (e ∷ []))) ∙ undone_out (h ++ undos us) ts [] t t.action.author b.left ∙ append-nil ts;
+      good = good_further_after ro h (undos f us) e b.good (last_accepted ro (h ++ undos f us) q.state q.replayed ts t b.left);
+      left = ap live (sym (append_assoc h (undos f us) (e ∷ []))) ∙ undone_out (h ++ undos f us) ts [] t t.action.author f b.left ∙ append-nil ts;
     }
 
-point_tree : (ro : Membership) (h : List Entry) (ts us : List NumberedAction) → live (h ++ undos us) ≡ ts → tree ro (h ++ undos us) ≡ replay ro genesis ts
+point_tree : (ro : Membership) (h : List Entry) (f : Format) (ts us : List NumberedAction) → live (h ++ undos f us) ≡ ts → tree ro (h ++ undos f us) ≡ replay ro genesis ts
 unfolding tree
-point_tree ro h ts us left = ap (replay ro genesis) left
+point_tree ro h f ts us left = ap (replay ro genesis) left
 
-undone_tree : (ro : Membership) (h : List Entry) (before after : List NumberedAction) (t : NumberedAction) (a : ℕ) → live h ≡ before ++ t ∷ after → tree ro (h ++ undo_by a t.number ∷ []) ≡ replay ro genesis (before ++ after)
+undone_tree : (ro : Membership) (h : List Entry) (before after : List NumberedAction) (t : NumberedAction) (a : ℕ) (f : Format) → live h ≡ before ++ t ∷ after → tree ro (h ++ undo_by a f t.number ∷ []) ≡ replay ro genesis (before ++ after)
 unfolding tree
-undone_tree ro h before after t a is = ap (replay ro genesis) (undone_out h before after t a is)
+undone_tree ro h before after t a f is = ap (replay ro genesis) (undone_out h before after t a f is)
 
 -- ---- all of it
 
@@ -88,8 +89,8 @@ headline_of ro h T good is =
       as_applied = goes_in_replay ro h T r;
       rising = never_falls ro h;
       latest = latest_free ro h;
-      accepted = λ ts us whole. (come_back ro h has ts us whole).good;
-      every_point = λ ts us whole. point_tree ro h ts us (come_back ro h has ts us whole).left;
+      accepted = λ f ts us whole. (come_back ro h has f ts us whole).good;
+      every_point = λ f ts us whole. point_tree ro h f ts us (come_back ro h has f ts us whole).left;
       out = undone_out h;
       undone = undone_tree ro h;
       taken_out = can_be_taken_out ro h T r;

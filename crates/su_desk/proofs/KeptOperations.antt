@@ -3,6 +3,7 @@
 use Rattle.std.proofs.Common.{◌≡◌, ℕ, ◌+◌, true, inl, inr, List, [], ◌∷◌, ◌++◌, map, length, Option, Some, None, refl, sym, ap, ◌∙◌, subst, arith}
 use Rattle.std.specs.Option.{is_none, option_or, unwrap_or}
 use Rattle.su_bytes.specs.Membership.{Membership}
+use Rattle.su_bytes.specs.declared.formats.Format.{Format}
 use Rattle.su_bytes.specs.Place.{Place}
 use Rattle.su_node.specs.Field.{Field.KindOf, Field.BlockOf}
 use Rattle.su_table.specs.Tree.{Tree, genesis}
@@ -214,10 +215,10 @@ module _ (ro : Membership) where
   take_out_kept h S T (u ∷ before) after t [] rest k sound a in_replay leads unread = absurd a
 
 -- an operation is undone that nothing blocks: T' is the tree where what is kept of it is put back
-pub keeps_undo : (ro : Membership) (h : List Entry) (front rest : List KeptOperation) (T T' : Tree) (a n : ℕ) (k : KeptOperation) → Keeps ro h (front ++ k ∷ rest) T → k.number ≡ n → undo_refusal ro h a n ≡ None
-    → ((B : Tree) → IsPutBack k.inverse T B → T' ≡ B) → Keeps ro (h ++ undo_by a n ∷ []) (front ++ rest) T'
-keeps_undo ro h front rest T T' a n k keeps number accepted put =
-    let e : Entry = undo_by a n in
+pub keeps_undo : (ro : Membership) (h : List Entry) (front rest : List KeptOperation) (T T' : Tree) (a : ℕ) (f : Format) (n : ℕ) (k : KeptOperation) → Keeps ro h (front ++ k ∷ rest) T → k.number ≡ n → undo_refusal ro h a n ≡ None
+    → ((B : Tree) → IsPutBack k.inverse T B → T' ≡ B) → Keeps ro (h ++ undo_by a f n ∷ []) (front ++ rest) T'
+keeps_undo ro h front rest T T' a f n k keeps number accepted put =
+    let e : Entry = undo_by a f n in
     let p = part ro h (live h) front k rest (applied ro h (front ++ k ∷ rest) T keeps) in
     let q = replayed_kept ro h (front ++ k ∷ rest) T keeps in
     let named : n ≡ p.operation.number = sym number ∙ p.here.number in
@@ -225,7 +226,7 @@ keeps_undo ro h front rest T T' a n k keeps number accepted put =
     let r = take_out_kept ro h genesis T p.before p.after p.operation front rest k (first_sound ro) p.first (subst (λ ts. AllInReplay ro h genesis ts T) p.whole q.in_replay)
     (subst (λ ts. Leads ro genesis ts (front ++ k ∷ rest) T) p.whole keeps.leads) (subst (λ w. UnreadBy ro h w p.after) (sym (written_of ro h p.operation p.here.entry)) (free_unread ro h p.before p.after p.operation p.whole free)) in
     let left : live (h ++ e ∷ []) ≡ p.before ++ p.after
-    = ap (λ m. live (h ++ undo_by a m ∷ [])) named ∙ undone_out h p.before p.after p.operation a p.whole in
+    = ap (λ m. live (h ++ undo_by a f m ∷ [])) named ∙ undone_out h p.before p.after p.operation a f p.whole in
     record {
       good = good_further ro h e keeps.good accepted;
       leads = subst (λ ts. Leads ro genesis ts (front ++ rest) T') (sym left) (subst (λ B. Leads ro genesis (p.before ++ p.after) (front ++ rest) B) (sym (put r.state r.back)) r.leads);

@@ -6,6 +6,7 @@ use Rattle.std.proofs.lemmas.List.Elements.{filter-append}
 use Rattle.std.proofs.lemmas.List.Folds.{list_any-append}
 use Rattle.std.proofs.lemmas.Bool.{eq-eqb}
 use Rattle.std.proofs.Math.Bool.{or-false}
+use Rattle.su_bytes.specs.declared.formats.Format.{Format}
 use Rattle.su_op.specs.Action.{Action}
 use Rattle.su_op.specs.declared.operations.Change.{Change}
 use Rattle.su_op.specs.declared.operations.Change.TheVariants.{Do, Undo}
@@ -119,10 +120,10 @@ live-do h x new =
         ∙ ap (λ b. cond (not b) (record { number = length h + 1; action = x } ∷ []) []) new
 
 -- an undo takes the operation with that number out of the live ones
-pub live-undo : (h : List Entry) (a n : ℕ) → live (h ++ undo_by a n ∷ []) ≡ filter (λ t. not (nat_eq t.number n)) (live h)
-live-undo h a n =
-    filter_same (λ t. not (is_undone (h ++ undo_by a n ∷ []) t.number)) (λ t. not (is_undone h t.number) && not (nat_eq t.number n)) _ (λ t. ap not (is_undone-append h _ t.number) ∙ and_not (is_undone h t.number) (nat_eq t.number n))
-    ∙ filter-and (λ t. not (is_undone h t.number)) (λ t. not (nat_eq t.number n)) (operations_from 1 (h ++ undo_by a n ∷ []))
+pub live-undo : (h : List Entry) (a : ℕ) (f : Format) (n : ℕ) → live (h ++ undo_by a f n ∷ []) ≡ filter (λ t. not (nat_eq t.number n)) (live h)
+live-undo h a f n =
+    filter_same (λ t. not (is_undone (h ++ undo_by a f n ∷ []) t.number)) (λ t. not (is_undone h t.number) && not (nat_eq t.number n)) _ (λ t. ap not (is_undone-append h _ t.number) ∙ and_not (is_undone h t.number) (nat_eq t.number n))
+    ∙ filter-and (λ t. not (is_undone h t.number)) (λ t. not (nat_eq t.number n)) (operations_from 1 (h ++ undo_by a f n ∷ []))
     ∙ ap (λ ts. filter (λ (t : NumberedAction). not (nat_eq t.number n)) (filter (λ (t : NumberedAction). not (is_undone h t.number)) ts)) (operations_from-append 1 h _ ∙ append-nil (operations_from 1 h))
 
 -- ---- the numbers of live operations ascend

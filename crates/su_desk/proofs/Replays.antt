@@ -6,6 +6,7 @@ use Rattle.std.specs.List.{filter}
 use Rattle.std.proofs.lemmas.List.{map-append}
 use Rattle.std.proofs.Math.Bool.{or-false}
 use Rattle.su_bytes.specs.Membership.{Membership}
+use Rattle.su_bytes.specs.declared.formats.Format.{Format}
 use Rattle.su_table.specs.Tree.{Tree, genesis}
 use Rattle.su_op.specs.declared.areas.Area.{Area}
 use Rattle.su_op.specs.declared.operations.Change.{Change}
@@ -67,9 +68,9 @@ join ro h S R T (u ∷ before) after (s, front) rest = (s, join ro h ((store ro)
 -- ---- an operation taken out
 
 -- the undo of a live operation takes it out of the live ones, and that alone
-pub undone_out : (h : List Entry) (before after : List NumberedAction) (t : NumberedAction) (a : ℕ) → live h ≡ before ++ t ∷ after → live (h ++ undo_by a t.number ∷ []) ≡ before ++ after
-undone_out h before after t a is =
-    live-undo h a t.number
+pub undone_out : (h : List Entry) (before after : List NumberedAction) (t : NumberedAction) (a : ℕ) (f : Format) → live h ≡ before ++ t ∷ after → live (h ++ undo_by a f t.number ∷ []) ≡ before ++ after
+undone_out h before after t a f is =
+    live-undo h a f t.number
     ∙ ap (filter (λ (u : NumberedAction). not (nat_eq u.number t.number))) is
     ∙ one_taken_out 0 before after t (subst (Rising 0) is (rising_live h))
 
@@ -142,14 +143,14 @@ next_do ro h T x r ok =
       past = λ n l. is_undone-append h e n ∙ or-false (is_undone h n) ∙ r.past n (let more = length-append h (e ∷ []) in omega arith);
     }
 
-next_undo : (ro : Membership) (h : List Entry) (T : Tree) (a n : ℕ) → Replayed ro h T → live_refusal h n ≡ None → blocker ro h n ≡ None → HasTree ro (h ++ undo_by a n ∷ [])
-next_undo ro h T a n r lives free =
-    let e : Entry = undo_by a n in
+next_undo : (ro : Membership) (h : List Entry) (T : Tree) (a : ℕ) (f : Format) (n : ℕ) → Replayed ro h T → live_refusal h n ≡ None → blocker ro h n ≡ None → HasTree ro (h ++ undo_by a f n ∷ [])
+next_undo ro h T a f n r lives free =
+    let e : Entry = undo_by a f n in
     let l = live_operation (live h) n (live_number h n lives) in
     let within = entry_within h n _ (is_live h n lives).entry in
     let o = left_out ro h T l.before l.after l.operation r l.whole (ap (blocker ro h) l.number ∙ free) in
     let left : live (h ++ e ∷ []) ≡ l.before ++ l.after
-    = ap (λ m. live (h ++ undo_by a m ∷ [])) (sym l.number) ∙ undone_out h l.before l.after l.operation a l.whole in
+    = ap (λ m. live (h ++ undo_by a f m ∷ [])) (sym l.number) ∙ undone_out h l.before l.after l.operation a f l.whole in
     record {
       state = o.0;
       replayed = record {
@@ -170,7 +171,7 @@ next ro h e r = go e.change
           state = (store ro).act r.state x;
           replayed = next_do ro h r.state x r.replayed (ap is_none (ap (λ o. why ro (unwrap_or o genesis) x) (sym (tree_replayed ro h r.state r.replayed)) ∙ accepted));
         }
-    go (Undo n) accepted = let u = undo_accepted ro h e.author n accepted in next_undo ro h r.state e.author n r.replayed u.stands u.free
+    go (Undo n) accepted = let u = undo_accepted ro h e.author n accepted in next_undo ro h r.state e.author e.format n r.replayed u.stands u.free
 
 -- ---- good histories
 

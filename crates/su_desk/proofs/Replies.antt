@@ -3,6 +3,7 @@ use Rattle.std.proofs.Common.{◌⊎◌, ⊎_elim, inl, inr, Result, IsErrAnd, O
 use Rattle.std.specs.Option.{unwrap_or}
 use Rattle.std.proofs.lemmas.Option.{slice_get-get_or}
 use Rattle.su_bytes.specs.Membership.{Membership}
+use Rattle.su_bytes.specs.declared.formats.Format.{Format}
 use Rattle.su_bytes.specs.declared.refusals.Refusal.{Refusal}
 use Rattle.su_bytes.specs.declared.refusals.Refusal.TheVariants.{NoMemory}
 use Rattle.su_table.specs.Tree.{Tree, genesis}
@@ -81,9 +82,9 @@ found ro h ks k i n T keeps index here = record {
   number = ap (λ (x : KeptOperation). x.number) (sym here) ∙ index.number k;
 }
 
-pub undone_there : (ro : Membership) (h : List Entry) (ks : List KeptOperation) (k : KeptOperation) (i : ℕ) (T T' : Tree) (a n : ℕ) → Found ro h ks k i n T → undo_refusal ro h a n ≡ None
-    → ((B : Tree) → IsPutBack k.inverse T B → T' ≡ B) → Keeps ro (h ++ undo_by a n ∷ []) (take i ks ++ drop (i + 1) ks) T'
-undone_there ro h ks k i T T' a n there accepted put = keeps_undo ro h (take i ks) (drop (i + 1) ks) T T' a n k there.whole there.number accepted put
+pub undone_there : (ro : Membership) (h : List Entry) (ks : List KeptOperation) (k : KeptOperation) (i : ℕ) (T T' : Tree) (a : ℕ) (f : Format) (n : ℕ) → Found ro h ks k i n T → undo_refusal ro h a n ≡ None
+    → ((B : Tree) → IsPutBack k.inverse T B → T' ≡ B) → Keeps ro (h ++ undo_by a f n ∷ []) (take i ks ++ drop (i + 1) ks) T'
+undone_there ro h ks k i T T' a f n there accepted put = keeps_undo ro h (take i ks) (drop (i + 1) ks) T T' a f n k there.whole there.number accepted put
 
 pub undone_written : (ro : Membership) (h : List Entry) (ks : List KeptOperation) (k : KeptOperation) (i n : ℕ) (T : Tree) → Found ro h ks k i n T → k.footprint.writes.items ≡ written_by ro h n
 undone_written ro h ks k i n T there = written_there ro h (take i ks) (drop (i + 1) ks) T n k there.whole there.number

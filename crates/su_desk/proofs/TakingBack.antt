@@ -5,6 +5,7 @@ use Rattle.std.specs.Option.{is_none, unwrap_or}
 use Rattle.std.proofs.lemmas.List.{map-append}
 use Rattle.std.proofs.Math.Seq.{take-append_seam, drop-append_seam}
 use Rattle.su_bytes.specs.Membership.{Membership}
+use Rattle.su_bytes.specs.declared.formats.Format.{Format}
 use Rattle.su_node.specs.Field.{Field.BlockOf}
 use Rattle.su_table.specs.Tree.{Tree, genesis}
 use Rattle.su_table.specs.Cell.{Cell, Cell.At, val}
@@ -164,9 +165,9 @@ unfolding tree
 tree_undone ro h R before after left e = ap (replay ro genesis) left ∙ ap (replay_actions (store ro) genesis) (map-append (λ t. t.action) before after) ∙ e
 
 -- it leaves what the undone operation didn't write
-pub undo_leaves : (ro : Membership) (h : List Entry) (a n : ℕ) (c : Cell) → Good ro h → undo_refusal ro h a n ≡ None → has (written_by ro h n) c ≡ false
-    → val (tree_after ro (h ++ undo_by a n ∷ [])) c ≡ val (tree_after ro h) c
-undo_leaves ro h a n c good accepted out =
+pub undo_leaves : (ro : Membership) (h : List Entry) (a : ℕ) (f : Format) (n : ℕ) (c : Cell) → Good ro h → undo_refusal ro h a n ≡ None → has (written_by ro h n) c ≡ false
+    → val (tree_after ro (h ++ undo_by a f n ∷ [])) c ≡ val (tree_after ro h) c
+undo_leaves ro h a f n c good accepted out =
     let r = good_has_tree ro h good in
     let u = undo_accepted ro h a n accepted in
     let l = live_operation (live h) n (live_number h n u.stands) in
@@ -175,19 +176,19 @@ undo_leaves ro h a n c good accepted out =
     let goes = goes_in_replay ro h r.state r.replayed l.before l.after l.operation q.earlier l.whole q.reached in
     let wrote : (store ro).writes q.earlier l.operation.action ≡ written_by ro h n
     = goes.alike.writes ∙ written_of ro h l.operation p.here.entry ∙ ap (written_by ro h) l.number in
-    let left : live (h ++ undo_by a n ∷ []) ≡ l.before ++ l.after
-    = ap (λ m. live (h ++ undo_by a m ∷ [])) (sym l.number) ∙ undone_out h l.before l.after l.operation a l.whole in
-    let without : q.without ≡ tree_after ro (h ++ undo_by a n ∷ [])
-    = left_by ro (h ++ undo_by a n ∷ []) q.without (tree_undone ro (h ++ undo_by a n ∷ []) q.without l.before l.after left q.left) in
+    let left : live (h ++ undo_by a f n ∷ []) ≡ l.before ++ l.after
+    = ap (λ m. live (h ++ undo_by a f m ∷ [])) (sym l.number) ∙ undone_out h l.before l.after l.operation a f l.whole in
+    let without : q.without ≡ tree_after ro (h ++ undo_by a f n ∷ [])
+    = left_by ro (h ++ undo_by a f n ∷ []) q.without (tree_undone ro (h ++ undo_by a f n ∷ []) q.without l.before l.after left q.left) in
     ap (λ R. val R c) (sym without) ∙ q.others c (ap (λ w. has w c) wrote ∙ out) ∙ ap (λ R. val R c) (left_by ro h r.state (tree_replayed ro h r.state r.replayed))
 
 -- so what held the cells that it wrote puts the tree before the undo back
-pub held_puts_back : (ro : Membership) (h : List Entry) (a n : ℕ) (i : Inverse) → Good ro h → undo_refusal ro h a n ≡ None
+pub held_puts_back : (ro : Membership) (h : List Entry) (a : ℕ) (f : Format) (n : ℕ) (i : Inverse) → Good ro h → undo_refusal ro h a n ≡ None
     → ((c : Cell) → has (written_by ro h n) c ≡ true → has (inverse_areas i) c ≡ true) → IsKeptOf i (tree_after ro h)
-    → IsPutBack i (tree_after ro (h ++ undo_by a n ∷ [])) (tree_after ro h)
-held_puts_back ro h a n i good accepted covers kept = record {
+    → IsPutBack i (tree_after ro (h ++ undo_by a f n ∷ [])) (tree_after ro h)
+held_puts_back ro h a f n i good accepted covers kept = record {
   kept = kept;
-  others = λ c out. undo_leaves ro h a n c good accepted (outside (has (written_by ro h n) c) c refl out);
+  others = λ c out. undo_leaves ro h a f n c good accepted (outside (has (written_by ro h n) c) c refl out);
 }
   where
     outside : (b : Bool) (c : Cell) → has (written_by ro h n) c ≡ b → has (inverse_areas i) c ≡ false → has (written_by ro h n) c ≡ false
@@ -253,15 +254,15 @@ module _ (ro : Membership) where
     pub within : i ≤ length ks
     pub keeps : Keeps ro h (insert ks i k) (tree_after ro h)
 
-  undo_put_again : (h : List Entry) (a n i : ℕ) (k : KeptOperation) (ks : List KeptOperation) (T : Tree) → Keeps ro (h ++ undo_by a n ∷ []) ks T → IsKeptAt ro h n i k → PutAgain h ks i k
-  undo_put_again h a n i k ks T keeps at =
-      let both = (good_exact ro h (undo_by a n)).0 keeps.good in
+  undo_put_again : (h : List Entry) (a : ℕ) (f : Format) (n i : ℕ) (k : KeptOperation) (ks : List KeptOperation) (T : Tree) → Keeps ro (h ++ undo_by a f n ∷ []) ks T → IsKeptAt ro h n i k → PutAgain h ks i k
+  undo_put_again h a f n i k ks T keeps at =
+      let both = (good_exact ro h (undo_by a f n)).0 keeps.good in
       let r = good_has_tree ro h both.0 in
       let ended : r.state ≡ tree_after ro h = left_by ro h r.state (tree_replayed ro h r.state r.replayed) in
       let x = at.operation.action in
       let free : blocker ro h at.operation.number ≡ None = ap (blocker ro h) at.number ∙ (undo_accepted ro h a n both.1).free in
-      let left : live (h ++ undo_by a n ∷ []) ≡ at.before ++ at.after
-      = ap (λ m. live (h ++ undo_by a m ∷ [])) (sym at.number) ∙ undone_out h at.before at.after at.operation a at.whole in
+      let left : live (h ++ undo_by a f n ∷ []) ≡ at.before ++ at.after
+      = ap (λ m. live (h ++ undo_by a f m ∷ [])) (sym at.number) ∙ undone_out h at.before at.after at.operation a f at.whole in
       let l = led_apart genesis T at.before at.after ks (subst (λ ts. Leads ro genesis ts ks T) left keeps.leads) in
       let p = split_live ro h r.state at.before at.after at.operation r.replayed at.whole in
       let here : at.earlier ≡ p.earlier = one_tree (replay ro genesis at.before) at.earlier p.earlier at.reached (replay_reached ro h genesis p.earlier at.before p.front) in
@@ -284,4 +285,4 @@ module _ (ro : Membership) where
       }
 
   pub put_again : (h : List Entry) (e : Entry) (n i : ℕ) (k : KeptOperation) (ks : List KeptOperation) (T : Tree) → e.change ≡ Undo n → Keeps ro (h ++ e ∷ []) ks T → IsKeptAt ro h n i k → PutAgain h ks i k
-  put_again h e n i k ks T is keeps = undo_put_again h e.author n i k ks T (subst (λ c. Keeps ro (h ++ record e { change = c } ∷ []) ks T) is keeps)
+  put_again h e n i k ks T is keeps = undo_put_again h e.author e.format n i k ks T (subst (λ c. Keeps ro (h ++ record e { change = c } ∷ []) ks T) is keeps)

@@ -1,6 +1,7 @@
 -- A desk: its roster and its history.
 use Rattle.std.specs.Prelude.{◌≡◌, ℕ, ◌⊎◌, List, [], ◌∷◌, ◌++◌, Result, Ok, Err}
 use Rattle.su_bytes.specs.Membership.{Membership}
+use Rattle.su_bytes.specs.declared.formats.TheConstants.{NEWEST_FORMAT}
 use Rattle.su_bytes.specs.declared.refusals.Refusal.{Refusal}
 use Rattle.su_bytes.specs.declared.refusals.Refusal.TheVariants.{NoMemory}
 use Rattle.su_op.specs.declared.operations.Change.{Change}
@@ -30,10 +31,11 @@ abbrev pub result_of : DeskReply → Result ℕ Refusal
 result_of (Done n) = Ok n
 result_of (Refused r) = Err r
 
--- the replies to changes by users, each made after those before it
+-- the replies to changes by users, each made after those before it, in the newest format
 abbrev pub Runs : DeskState → List (ℕ × Change) → List DeskReply → DeskState → Type 0
 Runs d [] [] d' = d' ≡ d
 Runs d (c ∷ cs) (r ∷ rs) d' =
-    (mid : DeskState) × Answers d (entry_by c.0 c.1) (result_of r) mid × Runs mid cs rs d'
+    (mid : DeskState) × Answers d (entry_by c.0 NEWEST_FORMAT c.1) (result_of r) mid
+    × Runs mid cs rs d'
 Runs d [] (r ∷ rs) d' = ⊥
 Runs d (c ∷ cs) [] d' = ⊥

@@ -1,6 +1,7 @@
 -- What the desk is for, in one place: of a roster, a history and the tree of a desk.
 use Rattle.std.specs.Prelude.{◌≡◌, ◌↔◌, ℕ, ◌≤◌, List, [], ◌∷◌, ◌++◌, None, Some, All}
 use Rattle.su_bytes.specs.Membership.{Membership}
+use Rattle.su_bytes.specs.declared.formats.Format.{Format}
 use Rattle.su_bytes.specs.declared.principals.Principal.{Principal}
 use Rattle.su_table.specs.Tree.{Tree, genesis}
 use Rattle.su_op.specs.Store.{store}
@@ -24,19 +25,21 @@ pub record Headline (ro : Membership) (h : List Entry) (T : Tree) : Type 0 where
   pub rising : (e : Entry) (p : Principal) → version ro h p ≤ version ro (h ++ e ∷ []) p
   -- the latest operation that wasn't undone is never blocked
   pub latest : blocker ro h (last_live h) ≡ None
-  -- undone from the last on, each by its author, live operations are never blocked or refused
-  pub accepted : (ts us : List NumberedAction) → live h ≡ ts ++ us → GoodAfter ro h (undos us)
+  -- undone from the last on, each by its author, in whichever format, live operations are never
+  -- blocked or refused
+  pub accepted : (f : Format) (ts us : List NumberedAction) → live h ≡ ts ++ us
+      → GoodAfter ro h (undos f us)
   -- and the tree comes by every earlier point: after the undos of the last ones it is the replay of
   -- those before them
-  pub every_point : (ts us : List NumberedAction) → live h ≡ ts ++ us
-      → tree ro (h ++ undos us) ≡ replay ro genesis ts
-  -- an undo takes its operation out of the live ones, and that alone, so that the tree is the replay
-  -- of the others
-  pub out : (before after : List NumberedAction) (t : NumberedAction) (a : ℕ)
-      → live h ≡ before ++ t ∷ after → live (h ++ undo_by a t.number ∷ []) ≡ before ++ after
-  pub undone : (before after : List NumberedAction) (t : NumberedAction) (a : ℕ)
+  pub every_point : (f : Format) (ts us : List NumberedAction) → live h ≡ ts ++ us
+      → tree ro (h ++ undos f us) ≡ replay ro genesis ts
+  -- an undo, in whichever format, takes its operation out of the live ones, and that alone, so that
+  -- the tree is the replay of the others
+  pub out : (before after : List NumberedAction) (t : NumberedAction) (a : ℕ) (f : Format)
+      → live h ≡ before ++ t ∷ after → live (h ++ undo_by a f t.number ∷ []) ≡ before ++ after
+  pub undone : (before after : List NumberedAction) (t : NumberedAction) (a : ℕ) (f : Format)
       → live h ≡ before ++ t ∷ after
-      → tree ro (h ++ undo_by a t.number ∷ []) ≡ replay ro genesis (before ++ after)
+      → tree ro (h ++ undo_by a f t.number ∷ []) ≡ replay ro genesis (before ++ after)
   -- where nothing blocks its undo, the later operations go alike without it, and that replay is a
   -- tree that holds in the cells that it wrote what stood there before it, and in all others what T
   -- holds

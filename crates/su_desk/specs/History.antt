@@ -4,6 +4,7 @@ use Rattle.std.specs.Prelude.{ℕ, ◌+◌, ◌-◌, Bool, false, not, cond, Lis
 use Rattle.std.specs.List.{filter, list_any}
 use Rattle.std.specs.Option.{option_or, unwrap_or}
 use Rattle.su_bytes.specs.Membership.{Membership}
+use Rattle.su_bytes.specs.declared.formats.Format.{Format}
 use Rattle.su_table.specs.Tree.{Tree, genesis}
 use Rattle.su_op.specs.declared.operations.Op.{Op}
 use Rattle.su_op.specs.declared.operations.Change.{Change}
@@ -22,21 +23,21 @@ pub record NumberedAction : Type 0 where
 abbrev pub actions : List NumberedAction → List Action
 actions ts = map (λ t. t.action) ts
 
--- the entry of a change by user a
-abbrev pub entry_by : ℕ → Change → Entry
-entry_by a c = record { author = a; change = c }
+-- the entry of a change by user a, made in format f
+abbrev pub entry_by : ℕ → Format → Change → Entry
+entry_by a f c = record { author = a; format = f; change = c }
 
 -- the entry that does an action
 abbrev pub entry_doing : Action → Entry
-entry_doing x = entry_by x.author (Do x.op)
+entry_doing x = entry_by x.author x.format (Do x.op)
 
--- the entry of the undo of n by user a
-abbrev pub undo_by : ℕ → ℕ → Entry
-undo_by a n = entry_by a (Undo n)
+-- the entry of the undo of n by user a, made in format f
+abbrev pub undo_by : ℕ → Format → ℕ → Entry
+undo_by a f n = entry_by a f (Undo n)
 
 -- the action of an entry that does that operation
 abbrev pub action_of : Entry → Op → Action
-action_of e op = action_by e.author op
+action_of e op = action_by e.author e.format op
 
 -- the operation of entry n, whose change is given, if that is one
 abbrev pub operation_by_change : ℕ → Entry → Change → List NumberedAction
@@ -100,7 +101,7 @@ last_number (t ∷ ts) = option_or (last_number ts) (Some t.number)
 abbrev pub last_live : List Entry → ℕ
 last_live h = unwrap_or (last_number (live h)) 0
 
--- the undos of operations from the last to the first, each by its author
-abbrev pub undos : List NumberedAction → List Entry
-undos [] = []
-undos (t ∷ ts) = undos ts ++ undo_by t.action.author t.number ∷ []
+-- the undos of operations from the last to the first, each by its author, all made in format f
+abbrev pub undos : Format → List NumberedAction → List Entry
+undos f [] = []
+undos f (t ∷ ts) = undos f ts ++ undo_by t.action.author f t.number ∷ []

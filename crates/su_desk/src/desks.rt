@@ -17,7 +17,7 @@ use crate::kept::{KeptOperation, blocker_at, live_index, undo_index};
 use crate::versions::{first_versions, raise};
 use std::alloc::Global;
 use std::marker::Model;
-use su_bytes::{Principal, Refusal, Roster, User};
+use su_bytes::{Format, NEWEST_FORMAT, Principal, Refusal, Roster, User};
 use su_inverse::build;
 use su_op::{Change, Op};
 use su_table::Forest;
@@ -112,28 +112,38 @@ impl Desk {
         Ok(blocker_at(&self.kept, index))
     }
 
-    /// Makes a change, and returns the number of its entry. A refusal, the first in order or
-    /// `NoMemory`, changes nothing.
+    /// Makes a change in the newest format, and returns the number of its entry. A refusal, the
+    /// first in order or `NoMemory`, changes nothing.
     pub fn apply(&mut self, author: User, change: Change) -> Result<u64, Refusal>
-        ensures { Answers self.old (entry_by author change) result self.new }
+        ensures { Answers self.old (entry_by author NEWEST_FORMAT change) result self.new }
+    {
+        self.apply_as(NEWEST_FORMAT, author, change)
+    }
+
+    /// Makes a change in that format, and returns the number of its entry. A refusal, the first in
+    /// order or `NoMemory`, changes nothing.
+    pub fn apply_as(&mut self, format: Format, author: User, change: Change) -> Result<u64, Refusal>
+        ensures { Answers self.old (entry_by author format change) result self.new }
     {
         match change {
-            Change::Do(op) => self.operate(author, op),
-            Change::Undo(number) => self.undo(author, number),
+            Change::Do(op) => self.operate(format, author, op),
+            Change::Undo(number) => self.undo(format, author, number),
         }
     }
 
-    /// Undoes the last live operation. Fails with `NoOperation` of 0 where there is none.
+    /// Undoes the last live operation, in the newest format. Fails with `NoOperation` of 0 where
+    /// there is none.
     pub fn undo_last(&mut self, author: User) -> Result<u64, Refusal>
-        ensures { Answers self.old (undo_by author (last_live self.old.history)) result self.new }
+        ensures { Answers self.old (undo_by author NEWEST_FORMAT (last_live self.old.history))
+            result self.new }
     {
         let number = self.last();
-        self.undo(author, number)
+        self.undo(NEWEST_FORMAT, author, number)
     }
 
-    /// Makes the changes one after another, and returns a reply to each. Fails only with
-    /// `NoMemory`, where there is no room for the replies, and then nothing is changed; want of
-    /// memory for a single change is the reply to it.
+    /// Makes the changes one after another in the newest format, and returns a reply to each. Fails
+    /// only with `NoMemory`, where there is no room for the replies, and then nothing is changed;
+    /// want of memory for a single change is the reply to it.
     pub fn run(&mut self, changes: &[(User, Change)]) -> Result<Vec<DeskReply>, Refusal>
         ensures replies { IfOk result (λ r. Runs self.old changes.now r.items self.new) }
         ensures refused { IfErr result (λ e. e ≡ NoMemory) }
@@ -157,12 +167,12 @@ impl Desk {
         }
     }
 
-    /// Does an operation, and adds it to the history.
-    fn operate(&mut self, author: User, op: Op) -> Result<u64, Refusal>
-        ensures { Answers self.old (entry_by author (Do op)) result self.new }
+    /// Does an operation in that format, and adds it to the history.
+    fn operate(&mut self, format: Format, author: User, op: Op) -> Result<u64, Refusal>
+        ensures { Answers self.old (entry_by author format (Do op)) result self.new }
     {
         // no `?`, for the prover (docs/ARCHITECTURE.md, "Forms the kit wants")
-        let accepted = match op.check(&self.forest, &self.roster, author) {
+        let accepted = match op.check(&self.forest, &self.roster, author, format) {
             Ok(accepted) => accepted,
             Err(refusal) => return Err(refusal),
         };
@@ -173,7 +183,11 @@ impl Desk {
         accepted.perform(self.alloc, &mut self.forest)?;
         raise(&mut self.counters, author, footprint.writes.as_slice());
         let change = Change::Do(op);
-        self.entries.push_reserved(Entry { author, change });
+        self.entries.push_reserved(Entry {
+            author,
+            format,
+            change,
+        });
         let number = self.entries.len() as u64;
         self.kept.push_reserved(KeptOperation {
             number,
@@ -183,20 +197,26 @@ impl Desk {
         Ok(number)
     }
 
-    /// Undoes an operation, and adds that to the history.
-    fn undo(&mut self, author: User, number: u64) -> Result<u64, Refusal>
-        ensures { Answers self.old (undo_by author number) result self.new }
+    /// Undoes an operation in that format, and adds that to the history.
+    fn undo(&mut self, format: Format, author: User, number: u64) -> Result<u64, Refusal>
+        ensures { Answers self.old (undo_by author format number) result self.new }
     {
-        self.take_out(author, number)?;
+        self.take_out(format, author, number)?;
         Ok(self.entries.len() as u64)
     }
 
-    /// Undoes an operation, adds that to the history, and returns at which index what was kept of
-    /// the operation stood, and what that was. A refusal changes nothing.
-    fn take_out(&mut self, author: User, number: u64) -> Result<(usize, KeptOperation), Refusal>
+    /// Undoes an operation in that format, adds that to the history, and returns at which index
+    /// what was kept of the operation stood, and what that was. A refusal changes nothing.
+    fn take_out(
+        &mut self,
+        format: Format,
+        author: User,
+        number: u64,
+    ) -> Result<(usize, KeptOperation), Refusal>
         ensures accepted { OnOk result
             (undo_refusal self.old.roster self.old.history author number ≡ None) }
-        ensures done { OnOk result (self.new ≡ with_entry self.old (undo_by author number)) }
+        ensures done { OnOk result
+            (self.new ≡ with_entry self.old (undo_by author format number)) }
         ensures kept { IfOk result (λ out.
             IsKeptAt self.old.roster self.old.history number out.0 out.1) }
         ensures refused { IfErr result (λ e.
@@ -210,14 +230,18 @@ impl Desk {
         let undone = self.kept.remove(index);
         raise(&mut self.counters, author, &undone.footprint.writes);
         let change = Change::Undo(number);
-        self.entries.push_reserved(Entry { author, change });
+        self.entries.push_reserved(Entry {
+            author,
+            format,
+            change,
+        });
         Ok((index, undone))
     }
 
-    /// Makes one of several changes, and returns the reply to it.
+    /// Makes one of several changes in the newest format, and returns the reply to it.
     fn reply(&mut self, change: &(User, Change)) -> DeskReply
-        ensures { Answers self.old (entry_by change.now.0 change.now.1) (result_of result)
-            self.new }
+        ensures { Answers self.old (entry_by change.now.0 NEWEST_FORMAT change.now.1)
+            (result_of result) self.new }
     {
         let Ok(copy) = change.1.clone() else {
             return DeskReply::Refused(Refusal::NoMemory);

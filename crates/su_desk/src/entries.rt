@@ -2,13 +2,14 @@
 ghost use Rattle.std.specs.Prelude.{◌≡◌, option_copied};
 ghost use Rattle.su_desk.specs.History.{entry_at, undoer};
 
-use su_bytes::{Refusal, User};
+use su_bytes::{Format, Refusal, User};
 use su_op::Change;
 
-/// An entry of the history: who made which change.
+/// An entry of the history: who made which change, and in which format.
 #[derive(Debug, Drop)]
 pub struct Entry {
     pub author: User,
+    pub format: Format,
     pub change: Change,
 }
 

@@ -3,6 +3,7 @@ ghost use Rattle.std.specs.Prelude.{◌≡◌, ◌≤◌, ◌+◌, ◌↔◌, �
 ghost use Rattle.std.specs.List.{filter, list_any};
 ghost use Rattle.std.specs.List.Sorted.{IsStrictlyIncreasing};
 ghost use Rattle.su_bytes.specs.Membership.{Membership, IsRoster, has_number};
+ghost use Rattle.su_bytes.specs.declared.formats.Format.{Format};
 ghost use Rattle.su_bytes.specs.declared.principals.Principal.{Principal};
 ghost use Rattle.su_bytes.specs.declared.principals.Principal.TheVariants.{User};
 ghost use Rattle.su_op.specs.declared.areas.Area.{Area};
@@ -56,8 +57,8 @@ pub fn one_entry_more()
     ensures effect { (ro : Membership) (h : List Entry) (x : Action) → Good ro h
         → why ro (tree_after ro h) x ≡ None
         → tree ro (h ++ entry_doing x ∷ []) ≡ Some (effect ro (tree_after ro h) x) }
-    ensures undone { (h : List Entry) (a n : ℕ)
-        → live (h ++ undo_by a n ∷ [])
+    ensures undone { (h : List Entry) (a : ℕ) (f : Format) (n : ℕ)
+        → live (h ++ undo_by a f n ∷ [])
         ≡ filter (λ (t : NumberedAction). not (nat_eq t.number n)) (live h) }
     ensures good { (ro : Membership) (h : List Entry) (e : Entry)
         → Good ro (h ++ e ∷ []) ↔ (Good ro h × (refusal_of ro h e ≡ None)) }

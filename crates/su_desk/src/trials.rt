@@ -14,7 +14,7 @@ use crate::desks::Desk;
 use crate::prepared::{Prepared, Tried};
 use std::alloc::Global;
 use std::marker::Model;
-use su_bytes::{FileId, Principal, Refusal, Roster, User};
+use su_bytes::{FileId, Format, NEWEST_FORMAT, Principal, Refusal, Roster, User};
 use su_op::Change;
 use su_table::Forest;
 
@@ -74,24 +74,49 @@ impl TrialDesk {
         }
     }
 
-    /// Makes a change on trial, and tells what then holds. What stood ready is taken back before,
-    /// and stays so where the change is refused: by the first refusal in order, or `NoMemory`.
+    /// Makes a change in the newest format on trial, and tells what then holds. What stood ready is
+    /// taken back before, and stays so where the change is refused: by the first refusal in order,
+    /// or `NoMemory`.
     pub fn prepare(&mut self, author: User, change: Change) -> Result<Prepared, Refusal>
         ensures accepted { IfOk result (λ prepared.
-            answer self.old.settled.roster self.old.settled.history (entry_by author change)
-            ≡ Ok prepared.number) }
-        ensures told { IfOk result (Tells self.old.settled (entry_by author change)) }
+            answer self.old.settled.roster self.old.settled.history
+            (entry_by author NEWEST_FORMAT change) ≡ Ok prepared.number) }
+        ensures told { IfOk result (Tells self.old.settled (entry_by author NEWEST_FORMAT change)) }
         ensures ready { OnOk result
-            (self.new ≡ ready_with self.old.settled (entry_by author change)) }
+            (self.new ≡ ready_with self.old.settled (entry_by author NEWEST_FORMAT change)) }
         ensures refused { IfErr result (λ e.
             (e ≡ NoMemory)
-            ⊎ (answer self.old.settled.roster self.old.settled.history (entry_by author change)
-            ≡ Err e)) }
+            ⊎ (answer self.old.settled.roster self.old.settled.history
+            (entry_by author NEWEST_FORMAT change) ≡ Err e)) }
+        ensures err { OnErr result (self.new.settled ≡ self.old.settled) }
+    {
+        self.prepare_as(NEWEST_FORMAT, author, change)
+    }
+
+    /// Makes a change in that format on trial, and tells what then holds. What stood ready is taken
+    /// back before, and stays so where the change is refused: by the first refusal in order, or
+    /// `NoMemory`.
+    pub fn prepare_as(
+        &mut self,
+        format: Format,
+        author: User,
+        change: Change,
+    ) -> Result<Prepared, Refusal>
+        ensures accepted { IfOk result (λ prepared.
+            answer self.old.settled.roster self.old.settled.history
+            (entry_by author format change) ≡ Ok prepared.number) }
+        ensures told { IfOk result (Tells self.old.settled (entry_by author format change)) }
+        ensures ready { OnOk result
+            (self.new ≡ ready_with self.old.settled (entry_by author format change)) }
+        ensures refused { IfErr result (λ e.
+            (e ≡ NoMemory)
+            ⊎ (answer self.old.settled.roster self.old.settled.history
+            (entry_by author format change) ≡ Err e)) }
         ensures err { OnErr result (self.new.settled ≡ self.old.settled) }
     {
         self.take_back()?;
         self.tried.reserve(1)?;
-        let tried = self.desk.attempt(author, change)?;
+        let tried = self.desk.attempt(format, author, change)?;
         let prepared = self.desk.tell(author, &tried);
         self.tried.push_reserved(tried);
         prepared
@@ -108,10 +133,11 @@ impl TrialDesk {
         prepared.number
     }
 
-    /// Makes a change for good: prepares it, and settles it. What stood ready is taken back before;
-    /// a refusal, the first in order or `NoMemory`, changes nothing that is settled.
+    /// Makes a change in the newest format for good: prepares it, and settles it. What stood ready
+    /// is taken back before; a refusal, the first in order or `NoMemory`, changes nothing that is
+    /// settled.
     pub fn apply(&mut self, author: User, change: Change) -> Result<u64, Refusal>
-        ensures answered { Answers self.old.settled (entry_by author change) result
+        ensures answered { Answers self.old.settled (entry_by author NEWEST_FORMAT change) result
             self.new.settled }
         ensures none_ready { OnOk result (self.new.ready ≡ []) }
     {

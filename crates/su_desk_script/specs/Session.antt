@@ -6,6 +6,7 @@ use Rattle.std.specs.Cmp.Lexicographic.{pointwise}
 use Rattle.su_bytes.specs.Membership.{Membership}
 use Rattle.su_bytes.specs.Principal.{principals}
 use Rattle.su_bytes.specs.declared.file_ids.FileId.{FileId}
+use Rattle.su_bytes.specs.declared.formats.TheConstants.{NEWEST_FORMAT}
 use Rattle.su_bytes.specs.declared.refusals.Refusal.{Refusal}
 use Rattle.su_bytes.specs.declared.refusals.Refusal.TheVariants.{NoMemory, NoFile, WrongKind}
 use Rattle.su_node.specs.Inode.{Inode}
@@ -66,14 +67,16 @@ same_text (Some kept) now =
 abbrev pub IsText : List ℕ → List ℕ → Type 0
 IsText text out = (out ≡ text) ⊎ (out ≡ refused_text NoMemory)
 
--- What a command prints, whose words are all within their ranges, and what the desk and the mark are
--- then. A question and a mark may be refused for want of memory.
+-- What a command prints, whose words are all within their ranges, and what the desk and the mark
+-- are then. Changes are made in the newest format. A question and a mark may be refused for want of
+-- memory.
 abbrev pub Does : SessionState → Command → List ℕ → SessionState → Type 0
 Does s (Apply a c) out s' =
-    (r : Result ℕ Refusal) × Answers s.desk (entry_by a c) r s'.desk
+    (r : Result ℕ Refusal) × Answers s.desk (entry_by a NEWEST_FORMAT c) r s'.desk
     × (s'.mark ≡ s.mark) × (out ≡ answer_text r)
 Does s (UndoLast a) out s' =
-    (r : Result ℕ Refusal) × Answers s.desk (undo_by a (last_live s.desk.history)) r s'.desk
+    (r : Result ℕ Refusal)
+    × Answers s.desk (undo_by a NEWEST_FORMAT (last_live s.desk.history)) r s'.desk
     × (s'.mark ≡ s.mark) × (out ≡ answer_text r)
 Does s (Ask q) out s' = IsText (question_text (desk_tree s.desk) q) out × (s' ≡ s)
 Does s Versions out s' =

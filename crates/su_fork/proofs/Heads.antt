@@ -6,13 +6,13 @@ use Rattle.su_bytes.specs.Membership.{Membership}
 use Rattle.su_bytes.specs.RosterBytes.{roster_bytes, roster_digest}
 use Rattle.su_change.specs.Item.{item_bytes, change_digest}
 use Rattle.su_version.specs.Commit.{Commit, commit_bytes, commit_digest}
-use Rattle.su_version.proofs.Public.{next_prev}
+use Rattle.su_version.proofs.Public.{roster_is_no_commit, next_prev}
 use Rattle.su_legal.specs.Legal.{Committed, head_of, MayJoin, Legal}
 use Rattle.su_legal.proofs.Public.{from_the_end, is_in_middle, legal_front, legal_next, head_none, head_last}
 use Rattle.su_fork.specs.Numbered.{at}
 use Rattle.su_fork.specs.Premises.{NoCollision}
 use Rattle.su_fork.proofs.Places.{split, Ends, last_of}
-use Rattle.su_fork.proofs.Spelling.{commit_told, change_told, roster_is_no_commit}
+use Rattle.su_fork.proofs.Spelling.{commit_told, change_told}
 
 -- a commit and the list before it
 pub record Placed (ro : Membership) (before : List Committed) (c : Committed) : Type 0 where

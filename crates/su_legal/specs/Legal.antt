@@ -29,7 +29,7 @@ commits_of cs = map (λ c. c.commit) cs
 
 -- the entry that a commit makes of a change
 abbrev pub entry_made : Commit → Change → Entry
-entry_made c change = entry_by c.version.author change
+entry_made c change = entry_by c.version.author c.version.format change
 
 -- the entry of a commit with its change
 abbrev pub entry_of : Committed → Entry

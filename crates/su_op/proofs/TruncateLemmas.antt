@@ -1,5 +1,6 @@
 -- A truncate depends on the cells that it reads, and its edit can be made.
 use Rattle.std.proofs.Common.{ℕ, ◌∷◌, sym, ap, ◌∙◌, subst}
+use Rattle.su_bytes.specs.declared.formats.Format.{Format}
 use Rattle.su_bytes.specs.Membership.{Membership}
 use Rattle.su_node.specs.Field.{Field.SizeOf}
 use Rattle.su_table.specs.Tree.{Tree}
@@ -20,20 +21,20 @@ use Rattle.su_op.specs.Truncate.{TruncateRow}
 use Rattle.std.proofs.Common.{max, nat_eq}
 use Rattle.su_op.proofs.RuleLemmas.{Admissible, OfEachPlan, PlanMakesNew, of_given}
 
-module _ (ro : Membership) (a : ℕ) (t : Truncate) where
-  truncate_local : (T T' : Tree) (p : Plan) → Gives (truncate_rule ro T a t) p → AgreeOn (plan_reads p) T T' → Gives (truncate_rule ro T' a t) p
+module _ (ro : Membership) (a : ℕ) (format : Format) (t : Truncate) where
+  truncate_local : (T T' : Tree) (p : Plan) → Gives (truncate_rule ro T a format t) p → AgreeOn (plan_reads p) T T' → Gives (truncate_rule ro T' a format t) p
   truncate_local T T' p (touch, (f, at, (is, (holder, (fits, plan))))) agree =
       let all : AgreeOn (plan_reads (truncate_plan (value_number (val T (At f SizeOf))) t f)) T T' = subst (λ p. AgreeOn (plan_reads p) T T') (sym plan) agree in
       let reads : AgreeOn (InodeArea f SizePart ∷ file_areas t.file f) T T' = left (InodeArea f SizePart ∷ file_areas t.file f) _ all in
       let reads_f : AgreeOn (file_areas t.file f) T T' = later reads in
       (touch, (f, body_same t.file f at reads_f, (ap is_file_kind (kind_same reads_f) ∙ is, (holder, (fits, ap (λ v. truncate_plan (value_number v) t f) (size_same reads) ∙ plan)))))
 
-  truncate_can : (T : Tree) (p : Plan) → Gives (truncate_rule ro T a t) p → CanEdits T p.edits
+  truncate_can : (T : Tree) (p : Plan) → Gives (truncate_rule ro T a format t) p → CanEdits T p.edits
   truncate_can T p (touch, (f, at, (is, (holder, (fits, plan))))) =
       subst (λ (p : Plan). CanEdits T p.edits) plan (((IsA_file T f is, size_is T f is), tt), tt)
 
-truncate_new : (ro : Membership) (T : Tree) (a : ℕ) (t : Truncate) → OfEachPlan (PlanMakesNew T) (truncate_rule ro T a t)
-truncate_new ro T a t = λ f. tt
+truncate_new : (ro : Membership) (T : Tree) (a : ℕ) (format : Format) (t : Truncate) → OfEachPlan (PlanMakesNew T) (truncate_rule ro T a format t)
+truncate_new ro T a format t = λ f. tt
 
 truncate_row : (t : Truncate) → TruncateRow t
 truncate_row t s f = record { reads = refl; writes = go (nat_eq s t.size) }
@@ -43,10 +44,10 @@ truncate_row t s f = record { reads = refl; writes = go (nat_eq s t.size) }
     go true = refl
     go false = refl
 
-pub truncate_admissible : (t : Truncate) → Admissible (λ ro T x. truncate_rule ro T x.author t) (TruncateRow t)
+pub truncate_admissible : (t : Truncate) → Admissible (λ ro T x. truncate_rule ro T x.author x.format t) (TruncateRow t)
 truncate_admissible t = record {
-  local = λ ro x T T' p sound. truncate_local ro x.author t T T' p;
-  can = λ ro x T p sound. truncate_can ro x.author t T p;
-  new = λ ro x T p. of_given (PlanMakesNew T) (truncate_rule ro T x.author t) p (truncate_new ro T x.author t);
+  local = λ ro x T T' p sound. truncate_local ro x.author x.format t T T' p;
+  can = λ ro x T p sound. truncate_can ro x.author x.format t T p;
+  new = λ ro x T p. of_given (PlanMakesNew T) (truncate_rule ro T x.author x.format t) p (truncate_new ro T x.author x.format t);
   row = truncate_row t;
 }

@@ -24,8 +24,8 @@ use Rattle.su_op.specs.Rename.{rename_rule, accepted_rename_plan, RenameRow}
 abbrev pub rule_by_user : Membership → Tree → Action → Op → Rule
 rule_by_user ro T x (Create c) = create_rule ro T x.author c
 rule_by_user ro T x (Unlink u) = unlink_rule ro T x.author u
-rule_by_user ro T x (Write w) = write_rule ro T x.author w
-rule_by_user ro T x (Truncate t) = truncate_rule ro T x.author t
+rule_by_user ro T x (Write w) = write_rule ro T x.author x.format w
+rule_by_user ro T x (Truncate t) = truncate_rule ro T x.author x.format t
 rule_by_user ro T x (Take t) = take_rule ro T x.author t
 rule_by_user ro T x (Link l) = link_rule ro T x.author l
 rule_by_user ro T x (Rename r) = rename_rule ro T x.author r

@@ -1,7 +1,7 @@
 -- A truncate by user a: a file is cut to a size, or has zeros behind it up to that size.
 use Rattle.std.specs.Prelude.{◌≡◌, ℕ, [], ◌∷◌, min, max, nat_eq, nat_le, if◌then◌else◌}
 use Rattle.su_bytes.specs.declared.refusals.Refusal.TheVariants.{NotMember, NoFile, WrongKind, NotHolder, TooBig}
-use Rattle.su_bytes.specs.declared.formats.Format.TheVariants.{V1}
+use Rattle.su_bytes.specs.declared.formats.Format.{Format}
 use Rattle.su_bytes.specs.Membership.{Membership}
 use Rattle.su_node.specs.InodeChange.{InodeChange.Resized}
 use Rattle.su_bytes.specs.Place.{Place}
@@ -21,14 +21,14 @@ truncate_plan size t f = record {
   edits = Inodes f (Resized size t.size) ∷ [];
 }
 
--- the checks in their order
-abbrev pub truncate_rule : Membership → Tree → ℕ → Truncate → Rule
-truncate_rule ro T a t =
+-- the checks in their order, of a truncate in that format
+abbrev pub truncate_rule : Membership → Tree → ℕ → Format → Truncate → Rule
+truncate_rule ro T a format t =
     Demand (may_touch ro a t.file) (NotMember (group_of t.file))
     (Find (body T t.file) (NoFile t.file) (λ f.
     Demand (is_file_at T f) (WrongKind t.file)
     (Demand (nat_eq f.0 a) (NotHolder f.0)
-    (Demand (nat_le t.size (largest_file V1)) TooBig
+    (Demand (nat_le t.size (largest_file format)) TooBig
     (Accept (truncate_plan (size_at T f) t f))))))
 
 -- ---- what it does once it is accepted

@@ -2,7 +2,7 @@
 -- zeros.
 use Rattle.std.specs.Prelude.{◌≡◌, ℕ, ◌+◌, ◌&&◌, [], ◌∷◌, length, min, nat_eq, nat_le, if◌then◌else◌}
 use Rattle.su_bytes.specs.declared.refusals.Refusal.TheVariants.{BadNumber, NotMember, NoFile, WrongKind, NotHolder, TooBig}
-use Rattle.su_bytes.specs.declared.formats.Format.TheVariants.{V1}
+use Rattle.su_bytes.specs.declared.formats.Format.{Format}
 use Rattle.su_bytes.specs.Membership.{Membership}
 use Rattle.su_node.specs.InodeChange.{InodeChange.Written}
 use Rattle.su_bytes.specs.Place.{Place}
@@ -22,15 +22,15 @@ write_plan size w f = record {
   edits = Inodes f (Written size w.off w.bytes) ∷ [];
 }
 
--- the checks in their order
-abbrev pub write_rule : Membership → Tree → ℕ → Writing → Rule
-write_rule ro T a w =
+-- the checks in their order, of a write in that format
+abbrev pub write_rule : Membership → Tree → ℕ → Format → Writing → Rule
+write_rule ro T a format w =
     Demand (nat_le 1 (length w.bytes) && nat_le (length w.bytes) largest_write) BadNumber
     (Demand (may_touch ro a w.file) (NotMember (group_of w.file))
     (Find (body T w.file) (NoFile w.file) (λ f.
     Demand (is_file_at T f) (WrongKind w.file)
     (Demand (nat_eq f.0 a) (NotHolder f.0)
-    (Demand (nat_le (w.off + length w.bytes) (largest_file V1)) TooBig
+    (Demand (nat_le (w.off + length w.bytes) (largest_file format)) TooBig
     (Accept (write_plan (size_at T f) w f)))))))
 
 -- ---- what it does once it is accepted

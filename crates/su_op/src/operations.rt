@@ -16,7 +16,7 @@ use crate::truncate::{AcceptedTruncate, Truncate};
 use crate::unlink::{AcceptedUnlink, Unlink};
 use crate::write::{AcceptedWrite, Write};
 use std::alloc::Global;
-use su_bytes::{Refusal, Roster, User};
+use su_bytes::{Format, Refusal, Roster, User};
 use su_table::Forest;
 
 /// An operation on the tree.
@@ -53,30 +53,31 @@ pub enum Change {
 
 impl Op {
     #[tactic(auto, unfolding(crate::specs::Operation::why, crate::specs::Operation::effect, crate::specs::Operation::reads, crate::specs::Operation::writes))]
-    /// Checks whether the operation by that author is accepted. The error is the first refusal.
-    /// Takes no memory.
+    /// Checks whether the operation by that author, made in that format, is accepted. The error is
+    /// the first refusal. Takes no memory.
     pub fn check(
         &self,
         forest: &Forest,
         roster: &Roster,
         author: User,
+        format: Format,
     ) -> Result<Accepted<'_>, Refusal>
         ensures accepted { OnOk result
-            (why roster.now forest.now (action_by author self.now) ≡ None) }
+            (why roster.now forest.now (action_by author format self.now) ≡ None) }
         ensures fits { IfOk result (λ x. StillFits forest.now x) }
 
         // What the accepted operation does is what the operation does.
         ensures effect { IfOk result (λ x.
-            effect roster.now forest.now (action_by author self.now)
+            effect roster.now forest.now (action_by author format self.now)
             ≡ edits forest.now (accepted_plan forest.now x).edits) }
         ensures reads { IfOk result (λ x.
-            reads roster.now forest.now (action_by author self.now)
+            reads roster.now forest.now (action_by author format self.now)
             ≡ plan_reads (accepted_plan forest.now x)) }
         ensures writes { IfOk result (λ x.
-            writes roster.now forest.now (action_by author self.now)
+            writes roster.now forest.now (action_by author format self.now)
             ≡ plan_writes (accepted_plan forest.now x)) }
         ensures refused { IfErr result (λ e.
-            why roster.now forest.now (action_by author self.now) ≡ Some e) }
+            why roster.now forest.now (action_by author format self.now) ≡ Some e) }
     {
         if !roster.has_user(author) {
             return Err(Refusal::NoUser(author));
@@ -84,8 +85,8 @@ impl Op {
         match self {
             Op::Create(create) => create.check(forest, roster, author),
             Op::Unlink(unlink) => unlink.check(forest, roster, author),
-            Op::Write(write) => write.check(forest, roster, author),
-            Op::Truncate(truncate) => truncate.check(forest, roster, author),
+            Op::Write(write) => write.check(forest, roster, author, format),
+            Op::Truncate(truncate) => truncate.check(forest, roster, author, format),
             Op::Take(take) => take.check(forest, roster, author),
             Op::Link(link) => link.check(forest, roster, author),
             Op::Rename(rename) => rename.check(forest, roster, author),
@@ -137,48 +138,52 @@ impl Accepted<'_> {
     }
 }
 
-/// Performs an operation of that author. A refusal, the first in order or `NoMemory`, changes
-/// nothing.
+/// Performs an operation of that author, made in that format. A refusal, the first in order or
+/// `NoMemory`, changes nothing.
 pub fn apply(
     alloc: Global,
     forest: &mut Forest,
     roster: &Roster,
     author: User,
+    format: Format,
     op: &Op,
 ) -> Result<(), Refusal>
-    ensures accepted { OnOk result (why roster.now forest.old (action_by author op.now) ≡ None) }
+    ensures accepted { OnOk result
+        (why roster.now forest.old (action_by author format op.now) ≡ None) }
     ensures done { OnOk result
-        (forest.new ≡ effect roster.now forest.old (action_by author op.now)) }
+        (forest.new ≡ effect roster.now forest.old (action_by author format op.now)) }
     ensures refused { IfErr result (λ e.
-        (e ≡ NoMemory) ⊎ (why roster.now forest.old (action_by author op.now) ≡ Some e)) }
+        (e ≡ NoMemory) ⊎ (why roster.now forest.old (action_by author format op.now) ≡ Some e)) }
     ensures err { OnErr result (forest.new ≡ forest.old) }
 {
     // no `?`, for the prover (docs/ARCHITECTURE.md, "Forms the kit wants")
-    match op.check(forest, roster, author) {
+    match op.check(forest, roster, author, format) {
         Ok(accepted) => accepted.perform(alloc, forest),
         Err(refusal) => Err(refusal),
     }
 }
 
-/// Returns the cells that an operation of that author reads, and those that it writes. Refused as
-/// `apply` is.
+/// Returns the cells that an operation of that author, made in that format, reads, and those that
+/// it writes. Refused as `apply` is.
 pub fn footprint(
     alloc: Global,
     forest: &Forest,
     roster: &Roster,
     author: User,
+    format: Format,
     op: &Op,
 ) -> Result<Footprint, Refusal>
-    ensures accepted { OnOk result (why roster.now forest.now (action_by author op.now) ≡ None) }
+    ensures accepted { OnOk result
+        (why roster.now forest.now (action_by author format op.now) ≡ None) }
     ensures reads { IfOk result (λ footprint.
-        footprint.reads.items ≡ reads roster.now forest.now (action_by author op.now)) }
+        footprint.reads.items ≡ reads roster.now forest.now (action_by author format op.now)) }
     ensures writes { IfOk result (λ footprint.
-        footprint.writes.items ≡ writes roster.now forest.now (action_by author op.now)) }
+        footprint.writes.items ≡ writes roster.now forest.now (action_by author format op.now)) }
     ensures refused { IfErr result (λ e.
-        (e ≡ NoMemory) ⊎ (why roster.now forest.now (action_by author op.now) ≡ Some e)) }
+        (e ≡ NoMemory) ⊎ (why roster.now forest.now (action_by author format op.now) ≡ Some e)) }
 {
     // no `?`, for the prover (docs/ARCHITECTURE.md, "Forms the kit wants")
-    match op.check(forest, roster, author) {
+    match op.check(forest, roster, author, format) {
         Ok(accepted) => accepted.footprint(alloc),
         Err(refusal) => Err(refusal),
     }

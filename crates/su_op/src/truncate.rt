@@ -33,21 +33,23 @@ pub struct AcceptedTruncate<'a> {
 }
 
 impl Truncate {
-    /// Checks whether the author may truncate the file. The error is the first refusal.
+    /// Checks whether the author may truncate the file, in that format. The error is the first
+    /// refusal.
     pub(crate) fn check(
         &self,
         forest: &Forest,
         roster: &Roster,
         author: User,
+        format: Format,
     ) -> Result<Accepted<'_>, Refusal>
         ensures accepted { OnOk result
-            (refusal (truncate_rule roster.now forest.now author self.now) ≡ None) }
+            (refusal (truncate_rule roster.now forest.now author format self.now) ≡ None) }
         ensures plan { IfOk result (λ x.
-            plan_of (truncate_rule roster.now forest.now author self.now)
+            plan_of (truncate_rule roster.now forest.now author format self.now)
             ≡ accepted_plan forest.now x) }
         ensures fits { IfOk result (λ x. StillFits forest.now x) }
         ensures refused { IfErr result (λ e.
-            refusal (truncate_rule roster.now forest.now author self.now) ≡ Some e) }
+            refusal (truncate_rule roster.now forest.now author format self.now) ≡ Some e) }
     {
         if let Some(group) = closed_group(roster, author, self.file) {
             return Err(Refusal::NotMember(group));
@@ -61,7 +63,7 @@ impl Truncate {
         if place.0 != author {
             return Err(Refusal::NotHolder(place.0));
         }
-        if largest_file(Format::V1) < self.size {
+        if largest_file(format) < self.size {
             return Err(Refusal::TooBig);
         }
         Ok(Accepted::Truncate(AcceptedTruncate {

@@ -1,7 +1,5 @@
 // Bytes are written to a file.
-ghost use Rattle.std.specs.Prelude.{◌≡◌, ◌+◌, ◌≤◌, length, Some, None, IfOk, IfErr, OnOk, OnErr};
-ghost use Rattle.su_bytes.specs.declared.formats.Format.TheVariants.{V1};
-ghost use Rattle.su_op.specs.Limits.{largest_file};
+ghost use Rattle.std.specs.Prelude.{◌≡◌, ◌+◌, ◌<◌, ◌^◌, length, Some, None, IfOk, IfErr, OnOk, OnErr};
 ghost use Rattle.su_bytes.specs.declared.refusals.Refusal.TheVariants.{NoMemory};
 
 use crate::access::closed_group;
@@ -52,7 +50,7 @@ pub struct AcceptedWrite<'a> {
     pub(crate) place: Place,
     /// How many bytes the file has.
     pub(crate) size: u32,
-    ghost ends_in_file: { write.now.off + length write.now.bytes ≤ largest_file V1 },
+    ghost ends_in_range: { write.now.off + length write.now.bytes < 2 ^ 32 },
 }
 
 impl Write {
@@ -60,21 +58,23 @@ impl Write {
     ghost use Rattle.su_op.specs.Operation.{accepted_plan, StillFits};
     ghost use Rattle.su_op.specs.Rule.{refusal, plan_of};
 
-    /// Checks whether the author may write to the file. The error is the first refusal.
+    /// Checks whether the author may write to the file, in that format. The error is the first
+    /// refusal.
     pub(crate) fn check(
         &self,
         forest: &Forest,
         roster: &Roster,
         author: User,
+        format: Format,
     ) -> Result<Accepted<'_>, Refusal>
         ensures accepted { OnOk result
-            (refusal (write_rule roster.now forest.now author self.now) ≡ None) }
+            (refusal (write_rule roster.now forest.now author format self.now) ≡ None) }
         ensures plan { IfOk result (λ x.
-            plan_of (write_rule roster.now forest.now author self.now)
+            plan_of (write_rule roster.now forest.now author format self.now)
             ≡ accepted_plan forest.now x) }
         ensures fits { IfOk result (λ x. StillFits forest.now x) }
         ensures refused { IfErr result (λ e.
-            refusal (write_rule roster.now forest.now author self.now) ≡ Some e) }
+            refusal (write_rule roster.now forest.now author format self.now) ≡ Some e) }
     {
         let count = self.bytes.len();
         if count < 1 || LARGEST_WRITE < count {
@@ -92,7 +92,7 @@ impl Write {
         if place.0 != author {
             return Err(Refusal::NotHolder(place.0));
         }
-        if (largest_file(Format::V1) as usize) < self.off as usize + count {
+        if (largest_file(format) as usize) < self.off as usize + count {
             return Err(Refusal::TooBig);
         }
         Ok(Accepted::Write(AcceptedWrite {

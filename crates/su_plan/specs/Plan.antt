@@ -1,5 +1,6 @@
 -- The plan of a command: the operations that carry it out, all of them accepted in turn.
 use Rattle.std.specs.Prelude.{ℕ, List, Option, Some, None, Result, Ok, Err}
+use Rattle.su_bytes.specs.declared.formats.TheConstants.{NEWEST_FORMAT}
 use Rattle.su_bytes.specs.declared.refusals.Refusal.{Refusal}
 use Rattle.su_bytes.specs.Membership.{Membership}
 use Rattle.su_table.specs.Tree.{Tree}
@@ -14,9 +15,9 @@ abbrev pub unless_refused : List Op → Option Refusal → Result (List Op) Refu
 unless_refused ops None = Ok ops
 unless_refused ops (Some e) = Err e
 
--- The plan of a command by user a: its draft, where each of these operations is accepted after
--- those before it; else the first refusal that they meet.
+-- The plan of a command by user a: its draft, where each of these operations, made in the newest
+-- format, is accepted after those before it; else the first refusal that they meet.
 unfoldable pub plan : Membership → Tree → ℕ → Command → Result (List Op) Refusal
 plan ro T a command = do
   ops ← draft ro T a command
-  unless_refused ops (first_refusal ro T a ops)
+  unless_refused ops (first_refusal ro T a NEWEST_FORMAT ops)

@@ -7,14 +7,14 @@ ghost use Rattle.su_draft.specs.Walk.{found};
 ghost use Rattle.su_plan.specs.Plan.{plan};
 
 use std::alloc::Global;
-use su_bytes::{FileId, Refusal, User};
+use su_bytes::{FileId, NEWEST_FORMAT, Refusal, User};
 use su_desk::TrialDesk;
 use su_draft::Command;
 use su_op::Op;
 
-/// Plans a command: returns operations by the user that carry it out, each of which is accepted
-/// after those before it. What stands ready on the desk is taken back before, and nothing is
-/// settled.
+/// Plans a command: returns operations by the user that carry it out, each of which is accepted,
+/// in the newest format, after those before it. What stands ready on the desk is taken back before,
+/// and nothing is settled.
 ///
 /// The first refusal in order: those of `Command::draft`; then the first refusal that the operations
 /// meet. Or `NoMemory`.
@@ -29,8 +29,8 @@ pub fn plan(
         plan desk.old.settled.roster (tree_of desk.old.settled) user command.now
         ≡ Ok operations.items) }
     ensures accepted { IfOk result (λ operations.
-        first_refusal desk.old.settled.roster (tree_of desk.old.settled) user operations.items
-        ≡ None) }
+        first_refusal desk.old.settled.roster (tree_of desk.old.settled) user NEWEST_FORMAT
+        operations.items ≡ None) }
     ensures none_ready { OnOk result (desk.new ≡ nothing_ready desk.old.settled) }
     ensures refused { IfErr result (λ e.
         (e ≡ NoMemory)

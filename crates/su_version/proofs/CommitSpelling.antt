@@ -1,10 +1,13 @@
 -- Commits are spelled part by part.
-use Rattle.std.proofs.Common.{◌≤◌, length, refl, arith}
+use Rattle.std.proofs.Common.{◌≡◌, ◌≤◌, ℕ, length, get_or, refl, ap, ◌∙◌, arith}
+use Rattle.su_bytes.specs.Membership.{Membership}
+use Rattle.su_bytes.specs.RosterBytes.{roster_bytes}
 use Rattle.su_format.specs.Format.{IsLawful, IsFormatOf}
 use Rattle.su_format.specs.Part.{u32_bytes}
 use Rattle.su_format.proofs.Public.{Makes, said_as, last_of, in_order_of, told_by, format_of, part_makes, part_lawful, u32_told, bytes_of}
-use Rattle.su_version.specs.Commit.{IsCommit, commit_bytes, signature_size_part, commit_format}
-use Rattle.su_version.proofs.Spelling.{version_makes}
+use Rattle.su_version.specs.Version.{version_bytes}
+use Rattle.su_version.specs.Commit.{Commit, IsCommit, commit_bytes, signature_size_part, commit_format}
+use Rattle.su_version.proofs.Spelling.{second_byte, version_makes}
 
 signature_size_of : Makes signature_size_part (λ n. n) (λ n. (1 ≤ n) × (n ≤ 9324)) u32_bytes
 unfolding signature_size_part
@@ -25,3 +28,9 @@ commit_of = format_of commit_makes
 
 pub commit_lawful : IsLawful commit_format
 commit_lawful = commit_makes.lawful
+
+-- no roster is spelled as a commit is
+pub roster_is_no_commit : (ro : Membership) (c : Commit) → roster_bytes ro ≡ commit_bytes c → ⊥
+unfolding roster_bytes version_bytes commit_bytes
+roster_is_no_commit ro c e =
+    let second : ◌≡◌ {A = ℕ} 82 86 = ap (λ l. get_or l 1 0) e ∙ second_byte c.version.format _ _ in omega arith

@@ -1,6 +1,6 @@
 -- The lemmas that proofs of other crates may cite.
 pub use Rattle.su_version.proofs.Spelling.{version_of, version_lawful}
-pub use Rattle.su_version.proofs.CommitSpelling.{commit_of, commit_lawful}
+pub use Rattle.su_version.proofs.CommitSpelling.{commit_of, commit_lawful, roster_is_no_commit}
 pub use Rattle.su_version.proofs.Chaining.{group_listed}
 pub use Rattle.su_version.proofs.Counting.{length-chain_vector}
 pub use Rattle.su_version.proofs.Leaves.{above_all, leaf_further, next_leaf}

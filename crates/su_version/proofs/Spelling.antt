@@ -1,12 +1,13 @@
 -- Version structures are spelled part by part.
-use Rattle.std.proofs.Common.{◌≡◌, ◌<◌, ◌≤◌, ◌+◌, ◌^◌, ℕ, true, List, [], ◌∷◌, length, refl}
+use Rattle.std.proofs.Common.{◌≡◌, ◌<◌, ◌≤◌, ◌+◌, ◌^◌, ℕ, true, List, [], ◌∷◌, ◌++◌, length, get_or, refl, sym, ap}
 use Rattle.std.specs.List.{flat_map, AllByRecursion}
+use Rattle.su_bytes.specs.declared.formats.Format.{Format as CommitFormat}
 use Rattle.su_bytes.specs.declared.formats.Format.TheVariants.{V1}
 use Rattle.su_bytes.specs.Principal.{is_group}
-use Rattle.su_format.specs.Format.{IsLawful, EachFrom, IsFormatOf}
+use Rattle.su_format.specs.Format.{part, IsLawful, EachFrom, IsFormatOf}
 use Rattle.su_format.specs.Part.{u8_bytes, u64_bytes}
-use Rattle.su_format.proofs.Public.{Makes, said_as, known_as, last_of, in_order_of, behind_mark, counted, format_of, part_makes, part_lawful, u8_of, u64_of, user_of, digest_of}
-use Rattle.su_version.specs.Version.{IsCarried, AreCarried, IsVersion, group_bytes, first_bytes, body_bytes, version_bytes, group_above, carried_format, groups_format, vector_size_part, number_format, vector_format, body_format, version_format}
+use Rattle.su_format.proofs.Public.{Makes, said_as, known_as, last_of, in_order_of, told_by, counted, format_of, part_makes, part_lawful, u8_of, u64_of, user_of, digest_of}
+use Rattle.su_version.specs.Version.{IsCarried, AreCarried, IsVersion, group_bytes, first_bytes, body_bytes, version_bytes, AnyFormat, format_part, group_above, carried_format, groups_format, vector_size_part, number_format, vector_format, body_format, version_format}
 
 -- ---- groups
 
@@ -50,32 +51,58 @@ vector_of =
 
 -- ---- version structures
 
-pub body_of : Makes body_format (λ v. v) IsVersion body_bytes
+-- the first bytes tell the format
+format_told : (f g : CommitFormat) (rest behind : List ℕ) → AnyFormat f → AnyFormat g → first_bytes f ++ rest ≡ first_bytes g ++ behind → (f ≡ g) × (rest ≡ behind)
+format_told V1 V1 rest behind _ _ e = (refl, cc)
+
+pub first_bytes_lawful : IsLawful (part AnyFormat first_bytes)
+first_bytes_lawful = part_lawful AnyFormat first_bytes format_told
+
+-- there are four of them
+pub length-first_bytes : (f : CommitFormat) → length (first_bytes f) ≡ 4
+length-first_bytes V1 = refl
+
+-- the second isn't that of a roster
+pub second_byte : (f : CommitFormat) (body behind : List ℕ) → get_or ((first_bytes f ++ body) ++ behind) 1 0 ≡ 86
+second_byte V1 body behind = refl
+
+first_bytes_of : Makes format_part (λ f. f) AnyFormat first_bytes
+unfolding format_part
+first_bytes_of = part_makes first_bytes_lawful
+
+pub body_of : (f : CommitFormat) → Makes (body_format f) (λ v. v) (λ v. (v.format ≡ f) × IsVersion v) body_bytes
 unfolding body_format body_bytes
-body_of =
+body_of f =
     said_as (in_order_of user_of (λ author. in_order_of digest_of (λ prev. in_order_of digest_of (λ change. in_order_of digest_of (λ handle. in_order_of groups_of (λ groups. last_of vector_of _))))))
-    (λ p. record { author = p.0; prev = p.1.0; change = p.1.1.0; handle = p.1.1.1.0; groups = p.1.1.1.1.0; vector = p.1.1.1.1.1 })
+    (λ p. record { format = f; author = p.0; prev = p.1.0; change = p.1.1.0; handle = p.1.1.1.0; groups = p.1.1.1.1.0; vector = p.1.1.1.1.1 })
     (λ v. (v.author, (v.prev, (v.change, (v.handle, (v.groups, v.vector))))))
     (λ p is. (
-      record {
-        author = is.0;
-        prev = is.1.0;
-        change = is.1.1.0;
-        handle = is.1.1.1.0;
-        group_count = is.1.1.1.1.0.0;
-        groups = is.1.1.1.1.0.1;
-        some_numbers = is.1.1.1.1.1.0.0;
-        few_numbers = is.1.1.1.1.1.0.1;
-        numbers = is.1.1.1.1.1.1;
-      },
+      (
+        refl,
+        record {
+          author = is.0;
+          prev = is.1.0;
+          change = is.1.1.0;
+          handle = is.1.1.1.0;
+          group_count = is.1.1.1.1.0.0;
+          groups = is.1.1.1.1.0.1;
+          some_numbers = is.1.1.1.1.1.0.0;
+          few_numbers = is.1.1.1.1.1.0.1;
+          numbers = is.1.1.1.1.1.1;
+        },
+      ),
       refl,
       refl,
     ))
-    (λ v is. ((is.author, (is.prev, (is.change, (is.handle, ((is.group_count, is.groups), ((is.some_numbers, is.few_numbers), is.numbers)))))), refl, refl))
+    (λ v is. let of = is.1 in (
+      (of.author, (of.prev, (of.change, (of.handle, ((of.group_count, of.groups), ((of.some_numbers, of.few_numbers), of.numbers)))))),
+      ap (λ x. record v { format = x }) (sym is.0),
+      refl,
+    ))
 
 pub version_makes : Makes version_format (λ v. v) IsVersion version_bytes
 unfolding version_format version_bytes
-version_makes = behind_mark (first_bytes V1) body_of
+version_makes = known_as (told_by (λ v. v.format) first_bytes_of body_of (λ f v is. is.0)) (λ v is. is.1.1) (λ v is. (tt, (refl, is)))
 
 pub version_of : IsFormatOf version_format IsVersion version_bytes
 version_of = format_of version_makes

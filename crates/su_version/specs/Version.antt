@@ -6,11 +6,13 @@ use Rattle.su_bytes.specs.declared.formats.Format.{Format as CommitFormat}
 use Rattle.su_bytes.specs.declared.formats.Format.TheVariants.{V1}
 use Rattle.su_bytes.specs.Principal.{is_user, is_group}
 use Rattle.su_format.specs.Format.{Format, part, making, ◌>>=◌, repeated, EachFrom}
-use Rattle.su_format.specs.Part.{u8_bytes, u64_bytes, u8_part, u64_part, mark_part, user_part, digest_part}
+use Rattle.su_format.specs.Part.{u8_bytes, u64_bytes, u8_part, u64_part, user_part, digest_part}
 
--- what a user signs: whose it is, the digest of the commit before, the digest of the change, the
--- author's i-handle after it, the groups that it carries with their i-handles, and the vector
+-- what a user signs: its format, whose it is, the digest of the commit before, the digest of the
+-- change, the author's i-handle after it, the groups that it carries with their i-handles, and the
+-- vector
 pub record Version : Type 0 where
+  pub format : CommitFormat
   pub author : ℕ
   pub prev : List ℕ
   pub change : List ℕ
@@ -59,9 +61,16 @@ body_bytes v =
 
 -- the bytes that are signed
 unfoldable pub version_bytes : Version → List ℕ
-version_bytes v = first_bytes V1 ++ body_bytes v
+version_bytes v = first_bytes v.format ++ body_bytes v
 
 -- ---- its parts
+
+abbrev pub AnyFormat : CommitFormat → Type 0
+AnyFormat _ = Unit {0}
+
+-- the format that the first bytes name
+unfoldable pub format_part : Format CommitFormat
+format_part = part AnyFormat first_bytes
 
 -- a group of at least this number, and then a digest
 unfoldable pub group_above : ℕ → Format ℕ
@@ -89,9 +98,9 @@ vector_format = do
   size ← vector_size_part
   repeated number_format (λ _. 0) size 0
 
--- what stands behind the first bytes
-unfoldable pub body_format : Format Version
-body_format = do
+-- what stands behind the first bytes of a version structure in that format
+unfoldable pub body_format : CommitFormat → Format Version
+body_format format = do
   author ← user_part
   prev ← digest_part
   change ← digest_part
@@ -99,6 +108,7 @@ body_format = do
   groups ← groups_format
   vector ← vector_format
   making (record {
+    format = format;
     author = author;
     prev = prev;
     change = change;
@@ -110,5 +120,5 @@ body_format = do
 -- the first bytes, and the rest
 unfoldable pub version_format : Format Version
 version_format = do
-  mark ← mark_part (first_bytes V1)
-  body_format
+  format ← format_part
+  body_format format

@@ -10,4 +10,4 @@ mod versions;
 pub use chains::{Tip, Verdict};
 pub use commits::{Commit, LONGEST_SIGNATURE};
 pub use laws::{leaves_rise, no_spelling_begins_another};
-pub use versions::VersionStructure;
+pub use versions::{VersionStructure, format_of};

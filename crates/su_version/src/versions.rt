@@ -1,9 +1,10 @@
 // Version structures.
-ghost use Rattle.std.specs.Prelude.{◌≡◌, ◌≤◌, ◌<◌, ◌↔◌, ◌⊎◌, IsTrue, ◌++◌, ◌∷◌, [], ℕ, length, true, Ok, Err, IfOk, IfErr, OnOk, OnErr};
+ghost use Rattle.std.specs.Prelude.{◌≡◌, ◌≤◌, ◌<◌, ◌↔◌, ◌⊎◌, IsTrue, ◌++◌, ◌∷◌, [], ℕ, length, true, Ok, Err, IfOk, IfErr, IfSome, IfNone, OnOk};
 ghost use Rattle.std.specs.List.{flat_map};
 ghost use Rattle.su_format.specs.Reading.{Took, Refuses, Takes, Decodes};
 ghost use Rattle.su_format.specs.Part.{u8_bytes, u64_bytes};
-ghost use Rattle.su_version.specs.Version.{Version as VersionParts, IsVersion, first_bytes, body_bytes, version_bytes, group_bytes, group_above, carried_format, groups_format, vector_size_part, vector_format, body_format, version_format};
+ghost use Rattle.su_version.specs.Version.{Version as VersionParts, IsVersion, first_bytes, body_bytes, version_bytes, format_part, group_bytes, group_above, carried_format, groups_format, vector_size_part, vector_format, body_format, version_format};
+ghost use Rattle.su_bytes.specs.declared.formats.Format.{Format as CommitFormat};
 ghost use Rattle.su_bytes.specs.declared.refusals.Refusal.TheVariants.{NoMemory};
 
 use std::alloc::{AllocError, Global};
@@ -21,11 +22,23 @@ fn first_bytes(format: Format) -> &'static [u8]
     }
 }
 
-/// What a user signs for a change: whose it is, the digest of the commit before, the digest of the
-/// change, the author's i-handle after it, the groups whose tables it writes with their i-handles,
-/// and the version vector.
+/// Returns the format of version structures that begin with these four bytes, if there is one.
+pub fn format_of(bytes: &[u8]) -> Option<Format>
+    ensures found { IfSome result (λ format. first_bytes format ≡ bytes.now) }
+    ensures none { IfNone result ((format : CommitFormat) → first_bytes format ≡ bytes.now → ⊥) }
+{
+    if bytes == first_bytes(Format::V1) {
+        return Some(Format::V1);
+    }
+    None
+}
+
+/// What a user signs for a change: its format, whose it is, the digest of the commit before, the
+/// digest of the change, the author's i-handle after it, the groups whose tables it writes with
+/// their i-handles, and the version vector.
 #[derive(Drop)]
 pub struct VersionStructure {
+    format: Format,
     author: User,
     prev: Digest,
     change: Digest,
@@ -40,6 +53,7 @@ impl Model for VersionStructure {
     ghost Value = { Version };
 
     ghost view = { λ v. record {
+      format = v.format;
       author = v.author;
       prev = v.prev;
       change = v.change;
@@ -49,6 +63,7 @@ impl Model for VersionStructure {
     } };
 
     ghost invariant = { λ v. IsVersion (record {
+      format = v.format;
       author = v.author;
       prev = v.prev;
       change = v.change;
@@ -61,6 +76,7 @@ impl Model for VersionStructure {
 impl VersionStructure {
     /// Makes a version structure of these parts. The groups ascend; the vector has 2 to 80 numbers.
     pub fn new(
+        format: Format,
         author: User,
         prev: Digest,
         change: Digest,
@@ -69,6 +85,7 @@ impl VersionStructure {
         vector: Vector,
     ) -> VersionStructure
         requires { IsVersion (record {
+          format = format;
           author = author;
           prev = prev;
           change = change;
@@ -77,6 +94,7 @@ impl VersionStructure {
           vector = vector;
         }) }
         ensures { result ≡ record {
+          format = format;
           author = author;
           prev = prev;
           change = change;
@@ -86,6 +104,7 @@ impl VersionStructure {
         } }
     {
         VersionStructure {
+            format,
             author,
             prev,
             change,
@@ -93,6 +112,13 @@ impl VersionStructure {
             groups,
             vector,
         }
+    }
+
+    /// Returns the format.
+    pub fn format(&self) -> Format
+        ensures { result ≡ self.now.format }
+    {
+        self.format
     }
 
     /// Returns the author.
@@ -161,7 +187,7 @@ impl VersionStructure {
     pub(crate) fn write(&self, writer: &mut Writer) -> Result<(), AllocError>
         ensures { OnOk result (writer.new ≡ writer.old ++ version_bytes self.now) }
     {
-        writer.put_bytes(first_bytes(Format::V1))?;
+        writer.put_bytes(first_bytes(self.format))?;
         self.write_body(writer)
     }
 
@@ -201,13 +227,17 @@ impl VersionStructure {
     {
         // names the type for the prover (docs/ARCHITECTURE.md, "Forms the kit wants")
         let _file: Option<FileId> = None;
-        reader.take_mark(first_bytes(Format::V1))?;
-        VersionStructure::read_body(alloc, reader)
+        let format = read_format(reader)?;
+        VersionStructure::read_body(alloc, reader, format)
     }
 
-    // Reads what stands behind the first bytes.
-    fn read_body(alloc: Global, reader: &mut Reader<'_>) -> Result<VersionStructure, Refusal>
-        ensures { Takes body_format reader.old result reader.new }
+    // Reads what stands behind the first bytes of a version structure in that format.
+    fn read_body(
+        alloc: Global,
+        reader: &mut Reader<'_>,
+        format: Format,
+    ) -> Result<VersionStructure, Refusal>
+        ensures { Takes (body_format format) reader.old result reader.new }
     {
         // names the type for the prover (docs/ARCHITECTURE.md, "Forms the kit wants")
         let _file: Option<FileId> = None;
@@ -218,6 +248,7 @@ impl VersionStructure {
         let groups = read_groups(alloc, reader)?;
         let vector = read_vector(alloc, reader)?;
         Ok(VersionStructure {
+            format,
             author,
             prev,
             change,
@@ -261,6 +292,20 @@ fn write_vector(writer: &mut Writer, numbers: &[u64]) -> Result<(), AllocError>
         writer.put_u64(*number)?;
     }
     Ok(())
+}
+
+// The format that the first bytes name.
+fn read_format(reader: &mut Reader<'_>) -> Result<Format, Refusal>
+    ensures { Takes format_part reader.old result reader.new }
+{
+    let malformed = Refusal::Malformed(reader.place());
+    let Ok(bytes) = reader.take_bytes(4) else {
+        return Err(malformed);
+    };
+    let Some(format) = format_of(bytes) else {
+        return Err(malformed);
+    };
+    Ok(format)
 }
 
 // A group that is not below this number.

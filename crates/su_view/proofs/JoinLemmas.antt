@@ -4,6 +4,7 @@ use Rattle.std.specs.List.Sorted.{IsStrictlyIncreasing}
 use Rattle.sha2.specs.Sha256.{sha256}
 use Rattle.su_bytes.specs.Membership.{Membership}
 use Rattle.su_bytes.specs.Order.{RefusedBy}
+use Rattle.su_bytes.specs.declared.formats.Format.{Format}
 use Rattle.su_bytes.specs.declared.refusals.Refusal.{Refusal}
 use Rattle.su_bytes.specs.declared.refusals.Refusal.TheVariants.{NoMemory}
 use Rattle.su_bytes.specs.declared.principals.Principal.{Principal}
@@ -13,13 +14,14 @@ use Rattle.su_op.specs.declared.operations.Change.{Change}
 use Rattle.su_desk.specs.declared.entries.Entry.{Entry}
 use Rattle.su_desk.specs.declared.prepared.Prepared.{Prepared}
 use Rattle.su_desk.specs.Desk.{DeskState, with_entry}
+use Rattle.su_desk.specs.History.{entry_by}
 use Rattle.su_desk.specs.Answer.{refusal_of, reply, answer}
 use Rattle.su_desk.specs.Version.{cells_of, carried_groups}
 use Rattle.su_table.specs.Handle.{handle}
 use Rattle.su_op.specs.declared.areas.Area.{Area}
 use Rattle.su_desk.specs.Trial.{TrialState, Tells, ready_with, tree_of}
 use Rattle.su_desk.proofs.VersionNumbers.{carried_ascend as groups_ascend}
-use Rattle.su_version.specs.Version.{IsCarried}
+use Rattle.su_version.specs.Version.{Version, IsCarried}
 use Rattle.su_version.specs.Commit.{Commit, commit_bytes}
 use Rattle.su_version.specs.Chain.{MayBeNext}
 use Rattle.su_change.specs.Item.{IsChange, HasItem, item_bytes}
@@ -30,6 +32,10 @@ use Rattle.su_view.specs.declared.records.Keeping.{Keeping}
 use Rattle.su_view.specs.Joining.{AscendFrom, handle_in, IsOtherHandle, IsWrongHandle, HoldsHandles, fitting_order, IsRefusedWith}
 use Rattle.su_view.specs.declared.refusals.ViewRefusal.{ViewRefusal}
 use Rattle.su_view.specs.declared.refusals.ViewRefusal.TheVariants.{Plain, WrongHandle, Change as ChangeRefused}
+
+-- the entry of the author and in the format that a version structure tells
+pub made_as : (c : Commit) (v : Version) (f : Format) (a : ℕ) (change : Change) → v ≡ c.version → f ≡ v.format → a ≡ v.author → entry_by a f change ≡ entry_made c change
+made_as c v f a change is in_format by = λ i. entry_by ((by ∙ ap (λ (v : Version). v.author) is) i) ((in_format ∙ ap (λ (v : Version). v.format) is) i) change
 
 -- ---- answers of a desk
 

@@ -5,13 +5,11 @@ use Rattle.std.proofs.lemmas.List.{flat_map_more}
 use Rattle.su_change.specs.Item.{item_bytes}
 use Rattle.su_block.specs.declared.failures.Failures.{Failures}
 use Rattle.su_format.specs.Part.{u32_bytes}
-use Rattle.su_format.proofs.Public.{u32_told}
 use Rattle.su_version.specs.Commit.{commit_bytes}
 use Rattle.su_legal.specs.Legal.{Committed, LegalAfter}
 use Rattle.su_legal.proofs.Public.{after_both}
 use Rattle.su_view.specs.Holding.{HoldingState, with_more, Took}
 use Rattle.su_log.specs.Part.{part_bytes, BeginWith}
-use Rattle.su_log.proofs.Public.{first_is, too_long, too_short}
 use Rattle.su_view.specs.Listing.{commits_bytes, HasTaken, IsRefusedBytes, IsRefusedFirst, RefusesNext}
 use Rattle.su_view.specs.declared.refusals.ViewRefusal.TheVariants.{Plain}
 use Rattle.su_bytes.specs.declared.refusals.Refusal.TheVariants.{NoMemory}

@@ -5,6 +5,7 @@ use Rattle.std.proofs.lemmas.List.{length-map, map-append}
 use Rattle.std.proofs.lemmas.Bool.{eq-eqb}
 use Rattle.su_bytes.specs.Membership.{Membership, has_number, has_user}
 use Rattle.su_bytes.specs.Principal.{principals}
+use Rattle.su_bytes.specs.declared.formats.TheConstants.{NEWEST_FORMAT}
 use Rattle.su_bytes.specs.declared.refusals.Refusal.{Refusal}
 use Rattle.su_bytes.specs.declared.refusals.Refusal.TheVariants.{BadNumber, NoMemory}
 use Rattle.su_bytes.specs.declared.principals.Principal.{Principal}
@@ -13,7 +14,7 @@ use Rattle.su_bytes.specs.RosterBytes.{user_key}
 use Rattle.su_format.specs.Format.{EachFrom}
 use Rattle.su_op.specs.declared.operations.Op.TheVariants as op
 use Rattle.su_op.specs.declared.operations.Change.{Change}
-use Rattle.su_op.specs.declared.operations.Change.TheVariants.{Do, Undo}
+use Rattle.su_op.specs.declared.operations.Change.TheVariants.{Do}
 use Rattle.su_op.specs.Operation.{why}
 use Rattle.su_op.specs.Limits.{largest_write}
 use Rattle.su_op.specs.Rule.{Rule, Rule.Demand, refusal}
@@ -220,6 +221,7 @@ module _ (k : Keeping) (kept : IsKeeping k) (v : HoldingState) (is : holding_of 
   -- the version structure that is made of it
   abbrev drafted : List ℕ → List ℕ → List ℕ → Version
   drafted head digest vector = record {
+    format = NEWEST_FORMAT;
     author = k.user;
     prev = head;
     change = digest;
@@ -269,6 +271,7 @@ module _ (k : Keeping) (kept : IsKeeping k) (v : HoldingState) (is : holding_of 
 
       made : drafted head digest vector ≡ next_version (holding_of k) change
       made = λ i. record {
+        format = NEWEST_FORMAT;
         author = k.user;
         prev = head_so i;
         change = digest_is i;

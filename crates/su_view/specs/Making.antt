@@ -1,6 +1,7 @@
 -- What a client's user signs for a change of the user's own. (SUNDR, section 3.3.)
 use Rattle.std.specs.Prelude.{◌≡◌, ◌≤◌, ◌⊎◌, ℕ, length, List, ◌∷◌, [], ◌++◌, map, Some, None}
 use Rattle.su_bytes.specs.Order.{Line, demand, Passes, RefusedBy}
+use Rattle.su_bytes.specs.declared.formats.TheConstants.{NEWEST_FORMAT}
 use Rattle.su_bytes.specs.declared.refusals.Refusal.TheVariants.{BadSignature, KeySpent, KeyFileFault}
 use Rattle.su_block.specs.declared.failures.Failures.{Failures}
 use Rattle.su_bytes.specs.RosterBytes.{user_key}
@@ -22,14 +23,15 @@ use Rattle.su_view.specs.declared.refusals.ViewRefusal.{ViewRefusal}
 use Rattle.su_view.specs.declared.refusals.ViewRefusal.TheVariants.{Plain}
 use Rattle.su_view.specs.declared.holdings.drafts.Draft.{Draft}
 
--- the entry that the client's user makes of a change
+-- the entry that the client's user makes of a change, in the newest format
 abbrev pub own_entry : HoldingState → Change → Entry
-own_entry v change = entry_by v.user change
+own_entry v change = entry_by v.user NEWEST_FORMAT change
 
 -- the version structure of a change that comes next: it names the list's head and the change, and
 -- has the i-handles and the numbers of the tree with it
 abbrev pub next_version : HoldingState → Change → Version
 next_version v change = record {
+  format = NEWEST_FORMAT;
   author = v.user;
   prev = head_of v.roster v.held;
   change = change_digest change;

@@ -151,11 +151,16 @@ impl Holding {
             Ok(change) => change,
             Err(refusal) => return Err(within(refusal)),
         };
-        let prepared = match self.keeping.desk.prepare(commit.version().author(), change) {
+        let version = commit.version();
+        let prepared = match self
+            .keeping
+            .desk
+            .prepare_as(version.format(), version.author(), change)
+        {
             Ok(prepared) => prepared,
             Err(refusal) => return Err(within(refusal)),
         };
-        if let Some(principal) = wrong_handle(commit.version(), &prepared) {
+        if let Some(principal) = wrong_handle(version, &prepared) {
             return Err(ViewRefusal::WrongHandle(principal));
         }
         if self.keeping.records.reserve(1).is_err() {

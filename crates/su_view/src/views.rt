@@ -3,6 +3,7 @@ ghost use Rattle.std.specs.Prelude.{◌≡◌, ◌⊎◌, ◌∷◌, ◌++◌, �
 ghost use Rattle.std.specs.Borrow.{Lends, sem};
 ghost use Rattle.su_bytes.specs.Membership.{has_user};
 ghost use Rattle.su_bytes.specs.RosterBytes.{user_key};
+ghost use Rattle.su_bytes.specs.declared.formats.TheConstants.{NEWEST_FORMAT};
 ghost use Rattle.su_bytes.specs.declared.refusals.Refusal.TheVariants.{BadKey, NoUser, NoMemory, KeyFileFault};
 ghost use Rattle.su_chain.specs.ChainEnd.{HasBadKey};
 ghost use Rattle.su_op.specs.declared.operations.Change.{Change as Change_};
@@ -393,13 +394,14 @@ impl<S: BlockSource + Drop> View<S> {
     }
 
     /// Plans a command of the view's user on paths: returns operations that carry it out, each of
-    /// which is accepted after those before it, where no other commit comes between. The refusals
-    /// are those of `su_plan::plan`.
+    /// which is accepted in the newest format after those before it, where no other commit comes
+    /// between. The refusals are those of `su_plan::plan`.
     pub fn plan(&mut self, command: &Command) -> Result<Vec<Op>, Refusal>
         ensures planned { let v = self.old.holding in IfOk result (λ operations.
             plan v.roster (tree_of_list v) v.user command.now ≡ Ok operations.items) }
         ensures accepted { let v = self.old.holding in IfOk result (λ operations.
-            first_refusal v.roster (tree_of_list v) v.user operations.items ≡ None) }
+            first_refusal v.roster (tree_of_list v) v.user NEWEST_FORMAT operations.items
+            ≡ None) }
         ensures refused { let v = self.old.holding in IfErr result (λ e. (e ≡ NoMemory)
             ⊎ (plan v.roster (tree_of_list v) v.user command.now ≡ Err e)) }
         ensures same { self.new ≡ self.old }

@@ -19,27 +19,33 @@ use super::Desk;
 use crate::kept::undo_index;
 use crate::prepared::{Prepared, Tried, Undone};
 use crate::versions::carried_handles;
-use su_bytes::{Principal, Refusal, User};
+use su_bytes::{Format, Principal, Refusal, User};
 use su_inverse::{Inverse, build_whole};
 use su_op::{Area, Change};
 
 impl Desk {
-    /// Makes a change as `apply` does, and returns what takes it back.
-    pub(crate) fn attempt(&mut self, author: User, change: Change) -> Result<Tried, Refusal>
+    /// Makes a change as `apply_as` does, and returns what takes it back.
+    pub(crate) fn attempt(
+        &mut self,
+        format: Format,
+        author: User,
+        change: Change,
+    ) -> Result<Tried, Refusal>
         ensures accepted { OnOk result
-            (refusal_of self.old.roster self.old.history (entry_by author change) ≡ None) }
+            (refusal_of self.old.roster self.old.history (entry_by author format change) ≡ None) }
         ensures good { OnOk result (Good self.old.roster self.old.history) }
-        ensures done { OnOk result (self.new ≡ with_entry self.old (entry_by author change)) }
-        ensures tried { IfOk result (TakesBack self.old (entry_by author change)) }
+        ensures done { OnOk result
+            (self.new ≡ with_entry self.old (entry_by author format change)) }
+        ensures tried { IfOk result (TakesBack self.old (entry_by author format change)) }
         ensures refused { IfErr result (λ e.
             (e ≡ NoMemory)
-            ⊎ (answer self.old.roster self.old.history (entry_by author change) ≡ Err e)) }
+            ⊎ (answer self.old.roster self.old.history (entry_by author format change) ≡ Err e)) }
         ensures err { OnErr result (self.new ≡ self.old) }
     {
         let versions = Vec::from_slice(self.alloc, self.counters.as_slice())?;
         match change {
             Change::Do(op) => {
-                self.operate(author, op)?;
+                self.operate(format, author, op)?;
                 Ok(Tried {
                     versions,
                     undone: None,
@@ -47,7 +53,7 @@ impl Desk {
             }
             Change::Undo(number) => {
                 let held = self.hold(author, number)?;
-                let (index, operation) = self.take_out(author, number)?;
+                let (index, operation) = self.take_out(format, author, number)?;
                 let undone = Undone {
                     index,
                     operation,

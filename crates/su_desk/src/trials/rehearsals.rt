@@ -7,23 +7,23 @@ ghost use Rattle.su_desk.specs.Rehearsal.{first_refusal};
 ghost use Rattle.su_desk.specs.Trial.{nothing_ready, tree_of, tree_with_ready};
 
 use super::TrialDesk;
-use su_bytes::{Refusal, User};
+use su_bytes::{NEWEST_FORMAT, Refusal, User};
 use su_op::{Change, Op};
 
 impl TrialDesk {
-    /// Finds whether the operations, made by that author one after another, would all be accepted.
-    /// They are made on trial and taken back, and so is before what stood ready. The error is the
-    /// first refusal that they meet, or `NoMemory`; then what isn't taken back still stands ready,
-    /// and what is settled hasn't changed.
+    /// Finds whether the operations, made by that author in the newest format one after another,
+    /// would all be accepted. They are made on trial and taken back, and so is before what stood
+    /// ready. The error is the first refusal that they meet, or `NoMemory`; then what isn't taken
+    /// back still stands ready, and what is settled hasn't changed.
     pub fn rehearse(&mut self, author: User, operations: &[Op]) -> Result<(), Refusal>
         ensures accepted { OnOk result
-            (first_refusal self.old.settled.roster (tree_of self.old.settled) author operations.now
-            ≡ None) }
+            (first_refusal self.old.settled.roster (tree_of self.old.settled) author NEWEST_FORMAT
+            operations.now ≡ None) }
         ensures none_ready { OnOk result (self.new ≡ nothing_ready self.old.settled) }
         ensures refused { IfErr result (λ e.
             (e ≡ NoMemory)
             ⊎ (first_refusal self.old.settled.roster (tree_of self.old.settled) author
-            operations.now ≡ Some e)) }
+            NEWEST_FORMAT operations.now ≡ Some e)) }
         ensures taken_back { IfErr result (λ e.
             (e ≡ NoMemory) ⊎ (self.new ≡ nothing_ready self.old.settled)) }
         ensures err { OnErr result (self.new.settled ≡ self.old.settled) }
@@ -34,17 +34,17 @@ impl TrialDesk {
         answer
     }
 
-    /// Makes operations on trial, one after another, where nothing stands ready. Those before a
-    /// refusal, the first that they meet or `NoMemory`, stand ready then.
+    /// Makes operations on trial in the newest format, one after another, where nothing stands
+    /// ready. Those before a refusal, the first that they meet or `NoMemory`, stand ready then.
     fn try_all(&mut self, author: User, operations: &[Op]) -> Result<(), Refusal>
         requires { self.old.ready ≡ [] }
         ensures accepted { OnOk result
-            (first_refusal self.old.settled.roster (tree_of self.old.settled) author operations.now
-            ≡ None) }
+            (first_refusal self.old.settled.roster (tree_of self.old.settled) author NEWEST_FORMAT
+            operations.now ≡ None) }
         ensures refused { IfErr result (λ e.
             (e ≡ NoMemory)
             ⊎ (first_refusal self.old.settled.roster (tree_of self.old.settled) author
-            operations.now ≡ Some e)) }
+            NEWEST_FORMAT operations.now ≡ Some e)) }
         ensures settled { self.new.settled ≡ self.old.settled }
     {
         for operation in operations {
@@ -53,26 +53,26 @@ impl TrialDesk {
         Ok(())
     }
 
-    /// Makes an operation on trial, behind what stands ready. A refusal, the first in order or
-    /// `NoMemory`, changes nothing.
+    /// Makes an operation on trial in the newest format, behind what stands ready. A refusal, the
+    /// first in order or `NoMemory`, changes nothing.
     fn try_next(&mut self, author: User, operation: &Op) -> Result<(), Refusal>
         ensures accepted { OnOk result
             (why self.old.settled.roster (tree_with_ready self.old)
-            (action_by author operation.now) ≡ None) }
+            (action_by author NEWEST_FORMAT operation.now) ≡ None) }
         ensures effect { OnOk result
             (tree_with_ready self.new
             ≡ effect self.old.settled.roster (tree_with_ready self.old)
-            (action_by author operation.now)) }
+            (action_by author NEWEST_FORMAT operation.now)) }
         ensures settled { self.new.settled ≡ self.old.settled }
         ensures refused { IfErr result (λ e.
             (e ≡ NoMemory)
             ⊎ (why self.old.settled.roster (tree_with_ready self.old)
-            (action_by author operation.now) ≡ Some e)) }
+            (action_by author NEWEST_FORMAT operation.now) ≡ Some e)) }
         ensures err { OnErr result (self.new ≡ self.old) }
     {
         let change = Change::Do(operation.clone()?);
         self.tried.reserve(1)?;
-        let tried = self.desk.attempt(author, change)?;
+        let tried = self.desk.attempt(NEWEST_FORMAT, author, change)?;
         self.tried.push_reserved(tried);
         Ok(())
     }

@@ -19,7 +19,7 @@ ghost use Rattle.su_view.specs.declared.refusals.ViewRefusal.TheVariants.{Plain,
 use crate::holdings::{Holding, within};
 use crate::refusals::ViewRefusal;
 use std::alloc::Global;
-use su_bytes::{Digest, FileId, Group, Principal, Refusal, Roster, User};
+use su_bytes::{Digest, FileId, Group, NEWEST_FORMAT, Principal, Refusal, Roster, User};
 use su_change::encode;
 use su_desk::{Prepared, TrialDesk};
 use su_lms::PublicKey;
@@ -46,8 +46,8 @@ impl Holding {
         self.key(self.keeping.user) == Some(key)
     }
 
-    /// Makes a change of the user's on trial, which isn't seen. `Change` where it is refused;
-    /// `NoMemory`.
+    /// Makes a change of the user's on trial, in the newest format, which isn't seen. `Change`
+    /// where it is refused; `NoMemory`.
     pub fn draft(&mut self, change: Change) -> Result<Draft, ViewRefusal>
         ensures drafted { IfOk result (IsDraft self.old change) }
         ensures refused { IfErr result (λ e. (e ≡ Plain NoMemory)
@@ -87,6 +87,7 @@ impl Holding {
         has_digest_length(&draft.prepared.author_handle);
         are_carried(draft.prepared.groups.as_slice());
         Ok(VersionStructure::new(
+            NEWEST_FORMAT,
             self.keeping.user,
             head,
             digest,

@@ -1,5 +1,6 @@
 // What is asked of what a client holds.
 ghost use Rattle.std.specs.Prelude.{◌≡◌, ◌⊎◌, Ok, Err, IfOk, IfErr, None, MatchOption, length};
+ghost use Rattle.su_bytes.specs.declared.formats.TheConstants.{NEWEST_FORMAT};
 ghost use Rattle.su_bytes.specs.declared.refusals.Refusal.TheVariants.{NoMemory};
 ghost use Rattle.su_desk.specs.History.{live_numbers};
 ghost use Rattle.su_desk.specs.Rehearsal.{first_refusal};
@@ -103,7 +104,7 @@ impl Holding {
             plan self.old.roster (tree_of_list self.old) self.old.user command.now
             ≡ Ok operations.items) }
         ensures accepted { IfOk result (λ operations. first_refusal self.old.roster
-            (tree_of_list self.old) self.old.user operations.items ≡ None) }
+            (tree_of_list self.old) self.old.user NEWEST_FORMAT operations.items ≡ None) }
         ensures refused { IfErr result (λ e. (e ≡ NoMemory)
             ⊎ (plan self.old.roster (tree_of_list self.old) self.old.user command.now ≡ Err e)) }
         ensures same { self.new ≡ self.old }

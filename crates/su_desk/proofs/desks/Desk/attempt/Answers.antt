@@ -23,20 +23,20 @@ pub returns-in_err-held-in-Undo-clause-refused : goal.returns-in_err-held-in-Und
 returns-in_err-held-in-Undo-clause-refused c =
     let d = c.args.self.now in
     let x = c.in_err-held-in-Undo.field-0.0 in
-    refused_by (λ e. (e ≡ NoMemory) ⊎ (answer d.roster d.history (entry_by c.args.author c.args.change) ≡ Err e)) c.from_residual-in_err-held-in-Undo.result x c.from_residual-in_err-held-in-Undo.ensures.1
-    (undo_answer d (entry_by c.args.author c.args.change) c.in-Undo.number x c.in-Undo.is c.in_err-held-in-Undo.ensures.refused)
+    refused_by (λ e. (e ≡ NoMemory) ⊎ (answer d.roster d.history (entry_by c.args.author c.args.format c.args.change) ≡ Err e)) c.from_residual-in_err-held-in-Undo.result x c.from_residual-in_err-held-in-Undo.ensures.1
+    (undo_answer d (entry_by c.args.author c.args.format c.args.change) c.in-Undo.number x c.in-Undo.is c.in_err-held-in-Undo.ensures.refused)
 
 pub returns-in_err-index-in-Undo-clause-refused : goal.returns-in_err-index-in-Undo-clause-refused
 returns-in_err-index-in-Undo-clause-refused c =
     let d = c.args.self.now in
     let x = c.in_err-index-in-Undo.field-0.0 in
-    refused_by (λ e. (e ≡ NoMemory) ⊎ (answer d.roster d.history (entry_by c.args.author c.args.change) ≡ Err e)) c.from_residual-in_err-index-in-Undo.result x c.from_residual-in_err-index-in-Undo.ensures.1
-    (undo_answer d (entry_by c.args.author c.args.change) c.in-Undo.number x c.in-Undo.is c.in_err-index-in-Undo.ensures.refused)
+    refused_by (λ e. (e ≡ NoMemory) ⊎ (answer d.roster d.history (entry_by c.args.author c.args.format c.args.change) ≡ Err e)) c.from_residual-in_err-index-in-Undo.result x c.from_residual-in_err-index-in-Undo.ensures.1
+    (undo_answer d (entry_by c.args.author c.args.format c.args.change) c.in-Undo.number x c.in-Undo.is c.in_err-index-in-Undo.ensures.refused)
 
 pub returns-in_ok-operate-in-Do-clause-accepted : goal.returns-in_ok-operate-in-Do-clause-accepted
 returns-in_ok-operate-in-Do-clause-accepted c =
     let d = c.args.self.now in
-    ap (refusal_by_change d.roster d.history (entry_by c.args.author c.args.change)) c.in-Do.is ∙ answer_accepted _ _ _ _ c.in_ok-operate-in-Do.ensures.0
+    ap (refusal_by_change d.roster d.history (entry_by c.args.author c.args.format c.args.change)) c.in-Do.is ∙ answer_accepted _ _ _ _ c.in_ok-operate-in-Do.ensures.0
 
 pub returns-in_ok-index-in-Undo-clause-tried : goal.returns-in_ok-index-in-Undo-clause-tried
 returns-in_ok-index-in-Undo-clause-tried c =
@@ -46,11 +46,11 @@ returns-in_ok-index-in-Undo-clause-tried c =
     let out = c.in_ok-index-in-Undo.ensures in
     let good : Good d.roster d.history = subst (λ x. Good x.roster x.history) c.self.view_is c.self.invariant.0.good in
     let t : Tried = record { versions = c.in_ok-versions.versions; undone = Some (record { index = c.in_ok-index-in-Undo.index; operation = c.in_ok-index-in-Undo.operation; held = c.in_ok-held-in-Undo.held }) } in
-    subst (λ ch. TakesBack d (entry_by c.args.author ch) t) (sym c.in-Undo.is)
+    subst (λ ch. TakesBack d (entry_by c.args.author c.args.format ch) t) (sym c.in-Undo.is)
     (record {
       versions = c.in_ok-versions.ensures.items ∙ c.as_slice.ensures.value ∙ c.self.invariant.1 ∙ ap (λ x. versions x.roster x.history) c.self.view_is;
       change = record {
         kept = out.kept;
-        back = held_puts_back d.roster d.history c.args.author n c.in_ok-held-in-Undo.held good out.accepted c.in_ok-held-in-Undo.ensures.covers c.in_ok-held-in-Undo.ensures.kept;
+        back = held_puts_back d.roster d.history c.args.author c.args.format n c.in_ok-held-in-Undo.held good out.accepted c.in_ok-held-in-Undo.ensures.covers c.in_ok-held-in-Undo.ensures.kept;
       };
     })

@@ -22,17 +22,17 @@ use Rattle.su_desk.proofs.desks.Desk.operate.Goals as goal
 pub invariant_of-self-2 : goal.invariant_of-self-2
 invariant_of-self-2 c =
     let s = c.self.inside in
-    let entries = c.push_reserved.ensures.items ∙ ap (λ h. h ++ entry_doing (action_by c.args.author c.args.op) ∷ []) c.in_ok-reserve.ensures.items in
+    let entries = c.push_reserved.ensures.items ∙ ap (λ h. h ++ entry_doing (action_by c.args.author c.args.format c.args.op) ∷ []) c.in_ok-reserve.ensures.items in
     let kept = c.push_reserved-2.ensures.items ∙ ap (λ ks. ks ++ record { number = c.len-number.result; footprint = c.in_ok-footprint.footprint; inverse = c.in_ok-inverse.inverse } ∷ []) c.in_ok-reserve-2.ensures.items in
     let accepted = c.in-Ok.ensures.accepted in
-    let number : c.len-number.result ≡ length s.entries.items + 1 = omega (arith, c.len-number.ensures, c.push_reserved.new.self.ok.0, ap length entries, length-append s.entries.items (entry_doing (action_by c.args.author c.args.op) ∷ [])) in
-    let e : Entry = entry_doing (action_by c.args.author c.args.op) in
-    let written : c.as_slice-2.result.now ≡ cells_of s.roster s.entries.items (entry_doing (action_by c.args.author c.args.op))
-    = c.as_slice-2.ensures.value ∙ c.in_ok-footprint.ensures.writes s.forest ∙ sym c.in-Ok.ensures.writes ∙ ap (λ o. writes s.roster (unwrap_or o genesis) (action_by c.args.author c.args.op)) (sym (tree_kept s.roster s.entries.items s.kept.items s.forest c.self.invariant.0)) in (
+    let number : c.len-number.result ≡ length s.entries.items + 1 = omega (arith, c.len-number.ensures, c.push_reserved.new.self.ok.0, ap length entries, length-append s.entries.items (entry_doing (action_by c.args.author c.args.format c.args.op) ∷ [])) in
+    let e : Entry = entry_doing (action_by c.args.author c.args.format c.args.op) in
+    let written : c.as_slice-2.result.now ≡ cells_of s.roster s.entries.items (entry_doing (action_by c.args.author c.args.format c.args.op))
+    = c.as_slice-2.ensures.value ∙ c.in_ok-footprint.ensures.writes s.forest ∙ sym c.in-Ok.ensures.writes ∙ ap (λ o. writes s.roster (unwrap_or o genesis) (action_by c.args.author c.args.format c.args.op)) (sym (tree_kept s.roster s.entries.items s.kept.items s.forest c.self.invariant.0)) in (
       subst (λ h. Keeps s.roster h c.push_reserved-2.new.self.items c.perform.new.forest) (sym entries)
-          (subst (λ ks. Keeps s.roster (s.entries.items ++ entry_doing (action_by c.args.author c.args.op) ∷ []) ks c.perform.new.forest) (sym kept)
-          (subst (λ T. Keeps s.roster (s.entries.items ++ entry_doing (action_by c.args.author c.args.op) ∷ []) (s.kept.items ++ record { number = c.len-number.result; footprint = c.in_ok-footprint.footprint; inverse = c.in_ok-inverse.inverse } ∷ []) T) (sym (c.in_ok-perform.ensures.ok ∙ sym c.in-Ok.ensures.effect))
-          (keeps_do s.roster s.entries.items s.kept.items s.forest (action_by c.args.author c.args.op) (record { number = c.len-number.result; footprint = c.in_ok-footprint.footprint; inverse = c.in_ok-inverse.inverse }) c.self.invariant.0
+          (subst (λ ks. Keeps s.roster (s.entries.items ++ entry_doing (action_by c.args.author c.args.format c.args.op) ∷ []) ks c.perform.new.forest) (sym kept)
+          (subst (λ T. Keeps s.roster (s.entries.items ++ entry_doing (action_by c.args.author c.args.format c.args.op) ∷ []) (s.kept.items ++ record { number = c.len-number.result; footprint = c.in_ok-footprint.footprint; inverse = c.in_ok-inverse.inverse } ∷ []) T) (sym (c.in_ok-perform.ensures.ok ∙ sym c.in-Ok.ensures.effect))
+          (keeps_do s.roster s.entries.items s.kept.items s.forest (action_by c.args.author c.args.format c.args.op) (record { number = c.len-number.result; footprint = c.in_ok-footprint.footprint; inverse = c.in_ok-inverse.inverse }) c.self.invariant.0
           (record {
             accepted = accepted;
             number = number;
@@ -48,24 +48,24 @@ invariant_of-self-2 c =
 pub returns : goal.returns
 returns c =
     let s = c.self.inside in
-    let entries = c.push_reserved.ensures.items ∙ ap (λ h. h ++ entry_doing (action_by c.args.author c.args.op) ∷ []) c.in_ok-reserve.ensures.items in
-    let number : length s.entries.items + 1 ≡ c.len-number.result = omega (arith, c.len-number.ensures, c.push_reserved.new.self.ok.0, ap length entries, length-append s.entries.items (entry_doing (action_by c.args.author c.args.op) ∷ [])) in
+    let entries = c.push_reserved.ensures.items ∙ ap (λ h. h ++ entry_doing (action_by c.args.author c.args.format c.args.op) ∷ []) c.in_ok-reserve.ensures.items in
+    let number : length s.entries.items + 1 ≡ c.len-number.result = omega (arith, c.len-number.ensures, c.push_reserved.new.self.ok.0, ap length entries, length-append s.entries.items (entry_doing (action_by c.args.author c.args.format c.args.op) ∷ [])) in
     let seen : List Entry → DeskState = λ h. record { roster = s.roster; history = h } in (
-      subst (λ d. answer d.roster d.history (entry_doing (action_by c.args.author c.args.op)) ≡ Ok c.len-number.result) c.self.view_is
-          (answer_done _ _ _ (refusal_of-do s.roster s.entries.items s.forest (action_by c.args.author c.args.op) (tree_kept _ _ _ _ c.self.invariant.0) ∙ c.in-Ok.ensures.accepted) ∙ ap Ok number),
-      ap seen entries ∙ ap (λ d. with_entry d (entry_doing (action_by c.args.author c.args.op))) c.self.view_is,
+      subst (λ d. answer d.roster d.history (entry_doing (action_by c.args.author c.args.format c.args.op)) ≡ Ok c.len-number.result) c.self.view_is
+          (answer_done _ _ _ (refusal_of-do s.roster s.entries.items s.forest (action_by c.args.author c.args.format c.args.op) (tree_kept _ _ _ _ c.self.invariant.0) ∙ c.in-Ok.ensures.accepted) ∙ ap Ok number),
+      ap seen entries ∙ ap (λ d. with_entry d (entry_doing (action_by c.args.author c.args.format c.args.op))) c.self.view_is,
     )
 
 pub build-requires : goal.build-requires
 build-requires c =
     let s = c.self.inside in
-    subst (All (CanKeep s.forest)) (sym (c.as_slice.ensures.value ∙ c.in_ok-footprint.ensures.writes s.forest ∙ sym c.in-Ok.ensures.writes)) (writes_kept s.roster s.forest (action_by c.args.author c.args.op) c.in-Ok.ensures.accepted)
+    subst (All (CanKeep s.forest)) (sym (c.as_slice.ensures.value ∙ c.in_ok-footprint.ensures.writes s.forest ∙ sym c.in-Ok.ensures.writes)) (writes_kept s.roster s.forest (action_by c.args.author c.args.format c.args.op) c.in-Ok.ensures.accepted)
 
 pub returns-in-Err : goal.returns-in-Err
 returns-in-Err c =
     let s = c.self.inside in (
-      inr (subst (λ d. answer d.roster d.history (entry_doing (action_by c.args.author c.args.op)) ≡ Err c.in-Err.refusal) c.self.view_is
-          (answer_refused _ _ _ _ (refusal_of-do s.roster s.entries.items s.forest (action_by c.args.author c.args.op) (tree_kept _ _ _ _ c.self.invariant.0) ∙ c.in-Err.ensures.refused))),
+      inr (subst (λ d. answer d.roster d.history (entry_doing (action_by c.args.author c.args.format c.args.op)) ≡ Err c.in-Err.refusal) c.self.view_is
+          (answer_refused _ _ _ _ (refusal_of-do s.roster s.entries.items s.forest (action_by c.args.author c.args.format c.args.op) (tree_kept _ _ _ _ c.self.invariant.0) ∙ c.in-Err.ensures.refused))),
       refl,
     )
 

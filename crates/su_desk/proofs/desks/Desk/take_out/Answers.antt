@@ -21,27 +21,27 @@ undo_index-requires c = are_kept _ _ _ _ _ _ c.deref.ensures.value c.deref-2.ens
 pub invariant_of-self-2 : goal.invariant_of-self-2
 invariant_of-self-2 c =
     let s = c.self.inside in
-    let e : Entry = undo_by c.args.author c.args.number in
-    let entries = c.push_reserved.ensures.items ∙ ap (λ h. h ++ undo_by c.args.author c.args.number ∷ []) c.in_ok-reserve.ensures.items in
+    let e : Entry = undo_by c.args.author c.args.format c.args.number in
+    let entries = c.push_reserved.ensures.items ∙ ap (λ h. h ++ undo_by c.args.author c.args.format c.args.number ∷ []) c.in_ok-reserve.ensures.items in
     let accepted = ap (λ h. undo_refusal s.roster h c.args.author c.args.number) (sym c.deref.ensures.value) ∙ c.in_ok-index.ensures.accepted in
     let k = c.index.result.now in
     let i = c.in_ok-index.index in
     let there : Found s.roster s.entries.items s.kept.items k i c.args.number s.forest
     = found s.roster s.entries.items s.kept.items k i c.args.number s.forest c.self.invariant.0 (subst (λ ks. IsIndexOf c.args.number ks i) c.deref-2.ensures.value c.in_ok-index.ensures.found) (sym c.index.ensures) in
-    let written : c.deref-3.result.now ≡ cells_of s.roster s.entries.items (undo_by c.args.author c.args.number)
+    let written : c.deref-3.result.now ≡ cells_of s.roster s.entries.items (undo_by c.args.author c.args.format c.args.number)
     = c.deref-3.ensures.value ∙ ap (λ (x : KeptOperation). x.footprint.writes.items) (same_there s.kept.items i c.remove-undone.result k (subst (λ ks. IsIndexOf c.args.number ks i) c.deref-2.ensures.value c.in_ok-index.ensures.found).within c.remove-undone.ensures.value (sym c.index.ensures)) ∙ undone_written s.roster s.entries.items s.kept.items k i c.args.number s.forest there in (
       subst (λ h. Keeps s.roster h c.remove-undone.new.self.items c.undo_on.new.forest) (sym entries)
           (subst (λ ks. Keeps s.roster (s.entries.items ++ e ∷ []) ks c.undo_on.new.forest) (sym c.remove-undone.ensures.by_index.2)
-          (undone_there s.roster s.entries.items s.kept.items k i s.forest c.undo_on.new.forest c.args.author c.args.number there accepted c.in_ok-undo_on.ensures.ok)),
+          (undone_there s.roster s.entries.items s.kept.items k i s.forest c.undo_on.new.forest c.args.author c.args.format c.args.number there accepted c.in_ok-undo_on.ensures.ok)),
       subst (λ h. take s.counters.len (c.raise.new.versions ++ drop (length c.raise.new.versions) s.counters.items) ≡ versions s.roster h) (sym entries)
           (counters_next s.roster s.entries.items e c.deref-3.result.now s.counters.len s.counters.items c.deref_mut.result.now c.raise.new.versions _ written c.self.invariant.1 s.counters.ok.0 c.deref_mut.ensures.value c.raise.ensures),
     )
 
 pub returns-clause-done : goal.returns-clause-done
 returns-clause-done c =
-    let entries = c.push_reserved.ensures.items ∙ ap (λ h. h ++ undo_by c.args.author c.args.number ∷ []) c.in_ok-reserve.ensures.items in
+    let entries = c.push_reserved.ensures.items ∙ ap (λ h. h ++ undo_by c.args.author c.args.format c.args.number ∷ []) c.in_ok-reserve.ensures.items in
     let seen : List Entry → DeskState = λ h. record { roster = c.self.inside.roster; history = h } in
-    ap seen entries ∙ ap (λ d. with_entry d (undo_by c.args.author c.args.number)) c.self.view_is
+    ap seen entries ∙ ap (λ d. with_entry d (undo_by c.args.author c.args.format c.args.number)) c.self.view_is
 
 pub raise-requires : goal.raise-requires
 raise-requires c =

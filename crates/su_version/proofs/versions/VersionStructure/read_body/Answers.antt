@@ -56,14 +56,14 @@ returns-in_err-vector c =
 pub invariant_of-result : goal.invariant_of-result
 unfolding body_format
 invariant_of-result c =
-    let took : Took body_format c.args.reader.now _ c.read_vector.new.reader =
+    let took : Took (body_format c.args.format) c.args.reader.now _ c.read_vector.new.reader =
     then_took _ _ c.in_ok-author.ensures.takes
     (then_took _ _ c.in_ok-prev.ensures.takes
     (then_took _ _ c.in_ok-change.ensures.takes
     (then_took _ _ c.in_ok-handle.ensures.takes
     (then_took _ _ c.in_ok-groups.ensures.found
     (then_took _ _ c.in_ok-vector.ensures (made _ _)))))) in
-    ((format_of body_of).spelled _ _ _ took.spelled).0
+    ((format_of (body_of c.args.format)).spelled _ _ _ took.spelled).0.1
 
 pub returns : goal.returns
 unfolding body_format

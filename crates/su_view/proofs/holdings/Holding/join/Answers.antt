@@ -10,78 +10,78 @@ use Rattle.su_view.specs.Joining.{AscendFrom, IsRefusedWith, IsOtherHandle}
 use Rattle.su_view.specs.Keeping.{holding_of}
 use Rattle.su_view.specs.declared.records.Keeping.{Keeping}
 use Rattle.su_view.specs.declared.refusals.ViewRefusal.TheVariants.{Plain, WrongHandle}
-use Rattle.su_view.proofs.JoinLemmas.{carried_ascend, answered, told_handle, told_groups, told_ascend, prepared_so, not_prepared, other_handle, joined_so, took_next}
+use Rattle.su_view.proofs.JoinLemmas.{made_as, carried_ascend, answered, told_handle, told_groups, told_ascend, prepared_so, not_prepared, other_handle, joined_so, took_next}
 use Rattle.su_view.proofs.holdings.Holding.join.Goals as goal
 
-pub returns-in-Err-prepare-clause-refused : goal.returns-in-Err-prepare-clause-refused
-returns-in-Err-prepare-clause-refused c =
+pub returns-in-Err-prepare_as-clause-refused : goal.returns-in-Err-prepare_as-clause-refused
+returns-in-Err-prepare_as-clause-refused c =
     let k = c.self.inside.keeping in
-    let made = ap (λ a. entry_by a c.in-Ok.change) (c.author.ensures.value ∙ ap (λ (v : Version). v.author) c.version.ensures.value) in
+    let made = made_as c.args.commit _ _ _ c.in-Ok.change c.version-version.ensures.value c.format.ensures c.author.ensures.value in
     let found = c.in-Ok.ensures.found in
-    subst (λ v. (c.within-in-Err-prepare.result ≡ Plain NoMemory) ⊎ IsRefusedWith v c.args.commit c.args.item.items c.within-in-Err-prepare.result) c.self.view_is
+    subst (λ v. (c.within-in-Err-prepare_as.result ≡ Plain NoMemory) ⊎ IsRefusedWith v c.args.commit c.args.item.items c.within-in-Err-prepare_as.result) c.self.view_is
     (not_prepared (holding_of k) c.args.commit c.in-Ok.change c.args.item.items found.0 found.1 (sym c.as_slice.ensures.value ∙ found.2)
-    c.in-Err-prepare.refusal c.within-in-Err-prepare.result
-    (prepared_so k c.self.invariant (entry_by c.author.result c.in-Ok.change) c.args.commit c.in-Ok.change made c.in-Err-prepare.refusal c.in-Err-prepare.ensures.refused)
-    c.within-in-Err-prepare.ensures)
+    c.in-Err-prepare_as.refusal c.within-in-Err-prepare_as.result
+    (prepared_so k c.self.invariant (entry_by c.author.result c.format.result c.in-Ok.change) c.args.commit c.in-Ok.change made c.in-Err-prepare_as.refusal c.in-Err-prepare_as.ensures.refused)
+    c.within-in-Err-prepare_as.ensures)
 
 pub returns-in-Some-clause-refused : goal.returns-in-Some-clause-refused
 returns-in-Some-clause-refused c =
     let k = c.self.inside.keeping in
     let kept = c.self.invariant in
-    let made = ap (λ a. entry_by a c.in-Ok.change) (c.author.ensures.value ∙ ap (λ (v : Version). v.author) c.version.ensures.value) in
+    let made = made_as c.args.commit _ _ _ c.in-Ok.change c.version-version.ensures.value c.format.ensures c.author.ensures.value in
     let found = c.in-Ok.ensures.found in
-    let told = c.in-Ok-prepare.ensures.told in
-    let p = c.in-Ok-prepare.prepared in
+    let told = c.in-Ok-prepare_as.ensures.told in
+    let p = c.in-Ok-prepare_as.prepared in
     let other = c.in-Some.ensures.other 0
-    (subst (λ (v : Version). AscendFrom 0 v.groups) (sym c.version-2.ensures.value) (carried_ascend 0 c.args.commit.version.groups c.requires.next.spelled.version.groups))
-    (told_ascend k kept (entry_by c.author.result c.in-Ok.change) c.args.commit c.in-Ok.change made p told) in
+    (subst (λ (v : Version). AscendFrom 0 v.groups) (sym c.version-version.ensures.value) (carried_ascend 0 c.args.commit.version.groups c.requires.next.spelled.version.groups))
+    (told_ascend k kept (entry_by c.author.result c.format.result c.in-Ok.change) c.args.commit c.in-Ok.change made p told) in
     inr (subst (λ v. IsRefusedWith v c.args.commit c.args.item.items (WrongHandle c.in-Some.principal)) c.self.view_is
     (other_handle (holding_of k) c.args.commit c.in-Ok.change c.args.item.items found.0 found.1 (sym c.as_slice.ensures.value ∙ found.2)
     p.number p.author_handle p.groups.items c.in-Some.principal
-    (answered k kept (entry_by c.author.result c.in-Ok.change) c.args.commit c.in-Ok.change made (Ok p.number) c.in-Ok-prepare.ensures.accepted)
-    (told_handle k kept (entry_by c.author.result c.in-Ok.change) c.args.commit c.in-Ok.change made p told)
-    (told_groups k kept (entry_by c.author.result c.in-Ok.change) c.args.commit c.in-Ok.change made p told)
-    (subst (λ (v : Version). IsOtherHandle v p.author_handle p.groups.items c.in-Some.principal) c.version-2.ensures.value other)))
+    (answered k kept (entry_by c.author.result c.format.result c.in-Ok.change) c.args.commit c.in-Ok.change made (Ok p.number) c.in-Ok-prepare_as.ensures.accepted)
+    (told_handle k kept (entry_by c.author.result c.format.result c.in-Ok.change) c.args.commit c.in-Ok.change made p told)
+    (told_groups k kept (entry_by c.author.result c.format.result c.in-Ok.change) c.args.commit c.in-Ok.change made p told)
+    (subst (λ (v : Version). IsOtherHandle v p.author_handle p.groups.items c.in-Some.principal) c.version-version.ensures.value other)))
 
 pub push-requires-clause-ready : goal.push-requires-clause-ready
 push-requires-clause-ready c = (
-  entry_by c.author.result c.in-Ok.change,
-  ap (λ (t : TrialState). t.ready) c.in-Ok-prepare.ensures.ready,
-  subst (λ (t : TrialState). Tells t.settled (entry_by c.author.result c.in-Ok.change) c.in-Ok-prepare.prepared) (sym c.in-Ok-prepare.ensures.ready) c.in-Ok-prepare.ensures.told,
+  entry_by c.author.result c.format.result c.in-Ok.change,
+  ap (λ (t : TrialState). t.ready) c.in-Ok-prepare_as.ensures.ready,
+  subst (λ (t : TrialState). Tells t.settled (entry_by c.author.result c.format.result c.in-Ok.change) c.in-Ok-prepare_as.prepared) (sym c.in-Ok-prepare_as.ensures.ready) c.in-Ok-prepare_as.ensures.told,
 )
 
 pub push-requires-clause-joins : goal.push-requires-clause-joins
 push-requires-clause-joins c =
     let k = c.self.inside.keeping in
-    let made = ap (λ a. entry_by a c.in-Ok.change) (c.author.ensures.value ∙ ap (λ (v : Version). v.author) c.version.ensures.value) in
+    let made = made_as c.args.commit _ _ _ c.in-Ok.change c.version-version.ensures.value c.format.ensures c.author.ensures.value in
     let found = c.in-Ok.ensures.found in
     let same = c.in_default.ensures.same refl in (
       c.in-Ok.change,
-      joined_so k c.self.invariant (entry_by c.author.result c.in-Ok.change) c.args.commit c.in-Ok.change made c.in-Ok-prepare.prepared c.args.bytes.items c.args.item.items
+      joined_so k c.self.invariant (entry_by c.author.result c.format.result c.in-Ok.change) c.args.commit c.in-Ok.change made c.in-Ok-prepare_as.prepared c.args.bytes.items c.args.item.items
           found.0 found.1 (sym c.as_slice.ensures.value ∙ found.2)
           (subst (λ (v : HoldingState). MayBeNext v.roster (commits_of v.held) c.args.commit) (sym c.self.view_is) c.requires.next)
-          c.requires.named c.in-Ok-prepare.ensures.accepted c.in-Ok-prepare.ensures.told
-          (sym (ap (λ (v : Version). v.handle) c.version-2.ensures.value) ∙ same.0)
-          (sym (ap (λ (v : Version). v.groups) c.version-2.ensures.value) ∙ same.1)
-          c.requires.bytes _ c.reserve.ensures.items c.in-Ok-prepare.ensures.ready,
+          c.requires.named c.in-Ok-prepare_as.ensures.accepted c.in-Ok-prepare_as.ensures.told
+          (sym (ap (λ (v : Version). v.handle) c.version-version.ensures.value) ∙ same.0)
+          (sym (ap (λ (v : Version). v.groups) c.version-version.ensures.value) ∙ same.1)
+          c.requires.bytes _ c.reserve.ensures.items c.in-Ok-prepare_as.ensures.ready,
     )
 
 pub returns-clause-took : goal.returns-clause-took
 returns-clause-took c =
     let k = c.self.inside.keeping in
-    let made = ap (λ a. entry_by a c.in-Ok.change) (c.author.ensures.value ∙ ap (λ (v : Version). v.author) c.version.ensures.value) in
+    let made = made_as c.args.commit _ _ _ c.in-Ok.change c.version-version.ensures.value c.format.ensures c.author.ensures.value in
     let found = c.in-Ok.ensures.found in
     let same = c.in_default.ensures.same refl in
-    let l : Keeping = record { user = k.user; own = k.own; records = c.reserve.new.self; end = k.end; desk = c.prepare.new.self } in
-    let next = joined_so k c.self.invariant (entry_by c.author.result c.in-Ok.change) c.args.commit c.in-Ok.change made c.in-Ok-prepare.prepared c.args.bytes.items c.args.item.items
+    let l : Keeping = record { user = k.user; own = k.own; records = c.reserve.new.self; end = k.end; desk = c.prepare_as.new.self } in
+    let next = joined_so k c.self.invariant (entry_by c.author.result c.format.result c.in-Ok.change) c.args.commit c.in-Ok.change made c.in-Ok-prepare_as.prepared c.args.bytes.items c.args.item.items
     found.0 found.1 (sym c.as_slice.ensures.value ∙ found.2)
     (subst (λ (v : HoldingState). MayBeNext v.roster (commits_of v.held) c.args.commit) (sym c.self.view_is) c.requires.next)
-    c.requires.named c.in-Ok-prepare.ensures.accepted c.in-Ok-prepare.ensures.told
-    (sym (ap (λ (v : Version). v.handle) c.version-2.ensures.value) ∙ same.0)
-    (sym (ap (λ (v : Version). v.groups) c.version-2.ensures.value) ∙ same.1)
-    c.requires.bytes l c.reserve.ensures.items c.in-Ok-prepare.ensures.ready in (
+    c.requires.named c.in-Ok-prepare_as.ensures.accepted c.in-Ok-prepare_as.ensures.told
+    (sym (ap (λ (v : Version). v.handle) c.version-version.ensures.value) ∙ same.0)
+    (sym (ap (λ (v : Version). v.groups) c.version-version.ensures.value) ∙ same.1)
+    c.requires.bytes l c.reserve.ensures.items c.in-Ok-prepare_as.ensures.ready in (
       c.in-Ok.change,
       sym c.as_slice.ensures.value ∙ found.2,
       took_next k l c.push.new.self c.args.self.now c.args.commit c.in-Ok.change c.args.bytes.items c.args.item.items c.self.view_is refl c.reserve.ensures.items
-          (ap (λ (t : TrialState). t.settled) c.in-Ok-prepare.ensures.ready) next (c.push.ensures.pushed c.in-Ok.change next),
+          (ap (λ (t : TrialState). t.settled) c.in-Ok-prepare_as.ensures.ready) next (c.push.ensures.pushed c.in-Ok.change next),
     )
