@@ -60,7 +60,12 @@ impl<D: Disk + Drop> RecordFile<FileStore<D>> {
         ensures { IsClean (view result) → (left : _) → (files_state result).may_leave left
             → ∥ ((db : Trees) × HoldsDatabase left db × (file_state self.held).may_leave db) ∥₁ }
     {
-        self.into_connection().into_store()
+        let RecordFile {
+            connection,
+            count: _,
+            is_spent: _,
+        } = self;
+        connection.into_store()
     }
 
     /// Copies the log into the database file, which then holds all that is kept, and gives both
@@ -69,7 +74,12 @@ impl<D: Disk + Drop> RecordFile<FileStore<D>> {
         ensures { IfOk result (λ files. AreClean D.Disk files.log files.db →
             IsCopied self.held files) }
     {
-        match self.into_connection().close_files() {
+        let RecordFile {
+            connection,
+            count: _,
+            is_spent: _,
+        } = self;
+        match connection.close_files() {
             Ok(files) => Ok(files),
             Err((error, _left)) => Err(FileFault::from(error)),
         }
