@@ -1,5 +1,5 @@
 // A file of the store at a path, and what a crash leaves of its files.
-ghost use Rattle.std.specs.Prelude.{IfOk};
+ghost use Rattle.std.specs.Prelude.{IfOk, IsTrue};
 ghost use Rattle.sqlite.specs.Tree.{Trees};
 ghost use Rattle.sqlite_trees.specs.View.{IsClean};
 ghost use Rattle.sqlite.specs.State.{HasCleanDisk};
@@ -30,10 +30,7 @@ pub fn open<T: Start>(
         OpensFrom (image_at T.Start) f.held) }
     ensures rest { IfOk result (λ f. HasCleanDisk (file_state f.held) → IsAtRest over_files f) }
 {
-    match Connection::open_from(rt, path, true, start) {
-        Ok(connection) => RecordFile::over(connection),
-        Err((error, _left)) => Err(FileFault::from(error)),
-    }
+    take_up(rt, path, start, false)
 }
 
 /// Makes the store's file at a path, which keeps nothing yet, with a sum at the end of each page.
@@ -47,8 +44,24 @@ pub fn make<T: Start>(
         Stands nothing (file_state f.held).now.trees) }
     ensures rest { IfOk result (λ f. HasCleanDisk (file_state f.held) → IsAtRest over_files f) }
 {
+    take_up(rt, path, start, true)
+}
+
+/// Opens the file at a path, or where it is made, refuses one with a table.
+fn take_up<T: Start>(
+    rt: &HostRuntime,
+    path: &str,
+    start: T,
+    is_made: bool,
+) -> Result<RecordFile<FileStore<FileFrom<T>>>, FileFault>
+    ensures opened { IfOk result (λ f. HasCleanDisk (file_state f.held) →
+        OpensFrom (image_at T.Start) f.held) }
+    ensures rest { IfOk result (λ f. HasCleanDisk (file_state f.held) → IsAtRest over_files f) }
+    ensures fresh { IsTrue is_made → IfOk result (λ f. HasCleanDisk (file_state f.held) →
+        Stands nothing (file_state f.held).now.trees) }
+{
     match Connection::open_from(rt, path, true, start) {
-        Ok(connection) => RecordFile::make(connection),
+        Ok(connection) => RecordFile::take_up(connection, is_made),
         Err((error, _left)) => Err(FileFault::from(error)),
     }
 }

@@ -79,7 +79,25 @@ impl<S: Alter + Drop> RecordFile<S> {
             IsAtRest S.Store f) }
         ensures unspent { IfOk result (λ f. f.is_spent ≡ false) }
     {
-        if !is_new(connection.schema()) {
+        RecordFile::take_up(connection, true)
+    }
+
+    /// Takes over a connection as `over` does, or where the file is made, as `make` does.
+    pub(crate) fn take_up(
+        connection: Connection<S>,
+        is_made: bool,
+    ) -> Result<RecordFile<S>, FileFault>
+        ensures clean { IfOk result (λ f. HasCleanDisk (state S.Store f.held) →
+            HasCleanDisk (state S.Store connection)) }
+        ensures begun { IfOk result (λ f. HasCleanDisk (state S.Store f.held) →
+            BeginsFrom (state S.Store connection) (state S.Store f.held)) }
+        ensures rest { IfOk result (λ f. HasCleanDisk (state S.Store f.held) →
+            IsAtRest S.Store f) }
+        ensures unspent { IfOk result (λ f. f.is_spent ≡ false) }
+        ensures fresh { IsTrue is_made → IfOk result (λ f. HasCleanDisk (state S.Store f.held) →
+            Stands nothing (state S.Store f.held).now.trees) }
+    {
+        if is_made && !is_new(connection.schema()) {
             return Err(FileFault::Foreign);
         }
         RecordFile::over(connection)
