@@ -1,6 +1,7 @@
 //! The command line of `sundr`: what its words ask for, and the texts of its help.
 #![tactic(auto)]
 
+mod drafts;
 mod help;
 mod line;
 mod options;

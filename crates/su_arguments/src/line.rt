@@ -5,11 +5,12 @@ ghost use Rattle.su_lms.specs.ParameterSets.{height_of, width_of};
 ghost use Rattle.su_arguments.specs.declared.line.LineFault.TheVariants.{NoMemory};
 ghost use Rattle.su_arguments.specs.Line.{HasGoodNumbers};
 
+use crate::drafts::Draft;
 use crate::help::{
     ABOUT, AUDIT_ABOUT, AUDIT_ANSWERS, CLIENT_ANSWERS, DESK_ABOUT, DESK_ANSWERS, KEYGEN_ABOUT,
     LONG_VERSION,
 };
-use crate::options::{keys_of, needed, needed_keys, usage};
+use crate::options::{keys_of, needed, needed_keys, option, usage};
 use crate::serving::{
     ClientArgs, ServeArgs, backup_command, backup_of, client_command, client_of, serve_command,
     serve_of,
@@ -84,10 +85,16 @@ pub fn line_of<'a>(
     let desk_help = format!(in alloc; "{desk_words}\n\n{DESK_ANSWERS}")?;
     let client_help = format!(in alloc; "{client_words}\n\n{CLIENT_ANSWERS}")?;
     let program = program(alloc, desk_help.as_str(), client_help.as_str())?;
-    let matches = match program.try_get_matches_from(words) {
-        Ok(matches) => matches,
-        Err(error) => return shown(alloc, &error),
-    };
+    match program.try_get_matches_from(words) {
+        Ok(matches) => asked(alloc, &matches),
+        Err(error) => shown(alloc, &error),
+    }
+}
+
+/// Reads what the words of a command line ask for that were matched.
+fn asked(alloc: Global, matches: &ArgMatches<'_>) -> Result<Line, LineFault>
+    ensures { IfOk result HasGoodNumbers }
+{
     match matches.subcommand() {
         Some(("desk", values)) => desk(alloc, values),
         Some(("keygen", values)) => keygen(alloc, values),
@@ -105,26 +112,26 @@ fn program<'a>(
     desk_help: &'a str,
     client_help: &'a str,
 ) -> Result<Command<'a>, AllocError> {
-    Command::new(alloc, "sundr")
+    let program = Command::new(alloc, "sundr")
         .long_about(ABOUT)
         .version("0.1.0")
         .long_version(LONG_VERSION)
-        .subcommand_required(true)
-        .subcommand(desk_command(alloc, desk_help)?)?
-        .subcommand(keygen_command(alloc)?)?
-        .subcommand(audit_command(alloc)?)?
-        .subcommand(serve_command(alloc)?)?
-        .subcommand(client_command(alloc, client_help)?)?
-        .subcommand(backup_command(alloc)?)
+        .subcommand_required(true);
+    Draft::of(program)
+        .subcommand(desk_command(alloc, desk_help))
+        .subcommand(keygen_command(alloc))
+        .subcommand(audit_command(alloc))
+        .subcommand(serve_command(alloc))
+        .subcommand(client_command(alloc, client_help))
+        .subcommand(backup_command(alloc))
+        .finish()
 }
 
 fn desk_command<'a>(alloc: Global, help: &'a str) -> Result<Command<'a>, AllocError> {
-    let users = Arg::new(alloc, "users")
-        .long("users")
-        .value_name("N")
+    let help_of_users = "How many users, 1 to 64: group 0 has all, group 1 user 0";
+    let users = option(alloc, "users", "N", help_of_users)
         .value_parser(clap::value_parser!(u8).range(1..65))
-        .default_value("2")
-        .help("How many users, 1 to 64: group 0 has all, group 1 user 0");
+        .default_value("2");
     Command::new(alloc, "desk")
         .about("Runs a script from standard input")
         .long_about(DESK_ABOUT)
@@ -136,30 +143,31 @@ fn keygen_command<'a>(alloc: Global) -> Result<Command<'a>, AllocError> {
     let command = Command::new(alloc, "keygen")
         .about("Makes a key, and prints its public key in hex")
         .long_about(KEYGEN_ABOUT);
-    let entropy = needed(alloc, "entropy", "FILE").help("48 random bytes, read once");
-    let command = command.arg(entropy)?;
-    let out = needed(alloc, "out", "FILE").help("The key file; FILE.pub gets the public key");
-    let command = command.arg(out)?;
-    let height = needed(alloc, "height", "5|10")
-        .value_parser(HEIGHTS.as_slice())
-        .hide_possible_values(true)
-        .help("Of the tree: a key signs 32 or 1,024 times");
-    let command = command.arg(height)?;
-    let width = needed(alloc, "width", "4|8")
-        .value_parser(WIDTHS.as_slice())
-        .hide_possible_values(true)
-        .help("Of a coefficient: 8 bits sign shorter and slower");
-    command.arg(width)
+    let out = "The key file; FILE.pub gets the public key";
+    let height = "Of the tree: a key signs 32 or 1,024 times";
+    let width = "Of a coefficient: 8 bits sign shorter and slower";
+    Draft::of(command)
+        .arg(needed(alloc, "entropy", "FILE", "48 random bytes, read once"))
+        .arg(needed(alloc, "out", "FILE", out))
+        .arg(one_of(needed(alloc, "height", "5|10", height), HEIGHTS.as_slice()))
+        .arg(one_of(needed(alloc, "width", "4|8", width), WIDTHS.as_slice()))
+        .finish()
+}
+
+/// Has an option take one of these words, which its help tells.
+fn one_of<'a>(option: Arg<'a>, words: &'a [&'a str]) -> Arg<'a> {
+    option.value_parser(words).hide_possible_values(true)
 }
 
 fn audit_command<'a>(alloc: Global) -> Result<Command<'a>, AllocError> {
-    let log = needed(alloc, "log", "FILE").help("The log");
-    Command::new(alloc, "audit")
+    let command = Command::new(alloc, "audit")
         .about("Audits a log of commits")
         .long_about(AUDIT_ABOUT)
-        .after_help(AUDIT_ANSWERS)
-        .arg(log)?
+        .after_help(AUDIT_ANSWERS);
+    Draft::of(command)
+        .arg(needed(alloc, "log", "FILE", "The log"))
         .arg(needed_keys(alloc))
+        .finish()
 }
 
 const HEIGHTS: [&str; 2] = ["5", "10"];

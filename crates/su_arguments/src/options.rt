@@ -6,12 +6,17 @@ use crate::line::LineFault;
 use clap::{Arg, ArgMatches};
 use std::alloc::{AllocError, Global};
 
-/// Builds an option that has to be given.
-pub(crate) fn needed<'a>(alloc: Global, name: &'a str, value: &'a str) -> Arg<'a> {
+/// Builds an option with this name, this word for its value, and this help.
+pub(crate) fn option<'a>(alloc: Global, name: &'a str, value: &'a str, help: &'a str) -> Arg<'a> {
     Arg::new(alloc, name)
         .long(name)
         .value_name(value)
-        .required(true)
+        .help(help)
+}
+
+/// Builds an option that has to be given.
+pub(crate) fn needed<'a>(alloc: Global, name: &'a str, value: &'a str, help: &'a str) -> Arg<'a> {
+    option(alloc, name, value, help).required(true)
 }
 
 /// Builds the words after the options: the files of the users' public keys.

@@ -3,9 +3,10 @@ ghost use Rattle.std.specs.Prelude.{IfOk, IfSome};
 ghost use Rattle.su_arguments.specs.Line.{HasGoodNumbers};
 ghost use Rattle.su_arguments.specs.Ranges.{IsPort, IsUser, IsWorkerCount, IsCapacity, IsTurnLimit, IsSessionCount, IsCacheSize, IsTryCount};
 
+use crate::drafts::Draft;
 use crate::help::{BACKUP_ABOUT, BACKUP_ANSWERS, CLIENT_ABOUT, SERVE_ABOUT};
 use crate::line::{Line, LineFault};
-use crate::options::{copy, keys_of, needed, needed_keys, usage};
+use crate::options::{copy, keys_of, needed, needed_keys, option, usage};
 use clap::{Arg, ArgMatches, Command};
 use std::alloc::{AllocError, Global};
 use std::net::{IpAddr, Ipv4Addr};
@@ -43,49 +44,69 @@ pub struct ClientArgs {
     pub keys: Vec<String>,
 }
 
+/// Builds the server's command line.
 pub(crate) fn serve_command<'a>(alloc: Global) -> Result<Command<'a>, AllocError> {
     let command = Command::new(alloc, "serve")
         .about("Serves a shared folder")
         .long_about(SERVE_ABOUT);
-    let port = needed_port(alloc).help("The port that it listens on, 1 to 65535");
-    let command = command.arg(port)?;
-    let listen = Arg::new(alloc, "listen")
-        .long("listen")
-        .value_name("ADDR")
-        .help("The address of this machine that it listens on; else 127.0.0.1");
-    let command = command.arg(listen)?;
-    let workers = needed(alloc, "workers", "W")
-        .value_parser(clap::value_parser!(usize).range(1..17))
-        .help("How many sessions it serves at a time, 1 to 16");
-    let command = command.arg(workers)?;
-    let capacity = needed(alloc, "capacity", "C")
-        .value_parser(clap::value_parser!(u64).range(1..1_000_001))
-        .help("How many commits it keeps, 1 to 1,000,000");
-    let command = command.arg(capacity)?;
-    let turn_seconds = Arg::new(alloc, "turn-seconds")
-        .long("turn-seconds")
-        .value_name("S")
+    Draft::of(command)
+        .arg(needed_port(alloc, "The port that it listens on, 1 to 65535"))
+        .arg(listen(alloc))
+        .arg(workers(alloc))
+        .arg(capacity(alloc))
+        .arg(turn_seconds(alloc))
+        .arg(sessions(alloc))
+        .arg(store(alloc))
+        .arg(cache(alloc))
+        .arg(needed_keys(alloc))
+        .finish()
+}
+
+fn listen<'a>(alloc: Global) -> Arg<'a> {
+    let help = "The address of this machine that it listens on; else 127.0.0.1";
+    option(alloc, "listen", "ADDR", help)
+}
+
+fn workers<'a>(alloc: Global) -> Arg<'a> {
+    needed(
+        alloc,
+        "workers",
+        "W",
+        "How many sessions it serves at a time, 1 to 16",
+    )
+    .value_parser(clap::value_parser!(usize).range(1..17))
+}
+
+fn capacity<'a>(alloc: Global) -> Arg<'a> {
+    needed(
+        alloc,
+        "capacity",
+        "C",
+        "How many commits it keeps, 1 to 1,000,000",
+    )
+    .value_parser(clap::value_parser!(u64).range(1..1_000_001))
+}
+
+fn turn_seconds<'a>(alloc: Global) -> Arg<'a> {
+    let help = "How many seconds of its turn a session may be silent, 1 to 3,600";
+    option(alloc, "turn-seconds", "S", help)
         .value_parser(clap::value_parser!(u32).range(1..3_601))
         .default_value("60")
-        .help("How many seconds of its turn a session may be silent, 1 to 3,600");
-    let command = command.arg(turn_seconds)?;
-    let sessions = Arg::new(alloc, "sessions")
-        .long("sessions")
-        .value_name("N")
-        .value_parser(clap::value_parser!(u32).range(1..1_000_001))
-        .help("It ends after so many sessions, 1 to 1,000,000; else when it is ended");
-    let command = command.arg(sessions)?;
-    let store = Arg::new(alloc, "store")
-        .long("store")
-        .value_name("DIR")
-        .help("The folder in which it keeps all that is stored");
-    let command = command.arg(store)?;
-    let cache = Arg::new(alloc, "cache")
-        .long("cache")
-        .value_name("MIB")
-        .value_parser(clap::value_parser!(u32).range(1..1_000_001))
-        .help("With --store: MiB of items in memory at most, 1 to 1,000,000; else 256");
-    command.arg(cache)?.arg(needed_keys(alloc))
+}
+
+fn sessions<'a>(alloc: Global) -> Arg<'a> {
+    let help = "It ends after so many sessions, 1 to 1,000,000; else when it is ended";
+    option(alloc, "sessions", "N", help).value_parser(clap::value_parser!(u32).range(1..1_000_001))
+}
+
+fn store<'a>(alloc: Global) -> Arg<'a> {
+    let help = "The folder in which it keeps all that is stored";
+    option(alloc, "store", "DIR", help)
+}
+
+fn cache<'a>(alloc: Global) -> Arg<'a> {
+    let help = "With --store: MiB of items in memory at most, 1 to 1,000,000; else 256";
+    option(alloc, "cache", "MIB", help).value_parser(clap::value_parser!(u32).range(1..1_000_001))
 }
 
 /// Builds the client's command line, with a text on a script's commands and answers.
@@ -94,42 +115,48 @@ pub(crate) fn client_command<'a>(alloc: Global, help: &'a str) -> Result<Command
         .about("Runs a script from standard input against a server")
         .long_about(CLIENT_ABOUT)
         .after_help(help);
-    let port = needed_port(alloc).help("The server's port on this machine, 1 to 65535");
-    let command = command.arg(port)?;
-    let user = needed(alloc, "user", "U")
-        .value_parser(clap::value_parser!(u8).range(0..64))
-        .help("The user who works, 0 to 63");
-    let command = command.arg(user)?;
-    let key = needed(alloc, "key", "FILE").help("The user's key file");
-    let command = command.arg(key)?;
-    let log = Arg::new(alloc, "log")
-        .long("log")
-        .value_name("FILE")
-        .help("A saved log, whose commits are taken first");
-    let command = command.arg(log)?;
-    let tries = Arg::new(alloc, "tries")
-        .long("tries")
-        .value_name("T")
+    let log = "A saved log, whose commits are taken first";
+    Draft::of(command)
+        .arg(needed_port(alloc, SERVER_PORT))
+        .arg(user(alloc))
+        .arg(needed(alloc, "key", "FILE", "The user's key file"))
+        .arg(option(alloc, "log", "FILE", log))
+        .arg(tries(alloc))
+        .arg(needed_keys(alloc))
+        .finish()
+}
+
+fn user<'a>(alloc: Global) -> Arg<'a> {
+    needed(alloc, "user", "U", "The user who works, 0 to 63").value_parser(clap::value_parser!(
+        u8
+    ).range(0..64))
+}
+
+fn tries<'a>(alloc: Global) -> Arg<'a> {
+    let help = "How often it asks for a turn that another has, 1 to 1,000,000";
+    option(alloc, "tries", "T", help)
         .value_parser(clap::value_parser!(u32).range(1..1_000_001))
         .default_value("1000")
-        .help("How often it asks for a turn that another has, 1 to 1,000,000");
-    command.arg(tries)?.arg(needed_keys(alloc))
 }
 
+/// Builds the backup's command line.
 pub(crate) fn backup_command<'a>(alloc: Global) -> Result<Command<'a>, AllocError> {
-    let port = needed_port(alloc).help("The server's port on this machine, 1 to 65535");
-    let to = needed(alloc, "to", "DIR").help("The folder of the copy");
-    Command::new(alloc, "backup")
+    let command = Command::new(alloc, "backup")
         .about("Copies what a running server has stored into a folder")
         .long_about(BACKUP_ABOUT)
-        .after_help(BACKUP_ANSWERS)
-        .arg(port)?
-        .arg(to)?
+        .after_help(BACKUP_ANSWERS);
+    Draft::of(command)
+        .arg(needed_port(alloc, SERVER_PORT))
+        .arg(needed(alloc, "to", "DIR", "The folder of the copy"))
         .arg(needed_keys(alloc))
+        .finish()
 }
 
-fn needed_port<'a>(alloc: Global) -> Arg<'a> {
-    needed(alloc, "port", "P").value_parser(clap::value_parser!(u16).range(1..65_536))
+/// What a client's and a backup's port is, in their help.
+const SERVER_PORT: &str = "The server's port on this machine, 1 to 65535";
+
+fn needed_port<'a>(alloc: Global, help: &'a str) -> Arg<'a> {
+    needed(alloc, "port", "P", help).value_parser(clap::value_parser!(u16).range(1..65_536))
 }
 
 /// `serve --port P --workers W --capacity C [--listen ADDR] [--turn-seconds S] [--sessions N]

@@ -108,13 +108,12 @@ impl<D: Disk + Drop> Place<D> {
 
     /// Shuts the file, if it is open, and gives it up. `Spent` where it was lost to a call.
     pub(crate) fn close(self) -> Result<(), FileFault> {
-        match self {
-            Place::Open(file) => match file.shut() {
-                Ok(_shut) => Ok(()),
-                Err((fault, _store)) => Err(fault),
+        match self.into_shut() {
+            Ok(place) => match &place {
+                Place::Shut(_) => Ok(()),
+                _ => Err(FileFault::Spent),
             },
-            Place::Shut(_shut) => Ok(()),
-            _ => Err(FileFault::Spent),
+            Err((fault, _place)) => Err(fault),
         }
     }
 }

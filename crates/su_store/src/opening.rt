@@ -1,5 +1,5 @@
 // A file of the store at a path, and what a crash leaves of its files.
-ghost use Rattle.std.specs.Prelude.{IfOk};
+ghost use Rattle.std.specs.Prelude.{IfOk, IsTrue};
 ghost use Rattle.sqlite.specs.Tree.{Trees};
 ghost use Rattle.sqlite_trees.specs.View.{IsClean};
 ghost use Rattle.sqlite.specs.State.{HasCleanDisk};
@@ -30,10 +30,7 @@ pub fn open<T: Start>(
         OpensFrom (image_at T.Start) f.held) }
     ensures rest { IfOk result (λ f. HasCleanDisk (file_state f.held) → IsAtRest over_files f) }
 {
-    match Connection::open_from(rt, path, true, start) {
-        Ok(connection) => RecordFile::over(connection),
-        Err((error, _left)) => Err(FileFault::from(error)),
-    }
+    take_up(rt, path, start, false)
 }
 
 /// Makes the store's file at a path, which keeps nothing yet, with a sum at the end of each page.
@@ -47,8 +44,24 @@ pub fn make<T: Start>(
         Stands nothing (file_state f.held).now.trees) }
     ensures rest { IfOk result (λ f. HasCleanDisk (file_state f.held) → IsAtRest over_files f) }
 {
+    take_up(rt, path, start, true)
+}
+
+/// Opens the file at a path, or where it is made, refuses one with a table.
+fn take_up<T: Start>(
+    rt: &HostRuntime,
+    path: &str,
+    start: T,
+    is_made: bool,
+) -> Result<RecordFile<FileStore<FileFrom<T>>>, FileFault>
+    ensures opened { IfOk result (λ f. HasCleanDisk (file_state f.held) →
+        OpensFrom (image_at T.Start) f.held) }
+    ensures rest { IfOk result (λ f. HasCleanDisk (file_state f.held) → IsAtRest over_files f) }
+    ensures fresh { IsTrue is_made → IfOk result (λ f. HasCleanDisk (file_state f.held) →
+        Stands nothing (file_state f.held).now.trees) }
+{
     match Connection::open_from(rt, path, true, start) {
-        Ok(connection) => RecordFile::make(connection),
+        Ok(connection) => RecordFile::take_up(connection, is_made),
         Err((error, _left)) => Err(FileFault::from(error)),
     }
 }
@@ -60,7 +73,12 @@ impl<D: Disk + Drop> RecordFile<FileStore<D>> {
         ensures { IsClean (view result) → (left : _) → (files_state result).may_leave left
             → ∥ ((db : Trees) × HoldsDatabase left db × (file_state self.held).may_leave db) ∥₁ }
     {
-        self.into_connection().into_store()
+        let RecordFile {
+            connection,
+            count: _,
+            is_spent: _,
+        } = self;
+        connection.into_store()
     }
 
     /// Copies the log into the database file, which then holds all that is kept, and gives both
@@ -69,7 +87,12 @@ impl<D: Disk + Drop> RecordFile<FileStore<D>> {
         ensures { IfOk result (λ files. AreClean D.Disk files.log files.db →
             IsCopied self.held files) }
     {
-        match self.into_connection().close_files() {
+        let RecordFile {
+            connection,
+            count: _,
+            is_spent: _,
+        } = self;
+        match connection.close_files() {
             Ok(files) => Ok(files),
             Err((error, _left)) => Err(FileFault::from(error)),
         }

@@ -3,10 +3,12 @@ ghost use Rattle.std.specs.Prelude.{◌≡◌, ◌+◌, ◌≤◌, None, false, 
 ghost use Rattle.sha2.specs.Sha256.{sha256};
 ghost use Rattle.sqlite.specs.State.{HasCleanDisk, Survives};
 ghost use Rattle.sqlite.specs.Held.{state};
-ghost use Rattle.su_store.specs.Changes.{Extends, Keeps};
+ghost use Rattle.sqlite.specs.Tree.{Trees};
+ghost use Rattle.sqlite_trees.specs.View.{IsClean};
+ghost use Rattle.su_store.specs.Changes.{Extends, HasRecords, Keeps};
 ghost use Rattle.su_store.specs.Lookups.{IsRecord, IsBlock};
 ghost use Rattle.su_store.specs.Kept.{nothing};
-ghost use Rattle.su_store.specs.Tables.{Stands};
+ghost use Rattle.su_store.specs.Tables.{Stands, store_schema};
 ghost use Rattle.su_store.specs.Files.{BeginsFrom, IsAtRest};
 
 use crate::faults::FileFault;
@@ -15,7 +17,8 @@ use crate::records::append;
 use crate::schemas::{is_new, is_store};
 use crate::tables::prepare;
 use sha2::Sha256;
-use sqlite::{Alter, Connection};
+use sqlite::{Alter, Connection, FileStore};
+use sqlite_disk::Disk;
 use std::marker::Model;
 use su_bytes::Digest;
 
@@ -27,9 +30,9 @@ pub const MOST_RECORDS: u32 = 100_000;
 /// `Spent`, and what was kept is found by the next open.
 #[derive(Drop)]
 pub struct RecordFile<S: Alter> {
-    connection: Connection<S>,
-    count: u32,
-    is_spent: bool,
+    pub(crate) connection: Connection<S>,
+    pub(crate) count: u32,
+    pub(crate) is_spent: bool,
 }
 
 impl<S: Alter> Model for RecordFile<S> {
@@ -59,13 +62,7 @@ impl<S: Alter + Drop> RecordFile<S> {
     {
         let mut connection = connection;
         prepare(&mut connection)?;
-        let count = count_records(&mut connection, MOST_RECORDS)?;
-        if !connection.is_autocommit() {
-            return Err(FileFault::Spent);
-        }
-        if MOST_RECORDS < count {
-            return Err(FileFault::TooLong);
-        }
+        let count = count_at_rest(&mut connection)?;
         Ok(RecordFile {
             connection,
             count,
@@ -82,16 +79,32 @@ impl<S: Alter + Drop> RecordFile<S> {
             IsAtRest S.Store f) }
         ensures unspent { IfOk result (λ f. f.is_spent ≡ false) }
     {
-        if !is_new(connection.schema()) {
+        RecordFile::take_up(connection, true)
+    }
+
+    /// Takes over a connection as `over` does, or where the file is made, as `make` does.
+    pub(crate) fn take_up(
+        connection: Connection<S>,
+        is_made: bool,
+    ) -> Result<RecordFile<S>, FileFault>
+        ensures clean { IfOk result (λ f. HasCleanDisk (state S.Store f.held) →
+            HasCleanDisk (state S.Store connection)) }
+        ensures begun { IfOk result (λ f. HasCleanDisk (state S.Store f.held) →
+            BeginsFrom (state S.Store connection) (state S.Store f.held)) }
+        ensures rest { IfOk result (λ f. HasCleanDisk (state S.Store f.held) →
+            IsAtRest S.Store f) }
+        ensures unspent { IfOk result (λ f. f.is_spent ≡ false) }
+        ensures fresh { IsTrue is_made → IfOk result (λ f. HasCleanDisk (state S.Store f.held) →
+            Stands nothing (state S.Store f.held).now.trees) }
+    {
+        if is_made && !is_new(connection.schema()) {
             return Err(FileFault::Foreign);
         }
         RecordFile::over(connection)
     }
 
-    /// Takes over a connection to a store's file. It is given back where the file is none.
-    pub(crate) fn resume(
-        connection: Connection<S>,
-    ) -> Result<RecordFile<S>, (FileFault, Connection<S>)>
+    /// Takes over a connection to a store's file. What it stands on is left where the file is none.
+    pub(crate) fn resume(connection: Connection<S>) -> Result<RecordFile<S>, (FileFault, S)>
         ensures clean { IfOk result (λ f. HasCleanDisk (state S.Store f.held) →
             HasCleanDisk (state S.Store connection)) }
         ensures same { IfOk result (λ f. HasCleanDisk (state S.Store f.held) →
@@ -99,43 +112,71 @@ impl<S: Alter + Drop> RecordFile<S> {
         ensures rest { IfOk result (λ f. HasCleanDisk (state S.Store f.held) →
             IsAtRest S.Store f) }
         ensures unspent { IfOk result (λ f. f.is_spent ≡ false) }
-        ensures left { IfErr result (λ e.
-            Survives (state S.Store connection) (state S.Store e.1) (λ _. ⊥)) }
+        ensures doubt { IfErr result (λ e. IsClean (S.Store.view e.1) →
+            HasCleanDisk (state S.Store connection)) }
+        ensures left { IfErr result (λ e. IsClean (S.Store.view e.1) → (db : Trees) →
+            S.Store.recovers e.1 db → (state S.Store connection).may_leave db) }
     {
         let mut connection = connection;
-        if !is_store(connection.schema()) {
-            return Err((FileFault::Foreign, connection));
+        match count_of_store(&mut connection) {
+            Ok(count) => Ok(RecordFile {
+                connection,
+                count,
+                is_spent: false,
+            }),
+            Err(fault) => Err((fault, connection.into_store())),
         }
-        let count = match count_records(&mut connection, MOST_RECORDS) {
-            Ok(count) => count,
-            Err(error) => return Err((FileFault::from(error), connection)),
-        };
-        if !connection.is_autocommit() {
-            return Err((FileFault::Spent, connection));
-        }
-        if MOST_RECORDS < count {
-            return Err((FileFault::TooLong, connection));
-        }
-        Ok(RecordFile {
-            connection,
-            count,
-            is_spent: false,
-        })
     }
 }
 
-impl<S: Alter> RecordFile<S> {
-    pub(crate) fn into_connection(self) -> Connection<S>
-        ensures { result ≡ self.held }
-    {
-        let RecordFile {
-            connection,
-            count: _,
-            is_spent: _,
-        } = self;
-        connection
+/// Counts the records of a store's file. `Foreign` for one of something else.
+fn count_of_store<S: Alter>(connection: &mut Connection<S>) -> Result<u32, FileFault>
+    ensures same { HasCleanDisk (state S.Store connection.new) → OnOk result
+        ((state S.Store connection.new).now ≡ (state S.Store connection.old).now) }
+    ensures schema { HasCleanDisk (state S.Store connection.new) → OnOk result
+        ((state S.Store connection.new).now.schema ≡ store_schema) }
+    ensures counted { HasCleanDisk (state S.Store connection.new) → IfOk result (λ count.
+        HasRecords count (state S.Store connection.new).now.trees) }
+    ensures settled { HasCleanDisk (state S.Store connection.new) → OnOk result ((db : Trees) →
+        (state S.Store connection.new).may_leave db
+        → db ≡ (state S.Store connection.new).now.trees) }
+    ensures crash { Survives (state S.Store connection.old) (state S.Store connection.new)
+        (λ _. ⊥) }
+{
+    if !is_store(connection.schema()) {
+        return Err(FileFault::Foreign);
     }
+    count_at_rest(connection)
+}
 
+/// Counts the records of a file with the two tables. `Spent` where the connection is inside a
+/// transaction, and `TooLong` where there are more records than a file may have.
+fn count_at_rest<S: Alter>(connection: &mut Connection<S>) -> Result<u32, FileFault>
+    requires { HasCleanDisk (state S.Store connection.old)
+        → (state S.Store connection.old).now.schema ≡ store_schema }
+    ensures same { HasCleanDisk (state S.Store connection.new) → OnOk result
+        ((state S.Store connection.new).now ≡ (state S.Store connection.old).now) }
+    ensures counted { HasCleanDisk (state S.Store connection.new) → IfOk result (λ count.
+        HasRecords count (state S.Store connection.new).now.trees) }
+    ensures settled { HasCleanDisk (state S.Store connection.new) → OnOk result ((db : Trees) →
+        (state S.Store connection.new).may_leave db
+        → db ≡ (state S.Store connection.new).now.trees) }
+    ensures crash { Survives (state S.Store connection.old) (state S.Store connection.new)
+        (λ _. ⊥) }
+{
+    let count = count_records(connection, MOST_RECORDS)?;
+    if !connection.is_autocommit() {
+        return Err(FileFault::Spent);
+    }
+    if MOST_RECORDS < count {
+        return Err(FileFault::TooLong);
+    }
+    Ok(count)
+}
+
+// These two stand here and not above, so that a caller does not prove again what files are as a
+// store of tables (docs/ARCHITECTURE.md, "Forms the kit wants").
+impl<D: Disk> RecordFile<FileStore<D>> {
     /// How many records there are: the number of the next.
     pub fn len(&self) -> u32
         ensures { result ≡ self.now.count }
@@ -149,7 +190,9 @@ impl<S: Alter> RecordFile<S> {
     {
         self.count == 0
     }
+}
 
+impl<S: Alter> RecordFile<S> {
     /// Keeps one more record and the blocks that it needs, all or nothing, and returns its number.
     /// At `Ok` they are on the disk. `Full` at 100,000 records, and then nothing changes.
     pub fn append(&mut self, record: &[u8], blocks: &[Vec<u8>]) -> Result<u32, FileFault>

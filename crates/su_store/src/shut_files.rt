@@ -1,6 +1,7 @@
 // A file of the store that is shut and opened again.
-ghost use Rattle.std.specs.Prelude.{◌≡◌, false, IsTrue, IfOk, IfErr};
+ghost use Rattle.std.specs.Prelude.{◌≡◌, false, IsTrue, IfOk, IfErr, OnOk};
 ghost use Rattle.sqlite.specs.Tree.{Trees};
+ghost use Rattle.sqlite.specs.Held.{state};
 ghost use Rattle.sqlite_trees.specs.View.{IsClean};
 ghost use Rattle.sqlite.specs.State.{HasCleanDisk};
 ghost use Rattle.sqlite.specs.Files.{file_state, over_files, image_of, HoldsDatabase};
@@ -12,7 +13,7 @@ ghost use Rattle.su_store.specs.Shut.{Rests};
 
 use crate::faults::FileFault;
 use crate::record_files::RecordFile;
-use sqlite::{Connection, FileStore, Leftover, Options};
+use sqlite::{Alter, Connection, FileStore, Leftover, Options};
 use sqlite_disk::{Disk, Files};
 use std::alloc::Global;
 
@@ -50,14 +51,36 @@ impl<D: Disk + Drop> RecordFile<FileStore<D>> {
         ensures left { IfErr result (λ e. (db : Trees) → recovers e.1 db →
             (file_state self.held).may_leave db) }
     {
-        let connection = self.into_connection();
-        if !connection.is_autocommit() {
-            return Err((FileFault::Spent, connection.into_store()));
-        }
+        let RecordFile {
+            connection,
+            count: _,
+            is_spent: _,
+        } = self;
+        let connection = match outside(connection) {
+            Ok(connection) => connection,
+            Err(store) => return Err((FileFault::Spent, store)),
+        };
         match connection.close_files() {
             Ok(files) => Ok(ShutFile { files }),
             Err((error, store)) => Err((FileFault::from(error), store)),
         }
+    }
+}
+
+/// Gives a connection back that is outside of transactions. What another one stands on is left.
+fn outside<S: Alter + Drop>(connection: Connection<S>) -> Result<Connection<S>, S>
+    ensures same { IfOk result (λ c. c ≡ connection) }
+    ensures settled { OnOk result (IsTrue (state S.Store connection).is_open →
+        (state S.Store connection).now ≡ (state S.Store connection).committed) }
+    ensures doubt { IfErr result (λ store. IsClean (S.Store.view store) →
+        HasCleanDisk (state S.Store connection)) }
+    ensures left { IfErr result (λ store. (db : Trees) → S.Store.recovers store db →
+        (state S.Store connection).may_leave db) }
+{
+    if connection.is_autocommit() {
+        Ok(connection)
+    } else {
+        Err(connection.into_store())
     }
 }
 
@@ -82,7 +105,7 @@ impl<D: Disk + Drop> ShutFile<D> {
         match Connection::open_files_with(alloc, files, options, true) {
             Ok(connection) => match RecordFile::resume(connection) {
                 Ok(file) => Ok(file),
-                Err((fault, connection)) => Err((fault, Leftover::Store(connection.into_store()))),
+                Err((fault, store)) => Err((fault, Leftover::Store(store))),
             },
             Err((error, left)) => Err((FileFault::from(error), left)),
         }

@@ -1,4 +1,4 @@
-use Rattle.std.proofs.Common.{◌≡◌, inl, inr, arith, sym, ap, subst, ◌∙◌}
+use Rattle.std.proofs.Common.{◌≡◌, sym, ap, subst, ◌∙◌}
 use Rattle.sqlite.specs.Effect.{Database}
 use Rattle.sqlite.specs.State.{HasCleanDisk}
 use Rattle.sqlite.specs.Files.{file_state, AreFound}
@@ -15,15 +15,9 @@ returns-in-Ok-resume-clause-shows g c clean db held =
 
 pub returns-in-Err-resume-clause-left : goal.returns-in-Err-resume-clause-left
 returns-in-Err-resume-clause-left g c clean found may =
-    let quiet = c.into_store.ensures.quiet in
-    let left = c.in-Err-resume.ensures.left in
     let sure = no_doubt _ clean in
-    let then : HasCleanDisk (file_state c.in-Err-resume.connection) = omega (arith, quiet.clean, sure) in
-    let late : HasCleanDisk (file_state c.in-Ok.connection) = omega (arith, left.clean, then) in
+    let late : HasCleanDisk (file_state c.in-Ok.connection) = c.in-Err-resume.ensures.doubt sure in
     let finds = c.in-Ok.ensures.found late in
-    let before : (file_state c.in-Ok.connection).may_leave found = elim (left.crash then found (quiet.outcomes found may)) [
-      | inl was ↦ was
-      | inr none ↦ absurd none
-    ] in
+    let before : (file_state c.in-Ok.connection).may_leave found = c.in-Err-resume.ensures.left sure found may in
     let same : found ≡ (file_state c.in-Ok.connection).committed.trees = settled_at c.in-Ok.connection.store g.met.D.Disk.seen_may_stay found (c.in-Ok.ensures.opened late).0.is_open before in
     (subst (AreFound g.D.Disk c.args.self.files) (sym same) finds.reads, λ db held. same ∙ finds.holds db held)
