@@ -834,6 +834,87 @@ def silent(at):
         idle.close()
 
 
+def crowded(at):
+    """Silent sessions make room for connections that wait; who waits for ten seconds is told so."""
+    if program == MODEL:
+        return
+    room = Room(at)
+    with Server(room, workers=2) as server:
+        idle = [raw(server.port) for _ in range(2)]
+        for link in idle:
+            reply_to(link, wire.fetch(1))
+        took, ended = timed(lambda: room.run(server.port, 0, b"mkdir /a\n"))
+        yield f"a_silent_session_makes_room: {ended} {took:.1f} s", ended == ([b"ok 1"], [], 0) and 3 < took < 8
+        yield "and_is_ended", sum(map(has_ended, idle)) == 1
+    with Server(room, workers=1) as server:
+        with wire_socket(server.port) as holder, wire_socket(server.port) as late:
+            holder.sendall(wire.frame(wire.GRANT))
+            holder.recv(4096)
+            took, reply = timed(lambda: late.recv(4096))
+            refused = wire.reply_in(reply[4:]) if reply else None
+            yield f"who_waits_is_told: {refused} {took:.1f} s", refused == ("refused", "31 Busy 65535") and 8 < took < 13
+            yield "and_its_link_ends", late.recv(1) == b""
+
+
+def timed(action):
+    """How many seconds an action took, and what came of it."""
+    started = time.monotonic()
+    result = action()
+    return time.monotonic() - started, result
+
+
+def floods(port, is_over):
+    """Connections that say nothing, and small items, until it is over."""
+    held, link = [], raw(port)
+    for number in range(1_000_000):
+        if is_over.is_set():
+            break
+        try:
+            link.ask(wire.put(b"%d" % number))
+            if number % 50 == 0:
+                held.append(wire_socket(port))
+        except (OSError, wire.LinkEnded):
+            link = raw(port)
+    for one in held:
+        one.close()
+
+
+def strangers(at):
+    """Beside strangers who idle, hold the turn, don't read and send much, a user's operations are all done."""
+    if program == MODEL:
+        return
+    room, is_over = Room(at), threading.Event()
+    with Server(room, "--turn-seconds", 3, "--cache", 1, workers=8) as server:
+        before = memory(server, "VmHWM")
+        idle = [wire_socket(server.port) for _ in range(64)]
+        holder = wire_socket(server.port)
+        holder.sendall(wire.frame(wire.GRANT))
+        deaf_ = wire_socket(server.port)
+        deaf_.setblocking(False)
+        try:
+            for _ in range(100_000):
+                deaf_.send(wire.frame(wire.fetch(1)))
+        except OSError:
+            pass  # its end is full
+        flood = threading.Thread(target=floods, args=(server.port, is_over))
+        flood.start()
+        waits, done = [], 0
+        with room.client(server.port, 0, "--tries", 1_000_000) as ann:
+            for number in range(200):
+                took, said = timed(lambda number=number: ann.say(b"create /%d" % number))
+                waits.append(took)
+                done += said == [b"ok %d" % (number + 1)]
+        is_over.set()
+        flood.join()
+        grown = memory(server, "VmHWM") - before
+        print(f"serving: beside strangers {done} of 200 operations done, the longest wait {max(waits):.1f} s, {grown // 1000000} MB more")
+        yield f"all_is_done_beside_strangers: {done}", done == 200
+        yield f"nobody_waits_longer_than_a_turn_and_a_place: {max(waits)}", max(waits) < 15
+        yield f"and_memory_is_bounded: {grown}", grown < 60_000_000
+        for link in (*idle, holder, deaf_):
+            link.close()
+
+
 def wire_socket(port):
     return socket.create_connection(("127.0.0.1", port), timeout=WAIT)
 
@@ -1385,7 +1466,7 @@ def same_log(seed, folder, room, client, team):
 
 PARTS = (
     walk, logs_taken_up, operations, at_once, many_users, at_a_keyboard, lines, saves, streams, faults, keys, signatures, kills,
-    kills_at_calls, busy, silent, deaf, turns, many_turns, lies, sessions, bytes_of_sessions, stored_bytes, book, example, by_chance)
+    kills_at_calls, busy, silent, deaf, crowded, strangers, turns, many_turns, lies, sessions, bytes_of_sessions, stored_bytes, book, example, by_chance)
 
 
 def main():

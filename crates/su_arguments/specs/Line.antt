@@ -3,7 +3,7 @@ use Rattle.std.specs.Prelude.{⊤, length, IfSome}
 use Rattle.su_lms.specs.ParameterSets.{CanBeMade}
 use Rattle.su_arguments.specs.declared.line.Line.{Line}
 use Rattle.su_arguments.specs.declared.line.Line.TheVariants.{Desk, Keygen, Audit, Serve, Client, Backup, Text}
-use Rattle.su_arguments.specs.Ranges.{IsUserCount, IsUser, IsPort, IsWorkerCount, IsCapacity, IsTurnLimit}
+use Rattle.su_arguments.specs.Ranges.{IsUserCount, IsUser, IsPort, IsWorkerCount, IsCapacity, IsTurnLimit, IsIdleLimit}
 use Rattle.su_arguments.specs.Ranges.{IsSessionCount, IsCacheSize, IsTryCount}
 
 -- each number is in its range, there are the keys of 1 to 64 users, and a key to be made is of a kind
@@ -14,7 +14,8 @@ HasGoodNumbers (Keygen entropy out params) = CanBeMade params.lms params.ots
 HasGoodNumbers (Audit log keys) = IsUserCount (length keys.items)
 HasGoodNumbers (Serve args) =
     IsPort args.port × IsWorkerCount args.workers × IsCapacity args.capacity
-    × IsTurnLimit args.turn_seconds × IfSome args.sessions IsSessionCount × IsCacheSize args.cache
+    × IsTurnLimit args.turn_seconds × IsIdleLimit args.idle_minutes
+    × IfSome args.sessions IsSessionCount × IsCacheSize args.cache
     × IsUserCount (length args.keys.items)
 HasGoodNumbers (Client args) =
     IsPort args.port × IsUser args.user × IsTryCount args.tries

@@ -25,6 +25,10 @@ IsCapacity n = (1 ≤ n) × (n ≤ 1000000)
 abbrev pub IsTurnLimit : ℕ → Type 0
 IsTurnLimit n = (1 ≤ n) × (n ≤ 3600)
 
+-- for how many minutes a session without the turn may be silent
+abbrev pub IsIdleLimit : ℕ → Type 0
+IsIdleLimit n = (1 ≤ n) × (n ≤ 1440)
+
 -- how many sessions a server may serve
 abbrev pub IsSessionCount : ℕ → Type 0
 IsSessionCount n = (1 ≤ n) × (n ≤ 1000000)

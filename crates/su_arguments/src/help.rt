@@ -111,12 +111,15 @@ them, group 1 has user 0. So
 serves four connections at a time until it is ended (^C), keeps what it stores
 in the folder `folder`, and goes on from there when it is started again. A
 commit is on the disk before anybody is told of it. Without --store all is kept
-in memory: with its end it is gone, but for what clients saved.
+in memory: with its end it is gone, but for what clients saved, and once the
+items of its commits fill --cache it takes no more.
 
 It listens on 127.0.0.1, so that only this machine reaches it, and tunnels that
 end there; --listen 0.0.0.0 opens it to all addresses. Whoever connects can
 read, and can take the turn: a session that has it and says nothing keeps it for
 --turn-seconds, and is ended then; so is one that doesn't read what it asks for.
+One without the turn is ended after --idle-minutes, and where a connection waits
+for a worker after 5 seconds; who waits for 10 is refused (31 Busy).
 Standard error tells when it listens, and at its end what it served.";
 
 pub const BACKUP_ABOUT: &str = "Copies what a running server has stored into a folder

@@ -1,7 +1,7 @@
 // The command lines of a server, of its clients, and of its backups.
 ghost use Rattle.std.specs.Prelude.{IfOk, IfSome};
 ghost use Rattle.su_arguments.specs.Line.{HasGoodNumbers};
-ghost use Rattle.su_arguments.specs.Ranges.{IsPort, IsUser, IsWorkerCount, IsCapacity, IsTurnLimit, IsSessionCount, IsCacheSize, IsTryCount};
+ghost use Rattle.su_arguments.specs.Ranges.{IsPort, IsUser, IsWorkerCount, IsCapacity, IsTurnLimit, IsIdleLimit, IsSessionCount, IsCacheSize, IsTryCount};
 
 use crate::drafts::Draft;
 use crate::help::{BACKUP_ABOUT, BACKUP_ANSWERS, CLIENT_ABOUT, SERVE_ABOUT};
@@ -11,18 +11,21 @@ use clap::{Arg, ArgMatches, Command};
 use std::alloc::{AllocError, Global};
 use std::net::{IpAddr, Ipv4Addr};
 
-/// How many MiB of items a server with a store has in memory at most, where nothing else is asked.
+/// How many MiB of items a server has in memory at most, where nothing else is asked.
 const CACHE: u32 = 256;
 
-/// A server on an address of this machine and a port, 1 to 65535, with 1 to 16 workers, over a book of 1 to 1,000,000 commits of users
-/// with the public keys in these files, 1 to 64 of them: for so many sessions, 1 to 1,000,000, or until
-/// it is ended. A session that has the turn may be silent for so many seconds of it, 1 to 3,600. What is stored is kept in a folder, or in memory alone; with a folder so many MiB of
-/// items are in memory at most, 1 to 1,000,000.
+/// A server on an address of this machine and a port, 1 to 65535, with 1 to 16 workers, over a book
+/// of 1 to 1,000,000 commits of users with the public keys in these files, 1 to 64 of them: for so
+/// many sessions, 1 to 1,000,000, or until it is ended. A session that has the turn may be silent for
+/// so many seconds of it, 1 to 3,600, and another one for so many minutes, 1 to 1,440. What is stored
+/// is kept in a folder, or in memory alone; so many MiB of items are in memory at most, 1 to
+/// 1,000,000.
 #[derive(Debug, Drop)]
 pub struct ServeArgs {
     pub listen: IpAddr,
     pub port: u16,
     pub turn_seconds: u32,
+    pub idle_minutes: u32,
     pub workers: usize,
     pub capacity: u64,
     pub sessions: Option<u32>,
@@ -55,6 +58,7 @@ pub(crate) fn serve_command<'a>(alloc: Global) -> Result<Command<'a>, AllocError
         .arg(workers(alloc))
         .arg(capacity(alloc))
         .arg(turn_seconds(alloc))
+        .arg(idle_minutes(alloc))
         .arg(sessions(alloc))
         .arg(store(alloc))
         .arg(cache(alloc))
@@ -94,6 +98,13 @@ fn turn_seconds<'a>(alloc: Global) -> Arg<'a> {
         .default_value("60")
 }
 
+fn idle_minutes<'a>(alloc: Global) -> Arg<'a> {
+    let help = "How many minutes a session without the turn may be silent, 1 to 1,440";
+    option(alloc, "idle-minutes", "M", help)
+        .value_parser(clap::value_parser!(u32).range(1..1_441))
+        .default_value("10")
+}
+
 fn sessions<'a>(alloc: Global) -> Arg<'a> {
     let help = "It ends after so many sessions, 1 to 1,000,000; else when it is ended";
     option(alloc, "sessions", "N", help).value_parser(clap::value_parser!(u32).range(1..1_000_001))
@@ -105,7 +116,7 @@ fn store<'a>(alloc: Global) -> Arg<'a> {
 }
 
 fn cache<'a>(alloc: Global) -> Arg<'a> {
-    let help = "With --store: MiB of items in memory at most, 1 to 1,000,000; else 256";
+    let help = "MiB of items in memory at most, 1 to 1,000,000; else 256";
     option(alloc, "cache", "MIB", help).value_parser(clap::value_parser!(u32).range(1..1_000_001))
 }
 
@@ -159,16 +170,17 @@ fn needed_port<'a>(alloc: Global, help: &'a str) -> Arg<'a> {
     needed(alloc, "port", "P", help).value_parser(clap::value_parser!(u16).range(1..65_536))
 }
 
-/// `serve --port P --workers W --capacity C [--listen ADDR] [--turn-seconds S] [--sessions N]
-/// [--store DIR [--cache MIB]] PUB..`
+/// `serve --port P --workers W --capacity C [--listen ADDR] [--turn-seconds S] [--idle-minutes M]
+/// [--sessions N] [--store DIR] [--cache MIB] PUB..`
 pub(crate) fn serve_of(alloc: Global, values: &ArgMatches<'_>) -> Result<Line, LineFault>
     ensures { IfOk result HasGoodNumbers }
 {
-    let (Some(port), Some(workers), Some(capacity), Some(turn_seconds)) = (
+    let (Some(port), Some(workers), Some(capacity), Some(turn_seconds), Some(idle_minutes)) = (
         port_of(values),
         workers_of(values),
         capacity_of(values),
         turn_seconds_of(values),
+        idle_minutes_of(values),
     ) else {
         return Err(usage(
             alloc,
@@ -179,20 +191,17 @@ pub(crate) fn serve_of(alloc: Global, values: &ArgMatches<'_>) -> Result<Line, L
         return Err(usage(alloc, "error: --listen takes an IP address of this machine"));
     };
     let store = copy(alloc, values.get_str("store"))?;
-    let cache = cache_of(values);
-    if store.is_none() && cache.is_some() {
-        return Err(usage(alloc, "error: --cache is for a server with --store"));
-    }
     let keys = keys_of(alloc, values)?;
     Ok(Line::Serve(ServeArgs {
         listen,
         port,
         turn_seconds,
+        idle_minutes,
         workers,
         capacity,
         sessions: sessions_of(values),
         store,
-        cache: cache.unwrap_or(CACHE),
+        cache: cache_of(values).unwrap_or(CACHE),
         keys,
     }))
 }
@@ -274,6 +283,13 @@ fn turn_seconds_of(values: &ArgMatches<'_>) -> Option<u32>
 {
     let seconds = values.get_one::<u32>("turn-seconds");
     seconds.filter(|seconds| 1 <= *seconds && *seconds <= 3_600)
+}
+
+fn idle_minutes_of(values: &ArgMatches<'_>) -> Option<u32>
+    ensures { IfSome result IsIdleLimit }
+{
+    let minutes = values.get_one::<u32>("idle-minutes");
+    minutes.filter(|minutes| 1 <= *minutes && *minutes <= 1_440)
 }
 
 fn sessions_of(values: &ArgMatches<'_>) -> Option<u32>

@@ -8,7 +8,6 @@ use crate::faults::tell_fault;
 use crate::guards::Guard;
 use crate::settings::Setting;
 use crate::stores::{DiskFile, FULL, Folder, options};
-use std::alloc::{AllocError, Global};
 use std::marker::Brand;
 use std::net::{Net, SocketAddr, TcpListener, TcpStream};
 use std::sync::Wait;
@@ -31,8 +30,8 @@ const MIB: usize = 1_048_576;
 
 /// What a server is asked for: its address, for how long a session may be silent, how many workers
 /// it has and commits it may store, after how many sessions it ends, if so, the folder in which it
-/// keeps what is stored, if there is one, and how many MiB those records and items may take in memory
-/// that are kept there too.
+/// keeps what is stored, if there is one, and how many MiB items may take in memory: those that stay
+/// there, and as many again of those that are kept in the folder too.
 #[derive(Clone, Copy)]
 pub struct Options<'a> {
     pub address: SocketAddr,
@@ -63,7 +62,8 @@ pub fn serve<T>(rt: &HostRuntime, host: &T, options: Options<'_>, roster: Roster
 where
     T: Net<Listener = TcpListener, Stream = TcpStream> + Threads + Wait + Sync,
 {
-    let Ok(blocks) = shared_blocks(rt.alloc(), options) else {
+    let room = (options.cache as usize).saturating_mul(MIB);
+    let Ok(blocks) = SharedBlocks::with_room(rt.alloc(), room) else {
         return tell_fault(rt, "out of memory");
     };
     let stop = Stop::new();
@@ -86,14 +86,6 @@ where
             let (good, _) = serve_over(&setting, terms, roster, Forgetful);
             good
         }
-    }
-}
-
-/// Makes room for items: bounded with a store, and else for all.
-fn shared_blocks(alloc: Global, options: Options<'_>) -> Result<SharedBlocks, AllocError> {
-    match options.store {
-        Some(_) => SharedBlocks::with_room(alloc, (options.cache as usize).saturating_mul(MIB)),
-        None => SharedBlocks::new(alloc),
     }
 }
 

@@ -1,5 +1,5 @@
 // The sessions of a listener.
-ghost use Rattle.std.specs.Prelude.{◌≡◌};
+ghost use Rattle.std.specs.Prelude.{◌≡◌, ◌<◌, length, IfSome};
 ghost use Rattle.std.specs.Iterator.{at_most};
 
 use crate::crowds::Crowd;
@@ -37,7 +37,7 @@ struct Waiting<S> {
 }
 
 /// The connections that a listener is offered, as sessions: so many, and then no more. Each begins
-/// once a worker is free. Where none is for 10 seconds, the connection is refused with `Busy`, and is
+/// once a worker is free, first those that have sent something. Where none is for 10 seconds, the connection is refused with `Busy`, and is
 /// no session; sessions that are silent make room meanwhile. What fails while it is accepted is no
 /// session either; after `MOST_FAILURES` such failures in a row no more come, nor once the server is
 /// to end.
@@ -148,18 +148,19 @@ where
         }
     }
 
-    /// Begins the session of the connection that came first, if a worker is free. `None` also where
-    /// its stream fails.
+    /// Begins the session of a connection, if a worker is free: of the one that came first of those
+    /// that have sent something, or else of all. `None` also where its stream fails.
     fn begin(&mut self) -> Option<Session<'a, L::Stream>>
         ensures { self.new.left ≡ self.old.left }
     {
         if self.waiting.is_empty() || !self.crowd.enter() {
             return None;
         }
+        let first = first_that_sent(&self.waiting).unwrap_or(0);
         let Waiting {
             stream: writer,
             rounds: _,
-        } = self.waiting.remove(0);
+        } = self.waiting.remove(first);
         match reader_of(&writer) {
             Ok(stream) => {
                 let reader = Watched::new(stream, self.stop, self.crowd, self.patience);
@@ -180,12 +181,26 @@ fn count_round<S>(waiting: &mut [Waiting<S>]) {
     }
 }
 
+/// Finds the first connection whose peer has sent something.
+fn first_that_sent<S: OpenStream>(waiting: &[Waiting<S>]) -> Option<usize>
+    ensures { IfSome result (λ index. index < length waiting.now) }
+{
+    waiting.iter().position(|one| has_sent(&one.stream))
+}
+
+/// Whether something that a peer has sent waits to be read.
+fn has_sent<S: OpenStream>(stream: &S) -> bool {
+    let mut byte = [0u8; 1];
+    stream.set_nonblocking(true).is_ok() && matches!(stream.peek(&mut byte), Ok(1))
+}
+
 /// A session with a worker: its two ends are two handles of one stream.
 type Session<'a, S> = Duplex<Watched<'a, S>, S>;
 
 /// Makes the reading handle of a stream. Small replies leave at once, a read ends for a look, and a
 /// write for a peer that doesn't read.
 fn reader_of<S: OpenStream>(writer: &S) -> io::Result<S> {
+    writer.set_nonblocking(false)?;
     writer.set_nodelay(true)?;
     let look = Duration::from_millis(u64::from(1000 / LOOKS_A_SECOND));
     writer.set_read_timeout(Some(look))?;
