@@ -856,6 +856,18 @@ def crowded(at):
             yield "and_its_link_ends", late.recv(1) == b""
 
 
+def unanswered(at):
+    """A client of a server that says nothing ends after half a minute, and says why."""
+    if program == MODEL:
+        return
+    room = Room(at)
+    with socket.create_server(("127.0.0.1", 0)) as listener:
+        took, ended = timed(lambda: room.run(listener.getsockname()[1], 0, b"ls /\n"))
+        printed, told, status = ended
+        yield f"a_silent_server_is_told: {ended} {took:.1f} s", (printed, status) == ([b"no 43 LinkFailed"], 1) and 25 < took < 40
+        yield f"and_how_long_it_was_waited_for: {told}", is_told(told, "no answer", "30 s")
+
+
 def timed(action):
     """How many seconds an action took, and what came of it."""
     started = time.monotonic()
@@ -1466,7 +1478,7 @@ def same_log(seed, folder, room, client, team):
 
 PARTS = (
     walk, logs_taken_up, operations, at_once, many_users, at_a_keyboard, lines, saves, streams, faults, keys, signatures, kills,
-    kills_at_calls, busy, silent, deaf, crowded, strangers, turns, many_turns, lies, sessions, bytes_of_sessions, stored_bytes, book, example, by_chance)
+    kills_at_calls, busy, silent, deaf, crowded, strangers, unanswered, turns, many_turns, lies, sessions, bytes_of_sessions, stored_bytes, book, example, by_chance)
 
 
 def main():

@@ -58,7 +58,10 @@ impl fmt::Display for Fault {
                 Ok(file) => write!(f, "saving {file}: {reason}"),
                 Err(_) => write!(f, "saving the log: {reason}"),
             },
-            Fault::Link => write!(f, "the link to the server failed"),
+            Fault::Link => write!(
+                f,
+                "the link to the server failed: it was ended, or no answer that fits came for 30 s"
+            ),
             Fault::NoMemory => write!(f, "out of memory"),
         }
     }

@@ -3,12 +3,17 @@ use std::alloc::Global;
 use std::io;
 use std::io::BufReader;
 use std::net::{Ipv4Addr, Net, TcpListener, TcpStream};
+use std::time::Duration;
 use su_client::Client;
+
+/// How many seconds a client waits for a server: for each answer, and to be rid of each request.
+const SECONDS: u64 = 30;
 
 /// A link to a server.
 pub type Link = Client<BufReader<TcpStream>, TcpStream>;
 
-/// Connects to the server on that port of this machine. Small requests leave at once.
+/// Connects to the server on that port of this machine. Small requests leave at once. The link fails
+/// once the server hasn't answered for 30 seconds.
 pub fn connect<T: Net<Listener = TcpListener, Stream = TcpStream>>(
     alloc: Global,
     host: &T,
@@ -16,6 +21,9 @@ pub fn connect<T: Net<Listener = TcpListener, Stream = TcpStream>>(
 ) -> io::Result<Link> {
     let writer = TcpStream::connect(host, (Ipv4Addr::LOCALHOST, port))?;
     writer.set_nodelay(true)?;
+    let limit = Some(Duration::from_secs(SECONDS));
+    writer.set_read_timeout(limit)?;
+    writer.set_write_timeout(limit)?;
     let reader = BufReader::new(alloc, writer.try_clone()?)?;
     Ok(Client::new(alloc, reader, writer))
 }
