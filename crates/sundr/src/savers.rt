@@ -7,6 +7,7 @@ use std::fs::{File, OpenFile, OpenOptions};
 use std::io::{ErrorKind, Read, Write};
 use std::{fs, io, process, str};
 use su_client_script::Saver;
+use su_version::format_of;
 
 /// How the name of a key's lock ends, which is an empty file.
 const LOCK: &str = ".lock";
@@ -79,7 +80,7 @@ fn holds_log(rt: &HostRuntime, path: &str) -> io::Result<bool> {
 fn begins_log(front: &[u8]) -> bool
     ensures { IsTrue result ↔ BeginsLog front.now }
 {
-    front.is_empty() || (front.len() == 8 && &front[4..] == b"SV01".as_slice())
+    front.is_empty() || (front.len() == 8 && format_of(&front[4..]).is_some())
 }
 
 /// Returns the folder of a path.
