@@ -448,6 +448,74 @@ def room_of_items(at):
         link.close()
 
 
+def tiny_items(at):
+    """Small items fill the room, and not the memory: each takes about what is counted for it, of which 128 bytes are not its own."""
+    room, store = serving.Room(at), f"{at}/store"
+    with Keeping(room, store, cache=1) as server:
+        link, before, count = wire.connect(server.port), serving.memory(server, "VmHWM"), 0
+        while count < 200_000 and serving.reply_to(link, wire.put(count.to_bytes(4, "big")))[0] != "refused":
+            count += 1
+        grown = serving.memory(server, "VmHWM") - before
+        print(f"storing: {count} items of 4 bytes fill a room of 16 MiB, {grown // 1000000} MB of memory")
+        yield f"as_many_as_are_counted: {count}", count <= SHARDS * LEAST_STAYING // 132
+        yield f"and_no_more_memory_than_that_by_half: {grown}", 0 < grown < SHARDS * LEAST_STAYING * 3 // 2
+        link.close()
+
+
+# ---- strangers
+
+def floods(port, is_over, taken):
+    """Connections that say nothing, and small items, until it is over; which items were taken."""
+    held, link = [], wire.connect(port)
+    for number in range(1_000_000):
+        if is_over.is_set():
+            break
+        try:
+            if serving.reply_to(link, wire.put(b"%d" % number))[0] == "put_done":
+                taken.append(number)
+            if number % 50 == 0:
+                held.append(serving.wire_socket(port))
+        except (OSError, wire.LinkEnded):
+            link = wire.connect(port)
+    for one in held:
+        one.close()
+
+
+def strangers(at):
+    """Beside strangers who idle, hold the turn, don't read and send much, a user's operations are all done."""
+    room, is_over, taken = Room(at), threading.Event(), []
+    with serving.Server(room, "--turn-seconds", 3, workers=8) as server:
+        before = serving.memory(server, "VmHWM")
+        idle = [serving.wire_socket(server.port) for _ in range(64)]
+        holder = serving.wire_socket(server.port)
+        holder.sendall(wire.frame(wire.GRANT))
+        deaf_ = serving.wire_socket(server.port)
+        deaf_.setblocking(False)
+        try:
+            for _ in range(100_000):
+                deaf_.send(wire.frame(wire.fetch(1)))
+        except OSError:
+            pass  # its end is full
+        flood = threading.Thread(target=floods, args=(server.port, is_over, taken))
+        flood.start()
+        waits, done = [], 0
+        with room.client(server.port, 0, "--tries", 1_000_000) as ann:
+            for number in range(200):
+                took, said = serving.timed(lambda number=number: ann.say(b"create /%d" % number))
+                waits.append(took)
+                done += said == [b"ok %d" % (number + 1)]
+        is_over.set()
+        flood.join()
+        grown = serving.memory(server, "VmHWM") - before
+        print(f"storing: beside strangers {done} of 200 operations done, the longest wait {max(waits):.1f} s, {grown // 1000000} MB more, "
+              f"{len(taken)} small items taken")
+        yield f"all_is_done_beside_strangers: {done}", done == 200
+        yield f"nobody_waits_longer_than_a_turn_and_a_place: {max(waits)}", max(waits) < 15
+        yield f"and_memory_is_bounded: {grown}", grown < 100_000_000
+        for link in (*idle, holder, deaf_):
+            link.close()
+
+
 # ---- several files
 
 def in_files(room, port, user, first, last):
@@ -785,8 +853,8 @@ def copies_of_lies(at):
 
 
 PARTS = (
-    ends, two_servers, kills, damage, no_room, small_cache, room_of_items, several_files, bad_files, backs_up, backup_kills, bad_backups,
-    copies_of_lies)
+    ends, two_servers, kills, damage, no_room, small_cache, room_of_items, tiny_items, strangers, several_files, bad_files,
+    backs_up, backup_kills, bad_backups, copies_of_lies)
 
 
 def main():
