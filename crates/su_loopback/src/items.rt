@@ -67,8 +67,8 @@ const BAT: &[u8] = b"bat";
 
 const LIP: &[u8] = b"lip";
 
-// Room for two of them in each of the 16 shards.
-const TWO: usize = 96;
+// Room for two of them in each of the 16 shards: an item takes 128 bytes besides its own.
+const TWO: usize = 16 * 2 * (3 + 128);
 
 #[test]
 fn the_one_asked_for_longest_ago_goes(rt: HostRuntime) -> Result<(), Fail> {
