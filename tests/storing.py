@@ -115,6 +115,22 @@ def ends(at):
             yield "shows_the_undo", bob.say(b"cat /d/f 0 9") == [b""]
 
 
+def asked_to_end(at):
+    """A line `stop` on its standard input ends a server in order: what was in the log is in the file then."""
+    room, store = Room(at), f"{at}/store"
+    with Keeping(room, store) as server:
+        with room.client(server.port, 0) as ann:
+            yield "stores", ann.say(b"create /f") == [b"ok 1"]
+            server.write(b"no word\nstopped\n\nsto")
+            yield "goes_on_at_another_line", ann.say(b"create /g") == [b"ok 2"]
+            server.write(b"p\n")
+            printed, told, status = server.end()
+            yield f"ends_in_order: {told}", (printed, status) == ([], 0) and is_told(told, "2 commits stored")
+    yield "the_records_are_in_the_file", read(f"{store}/{FILE}").count(b"SV01") == 2
+    with Keeping(room, store, sessions=1) as server:
+        yield "nothing_is_missing", names_in(room.run(server.port, 1, b"ls /\n")[0]) == {b"f", b"g"}
+
+
 def two_servers(at):
     room, store = Room(at), f"{at}/store"
     with Keeping(room, store) as server:
@@ -681,6 +697,9 @@ def bad_files(at):
     put(good[:place] + bytes([good[place] ^ 1]) + good[place + 1:])
     yield from refuses(room, store, "a_changed_byte", path)
     put(good)
+    os.link(path, f"{at}/another_name")
+    yield from refuses(room, store, "a_file_with_two_names", f"{path}: the file has another name too")
+    os.remove(f"{at}/another_name")
     publics = room.publics
     room.publics = publics[::-1]
     yield from refuses(room, store, "another_roster", "record 1")
@@ -848,12 +867,30 @@ def copies_of_lies(at):
         yield f"{name}_then_the_truth: {made}", made == (count, count - before if before is not None else made[1])
     fewer = copied(copy_of(bad_server.Show(publics, bad_server.drop(records, 4)), f"{at}/fewer"))
     yield f"up_to_what_is_not_shown: {fewer}", fewer == (3, 3)
-    without = copied(copy_of(bad_server.NoItem(publics, records), f"{at}/without"))
-    yield f"an_item_that_is_not_there_is_left_out: {without}", without == (count, count)
+    yield from lacking_items(at, room, records, copy_of)
+
+
+def lacking_items(at, room, records, copy_of):
+    """Of a server that lacks items, how many is told; a later copy from one that has them has them too."""
+    publics, folder, count = room.public_keys, f"{at}/without", len(records)
+    items = {item for _, item in records}
+    for name, service in (("none", bad_server.NoItem(publics, records)), ("none_again", bad_server.NoItem(publics, records))):
+        printed, told, status = copy_of(service, folder)
+        wanted = f"lacks {len(items)} items"
+        yield f"a_server_with_{name}_is_told: {told}", (printed, status) == ([], 1) and is_told(told, f"{count} records", wanted)
+    with Keeping(room, folder) as server:
+        yield "the_copy_has_no_item", not gives(server.port, sorted(items)[:1])
+    one = bad_server.NoItem(publics, records, but=records[2][1])
+    printed, told, status = copy_of(one, folder)
+    yield f"one_item_less_is_told: {told}", (printed, status) == ([], 1) and is_told(told, f"lacks {len(items) - 1} items")
+    whole = copied(copy_of(bad_server.Show(publics, records), folder))
+    yield f"a_whole_server_fills_it: {whole}", whole == (count, 0)
+    with Keeping(room, folder) as server:
+        yield "then_the_copy_has_all_items", gives(server.port, sorted(items))
 
 
 PARTS = (
-    ends, two_servers, kills, damage, no_room, small_cache, room_of_items, tiny_items, strangers, several_files, bad_files,
+    ends, asked_to_end, two_servers, kills, damage, no_room, small_cache, room_of_items, tiny_items, strangers, several_files, bad_files,
     backs_up, backup_kills, bad_backups, copies_of_lies)
 
 

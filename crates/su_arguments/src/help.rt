@@ -108,11 +108,12 @@ them, group 1 has user 0. So
     sundr serve --port 7000 --workers 4 --capacity 100000 --store folder \\
         0.pub 1.pub
 
-serves four connections at a time until it is ended (^C), keeps what it stores
-in the folder `folder`, and goes on from there when it is started again. A
-commit is on the disk before anybody is told of it. Without --store all is kept
-in memory: with its end it is gone, but for what clients saved, and once the
-items of its commits fill --cache it takes no more.
+serves four connections at a time until it is ended (^C, or a line `stop` on its
+standard input if that is a pipe), keeps what it stores in the folder `folder`,
+and goes on from there when it is started again. A commit is on the disk before
+anybody is told of it. Without --store all is kept in memory: with its end it is
+gone, but for what clients saved, and once the items of its commits fill --cache
+it takes no more.
 
 It listens on 127.0.0.1, so that only this machine reaches it, and tunnels that
 end there; --listen 0.0.0.0 opens it to all addresses. Whoever connects can
@@ -149,7 +150,9 @@ After a fault the copy has all that it had, and what came before the fault:
   a record of the copy that is not of these users, or is damaged
   a last record of the copy that the server does not show: it has another list
   a record of the server that does not come next, or is not of these users
-  an item of the server with another digest than was asked for";
+  an item of the server with another digest than was asked for
+  items that the copy lacks and the server has not got: a later backup from a
+    server that has them fills them in";
 
 pub const CLIENT_ABOUT: &str = "Runs a script from standard input against a server, and answers it
 

@@ -3,7 +3,9 @@ ghost use Rattle.std.specs.Prelude.{◌≡◌, ◌↔◌, []};
 ghost use Rattle.su_store_files.specs.Volumes.{WereSound};
 
 use crate::counts::CountFile;
+use crate::ends::Ends;
 use crate::faults::tell_fault;
+use crate::fills::fill;
 use crate::guards::Guard;
 use crate::links::{Link, connect};
 use crate::serving::keeper_of;
@@ -18,7 +20,6 @@ use su_block::Checked;
 use su_bytes::Roster;
 use su_keeper::Keeper;
 use su_places::StoreVolume;
-use su_server::Stop;
 use su_shared::BookFault;
 use su_shared_items::SharedBlocks;
 use su_store::FileFault;
@@ -36,9 +37,10 @@ pub struct Copied {
 
 /// Copies what the server on a port of this machine has stored, for the users of a roster, into a
 /// folder, or goes on with the copy there: each record is read through the server, checked, and kept
-/// with the item of its change. Returns what the copy has then. `None` after a fault, which standard
-/// error tells: of the port, of the folder, of a record of the copy, of a record or an item of the
-/// server, of memory. Then the copy has what it had, and what came before the fault.
+/// with the item of its change. Items that the copy lacks from before are asked for too. Returns what
+/// the copy has then. `None` after a fault, which standard error tells: of the port, of the folder, of
+/// a record of the copy, of a record or an item of the server, of memory; and where items are lacking
+/// that the server hasn't either. Then the copy has what it had, and what came before the fault.
 pub fn backup<T>(
     rt: &HostRuntime,
     host: &T,
@@ -53,12 +55,12 @@ where
     let Ok(blocks) = SharedBlocks::with_room(rt.alloc(), 0) else {
         return refuse(rt, "out of memory");
     };
-    let stop = Stop::new();
+    let ends = Ends::new();
     let setting = Setting {
         rt,
         host,
         blocks: &blocks,
-        stop: &stop,
+        ends: &ends,
     };
     match connect(rt.alloc(), host, port) {
         Ok(link) => copy_kept(&setting, link, folder, roster),
@@ -122,7 +124,7 @@ where
     T: Wait,
     requires { V.holds vault [] }
 {
-    let (rt, stop) = (setting.rt, setting.stop);
+    let (rt, ends) = (setting.rt, setting.ends);
     let (count, noted) = match CountFile::of(&folder) {
         Ok(found) => found,
         Err(fault) => return refuse(rt, fault),
@@ -135,7 +137,7 @@ where
         setting.blocks,
     );
     let tallied = Tallied::new(archive, count, noted);
-    let guard = Guard::new(tallied, folder, stop);
+    let guard = Guard::new(tallied, folder, ends);
     let mut client = Checked::new(link);
     match copy_book(
         setting.host,
@@ -146,33 +148,59 @@ where
         guard,
     ) {
         Ok(copy) => {
-            let copied = tell_copy(rt, stop, &copy);
-            if stop.is_set() || !keeper_of(copy.closed).close() {
+            let copied = tell_copy(rt, ends, &copy);
+            let mut guard = keeper_of(copy.closed).without_tally();
+            let copied = match copied {
+                Some(copied) => complete(setting, &mut client, &mut guard, copied),
+                None => None,
+            };
+            if ends.has_failed() || !guard.close() {
                 return None;
             }
             copied
         }
         Err(fault) => {
-            tell_book(rt, stop, &fault);
+            tell_book(rt, ends, &fault);
             None
+        }
+    }
+}
+
+/// Asks for the items that the copy lacks. Returns what the copy has, if it has all of them then;
+/// if not, standard error tells why.
+fn complete<'a, V: Vault<Fault = FileFault>, T: Wait>(
+    setting: &Setting<'_, T>,
+    client: &mut Checked<Link>,
+    guard: &mut Guard<'a, '_, '_, Archive<'a, V, T>>,
+    copied: Copied,
+) -> Option<Copied> {
+    match fill(setting.rt, client, guard)? {
+        0 => Some(copied),
+        lacking => {
+            let Copied { records, new } = copied;
+            let fault = format_args!(
+                "the copy has {records} records, {new} of them new, and lacks {lacking} items, which \
+                 the server has not got: back up again from a server that has them"
+            );
+            refuse(setting.rt, fault)
         }
     }
 }
 
 /// Tells on standard error why not all is copied, unless the copy's keeper told it. Returns what
 /// the copy has otherwise.
-fn tell_copy<K: Keeper>(rt: &HostRuntime, stop: &Stop, copy: &Copy<K>) -> Option<Copied> {
+fn tell_copy<K: Keeper>(rt: &HostRuntime, ends: &Ends, copy: &Copy<K>) -> Option<Copied> {
     let records = copy.closed.records;
     match &copy.new {
         Ok(new) => Some(Copied { records, new: *new }),
-        Err(BackupFault::NotKept { number: _ }) if stop.is_set() => None,
+        Err(BackupFault::NotKept { number: _ }) if ends.has_failed() => None,
         Err(fault) => refuse(rt, fault),
     }
 }
 
 /// Tells on standard error why the copy isn't opened, unless its keeper told it.
-fn tell_book(rt: &HostRuntime, stop: &Stop, fault: &BookFault) {
-    if stop.is_set() {
+fn tell_book(rt: &HostRuntime, ends: &Ends, fault: &BookFault) {
+    if ends.has_failed() {
         return;
     }
     let _ = match fault {

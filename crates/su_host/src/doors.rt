@@ -1,15 +1,19 @@
 // The gate of a server at an address.
+use crate::ends::Ends;
+use crate::faults::tell_fault;
+use crate::ports::Port;
 use std::net::{IpAddr, Ipv4Addr, Net, SocketAddr, TcpListener, TcpStream};
 use su_seat_service::Gate;
-use su_server::Stop;
 
-/// The gate of a server: it tells on standard error when sessions may come, and over how many
-/// records, and ends the wait for the next one once the server is to end.
+/// The gate of a server. Once it is opened the server listens at its port, of which standard error
+/// tells, and over how many records; where it can't, it is to end. It ends the wait for the next
+/// connection once the server is to end.
 #[derive(Drop)]
 pub(crate) struct Door<'a, T> {
     pub rt: &'a HostRuntime,
     pub host: &'a T,
-    pub stop: &'a Stop,
+    pub ends: &'a Ends,
+    pub port: &'a Port,
     pub address: SocketAddr,
     pub sessions: Option<u32>,
 }
@@ -17,6 +21,15 @@ pub(crate) struct Door<'a, T> {
 impl<T: Net<Listener = TcpListener, Stream = TcpStream>> Gate for Door<'_, T> {
     fn open(&self, records: u64) {
         let address = self.address;
+        if let Err(reason) = self.port.open(self.host, address) {
+            self.ends.fail();
+            tell_fault(self.rt, format_args!("listening on {address}: {reason}"));
+            return;
+        }
+        // it may have been asked to end before there was a connection to wait for
+        if self.ends.stop.is_set() {
+            wake(self.host, address);
+        }
         let _ = match self.sessions {
             Some(count) => eprintln!(self.rt;
                 "sundr: listening on {address} with {records} records, for {count} sessions"
@@ -31,10 +44,18 @@ impl<T: Net<Listener = TcpListener, Stream = TcpStream>> Gate for Door<'_, T> {
 
     // The server waits for a connection, so it is given one.
     fn leave(&self, _session: u64) {
-        if self.stop.is_set() {
-            let _ = TcpStream::connect(self.host, reachable(self.address));
+        if self.ends.stop.is_set() {
+            wake(self.host, self.address);
         }
     }
+}
+
+/// Ends the wait of a server at this address for the next connection, by making one.
+pub(crate) fn wake<T: Net<Listener = TcpListener, Stream = TcpStream>>(
+    host: &T,
+    address: SocketAddr,
+) {
+    let _ = TcpStream::connect(host, reachable(address));
 }
 
 /// An address at which a server that listens on this one is reached from this machine.

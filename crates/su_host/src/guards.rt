@@ -1,13 +1,13 @@
 // The keeper of a server with a store.
 ghost use Rattle.std.specs.Prelude.{◌≡◌, true, List, ℕ};
 
+use crate::ends::Ends;
 use crate::faults::tell_fault;
 use crate::stores::Folder;
 use std::alloc::Global;
 use std::sync::Wait;
 use su_bytes::Digest;
 use su_keeper::{Keeper, NotKept};
-use su_server::Stop;
 use su_store::FileFault;
 use su_store_keeper::Archive;
 use su_tally::{Loss, Notebook, Tallied};
@@ -70,34 +70,72 @@ impl<K: Keeper + HasFiles, N: Notebook> HasFiles for Tallied<K, N> {
 pub(crate) struct Guard<'a, 'f, 'n, K> {
     keeper: K,
     folder: Folder<'f, 'n>,
-    stop: &'a Stop,
+    ends: &'a Ends,
 }
 
 impl<'a, 'f, 'n, K: Keeper> Guard<'a, 'f, 'n, K> {
     /// Guards the keeper over the files of a folder.
-    pub fn new(keeper: K, folder: Folder<'f, 'n>, stop: &'a Stop) -> Guard<'a, 'f, 'n, K>
+    pub fn new(keeper: K, folder: Folder<'f, 'n>, ends: &'a Ends) -> Guard<'a, 'f, 'n, K>
         ensures { (records : List (List ℕ)) → K.holds keeper records
             → K.holds result.keeper records }
     {
         Guard {
             keeper,
             folder,
-            stop,
+            ends,
         }
+    }
+}
+
+impl<'a, 'f, 'n, K: Keeper, N: Notebook> Guard<'a, 'f, 'n, Tallied<K, N>> {
+    /// Guards the keeper within, whose records are noted no more.
+    pub fn without_tally(self) -> Guard<'a, 'f, 'n, K> {
+        let Guard {
+            keeper,
+            folder,
+            ends,
+        } = self;
+        Guard {
+            keeper: keeper.into_keeper(),
+            folder,
+            ends,
+        }
+    }
+}
+
+impl<'a, 'f, 'n, V: Vault<Fault = FileFault>, R: Wait> Guard<'a, 'f, 'n, Archive<'a, V, R>> {
+    /// How many items that records need aren't kept.
+    pub fn lacking(&self) -> usize {
+        self.keeper.lacking()
+    }
+
+    /// Returns the digest of one of these items, counted from 0.
+    pub fn lacking_item(&self, index: usize) -> Option<Digest> {
+        self.keeper.lacking_item(index)
+    }
+
+    /// Keeps one of these items, whose digest this is. Returns whether it could be; if not, standard
+    /// error tells why.
+    pub fn fill(&mut self, alloc: Global, index: usize, item: &[u8]) -> bool {
+        let filled = self.keeper.fill(alloc, index, item);
+        if filled.is_err() {
+            self.alarm();
+        }
+        filled.is_ok()
     }
 }
 
 impl<'a, 'f, 'n, K: HasFiles> Guard<'a, 'f, 'n, K> {
     /// Tells of the keeper's fault, or of what its files lack, once, and stops the server.
     fn alarm(&self) {
-        if !self.stop.is_set() {
+        if !self.ends.has_failed() {
             match (self.keeper.fault(), self.keeper.loss()) {
                 (Some(fault), _) => self.tell(self.keeper.number(), fault),
                 (None, Some(loss)) => self.tell_loss(loss),
                 (None, None) => {}
             }
         }
-        self.stop.set();
+        self.ends.fail();
     }
 
     /// Tells that the files lack records.
@@ -123,7 +161,7 @@ impl<'a, 'f, 'n, K: HasFiles> Guard<'a, 'f, 'n, K> {
         let Guard {
             keeper,
             folder,
-            stop: _,
+            ends: _,
         } = self;
         let name = folder.name;
         match keeper.close() {
@@ -185,6 +223,6 @@ impl<'a, 'f, 'n, K: Keeper + HasFiles> Keeper for Guard<'a, 'f, 'n, K> {
 
     fn stop(&mut self) {
         self.keeper.stop();
-        self.stop.set();
+        self.ends.fail();
     }
 }

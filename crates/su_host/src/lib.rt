@@ -5,12 +5,16 @@
 mod backups;
 mod counts;
 mod doors;
+mod ends;
 mod faults;
+mod fills;
 mod guards;
 mod links;
+mod ports;
 mod serving;
 mod settings;
 mod stores;
+mod words;
 
 pub use backups::{Copied, backup};
 pub use links::{Link, connect};

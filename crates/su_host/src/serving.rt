@@ -1,16 +1,21 @@
 // Serving a shared folder at an address.
 ghost use Rattle.std.specs.Prelude.{◌≡◌, ◌↔◌, []};
+ghost use Rattle.std.specs.Thread.{IsSync};
 ghost use Rattle.su_store_files.specs.Volumes.{WereSound};
 
 use crate::counts::CountFile;
-use crate::doors::Door;
+use crate::doors::{Door, wake};
+use crate::ends::Ends;
 use crate::faults::tell_fault;
 use crate::guards::Guard;
+use crate::ports::Port;
 use crate::settings::Setting;
 use crate::stores::{DiskFile, FULL, Folder, options};
+use crate::words::is_asked_to_stop;
 use std::marker::Brand;
 use std::net::{Net, SocketAddr, TcpListener, TcpStream};
 use std::sync::Wait;
+use std::thread;
 use std::thread::Threads;
 use su_bytes::Roster;
 use su_keeper::{Forgetful, Keeper};
@@ -66,7 +71,7 @@ where
     let Ok(blocks) = SharedBlocks::with_room(rt.alloc(), room) else {
         return tell_fault(rt, "out of memory");
     };
-    let stop = Stop::new();
+    let ends = Ends::new();
     let terms = Terms {
         address: options.address,
         patience: options.patience,
@@ -78,15 +83,43 @@ where
         rt,
         host,
         blocks: &blocks,
-        stop: &stop,
+        ends: &ends,
     };
-    match options.store {
-        Some(folder) => serve_kept(&setting, terms, roster, folder),
-        None => {
-            let (good, _) = serve_over(&setting, terms, roster, Forgetful);
+    serve_until_asked(&setting, terms, roster, options.store)
+}
+
+/// Serves, and ends once standard input asks for it.
+fn serve_until_asked<T>(
+    setting: &Setting<'_, T>,
+    terms: Terms,
+    roster: Roster,
+    store: Option<&str>,
+) -> bool
+where
+    T: Net<Listener = TcpListener, Stream = TcpStream> + Threads + Wait + Sync,
+{
+    let (rt, host, ends) = (setting.rt, setting.host, setting.ends);
+    let over = &Stop::new();
+    thread::scope(
+        thread::scope_env(),
+        host,
+        move |scope| -> bool
+            requires { IsSync T.row }
+        {
+            let _spawned = scope.spawn(move || {
+                if is_asked_to_stop(rt, host, over) {
+                    ends.stop.set();
+                    wake(host, terms.address);
+                }
+            });
+            let good = match store {
+                Some(folder) => serve_kept(setting, terms, roster, folder),
+                None => serve_over(setting, terms, roster, Forgetful).0,
+            };
+            over.set();
             good
-        }
-    }
+        },
+    )
 }
 
 /// Serves over what is kept in a folder. In the end all is copied from the logs into the files.
@@ -156,16 +189,16 @@ where
         setting.blocks,
     );
     let tallied = Tallied::new(archive, count, noted);
-    let guard = Guard::new(tallied, folder, setting.stop);
+    let guard = Guard::new(tallied, folder, setting.ends);
     let (good, guard) = serve_over(setting, terms, roster, guard);
     match guard {
-        Some(guard) => !setting.stop.is_set() && guard.close() && good,
+        Some(guard) => !setting.ends.has_failed() && guard.close() && good,
         None => good,
     }
 }
 
-/// Listens, and serves over a new book with this keeper, which is handed back unless the book was
-/// refused.
+/// Serves over a new book with this keeper, which is handed back unless the book was refused. It
+/// listens once the records of the keeper are taken up.
 fn serve_over<K, T>(
     setting: &Setting<'_, T>,
     terms: Terms,
@@ -177,38 +210,16 @@ where
     T: Net<Listener = TcpListener, Stream = TcpStream> + Threads + Wait + Sync,
     requires { K.holds keeper [] }
 {
-    let address = terms.address;
-    match TcpListener::bind(setting.host, address) {
-        Ok(listener) => serve_at(setting, terms, roster, &listener, keeper),
-        Err(reason) => {
-            let fault = format_args!("listening on {address}: {reason}");
-            (tell_fault(setting.rt, fault), Some(keeper))
-        }
-    }
-}
-
-/// The same, at this listener.
-fn serve_at<K, T>(
-    setting: &Setting<'_, T>,
-    terms: Terms,
-    roster: Roster,
-    listener: &TcpListener,
-    keeper: K,
-) -> (bool, Option<K>)
-where
-    K: Keeper + Send,
-    T: Net<Listener = TcpListener, Stream = TcpStream> + Threads + Wait + Sync,
-    requires { K.holds keeper [] }
-{
-    let (rt, host, stop) = (setting.rt, setting.host, setting.stop);
+    let (rt, host, ends) = (setting.rt, setting.host, setting.ends);
     let sessions = terms.sessions;
     let count = sessions.unwrap_or(u32::MAX);
     let crowd = Crowd::new(terms.workers);
+    let port = Port::new();
     let connections = Connections::new(
         rt.alloc(),
-        listener,
+        &port,
         rt,
-        stop,
+        &ends.stop,
         &crowd,
         terms.patience,
         count,
@@ -216,7 +227,8 @@ where
     let door = Door {
         rt,
         host,
-        stop,
+        ends,
+        port: &port,
         address: terms.address,
         sessions,
     };
@@ -234,10 +246,10 @@ where
         &door,
     ) {
         Ok(report) => {
-            let good = tell_report(rt, stop, sessions, &report);
+            let good = port.is_open() && tell_report(rt, ends, sessions, &report);
             (good, Some(keeper_of(report.closed)))
         }
-        Err(fault) => (tell_book(rt, stop, &fault), None),
+        Err(fault) => (tell_book(rt, ends, &fault), None),
     }
 }
 
@@ -255,8 +267,8 @@ pub(crate) fn keeper_of<K: Keeper>(closed: Closed<K>) -> K
 }
 
 /// Tells on standard error why a book isn't opened, unless its keeper told it.
-fn tell_book(rt: &HostRuntime, stop: &Stop, fault: &BookFault) -> bool {
-    if stop.is_set() {
+fn tell_book(rt: &HostRuntime, ends: &Ends, fault: &BookFault) -> bool {
+    if ends.has_failed() {
         return false;
     }
     match fault {
@@ -272,10 +284,10 @@ fn tell_book(rt: &HostRuntime, stop: &Stop, fault: &BookFault) -> bool {
 }
 
 /// Tells on standard error what was served of so many sessions, and returns whether all is well:
-/// all came, unless the server was stopped.
+/// it was stopped without a fault, or all came.
 fn tell_report<K: Keeper>(
     rt: &HostRuntime,
-    stop: &Stop,
+    ends: &Ends,
     sessions: Option<u32>,
     report: &Report<K>,
 ) -> bool {
@@ -288,8 +300,8 @@ fn tell_report<K: Keeper>(
         "sundr: served {count} sessions, of which {failed} ended by a fault: {answered} requests \
          answered, {records} commits stored"
     );
-    if stop.is_set() {
-        return false;
+    if ends.stop.is_set() {
+        return !ends.has_failed();
     }
     if count < sessions.unwrap_or(u32::MAX) as usize {
         return tell_fault(rt, "connections could not be accepted");

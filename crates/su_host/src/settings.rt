@@ -1,5 +1,5 @@
 // What a server and a copy of one run with.
-use su_server::Stop;
+use crate::ends::Ends;
 use su_shared_items::SharedBlocks;
 
 /// What the keeper of a store runs with: the items that its records need, and whether to end, as it
@@ -9,5 +9,5 @@ pub(crate) struct Setting<'a, T> {
     pub rt: &'a HostRuntime,
     pub host: &'a T,
     pub blocks: &'a SharedBlocks,
-    pub stop: &'a Stop,
+    pub ends: &'a Ends,
 }

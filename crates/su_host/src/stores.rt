@@ -10,6 +10,7 @@ use sqlite_disk::Disk;
 use std::alloc::{AllocError, AllocFailed};
 use std::fs::File;
 use std::hash::{BuildHasher, RandomState};
+use std::os::unix::fs::MetadataExt;
 use std::{fs, io};
 use su_places::StoreVolume;
 use su_store::{FileFault, RecordFile, ShutFile, make, open};
@@ -33,6 +34,8 @@ pub(crate) enum FolderFault {
     Unread { path: String, error: io::Error },
     #[error("{path}: {fault}")]
     File { path: String, fault: FileFault },
+    #[error("{0}: the file has another name too (a hard link): copy it instead, and remove one")]
+    Linked(String),
     #[error("{0}: the file is missing, and a later one is there; put it back")]
     Missing(String),
     #[error("{0}: no count of records; put the file back, or remove it to serve what is there")]
@@ -133,6 +136,9 @@ impl Folder<'_, '_> {
         let path = self.path(number)?;
         match open(self.rt, path.as_str(), Unknown) {
             Ok(file) => Ok(file),
+            Err(FileFault::Unopened) if has_links(self.rt, path.as_str()) => {
+                Err(FolderFault::Linked(path))
+            }
             Err(fault) => Err(FolderFault::File { path, fault }),
         }
     }
@@ -171,6 +177,11 @@ impl Shelf<StoreVolume<DiskFile>> for Folder<'_, '_> {
         }
         Ok(StoreVolume::over(file, self.options))
     }
+}
+
+/// Whether a file has several names.
+fn has_links(rt: &HostRuntime, path: &str) -> bool {
+    fs::metadata(rt, path).is_ok_and(|found| found.nlink() > 1)
 }
 
 /// The number in the name of a store's file, unless it is the first one, or none.

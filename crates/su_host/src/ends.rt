@@ -1,0 +1,31 @@
+// Whether a server is to end, and why.
+use std::sync::atomic::{AtomicBool, Ordering};
+use su_server::Stop;
+
+/// Whether a server, or a copy, is to end, and whether for a fault that was told.
+#[derive(Drop)]
+pub(crate) struct Ends {
+    pub stop: Stop,
+    has_failed: AtomicBool,
+}
+
+impl Ends {
+    /// Makes one that goes on.
+    pub fn new() -> Ends {
+        Ends {
+            stop: Stop::new(),
+            has_failed: AtomicBool::new(false),
+        }
+    }
+
+    /// Has it end for a fault.
+    pub fn fail(&self) {
+        self.has_failed.store(true, Ordering::SeqCst);
+        self.stop.set();
+    }
+
+    /// Whether it ends for a fault.
+    pub fn has_failed(&self) -> bool {
+        self.has_failed.load(Ordering::SeqCst)
+    }
+}

@@ -1,0 +1,70 @@
+// The items that a copy lacks.
+use crate::faults::tell_fault;
+use crate::guards::Guard;
+use crate::links::Link;
+use std::sync::Wait;
+use su_block::{BlockSource, Checked};
+use su_bytes::Refusal;
+use su_store::FileFault;
+use su_store_keeper::Archive;
+use su_vault::Vault;
+use thiserror::Error;
+
+/// Why an item that a copy lacks isn't kept, though the server may have it.
+#[derive(Clone, Copy, Debug, PartialEq, Eq, Error)]
+enum FillFault {
+    #[error("out of memory")]
+    NoMemory,
+    #[error("the link to the server failed where an item was asked for that the copy lacks")]
+    LinkFailed,
+    #[error("the server gave another item than one that was asked for, which the copy lacks")]
+    WrongItem,
+    #[error("an item could not be kept that the copy lacks")]
+    NotKept,
+}
+
+/// Asks the server for each item that records of a copy need and the copy lacks, and keeps those that
+/// it has. Returns how many the copy lacks then. `None` after a fault, which standard error tells: of
+/// the link, of an item of the server, of the folder, of memory.
+pub(crate) fn fill<'a, V: Vault<Fault = FileFault>, T: Wait>(
+    rt: &HostRuntime,
+    client: &mut Checked<Link>,
+    guard: &mut Guard<'a, '_, '_, Archive<'a, V, T>>,
+) -> Option<usize> {
+    let mut lacking = 0usize;
+    for index in 0..guard.lacking() {
+        match fill_one(rt, client, guard, index) {
+            Ok(true) => {}
+            Ok(false) => lacking = lacking.saturating_add(1),
+            Err(fault) => {
+                tell_fault(rt, fault);
+                return None;
+            }
+        }
+    }
+    Some(lacking)
+}
+
+/// Asks for one of the items, counted from 0, and keeps it. False where the server hasn't got it.
+fn fill_one<'a, V: Vault<Fault = FileFault>, T: Wait>(
+    rt: &HostRuntime,
+    client: &mut Checked<Link>,
+    guard: &mut Guard<'a, '_, '_, Archive<'a, V, T>>,
+    index: usize,
+) -> Result<bool, FillFault> {
+    let Some(digest) = guard.lacking_item(index) else {
+        return Ok(true);
+    };
+    let item = match client.get(rt.alloc(), digest) {
+        Ok(item) => item,
+        Err(Refusal::MissingBlock) => return Ok(false),
+        Err(Refusal::NoMemory) => return Err(FillFault::NoMemory),
+        Err(Refusal::WrongBlock) => return Err(FillFault::WrongItem),
+        Err(_) => return Err(FillFault::LinkFailed),
+    };
+    if guard.fill(rt.alloc(), index, item.as_slice()) {
+        Ok(true)
+    } else {
+        Err(FillFault::NotKept)
+    }
+}
