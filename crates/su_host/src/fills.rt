@@ -31,21 +31,23 @@ pub(crate) fn fill<'a, V: Vault<Fault = FileFault>, T: Wait>(
     client: &mut Checked<Link>,
     guard: &mut Guard<'a, '_, '_, Archive<'a, V, T>>,
 ) -> Option<usize> {
-    let mut lacking = 0usize;
-    for index in 0..guard.lacking() {
+    // those before this one are lacking at the server too
+    let mut index = 0usize;
+    for _ in 0..guard.lacking() {
         match fill_one(rt, client, guard, index) {
             Ok(true) => {}
-            Ok(false) => lacking = lacking.saturating_add(1),
+            Ok(false) => index = index.saturating_add(1),
             Err(fault) => {
                 tell_fault(rt, fault);
                 return None;
             }
         }
     }
-    Some(lacking)
+    Some(guard.lacking())
 }
 
-/// Asks for one of the items, counted from 0, and keeps it. False where the server hasn't got it.
+/// Asks for one of the items, counted from 0, and keeps it; then another one has its place. False
+/// where it is lacking as before, as the server hasn't got it.
 fn fill_one<'a, V: Vault<Fault = FileFault>, T: Wait>(
     rt: &HostRuntime,
     client: &mut Checked<Link>,
@@ -53,8 +55,9 @@ fn fill_one<'a, V: Vault<Fault = FileFault>, T: Wait>(
     index: usize,
 ) -> Result<bool, FillFault> {
     let Some(digest) = guard.lacking_item(index) else {
-        return Ok(true);
+        return Ok(false);
     };
+    let before = guard.lacking();
     let item = match client.get(rt.alloc(), digest) {
         Ok(item) => item,
         Err(Refusal::MissingBlock) => return Ok(false),
@@ -62,9 +65,8 @@ fn fill_one<'a, V: Vault<Fault = FileFault>, T: Wait>(
         Err(Refusal::WrongBlock) => return Err(FillFault::WrongItem),
         Err(_) => return Err(FillFault::LinkFailed),
     };
-    if guard.fill(rt.alloc(), index, item.as_slice()) {
-        Ok(true)
-    } else {
-        Err(FillFault::NotKept)
+    if !guard.fill(rt.alloc(), index, item.as_slice()) {
+        return Err(FillFault::NotKept);
     }
+    Ok(guard.lacking() < before)
 }

@@ -109,13 +109,13 @@ impl<'a, 'f, 'n, V: Vault<Fault = FileFault>, R: Wait> Guard<'a, 'f, 'n, Archive
         self.keeper.lacking()
     }
 
-    /// Returns the digest of one of these items, counted from 0.
+    /// Returns the digest of one of these items, counted from 0. `None` where there aren't so many.
     pub fn lacking_item(&self, index: usize) -> Option<Digest> {
         self.keeper.lacking_item(index)
     }
 
-    /// Keeps one of these items, whose digest this is. Returns whether it could be; if not, standard
-    /// error tells why.
+    /// Keeps one of these items, if these bytes have its digest; then the last one has its place.
+    /// Returns whether that went well; if not, standard error tells why.
     pub fn fill(&mut self, alloc: Global, index: usize, item: &[u8]) -> bool {
         let filled = self.keeper.fill(alloc, index, item);
         if filled.is_err() {
