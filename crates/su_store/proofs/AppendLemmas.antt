@@ -1,10 +1,11 @@
--- A record and its blocks, put in one transaction that is committed.
-use Rattle.std.proofs.Common.{◌≡◌, ℕ, List, false, sym, ap, subst, ◌∙◌}
+-- A record and its blocks, or a block alone, put in one transaction that is committed.
+use Rattle.std.proofs.Common.{◌≡◌, ℕ, List, false, sym, ap, subst, ◌∙◌, arith}
 use Rattle.sqlite.specs.Tree.{Trees}
 use Rattle.sqlite.specs.Effect.{Database}
-use Rattle.sqlite.specs.State.{State, Shows}
+use Rattle.sqlite.specs.State.{State, Shows, HasCleanDisk, Survives}
+use Rattle.sqlite.proofs.StateLemmas.{survives_then}
 use Rattle.su_store.specs.Kept.{with_blocks}
-use Rattle.su_store.specs.Changes.{HasRecords, HoldsBlocks, PutsRecord, Extends, MakesInside, Keeps}
+use Rattle.su_store.specs.Changes.{HasRecords, HoldsBlock, HoldsBlocks, PutsRecord, Extends, MakesInside, Keeps, LeavesBlock}
 
 pub extends : (number : ℕ) (bytes : List ℕ) (blocks : List (List ℕ)) (old mid last : State) → HasRecords number old.now.trees → MakesInside (HoldsBlocks blocks) old mid
     → MakesInside (PutsRecord number bytes) mid last → Extends bytes blocks old.now.trees last.now.trees
@@ -20,3 +21,11 @@ keeps Change old last end made has shown settled = record {
   alone = shown.mode;
   is_open = shown.is_open;
 }
+
+-- whether the commit fails or not
+pub leaves_block : (block : List ℕ) (old last end : State) → (HasCleanDisk last → HoldsBlock block old.now.trees last.now.trees) → (HasCleanDisk last → old.may_leave old.now.trees)
+    → Survives old last (λ _. ⊥) → Survives last end (λ db. db ≡ last.now.trees) → Survives old end (LeavesBlock block old)
+leaves_block block old last end held shown inside commits = survives_then old last end _ _ (LeavesBlock block old) (λ _ db none. absurd none)
+    (λ clean db is.
+    let before : HasCleanDisk last = omega (arith, clean, commits.clean) in
+    subst (LeavesBlock block old) (sym is) (record { shown = shown before; held = held before })) inside commits

@@ -31,6 +31,12 @@ HoldsBlock block = Turns (λ kept. record kept { blocks = with_block kept.blocks
 abbrev pub HoldsBlocks : List (List ℕ) → Trees → Trees → Type 0
 HoldsBlocks blocks = Turns (λ kept. record kept { blocks = with_blocks kept.blocks blocks })
 
+-- What a crash may leave of a call that holds a block: the tables that were shown, which it could
+-- leave before the call too, with the block.
+pub record LeavesBlock (block : List ℕ) (old : State) (db : Trees) : Type 0 where
+  pub shown : old.may_leave old.now.trees
+  pub held : HoldsBlock block old.now.trees db
+
 -- the tables stand for so many records
 abbrev pub HasRecords : ℕ → Trees → Type 0
 HasRecords count db = (kept : Kept) → Stands kept db → length kept.records ≡ count

@@ -5,7 +5,7 @@ ghost use Rattle.sqlite.specs.State.{HasCleanDisk, Survives};
 ghost use Rattle.sqlite.specs.Held.{state};
 ghost use Rattle.sqlite.specs.Tree.{Trees};
 ghost use Rattle.sqlite_trees.specs.View.{IsClean};
-ghost use Rattle.su_store.specs.Changes.{Extends, HasRecords, Keeps};
+ghost use Rattle.su_store.specs.Changes.{Extends, HasRecords, HoldsBlock, Keeps, LeavesBlock};
 ghost use Rattle.su_store.specs.Lookups.{IsRecord, IsBlock};
 ghost use Rattle.su_store.specs.Kept.{nothing};
 ghost use Rattle.su_store.specs.Tables.{Stands, store_schema};
@@ -13,7 +13,7 @@ ghost use Rattle.su_store.specs.Files.{BeginsFrom, IsAtRest};
 
 use crate::faults::FileFault;
 use crate::lookups::{count_records, find_block, find_record, is_next};
-use crate::records::append;
+use crate::records::{append, keep_block};
 use crate::schemas::{is_new, is_store};
 use crate::tables::prepare;
 use sha2::Sha256;
@@ -225,6 +225,30 @@ impl<S: Alter> RecordFile<S> {
         self.count = number + 1;
         self.is_spent = false;
         Ok(number)
+    }
+
+    /// Holds a block under its digest, which no record comes with. Where one is held there, that one
+    /// stays. At `Ok` it is on the disk.
+    pub fn hold_block(&mut self, block: &[u8]) -> Result<(), FileFault>
+        ensures kept { HasCleanDisk (state S.Store self.new.held) → OnOk result
+            (Keeps (HoldsBlock block.now)
+            (state S.Store self.old.held) (state S.Store self.new.held)) }
+
+        // A crash at any moment of the call leaves what it could leave before, or all of this.
+        ensures crash { Survives (state S.Store self.old.held) (state S.Store self.new.held)
+            (LeavesBlock block.now (state S.Store self.old.held)) }
+        ensures count { self.new.count ≡ self.old.count }
+        ensures unspent { OnOk result (self.new.is_spent ≡ false) }
+    {
+        if self.is_spent {
+            return Err(FileFault::Spent);
+        }
+        self.is_spent = true;
+        if !keep_block(&mut self.connection, block)? {
+            return Err(FileFault::Spent);
+        }
+        self.is_spent = false;
+        Ok(())
     }
 
     /// Reads the record of a number. `None` from the count on. `DamagedRecord` where one below it

@@ -5,7 +5,7 @@ ghost use Rattle.sqlite.specs.State.{HasCleanDisk, Survives};
 ghost use Rattle.sqlite.specs.Held.{state};
 ghost use Rattle.su_store.specs.Tables.{store_schema};
 ghost use Rattle.su_store.specs.Changes.{PutsRecord, PutsBlock, HoldsBlock, HoldsBlocks};
-ghost use Rattle.su_store.specs.Changes.{MakesInside, HasRecords, Extends, Keeps};
+ghost use Rattle.su_store.specs.Changes.{MakesInside, HasRecords, Extends, Keeps, LeavesBlock};
 
 use crate::lookups::is_held;
 use sha2::Sha256;
@@ -68,6 +68,8 @@ fn hold_block<S: Alter>(tx: &mut Transaction<'_, S>, bytes: &[u8]) -> Result<(),
     ensures held { HasCleanDisk (state S.Store tx.new.conn.now) → OnOk result
         (MakesInside (HoldsBlock bytes.now)
         (state S.Store tx.old.conn.now) (state S.Store tx.new.conn.now)) }
+    ensures was_open { HasCleanDisk (state S.Store tx.new.conn.now)
+        → OnOk result (IsTrue (state S.Store tx.old.conn.now).is_open) }
     ensures crash { Survives (state S.Store tx.old.conn.now) (state S.Store tx.new.conn.now)
         (λ _. ⊥) }
 {
@@ -123,6 +125,27 @@ pub(crate) fn append<S: Alter>(
     let mut tx = conn.transaction();
     hold_blocks(&mut tx, blocks)?;
     put_record(&mut tx, number, bytes)?;
+    tx.commit()?;
+    Ok(true)
+}
+
+/// Keeps a block under its digest, which no record comes with. Where one is held there, that one
+/// stays. At `Ok` it is on the disk. `false` where a transaction is open.
+pub(crate) fn keep_block<S: Alter>(conn: &mut Connection<S>, block: &[u8]) -> Result<bool, Error>
+    requires { HasCleanDisk (state S.Store conn.old)
+        → (state S.Store conn.old).now.schema ≡ store_schema }
+    ensures kept { HasCleanDisk (state S.Store conn.new) → IfOk result (λ done. IsTrue done →
+        Keeps (HoldsBlock block.now) (state S.Store conn.old) (state S.Store conn.new)) }
+
+    // A crash at any moment of the call leaves what it could leave before, or all of this.
+    ensures crash { Survives (state S.Store conn.old) (state S.Store conn.new)
+        (LeavesBlock block.now (state S.Store conn.old)) }
+{
+    if !conn.is_autocommit() {
+        return Ok(false);
+    }
+    let mut tx = conn.transaction();
+    hold_block(&mut tx, block)?;
     tx.commit()?;
     Ok(true)
 }

@@ -22,3 +22,11 @@ returns-else-not-branch-clause-held g c clean =
     let there : c.in_ok-is_held.field-0 ≡ true = search rules in
     let told = rw (c.digest-digest.ensures, there) at (c.in_ok-is_held.ensures.held clean) in
     holds_there c.args.bytes.now _ _ (c.requires.schema was) (c.requires.begun was) told (c.in_ok-is_held.ensures.same clean)
+
+pub returns-in_ok-put_block-clause-was_open : goal.returns-in_ok-put_block-clause-was_open
+returns-in_ok-put_block-clause-was_open g c clean =
+    let mid : HasCleanDisk (state g.S.Store c.is_held.new.tx.conn.now) = omega (arith, clean, c.put_block.ensures.crash.clean) in
+    (c.in_ok-is_held.ensures.same mid).0.was_open
+
+pub returns-else-not-branch-clause-was_open : goal.returns-else-not-branch-clause-was_open
+returns-else-not-branch-clause-was_open g c clean = (c.in_ok-is_held.ensures.same clean).0.was_open
