@@ -1,4 +1,5 @@
-// Items that threads share: two put them and a third looks, and which go where there is no room for all.
+// Items that threads share: two put them and a third looks, which go where there is no room for all,
+// and which when a session ends.
 use std::alloc::Global;
 use std::process::Abort;
 use std::sync::Wait;
@@ -6,7 +7,7 @@ use std::test::Fail;
 use std::thread::{Threads, join};
 use su_block::digest_of;
 use su_bytes::{Digest, Refusal};
-use su_shared_items::SharedBlocks;
+use su_shared_items::{SessionItems, SharedBlocks};
 
 #[test]
 fn two_threads_put_and_another_gets(rt: HostRuntime) -> Result<(), Fail> {
@@ -67,8 +68,8 @@ const BAT: &[u8] = b"bat";
 
 const LIP: &[u8] = b"lip";
 
-// Room for two of them in each of the 16 shards: an item takes 128 bytes besides its own.
-const TWO: usize = 16 * 2 * (3 + 128);
+// Room for two of them in each of the 16 shards: an item takes 256 bytes besides its own.
+const TWO: usize = 16 * 2 * (3 + 256);
 
 #[test]
 fn the_one_asked_for_longest_ago_goes(rt: HostRuntime) -> Result<(), Fail> {
@@ -102,5 +103,66 @@ fn an_item_that_is_kept_may_go_when_it_is_put_again(rt: HostRuntime) -> Result<(
     assert!(rt; share(&rt, alloc, &blocks, SEA));
     assert!(rt; share(&rt, alloc, &blocks, BAT));
     assert!(rt; !has(&rt, alloc, &blocks, ABC));
+    Ok(())
+}
+
+#[test]
+fn what_two_sessions_put_goes_with_the_later_one(rt: HostRuntime) -> Result<(), Fail> {
+    let alloc = rt.alloc();
+    let blocks = SharedBlocks::new(alloc)?;
+    let mut one = SessionItems::new(alloc, &blocks);
+    let mut other = SessionItems::new(alloc, &blocks);
+    one.put(&rt, alloc, ABC)?;
+    one.put(&rt, alloc, ABC)?;
+    one.put(&rt, alloc, SEA)?;
+    other.put(&rt, alloc, ABC)?;
+    one.end(&rt);
+    assert!(rt; has(&rt, alloc, &blocks, ABC));
+    assert!(rt; !has(&rt, alloc, &blocks, SEA));
+    other.put(&rt, alloc, SEA)?;
+    other.end(&rt);
+    assert!(rt; !has(&rt, alloc, &blocks, ABC));
+    assert!(rt; !has(&rt, alloc, &blocks, SEA));
+    Ok(())
+}
+
+#[test]
+fn what_a_commit_names_stays(rt: HostRuntime) -> Result<(), Fail> {
+    let alloc = rt.alloc();
+    let blocks = SharedBlocks::new(alloc)?;
+    let mut one = SessionItems::new(alloc, &blocks);
+    let mut other = SessionItems::new(alloc, &blocks);
+    let abc = one.put(&rt, alloc, ABC)?;
+    let sea = one.put(&rt, alloc, SEA)?;
+    assert!(rt; other.pin_named(&rt, abc));
+    assert!(rt; other.pin_named(&rt, sea));
+    one.end(&rt);
+    other.let_stay(&rt, abc);
+    other.unpin_named(&rt, sea);
+    assert!(rt; !other.pin_named(&rt, abc));
+    assert!(rt; !other.pin_named(&rt, digest_of(BAT)));
+    other.put(&rt, alloc, ABC)?;
+    other.end(&rt);
+    assert!(rt; has(&rt, alloc, &blocks, ABC));
+    assert!(rt; !has(&rt, alloc, &blocks, SEA));
+    Ok(())
+}
+
+#[test]
+fn what_stays_for_good_or_is_kept_is_not_pinned(rt: HostRuntime) -> Result<(), Fail> {
+    let alloc = rt.alloc();
+    let blocks = SharedBlocks::with_room(alloc, TWO)?;
+    let mut session = SessionItems::new(alloc, &blocks);
+    session.put(&rt, alloc, ABC)?;
+    assert!(rt; put(&rt, alloc, &blocks, ABC).is_some());
+    let sea = session.put(&rt, alloc, SEA)?;
+    blocks.release(&rt, alloc, sea);
+    session.put(&rt, alloc, SEA)?;
+    session.end(&rt);
+    assert!(rt; has(&rt, alloc, &blocks, ABC));
+    assert!(rt; has(&rt, alloc, &blocks, SEA));
+    assert!(rt; share(&rt, alloc, &blocks, BAT));
+    assert!(rt; share(&rt, alloc, &blocks, LIP));
+    assert!(rt; !has(&rt, alloc, &blocks, SEA));
     Ok(())
 }

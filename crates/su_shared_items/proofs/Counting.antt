@@ -205,14 +205,14 @@ counted-put c k v taken room older was unbounded few own fits old =
     rw (put_is_newest c k v unbounded few, old) (counted-newest k v c.entries taken room was own (omega (arith, fits, was.counted)))
 
 -- the keys of a tree are compared as digests are
-pub by_digest : (d : List ℕ) (es : Items) → lookup (is_at (slice_cmp nat_cmp d)) es ≡ lookup (bytes_eq d) es
+pub by_digest : {X : Type 0} (d : List ℕ) (es : List (List ℕ × X)) → lookup (is_at (slice_cmp nat_cmp d)) es ≡ lookup (bytes_eq d) es
 by_digest d es = λ i. lookup (λ k. is_eq-slice_cmp d k i) es
 
 pub removed_by_digest : (d : List ℕ) (es : Items) → remove_entry (is_at (slice_cmp nat_cmp d)) es ≡ remove_entry (bytes_eq d) es
 removed_by_digest d es = λ i. remove_entry (λ k. is_eq-slice_cmp d k i) es
 
-pub at_digest : (k d : List ℕ) (es : Items) → k ≡ d → lookup (is_at (slice_cmp nat_cmp k)) es ≡ item_under es d
-at_digest k d es same = by_digest k es ∙ ap (item_under es) same
+pub at_digest : {X : Type 0} (k d : List ℕ) (es : List (List ℕ × X)) → k ≡ d → lookup (is_at (slice_cmp nat_cmp k)) es ≡ lookup (bytes_eq d) es
+at_digest k d es same = by_digest k es ∙ ap (λ e. lookup (bytes_eq e) es) same
 
 pub removed_at_digest : (k d : List ℕ) (es : Items) → k ≡ d → remove_entry (is_at (slice_cmp nat_cmp k)) es ≡ remove_entry (bytes_eq d) es
 removed_at_digest k d es same = removed_by_digest k es ∙ ap (λ e. remove_entry (bytes_eq e) es) same

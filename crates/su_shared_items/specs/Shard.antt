@@ -14,7 +14,8 @@ Items = List (List ℕ × List ℕ)
 abbrev pub item_under : Items → List ℕ → Option (List ℕ)
 item_under items digest = lookup (bytes_eq digest) items
 
--- the bytes that an item takes: its own, and 128 for the place where it is held and what finds it
+-- the bytes that an item takes: its own, and 256 for the place where it is held, what finds it, and
+-- what tells who pins it
 unfoldable pub cost_of : List ℕ → ℕ
 cost_of item = length item + ITEM_COST
 

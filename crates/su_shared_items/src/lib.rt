@@ -2,10 +2,13 @@
 #![tactic(auto)]
 
 mod items;
+mod pins;
 mod sections;
+mod sessions;
 mod shard;
 mod shared;
 mod spare;
 mod staying;
 
+pub use sessions::SessionItems;
 pub use shared::SharedBlocks;

@@ -1,5 +1,5 @@
 // One of the shards.
-ghost use Rattle.std.specs.Prelude.{◌≡◌, ◌⊎◌, ◌<◌, ◌≤◌, ℕ, List, [], Ok, Err, Some, None, IsSome, IfOk, IfErr, OnOk, OnErr};
+ghost use Rattle.std.specs.Prelude.{◌≡◌, ◌⊎◌, ◌<◌, ◌≤◌, ℕ, List, [], Ok, Err, Some, None, IsSome, is_some, IfOk, IfErr, OnOk, OnErr};
 ghost use Rattle.std.specs.Map.{remove_entry};
 ghost use Rattle.std.specs.Str.{bytes_eq};
 ghost use Rattle.sha2.specs.Sha256.{sha256};
@@ -137,5 +137,20 @@ impl Shard {
         if let Some(item) = self.staying.take(digest) {
             let _ = self.spare.add(digest, item);
         }
+    }
+    /// Returns whether the item of a digest is among those that stay.
+    pub(crate) fn stays(&self, digest: &Digest) -> bool
+        ensures { result ≡ is_some (item_under self.now.staying digest.now) }
+    {
+        self.staying.contains(digest)
+    }
+
+    /// Drops the item of a digest, if it stays.
+    pub(crate) fn drop_staying(&mut self, digest: &Digest)
+        ensures staying { self.new.staying ≡ remove_entry (bytes_eq digest.now) self.old.staying }
+        ensures spare { self.new.spare ≡ self.old.spare }
+        ensures staying_room { self.new.staying_room ≡ self.old.staying_room }
+    {
+        drop(self.staying.take(digest));
     }
 }

@@ -19,9 +19,10 @@ const LEAST_STAYING: usize = 1 << 20;
 /// Items that threads share, in shards of which each has a lock of its own. The low four bits of a
 /// digest's first byte tell in which one an item is.
 ///
-/// An item that was put stays, until it is told that it is kept elsewhere. Those that stay take a
-/// bounded room in each shard: where there is none for another one, that one is refused, as what was
-/// acknowledged is never dropped.
+/// An item that was put stays, until it is told that it is kept elsewhere. One that sessions alone
+/// have put (`SessionItems`) is pinned by them: it stays until the last of them has ended, and for
+/// good once a commit names it. Those that stay take a bounded room in each shard: where there is
+/// none for another one, that one is refused, as what was acknowledged isn't dropped before.
 ///
 /// Items that are kept elsewhere, those that came by `share`, and those of either kind that are put
 /// once more take a bounded room in each shard too: where there is none for another one, those go
@@ -70,11 +71,11 @@ impl SharedBlocks {
         self.shard(&digest).lock(rt).get(alloc, &digest)
     }
 
-    /// Puts an item, which stays from then on unless it is kept elsewhere too, and answers its
-    /// digest, which is computed before a lock is taken. `TooBig` where it has not 1 to 70,000
+    /// Puts an item, which stays for good from then on unless it is kept elsewhere too, and answers
+    /// its digest, which is computed before a lock is taken. `TooBig` where it has not 1 to 70,000
     /// bytes, and just there; `NoMemory` where there is no memory for it, or no room in its shard
-    /// among the items that stay, and then nothing changes. Putting what stays already changes
-    /// nothing, and is answered whatever the room.
+    /// among the items that stay, and then nothing changes. Putting what stays already changes no
+    /// more than that nobody pins it, and is answered whatever the room.
     pub fn put(&self, rt: &impl Wait, alloc: Global, item: &[u8]) -> Result<Digest, Refusal>
         ensures digest { IfOk result (λ digest. digest ≡ sha256 item.now) }
         ensures too_big { (result ≡ Err TooBig) ↔ (is_item item.now ≡ false) }
@@ -86,6 +87,46 @@ impl SharedBlocks {
         let digest = digest_of(item);
         self.shard(&digest).lock(rt).put(alloc, &digest, item)?;
         Ok(digest)
+    }
+
+    /// Puts an item for a session, which pins it from then on, and answers its digest and whether
+    /// it does: it doesn't where the item stays for good, nor where it is kept elsewhere too. The
+    /// refusals are those of `put`.
+    pub(crate) fn put_pinned(
+        &self,
+        rt: &impl Wait,
+        alloc: Global,
+        item: &[u8],
+    ) -> Result<(Digest, bool), Refusal>
+        ensures digest { IfOk result (λ put. put.0 ≡ sha256 item.now) }
+        ensures too_big { (result ≡ Err TooBig) ↔ (is_item item.now ≡ false) }
+        ensures refused { IfErr result (λ e. (e ≡ TooBig) ⊎ (e ≡ NoMemory)) }
+    {
+        if !is_item(item) {
+            return Err(Refusal::TooBig);
+        }
+        let digest = digest_of(item);
+        let pinned = self
+            .shard(&digest)
+            .lock(rt)
+            .put_pinned(alloc, &digest, item)?;
+        Ok((digest, pinned))
+    }
+
+    /// Pins the item of a digest once more, where sessions pin it, and returns whether it did.
+    pub(crate) fn pin(&self, rt: &impl Wait, digest: Digest) -> bool {
+        self.shard(&digest).lock(rt).pin(&digest)
+    }
+
+    /// Lets one session fewer pin the item of a digest. Where that was the last one, the item goes.
+    /// Nothing changes where nobody pins it.
+    pub(crate) fn unpin(&self, rt: &impl Wait, digest: Digest) {
+        self.shard(&digest).lock(rt).unpin(&digest);
+    }
+
+    /// Lets the item of a digest stay for good, if it stays: nobody pins it any more.
+    pub(crate) fn let_stay(&self, rt: &impl Wait, digest: Digest) {
+        self.shard(&digest).lock(rt).let_stay(&digest);
     }
 
     /// Puts an item that is kept elsewhere too, as the newest of those that may go, and answers its
@@ -105,8 +146,8 @@ impl SharedBlocks {
     }
 
     /// Tells that the item of a digest is kept elsewhere too. It is the newest of those that may go
-    /// from then on, or is gone, where there is no room or no memory for that. Nothing changes
-    /// where there is no such item, or where that was told before.
+    /// from then on, or is gone, where there is no room or no memory for that, and nobody pins it
+    /// any more. Nothing changes where there is no such item, or where that was told before.
     pub fn release(&self, rt: &impl Wait, _alloc: Global, digest: Digest) {
         self.shard(&digest).lock(rt).release(&digest);
     }
