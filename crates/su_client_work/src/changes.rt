@@ -13,8 +13,8 @@ ghost use Rattle.su_client_work.specs.Publishing.{IsPublished, Publishes, Publis
 ghost use Rattle.su_client_work.specs.Work.{Works};
 
 use crate::members::Member;
+use crate::surroundings::Surroundings;
 use std::io::{Read, Write};
-use std::time::Clock;
 use su_bytes::Refusal;
 use su_lms::KeyStore;
 use su_op::{Change, Op};
@@ -26,13 +26,17 @@ impl<R: Read + Drop, W: Write + Drop, K: KeyStore + Drop> Member<R, W, K> {
     /// Plans a command on paths, once all commits are taken. Where there are operations, the turn is
     /// held, and `publish` can commit the first of them; where there are none, it is given back. The
     /// refusals are those of `begin`, and then of `su_plan::plan`.
-    pub fn plan<C: Clock>(&mut self, clock: &C, command: &Command) -> Result<Vec<Op>, ViewRefusal>
+    pub fn plan<A: Surroundings<R, W>>(
+        &mut self,
+        around: &mut A,
+        command: &Command,
+    ) -> Result<Vec<Op>, ViewRefusal>
         ensures takes { TakesSome self.old.holding self.new.holding }
         ensures next { self.new.next ≡ self.old.next }
         ensures planned { let v = self.new.holding in IfOk result (λ operations.
             plan v.roster (tree_of_list v) v.user command.now ≡ Ok operations.items) }
     {
-        self.begin(clock)?;
+        self.begin(around)?;
         let planned = self.view.plan(command);
         if !matches!(&planned, Ok(operations) if !operations.is_empty()) {
             self.give_up();
@@ -42,22 +46,26 @@ impl<R: Read + Drop, W: Write + Drop, K: KeyStore + Drop> Member<R, W, K> {
 
     /// Commits a change, once all commits are taken, and returns the number of its commit. The
     /// refusals are those of `begin`, and then of `publish`.
-    pub fn change<C: Clock>(&mut self, clock: &C, change: Change) -> Result<u64, ViewRefusal>
+    pub fn change<A: Surroundings<R, W>>(
+        &mut self,
+        around: &mut A,
+        change: Change,
+    ) -> Result<u64, ViewRefusal>
         ensures works { Works self.old self.new }
         ensures published { IfOk result (Publishes change self.old.next self.new.holding) }
     {
-        self.begin(clock)?;
+        self.begin(around)?;
         self.publish(change)
     }
 
     /// Undoes the last operation that stands, once all commits are taken, and returns the number of
     /// the commit. The refusals are those of `change`: where no operation stands, `Change` of
     /// `NoOperation` 0.
-    pub fn undo_last<C: Clock>(&mut self, clock: &C) -> Result<u64, ViewRefusal>
+    pub fn undo_last<A: Surroundings<R, W>>(&mut self, around: &mut A) -> Result<u64, ViewRefusal>
         ensures works { Works self.old self.new }
         ensures published { IfOk result (PublishesUndo self.old.next self.new.holding) }
     {
-        self.begin(clock)?;
+        self.begin(around)?;
         match self.last_live() {
             Ok(last) => self.publish(Change::Undo(last)),
             Err(refusal) => {

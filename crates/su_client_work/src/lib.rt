@@ -7,6 +7,8 @@ mod logs;
 mod members;
 mod questions;
 mod shown;
+mod surroundings;
 
 pub use logs::{LogFault, take_log};
 pub use members::Member;
+pub use surroundings::Surroundings;

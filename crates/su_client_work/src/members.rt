@@ -6,11 +6,11 @@ ghost use Rattle.su_view.specs.LastCommits.{AreSigned};
 ghost use Rattle.su_client_work.specs.Member.{ShownPasses};
 
 use crate::shown::Shown;
+use crate::surroundings::Surroundings;
 use std::alloc::Global;
 use std::io::{Read, Write};
 use std::marker::Model;
-use std::thread;
-use std::time::{Clock, Duration};
+use std::time::Duration;
 use su_block::Checked;
 use su_bytes::{Refusal, User};
 use su_client::Client;
@@ -21,6 +21,9 @@ use su_view::{View, ViewRefusal};
 
 /// How many milliseconds a client waits before it asks again for a turn that another has.
 const PAUSE: u64 = 1;
+
+/// The seat that `Busy` names where no worker of the server is free: no seat has this number.
+const NO_SEAT: u16 = u16::MAX;
 
 /// A client at work: its view, with a server that need not be trusted as the source of items, and
 /// the key of its user. A server's lies can refuse it, and nothing more: its list stays legal, and it
@@ -62,7 +65,7 @@ impl<R: Read + Drop, W: Write + Drop, K: KeyStore + Drop> Member<R, W, K> {
     }
 
     /// Tells whether the link to the server has failed. All that is asked of it then is refused by
-    /// `LinkFailed`.
+    /// `LinkFailed`, until `begin` makes it anew.
     pub fn has_failed(&mut self) -> bool
         ensures same { self.new ≡ self.old }
     {
@@ -75,16 +78,18 @@ impl<R: Read + Drop, W: Write + Drop, K: KeyStore + Drop> Member<R, W, K> {
     }
 
     /// Takes the turn, checks what the server shows as the users' last commits, and takes the
-    /// commits that the list lacks. `Busy` where another has the turn each time that it is asked for;
-    /// the refusals of `View::check_list` and `View::accept`; `Malformed` with a place in the bytes
-    /// of what is shown as a last commit; `LinkFailed`; `NoMemory`. Where it is refused, the turn is
-    /// given back, and what was taken before stays.
-    pub fn begin<C: Clock>(&mut self, clock: &C) -> Result<(), ViewRefusal>
+    /// commits that the list lacks. Where the link has failed before the turn is granted, as that of
+    /// a session that was ended, it is made anew, once. `Busy` where another has the turn each time
+    /// that it is asked for, or no worker of the server is free; the refusals of `View::check_list`
+    /// and `View::accept`; `Malformed` with a place in the bytes of what is shown as a last commit;
+    /// `LinkFailed`; `NoMemory`. Where it is refused, the turn is given back, and what was taken
+    /// before stays.
+    pub fn begin<A: Surroundings<R, W>>(&mut self, around: &mut A) -> Result<(), ViewRefusal>
         ensures takes { TakesSome self.old.holding self.new.holding }
         ensures next { self.new.next ≡ self.old.next }
         ensures passes { OnOk result (ShownPasses self.old.holding) }
     {
-        let (count, last) = match self.take_turn(clock) {
+        let (count, last) = match self.take_turn(around) {
             Ok(granted) => granted,
             Err(refusal) => return Err(ViewRefusal::Plain(refusal)),
         };
@@ -97,12 +102,12 @@ impl<R: Read + Drop, W: Write + Drop, K: KeyStore + Drop> Member<R, W, K> {
 
     /// Takes the turn, checks and takes what the list lacks, and gives the turn back. The refusals
     /// are those of `begin`.
-    pub fn look<C: Clock>(&mut self, clock: &C) -> Result<(), ViewRefusal>
+    pub fn look<A: Surroundings<R, W>>(&mut self, around: &mut A) -> Result<(), ViewRefusal>
         ensures takes { TakesSome self.old.holding self.new.holding }
         ensures next { self.new.next ≡ self.old.next }
         ensures passes { OnOk result (ShownPasses self.old.holding) }
     {
-        self.begin(clock)?;
+        self.begin(around)?;
         match self.view.source_mut().source_mut().give() {
             Ok(()) => Ok(()),
             Err(refusal) => Err(ViewRefusal::Plain(refusal)),
@@ -116,15 +121,52 @@ impl<R: Read + Drop, W: Write + Drop, K: KeyStore + Drop> Member<R, W, K> {
         let _ = self.view.source_mut().source_mut().give();
     }
 
-    /// Asks for the turn until it is granted, or as often as it is asked for at most.
-    fn take_turn<C: Clock>(&mut self, clock: &C) -> Result<(u64, LastNumbers), Refusal>
+    /// Takes the turn. Where the link has failed, as that of a session that was ended, nothing has
+    /// happened yet, so a new link is made, once, and the turn is asked for over it. The refusals are
+    /// those of `await_turn`, and `LinkFailed` where no link can be made.
+    fn take_turn<A: Surroundings<R, W>>(
+        &mut self,
+        around: &mut A,
+    ) -> Result<(u64, LastNumbers), Refusal>
+        ensures { self.new ≡ self.old }
+    {
+        match self.await_turn(around) {
+            Err(Refusal::LinkFailed) => {
+                self.connect_anew(around)?;
+                self.await_turn(around)
+            }
+            answered => answered,
+        }
+    }
+
+    /// Puts a new link in the place of one that has failed. `LinkFailed` where none can be made.
+    fn connect_anew<A: Surroundings<R, W>>(&mut self, around: &mut A) -> Result<(), Refusal>
+        ensures { self.new ≡ self.old }
+    {
+        match around.connect() {
+            Ok(link) => {
+                *self.view.source_mut().source_mut() = link;
+                Ok(())
+            }
+            Err(_) => Err(Refusal::LinkFailed),
+        }
+    }
+
+    /// Asks for the turn until it is granted, or as often as it is asked for at most. A server
+    /// without a free worker is asked no more, as it ends the link.
+    fn await_turn<A: Surroundings<R, W>>(
+        &mut self,
+        around: &mut A,
+    ) -> Result<(u64, LastNumbers), Refusal>
         ensures { self.new ≡ self.old }
     {
         let tries = self.tries;
         for _ in 1..tries {
             match self.ask_turn() {
-                Err(Refusal::Busy(_)) => thread::sleep(clock, Duration::from_millis(PAUSE)),
-                granted => return granted,
+                Err(Refusal::Busy(seat)) if seat != NO_SEAT => {
+                    around.pause(Duration::from_millis(PAUSE));
+                }
+                answered => return answered,
             }
         }
         self.ask_turn()

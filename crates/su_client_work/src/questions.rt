@@ -6,26 +6,27 @@ ghost use Rattle.su_client_work.specs.SavedLog.{saved_log};
 
 use crate::logs::log_of;
 use crate::members::Member;
+use crate::surroundings::Surroundings;
 use std::io::{Read, Write};
-use std::time::Clock;
 use su_bytes::{FileId, Name};
 use su_lms::KeyStore;
+use su_version::Commit;
 use su_view::ViewRefusal;
 
 impl<R: Read + Drop, W: Write + Drop, K: KeyStore + Drop> Member<R, W, K> {
     /// Lists the names of the directory that a path leads to, with the files that they lead to,
     /// ascending, once all commits are taken. The refusals of `begin`; then `BadPath`, `NoName` and
     /// `WrongKind`, as `View::find` and `View::list` answer them.
-    pub fn list<C: Clock>(
+    pub fn list<A: Surroundings<R, W>>(
         &mut self,
-        clock: &C,
+        around: &mut A,
         path: &[u8],
     ) -> Result<Vec<(Name, FileId)>, ViewRefusal>
         ensures takes { TakesSome self.old.holding self.new.holding }
         ensures next { self.new.next ≡ self.old.next }
         ensures lists { IfOk result (λ names. Lists self.new.holding path.now names.items) }
     {
-        self.look(clock)?;
+        self.look(around)?;
         let file = self.view.find(path)?;
         Ok(self.view.list(file)?)
     }
@@ -33,9 +34,9 @@ impl<R: Read + Drop, W: Write + Drop, K: KeyStore + Drop> Member<R, W, K> {
     /// Reads the bytes of the file that a path leads to, from `off` on and at most `len`, once all
     /// commits are taken. The refusals of `begin`; then `BadPath`, `NoName` and `WrongKind`, as
     /// `View::find` and `View::read_at` answer them.
-    pub fn read<C: Clock>(
+    pub fn read<A: Surroundings<R, W>>(
         &mut self,
-        clock: &C,
+        around: &mut A,
         path: &[u8],
         off: u64,
         len: u64,
@@ -45,19 +46,44 @@ impl<R: Read + Drop, W: Write + Drop, K: KeyStore + Drop> Member<R, W, K> {
         ensures shows { IfOk result (λ bytes.
             Shows self.new.holding path.now off len bytes.items) }
     {
-        self.look(clock)?;
+        self.look(around)?;
         let file = self.view.find(path)?;
         Ok(self.view.read_at(file, off, len)?)
     }
 
     /// Returns the log of all commits, once they are taken: of each its bytes and the item of its
     /// change, each with its length before it. The refusals of `begin`.
-    pub fn log<C: Clock>(&mut self, clock: &C) -> Result<Vec<u8>, ViewRefusal>
+    pub fn log<A: Surroundings<R, W>>(&mut self, around: &mut A) -> Result<Vec<u8>, ViewRefusal>
         ensures takes { TakesSome self.old.holding self.new.holding }
         ensures next { self.new.next ≡ self.old.next }
         ensures log { IfOk result (λ log. log.items ≡ saved_log self.new.holding.held) }
     {
-        self.look(clock)?;
+        self.look(around)?;
         Ok(log_of(self.alloc, &self.view)?)
+    }
+
+    /// Finds the number of the user's own last commit in the list; none where there is none. It is
+    /// for what a user is told, on which nothing rests: so no clause speaks of it, and where there is
+    /// no memory to read a commit, that one is passed over.
+    pub fn own_last(&self) -> Option<u64> {
+        let (count, _) = self.view.head();
+        for before in 0..count {
+            let number = count - before;
+            if self.is_own(number) {
+                return Some(number);
+            }
+        }
+        None
+    }
+
+    /// Tells whether the commit of that number is the user's own.
+    fn is_own(&self, number: u64) -> bool {
+        let Some((bytes, _)) = self.view.entry(number) else {
+            return false;
+        };
+        match Commit::decode(self.alloc, bytes) {
+            Ok(commit) => commit.version().author() == self.view.user(),
+            Err(_) => false,
+        }
     }
 }

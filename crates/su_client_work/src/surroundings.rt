@@ -1,0 +1,15 @@
+// What a client at work asks of the program around it.
+use std::io;
+use std::io::{Read, Write};
+use std::time::Duration;
+use su_client::Client;
+
+/// What a client at work asks of the program around it. Nothing rests on what comes of it: whatever a
+/// link brings is checked.
+pub trait Surroundings<R: Read, W: Write> {
+    /// Waits for so long before the client asks again for a turn that another has.
+    fn pause(&mut self, time: Duration);
+
+    /// Makes a link to the same server anew, once the one before has failed.
+    fn connect(&mut self) -> io::Result<Client<R, W>>;
+}
