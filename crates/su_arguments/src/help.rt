@@ -9,8 +9,8 @@ pub const ABOUT: &str = "A shared file store of which each operation can be undo
 Exit status:
   0  what was asked for was done, refusals among the answers of a script
   1  a log was refused, which is printed; or a file, a stream or a link failed,
-     a record of a server was refused, or there was no memory, and standard
-     error says which
+     a record of a server was refused, a client with --stop was refused, or
+     there was no memory, and standard error says which
   2  a wrong command line, or a line of a script that is no command";
 
 pub const DESK_ABOUT: &str = "Runs a script from standard input, and answers it on standard output
@@ -171,7 +171,8 @@ tunnel, such as ssh makes with `-L 7000:localhost:7000`.
 A script has a command a line. Each is answered before the next line is read. A
 run knows no commits but those of its `--log`: without one any list that follows
 the rules is taken, and with one a server is refused that lacks the user's own
-last commit.";
+last commit. Where the server has ended the session, the next command connects
+anew. Standard error tells so, and what a refusal may come from.";
 
 /// What a client prints, after its commands.
 pub const CLIENT_ANSWERS: &str =
@@ -206,7 +207,8 @@ Refusals:
   23 TooManyLinks       a file has at most 255 names
   29 BadPath            it is no path, or / where a name is needed
   30 NoMemory           memory was refused
-  31 Busy S             the client at seat S kept the turn
+  31 Busy S             the client at seat S kept the turn; 65535: no worker of
+                        the server is free
   33 BadSignature       a commit is not signed by its author, or the key is not
                         that of the user
   34 WrongPrev N        a commit does not follow commit N, the last one

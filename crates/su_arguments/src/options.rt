@@ -3,7 +3,7 @@ ghost use Rattle.std.specs.Prelude.{IfOk, length};
 ghost use Rattle.su_arguments.specs.Ranges.{IsUserCount};
 
 use crate::line::LineFault;
-use clap::{Arg, ArgMatches};
+use clap::{Arg, ArgAction, ArgMatches};
 use std::alloc::{AllocError, Global};
 
 /// Builds an option with this name, this word for its value, and this help.
@@ -11,6 +11,14 @@ pub(crate) fn option<'a>(alloc: Global, name: &'a str, value: &'a str, help: &'a
     Arg::new(alloc, name)
         .long(name)
         .value_name(value)
+        .help(help)
+}
+
+/// Builds an option without a value, which is there or not.
+pub(crate) fn flag<'a>(alloc: Global, name: &'a str, help: &'a str) -> Arg<'a> {
+    Arg::new(alloc, name)
+        .long(name)
+        .action(ArgAction::SetTrue)
         .help(help)
 }
 

@@ -6,7 +6,7 @@ ghost use Rattle.su_arguments.specs.Ranges.{IsPort, IsUser, IsWorkerCount, IsCap
 use crate::drafts::Draft;
 use crate::help::{BACKUP_ABOUT, BACKUP_ANSWERS, CLIENT_ABOUT, SERVE_ABOUT};
 use crate::line::{Line, LineFault};
-use crate::options::{copy, keys_of, needed, needed_keys, option, usage};
+use crate::options::{copy, flag, keys_of, needed, needed_keys, option, usage};
 use clap::{Arg, ArgMatches, Command};
 use std::alloc::{AllocError, Global};
 use std::net::{IpAddr, Ipv4Addr};
@@ -36,7 +36,8 @@ pub struct ServeArgs {
 
 /// A client of a user, 0 to 63, with the key in a file, at the server on a port, 1 to 65535, of users
 /// with the public keys in these files, 1 to 64 of them. The commits of a log are taken first. So often,
-/// 1 to 1,000,000 times, a turn that another has is asked for.
+/// 1 to 1,000,000 times, a turn that another has is asked for. The script ends at the first refusal, or
+/// goes on.
 #[derive(Debug, Drop)]
 pub struct ClientArgs {
     pub port: u16,
@@ -44,6 +45,7 @@ pub struct ClientArgs {
     pub key: String,
     pub log: Option<String>,
     pub tries: u32,
+    pub stop: bool,
     pub keys: Vec<String>,
 }
 
@@ -127,12 +129,14 @@ pub(crate) fn client_command<'a>(alloc: Global, help: &'a str) -> Result<Command
         .long_about(CLIENT_ABOUT)
         .after_help(help);
     let log = "A saved log, whose commits are taken first";
+    let stop = "It ends at the first command that is refused, with status 1";
     Draft::of(command)
         .arg(needed_port(alloc, SERVER_PORT))
         .arg(user(alloc))
         .arg(needed(alloc, "key", "FILE", "The user's key file"))
         .arg(option(alloc, "log", "FILE", log))
         .arg(tries(alloc))
+        .arg(flag(alloc, "stop", stop))
         .arg(needed_keys(alloc))
         .finish()
 }
@@ -224,7 +228,7 @@ pub(crate) fn backup_of(alloc: Global, values: &ArgMatches<'_>) -> Result<Line, 
     })
 }
 
-/// `client --port P --user U --key FILE [--log FILE] [--tries T] PUB..`
+/// `client --port P --user U --key FILE [--log FILE] [--tries T] [--stop] PUB..`
 pub(crate) fn client_of(alloc: Global, values: &ArgMatches<'_>) -> Result<Line, LineFault>
     ensures { IfOk result HasGoodNumbers }
 {
@@ -246,6 +250,7 @@ pub(crate) fn client_of(alloc: Global, values: &ArgMatches<'_>) -> Result<Line, 
         key: String::from_str(alloc, key)?,
         log: copy(alloc, values.get_str("log"))?,
         tries,
+        stop: values.get_flag("stop"),
         keys,
     }))
 }
