@@ -1,4 +1,5 @@
--- What a file keeps as it is opened and read, as records are counted and appended, and as it is shut.
+-- What a file keeps as it is opened and read, as records are counted and appended, as a block is held,
+-- and as it is shut.
 use Rattle.std.proofs.Common.{◌≡◌, ◌≤◌, IsTrue, Result, Ok, Err, OnOk, OnErr, IfOk, IfSome, Option, None, option_map, inl, inr, ℕ, zero, suc, ◌+◌, List, [], ◌∷◌, ◌++◌, length, take, slice_get, Some, refl, sym, ap, subst, ◌∙◌, arith}
 use Rattle.std.proofs.Math.Logic.{∥∥₁_elim}
 use Rattle.sqlite_disk.specs.declared.Disk.{Ghosts}
@@ -9,9 +10,9 @@ use Rattle.sqlite_trees.specs.Props.{Trees-set}
 use Rattle.sqlite.specs.Effect.{Database}
 use Rattle.sqlite.specs.State.{HasCleanDisk, Survives}
 use Rattle.sqlite.specs.Files.{file_state, over_files, HoldsDatabase}
-use Rattle.su_store.specs.Kept.{nothing, with_record}
+use Rattle.su_store.specs.Kept.{Kept, nothing, with_block, with_record}
 use Rattle.su_store.specs.Tables.{Stands}
-use Rattle.su_store.specs.Changes.{Extends, Keeps}
+use Rattle.su_store.specs.Changes.{Extends, HoldsBlock, Keeps, LeavesBlock}
 use Rattle.su_store.specs.Lookups.{IsRecord}
 use Rattle.su_store.specs.Files.{File, IsAtRest}
 use Rattle.su_places.specs.Places.{KeepsAll, IsShut}
@@ -114,6 +115,42 @@ module _ {D : Type 0} (g : Ghosts D) (f new : File (FileStore D g)) where
   found_or bytes (Ok None) number is same = tt
   found_or bytes (Ok (Some b)) number is same = λ records counts. counts_found number records (bytes b) is same counts
   found_or bytes (Err e) number is same = tt
+
+  -- a call that held a block, whether it failed or not
+  pub holds_begin : (records : List (List ℕ)) (block : List ℕ) → Survives (file_state f.held) (file_state new.held) (LeavesBlock block (file_state f.held)) → Begins g (Open f) records → Begins g (Open new) records
+  holds_begin records block crash begins = λ clean db may.
+      let was : HasCleanDisk (file_state f.held) = omega (arith, clean, crash.clean) in
+      elim (crash.crash clean db may) [
+        | inl before ↦ begins was db before
+        | inr left ↦
+            let shown = begins was (file_state f.held).now.trees left.shown in
+            record { kept = record shown.kept { blocks = with_block shown.kept.blocks block }; stands = left.held shown.kept shown.stands; more = shown.more; first = shown.first }
+      ]
+
+  -- a call that held it
+  holds : (number : ℕ) (records : List (List ℕ)) (block : List ℕ) → (HasCleanDisk (file_state new.held) → Keeps (HoldsBlock block) (file_state f.held) (file_state new.held))
+      → Survives (file_state f.held) (file_state new.held) (LeavesBlock block (file_state f.held))
+      → ((db : Trees) → IsTrue (file_state new.held).is_open → (file_state new.held).may_leave db → db ≡ (file_state new.held).committed.trees)
+      → new.count ≡ f.count → Counts g (Open f) number records → Counts g (Open new) number records
+  holds number records block keeps crash settled count counts = λ clean.
+      let step = counts (omega (arith, clean, crash.clean)) in
+      let how = keeps clean in
+      let more : Kept = record step.kept { blocks = with_block step.kept.blocks block } in
+      let one : (file_state new.held).now.trees ≡ (file_state new.held).committed.trees = ap (λ (d : Database). d.trees) how.same in
+      record {
+        kept = more;
+        stands = subst (Stands more) (sym one) (how.kept step.kept step.stands);
+        counted = step.counted ∙ sym count;
+        first = step.first;
+        settled = λ db may. settled db how.is_open may ∙ sym one;
+      }
+
+  pub holds_or : {A E : Type 0} (r : Result A E) (number : ℕ) (records : List (List ℕ)) (block : List ℕ) → (HasCleanDisk (file_state new.held) → OnOk r (Keeps (HoldsBlock block) (file_state f.held) (file_state new.held)))
+      → Survives (file_state f.held) (file_state new.held) (LeavesBlock block (file_state f.held))
+      → ((db : Trees) → IsTrue (file_state new.held).is_open → (file_state new.held).may_leave db → db ≡ (file_state new.held).committed.trees)
+      → new.count ≡ f.count → Counts g (Open f) number records → OnOk r (Counts g (Open new) number records)
+  holds_or (Ok x) number records block keeps crash settled count counts = holds number records block keeps crash settled count counts
+  holds_or (Err e) number records block keeps crash settled count counts = tt
 
   -- a call that put a record behind the others
   pub appends : (number : ℕ) (records : List (List ℕ)) (record_ : List ℕ) (blocks : List (List ℕ)) → (HasCleanDisk (file_state new.held) → Keeps (Extends record_ blocks) (file_state f.held) (file_state new.held))

@@ -1,4 +1,4 @@
--- What a file keeps as it is read, shut and opened.
+-- What a file keeps as it is read, holds a block more, and is shut and opened.
 use Rattle.std.proofs.Common.{◌≡◌, inl, inr, ℕ, List, sym, subst, ◌∙◌, arith}
 use Rattle.std.proofs.Math.Logic.{∥∥₁_elim}
 use Rattle.sqlite_disk.specs.declared.Disk.{Ghosts}
@@ -11,7 +11,9 @@ use Rattle.sqlite_trees.specs.View.{IsClean}
 use Rattle.sqlite_store.specs.FileStore.{view, recovers}
 use Rattle.sqlite.specs.State.{HasCleanDisk, Survives}
 use Rattle.sqlite.specs.Files.{file_state, over_files, image_of, HoldsDatabase}
+use Rattle.su_store.specs.Changes.{LeavesBlock}
 use Rattle.su_store.specs.Files.{File, IsAtRest}
+use Rattle.su_store.specs.Kept.{with_block}
 use Rattle.su_store.specs.Shut.{Rests}
 use Rattle.su_places.specs.Places.{StandsFor, Keeps, KeepsAll}
 use Rattle.su_places.specs.declared.places.Place.TheVariants.{Open, Unshut}
@@ -22,6 +24,16 @@ module _ {D : Type 0} (g : Ghosts D) (f : File (FileStore D g)) (records : List 
     | inl was ↦ was
     | inr none ↦ absurd none
   ])
+
+  pub hold_keeps : (new : File (FileStore D g)) (block : List ℕ) → Survives (file_state f.held) (file_state new.held) (LeavesBlock block (file_state f.held)) → KeepsAll g (Open f) records → KeepsAll g (Open new) records
+  hold_keeps new block crash kept = λ clean db may.
+      let was : HasCleanDisk (file_state f.held) = omega (arith, clean, crash.clean) in
+      elim (crash.crash clean db may) [
+        | inl before ↦ kept was db before
+        | inr left ↦
+            let shown = kept was (file_state f.held).now.trees left.shown in
+            record { kept = record shown.kept { blocks = with_block shown.kept.blocks block }; stands = left.held shown.kept shown.stands; same = shown.same }
+      ]
 
   pub shut_keeps : (files : Files D) → (AreClean g files.log files.db → HasCleanDisk (file_state f.held)) → (AreClean g files.log files.db → Rests g files (file_state f.held).now.trees)
       → (AreClean g files.log files.db → (file_state f.held).may_leave (file_state f.held).now.trees) → KeepsAll g (Open f) records → Keeps g files records

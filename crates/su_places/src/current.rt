@@ -72,4 +72,17 @@ impl<D: Disk + Drop> Place<D> {
             _ => Err(FileFault::Spent),
         }
     }
+
+    /// Holds a block by itself, unless one of its digest is held. `Spent` where the file isn't open.
+    pub(crate) fn put_item(&mut self, item: &[u8]) -> Result<(), FileFault>
+        ensures kept { KeepsRecords (KeepsAll D.Disk) self.old self.new }
+        ensures begun { KeepsRecords (Begins D.Disk) self.old self.new }
+        ensures counted { (n : ℕ) (records : List (List ℕ)) → Counts D.Disk self.old n records
+            → OnOk result (Counts D.Disk self.new n records) }
+    {
+        match self {
+            Place::Open(file) => file.hold_block(item),
+            _ => Err(FileFault::Spent),
+        }
+    }
 }

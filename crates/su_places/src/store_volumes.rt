@@ -108,6 +108,10 @@ impl<D: Disk + Drop> Volume for StoreVolume<D> {
         self.place.item(digest)
     }
 
+    fn put_item(&mut self, item: &[u8]) -> Result<(), FileFault> {
+        self.place.put_item(item)
+    }
+
     ghost begins_with_counted = { λ f. counts_begin _ f.place };
 
     ghost keeps_all_counted = { λ f. counts_all _ f.place };

@@ -108,6 +108,10 @@ impl<N: ArchiveName, V: Volume, H: Shelf<V>> Vault for ArchiveFiles<N, V, H> {
         self.volumes.item(alloc, number, digest)
     }
 
+    fn put_item(&mut self, alloc: Global, number: usize, item: &[u8]) -> Result<bool, V::Fault> {
+        self.volumes.put_item(alloc, number, item)
+    }
+
     fn record(
         &mut self,
         alloc: Global,

@@ -8,7 +8,7 @@ use su_bytes::Digest;
 use su_vault::Volume;
 
 /// Files whose records all stand in the book. At most one of them is open: the one from which an
-/// item or a record was read last.
+/// item or a record was read last, or in which an item was kept.
 #[derive(Drop)]
 pub struct PastFiles<V: Volume> {
     places: Vec<V>,
@@ -34,6 +34,14 @@ fn read_record<V: Volume>(
 {
     file.open(alloc)?;
     file.record(number)
+}
+
+/// Opens the file, if it is shut, and keeps an item in it.
+fn put<V: Volume>(file: &mut V, alloc: Global, item: &[u8]) -> Result<(), V::Fault>
+    ensures { KeepsRecords V.keeps file.old file.new }
+{
+    file.open(alloc)?;
+    file.put_item(item)
 }
 
 impl<V: Volume> PastFiles<V> {
@@ -97,6 +105,24 @@ impl<V: Volume> PastFiles<V> {
             return Ok(None);
         }
         read(&mut self.places[number], alloc, digest)
+    }
+
+    /// Keeps an item in the file of a number. `false` where there is no such file.
+    pub(crate) fn put_item(
+        &mut self,
+        alloc: Global,
+        number: usize,
+        item: &[u8],
+    ) -> Result<bool, V::Fault>
+        ensures { (lists : List (List (List ℕ))) → KeepInTurn V.Volume self.old lists
+            → KeepInTurn V.Volume self.new lists }
+    {
+        self.turn_to(number)?;
+        if self.places.len() <= number {
+            return Ok(false);
+        }
+        put(&mut self.places[number], alloc, item)?;
+        Ok(true)
     }
 
     /// Reads the record of an index in the file of a number. `None` where there is no such file, or

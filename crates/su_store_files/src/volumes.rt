@@ -343,6 +343,40 @@ impl<V: Volume> Volumes<V> {
         }
     }
 
+    /// Keeps an item in the file of a number, counted from 0, unless that one keeps it already.
+    /// `false` where it is a later one.
+    pub fn put_item(&mut self, alloc: Global, number: usize, item: &[u8]) -> Result<bool, V::Fault>
+        requires running { self.old.is_halted ≡ false }
+        ensures held { KeepsRecords (HoldsInTurn V.Volume) self.old self.new }
+        ensures running { OnOk result (self.new.is_halted ≡ false) }
+    {
+        if number != self.past.len() {
+            return self.put_past_item(alloc, number, item);
+        }
+        match self.current.put_item(item) {
+            Ok(()) => Ok(true),
+            Err(fault) => {
+                self.is_halted = true;
+                Err(fault)
+            }
+        }
+    }
+
+    /// The same, for a past file.
+    fn put_past_item(&mut self, alloc: Global, number: usize, item: &[u8]) -> Result<bool, V::Fault>
+        requires running { self.old.is_halted ≡ false }
+        ensures held { KeepsRecords (HoldsInTurn V.Volume) self.old self.new }
+        ensures running { OnOk result (self.new.is_halted ≡ false) }
+    {
+        match self.past.put_item(alloc, number, item) {
+            Ok(is_put) => Ok(is_put),
+            Err(fault) => {
+                self.halt();
+                Err(fault)
+            }
+        }
+    }
+
     /// Reads the record of an index and a digest from the file of a number, both counted from 0.
     /// `None` where the file is a later one, or has no such record. `DamagedRecord` where the one
     /// that it has has another digest.

@@ -99,6 +99,14 @@ pub trait Vault: Drop {
         ensures held { KeepsRecords holds self.old self.new }
         ensures running { OnOk result (is_stopped self.new ≡ false) };
 
+    /// Keeps an item by itself in the file of a number, counted from 0, unless that one keeps it
+    /// already: for a record there that came without it. `false` where the file is a later one.
+    /// Fails where the file isn't opened, and where the item isn't kept.
+    fn put_item(&mut self, alloc: Global, number: usize, item: &[u8]) -> Result<bool, Self::Fault>
+        requires running { is_stopped self.old ≡ false }
+        ensures held { KeepsRecords holds self.old self.new }
+        ensures running { OnOk result (is_stopped self.new ≡ false) };
+
     /// Reads the record of an index and a digest from the file of a number, both counted from 0.
     /// `None` where the file is a later one, or has no such record. Fails where the file isn't read,
     /// and where the record has another digest.

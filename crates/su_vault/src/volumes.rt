@@ -85,6 +85,14 @@ pub trait Volume: Drop {
         ensures counted { (n : ℕ) (records : List (List ℕ)) → counts self.old n records
             → OnOk result (counts self.new n records) };
 
+    /// Keeps an item by itself, unless it keeps it already: for a record that came without it. Fails
+    /// where the file isn't open, and where the item isn't kept.
+    fn put_item(&mut self, item: &[u8]) -> Result<(), Self::Fault>
+        ensures kept { KeepsRecords keeps self.old self.new }
+        ensures begun { KeepsRecords begins self.old self.new }
+        ensures counted { (n : ℕ) (records : List (List ℕ)) → counts self.old n records
+            → OnOk result (counts self.new n records) };
+
     // What it counts is the first of what it keeps.
     ghost begins_with_counted: { (f : Self) (n : ℕ) (records : List (List ℕ))
         → counts f n records → begins f records };
