@@ -1,33 +1,38 @@
 // A book's keeper over what keeps its records in files.
-ghost use Rattle.std.specs.Prelude.{◌≡◌, [], false, None, IfOk, IfSome, OnOk, OnErr};
+ghost use Rattle.std.specs.Prelude.{◌≡◌, ◌≢◌, [], false, None, Some, length, slice_get, option_map};
+ghost use Rattle.std.specs.Prelude.{List, ℕ, IfOk, IfSome, OnOk, OnErr};
 ghost use Rattle.sha2.specs.Sha256.{sha256};
 ghost use Rattle.su_vault.specs.Records.{KeepsRecords, AddsRecord};
 
+use crate::ahead::{AHEAD, Ahead};
 use crate::fills::Fill;
 use crate::items::{change_of, item_of, release_item, share};
+use crate::lacking::{LackingItem, LackingItems};
 use crate::numbers::Numbers;
 use std::alloc::{AllocError, Global};
 use std::collections::BTreeMap;
 use std::sync::Wait;
+use su_block::{digest_of, is_item};
 use su_bytes::Digest;
 use su_keeper::{Keeper, NotKept};
 use su_shared_items::SharedBlocks;
 use su_vault::Vault;
 
-/// How many records are shared behind one that is read from a past file. At most one such file is
-/// open, and it is opened whole: clients that read old records side by side would have it opened
-/// for each record.
-const AHEAD: u32 = 256;
-
 /// Keeps the records of a book in a vault, each with the item of its change, which it gets from the
 /// items that the server's threads share. The records that the vault was found with go back into the
-/// book one by one, and their items among the shared ones. It begins with none in the book.
+/// book one by one, and their items among the shared ones. It begins with none in the book. It notes
+/// the items that are lacking, and they can be filled in.
 #[derive(Drop)]
 pub struct Archive<'a, V: Vault, R: Wait> {
     vault: V,
     fill: Fill,
     // which file has the item of a digest
     places: BTreeMap<[u8; 32], usize>,
+    // Items of changes that no file has. One that a file has counts as there for all records, since
+    // it is read from that file. A start looks for the item of a record in the file of that record
+    // alone; it finds each that is kept, as an item is only put into a file with a record that needs
+    // it. So what is noted here until another file is seen to have it is lacking once all is taken up.
+    lacking: LackingItems,
     numbers: Numbers,
     asked: usize,
     fault: Option<V::Fault>,
@@ -53,6 +58,7 @@ impl<'a, V: Vault, R: Wait> Archive<'a, V, R> {
             vault,
             fill: Fill::new(limit),
             places: BTreeMap::new(alloc),
+            lacking: LackingItems::new(alloc),
             numbers: Numbers::new(alloc),
             asked: 0,
             fault: None,
@@ -71,6 +77,70 @@ impl<'a, V: Vault, R: Wait> Archive<'a, V, R> {
         self.asked
     }
 
+    /// How many items are lacking: those of the changes of records that were taken up or kept so far,
+    /// which none of the files so far has.
+    pub fn lacking(&self) -> usize
+        ensures { result ≡ length self.now.lacking }
+    {
+        self.lacking.len()
+    }
+
+    /// The digest of the lacking item of an index, from 0. `None` where no more than so many are.
+    pub fn lacking_item(&self, index: usize) -> Option<Digest>
+        ensures { result ≡ option_map (λ item. item.0) (slice_get self.now.lacking index) }
+    {
+        match self.lacking.get(index) {
+            Some(item) => Some(item.digest),
+            None => None,
+        }
+    }
+
+    /// Keeps the lacking item of an index, in the file of the first record that needs it. It isn't
+    /// lacking any more, and the last one has its index. Does nothing where there is no such index,
+    /// and where these bytes have another digest or are no item: not 1 to 70,000 bytes. Fails where
+    /// the file isn't opened or doesn't keep it, of which `fault` tells, and after each failure.
+    pub fn fill(&mut self, alloc: Global, index: usize, item: &[u8]) -> Result<(), NotKept>
+        ensures held { KeepsRecords V.holds self.old.vault self.new.vault }
+        ensures other { (digest : List ℕ)
+            → option_map (λ item. item.0) (slice_get self.old.lacking index) ≡ Some digest
+            → sha256 item.now ≢ digest → self.new ≡ self.old }
+    {
+        if self.vault.is_halted() {
+            return Err(NotKept);
+        }
+        let Some(lacking) = self.lacking.get(index) else {
+            return Ok(());
+        };
+        if digest_of(item) != lacking.digest || !is_item(item) {
+            return Ok(());
+        }
+        match self.put_item(alloc, &lacking, item) {
+            Ok(()) => Ok(()),
+            Err(fault) => Err(self.fail(fault)),
+        }
+    }
+
+    /// Keeps an item in the file of the first record that needs it.
+    fn put_item(
+        &mut self,
+        alloc: Global,
+        lacking: &LackingItem,
+        item: &[u8],
+    ) -> Result<(), V::Fault>
+        requires running { V.is_stopped self.old.vault ≡ false }
+        ensures held { KeepsRecords V.holds self.old.vault self.new.vault }
+    {
+        self.asked = lacking.number;
+        if !self.vault.put_item(alloc, self.asked, item)? {
+            return Ok(());
+        }
+        if self.asked == self.vault.number() {
+            self.fill.count(item.len());
+        }
+        self.put_place(lacking.digest)?;
+        Ok(())
+    }
+
     /// Shuts all files, and gives them up. Fails at the first one that isn't shut; the others are left
     /// as they are.
     pub fn close(self) -> Result<(), V::Fault> {
@@ -86,8 +156,8 @@ impl<'a, V: Vault, R: Wait> Archive<'a, V, R> {
         NotKept
     }
 
-    /// Shares the item of a commit's change, where the current file has it. A block that is no item
-    /// is left out: no client can have put it.
+    /// Shares the item of a commit's change, where the current file has it; where no file has it so
+    /// far, it is lacking. A block that is no item is left out: no client can have put it.
     fn share_item(&mut self, alloc: Global, commit: &[u8]) -> Result<(), V::Fault>
         requires running { V.is_stopped self.old.vault ≡ false }
         ensures held { KeepsRecords V.holds self.old.vault self.new.vault }
@@ -97,6 +167,7 @@ impl<'a, V: Vault, R: Wait> Archive<'a, V, R> {
             return Ok(());
         };
         let Some(item) = self.vault.item(alloc, self.asked, digest)? else {
+            self.note_lacking(digest)?;
             return Ok(());
         };
         self.fill.find(commit.len().saturating_add(item.len()));
@@ -151,7 +222,7 @@ impl<'a, V: Vault, R: Wait> Archive<'a, V, R> {
     }
 
     /// Puts the record behind those of the last file, with the item of its change, which need not
-    /// stay in memory from then on.
+    /// stay in memory from then on. Where it isn't shared, the record is kept without it.
     fn keep_new(&mut self, alloc: Global, commit: &[u8]) -> Result<(), V::Fault>
         requires running { V.is_stopped self.old.vault ≡ false }
         requires end { V.is_at_end self.old.vault }
@@ -172,13 +243,29 @@ impl<'a, V: Vault, R: Wait> Archive<'a, V, R> {
     fn put_place(&mut self, digest: Digest) -> Result<(), AllocError>
         ensures { self.new.vault ≡ self.old.vault }
     {
+        self.lacking.take_out(&digest);
         match self.places.insert(*digest.as_bytes(), self.asked) {
             Ok(_) => Ok(()),
             Err(refused) => Err(AllocError::from(refused)),
         }
     }
 
-    /// Counts the bytes of a record and its item, and notes in which file the item is.
+    /// Notes that the file that was asked last hasn't got the item of a digest, though a record
+    /// there needs it, unless another file has it.
+    fn note_lacking(&mut self, digest: Digest) -> Result<(), AllocError>
+        ensures { self.new.vault ≡ self.old.vault }
+    {
+        if self.places.contains_key(digest.as_bytes()) {
+            return Ok(());
+        }
+        self.lacking.add(LackingItem {
+            digest,
+            number: self.asked,
+        })
+    }
+
+    /// Counts the bytes of a record and its item, and notes in which file the item is, or that it is
+    /// lacking.
     fn note(
         &mut self,
         commit: &[u8],
@@ -188,7 +275,11 @@ impl<'a, V: Vault, R: Wait> Archive<'a, V, R> {
         ensures { self.new.vault ≡ self.old.vault }
     {
         self.fill.count(commit.len());
-        let (Some(digest), Some(item)) = (change, items.first()) else {
+        let Some(digest) = change else {
+            return Ok(());
+        };
+        let Some(item) = items.first() else {
+            self.note_lacking(*digest)?;
             return Ok(());
         };
         self.fill.count(item.len());
@@ -227,8 +318,8 @@ impl<'a, V: Vault, R: Wait> Archive<'a, V, R> {
     }
 
     /// Reads the record of a number, from 1, of those that stand in the book: the one that has this
-    /// digest. `None` where there is no such number. Of a past file the records behind it come
-    /// along, among the shared items.
+    /// digest. `None` where there is no such number. Of a past file its item comes along, and the
+    /// records behind it with theirs, among the shared items.
     fn read_record(
         &mut self,
         alloc: Global,
@@ -245,25 +336,51 @@ impl<'a, V: Vault, R: Wait> Archive<'a, V, R> {
         self.asked = file;
         let found = self.vault.record(alloc, file, index, digest)?;
         if file != self.vault.number() {
-            self.share_behind(alloc, index)?;
+            let ahead = self.read_ahead(alloc, index)?;
+            ahead.share(self.rt, alloc, self.blocks);
         }
         Ok(found)
     }
 
-    /// Shares the records behind the one of an index in the file that was asked last, as many as
-    /// are read ahead. Those that cannot be shared are left out.
-    fn share_behind(&mut self, alloc: Global, index: u32) -> Result<(), V::Fault>
+    /// Reads the record of an index in the file that was asked last and those behind it, as many as
+    /// come along, each with the item of its change, if the file has that.
+    fn read_ahead(&mut self, alloc: Global, index: u32) -> Result<Ahead, V::Fault>
         requires running { V.is_stopped self.old.vault ≡ false }
         ensures held { KeepsRecords V.holds self.old.vault self.new.vault }
     {
-        let first = index.saturating_add(1);
-        for next in first..first.saturating_add(AHEAD) {
-            let Some(commit) = self.vault.record_at(alloc, self.asked, next)? else {
-                return Ok(());
-            };
-            let _shared = self.blocks.share(self.rt, alloc, commit.as_slice());
+        let mut ahead = Ahead::new(alloc);
+        for next in index..index.saturating_add(AHEAD + 1) {
+            if ahead.is_enough() || !self.push_record(alloc, next, &mut ahead)? {
+                return Ok(ahead);
+            }
         }
-        Ok(())
+        Ok(ahead)
+    }
+
+    /// Puts the record of an index in the file that was asked last, and the item of its change, if
+    /// the file has that, behind what is read ahead. `false` where there is no such record.
+    fn push_record(
+        &mut self,
+        alloc: Global,
+        index: u32,
+        ahead: &mut Ahead,
+    ) -> Result<bool, V::Fault>
+        requires running { V.is_stopped self.old.vault ≡ false }
+        ensures held { KeepsRecords V.holds self.old.vault self.new.vault }
+        ensures running { OnOk result (V.is_stopped self.new.vault ≡ false) }
+    {
+        let Some(commit) = self.vault.record_at(alloc, self.asked, index)? else {
+            return Ok(false);
+        };
+        let change = change_of(alloc, commit.as_slice())?;
+        ahead.push(commit)?;
+        let Some(digest) = change else {
+            return Ok(true);
+        };
+        if let Some(item) = self.vault.item(alloc, self.asked, digest)? {
+            ahead.push(item)?;
+        }
+        Ok(true)
     }
 }
 

@@ -1,6 +1,6 @@
 use Rattle.std.proofs.Common.{◌≡◌, false}
 use Rattle.su_vault.specs.Records.{KeepsRecords}
-use Rattle.su_store_keeper.proofs.archives.Archive.share_behind.Given as goal
+use Rattle.su_store_keeper.proofs.archives.Archive.read_ahead.Given as goal
 
 abbrev pub invariant-loop-next : goal.invariant-loop-next
 invariant-loop-next g l = record {
