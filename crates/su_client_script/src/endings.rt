@@ -17,6 +17,10 @@ pub enum Ending {
         number: u64,
         mistake: Option<Mistake>,
     },
+    /// The line with that number, from 1, was refused, where that was to end the run.
+    Refused {
+        number: u64,
+    },
     /// Something failed.
     Failed(Fault),
 }
@@ -29,7 +33,7 @@ impl Ending {
         match self {
             Ending::Finished => Status::Finished,
             Ending::BadLine { .. } => Status::BadLine,
-            Ending::Failed(_) => Status::Fault,
+            Ending::Refused { .. } | Ending::Failed(_) => Status::Fault,
         }
     }
 }

@@ -1,80 +1,94 @@
 // The run of a script.
-ghost use Rattle.std.specs.Prelude.{◌≡◌, OnOk};
+ghost use Rattle.std.specs.Prelude.{◌≡◌, IfSome, OnOk};
 ghost use Rattle.su_client_work.specs.Work.{Works};
-ghost use Rattle.su_client_script.specs.Run.{Adds, AddsUnlessFault};
+ghost use Rattle.su_client_script.specs.Run.{Adds, AddsUnlessFault, StopsIfAsked};
 
 use crate::endings::{Ending, Fault};
-use crate::steps::{Saver, Step, bad_step, line_step};
+use crate::programs::Program;
+use crate::steps::{Step, bad_step, line_step};
 use std::alloc::Global;
 use std::io;
 use std::io::{Read, Write};
-use std::time::Clock;
 use su_client_work::Member;
 use su_desk_lines::{LineReader, Mistake, NextLine};
 use su_lms::KeyStore;
 
 /// Carries out the commands of a script, line by line, and prints what comes of each before the next
-/// line is read. An empty line is passed over; a line that is no command ends the run. Where the link
-/// to the server fails, the run ends once the refusal is printed that the command met. The clock is
-/// what a client sleeps by while another has the turn.
-pub fn run_client<C, I, O, R, W, K, V>(
-    clock: &C,
+/// line is read. An empty line is passed over; a line that is no command ends the run, and so does
+/// one that is refused, if the run is to stop there. Where the link to the server fails, the run ends
+/// once the refusal is printed that the command met. The program makes a link anew whose session was
+/// ended before a command, waits while another has the turn, saves logs, and explains refusals.
+pub fn run_client<P, I, O, R, W, K>(
+    program: &mut P,
     alloc: Global,
     input: I,
     output: &mut O,
     member: &mut Member<R, W, K>,
-    saver: &mut V,
+    stops: bool,
 ) -> Ending
 where
-    C: Clock,
+    P: Program<R, W>,
     I: Read + Drop,
     O: Write,
     R: Read + Drop,
     W: Write + Drop,
     K: KeyStore + Drop,
-    V: Saver,
     ensures works { Works member.old member.new }
     ensures adds { AddsUnlessFault (O.contents output.old) (O.contents output.new) result }
+    ensures stops { StopsIfAsked stops result }
 {
     let mut lines = LineReader::new(alloc, input);
     for number in 1..u64::MAX {
-        match next_step(clock, alloc, &mut lines, output, member, saver, number) {
-            Ok(Step::GoesOn) => {}
-            Ok(Step::Ends(ending)) => return ending,
+        match next_step(program, alloc, &mut lines, output, member, number) {
+            Ok(step) => {
+                if let Some(ending) = ending_of(step, number, stops) {
+                    return ending;
+                }
+            }
             Err(fault) => return Ending::Failed(fault),
         }
     }
     Ending::Failed(Fault::Reading(io::Error::other("it has too many lines")))
 }
 
+/// Returns how the run ends with the line of that number, if it does.
+fn ending_of(step: Step, number: u64, stops: bool) -> Option<Ending>
+    ensures { IfSome result (StopsIfAsked stops) }
+{
+    match step {
+        Step::Refused if stops => Some(Ending::Refused { number }),
+        Step::Done | Step::Refused => None,
+        Step::Bad(mistake) => Some(Ending::BadLine { number, mistake }),
+        Step::Over => Some(Ending::Finished),
+    }
+}
+
 /// Carries out the next line, which has that number.
-fn next_step<C, I, O, R, W, K, V>(
-    clock: &C,
+fn next_step<P, I, O, R, W, K>(
+    program: &mut P,
     alloc: Global,
     lines: &mut LineReader<I>,
     output: &mut O,
     member: &mut Member<R, W, K>,
-    saver: &mut V,
     number: u64,
 ) -> Result<Step, Fault>
 where
-    C: Clock,
+    P: Program<R, W>,
     I: Read + Drop,
     O: Write,
     R: Read + Drop,
     W: Write + Drop,
     K: KeyStore + Drop,
-    V: Saver,
     ensures works { Works member.old member.new }
     ensures adds { OnOk result (Adds (O.contents output.old) (O.contents output.new)) }
 {
     match lines.next_line() {
         Ok(NextLine::Line(line)) => match line.as_slice() {
-            [] => Ok(Step::GoesOn),
-            line => line_step(clock, alloc, output, member, saver, line, number),
+            [] => Ok(Step::Done),
+            line => line_step(program, alloc, output, member, line, number),
         },
         Ok(NextLine::TooLong) => bad_step(alloc, output, number, Some(Mistake::LongLine)),
-        Ok(NextLine::End) => Ok(Step::Ends(Ending::Finished)),
+        Ok(NextLine::End) => Ok(Step::Over),
         Err(reason) => Err(Fault::Reading(reason)),
     }
 }

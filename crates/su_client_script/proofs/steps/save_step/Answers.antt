@@ -1,4 +1,4 @@
-use Rattle.su_client_work.proofs.Public.{works_takes, works_stays}
+use Rattle.su_client_work.proofs.Public.{works_takes}
 use Rattle.su_client_script.proofs.steps.save_step.Goals as goal
 
 pub returns-in-Ok-save-clause-works : goal.returns-in-Ok-save-clause-works
@@ -8,5 +8,4 @@ pub returns-in-Err-save-clause-works : goal.returns-in-Err-save-clause-works
 returns-in-Err-save-clause-works g c = works_takes c.args.member.now c.log.new.self c.log.ensures.takes c.log.ensures.next
 
 pub returns-in-Err-clause-works : goal.returns-in-Err-clause-works
-returns-in-Err-clause-works g c =
-    works_stays c.args.member.now c.log.new.self c.tell_refusal.new.member (works_takes c.args.member.now c.log.new.self c.log.ensures.takes c.log.ensures.next) c.tell_refusal.ensures.same
+returns-in-Err-clause-works g c = works_takes c.args.member.now c.log.new.self c.log.ensures.takes c.log.ensures.next

@@ -1,0 +1,115 @@
+// What is printed of a command.
+ghost use Rattle.std.specs.Prelude.{OnOk};
+ghost use Rattle.su_client_script.specs.Run.{Adds};
+
+use crate::endings::Fault;
+use crate::texts::{listed, refused};
+use std::alloc::{AllocError, Global};
+use std::io;
+use std::io::Write;
+use su_bytes::{FileId, Name};
+use su_desk_script::{answered, in_hex};
+use su_view::ViewRefusal;
+
+/// What came of a command, once it is printed.
+#[derive(Drop)]
+pub(crate) enum Outcome {
+    /// It was carried out.
+    Done,
+    /// It was refused; whether that was an operation behind a take of the same command.
+    Refused {
+        refusal: ViewRefusal,
+        after_take: bool,
+    },
+}
+
+/// Prints `ok N`, or the refusal, behind a take of the same command or not.
+pub(crate) fn tell_number<O: Write>(
+    alloc: Global,
+    output: &mut O,
+    stored: Result<u64, ViewRefusal>,
+    after_take: bool,
+) -> Result<Outcome, Fault>
+    ensures { OnOk result (Adds (O.contents output.old) (O.contents output.new)) }
+{
+    match stored {
+        Ok(number) => tell_text(output, answered(alloc, Ok(number))),
+        Err(refusal) => tell_refusal(alloc, output, refusal, after_take),
+    }
+}
+
+/// Prints a line for each name, or the refusal.
+pub(crate) fn tell_names<O: Write>(
+    alloc: Global,
+    output: &mut O,
+    names: Result<Vec<(Name, FileId)>, ViewRefusal>,
+) -> Result<Outcome, Fault>
+    ensures { OnOk result (Adds (O.contents output.old) (O.contents output.new)) }
+{
+    match names {
+        Ok(names) => tell_text(output, listed(alloc, names.as_slice())),
+        Err(refusal) => tell_refusal(alloc, output, refusal, false),
+    }
+}
+
+/// Prints bytes in hex digits, or the refusal.
+pub(crate) fn tell_bytes<O: Write>(
+    alloc: Global,
+    output: &mut O,
+    bytes: Result<Vec<u8>, ViewRefusal>,
+) -> Result<Outcome, Fault>
+    ensures { OnOk result (Adds (O.contents output.old) (O.contents output.new)) }
+{
+    match bytes {
+        Ok(bytes) => tell_text(output, in_hex(alloc, bytes.as_slice())),
+        Err(refusal) => tell_refusal(alloc, output, refusal, false),
+    }
+}
+
+/// Prints a refusal, behind a take of the same command or not.
+pub(crate) fn tell_refusal<O: Write>(
+    alloc: Global,
+    output: &mut O,
+    refusal: ViewRefusal,
+    after_take: bool,
+) -> Result<Outcome, Fault>
+    ensures { OnOk result (Adds (O.contents output.old) (O.contents output.new)) }
+{
+    print_text(output, refused(alloc, &refusal))?;
+    Ok(Outcome::Refused {
+        refusal,
+        after_take,
+    })
+}
+
+/// Prints the answer to a command that was carried out.
+fn tell_text<O: Write>(output: &mut O, text: Result<Vec<u8>, AllocError>) -> Result<Outcome, Fault>
+    ensures { OnOk result (Adds (O.contents output.old) (O.contents output.new)) }
+{
+    print_text(output, text)?;
+    Ok(Outcome::Done)
+}
+
+/// Prints a text that is there, unless there was no memory for it.
+pub(crate) fn print_text<O: Write>(
+    output: &mut O,
+    text: Result<Vec<u8>, AllocError>,
+) -> Result<(), Fault>
+    ensures { OnOk result (Adds (O.contents output.old) (O.contents output.new)) }
+{
+    let Ok(text) = text else {
+        return Err(Fault::NoMemory);
+    };
+    match print(output, text.as_slice()) {
+        Ok(()) => Ok(()),
+        Err(reason) => Err(Fault::Writing(reason)),
+    }
+}
+
+/// Writes a text, and flushes it.
+fn print<O: Write>(output: &mut O, text: &[u8]) -> io::Result<()>
+    ensures { OnOk result (Adds (O.contents output.old) (O.contents output.new)) }
+{
+    output.write_all(text)?;
+    output.flush()
+}

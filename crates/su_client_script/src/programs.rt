@@ -1,0 +1,26 @@
+// What a script asks of the program that runs it.
+use std::io;
+use std::io::{Read, Write};
+use su_client_work::Surroundings;
+use su_view::ViewRefusal;
+
+/// What a script asks of the program that runs it, beside what its client does.
+pub trait Program<R: Read, W: Write>: Surroundings<R, W> {
+    /// Puts a file of that name, with these bytes, in the place of what stands there.
+    fn save(&mut self, file: &[u8], log: &[u8]) -> io::Result<()>;
+
+    /// Is told of a command that was refused, once the line of the refusal is printed, so that it can
+    /// tell what that may come from. Nothing rests on it.
+    fn explain(&mut self, cause: &Cause);
+}
+
+/// Why a command was refused, with what is known beside.
+#[derive(Clone, Copy, Debug)]
+pub struct Cause {
+    /// The refusal that was printed.
+    pub refusal: ViewRefusal,
+    /// Whether it met an operation that came behind a take of the same command, which is stored.
+    pub after_take: bool,
+    /// Of `OwnMissing` the number of the user's own last commit.
+    pub own_last: Option<u64>,
+}
