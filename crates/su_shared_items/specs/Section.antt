@@ -5,6 +5,7 @@ use Rattle.std.specs.Map.{lookup, remove_entry}
 use Rattle.std.specs.Set.{remove_key}
 use Rattle.std.specs.Str.{bytes_eq}
 use Rattle.std.specs.BTreeMap.{is_at}
+use Rattle.std.specs.BTreeSet.{insert_key}
 use Rattle.std.specs.Cmp.Lexicographic.{slice_cmp}
 use Rattle.std.specs.Ordering.{nat_cmp}
 use Rattle.su_shared_items.specs.Shard.{Held, Items, item_under}
@@ -66,6 +67,10 @@ abbrev pub is_elsewhere : List (List ℕ) → List ℕ → Bool
 is_elsewhere digests digest = list_any (is_at (slice_cmp nat_cmp digest)) digests
 
 -- ---- sessions
+
+-- these digests and this one, in order
+abbrev pub with_one : List ℕ → List (List ℕ) → List (List ℕ)
+with_one digest digests = insert_key (slice_cmp nat_cmp) digests digest
 
 -- these digests but for one
 abbrev pub without : List ℕ → List (List ℕ) → List (List ℕ)

@@ -1,9 +1,9 @@
 // Items that a session puts.
-ghost use Rattle.std.specs.Prelude.{◌≡◌, ◌⊎◌, ◌↔◌, [], false, IfOk, IfErr, OnErr, Err};
+ghost use Rattle.std.specs.Prelude.{◌≡◌, ◌⊎◌, ◌↔◌, [], false, IfOk, IfErr, OnErr, Err, MatchBool};
 ghost use Rattle.sha2.specs.Sha256.{sha256};
 ghost use Rattle.su_block.specs.Item.{is_item};
 ghost use Rattle.su_bytes.specs.declared.refusals.Refusal.TheVariants.{TooBig, NoMemory};
-ghost use Rattle.su_shared_items.specs.Section.{without};
+ghost use Rattle.su_shared_items.specs.Section.{with_one, without};
 
 use crate::shared::SharedBlocks;
 use std::alloc::Global;
@@ -61,6 +61,9 @@ impl<'a> SessionItems<'a> {
         ensures digest { IfOk result (λ digest. digest ≡ sha256 item.now) }
         ensures too_big { (result ≡ Err TooBig) ↔ (is_item item.now ≡ false) }
         ensures refused { IfErr result (λ e. (e ≡ TooBig) ⊎ (e ≡ NoMemory)) }
+        // The session pins no other item more than before.
+        ensures pinned { IfOk result (λ digest.
+            (self.new ≡ self.old) ⊎ (self.new ≡ with_one digest self.old)) }
         ensures unchanged { OnErr result (self.new ≡ self.old) }
     {
         let (digest, pinned) = self.blocks.put_pinned(rt, alloc, item)?;
@@ -74,7 +77,7 @@ impl<'a> SessionItems<'a> {
     /// unpinned, as it is pinned twice. Returns whether there was memory for it: where there isn't,
     /// the item is unpinned too, and nothing changes.
     fn note(&mut self, rt: &impl Wait, digest: Digest) -> bool
-        ensures { result ≡ false → self.new ≡ self.old }
+        ensures { MatchBool result (self.new ≡ with_one digest self.old) (self.new ≡ self.old) }
     {
         match self.pinned.insert(*digest.as_bytes()) {
             Ok(true) => true,
