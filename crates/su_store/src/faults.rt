@@ -20,8 +20,8 @@ pub enum FileFault {
     /// Another process, or another handle of this one, has the file open.
     #[error("in use by another server or program: end that one first")]
     InUse,
-    /// The file or its folder can't be opened.
-    #[error("can't be opened: look at its permissions, and whether its folder is there")]
+    /// The file or its folder can't be opened, or as many files are open as may be.
+    #[error("can't be opened: look at its permissions, its folder, and the limit of `ulimit -n`")]
     Unopened,
     /// The disk is full, or a limit on the size of files is met.
     #[error("no room is left on the disk: make room and start again; nothing acknowledged is lost")]
