@@ -434,7 +434,7 @@ def commit_for(room, item):
 
 
 def room_of_items(at):
-    """Items stay until a commit names them, as many as there is room for; one that has none is refused, and changes nothing."""
+    """Items stay in their session until a commit names them, as many as there is room for; one that has none is refused, and changes nothing."""
     room, store = serving.Room(at), f"{at}/store"
     with Keeping(room, store, cache=1) as server:
         link = wire.connect(server.port)
@@ -464,8 +464,42 @@ def room_of_items(at):
         link.close()
 
 
+def is_gone_soon(link, number):
+    """Whether an item goes within a few seconds, in which the session that put it ends."""
+    for _ in range(100):
+        if serving.reply_to(link, wire.get(sha256(item_of(number)))) == ("refused", "5 MissingBlock"):
+            return True
+        time.sleep(0.1)
+    return False
+
+
+def items_of_sessions(at):
+    """What a session put and no commit named goes when it ends, with a store and without one, and what a commit named doesn't."""
+    room, store = serving.Room(at), f"{at}/store"
+    for name, begin in (("without", lambda: serving.Server(room, "--cache", 1)), ("with", lambda: Keeping(room, store, cache=1))):
+        with begin() as server:
+            stays, link = wire.connect(server.port), wire.connect(server.port)
+            held, refused = put_all(link, range(ITEMS))
+            named, both, mine = held[:3]
+            yield f"another_may_put_what_is_there_{name}", put_all(stays, [named, both]) == ([named, both], [])
+            stored = [serving.reply_to(stays, request) for request in (wire.GRANT, wire.commit(commit_for(room, item_of(named))))]
+            yield f"and_commit_it_{name}: {stored}", stored == [("granted", (0, {})), ("stored", 1)]
+            link.close()
+            yield f"the_rest_goes_{name}", is_gone_soon(stays, mine) and is_gone_soon(stays, held[-1])
+            left = [serving.reply_to(stays, wire.get(sha256(item_of(number)))) for number in (named, both)]
+            yield f"what_is_named_or_put_twice_stays_{name}", left == [("item", item_of(number)) for number in (named, both)]
+            again, _ = put_all(stays, refused)
+            yield f"and_there_is_room_anew_{name}: {len(again)}", len(again) > len(refused) // 2
+            stays.close()
+            last = wire.connect(server.port)
+            yield f"which_goes_as_well_{name}", is_gone_soon(last, both) and is_gone_soon(last, again[-1])
+            yield f"but_what_is_named_{name}", serving.reply_to(last, wire.get(sha256(item_of(named)))) == ("item", item_of(named))
+            last.close()
+            server.kill()
+
+
 def tiny_items(at):
-    """Small items fill the room, and not the memory: each takes about what is counted for it, of which 128 bytes are not its own."""
+    """Small items fill the room, and not the memory: each takes about what is counted for it, of which 256 bytes are not its own."""
     room, store = serving.Room(at), f"{at}/store"
     with Keeping(room, store, cache=1) as server:
         link, before, count = wire.connect(server.port), serving.memory(server, "VmHWM"), 0
@@ -473,7 +507,7 @@ def tiny_items(at):
             count += 1
         grown = serving.memory(server, "VmHWM") - before
         print(f"storing: {count} items of 4 bytes fill a room of 16 MiB, {grown // 1000000} MB of memory")
-        yield f"as_many_as_are_counted: {count}", count <= SHARDS * LEAST_STAYING // 132
+        yield f"as_many_as_are_counted: {count}", count <= SHARDS * LEAST_STAYING // 260
         yield f"and_no_more_memory_than_that_by_half: {grown}", 0 < grown < SHARDS * LEAST_STAYING * 3 // 2
         link.close()
 
@@ -890,7 +924,8 @@ def lacking_items(at, room, records, copy_of):
 
 
 PARTS = (
-    ends, asked_to_end, two_servers, kills, damage, no_room, small_cache, room_of_items, tiny_items, strangers, several_files, bad_files,
+    ends, asked_to_end, two_servers, kills, damage, no_room, small_cache, room_of_items, items_of_sessions, tiny_items, strangers,
+    several_files, bad_files,
     backs_up, backup_kills, bad_backups, copies_of_lies)
 
 

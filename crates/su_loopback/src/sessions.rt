@@ -7,16 +7,18 @@ use std::test::Fail;
 use std::thread::Threads;
 use su_message::{Reply, Request};
 use su_session::{End, Service};
-use su_threads::{Begin, Duplex, serve_all};
+use su_threads::{Attend, Duplex, serve_all};
 
-/// Answers each request alike, and counts the sessions that it serves, and their numbers.
+/// Answers each request alike, and counts the sessions that it serves, their numbers, and those of
+/// them that ended one after another.
 #[derive(Drop)]
 struct Same {
     sessions: u64,
     numbers: u64,
+    ended: u64,
 }
 
-// Of what it counts contracts see nothing: to begin a session changes no answer.
+// Of what it counts contracts see nothing: to begin a session or to end it changes no answer.
 impl Model for Same {
     ghost Value = { Unit {0} };
 
@@ -31,10 +33,17 @@ impl Service for Same {
     }
 }
 
-impl Begin for Same {
+impl Attend for Same {
     fn begin(&mut self, session: u64) {
         self.sessions = self.sessions.saturating_add(1);
         self.numbers = self.numbers.saturating_add(session);
+    }
+
+    fn end(&mut self) {
+        // each ends before the next one begins
+        if self.ended.saturating_add(1) == self.sessions {
+            self.ended = self.sessions;
+        }
     }
 }
 
@@ -59,9 +68,10 @@ fn two_sessions<R: Threads + Wait + Abort + Sync>(rt: &R, alloc: Global) -> Resu
     let (all, back) = serve_all(rt, alloc, sessions.into_iter(), services(alloc, 2)?)?;
     assert_eq!(rt; all.len(), 2);
     assert_eq!(rt; back.len(), 2);
-    // each number was begun once
+    // each number was begun once, and ended
     assert_eq!(rt; back[0].sessions.saturating_add(back[1].sessions), 2);
     assert_eq!(rt; back[0].numbers.saturating_add(back[1].numbers), 3);
+    assert_eq!(rt; back[0].ended.saturating_add(back[1].ended), 2);
     assert_eq!(rt; all[0].answered, 2);
     assert_eq!(rt; all[0].end_, End::Closed);
     assert_eq!(rt; all[1].answered, 1);
@@ -76,6 +86,7 @@ fn services(alloc: Global, count: usize) -> Result<Vec<Same>, Fail> {
         services.push(Same {
             sessions: 0,
             numbers: 0,
+            ended: 0,
         })?;
     }
     Ok(services)

@@ -4,7 +4,7 @@ ghost use Rattle.std.specs.Prelude.{◌≡◌};
 use std::alloc::Global;
 use std::marker::Model;
 use su_message::{Reply, Request};
-use su_session::{Begin, Service};
+use su_session::{Attend, Service};
 
 /// Is opened before the first session comes, and passed before and after each request of a session.
 pub trait Gate {
@@ -64,10 +64,16 @@ impl<'a, S, G: Gate> Gated<'a, S, G> {
     }
 }
 
-/// The gate is passed under the number of the session that was begun last.
-impl<'a, S, G: Gate> Begin for Gated<'a, S, G> {
+/// The gate is passed under the number of the session that was begun last. The service within attends
+/// each session too.
+impl<'a, S: Attend, G: Gate> Attend for Gated<'a, S, G> {
     fn begin(&mut self, session: u64) {
         self.session = session;
+        self.service.begin(session);
+    }
+
+    fn end(&mut self) {
+        self.service.end();
     }
 }
 

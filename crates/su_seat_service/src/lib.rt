@@ -2,6 +2,7 @@
 #![tactic(auto)]
 
 mod gates;
+mod names;
 mod workers;
 
 pub use gates::{Gate, Gated, OpenGate};

@@ -7,6 +7,7 @@ ghost use Rattle.su_own_service.specs.Kept.{said};
 ghost use Rattle.su_shared.specs.Entry.{IsShown};
 ghost use Rattle.su_seat_service.specs.Worker.{Answers, Tells};
 
+use crate::names::named_by;
 use std::alloc::Global;
 use std::marker::Model;
 use std::sync::Wait;
@@ -14,16 +15,17 @@ use su_bytes::{Digest, Refusal};
 use su_keeper::Keeper;
 use su_message::{Bytes, Reply, Request};
 use su_own_service::{reply_or_refusal, told};
-use su_session::Service;
+use su_session::{Attend, Service};
 use su_shared::{BookName, Record, Seat, SharedBook};
-use su_shared_items::SharedBlocks;
+use su_shared_items::{SessionItems, SharedBlocks};
 
-/// A service over a book and items that are shared, which asks the book from a seat of its own. Its
-/// model is that seat.
+/// A service over a book and items that are shared, which asks the book from a seat of its own. What
+/// its session puts and names by no commit goes when the session ends. Its model is that seat.
 #[derive(Drop)]
 pub struct Worker<'a, N: BookName, K: Keeper, R: Wait> {
     book: &'a SharedBook<N, K>,
     blocks: &'a SharedBlocks,
+    items: SessionItems<'a>,
     seat: Seat<N>,
     rt: &'a R,
 }
@@ -40,6 +42,7 @@ impl<'a, N: BookName, K: Keeper, R: Wait> Worker<'a, N, K, R> {
     /// Makes the service of a seat of this book.
     pub fn new(
         rt: &'a R,
+        alloc: Global,
         book: &'a SharedBook<N, K>,
         blocks: &'a SharedBlocks,
         seat: Seat<N>,
@@ -49,6 +52,7 @@ impl<'a, N: BookName, K: Keeper, R: Wait> Worker<'a, N, K, R> {
         Worker {
             book,
             blocks,
+            items: SessionItems::new(alloc, blocks),
             seat,
             rt,
         }
@@ -68,7 +72,26 @@ impl<'a, N: BookName, K: Keeper, R: Wait> Worker<'a, N, K, R> {
         Ok(told(reply))
     }
 
+    /// Stores a commit. The item that it names stays for good from then on, whoever put it, and is
+    /// pinned meanwhile, so that it doesn't go before it is let stay. (A keeper that gives records
+    /// back has released it by then: it keeps it.)
     fn commit(&mut self, alloc: Global, commit: &Bytes) -> Result<Reply, Refusal>
+        ensures { Answers K.may_fail self.old (request.Commit commit.now) (said result) self.new }
+    {
+        let Some(digest) = named_by(alloc, commit.as_slice())? else {
+            return self.store(alloc, commit);
+        };
+        let pinned = self.items.pin_named(self.rt, digest);
+        let reply = self.store(alloc, commit);
+        if reply.is_ok() {
+            self.items.let_stay(self.rt, digest);
+        } else if pinned {
+            self.items.unpin_named(self.rt, digest);
+        }
+        reply
+    }
+
+    fn store(&mut self, alloc: Global, commit: &Bytes) -> Result<Reply, Refusal>
         ensures { Answers K.may_fail self.old (request.Commit commit.now) (said result) self.new }
     {
         let bytes = commit.as_slice();
@@ -140,10 +163,10 @@ impl<'a, N: BookName, K: Keeper, R: Wait> Worker<'a, N, K, R> {
         }
     }
 
-    fn put(&self, alloc: Global, item: &Bytes) -> Result<Reply, Refusal>
-        ensures { Answers K.may_fail self.now (request.Put item.now) (said result) self.now }
+    fn put(&mut self, alloc: Global, item: &Bytes) -> Result<Reply, Refusal>
+        ensures { Answers K.may_fail self.old (request.Put item.now) (said result) self.new }
     {
-        let digest = self.blocks.put(self.rt, alloc, item.as_slice())?;
+        let digest = self.items.put(self.rt, alloc, item.as_slice())?;
         Ok(Reply::PutDone(digest))
     }
 
@@ -188,5 +211,14 @@ impl<'a, N: BookName, K: Keeper, R: Wait> Service for Worker<'a, N, K, R> {
             Request::Put(item) => reply_or_refusal(self.put(alloc, item)),
             Request::Get(digest) => reply_or_refusal(self.get(alloc, *digest)),
         }
+    }
+}
+
+/// What its session put, and no commit names, goes when it ends.
+impl<'a, N: BookName, K: Keeper, R: Wait> Attend for Worker<'a, N, K, R> {
+    fn begin(&mut self, _session: u64) {}
+
+    fn end(&mut self) {
+        self.items.end(self.rt);
     }
 }

@@ -197,7 +197,7 @@ fn services_of<'a, N: BookName, K: Keeper, R: Wait, G: Gate>(
     ensures refused { IfErr result (λ e. (e ≡ LinkFailed) ⊎ (e ≡ NoMemory)) }
 {
     let mut services = Vec::new(alloc);
-    let service = Gated::new(Worker::new(rt, book, blocks, first), gate);
+    let service = Gated::new(Worker::new(rt, alloc, book, blocks, first), gate);
     if services.push(service).is_err() {
         return Err(Refusal::NoMemory);
     }
@@ -208,7 +208,7 @@ fn services_of<'a, N: BookName, K: Keeper, R: Wait, G: Gate>(
             // a book has seats for more workers than there may be
             Err(_) => return Err(Refusal::LinkFailed),
         };
-        let service = Gated::new(Worker::new(rt, book, blocks, seat), gate);
+        let service = Gated::new(Worker::new(rt, alloc, book, blocks, seat), gate);
         if services.push(service).is_err() {
             return Err(Refusal::NoMemory);
         }

@@ -2,7 +2,7 @@
 //! and the replies are written.
 #![tactic(auto)]
 
-mod begins;
+mod attends;
 mod exchanges;
 mod incoming;
 mod laws;
@@ -11,7 +11,7 @@ mod services;
 mod sessions;
 mod talks;
 
-pub use begins::Begin;
+pub use attends::Attend;
 pub use exchanges::refuse;
 pub use incoming::Incoming;
 pub use laws::{all_messages, first_messages};

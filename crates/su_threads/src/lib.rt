@@ -7,5 +7,5 @@ mod reports;
 mod workers;
 
 pub use links::{Duplex, Link};
-pub use su_session::Begin;
+pub use su_session::Attend;
 pub use workers::{MOST_WORKERS, serve_all};

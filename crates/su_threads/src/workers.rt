@@ -14,7 +14,7 @@ use std::sync::Wait;
 use std::thread;
 use std::thread::Threads;
 use su_bytes::Refusal;
-use su_session::{Begin, Served, Service};
+use su_session::{Attend, Served, Service};
 
 /// How many workers there are at most.
 pub const MOST_WORKERS: usize = 16;
@@ -27,8 +27,8 @@ struct Job<L: Drop> {
 }
 
 /// Serves the sessions that are handed out, one after another, until no more are. One service
-/// serves them all.
-fn work<R: Wait, L: Link + Drop, S: Service + Begin + Drop>(
+/// serves them all, and is told of each when it begins, and when it has ended.
+fn work<R: Wait, L: Link + Drop, S: Service + Attend + Drop>(
     rt: &R,
     alloc: Global,
     jobs: Receiver<Job<L>>,
@@ -42,8 +42,10 @@ fn work<R: Wait, L: Link + Drop, S: Service + Begin + Drop>(
         };
         let Job { number, link } = job;
         service.begin(number);
+        let report = Report::of(alloc, number, link, &mut service);
+        service.end();
         // A report that can't be handed back is missed later.
-        let _lost = reports.send(rt, Report::of(alloc, number, link, &mut service));
+        let _lost = reports.send(rt, report);
     }
     // A service that can't be handed back is missed later.
     let _lost = home.send(rt, service);
@@ -99,7 +101,7 @@ where
     R: Threads + Wait + Sync,
     I: Iterator<Item = L> + Drop,
     L: Link + Send + Drop,
-    S: Service + Begin + Send + Drop,
+    S: Service + Attend + Send + Drop,
     requires can { I.can_next sessions }
     requires ends { IsFinite (I.remaining sessions) }
     ensures count { IfOk result (λ r.

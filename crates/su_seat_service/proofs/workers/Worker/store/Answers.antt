@@ -3,7 +3,7 @@ use Rattle.std.proofs.lemmas.Result.{err_from_is_err_and}
 use Rattle.su_bytes.specs.declared.refusals.Refusal.{Refusal}
 use Rattle.su_shared.specs.Seats.{SeatView}
 use Rattle.su_shared.specs.Shares.{IsCommitRefusal, MayMeet}
-use Rattle.su_seat_service.proofs.workers.Worker.commit.Goals as goal
+use Rattle.su_seat_service.proofs.workers.Worker.store.Goals as goal
 
 pub returns-in_err-number : goal.returns-in_err-number
 returns-in_err-number g c =
