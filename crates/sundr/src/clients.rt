@@ -5,8 +5,9 @@ ghost use Rattle.sundr.specs.Run.{AddsUnlessFault};
 
 use crate::client_faults::ClientFault;
 use crate::faults::tell_fault;
+use crate::programs::ClientProgram;
 use crate::rosters::read_roster;
-use crate::savers::FileSaver;
+use crate::sentences::WITHOUT_LOG;
 use std::alloc::Global;
 use std::fs::File;
 use std::io;
@@ -28,8 +29,8 @@ use su_view::View;
 /// Runs a script at a server, for a user with a key, as the command line asks for it. Where there is
 /// a log, its commits are taken first, and a refused one is printed as an audit does. `Fault` where
 /// the client can't begin: for want of a public key of the user, by the key file, by a public key, by
-/// the log, by the port, in this order. Standard error tells that, and at the end why a leaf of the
-/// key couldn't be stored.
+/// the log, by the port, in this order. Standard error tells that, what a client without a log
+/// believes, what refusals may come from, and at the end why a leaf of the key couldn't be stored.
 // The client runs in the first thread, whose stack is what the shell allows (`ulimit -s`, mostly
 // 8 MiB), as a desk does; the deepest names need 2 MiB at most.
 pub(crate) fn client<T, R: Read + Drop, W: Write>(
@@ -46,25 +47,33 @@ where
         → AddsUnlessFault before (W.contents writer.new) result }
 {
     match member_of(rt, host, args) {
-        Ok(member) => work(rt, args.key.as_str(), member, reader, writer),
+        Ok(member) => work(rt, host, args, member, reader, writer),
         Err(fault) => tell_client_fault(rt, writer, &fault),
     }
 }
 
 /// Runs the script.
-fn work<R: Read + Drop, W: Write>(
+fn work<T, R: Read + Drop, W: Write>(
     rt: &HostRuntime,
-    key: &str,
+    host: &T,
+    args: &ClientArgs,
     mut member: Member<BufReader<TcpStream>, TcpStream, KeptKey<'_>>,
     reader: R,
     writer: &mut W,
 ) -> Status
+where
+    T: Net<Listener = TcpListener, Stream = TcpStream>,
     ensures { (before : List ℕ) → W.contents writer.old ≡ Some before
         → AddsUnlessFault before (W.contents writer.new) result }
 {
-    let mut saver = FileSaver::new(rt);
-    let ending = run_client(rt, rt.alloc(), reader, writer, &mut member, &mut saver);
+    if args.log.is_none() {
+        let _ = eprintln!(rt; "sundr: {WITHOUT_LOG}");
+    }
+    let mut program = ClientProgram::new(rt, host, args.port);
+    let alloc = rt.alloc();
+    let ending = run_client(&mut program, alloc, reader, writer, &mut member, args.stop);
     if let Some(reason) = member.store().fault() {
+        let key = args.key.as_str();
         tell_fault(rt, format_args!("writing {key}: {reason}"));
     }
     tell_ending(rt, &ending);
@@ -229,6 +238,9 @@ fn tell_ending(rt: &HostRuntime, ending: &Ending) {
             number,
             mistake: Some(mistake),
         } => eprintln!(rt; "sundr: line {number}: {mistake}"),
+        Ending::Refused { number } => {
+            eprintln!(rt; "sundr: line {number} was refused, and with --stop the script ends there")
+        }
         Ending::Failed(Fault::Writing(error)) if error.kind() == ErrorKind::BrokenPipe => Ok(()),
         Ending::Failed(fault) => eprintln!(rt; "sundr: {fault}"),
         _ => Ok(()),

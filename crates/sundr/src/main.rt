@@ -18,8 +18,10 @@ mod client_faults;
 mod clients;
 mod faults;
 mod printing;
+mod programs;
 mod rosters;
 mod savers;
+mod sentences;
 mod servers;
 
 use audits::audit;

@@ -6,51 +6,31 @@ ghost use Rattle.sundr.specs.Saved.{BeginsLog};
 use std::fs::{File, OpenFile, OpenOptions};
 use std::io::{ErrorKind, Read, Write};
 use std::{fs, io, process, str};
-use su_client_script::Saver;
 use su_version::format_of;
 
 /// How the name of a key's lock ends, which is an empty file.
 const LOCK: &str = ".lock";
 
-/// Saves logs to files.
-#[derive(Drop)]
-pub(crate) struct FileSaver<'a> {
-    rt: &'a HostRuntime,
-}
-
-impl<'a> FileSaver<'a> {
-    /// Makes what saves to the files of this runtime.
-    pub(crate) fn new(rt: &'a HostRuntime) -> FileSaver<'a> {
-        FileSaver { rt }
+/// Writes a log to a file of this process beside FILE, and puts that in the place of FILE once the
+/// disk has it. After an error the old file stands there, or the new one. What is there and is no log
+/// is left as it is: `AlreadyExists`. `InvalidInput` where the name is no text.
+pub(crate) fn save_log(rt: &HostRuntime, file: &[u8], log: &[u8]) -> io::Result<()> {
+    let Ok(path) = str::from_utf8(file) else {
+        return Err(io::Error::new(ErrorKind::InvalidInput, "the name is no text"));
+    };
+    spare_others(rt, path)?;
+    let run = process::id(rt.process());
+    let new = format!(in rt.alloc(); "{path}.part.{run}")?;
+    let mut file = OpenOptions::new()
+        .write(true)
+        .create_new(true)
+        .open(rt, new.as_str())?;
+    let taken = write_synced(&mut file, log).and_then(|()| fs::rename(rt, new.as_str(), path));
+    if taken.is_err() {
+        let _ = fs::remove_file(rt, new.as_str());
     }
-}
-
-impl Saver for FileSaver<'_> {
-    /// Writes the log to a file of this process beside FILE, and puts that in the place of FILE once
-    /// the disk has it. After an error the old file stands there, or the new one. What is there and
-    /// is no log is left as it is: `AlreadyExists`. `InvalidInput` where the name is no text.
-    fn save(&mut self, file: &[u8], log: &[u8]) -> io::Result<()> {
-        let Ok(path) = str::from_utf8(file) else {
-            return Err(io::Error::new(ErrorKind::InvalidInput, "the name is no text"));
-        };
-        spare_others(self.rt, path)?;
-        let run = process::id(self.rt.process());
-        let new = format!(in self.rt.alloc(); "{path}.part.{run}")?;
-        let mut file = OpenOptions::new()
-            .write(true)
-            .create_new(true)
-            .open(self.rt, new.as_str())?;
-        let taken = write_synced(&mut file, log).and_then(|()| fs::rename(
-            self.rt,
-            new.as_str(),
-            path,
-        ));
-        if taken.is_err() {
-            let _ = fs::remove_file(self.rt, new.as_str());
-        }
-        taken?;
-        File::open(self.rt, folder_of(path))?.sync_all()
-    }
+    taken?;
+    File::open(rt, folder_of(path))?.sync_all()
 }
 
 /// Refuses what is there at a path and isn't a plain file with a log: a key, or anything else that

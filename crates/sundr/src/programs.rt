@@ -1,0 +1,82 @@
+// The program around a client's script.
+use crate::savers::save_log;
+use crate::sentences::sentence_of;
+use std::io::BufReader;
+use std::net::{Net, TcpListener, TcpStream};
+use std::time::Duration;
+use std::{io, thread};
+use su_bytes::Refusal;
+use su_client_script::{Cause, Program};
+use su_client_work::Surroundings;
+use su_host::{Link, connect};
+use su_view::ViewRefusal;
+
+/// The program around a client's script: it makes links to the server on a port anew, saves logs to
+/// files, and tells on standard error what refusals may come from.
+#[derive(Drop)]
+pub(crate) struct ClientProgram<'a, T> {
+    rt: &'a HostRuntime,
+    host: &'a T,
+    port: u16,
+    is_unlinked: bool,
+}
+
+impl<'a, T> ClientProgram<'a, T> {
+    /// Makes the program of a client at the server on that port.
+    pub(crate) fn new(rt: &'a HostRuntime, host: &'a T, port: u16) -> ClientProgram<'a, T> {
+        ClientProgram {
+            rt,
+            host,
+            port,
+            is_unlinked: false,
+        }
+    }
+}
+
+impl<T> Surroundings<BufReader<TcpStream>, TcpStream> for ClientProgram<'_, T>
+where
+    T: Net<Listener = TcpListener, Stream = TcpStream>,
+{
+    fn pause(&mut self, time: Duration) {
+        thread::sleep(self.rt, time);
+    }
+
+    /// Connects, and tells so on standard error, or why it can't.
+    fn connect(&mut self) -> io::Result<Link> {
+        match connect(self.rt.alloc(), self.host, self.port) {
+            Ok(link) => {
+                let _ = eprintln!(self.rt;
+                    "sundr: the session had ended, and the client connected anew"
+                );
+                Ok(link)
+            }
+            Err(reason) => {
+                let _ = eprintln!(self.rt;
+                    "sundr: the session had ended, and connecting anew failed: {reason}"
+                );
+                self.is_unlinked = true;
+                Err(reason)
+            }
+        }
+    }
+}
+
+impl<T> Program<BufReader<TcpStream>, TcpStream> for ClientProgram<'_, T>
+where
+    T: Net<Listener = TcpListener, Stream = TcpStream>,
+{
+    fn save(&mut self, file: &[u8], log: &[u8]) -> io::Result<()> {
+        save_log(self.rt, file, log)
+    }
+
+    /// Tells a sentence on standard error, where the refusal has several everyday causes. Where no
+    /// link could be made, nothing was asked, and that was told.
+    fn explain(&mut self, cause: &Cause) {
+        if self.is_unlinked && cause.refusal == ViewRefusal::Plain(Refusal::LinkFailed) {
+            return;
+        }
+        if let Some(sentence) = sentence_of(cause) {
+            let _ = eprintln!(self.rt; "sundr: {sentence}");
+        }
+    }
+}
