@@ -144,6 +144,21 @@ class KeepsTurn(Show):
         return wire.refused("32 NotYourTurn")
 
 
+class Forgets(Show):
+    """Ends the link at the grant at that place, and has forgotten from then on what was handed in."""
+
+    def __init__(self, publics, records, at):
+        super().__init__(publics, records)
+        self.left, self.first = at, len(records)
+
+    def grant(self, seat, field):
+        self.left -= 1
+        if self.left == 0:
+            del self.shown[self.first:]
+            raise Instead(b"")
+        return super().grant(seat, field)
+
+
 class AlwaysBusy(Show):
     """Says that another seat has the turn."""
 
@@ -176,16 +191,17 @@ class Forks(model_server.Service):
 
 
 class Replies(Show):
-    """Sends these bytes in the place of the reply to the first requests of a name, whatever they are, and then ends the link."""
+    """Sends these bytes in the place of the replies to so many requests of a name, whatever they are, from the one at that place on, and
+    ends the link behind each."""
 
-    def __init__(self, publics, records, name, data, at=1):
+    def __init__(self, publics, records, name, data, at=1, count=1):
         super().__init__(publics, records)
-        self.name, self.data, self.left = name, data, at
+        self.name, self.data, self.left, self.count = name, data, at, count
 
     def answer(self, seat, message):
         name, _ = wire.request_in(message)
         self.left -= name == self.name
-        if self.left == 0 and name == self.name:
+        if -self.count < self.left <= 0 and name == self.name:
             raise Instead(self.data)
         return super().answer(seat, message)
 

@@ -18,6 +18,7 @@ ROOT = group_file(0, 1)
 LAST_NUMBER = 1000000
 LONGEST_LINE = 140000
 PAUSE = 0.001  # seconds between two tries at a turn that another has
+NO_WORKER = "31 Busy 65535"  # what a server without a free worker refuses by, which ends the link
 
 
 class Bad(Exception):
@@ -233,14 +234,19 @@ def content_at(tree, path, kind):
     return content
 
 
+def carried_out(member, line):
+    """The lines that are printed of a line of a script, up to the refusal that it raises. Raises `Bad` where it is no command."""
+    word, arguments = read_line(line)
+    if word in CHANGES:
+        yield from publish_plan(member, word, arguments)
+    else:
+        yield from globals()["answer_" + word](member, *arguments)
+
+
 def answers(member, line):
     """The lines that are printed of a line of a script. Raises `Bad` where it is no command."""
     try:
-        word, arguments = read_line(line)
-        if word in CHANGES:
-            yield from publish_plan(member, word, arguments)
-        else:
-            yield from globals()["answer_" + word](member, *arguments)
+        yield from carried_out(member, line)
     except Refused as why:
         yield f"no {why}".encode()
 
@@ -419,11 +425,12 @@ def are_ordered(x, y):
 
 
 class Client(Member):
-    """A client of a server at a link. `store` keeps the number of the leaf that signs next, before one signs."""
+    """A client of a server at a link. `store` keeps the number of the leaf that signs next, before one signs; `connect` makes a link to
+    the same server anew."""
 
-    def __init__(self, link, publics, user, key, leaf=0, tries=1000, store=lambda leaf: None):
+    def __init__(self, link, publics, user, key, leaf=0, tries=1000, store=lambda leaf: None, connect=None):
         self.link, self.user, self.key, self.leaf, self.tries, self.store = link, user, key, leaf, tries, store
-        self.has_failed = False
+        self.has_failed, self.connect = False, connect
         self.view = LinkedView(publics, self)
 
     def desk(self):
@@ -449,7 +456,7 @@ class Client(Member):
         return field
 
     def begin(self):
-        count, last = self.take_turn()
+        count, last = self.granted()
         try:
             commits = [self.fetch(n) for _, n in sorted(last.items())]
             self.view.check_list(self.user, [it for it in commits if it is not None])
@@ -461,12 +468,32 @@ class Client(Member):
             self.give()
             raise
 
+    def granted(self):
+        """What is told with the turn. A link that fails before is made anew, once."""
+        try:
+            return self.take_turn()
+        except LinkFailed:
+            if self.connect is None:
+                raise
+            self.connect_anew()
+            return self.take_turn()
+
+    def connect_anew(self):
+        self.link.close()
+        try:
+            self.link = self.connect()
+        except OSError:
+            raise LinkFailed("43 LinkFailed") from None
+        self.has_failed = False
+
     def take_turn(self):
         for n in range(self.tries):
             try:
                 return self.ask(wire.GRANT, "grant", "granted")
             except Refused as why:
                 refusal = why
+                if str(why) == NO_WORKER:
+                    break
                 time.sleep(PAUSE)
         raise refusal
 

@@ -44,6 +44,7 @@ def arguments():
     client.add_argument("--key", required=True)
     client.add_argument("--log")
     client.add_argument("--tries", type=in_range(1, 1000000), default=1000)
+    client.add_argument("--stop", action="store_true")
     audit = programs.add_parser("audit")
     audit.add_argument("--log", required=True)
     for program in (serve, client, audit):
@@ -136,17 +137,18 @@ def client(words):
     except OSError as why:
         check_alone(publics, log)
         raise Fault(f"port {words.port}: {why.strerror}") from None
-    member = client_model.Client(link, publics, words.user, kept.key, kept.next, words.tries, kept.store)
+    member = client_model.Client(
+        link, publics, words.user, kept.key, kept.next, words.tries, kept.store, lambda: wire.connect(words.port))
     try:
         member.take_log(log)
-        return run(member)
+        return run(member, words.stop)
     except client_model.LogRefused as why:
         sys.stdout.write(str(why))
         return 1
     except client_model.LinkFailed:
         raise Fault("the link to the server failed") from None
     finally:
-        link.close()
+        member.link.close()
 
 
 def check_alone(publics, log):
@@ -157,11 +159,15 @@ def check_alone(publics, log):
         sys.exit(1)
 
 
-def run(member):
+def run(member, stops):
     for number, line in enumerate(lines(), 1):
         try:
-            for text in client_model.answers(member, line) if line else ():
+            for text in client_model.carried_out(member, line) if line else ():
                 say(text)
+        except Refused as why:
+            say(f"no {why}".encode())
+            if stops:
+                raise Fault(f"line {number} was refused") from None
         except client_model.LinkFailed as why:
             say(f"no {why}".encode())
             raise

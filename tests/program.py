@@ -66,6 +66,8 @@ CASES = {
     "a_copy_of_no_users": (["backup", "--port", "1", "--to", "copy"], "", "", 2),
     "a_copy_of_too_many_users": (["backup", "--port", "1", "--to", "copy", *["key"] * 65], "", "", 2),
     "a_copy_with_no_such_key": (["backup", "--port", "1", "--to", "copy", "nothing"], "", "", 1),
+    "stops_with_a_value": (["client", "--port", "1", "--user", "0", "--key", "key", "--stop=yes", "nothing"], "", "", 2),
+    "stops_without_such_a_key": (["client", "--port", "1", "--user", "0", "--key", "nothing", "--stop", "nothing"], "", "", 1),
     "a_cache_of_nothing": (served("--store", "store", "--cache", "0"), "", "", 2),
     "too_large_a_cache": (served("--store", "store", "--cache", "1000001"), "", "", 2),
     "a_cache_that_is_no_number": (served("--store", "store", "--cache", "x"), "", "", 2),
@@ -79,7 +81,7 @@ CASES = {
     "help_of_keys": (["keygen", "--help"], "", ("--entropy <FILE>",), 0),
     "help_of_the_server": (["serve", "--help"], "", ("--port", "--workers", "--capacity", "--sessions", "--store", "--cache"), 0),
     "help_of_backups": (["backup", "--help"], "", ("--port", "--to", "ok N new M"), 0),
-    "help_of_the_client": (["client", "--help"], "", ("undo_last", "save FILE", "--user", "--key", "--log", "--tries"), 0),
+    "help_of_the_client": (["client", "--help"], "", ("undo_last", "save FILE", "--user", "--key", "--log", "--tries", "--stop"), 0),
     "version": (["-V"], "", "sundr 0.1.0\n", 0),
 }
 

@@ -42,6 +42,22 @@ WAIT = 45  # seconds that an answer, or the end of a program, is waited for at m
 CHANCE_SCRIPTS, CHANCE_LINES = 30, 30
 KILLS = 24
 MOST_CALLS = 100  # at which a client is killed
+# What a client tells beside its answers, on which nothing rests: each by a name, as a line of standard error matches it.
+ASIDES = {
+    "without_log": rb"without --log the client believes the first list that the server shows it: `save FILE` keeps what it has seen, and "
+                   rb"--log FILE goes on from there",
+    "anew": rb"the session had ended, and the client connected anew",
+    "not_anew": rb"the session had ended, and connecting anew failed: .+",
+    "not_signed": rb"the public keys are in another order than the server's, the key is another user's, or the server shows another folder",
+    "other_keys": rb"the server has another list of public keys, or has it in another order",
+    "other_list": rb"the server shows another list than before: it hides or exchanges commits, or was set back",
+    "lacks": rb"the server lacks commit [0-9]+, which is yours: it was set back to an older copy, or shows another folder",
+    "unknown": rb"whether the last command was carried out is not known: look before you repeat it",
+    "others_turn": rb"another client has the turn: the same line again may go through",
+    "no_worker": rb"the server has no worker free: the same line again may go through",
+    "taken_between": rb"another user took the file over between this command's take and the operation behind it: the same line again may "
+                     rb"go through",
+}
 BARRIER = b"undo 18446744073709551615"
 BARRIER_ANSWER = b"no 39 Change 24 NoOperation 18446744073709551615"
 
@@ -84,6 +100,7 @@ class Running:
         streams = {name: subprocess.PIPE for name in ("stdin", "stdout", "stderr")}
         self.process = subprocess.Popen([*program, *map(str, words)], **streams, **how)
         self.printed, self.told = Lines(self.process.stdout), Lines(self.process.stderr)
+        self.asides = []
 
     def __enter__(self):
         return self
@@ -96,15 +113,18 @@ class Running:
             self.process.kill()
         self.process.wait()
 
-    def end(self):
-        """What is still printed and told, and the status; the status is None where the program doesn't end in time."""
+    def end(self, wait=WAIT):
+        """What is still printed and told, and the status; the status is None where the program doesn't end in time. What a client tells
+        beside its answers is kept apart, as `asides`."""
         self.close_input()
         try:
-            status = self.process.wait(WAIT)
+            status = self.process.wait(wait)
         except subprocess.TimeoutExpired:
             self.kill()
             status = None
-        return self.printed.rest(), self.told.rest(), status
+        told = self.told.rest()
+        self.asides = [name for line in told if (name := aside_in(line))]
+        return self.printed.rest(), [line for line in told if not aside_in(line)], status
 
     def close_input(self):
         try:
@@ -196,6 +216,11 @@ class Room:
 def read(path):
     with open(path, "rb") as file:
         return file.read()
+
+
+def aside_in(line):
+    """The name of what a client tells so beside its answers; None of another line."""
+    return next((name for name, text in ASIDES.items() if re.fullmatch(b"sundr: " + text, line)), None)
 
 
 def is_told(told, *parts):
@@ -454,6 +479,25 @@ def lines(at):
         yield "no_lines", room.run(server.port, 0, b"") == ([], [], 0)
 
 
+def stops(at):
+    """With --stop a script ends at the first command that is refused, with status 1 and the line's number; without it goes on."""
+    room = Room(at)
+    with Server(room) as server:
+        for name, script, wanted, line in (
+                ("at_the_first", b"mkdir /a\n\nls /x\nls /\n", [b"ok 1", b"no 18 NoName"], 3),
+                ("at_an_operation", b"undo 9\nls /\n", [b"no 39 Change 24 NoOperation 9"], 1),
+                ("before_the_server_is_asked", b"ls /\ntruncate /a 4294967296\nls /\n", [b"a G0:2", b"no 3 BadNumber"], 2)):
+            printed, told, status = room.run(server.port, 0, script, "--stop")
+            is_right = (printed, status) == (wanted, 1) and is_told(told, f"line {line} ")
+            yield f"stops_{name}: {printed} {told} {status}", is_right
+        ended = room.run(server.port, 0, b"ls /x\nls /\n")
+        yield f"goes_on_without_the_word: {ended}", ended == ([b"no 18 NoName", b"a G0:2"], [], 0)
+        ended = room.run(server.port, 0, b"ls /\ncreate /f\n", "--stop")
+        yield f"goes_on_where_nothing_is_refused: {ended}", ended == ([b"a G0:2", b"ok 2"], [], 0)
+        printed, told, status = room.run(server.port, 0, b"ls /a\nhello\n", "--stop")
+        yield f"stops_at_no_command_as_ever: {told}", (printed, status) == ([b"line 2: bad"], 2) and is_told(told, "line 2: ")
+
+
 # ---- faults and statuses
 
 def saves(at):
@@ -507,7 +551,7 @@ def streams(at):
         def run(**how):
             how = {"stdin": subprocess.DEVNULL, "stdout": subprocess.PIPE, **how}
             ended = subprocess.run(words, stderr=subprocess.PIPE, timeout=WAIT, **how)
-            return ended.stdout, ended.stderr.splitlines(), ended.returncode
+            return ended.stdout, [line for line in ended.stderr.splitlines() if not aside_in(line)], ended.returncode
 
         with open(room.file(b"ls /x\n")) as script, open("/dev/full", "w") as full:
             _, told, status = run(stdin=script, stdout=full)
@@ -857,15 +901,18 @@ def crowded(at):
 
 
 def unanswered(at):
-    """A client of a server that says nothing ends after half a minute, and says why."""
+    """A client of a server that says nothing asks again over a new link after half a minute, and ends after another one, and says why."""
     if program == MODEL:
         return
     room = Room(at)
     with socket.create_server(("127.0.0.1", 0)) as listener:
-        took, ended = timed(lambda: room.run(listener.getsockname()[1], 0, b"ls /\n"))
-        printed, told, status = ended
-        yield f"a_silent_server_is_told: {ended} {took:.1f} s", (printed, status) == ([b"no 43 LinkFailed"], 1) and 25 < took < 40
-        yield f"and_how_long_it_was_waited_for: {told}", is_told(told, "no answer", "30 s")
+        with room.client(listener.getsockname()[1], 0) as client:
+            client.write(b"ls /\n")
+            took, (printed, told, status) = timed(lambda: client.end(2 * WAIT))
+            is_right = (printed, status) == ([b"no 43 LinkFailed"], 1) and 55 < took < 75
+            yield f"a_silent_server_is_told: {printed} {status} {took:.1f} s", is_right
+            yield f"and_how_long_it_was_waited_for: {told}", is_told(told, "no answer", "30 s")
+            yield f"and_that_it_was_asked_twice: {client.asides}", client.asides == ["without_log", "anew", "unknown"]
 
 
 def timed(action):
@@ -920,7 +967,7 @@ def deaf(at):
             ended = [room.run(server.port, 0, b"mkdir /a\n")[0] for _ in range(6) if time.monotonic() - started < 60]
             took = next((number for number, printed in enumerate(ended) if printed == [b"ok 1"]), None)
             yield f"who_tries_again_is_served_beside_who_never_reads: {ended}", took is not None
-            yield "and_is_refused_before_and_not_left_waiting", ended[:took] == [[b"no 43 LinkFailed"]] * (took or 0)
+            yield "and_is_refused_before_and_not_left_waiting", ended[:took] == [[b"no 31 Busy 65535"]] * (took or 0)
 
 
 def turns(at):
@@ -1102,8 +1149,10 @@ def is_failed(ended, before=(), refusal=b"no 43 LinkFailed"):
 def lying_replies(publics, records, told):
     script = b"write /a 0 45\nwrite /a 0 46\nls /\n"
     for name, data in bad_server.NO_REPLIES.items():
-        ended = told(bad_server.Replies(publics, records, "grant", data), script, 6)
+        ended = told(bad_server.Replies(publics, records, "grant", data, count=2), script, 6)
         yield f"lie_grant_{name}: {ended}", is_failed(ended)
+        ended = told(bad_server.Replies(publics, records, "grant", data), script, 6)
+        yield f"lie_grant_{name}_once: {ended}", ended == ([b"ok 7", b"ok 8", b"a U0:2", b"b U1:2"], [], 0)
     for request in ("fetch", "put", "commit", "get", "give"):
         for name in ("nothing", "a_cut_frame", "too_long_a_frame", "an_unknown_tag"):
             held = 3 if request == "get" else 6
@@ -1116,9 +1165,13 @@ def lying_replies(publics, records, told):
         service = bad_server.Replies(publics, records, request, b"", at=2)
         printed, tale, status = told(service, script, 3)
         yield f"lie_{request}_in_the_log: {printed} {tale}", (printed, status) == ([], 1) and is_told(tale)
-    service = bad_server.Replies(publics, records, "grant", b"", at=3)
+    service = bad_server.Replies(publics, records, "grant", b"", at=3, count=2)
     ended = told(service, script, 6)
     yield f"lie_mute_after_two: {ended}", is_failed(ended, [b"ok 7", b"ok 8"])
+    # over a new link what came before is asked for again, and has to be there
+    lost = bad_server.Forgets(publics, records, at=2)
+    ended = told(lost, script, 6)
+    yield f"lie_another_list_over_a_new_link: {ended}", ended == ([b"ok 7", *[b"no 40 OwnMissing"] * 2], [], 0)
 
 
 # ---- sessions and workers
@@ -1205,6 +1258,107 @@ def lines_of_bytes(port):
     replied = link.read(14)
     yield f"bytes_of_a_message_too_long: {replied}", replied == refusal(41) and is_ended(link)
     link.close()
+
+
+def ended_sessions(at):
+    """A client whose session was ended connects anew at its next line, and tells so; where there is no server, that is its end."""
+    room, store = Room(at), f"{at}/store"
+    if program == MODEL:  # it has no store, and its sessions don't make room
+        return
+    port = free_port()
+    with Server(room, "--store", store, port=port) as first, room.client(port, 0) as client:
+        yield "before_a_session_ends", client.say(b"mkdir /a") == [b"ok 1"]
+        first.kill()
+        with Server(room, "--store", store, port=port) as second:
+            said = client.say(b"mkdir /b")
+            yield f"the_next_line_connects_anew: {said}", said == [b"ok 2"]
+            yield "and_the_session_goes_on", client.say(b"ls /") == [b"a G0:2", b"b G0:3"]
+            second.kill()
+        client.write(b"ls /\nls /\n")
+        ended = client.end()
+        yield f"without_a_server_it_ends: {ended}", is_failed(ended)
+        yield f"and_each_is_told: {client.asides}", client.asides == ["without_log", "anew", "not_anew"]
+    with Server(room, workers=1) as server, room.client(server.port, 0) as client:
+        yield "before_it_makes_room", client.say(b"mkdir /a") == [b"ok 1"]
+        took, ended = timed(lambda: room.run(server.port, 1, b"ls /\n"))
+        yield f"a_silent_client_makes_room: {ended} {took:.1f} s", ended == ([b"a G0:2"], [], 0) and 3 < took < 8
+        yield "and_connects_anew_at_its_next_line", client.say(b"mkdir /b") == [b"ok 2"]
+        ended = client.end()
+        yield f"which_is_told: {client.asides}", ended == ([], [], 0) and client.asides == ["without_log", "anew"]
+
+
+class Between:
+    """Passes the requests of one session on to a server, and does something once its first commit is stored, before that is told."""
+
+    def __init__(self, port, action):
+        self.to, self.action = port, action
+        self.listener = socket.create_server(("127.0.0.1", 0))
+        self.port = self.listener.getsockname()[1]
+        self.thread = threading.Thread(target=self.run, daemon=True)
+        self.thread.start()
+
+    def run(self):
+        stream, _ = self.listener.accept()
+        self.listener.close()
+        here, there = wire.Link(stream), raw(self.to)
+        try:
+            while True:
+                message = here.receive()
+                reply = there.ask(message)
+                if message[:1] == b"\2" and self.action:
+                    action, self.action = self.action, None
+                    action()
+                here.send(reply)
+        except wire.LinkEnded:
+            pass
+        here.close()
+        there.close()
+
+
+def cut():
+    raise wire.LinkEnded
+
+
+def asides(at):
+    """What a client tells of refusals that have several everyday causes, and of a start without a log, beside its answers."""
+    if program == MODEL:
+        return
+    room, saved = Room(at, 3), f"{at}/saved"
+    two, (zero, one, _) = room.publics[:2], room.key_files
+
+    def client(port, user, key, *more, publics=two, script=b"ls /\n"):
+        """What a client prints of a script, and what it tells beside."""
+        with Running(["client", "--port", port, "--user", user, "--key", key, *more, *publics]) as running:
+            running.write(script)
+            return running.end()[0], running.asides
+
+    three, room.publics = room.publics, two
+    with Server(room) as server:
+        port = server.port
+        ended = client(port, 0, zero, script=b"mkdir /a\nsave %b\n" % saved.encode())
+        yield f"a_start_without_a_log: {ended}", ended == ([b"ok 1"], ["without_log"])
+        yield "a_start_with_a_log", client(port, 0, zero, "--log", saved) == ([b"a G0:2"], [])
+        ended = client(port, 0, one, "--log", saved, script=b"mkdir /b\n")
+        yield f"the_key_of_another_user: {ended}", ended == ([b"no 33 BadSignature"], ["not_signed"])
+        ended = client(port, 1, zero, publics=two[::-1])
+        yield f"public_keys_in_another_order: {ended}", ended == ([b"no 33 BadSignature"], ["without_log", "not_signed"])
+        ended = client(port, 0, zero, publics=three)
+        yield f"one_public_key_more: {ended}", ended == ([b"no 34 WrongPrev 0"], ["without_log", "other_keys"])
+        holder = raw(port)
+        reply_to(holder, wire.GRANT)
+        printed, told = client(port, 0, zero, "--log", saved, "--tries", 1)
+        yield f"a_turn_that_another_has: {printed} {told}", printed[0].startswith(b"no 31 Busy ") and told == ["others_turn"]
+        holder.close()
+        between = Between(port, lambda: client(port, 0, zero, script=b"rename /a /z\n"))
+        ended = client(between.port, 1, one, "--log", saved, script=b"create /c\nls /\n")
+        wanted = [b"ok 2", b"no 39 Change 16 NotHolder 0", b"z G0:2"]
+        yield f"a_file_that_is_taken_between: {ended}", ended == (wanted, ["taken_between"])
+        ended = client(Between(port, cut).port, 0, zero, "--log", saved, script=b"create /d\nls /\n")
+        yield f"a_link_that_fails_in_a_line: {ended}", ended == ([b"no 43 LinkFailed"], ["unknown"])
+        yield "which_was_carried_out", client(port, 0, zero)[0] == [b"d G0:3", b"z G0:2"]
+    with Server(room) as server:
+        ended = client(server.port, 0, zero, "--log", saved)
+        yield f"a_server_that_was_set_back: {ended}", ended == ([b"no 40 OwnMissing"], ["lacks"])
 
 
 # requests of one session in their order, the replies, as they stand on the stream
@@ -1357,7 +1511,8 @@ def example(at):
         file.write("#!/bin/sh\nexec " + " ".join(program) + ' "$@"\n')
     os.chmod(script, 0o755)
     ended = subprocess.run([run, script], capture_output=True, text=True, timeout=4 * WAIT)
-    yield f"example_share: {ended}", (ended.stdout, ended.stderr, ended.returncode) == (open(wanted).read(), "", 0)
+    told = [line for line in ended.stderr.splitlines() if not aside_in(line.encode())]
+    yield f"example_share: {ended}", (ended.stdout, told, ended.returncode) == (open(wanted).read(), [], 0)
 
 
 # ---- scripts by chance
@@ -1424,9 +1579,9 @@ def same_log(seed, folder, room, client, team):
 
 
 PARTS = (
-    walk, logs_taken_up, operations, at_once, many_users, at_a_keyboard, lines, saves, streams, faults, keys, signatures, kills,
-    kills_at_calls, busy, silent, deaf, crowded, unanswered, turns, many_turns, lies, sessions, bytes_of_sessions, stored_bytes, book,
-    example, by_chance)
+    walk, logs_taken_up, operations, at_once, many_users, at_a_keyboard, lines, stops, saves, streams, faults, keys, signatures, kills,
+    kills_at_calls, busy, silent, deaf, crowded, unanswered, turns, many_turns, lies, sessions, ended_sessions, asides, bytes_of_sessions,
+    stored_bytes, book, example, by_chance)
 
 
 def main():
