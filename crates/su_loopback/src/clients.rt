@@ -1,26 +1,31 @@
 // Users' clients, each call of a view or a member in a function of its own.
 use std::alloc::Global;
-use std::io;
 use std::net::{Net, SocketAddr, TcpListener, TcpStream};
-use std::time::Clock;
+use std::time::{Clock, Duration};
+use std::{io, thread};
 use su_block::Checked;
 use su_bytes::{KEY_LENGTH, Refusal, Roster, User};
 use su_client::Client;
-use su_client_script::{Ending, Saver, run_client};
-use su_client_work::{Member, take_log};
+use su_client_script::{Cause, Ending, Program, run_client};
+use su_client_work::{Member, Surroundings, take_log};
 use su_lms::{NoStore, Params, Signer};
 use su_view::View;
 
 /// How often a client asks for the turn.
 const TRIES: u32 = 1_000;
 
-/// What a client looks at, over a link to a server.
-type LinkedView = View<Checked<Client<TcpStream, TcpStream>>>;
+/// A link to a server.
+type Link = Client<TcpStream, TcpStream>;
 
-/// A user's client, with the user's key, and the log that it saved last.
+/// What a client looks at, over a link to a server.
+type LinkedView = View<Checked<Link>>;
+
+/// A user's client, with the user's key, the address of the server, and the log that was saved last,
+/// under any name.
 pub(crate) struct Person {
     member: Member<TcpStream, TcpStream, NoStore>,
-    saved: Saved,
+    at: SocketAddr,
+    saved: Vec<u8>,
 }
 
 impl Drop for Person {
@@ -28,23 +33,57 @@ impl Drop for Person {
     fn drop(self) {
         let Person {
             member: _member,
+            at: _at,
             saved: _saved,
         } = self;
     }
 }
 
-/// The log that was saved last, under any name.
+/// What runs the scripts of a person.
 #[derive(Drop)]
-struct Saved {
-    log: Vec<u8>,
+struct Runner<'a, R> {
+    rt: &'a R,
     alloc: Global,
+    at: SocketAddr,
+    saved: Vec<u8>,
 }
 
-impl Saver for Saved {
+impl<R> Runner<'_, R> {
+    /// Returns the log that was saved last.
+    fn into_saved(self) -> Vec<u8> {
+        let Runner {
+            rt: _rt,
+            alloc: _alloc,
+            at: _at,
+            saved,
+        } = self;
+        saved
+    }
+}
+
+impl<R> Surroundings<TcpStream, TcpStream> for Runner<'_, R>
+where
+    R: Net<Listener = TcpListener, Stream = TcpStream> + Clock,
+{
+    fn pause(&mut self, time: Duration) {
+        thread::sleep(self.rt, time);
+    }
+
+    fn connect(&mut self) -> io::Result<Link> {
+        link_to(self.rt, self.alloc, self.at)
+    }
+}
+
+impl<R> Program<TcpStream, TcpStream> for Runner<'_, R>
+where
+    R: Net<Listener = TcpListener, Stream = TcpStream> + Clock,
+{
     fn save(&mut self, _file: &[u8], log: &[u8]) -> io::Result<()> {
-        self.log = Vec::from_slice(self.alloc, log)?;
+        self.saved = Vec::from_slice(self.alloc, log)?;
         Ok(())
     }
+
+    fn explain(&mut self, _cause: &Cause) {}
 }
 
 /// Makes the key of a user.
@@ -62,26 +101,34 @@ pub(crate) fn roster(alloc: Global) -> Result<Roster, Refusal> {
     Roster::of_keys(alloc, &keys)
 }
 
+/// Makes a link to the server at an address.
+fn link_to<R>(rt: &R, alloc: Global, at: SocketAddr) -> io::Result<Link>
+where
+    R: Net<Listener = TcpListener, Stream = TcpStream>,
+{
+    let writer = TcpStream::connect(rt, at)?;
+    writer.set_nodelay(true)?;
+    let reader = writer.try_clone()?;
+    Ok(Client::new(alloc, reader, writer))
+}
+
 /// Links a new view of a user to the server at an address.
 fn linked_view<R>(rt: &R, alloc: Global, user: u8, at: SocketAddr) -> Option<LinkedView>
 where
     R: Net<Listener = TcpListener, Stream = TcpStream>,
 {
-    let writer = TcpStream::connect(rt, at).ok()?;
-    writer.set_nodelay(true).ok()?;
-    let reader = writer.try_clone().ok()?;
-    let source = Checked::new(Client::new(alloc, reader, writer));
+    let source = Checked::new(link_to(rt, alloc, at).ok()?);
     let whose = User::new(u64::from(user)).ok()?;
     View::new(alloc, roster(alloc).ok()?, whose, source).ok()
 }
 
-/// Makes the client of a user that has this view.
-fn person_of(alloc: Global, user: u8, view: LinkedView) -> Option<Person> {
+/// Makes the client of a user that has this view, linked to the server at an address.
+fn person_of(alloc: Global, user: u8, at: SocketAddr, view: LinkedView) -> Option<Person> {
     let member = Member::new(alloc, view, signer(alloc, user).ok()?, TRIES);
-    let log = Vec::new(alloc);
     Some(Person {
         member,
-        saved: Saved { log, alloc },
+        at,
+        saved: Vec::new(alloc),
     })
 }
 
@@ -90,7 +137,7 @@ pub(crate) fn new_person<R>(rt: &R, alloc: Global, user: u8, at: SocketAddr) -> 
 where
     R: Net<Listener = TcpListener, Stream = TcpStream>,
 {
-    person_of(alloc, user, linked_view(rt, alloc, user, at)?)
+    person_of(alloc, user, at, linked_view(rt, alloc, user, at)?)
 }
 
 /// Makes the client of a user who begins from a saved log, and tells how many commits it has.
@@ -106,20 +153,32 @@ where
 {
     let mut view = linked_view(rt, alloc, user, at)?;
     let count = take_log(alloc, log, &mut view).ok()?;
-    Some((person_of(alloc, user, view)?, count))
+    Some((person_of(alloc, user, at, view)?, count))
 }
 
 impl Person {
     /// Carries out a script to its end, and returns what was printed.
-    pub(crate) fn run<C: Clock>(
-        &mut self,
-        clock: &C,
-        alloc: Global,
-        script: &[u8],
-    ) -> Option<Vec<u8>> {
+    pub(crate) fn run<R>(&mut self, rt: &R, alloc: Global, script: &[u8]) -> Option<Vec<u8>>
+    where
+        R: Net<Listener = TcpListener, Stream = TcpStream> + Clock,
+    {
         let mut printed = Vec::new(alloc);
-        let Person { member, saved } = self;
-        match run_client(clock, alloc, script, &mut printed, member, saved) {
+        let mut runner = Runner {
+            rt,
+            alloc,
+            at: self.at,
+            saved: self.take_saved(alloc),
+        };
+        let ending = run_client(
+            &mut runner,
+            alloc,
+            script,
+            &mut printed,
+            &mut self.member,
+            false,
+        );
+        self.saved = runner.into_saved();
+        match ending {
             Ending::Finished => Some(printed),
             _ => None,
         }
@@ -127,6 +186,6 @@ impl Person {
 
     /// Takes the log that was saved last; none is left.
     pub(crate) fn take_saved(&mut self, alloc: Global) -> Vec<u8> {
-        std::mem::replace(&mut self.saved.log, Vec::new(alloc))
+        std::mem::replace(&mut self.saved, Vec::new(alloc))
     }
 }

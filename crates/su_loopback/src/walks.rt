@@ -86,13 +86,10 @@ where
 }
 
 // A script of a user prints this, and ends.
-fn prints<R: Abort + Clock>(
-    rt: &R,
-    alloc: Global,
-    user: &mut Person,
-    script: &[u8],
-    text: &[u8],
-) -> Option<()> {
+fn prints<R>(rt: &R, alloc: Global, user: &mut Person, script: &[u8], text: &[u8]) -> Option<()>
+where
+    R: Net<Listener = TcpListener, Stream = TcpStream> + Abort + Clock,
+{
     let printed = user.run(rt, alloc, script)?;
     assert!(rt; printed.as_slice() == text);
     Some(())
