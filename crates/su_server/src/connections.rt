@@ -37,10 +37,10 @@ struct Waiting<S> {
 }
 
 /// The connections that a listener is offered, as sessions: so many, and then no more. Each begins
-/// once a worker is free, first those that have sent something. Where none is for 10 seconds, the connection is refused with `Busy`, and is
-/// no session; sessions that are silent make room meanwhile. What fails while it is accepted is no
-/// session either; after `MOST_FAILURES` such failures in a row no more come, nor once the server is
-/// to end.
+/// once a worker is free, first those that have sent something. Where none is for 10 seconds, the
+/// connection is refused with `Busy`, and is no session; sessions that are silent make room meanwhile.
+/// What fails while it is accepted is no session either; after `MOST_FAILURES` such failures in a row
+/// no more come, nor once the server is to end.
 #[derive(Drop)]
 pub struct Connections<'a, L: OpenListener, C> {
     listener: &'a L,
