@@ -1,5 +1,5 @@
-// Items that threads share: two put them and a third looks, which go where there is no room for all,
-// and which when a session ends.
+// Items that threads share: two put them and a third looks, which go where there is no room for
+// all, and which when a session ends.
 use std::alloc::Global;
 use std::process::Abort;
 use std::sync::Wait;

@@ -64,8 +64,8 @@ impl<'a, S, G: Gate> Gated<'a, S, G> {
     }
 }
 
-/// The gate is passed under the number of the session that was begun last. The service within attends
-/// each session too.
+/// The gate is passed under the number of the session that was begun last. The service within
+/// attends each session too.
 impl<'a, S: Attend, G: Gate> Attend for Gated<'a, S, G> {
     fn begin(&mut self, session: u64) {
         self.session = session;

@@ -7,8 +7,8 @@ use std::alloc::Global;
 use su_bytes::{Digest, Refusal};
 use su_version::Commit;
 
-/// Returns the digest of the item that a commit names, that of its change. `None` where the bytes are
-/// no commit's; `NoMemory` where there is none to read them.
+/// Returns the digest of the item that a commit names, that of its change. `None` where the bytes
+/// are no commit's; `NoMemory` where there is none to read them.
 pub(crate) fn named_by(alloc: Global, commit: &[u8]) -> Result<Option<Digest>, Refusal>
     ensures named { IfOk result (λ named. (c : CommitParts) → IsCommit c
         → commit.now ≡ commit_bytes c → named ≡ Some c.version.change) }

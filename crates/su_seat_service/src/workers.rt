@@ -19,8 +19,8 @@ use su_session::{Attend, Service};
 use su_shared::{BookName, Record, Seat, SharedBook};
 use su_shared_items::{SessionItems, SharedBlocks};
 
-/// A service over a book and items that are shared, which asks the book from a seat of its own. What
-/// its session puts and names by no commit goes when the session ends. Its model is that seat.
+/// A service over a book and items that are shared, which asks the book from a seat of its own.
+/// What its session puts and names by no commit goes when the session ends. Its model is that seat.
 #[derive(Drop)]
 pub struct Worker<'a, N: BookName, K: Keeper, R: Wait> {
     book: &'a SharedBook<N, K>,

@@ -38,14 +38,14 @@ abbrev pub one_fewer : Option ℕ → Option ℕ
 one_fewer None = None
 one_fewer (Some n) = if nat_le n 1 then None else Some (n - 1)
 
--- How many pin an item once a session has put it, by whether it stayed before: one that stayed though
--- nobody pinned it stays for good, and nobody pins it.
+-- How many pin an item once a session has put it, by whether it stayed before: one that stayed
+-- though nobody pinned it stays for good, and nobody pins it.
 abbrev pub once_put : Bool → Option ℕ → Option ℕ
 once_put true None = None
 once_put true (Some n) = one_more (Some n)
 once_put false count = one_more count
 
--- what stays once one session fewer pins an item: where that was the last one, the item does no more
+-- what stays once one session fewer pins an item: the item doesn't where that was the last one
 abbrev pub once_unpinned : Option ℕ → List ℕ → Items → Items
 once_unpinned count digest staying =
     if is_last count then remove_entry (bytes_eq digest) staying else staying

@@ -7,8 +7,8 @@ use std::alloc::Global;
 use std::marker::Model;
 use su_bytes::Refusal;
 
-/// How many bytes of memory an item takes beside its own, for the place where it is held, what finds
-/// it, and what tells which sessions pin it.
+/// How many bytes of memory an item takes beside its own, for the place where it is held, what
+/// finds it, and what tells which sessions pin it.
 const ITEM_COST: usize = 256;
 
 /// Returns how many bytes an item takes, which has these.

@@ -18,15 +18,16 @@ use su_bytes::{Digest, Refusal};
 ///
 /// What sessions do side by side changes an item under the lock of its shard alone, so:
 /// - Of two that put an item, and of which one ends, the other one pins it still.
-/// - A commit that names an item lets it stay for good, whoever put it: those that pinned it find it
-///   pinned by nobody when they end. It is pinned once more while the commit is handed in
+/// - A commit that names an item lets it stay for good, whoever put it: those that pinned it find
+///   it pinned by nobody when they end. It is pinned once more while the commit is handed in
 ///   (`pin_named`), so that it doesn't go, with the last session that put it, between the commit's
 ///   being stored and the item's being let stay.
-/// - A keeper that keeps the item of a commit reads it before it releases it. If it goes in between,
-///   it is kept all the same; and once it is released nobody pins it, so it doesn't go twice.
+/// - A keeper that keeps the item of a commit reads it before it releases it. If it goes in
+///   between, it is kept all the same; and once it is released nobody pins it, so that a session
+///   that ends finds nothing to let go.
 /// - An item that is kept elsewhere isn't pinned. Where there was no memory to note that it is, it
-///   may be pinned anew beside a session that pinned it before, and goes with the first of them that
-///   ends: it is read where it is kept.
+///   may be pinned anew beside a session that pinned it before, and goes with the first of them
+///   that ends: it is read where it is kept.
 #[derive(Drop)]
 pub struct SessionItems<'a> {
     blocks: &'a SharedBlocks,
