@@ -6,7 +6,7 @@ use crate::counts::CountFile;
 use crate::ends::Ends;
 use crate::faults::tell_fault;
 use crate::fills::fill;
-use crate::guards::Guard;
+use crate::guards::{Closing, Copying, Filling, Guard};
 use crate::links::{Link, connect};
 use crate::serving::keeper_of;
 use crate::settings::Setting;
@@ -137,7 +137,21 @@ where
         setting.blocks,
     );
     let tallied = Tallied::new(archive, count, noted);
-    let guard = Guard::new(tallied, folder, ends);
+    copy_over(setting, link, roster, Guard::new(tallied, folder, ends))
+}
+
+/// Copies with this keeper, which holds none yet, and asks for the items that its files lack.
+// What is done with a keeper stands in functions over any one, since the prover shows again at each
+// call that a type is a keeper (docs/ARCHITECTURE.md, "Forms the kit wants").
+fn copy_over<K: Copying, T: Wait>(
+    setting: &Setting<'_, T>,
+    link: Link,
+    roster: Roster,
+    keeper: K,
+) -> Option<Copied>
+    requires { K.holds keeper [] }
+{
+    let (rt, ends) = (setting.rt, setting.ends);
     let mut client = Checked::new(link);
     match copy_book(
         setting.host,
@@ -145,16 +159,16 @@ where
         &mut client,
         roster,
         setting.blocks,
-        guard,
+        keeper,
     ) {
         Ok(copy) => {
             let copied = tell_copy(rt, ends, &copy);
-            let mut guard = keeper_of(copy.closed).without_tally();
+            let mut files = keeper_of(copy.closed).into_files();
             let copied = match copied {
-                Some(copied) => complete(setting, &mut client, &mut guard, copied),
+                Some(copied) => complete(rt, &mut client, &mut files, copied),
                 None => None,
             };
-            if ends.has_failed() || !guard.close() {
+            if ends.has_failed() || !files.close() {
                 return None;
             }
             copied
@@ -168,13 +182,13 @@ where
 
 /// Asks for the items that the copy lacks. Returns what the copy has, if it has all of them then;
 /// if not, standard error tells why.
-fn complete<'a, V: Vault<Fault = FileFault>, T: Wait>(
-    setting: &Setting<'_, T>,
+fn complete<F: Filling>(
+    rt: &HostRuntime,
     client: &mut Checked<Link>,
-    guard: &mut Guard<'a, '_, '_, Archive<'a, V, T>>,
+    files: &mut F,
     copied: Copied,
 ) -> Option<Copied> {
-    match fill(setting.rt, client, guard)? {
+    match fill(rt, client, files)? {
         0 => Some(copied),
         lacking => {
             let Copied { records, new } = copied;
@@ -182,7 +196,7 @@ fn complete<'a, V: Vault<Fault = FileFault>, T: Wait>(
                 "the copy has {records} records, {new} of them new, and lacks {lacking} items, which \
                  the server has not got: back up again from a server that has them"
             );
-            refuse(setting.rt, fault)
+            refuse(rt, fault)
         }
     }
 }

@@ -1,13 +1,9 @@
 // The items that a copy lacks.
 use crate::faults::tell_fault;
-use crate::guards::Guard;
+use crate::guards::Filling;
 use crate::links::Link;
-use std::sync::Wait;
 use su_block::{BlockSource, Checked};
 use su_bytes::Refusal;
-use su_store::FileFault;
-use su_store_keeper::Archive;
-use su_vault::Vault;
 use thiserror::Error;
 
 /// Why an item that a copy lacks isn't kept, though the server may have it.
@@ -26,15 +22,15 @@ enum FillFault {
 /// Asks the server for each item that records of a copy need and the copy lacks, and keeps those that
 /// it has. Returns how many the copy lacks then. `None` after a fault, which standard error tells: of
 /// the link, of an item of the server, of the folder, of memory.
-pub(crate) fn fill<'a, V: Vault<Fault = FileFault>, T: Wait>(
+pub(crate) fn fill<F: Filling>(
     rt: &HostRuntime,
     client: &mut Checked<Link>,
-    guard: &mut Guard<'a, '_, '_, Archive<'a, V, T>>,
+    files: &mut F,
 ) -> Option<usize> {
     // those before this one are lacking at the server too
     let mut index = 0usize;
-    for _ in 0..guard.lacking() {
-        match fill_one(rt, client, guard, index) {
+    for _ in 0..files.lacking() {
+        match fill_one(rt, client, files, index) {
             Ok(true) => {}
             Ok(false) => index = index.saturating_add(1),
             Err(fault) => {
@@ -43,21 +39,21 @@ pub(crate) fn fill<'a, V: Vault<Fault = FileFault>, T: Wait>(
             }
         }
     }
-    Some(guard.lacking())
+    Some(files.lacking())
 }
 
 /// Asks for one of the items, counted from 0, and keeps it; then another one has its place. False
 /// where it is lacking as before, as the server hasn't got it.
-fn fill_one<'a, V: Vault<Fault = FileFault>, T: Wait>(
+fn fill_one<F: Filling>(
     rt: &HostRuntime,
     client: &mut Checked<Link>,
-    guard: &mut Guard<'a, '_, '_, Archive<'a, V, T>>,
+    files: &mut F,
     index: usize,
 ) -> Result<bool, FillFault> {
-    let Some(digest) = guard.lacking_item(index) else {
+    let Some(digest) = files.lacking_item(index) else {
         return Ok(false);
     };
-    let before = guard.lacking();
+    let before = files.lacking();
     let item = match client.get(rt.alloc(), digest) {
         Ok(item) => item,
         Err(Refusal::MissingBlock) => return Ok(false),
@@ -65,8 +61,8 @@ fn fill_one<'a, V: Vault<Fault = FileFault>, T: Wait>(
         Err(Refusal::WrongBlock) => return Err(FillFault::WrongItem),
         Err(_) => return Err(FillFault::LinkFailed),
     };
-    if !guard.fill(rt.alloc(), index, item.as_slice()) {
+    if !files.fill(rt.alloc(), index, item.as_slice()) {
         return Err(FillFault::NotKept);
     }
-    Ok(guard.lacking() < before)
+    Ok(files.lacking() < before)
 }

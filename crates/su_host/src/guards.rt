@@ -87,9 +87,43 @@ impl<'a, 'f, 'n, K: Keeper> Guard<'a, 'f, 'n, K> {
     }
 }
 
-impl<'a, 'f, 'n, K: Keeper, N: Notebook> Guard<'a, 'f, 'n, Tallied<K, N>> {
-    /// Guards the keeper within, whose records are noted no more.
-    pub fn without_tally(self) -> Guard<'a, 'f, 'n, K> {
+/// Has files of a folder, which are shut in the end.
+pub(crate) trait Closing: Drop {
+    /// Shuts the files, when all is copied from their logs, and returns whether they could be. If not,
+    /// standard error tells why.
+    fn close(self) -> bool;
+}
+
+/// Has files of a folder, which may lack items that records in them need.
+pub(crate) trait Filling: Closing {
+    /// How many items are lacking.
+    fn lacking(&self) -> usize;
+
+    /// Returns the digest of one of these items, counted from 0. `None` where there aren't so many.
+    fn lacking_item(&self, index: usize) -> Option<Digest>;
+
+    /// Keeps one of these items, if these bytes have its digest; then the last one has its place.
+    /// Returns whether that went well; if not, standard error tells why.
+    fn fill(&mut self, alloc: Global, index: usize, item: &[u8]) -> bool;
+}
+
+/// A keeper over files that can be filled in once it keeps no more records.
+pub(crate) trait Copying: Keeper {
+    type Files: Filling;
+
+    /// Gives the files up, whose records are noted no more.
+    fn into_files(self) -> Self::Files;
+}
+
+impl<'a, 'f, 'n, V, R, N> Copying for Guard<'a, 'f, 'n, Tallied<Archive<'a, V, R>, N>>
+where
+    V: Vault<Fault = FileFault>,
+    R: Wait,
+    N: Notebook,
+{
+    type Files = Guard<'a, 'f, 'n, Archive<'a, V, R>>;
+
+    fn into_files(self) -> Guard<'a, 'f, 'n, Archive<'a, V, R>> {
         let Guard {
             keeper,
             folder,
@@ -103,20 +137,20 @@ impl<'a, 'f, 'n, K: Keeper, N: Notebook> Guard<'a, 'f, 'n, Tallied<K, N>> {
     }
 }
 
-impl<'a, 'f, 'n, V: Vault<Fault = FileFault>, R: Wait> Guard<'a, 'f, 'n, Archive<'a, V, R>> {
-    /// How many items that records need aren't kept.
-    pub fn lacking(&self) -> usize {
+impl<'a, 'f, 'n, V, R> Filling for Guard<'a, 'f, 'n, Archive<'a, V, R>>
+where
+    V: Vault<Fault = FileFault>,
+    R: Wait,
+{
+    fn lacking(&self) -> usize {
         self.keeper.lacking()
     }
 
-    /// Returns the digest of one of these items, counted from 0. `None` where there aren't so many.
-    pub fn lacking_item(&self, index: usize) -> Option<Digest> {
+    fn lacking_item(&self, index: usize) -> Option<Digest> {
         self.keeper.lacking_item(index)
     }
 
-    /// Keeps one of these items, if these bytes have its digest; then the last one has its place.
-    /// Returns whether that went well; if not, standard error tells why.
-    pub fn fill(&mut self, alloc: Global, index: usize, item: &[u8]) -> bool {
+    fn fill(&mut self, alloc: Global, index: usize, item: &[u8]) -> bool {
         let filled = self.keeper.fill(alloc, index, item);
         if filled.is_err() {
             self.alarm();
@@ -155,9 +189,10 @@ impl<'a, 'f, 'n, K: HasFiles> Guard<'a, 'f, 'n, K> {
             Err(_) => tell_fault(self.folder.rt, fault),
         };
     }
+}
 
-    /// Shuts the files, when all is copied from their logs, and returns whether they could be.
-    pub fn close(self) -> bool {
+impl<'a, 'f, 'n, K: HasFiles + Drop> Closing for Guard<'a, 'f, 'n, K> {
+    fn close(self) -> bool {
         let Guard {
             keeper,
             folder,

@@ -7,7 +7,7 @@ use crate::counts::CountFile;
 use crate::doors::{Door, wake};
 use crate::ends::Ends;
 use crate::faults::tell_fault;
-use crate::guards::Guard;
+use crate::guards::{Closing, Guard};
 use crate::ports::Port;
 use crate::settings::Setting;
 use crate::stores::{DiskFile, FULL, Folder, options};
@@ -189,10 +189,25 @@ where
         setting.blocks,
     );
     let tallied = Tallied::new(archive, count, noted);
-    let guard = Guard::new(tallied, folder, setting.ends);
-    let (good, guard) = serve_over(setting, terms, roster, guard);
-    match guard {
-        Some(guard) => !setting.ends.has_failed() && guard.close() && good,
+    serve_closing(
+        setting,
+        terms,
+        roster,
+        Guard::new(tallied, folder, setting.ends),
+    )
+}
+
+/// Serves over a new book with this keeper, whose files are shut in the end, unless there was a fault.
+// (A function over any keeper: docs/ARCHITECTURE.md, "Forms the kit wants".)
+fn serve_closing<K, T>(setting: &Setting<'_, T>, terms: Terms, roster: Roster, keeper: K) -> bool
+where
+    K: Keeper + Closing + Send,
+    T: Net<Listener = TcpListener, Stream = TcpStream> + Threads + Wait + Sync,
+    requires { K.holds keeper [] }
+{
+    let (good, keeper) = serve_over(setting, terms, roster, keeper);
+    match keeper {
+        Some(keeper) => !setting.ends.has_failed() && keeper.close() && good,
         None => good,
     }
 }

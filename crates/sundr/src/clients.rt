@@ -90,16 +90,31 @@ where
     T: Net<Listener = TcpListener, Stream = TcpStream> + Threads + Sync,
     requires { IsUserCount (length args.now.keys.items) }
 {
-    let alloc = rt.alloc();
     let user = user_of(args)?;
     let signer = open_signer(rt, host, args.key.as_str())?;
+    match view_at(rt, host, args, user) {
+        Ok(view) => Ok(Member::new(rt.alloc(), view, signer, args.tries)),
+        Err(fault) => Err(fault),
+    }
+}
+
+/// Makes the view of a user at the server, whose list are the commits of the log.
+// (It stands apart so that no signer is alive at its exits.)
+fn view_at<T>(
+    rt: &HostRuntime,
+    host: &T,
+    args: &ClientArgs,
+    user: User,
+) -> Result<View<Checked<Link>>, ClientFault>
+where
+    T: Net<Listener = TcpListener, Stream = TcpStream>,
+    requires { IsUserCount (length args.now.keys.items) }
+{
+    let alloc = rt.alloc();
     let roster = read_roster(rt, args.keys.as_slice())?;
     let log = open_log(rt, args.log.as_ref().map(|path| path.as_str()))?;
     match connect(alloc, host, args.port) {
-        Ok(link) => {
-            let view = view_of(alloc, roster, user, link, log)?;
-            Ok(Member::new(alloc, view, signer, args.tries))
-        }
+        Ok(link) => view_of(alloc, roster, user, link, log),
         Err(reason) => {
             check_log(alloc, roster, user, log)?;
             let port = args.port;
@@ -185,11 +200,12 @@ fn view_of(
         return Ok(view);
     };
     let taken = take(alloc, log, &mut view);
-    if view.source_mut().source_mut().has_failed() {
-        return Err(ClientFault::LinkFailed);
+    let has_failed = view.source_mut().source_mut().has_failed();
+    match taken {
+        _ if has_failed => Err(ClientFault::LinkFailed),
+        Ok(()) => Ok(view),
+        Err(fault) => Err(fault),
     }
-    taken?;
-    Ok(view)
 }
 
 /// Takes the commits of the log without a server, only to see whether all can be taken.

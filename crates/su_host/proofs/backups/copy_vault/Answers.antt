@@ -1,5 +1,5 @@
 use Rattle.std.proofs.Common.{[], sym}
 use Rattle.su_host.proofs.backups.copy_vault.Goals as goal
 
-pub copy_book-requires : goal.copy_book-requires
-copy_book-requires g c = record { holds = c.new-guard.ensures [] (c.new-tallied.ensures.holds, sym c.new-tallied.ensures.none) }
+pub copy_over-requires : goal.copy_over-requires
+copy_over-requires g c = c.new.ensures [] (c.new-tallied.ensures.holds, sym c.new-tallied.ensures.none)
