@@ -37,6 +37,17 @@ fn put<R: Wait>(rt: &R, alloc: Global, blocks: &SharedBlocks, item: &[u8]) -> Op
     blocks.put(rt, alloc, item).ok()
 }
 
+// Puts an item for a session. (A refusal that goes through a `?` in a test is one that the borrow
+// checker's plan can't be built for.)
+fn lend<R: Wait>(
+    rt: &R,
+    alloc: Global,
+    session: &mut SessionItems<'_>,
+    item: &[u8],
+) -> Option<Digest> {
+    session.put(rt, alloc, item).ok()
+}
+
 fn share<R: Wait>(rt: &R, alloc: Global, blocks: &SharedBlocks, item: &[u8]) -> bool {
     blocks.share(rt, alloc, item).is_ok()
 }
@@ -112,14 +123,14 @@ fn what_two_sessions_put_goes_with_the_later_one(rt: HostRuntime) -> Result<(), 
     let blocks = SharedBlocks::new(alloc)?;
     let mut one = SessionItems::new(alloc, &blocks);
     let mut other = SessionItems::new(alloc, &blocks);
-    one.put(&rt, alloc, ABC)?;
-    one.put(&rt, alloc, ABC)?;
-    one.put(&rt, alloc, SEA)?;
-    other.put(&rt, alloc, ABC)?;
+    assert!(rt; lend(&rt, alloc, &mut one, ABC).is_some());
+    assert!(rt; lend(&rt, alloc, &mut one, ABC).is_some());
+    assert!(rt; lend(&rt, alloc, &mut one, SEA).is_some());
+    assert!(rt; lend(&rt, alloc, &mut other, ABC).is_some());
     one.end(&rt);
     assert!(rt; has(&rt, alloc, &blocks, ABC));
     assert!(rt; !has(&rt, alloc, &blocks, SEA));
-    other.put(&rt, alloc, SEA)?;
+    assert!(rt; lend(&rt, alloc, &mut other, SEA).is_some());
     other.end(&rt);
     assert!(rt; !has(&rt, alloc, &blocks, ABC));
     assert!(rt; !has(&rt, alloc, &blocks, SEA));
@@ -132,8 +143,8 @@ fn what_a_commit_names_stays(rt: HostRuntime) -> Result<(), Fail> {
     let blocks = SharedBlocks::new(alloc)?;
     let mut one = SessionItems::new(alloc, &blocks);
     let mut other = SessionItems::new(alloc, &blocks);
-    let abc = one.put(&rt, alloc, ABC)?;
-    let sea = one.put(&rt, alloc, SEA)?;
+    let abc = lend(&rt, alloc, &mut one, ABC).ok_or("not put")?;
+    let sea = lend(&rt, alloc, &mut one, SEA).ok_or("not put")?;
     assert!(rt; other.pin_named(&rt, abc));
     assert!(rt; other.pin_named(&rt, sea));
     one.end(&rt);
@@ -141,7 +152,7 @@ fn what_a_commit_names_stays(rt: HostRuntime) -> Result<(), Fail> {
     other.unpin_named(&rt, sea);
     assert!(rt; !other.pin_named(&rt, abc));
     assert!(rt; !other.pin_named(&rt, digest_of(BAT)));
-    other.put(&rt, alloc, ABC)?;
+    assert!(rt; lend(&rt, alloc, &mut other, ABC).is_some());
     other.end(&rt);
     assert!(rt; has(&rt, alloc, &blocks, ABC));
     assert!(rt; !has(&rt, alloc, &blocks, SEA));
@@ -153,11 +164,11 @@ fn what_stays_for_good_or_is_kept_is_not_pinned(rt: HostRuntime) -> Result<(), F
     let alloc = rt.alloc();
     let blocks = SharedBlocks::with_room(alloc, TWO)?;
     let mut session = SessionItems::new(alloc, &blocks);
-    session.put(&rt, alloc, ABC)?;
+    assert!(rt; lend(&rt, alloc, &mut session, ABC).is_some());
     assert!(rt; put(&rt, alloc, &blocks, ABC).is_some());
-    let sea = session.put(&rt, alloc, SEA)?;
+    let sea = lend(&rt, alloc, &mut session, SEA).ok_or("not put")?;
     blocks.release(&rt, alloc, sea);
-    session.put(&rt, alloc, SEA)?;
+    assert!(rt; lend(&rt, alloc, &mut session, SEA).is_some());
     session.end(&rt);
     assert!(rt; has(&rt, alloc, &blocks, ABC));
     assert!(rt; has(&rt, alloc, &blocks, SEA));
