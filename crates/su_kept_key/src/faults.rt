@@ -1,5 +1,6 @@
 // Why a key can't be used.
-ghost use Rattle.std.specs.Prelude.{◌≡◌};
+ghost use Rattle.std.specs.Prelude.{◌≡◌, ℕ, List};
+ghost use Rattle.su_kept_key.specs.Reading.{RefusesNoKey};
 ghost use Rattle.su_kept_key.specs.declared.faults.KeptKeyFault.TheVariants.{NoMemory};
 
 use crate::locks::LockFault;
@@ -39,7 +40,9 @@ pub enum KeptKeyFault {
 
 impl KeptKeyFault {
     /// Returns `Unread` of a path.
-    pub fn unread(alloc: Global, path: &str, reason: io::Error) -> KeptKeyFault {
+    pub fn unread(alloc: Global, path: &str, reason: io::Error) -> KeptKeyFault
+        ensures { (bytes : List ℕ) → RefusesNoKey bytes result }
+    {
         match String::from_str(alloc, path) {
             Ok(path) => KeptKeyFault::Unread { path, reason },
             Err(_) => KeptKeyFault::NoMemory,
@@ -47,7 +50,9 @@ impl KeptKeyFault {
     }
 
     /// Returns `Folder` of a path.
-    pub fn folder(alloc: Global, path: &str, reason: io::Error) -> KeptKeyFault {
+    pub fn folder(alloc: Global, path: &str, reason: io::Error) -> KeptKeyFault
+        ensures { (bytes : List ℕ) → RefusesNoKey bytes result }
+    {
         match String::from_str(alloc, path) {
             Ok(path) => KeptKeyFault::Folder { path, reason },
             Err(_) => KeptKeyFault::NoMemory,

@@ -1,6 +1,8 @@
 // The files of a key: its own, and PATH.next, in which it is written first.
-ghost use Rattle.std.specs.Prelude.{◌≡◌, ℕ, List, Some, IfOk, OnOk, take};
+ghost use Rattle.std.specs.Prelude.{◌≡◌, ℕ, List, Some, IfOk, IfErr, OnOk, take};
 ghost use Rattle.std.specs.Io.KnownBytes.{Appends};
+ghost use Rattle.su_lms.specs.KeyFile.{private_key_of, key_file_bytes};
+ghost use Rattle.su_kept_key.specs.Reading.{RefusesNoKey};
 
 use crate::faults::KeptKeyFault;
 use std::alloc::Global;
@@ -46,10 +48,19 @@ pub(crate) fn require_plain(rt: &HostRuntime, path: &str) -> Result<(), KeptKeyF
     Ok(())
 }
 
-/// Reads a key file. No more than 65 bytes are read.
-pub(crate) fn read_key(rt: &HostRuntime, path: &str) -> Result<KeyFile, KeptKeyFault> {
-    let alloc = rt.alloc();
-    let bytes = match File::open(rt, path).and_then(|file| first_bytes(alloc, file)) {
+/// Reads the key file at a path from a reader, and no more than 65 bytes of it. `Unread` where
+/// reading fails; `NoKey` where they are the bytes of no key file; `NoMemory`.
+pub(crate) fn read_key<F: Read + Drop>(
+    alloc: Global,
+    path: &str,
+    reader: F,
+) -> Result<KeyFile, KeptKeyFault>
+    ensures found { IfOk result (λ file. (input : List ℕ) → F.remaining reader ≡ Some input
+        → take 65 input ≡ key_file_bytes (private_key_of file) file.next) }
+    ensures refused { IfErr result (λ fault. (input : List ℕ) → F.remaining reader ≡ Some input
+        → RefusesNoKey (take 65 input) fault) }
+{
+    let bytes = match first_bytes(alloc, reader) {
         Ok(bytes) => bytes,
         Err(reason) => return Err(KeptKeyFault::unread(alloc, path, reason)),
     };

@@ -1,9 +1,12 @@
 // A key in its file. The kit says nothing of what a file holds, so the contracts speak of the value:
-// its key, and the leaf that signs next. That the file says the same is `KeyFile::encode`, and
-// `files::replace`, which answers once the disk has it.
-ghost use Rattle.std.specs.Prelude.{◌≡◌, ◌<◌, ◌^◌, ◌↔◌, IfOk, IfErr, OnOk, IsSome, string_bytes};
+// its key, and the leaf that signs next. `KeptKey::of_reader` says that they are those of the bytes
+// that are read, `KeptKey::spelled` that the bytes to be written are those of the next leaf. That a
+// file has them is left to `files::replace`, which answers once the disk has it.
+ghost use Rattle.std.specs.Prelude.{◌≡◌, ◌<◌, ◌^◌, ◌↔◌, ℕ, List, Some, IfOk, IfErr, OnOk, IsSome};
+ghost use Rattle.std.specs.Prelude.{string_bytes, take};
 ghost use Rattle.su_lms.specs.ParameterSets.{height_of};
-ghost use Rattle.su_lms.specs.KeyFile.{private_key_of};
+ghost use Rattle.su_lms.specs.KeyFile.{private_key_of, key_file_bytes};
+ghost use Rattle.su_kept_key.specs.Reading.{RefusesNoKey};
 ghost use Rattle.su_bytes.specs.declared.refusals.Refusal.TheVariants.{NoMemory};
 
 use crate::faults::KeptKeyFault;
@@ -12,11 +15,17 @@ use crate::locks::lock_key;
 use std::alloc::Global;
 use std::fs::File;
 use std::io;
-use std::io::ErrorKind;
+use std::io::{ErrorKind, Read};
 use std::marker::Model;
 use std::thread::Threads;
 use su_bytes::Refusal;
 use su_lms::{KeyFile, KeyStore, Params, Signer};
+
+/// What a key file says with its next leaf, and the bytes that are written.
+struct NextFile {
+    file: KeyFile,
+    bytes: [u8; 64],
+}
 
 /// A key in its file, which no other process uses as long as this value lives.
 #[derive(Drop)]
@@ -66,7 +75,31 @@ impl<'a> KeptKey<'a> {
         require_plain(rt, path)?;
         let lock = lock_key(rt, path)?;
         // Who had the lock before may have signed: only now the next leaf stays what it is.
-        let file = read_key(rt, path)?;
+        match File::open(rt, path) {
+            Ok(file) => KeptKey::of_reader(rt, lock, path, folder, file),
+            Err(reason) => Err(KeptKeyFault::unread(alloc, path, reason)),
+        }
+    }
+
+    /// Makes the value of the key at a path in a folder, whose file a reader brings: its key and
+    /// its next leaf are those of the first 65 bytes, or of all where there are fewer. Faults in
+    /// order: `Unread`; `NoKey`; `Folder`. `NoMemory` can come at any time.
+    fn of_reader<F: Read + Drop>(
+        rt: &'a HostRuntime,
+        lock: File,
+        path: &str,
+        folder: &str,
+        reader: F,
+    ) -> Result<KeptKey<'a>, KeptKeyFault>
+        ensures path { IfOk result (λ kept. kept.path ≡ path.now) }
+        ensures failures { IfOk result (λ kept. kept.failures ≡ 0) }
+        ensures file { IfOk result (λ kept. (input : List ℕ) → F.remaining reader ≡ Some input
+            → take 65 input ≡ key_file_bytes kept.key kept.next) }
+        ensures refused { IfErr result (λ fault. (input : List ℕ) → F.remaining reader ≡ Some input
+            → RefusesNoKey (take 65 input) fault) }
+    {
+        let alloc = rt.alloc();
+        let file = read_key(alloc, path, reader)?;
         let folder = match File::open(rt, folder) {
             Ok(folder) => folder,
             Err(reason) => return Err(KeptKeyFault::folder(alloc, folder, reason)),
@@ -106,6 +139,20 @@ impl<'a> KeptKey<'a> {
         ensures next { IfOk result (λ file. file.next ≡ q) }
         ensures later { OnOk result (self.now.next < q) }
     {
+        let NextFile { file, bytes } = self.spelled(q)?;
+        let (path, new_path) = (self.path.as_str(), self.new_path.as_str());
+        replace(self.rt, &self.folder, path, new_path, &bytes)?;
+        Ok(file)
+    }
+
+    /// Returns the key file with that next leaf, and its bytes. `InvalidInput` where it is no later
+    /// leaf than the one that signs next, or above the number of leaves.
+    fn spelled(&self, q: u32) -> io::Result<NextFile>
+        ensures key { IfOk result (λ made. private_key_of made.file ≡ self.now.key) }
+        ensures next { IfOk result (λ made. made.file.next ≡ q) }
+        ensures bytes { IfOk result (λ made. made.bytes ≡ key_file_bytes self.now.key q) }
+        ensures later { OnOk result (self.now.next < q) }
+    {
         let KeyFile {
             params,
             id,
@@ -121,9 +168,8 @@ impl<'a> KeptKey<'a> {
             seed,
             next: q,
         };
-        let (path, new_path) = (self.path.as_str(), self.new_path.as_str());
-        replace(self.rt, &self.folder, path, new_path, &file.encode())?;
-        Ok(file)
+        let bytes = file.encode();
+        Ok(NextFile { file, bytes })
     }
 }
 
