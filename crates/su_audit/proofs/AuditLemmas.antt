@@ -1,8 +1,10 @@
 -- An audit, record by record.
 use Rattle.std.proofs.Common.{◌≡◌, ℕ, ◌+◌, List, [], ◌∷◌, ◌++◌, length, length-append, refl, sym, ap, ◌∙◌, subst, arith, append_assoc, append-nil, inl, inr, Option, Some}
-use Rattle.std.specs.Prelude.{◌⊎◌, map, Contains}
+use Rattle.std.specs.Prelude.{◌⊎◌, Contains}
 use Rattle.std.proofs.lemmas.Grind.{flat_map-append}
 use Rattle.std.proofs.lemmas.List.Elements.{Contains-append_left, Contains-append_right, Contains-append_cases}
+use Rattle.sha2.specs.Sha256.{sha256}
+use Rattle.su_block.specs.Memory.{HasItemOf}
 use Rattle.su_change.specs.Item.{item_bytes}
 use Rattle.su_bytes.specs.Membership.{Membership}
 use Rattle.su_version.specs.Commit.{commit_bytes}
@@ -11,13 +13,11 @@ use Rattle.su_legal.proofs.Public.{after_both}
 use Rattle.su_view.specs.Holding.{HoldingState, with_more}
 use Rattle.su_view.specs.declared.refusals.ViewRefusal.{ViewRefusal}
 use Rattle.su_log.specs.Log.{LogRecord, record_bytes, log_bytes}
-use Rattle.su_audit.specs.Step.{Takes, IsRefusedNext}
+use Rattle.su_audit.specs.Step.{Takes, IsRefusedRecord, IsRefusedNext}
+use Rattle.su_audit.proofs.StepLemmas.{wider_source}
 use Rattle.su_audit.specs.declared.audits.Ending.{Ending}
 use Rattle.su_audit.specs.declared.audits.Ending.TheVariants.{Taken, Refused, Failed}
-use Rattle.su_audit.specs.Audit.{AreBytesOf, AreItemsOf, BeginsLegally, IsLegalLog, IsRefusedAt, held_by_first, taken_text, refused_text, Tells, Prints, PrintsSome}
-
-abbrev pub items_of : List LogRecord → List (List ℕ)
-items_of rs = map (λ (r : LogRecord). r.item) rs
+use Rattle.su_audit.specs.Audit.{AreBytesOf, AreItemsOf, items_of, BeginsLegally, IsLegalLog, IsRefusedAt, held_by_first, taken_text, refused_text, Tells, Prints, PrintsSome}
 
 -- So far the log begins with the records of what is held, and this is left; the next is the nth.
 pub record Stands (ro : Membership) (log : List ℕ) (v : HoldingState) (has : List (List ℕ)) (Left : ℕ → List ℕ → Type 0) (n : ℕ) : Type 0 where
@@ -28,8 +28,13 @@ pub record Stands (ro : Membership) (log : List ℕ) (v : HoldingState) (has : L
   pub begins : BeginsLegally ro log commits place rest
   -- the source has no other items than the log
   pub items : (item : List ℕ) → Contains has item → Contains (items_of begins.records) item
+  -- and of each item of the log one with its digest
+  pub each : (item : List ℕ) → Contains (items_of begins.records) item → HasItemOf has (sha256 item)
   pub left : Left place rest
   pub number : n ≡ length commits + 1
+
+none_in : (item : List ℕ) → ¬ Contains [] item
+none_in item (i, within, is) = absurd (omega (arith, within))
 
 pub none_yet : (ro : Membership) (log : List ℕ) (v : HoldingState) (has : List (List ℕ)) (Left : ℕ → List ℕ → Type 0) → v ≡ held_by_first ro [] → has ≡ [] → Left 0 log → Stands ro log v has Left 1
 none_yet ro log v has Left holds none left = record {
@@ -39,6 +44,7 @@ none_yet ro log v has Left holds none left = record {
   holds = holds;
   begins = record { records = []; front = refl; place_is = refl; bytes_are = tt; items_are = tt; legal = tt };
   items = λ item there. subst (λ xs. Contains xs item) none there;
+  each = λ item there. absurd (none_in item there);
   left = left;
   number = refl;
 }
@@ -52,6 +58,39 @@ wider xs ys y x within there = go (Contains-append_cases xs (y ∷ []) x there)
     go : Contains xs x ⊎ Contains (y ∷ []) x → Contains (ys ++ y ∷ []) x
     go (inl here) = Contains-append_left ys (y ∷ []) x (within x here)
     go (inr here) = Contains-append_right ys (y ∷ []) x here
+
+-- of each of these is one with its digest among those, and the same of one more
+held_further : (xs has : List (List ℕ)) (y : List ℕ) (has' : List (List ℕ)) → ((item : List ℕ) → Contains xs item → HasItemOf has (sha256 item))
+    → ((item : List ℕ) → Contains (has ++ y ∷ []) item → HasItemOf has' (sha256 item)) → (item : List ℕ) → Contains (xs ++ y ∷ []) item → HasItemOf has' (sha256 item)
+held_further xs has y has' each kept item there = go (Contains-append_cases xs (y ∷ []) item there)
+  where
+    go : Contains xs item ⊎ Contains (y ∷ []) item → HasItemOf has' (sha256 item)
+    go (inl here) = let (x, x_there, same) = each item here in subst (HasItemOf has') same (kept x (Contains-append_left has (y ∷ []) x x_there))
+    go (inr here) = kept item (Contains-append_right has (y ∷ []) item here)
+
+-- none of more has a digest that none of these has
+none_further : (xs has : List (List ℕ)) (y digest : List ℕ) → ((item : List ℕ) → Contains xs item → HasItemOf has (sha256 item)) → ¬ HasItemOf (has ++ y ∷ []) digest → ¬ HasItemOf (xs ++ y ∷ []) digest
+none_further xs has y digest each none (item, there, is) = go (Contains-append_cases xs (y ∷ []) item there)
+  where
+    go : Contains xs item ⊎ Contains (y ∷ []) item → ⊥
+    go (inl here) = let (x, x_there, same) = each item here in none (x, Contains-append_left has (y ∷ []) x x_there, same ∙ is)
+    go (inr here) = none (item, Contains-append_right has (y ∷ []) item here, is)
+
+-- what is refused of the items that are held is refused of all that came
+module _ (xs has : List (List ℕ)) (within : (item : List ℕ) → Contains has item → Contains xs item) (each : (item : List ℕ) → Contains xs item → HasItemOf has (sha256 item)) (v : HoldingState)
+  where
+    refused_of : (bytes item : List ℕ) (e : ViewRefusal) → IsRefusedRecord v has bytes item e → IsRefusedRecord v xs bytes item e
+    refused_of bytes item e (inl memory) = inl memory
+    refused_of bytes item e (inr (inl big)) = inr (inl big)
+    refused_of bytes item e (inr (inr (inl none))) = inr (inr (inl none))
+    refused_of bytes item e (inr (inr (inr (c, good, is, inl (missing, none))))) = inr (inr (inr (c, good, is, inl (missing, none_further xs has item c.version.change each none))))
+    refused_of bytes item e (inr (inr (inr (c, good, is, inr refused)))) =
+        inr (inr (inr (c, good, is, inr (wider_source (Contains (has ++ item ∷ [])) (Contains (xs ++ item ∷ [])) v c e (λ s there. wider has xs item s within there) refused))))
+
+    refused_among : (place : ℕ) (input : List ℕ) (e : ViewRefusal) → IsRefusedNext v has place input e → IsRefusedNext v xs place input e
+    refused_among place input e (inl cut) = inl cut
+    refused_among place input e (inr (first, rest, begins, inl cut)) = inr (first, rest, begins, inl cut)
+    refused_among place input e (inr (first, rest, begins, inr (item, others, next, why))) = inr (first, rest, begins, inr (item, others, next, refused_of first item e why))
 
 items_more : (rs : List LogRecord) (r : LogRecord) → items_of (rs ++ r ∷ []) ≡ items_of rs ++ r.item ∷ []
 items_more [] r = refl
@@ -107,6 +146,8 @@ module _ (ro : Membership) (log : List ℕ) (v : HoldingState) (has : List (List
         };
         items = λ item there. subst (λ l. Contains l item) (sym (items_more s.begins.records k.first))
             (wider has (items_of s.begins.records) k.first.item item s.items (t.no_more item there));
+        each = λ item there. held_further (items_of s.begins.records) has k.first.item has' s.each t.kept item
+            (subst (λ l. Contains l item) (items_more s.begins.records k.first) there);
         left = k.left;
         number = ap (λ k. k + 1) (s.number ∙ sym (length-append s.commits (t.taken ∷ [])));
       }
@@ -129,14 +170,15 @@ module _ (ro : Membership) (log : List ℕ) (v : HoldingState) (has : List (List
         };
       }
 
-  pub refused_next : (e : ViewRefusal) → ((place : ℕ) (input : List ℕ) → Left place input → IsRefusedNext v place input e) → IsRefusedAt ro log n e
+  pub refused_next : (e : ViewRefusal) → ((place : ℕ) (input : List ℕ) → Left place input → IsRefusedNext v has place input e) → IsRefusedAt ro log n e
   refused_next e why = record {
     commits = s.commits;
     place = s.place;
     rest = s.rest;
     number = s.number;
     begins = s.begins;
-    why = subst (λ u. IsRefusedNext u s.place s.rest e) s.holds (why s.place s.rest s.left);
+    why = subst (λ u. IsRefusedNext u (items_of s.begins.records) s.place s.rest e) s.holds
+        (refused_among (items_of s.begins.records) has s.items s.each v s.place s.rest e (why s.place s.rest s.left));
   }
 
 -- ---- what is told

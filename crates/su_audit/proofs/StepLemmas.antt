@@ -1,14 +1,15 @@
 -- One record of a log.
-use Rattle.std.proofs.Common.{◌≡◌, ℕ, ◌+◌, ◌⊎◌, List, [], ◌∷◌, ◌++◌, length, inl, inr, refl, lit<, ap, sym, subst, ◌∙◌, append_assoc}
-use Rattle.std.specs.Prelude.{⊤, Result, Ok, Err, IfErr, OnOk, Contains}
-use Rattle.std.proofs.lemmas.List.Elements.{Contains-append_left, Contains-append_right}
+use Rattle.std.proofs.Common.{◌≡◌, ℕ, ◌+◌, ◌⊎◌, List, [], ◌∷◌, ◌++◌, length, inl, inr, refl, ap, sym, subst, ◌∙◌, append_assoc}
+use Rattle.std.specs.Prelude.{◌≢◌, ⊤, Result, Ok, Err, IfErr, OnOk, Contains}
+use Rattle.std.proofs.lemmas.List.Elements.{Contains-append_left, Contains-push, Contains-push_cases}
 use Rattle.su_op.specs.declared.operations.Change.{Change}
 use Rattle.su_change.specs.Item.{item_bytes}
-use Rattle.su_bytes.specs.declared.refusals.Refusal.TheVariants.{NoMemory, Malformed}
-use Rattle.su_block.specs.declared.failures.Failures.{Failures}
+use Rattle.su_bytes.specs.declared.refusals.Refusal.TheVariants.{NoMemory, MissingBlock, Malformed}
+use Rattle.sha2.specs.Sha256.{sha256}
+use Rattle.su_block.specs.Memory.{HasItemOf}
 use Rattle.su_version.specs.Commit.{Commit, IsCommit, commit_bytes}
 use Rattle.su_view.specs.Holding.{HoldingState, Took}
-use Rattle.su_view.specs.Joining.{IsRefusedCommit, HasFailed}
+use Rattle.su_view.specs.Joining.{IsRefusedCommit}
 use Rattle.su_view.specs.declared.refusals.ViewRefusal.{ViewRefusal}
 use Rattle.su_view.specs.declared.refusals.ViewRefusal.TheVariants.{Plain}
 use Rattle.su_log.specs.Part.{part_bytes}
@@ -19,57 +20,72 @@ use Rattle.su_audit.specs.declared.steps.Step.{Step}
 use Rattle.su_audit.specs.declared.steps.Step.TheVariants as step
 use Rattle.su_audit.specs.Step.{IsRefusedRecord, IsRefusedNext, TakesRecord, Takes, Steps}
 
-any_source : (MayGive : List ℕ → Type 0) (v : HoldingState) (c : Commit) (e : ViewRefusal) → IsRefusedCommit MayGive v c e → IsRefusedCommit (λ _. Unit {0}) v c e
-any_source MayGive v c e (inl not_next) = inl not_next
-any_source MayGive v c e (inr (bytes, gives, digest, next, why)) = inr (bytes, tt, digest, next, why)
+-- a source that gives more
+pub wider_source : (MayGive More : List ℕ → Type 0) (v : HoldingState) (c : Commit) (e : ViewRefusal) → ((s : List ℕ) → MayGive s → More s) → IsRefusedCommit MayGive v c e → IsRefusedCommit More v c e
+wider_source MayGive More v c e more (inl not_next) = inl not_next
+wider_source MayGive More v c e more (inr (bytes, gives, digest, next, why)) = inr (bytes, more bytes gives, digest, next, why)
 
--- what the view refuses of a commit whose bytes these are
-pub refused_view : (v : HoldingState) (bytes item : List ℕ) (c : Commit) (e : ViewRefusal) (MayGive : List ℕ → Type 0) (before after : Failures)
-    → IsCommit c → bytes ≡ commit_bytes c → (e ≡ Plain NoMemory) ⊎ HasFailed before after c.version.change e ⊎ IsRefusedCommit MayGive v c e → IsRefusedRecord v bytes item e
-refused_view v bytes item c e MayGive before after good is (inl memory) = inl memory
-refused_view v bytes item c e MayGive before after good is (inr (inl failed)) = inr (inr (inr (c, good, is, inl (failed.why, failed.refusal, failed.failure))))
-refused_view v bytes item c e MayGive before after good is (inr (inr refused)) = inr (inr (inr (c, good, is, inr (any_source MayGive v c e refused))))
+-- Each item so far is held, or one with its digest.
+module _ (had mid : List (List ℕ)) (item : List ℕ) (kept : (s : List ℕ) → Contains had s → Contains mid s) (held : HasItemOf mid (sha256 item)) where
+  pub each_is_held : (s : List ℕ) → Contains (had ++ item ∷ []) s → HasItemOf mid (sha256 s)
+  each_is_held s there = go (Contains-push_cases had item s there)
+    where
+      go : Contains had s ⊎ (item ≡ s) → HasItemOf mid (sha256 s)
+      go (inl here) = (s, kept s here, refl)
+      go (inr same) = subst (λ x. HasItemOf mid (sha256 x)) same held
 
--- and where that is known of what came of taking it
-pub refused_known : (v : HoldingState) (bytes item : List ℕ) (c : Commit) (r : Result ⊤ ViewRefusal) (MayGive : List ℕ → Type 0) (before after : Failures)
-    → IsCommit c → bytes ≡ commit_bytes c → IfErr r (λ e. (e ≡ Plain NoMemory) ⊎ HasFailed before after c.version.change e ⊎ IsRefusedCommit MayGive v c e) → IfErr r (IsRefusedRecord v bytes item)
-refused_known v bytes item c (Ok x) MayGive before after good is why = tt
-refused_known v bytes item c (Err e) MayGive before after good is why = refused_view v bytes item c e MayGive before after good is why
+  pub none_so_far : (digest : List ℕ) → ¬ HasItemOf mid digest → ¬ HasItemOf (had ++ item ∷ []) digest
+  none_so_far digest none (s, there, is) = let (x, x_there, x_is) = each_is_held s there in none (x, x_there, x_is ∙ is)
+
+module _ (had : List (List ℕ)) (item : List ℕ) (v : HoldingState) (bytes : List ℕ) (c : Commit) (good : IsCommit c) (is : bytes ≡ commit_bytes c) (source : List ℕ)
+    (lacks : sha256 source ≢ c.version.change → ¬ HasItemOf (had ++ item ∷ []) c.version.change) (given : Contains (had ++ item ∷ []) source) where
+  refused_offered : (e : ViewRefusal) → (e ≡ Plain NoMemory) ⊎ ((e ≡ Plain MissingBlock) × (sha256 source ≢ c.version.change)) ⊎ IsRefusedCommit (λ s. s ≡ source) v c e
+      → IsRefusedRecord v had bytes item e
+  refused_offered e (inl memory) = inl memory
+  refused_offered e (inr (inl (missing, other))) = inr (inr (inr (c, good, is, inl (missing, lacks other))))
+  refused_offered e (inr (inr refused)) =
+      inr (inr (inr (c, good, is, inr (wider_source (λ s. s ≡ source) (Contains (had ++ item ∷ [])) v c e (λ s same. subst (Contains (had ++ item ∷ [])) (sym same) given) refused))))
+
+  pub refused_join : (r : Result ⊤ ViewRefusal) → IfErr r (λ e. (e ≡ Plain NoMemory) ⊎ ((e ≡ Plain MissingBlock) × (sha256 source ≢ c.version.change)) ⊎ IsRefusedCommit (λ s. s ≡ source) v c e)
+      → IfErr r (IsRefusedRecord v had bytes item)
+  refused_join (Ok x) why = tt
+  refused_join (Err e) why = refused_offered e why
 
 -- what no record comes of
-refused_stop : (v : HoldingState) (at place : ℕ) (input : List ℕ) → StopsSo (Cut at) place input → IsRefusedNext v place input (Plain (Malformed at))
-refused_stop v at place input (inl (same, goes_on, none)) = inl (ap (λ (p : ℕ). Plain (Malformed p)) same, goes_on, none)
-refused_stop v at place input (inr (first, rest, begins, same, none)) = inr (first, rest, begins, inl (ap (λ (p : ℕ). Plain (Malformed p)) same, none))
+refused_stop : (v : HoldingState) (had : List (List ℕ)) (at place : ℕ) (input : List ℕ) → StopsSo (Cut at) place input → IsRefusedNext v had place input (Plain (Malformed at))
+refused_stop v had at place input (inl (same, goes_on, none)) = inl (ap (λ (p : ℕ). Plain (Malformed p)) same, goes_on, none)
+refused_stop v had at place input (inr (first, rest, begins, same, none)) = inr (first, rest, begins, inl (ap (λ (p : ℕ). Plain (Malformed p)) same, none))
 
 pub refused_step : (v v' : HoldingState) (had has : List (List ℕ)) (at place : ℕ) (input : List ℕ) (Left : ℕ → List ℕ → Type 0) (result : Step) → result ≡ step.Refused (Plain (Malformed at)) → StopsSo (Cut at) place input
     → Steps place v had input Left v' has result
-refused_step v v' had has at place input Left result is stops = subst (Steps place v had input Left v' has) (sym is) (refused_stop v at place input stops)
+refused_step v v' had has at place input Left result is stops = subst (Steps place v had input Left v' has) (sym is) (refused_stop v had at place input stops)
 
 -- a record that is refused
-pub refused_record : (v : HoldingState) (place : ℕ) (input : List ℕ) (r : LogRecord) (rest : List ℕ) (e : ViewRefusal) → BeginsWithRecord input r rest → IsRefusedRecord v r.commit r.item e
-    → IsRefusedNext v place input e
-refused_record v place input r rest e b why = inr (r.commit, b.rest, b.commit, inr (r.item, rest, b.item, why))
+pub refused_record : (v : HoldingState) (had : List (List ℕ)) (place : ℕ) (input : List ℕ) (r : LogRecord) (rest : List ℕ) (e : ViewRefusal) → BeginsWithRecord input r rest → IsRefusedRecord v had r.commit r.item e
+    → IsRefusedNext v had place input e
+refused_record v had place input r rest e b why = inr (r.commit, b.rest, b.commit, inr (r.item, rest, b.item, why))
 
--- what the source may give by then is this item, or one that it might give before
-module _ (had mid : List (List ℕ)) (item : List ℕ) (more : (x : List ℕ) → Contains mid x → Contains had x ⊎ (x ≡ item)) where
-  one_of : (x : List ℕ) → Contains had x ⊎ (x ≡ item) → Contains (had ++ item ∷ []) x
-  one_of x (inl there) = Contains-append_left had (item ∷ []) x there
-  one_of x (inr same) = subst (Contains (had ++ item ∷ [])) (sym same) (Contains-append_right had (item ∷ []) item (0, lit< tt, refl))
+-- what is held by then is this item, or one that was before
+module _ (had mid : List (List ℕ)) (item : List ℕ) (more : (s : List ℕ) → Contains mid s → Contains had s ⊎ (s ≡ item)) where
+  pub one_of : (s : List ℕ) → Contains mid s → Contains (had ++ item ∷ []) s
+  one_of s there = go (more s there)
+    where
+      go : Contains had s ⊎ (s ≡ item) → Contains (had ++ item ∷ []) s
+      go (inl before) = Contains-append_left had (item ∷ []) s before
+      go (inr same) = subst (Contains (had ++ item ∷ [])) (sym same) (Contains-push had item)
 
-  pub takes_change : (v v' : HoldingState) (has : List (List ℕ)) (c : Commit) (bytes : List ℕ) → bytes ≡ commit_bytes c → ((x : List ℕ) → Contains has x → Contains mid x)
-      → ((change : Change) × Contains mid (item_bytes change) × Took v (record { commit = c; change = change } ∷ []) v') → TakesRecord v had (record { commit = bytes; item = item }) v' has
-  takes_change v v' has c bytes is no_more (change, gives, took) = record {
+  pub takes_join : (v v' : HoldingState) (has : List (List ℕ)) (c : Commit) (bytes source : List ℕ) (r : Result ⊤ ViewRefusal) → bytes ≡ commit_bytes c → Contains (had ++ item ∷ []) source
+      → has ≡ mid → ((s : List ℕ) → Contains (had ++ item ∷ []) s → HasItemOf mid (sha256 s))
+      → OnOk r ((change : Change) × (item_bytes change ≡ source) × Took v (record { commit = c; change = change } ∷ []) v') → OnOk r (TakesRecord v had (record { commit = bytes; item = item }) v' has)
+  takes_join v v' has c bytes source (Err e) is given same kept took = tt
+  takes_join v v' has c bytes source (Ok x) is given same kept (change, of_source, took) = record {
     taken = record { commit = c; change = change };
     bytes_are = is;
     took = took;
-    given = one_of (item_bytes change) (more (item_bytes change) gives);
-    no_more = λ x there. one_of x (more x (no_more x there));
+    given = subst (Contains (had ++ item ∷ [])) (sym of_source) given;
+    no_more = λ s there. one_of s (subst (λ l. Contains l s) same there);
+    kept = λ s there. subst (λ l. HasItemOf l (sha256 s)) (sym same) (kept s there);
   }
-
-  pub takes_known : (v v' : HoldingState) (has : List (List ℕ)) (c : Commit) (bytes : List ℕ) (r : Result ⊤ ViewRefusal) → bytes ≡ commit_bytes c → ((x : List ℕ) → Contains has x → Contains mid x)
-      → OnOk r ((change : Change) × Contains mid (item_bytes change) × Took v (record { commit = c; change = change } ∷ []) v') → OnOk r (TakesRecord v had (record { commit = bytes; item = item }) v' has)
-  takes_known v v' has c bytes (Ok x) is no_more took = takes_change v v' has c bytes is no_more took
-  takes_known v v' has c bytes (Err e) is no_more took = tt
 
 -- a record whose commit is taken
 pub takes_record : (v v' : HoldingState) (had has : List (List ℕ)) (place : ℕ) (input : List ℕ) (r : LogRecord) (rest : List ℕ) (Left : ℕ → List ℕ → Type 0)

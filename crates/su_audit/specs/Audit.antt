@@ -1,5 +1,5 @@
 -- What an audit prints of a log.
-use Rattle.std.specs.Prelude.{◌≡◌, ◌+◌, ℕ, List, [], ◌∷◌, ◌++◌, length, ⊤, Option, Some, Contains, codes}
+use Rattle.std.specs.Prelude.{◌≡◌, ◌+◌, ℕ, List, [], ◌∷◌, ◌++◌, length, map, ⊤, Option, Some, Contains, codes}
 use Rattle.std.specs.Fmt.{decimal}
 use Rattle.su_bytes.specs.Membership.{Membership}
 use Rattle.su_change.specs.Item.{item_bytes}
@@ -57,6 +57,9 @@ pub record IsLegalLog (ro : Membership) (log : List ℕ) (n : ℕ) : Type 0 wher
   pub number : n ≡ length commits
   pub begins : BeginsLegally ro log commits (length log) []
 
+abbrev pub items_of : List LogRecord → List (List ℕ)
+items_of records = map (λ (r : LogRecord). r.item) records
+
 -- user 0 holds these commits
 abbrev pub held_by_first : Membership → List Committed → HoldingState
 held_by_first ro cs = record { roster = ro; user = 0; held = cs }
@@ -68,7 +71,7 @@ pub record IsRefusedAt (ro : Membership) (log : List ℕ) (n : ℕ) (e : ViewRef
   pub rest : List ℕ
   pub number : n ≡ length commits + 1
   pub begins : BeginsLegally ro log commits place rest
-  pub why : IsRefusedNext (held_by_first ro commits) place rest e
+  pub why : IsRefusedNext (held_by_first ro commits) (items_of begins.records) place rest e
 
 -- A text is written after what was there, and the run ends so, unless something fails.
 abbrev pub Tells : Ending → List ℕ → List ℕ → Option (List ℕ) → Ending → Type 0

@@ -1,3 +1,4 @@
 pub mod Ahead
+pub mod Single
 pub mod Step
 pub mod Audit

@@ -1,9 +1,9 @@
 -- What comes of the next record of a log.
-use Rattle.std.specs.Prelude.{◌≡◌, ◌≢◌, ◌+◌, ◌⊎◌, ℕ, List, [], ◌∷◌, ◌++◌, length, true, false, ⊤, Contains}
-use Rattle.su_bytes.specs.declared.refusals.Refusal.{Refusal}
-use Rattle.su_bytes.specs.declared.refusals.Refusal.TheVariants.{Malformed, TooBig, NoMemory}
+use Rattle.std.specs.Prelude.{◌≡◌, ◌≢◌, ◌+◌, ◌⊎◌, ℕ, List, [], ◌∷◌, ◌++◌, length, false, ⊤, Contains}
+use Rattle.sha2.specs.Sha256.{sha256}
+use Rattle.su_bytes.specs.declared.refusals.Refusal.TheVariants.{Malformed, TooBig, MissingBlock, NoMemory}
 use Rattle.su_block.specs.Item.{is_item}
-use Rattle.su_block.specs.Failure.{is_failure}
+use Rattle.su_block.specs.Memory.{HasItemOf}
 use Rattle.su_change.specs.Item.{item_bytes}
 use Rattle.su_version.specs.Commit.{Commit, IsCommit, commit_bytes}
 use Rattle.su_legal.specs.Legal.{Committed}
@@ -16,28 +16,29 @@ use Rattle.su_audit.specs.declared.steps.Step.TheVariants as step
 use Rattle.su_log.specs.Part.{BeginWith}
 use Rattle.su_log.specs.Log.{LogRecord, record_bytes, HasNoPart}
 
--- Why a record is refused, for what is held: there is no memory; its item is none; its commit's
--- bytes spell none; or the commit doesn't join, or the source has no item of its change.
-abbrev pub IsRefusedRecord : HoldingState → List ℕ → List ℕ → ViewRefusal → Type 0
-IsRefusedRecord v bytes item e =
+-- Why a record is refused, for what is held and the items that came before: there is no memory; its
+-- item is none; its commit's bytes spell none; or no item so far, with its own, has the digest that
+-- the commit names; or the commit doesn't join, with the one of these that has.
+abbrev pub IsRefusedRecord : HoldingState → List (List ℕ) → List ℕ → List ℕ → ViewRefusal → Type 0
+IsRefusedRecord v had bytes item e =
     (e ≡ Plain NoMemory)
     ⊎ ((e ≡ Plain TooBig) × (is_item item ≡ false))
     ⊎ IsNoCommit bytes e
     ⊎ ((c : Commit) × IsCommit c × (bytes ≡ commit_bytes c)
-    × (((why : Refusal) × (e ≡ Plain why) × (is_failure why ≡ true))
-    ⊎ IsRefusedCommit (λ _. ⊤) v c e))
+    × (((e ≡ Plain MissingBlock) × ¬ HasItemOf (had ++ item ∷ []) c.version.change)
+    ⊎ IsRefusedCommit (Contains (had ++ item ∷ [])) v c e))
 
 -- Why what a log has next is refused, which begins at a place: no part begins there, and its place
 -- is named; or behind the first part; or the record is refused.
-abbrev pub IsRefusedNext : HoldingState → ℕ → List ℕ → ViewRefusal → Type 0
-IsRefusedNext v place input e =
+abbrev pub IsRefusedNext : HoldingState → List (List ℕ) → ℕ → List ℕ → ViewRefusal → Type 0
+IsRefusedNext v had place input e =
     ((e ≡ Plain (Malformed place)) × (input ≢ []) × HasNoPart input)
     ⊎ ((first rest : List ℕ) × BeginWith input first rest
     × (((e ≡ Plain (Malformed (place + (4 + length first)))) × HasNoPart rest)
-    ⊎ ((item others : List ℕ) × BeginWith rest item others × IsRefusedRecord v first item e)))
+    ⊎ ((item others : List ℕ) × BeginWith rest item others × IsRefusedRecord v had first item e)))
 
 -- The commit of a record is taken: with an item of its change that is this one, or one of those
--- that the view's source had; and the source has no other.
+-- that are held; of each of them one with its digest is held from then on, and no other.
 pub record TakesRecord (v : HoldingState) (had : List (List ℕ)) (r : LogRecord) (v' : HoldingState)
     (has : List (List ℕ)) : Type 0 where
   pub taken : Committed
@@ -45,6 +46,7 @@ pub record TakesRecord (v : HoldingState) (had : List (List ℕ)) (r : LogRecord
   pub took : Took v (taken ∷ []) v'
   pub given : Contains (had ++ r.item ∷ []) (item_bytes taken.change)
   pub no_more : (item : List ℕ) → Contains has item → Contains (had ++ r.item ∷ []) item
+  pub kept : (item : List ℕ) → Contains (had ++ r.item ∷ []) item → HasItemOf has (sha256 item)
 
 -- The log goes on with a record, whose commit is taken; and behind it, at a place, this is left.
 pub record Takes (place : ℕ) (v : HoldingState) (had : List (List ℕ)) (input : List ℕ)
@@ -58,5 +60,5 @@ pub record Takes (place : ℕ) (v : HoldingState) (had : List (List ℕ)) (input
 abbrev pub Steps : ℕ → HoldingState → List (List ℕ) → List ℕ → (ℕ → List ℕ → Type 0) → HoldingState → List (List ℕ) → Step → Type 0
 Steps place v had input Left v' has step.Took = Takes place v had input Left v' has
 Steps place v had input Left v' has step.Ended = input ≡ []
-Steps place v had input Left v' has (step.Refused e) = IsRefusedNext v place input e
+Steps place v had input Left v' has (step.Refused e) = IsRefusedNext v had place input e
 Steps place v had input Left v' has (step.Failed error) = ⊤

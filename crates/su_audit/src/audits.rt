@@ -5,6 +5,7 @@ ghost use Rattle.su_audit.specs.declared.audits.Ending.TheVariants.{Taken, Refus
 ghost use Rattle.su_audit.specs.Audit.{Prints, PrintsSome, Tells, taken_text, refused_text};
 
 use crate::ahead::Ahead;
+use crate::singles::Single;
 use crate::steps::{Step, next_step};
 use std::alloc::{AllocError, Global};
 use std::io::{Read, Write};
@@ -79,14 +80,14 @@ pub fn run_audit<T: Threads + Sync, R: Read + Drop, W: Write, X: Watcher>(
     let Ok(user) = User::new(0) else {
         return Ending::Failed(Fault::NoMemory);
     };
-    let blocks = MemoryBlocks::new(alloc);
-    let mut view = match View::new(alloc, roster, user, blocks) {
+    let mut items = MemoryBlocks::new(alloc);
+    let mut view = match View::new(alloc, roster, user, Single::new(alloc)) {
         Ok(view) => view,
         Err(refusal) => return Ending::Failed(Fault::NoView(refusal)),
     };
     let mut log = Ahead::new(alloc, reader);
     for number in 1..u64::MAX {
-        match next_step(rt, alloc, &mut log, &mut view) {
+        match next_step(rt, alloc, &mut log, &mut items, &mut view) {
             Step::Took => {
                 if log.is_used_up() {
                     watcher.taken(number);

@@ -5,6 +5,7 @@
 mod ahead;
 mod audits;
 mod keys;
+mod singles;
 mod steps;
 
 pub use audits::{Ending, Fault, Watcher, run_audit, tell_refused};

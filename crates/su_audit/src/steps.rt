@@ -1,14 +1,21 @@
 // One record of a log.
-ghost use Rattle.std.specs.Prelude.{◌≡◌, ℕ, List, IfErr, OnOk, OnErr};
+ghost use Rattle.std.specs.Prelude.{◌≡◌, ◌≢◌, ◌⊎◌, ℕ, List, [], ◌∷◌, Ok, IfErr, OnOk, OnErr};
 ghost use Rattle.std.specs.List.{AllByRecursion};
 ghost use Rattle.su_view.specs.declared.refusals.ViewRefusal.TheVariants.{Plain};
-ghost use Rattle.su_bytes.specs.declared.refusals.Refusal.TheVariants.{Malformed};
-ghost use Rattle.su_log.specs.Record.{IsExamined, spelled};
+ghost use Rattle.sha2.specs.Sha256.{sha256};
+ghost use Rattle.su_bytes.specs.declared.refusals.Refusal.TheVariants.{Malformed, MissingBlock, NoMemory};
+ghost use Rattle.su_op.specs.declared.operations.Change.{Change};
+ghost use Rattle.su_change.specs.Item.{item_bytes};
+ghost use Rattle.su_version.specs.Commit.{commit_bytes};
+ghost use Rattle.su_view.specs.Holding.{Took};
+ghost use Rattle.su_view.specs.Joining.{HasFailed, IsRefusedCommit};
+ghost use Rattle.su_log.specs.Record.{IsExamined, IsVerdict, spelled};
 ghost use Rattle.su_audit.specs.Ahead.{IsLeft};
 ghost use Rattle.su_audit.specs.declared.steps.Step.TheVariants as step;
 ghost use Rattle.su_audit.specs.Step.{IsRefusedRecord, TakesRecord, Steps};
 
 use crate::ahead::Ahead;
+use crate::singles::Single;
 use std::alloc::Global;
 use std::io;
 use std::io::Read;
@@ -16,6 +23,7 @@ use std::thread::Threads;
 use su_block::{BlockSource, MemoryBlocks};
 use su_bytes::Refusal;
 use su_log::{Record, Stop};
+use su_version::{Commit, Verdict};
 use su_view::{View, ViewRefusal};
 
 /// What comes of the next record of a log.
@@ -31,27 +39,29 @@ pub(crate) enum Step {
     Failed(io::Error),
 }
 
-/// Puts the item of the next record of a log into the view's source, and lets the view take its
-/// commit. `Malformed` with the place in the log of a number of bytes that is cut or goes past the
-/// end; `TooBig` where the item has none or too many bytes; `Malformed` with a place in the
-/// commit's own bytes; then the refusals of the view.
+/// Puts the item of the next record of a log among those that came before, and lets the view take
+/// its commit. `Malformed` with the place in the log of a number of bytes that is cut or goes past
+/// the end; `TooBig` where the item has none or too many bytes; `Malformed` with a place in the
+/// commit's own bytes; then the refusals of the view, of which `MissingBlock` tells that none of the
+/// items has the digest that the commit names.
 pub(crate) fn next_step<T: Threads + Sync, R: Read + Drop>(
     rt: &T,
     alloc: Global,
     log: &mut Ahead<R>,
-    view: &mut View<MemoryBlocks>,
+    items: &mut MemoryBlocks,
+    view: &mut View<Single>,
 ) -> Step
     requires { AllByRecursion IsExamined log.old.records.items }
     ensures examined { AllByRecursion IsExamined log.new.records.items }
     ensures steps { (place : ℕ) (input : List ℕ)
         → IsLeft log.old.records.items log.old.stop log.old.log.place
         (R.remaining log.old.log.reader) place input
-        → Steps place view.old.holding view.old.source.items input
+        → Steps place view.old.holding items.old.items input
         (IsLeft log.new.records.items log.new.stop log.new.log.place
-        (R.remaining log.new.log.reader)) view.new.holding view.new.source.items result }
+        (R.remaining log.new.log.reader)) view.new.holding items.new.items result }
 {
     match log.next(rt, alloc, view.roster()) {
-        Ok(next) => match take(alloc, view, next) {
+        Ok(next) => match take(alloc, items, view, next) {
             Ok(()) => Step::Took,
             Err(refusal) => Step::Refused(refusal),
         },
@@ -68,13 +78,18 @@ fn refused_at(place: u64) -> Step
     Step::Refused(ViewRefusal::Plain(Refusal::Malformed(place)))
 }
 
-/// Puts the item of a record into the view's source, and lets the view take its commit.
-fn take(alloc: Global, view: &mut View<MemoryBlocks>, next: Record) -> Result<(), ViewRefusal>
+/// Puts the item of a record among those that came before, and lets the view take its commit.
+fn take(
+    alloc: Global,
+    items: &mut MemoryBlocks,
+    view: &mut View<Single>,
+    next: Record,
+) -> Result<(), ViewRefusal>
     requires { IsExamined next }
-    ensures took { OnOk result (TakesRecord view.old.holding view.old.source.items (spelled next)
-        view.new.holding view.new.source.items) }
-    ensures refused { IfErr result
-        (IsRefusedRecord view.old.holding next.bytes.items next.item.items) }
+    ensures took { OnOk result (TakesRecord view.old.holding items.old.items (spelled next)
+        view.new.holding items.new.items) }
+    ensures refused { IfErr result (IsRefusedRecord view.old.holding items.old.items
+        next.bytes.items next.item.items) }
     ensures err { OnErr result (view.new.holding ≡ view.old.holding) }
 {
     let Record {
@@ -83,15 +98,79 @@ fn take(alloc: Global, view: &mut View<MemoryBlocks>, next: Record) -> Result<()
         commit,
         verdict,
     } = next;
-    if let Err(refusal) = view.source_mut().put(alloc, item.as_slice()) {
-        return Err(ViewRefusal::Plain(refusal));
-    }
+    let digest = match items.put(alloc, item.as_slice()) {
+        Ok(digest) => digest,
+        Err(refusal) => return Err(ViewRefusal::Plain(refusal)),
+    };
     let commit = match commit {
         Ok(commit) => commit,
         Err(refusal) => return Err(ViewRefusal::Plain(refusal)),
     };
+    let change = commit.version().change();
+    match items.get(alloc, change) {
+        Ok(found) => {
+            view.source_mut().hold(change, found);
+            join(view, commit, bytes.as_slice(), verdict)
+        }
+        // The view looks whether the commit may be the next before it asks for the item.
+        Err(Refusal::MissingBlock) => {
+            view.source_mut().hold(digest, item);
+            join(view, commit, bytes.as_slice(), verdict)
+        }
+        Err(refusal) => Err(ViewRefusal::Plain(refusal)),
+    }
+}
+
+/// Lets the view take a commit, with the item that its source has. `MissingBlock` where that has
+/// another digest than the commit names.
+fn join(
+    view: &mut View<Single>,
+    commit: Commit,
+    bytes: &[u8],
+    verdict: Option<Verdict>,
+) -> Result<(), ViewRefusal>
+    requires bytes { bytes.now ≡ commit_bytes commit }
+    requires verdict { IsVerdict (Ok commit) verdict }
+    ensures took { OnOk result ((change : Change)
+        × (item_bytes change ≡ view.old.source.item) × Took view.old.holding
+        (record { commit = commit; change = change } ∷ []) view.new.holding) }
+    ensures refused { IfErr result (λ e. (e ≡ Plain NoMemory)
+        ⊎ ((e ≡ Plain MissingBlock) × (sha256 view.old.source.item ≢ commit.version.change))
+        ⊎ IsRefusedCommit (λ item. item ≡ view.old.source.item) view.old.holding commit e) }
+    ensures err { OnErr result (view.new.holding ≡ view.old.holding) }
+{
+    let change = commit.version().change();
+    match offer(view, commit, bytes, verdict) {
+        Ok(()) => Ok(()),
+        Err(refusal) => {
+            if view.source_mut().has_lacked(change) {
+                return Err(ViewRefusal::Plain(Refusal::MissingBlock));
+            }
+            Err(refusal)
+        }
+    }
+}
+
+/// Lets the view take a commit, with what its source gives as the item.
+fn offer(
+    view: &mut View<Single>,
+    commit: Commit,
+    bytes: &[u8],
+    verdict: Option<Verdict>,
+) -> Result<(), ViewRefusal>
+    requires bytes { bytes.now ≡ commit_bytes commit }
+    requires verdict { IsVerdict (Ok commit) verdict }
+    ensures took { OnOk result ((change : Change)
+        × (item_bytes change ≡ view.old.source.item) × Took view.old.holding
+        (record { commit = commit; change = change } ∷ []) view.new.holding) }
+    ensures refused { IfErr result (λ e. (e ≡ Plain NoMemory)
+        ⊎ HasFailed view.old.source.failed view.new.source.failed commit.version.change e
+        ⊎ IsRefusedCommit (λ item. item ≡ view.old.source.item) view.old.holding commit e) }
+    ensures err { OnErr result (view.new.holding ≡ view.old.holding) }
+    ensures same { view.new.source.item ≡ view.old.source.item }
+{
     match verdict {
-        Some(verdict) => view.accept_known(commit, bytes.as_slice(), verdict),
+        Some(verdict) => view.accept_known(commit, bytes, verdict),
         None => match view.accept_own(&commit) {
             Ok(_) => Ok(()),
             Err(refusal) => Err(refusal),

@@ -11,7 +11,7 @@ loop-number-init g c =
     record {
       stands = λ input is.
           let holds : c.in-Ok-new.view.holding ≡ held_by_first c.args.roster [] = search rules in
-          none_yet c.args.roster input _ _ _ holds (ap (λ (m : Memory). m.items) (c.in-Ok-new.ensures.source ∙ c.new-blocks.ensures)) (none_ahead _ _ _ _ _ input log.records log.stop log.place (ap g.R.Read.remaining log.reader) is);
+          none_yet c.args.roster input _ _ _ holds (ap (λ (m : Memory). m.items) c.new-items.ensures) (none_ahead _ _ _ _ _ input log.records log.stop log.place (ap g.R.Read.remaining log.reader) is);
       examined = none_examined _ log.records;
       writer = refl;
     }
