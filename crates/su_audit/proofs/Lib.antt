@@ -1,3 +1,4 @@
 pub mod AheadLemmas
+mod KeyLemmas
 mod StepLemmas
 mod AuditLemmas
