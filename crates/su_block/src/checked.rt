@@ -1,5 +1,5 @@
 // What a source gives is checked.
-ghost use Rattle.std.specs.Prelude.{◌≡◌, ◌⊎◌, ◌↔◌, ℕ, List, false, IfOk, IfErr, OnErr, Err, None};
+ghost use Rattle.std.specs.Prelude.{◌≡◌, ◌⊎◌, ◌↔◌, ℕ, List, false, IfOk, IfErr, OnOk, OnErr, Err, None};
 ghost use Rattle.std.specs.Borrow.{Lends, sem};
 ghost use Rattle.su_block.specs.contracts.checked.Checked.{the_row};
 ghost use Rattle.sha2.specs.Sha256.{sha256};
@@ -52,6 +52,14 @@ impl<S: BlockSource> BlockSource for Checked<S> {
 
     ghost failed = { λ c. c.failures };
 
+    ghost follows = { λ c d. S.follows c.source d.source };
+
+    ghost puts = { λ c item d. S.puts c.source item d.source };
+
+    ghost follows_itself = { λ c. S.follows_itself c.source };
+
+    ghost follows_on = { λ a b c. S.follows_on a.source b.source c.source };
+
     fn get(&mut self, alloc: Global, digest: Digest) -> Result<Vec<u8>, Refusal>
         ensures given { IfOk result (λ item. S.may_give self.old.source item.items) }
         ensures checked { IfOk result (λ item. sha256 item.items ≡ digest) }
@@ -65,6 +73,7 @@ impl<S: BlockSource> BlockSource for Checked<S> {
             (e ≡ MissingBlock) ⊎ (e ≡ WrongBlock) ⊎ (e ≡ SourceFailed) ⊎ (e ≡ NoMemory)) }
         ensures no_more { (s : List ℕ) → S.may_give self.new.source s
             → S.may_give self.old.source s }
+        ensures follows { S.follows self.old.source self.new.source }
         ensures counted { self.new.failures ≡ failures_after result digest self.old.failures }
     {
         let item = match self.source.get(alloc, digest) {
@@ -83,6 +92,8 @@ impl<S: BlockSource> BlockSource for Checked<S> {
 
     fn put(&mut self, alloc: Global, item: &[u8]) -> Result<Digest, Refusal>
         ensures digest { IfOk result (λ digest. digest ≡ sha256 item.now) }
+        ensures puts { OnOk result (S.puts self.old.source item.now self.new.source) }
+        ensures follows { S.follows self.old.source self.new.source }
         ensures too_big { (result ≡ Err TooBig) ↔ (is_item item.now ≡ false) }
         ensures failed { IfErr result (λ e. e ≡ SourceFailed
             → S.failed self.new.source ≡ one_more (S.failed self.old.source) (sha256 item.now)) }

@@ -108,6 +108,17 @@ impl BlockSource for MemoryBlocks {
 
     ghost failed = { λ m. m.failed };
 
+    ghost use Rattle.sha2.specs.Sha256.{sha256};
+    ghost use Rattle.su_block.specs.Memory.{HasItemOf};
+
+    ghost follows = { λ a b. (s : List ℕ) → Contains a.items s → Contains b.items s };
+
+    ghost puts = { λ a item b. HasItemOf b.items (sha256 item) };
+
+    ghost follows_itself = { λ m s has. has };
+
+    ghost follows_on = { λ a b c first second s has. second s (first s has) };
+
     fn get(&mut self, alloc: Global, digest: Digest) -> Result<Vec<u8>, Refusal>
         ensures given { IfOk result (λ item. Contains self.old.items item.items) }
         ensures checked { IfOk result (λ item. sha256 item.items ≡ digest) }

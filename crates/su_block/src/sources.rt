@@ -1,5 +1,5 @@
 // What a source promises.
-ghost use Rattle.std.specs.Prelude.{◌≡◌, ◌⊎◌, ◌↔◌, ℕ, Bool, List, true, false, IfOk, IfErr, OnErr, Err};
+ghost use Rattle.std.specs.Prelude.{◌≡◌, ◌⊎◌, ◌↔◌, ℕ, Bool, List, true, false, IfOk, IfErr, OnOk, OnErr, Err};
 ghost use Rattle.sha2.specs.Sha256.{sha256};
 ghost use Rattle.su_block.specs.Item.{is_item};
 ghost use Rattle.su_block.specs.Failure.{failures_after};
@@ -22,6 +22,12 @@ pub trait BlockSource {
     // The calls so far in which it failed.
     ghost failed: { Self → Failures };
 
+    // What may have become of it by some calls, one after another.
+    ghost follows: { Self → Self → Type 0 };
+
+    // It was handed this item, and took it.
+    ghost puts: { Self → List ℕ → Self → Type 0 };
+
     /// Gets the item of a digest. `MissingBlock` where it has none, `WrongBlock` where it gave
     /// another one, `SourceFailed` where it could not be asked; `NoMemory` where there is no room
     /// for the item.
@@ -31,6 +37,7 @@ pub trait BlockSource {
         ensures refused { IfErr result (λ e.
             (e ≡ MissingBlock) ⊎ (e ≡ WrongBlock) ⊎ (e ≡ SourceFailed) ⊎ (e ≡ NoMemory)) }
         ensures no_more { (s : List ℕ) → may_give self.new s → may_give self.old s }
+        ensures follows { follows self.old self.new }
         ensures counted { failed self.new ≡ failures_after result digest (failed self.old) };
 
     /// Puts an item, and answers its digest. `TooBig` where it has not 1 to 70,000 bytes, and just
@@ -38,6 +45,8 @@ pub trait BlockSource {
     /// room for the item. Putting what is there changes nothing.
     fn put(&mut self, alloc: Global, item: &[u8]) -> Result<Digest, Refusal>
         ensures digest { IfOk result (λ digest. digest ≡ sha256 item.now) }
+        ensures puts { OnOk result (puts self.old item.now self.new) }
+        ensures follows { follows self.old self.new }
         ensures too_big { (result ≡ Err TooBig) ↔ (is_item item.now ≡ false) }
         ensures refused { IfErr result (λ e. (e ≡ TooBig) ⊎ (e ≡ SourceFailed) ⊎ (e ≡ NoMemory)) }
         // It may give the item as well from now on, and no other that it might not give before.
@@ -55,4 +64,9 @@ pub trait BlockSource {
     /// item to be put has.
     fn failed_at(&self) -> Option<Digest>
         ensures { result ≡ (failed self.now).last };
+
+    // No call is as well as some, and calls may come behind calls.
+    ghost follows_itself: { (s : Self) → follows s s };
+
+    ghost follows_on: { (a b c : Self) → follows a b → follows b c → follows a c };
 }
