@@ -8,13 +8,19 @@ use su_bytes::Digest;
 pub struct Forgetful;
 
 impl Keeper for Forgetful {
+    ghost use Rattle.std.specs.Prelude.{◌≡◌, [], false};
+
     ghost holds = { λ _ _. Unit {0} };
+
+    ghost found = { λ _ rest. rest ≡ [] };
 
     ghost is_at_end = { λ _. Unit {0} };
 
     ghost may_fail = { ⊥ };
 
-    fn keep(&mut self, _alloc: Global, _commit: &[u8]) -> Result<(), NotKept> {
+    ghost reads_back = { false };
+
+    fn keep(&mut self, _alloc: Global, _commit: &[u8], _items: &[Vec<u8>]) -> Result<(), NotKept> {
         Ok(())
     }
 

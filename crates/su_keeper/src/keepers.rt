@@ -1,6 +1,7 @@
 // What a keeper promises.
-ghost use Rattle.std.specs.Prelude.{◌≡◌, ◌∷◌, ◌++◌, List, ℕ, [], true, None, IfOk, IfSome, OnOk, OnErr};
+ghost use Rattle.std.specs.Prelude.{◌≡◌, ◌∷◌, ◌++◌, Bool, List, ℕ, [], true, None, map, option_map, IfOk, IfSome, OnOk, OnErr};
 ghost use Rattle.sha2.specs.Sha256.{sha256};
+ghost use Rattle.su_keeper.specs.Kept.{KeptRecord, LeavesFound, first_found};
 
 use std::alloc::Global;
 use su_bytes::Digest;
@@ -10,38 +11,55 @@ use su_bytes::Digest;
 #[derive(Clone, Copy, Debug, PartialEq, Eq)]
 pub struct NotKept;
 
-/// Keeps the records of a book, one after another, so that they outlast the process, with the items
-/// that they need. Those that it finds from an earlier process stand behind each other, and are kept
-/// anew one by one, before others come.
+/// Keeps the records of a book, one after another, so that they outlast the process, each with the
+/// items that it needs. Those that it finds from an earlier process stand behind each other, and are
+/// kept anew one by one, before others come.
 pub trait Keeper: Drop {
     // It keeps these records, the first of all that it keeps, whatever becomes of the process.
-    ghost holds: { Self → List (List ℕ) → Type 0 };
+    ghost holds: { Self → List KeptRecord → Type 0 };
 
-    // It keeps no others than those that were kept since the process began.
+    // Behind those that it holds it found these of an earlier process, and no others.
+    ghost found: { Self → List (List ℕ) → Type 0 };
+
+    // All that it found was kept anew.
     ghost is_at_end: { Self → Type 0 };
 
     // Whether it can fail at all is a matter of its type.
     ghost may_fail: { Type 0 };
 
-    /// Keeps one more record behind those that it holds. Where it found one there, this has to be
-    /// that one. After a failure it keeps no more.
-    fn keep(&mut self, alloc: Global, commit: &[u8]) -> Result<(), NotKept>
-        ensures kept { (records : List (List ℕ)) → holds self.old records
-            → OnOk result (holds self.new (records ++ commit.now ∷ [])) }
-        ensures held { (records : List (List ℕ)) → holds self.old records
+    // Whether records can be read back from it, so that they need no place in memory.
+    ghost reads_back: { Bool };
+
+    /// Keeps one more record behind those that it holds, with the items that it needs. Where it found
+    /// a record there, this has to be that one. After a failure it keeps no more, and this record may
+    /// be kept or not.
+    fn keep(&mut self, alloc: Global, commit: &[u8], items: &[Vec<u8>]) -> Result<(), NotKept>
+        ensures kept { (records : List KeptRecord) → holds self.old records → OnOk result (holds
+            self.new (records ++ record {
+              commit = commit.now;
+              items = map (λ item. item.items) items.now;
+            } ∷ [])) }
+        ensures held { (records : List KeptRecord) → holds self.old records
             → OnErr result (holds self.new records) }
+        ensures found { (rest : List (List ℕ)) → found self.old rest
+            → OnOk result (LeavesFound found commit.now rest self.new) }
+        ensures end { is_at_end self.old → is_at_end self.new }
         ensures failed { OnErr result may_fail };
 
     /// Reads the record that it found behind those that it holds, if there is one.
     fn next(&mut self, alloc: Global) -> Result<Option<Vec<u8>>, NotKept>
-        ensures held { (records : List (List ℕ)) → holds self.old records
+        ensures held { (records : List KeptRecord) → holds self.old records
             → holds self.new records }
-        ensures end { IfOk result (λ found. found ≡ None → is_at_end self.new) }
+        ensures found { (rest : List (List ℕ)) → found self.old rest → IfOk result (λ next.
+            (option_map (λ commit. commit.items) next ≡ first_found rest)
+            × found self.new rest) }
+        ensures end { IfOk result (λ next. next ≡ None → is_at_end self.new) }
         ensures failed { OnErr result may_fail };
 
     /// Whether records can be read back from it, so that they need no place in memory.
     fn gives_back() -> bool
-        ensures { result ≡ true → may_fail };
+        ensures is { result ≡ reads_back }
+        ensures failed { result ≡ true → may_fail };
 
     /// Reads the record of a number, from 1, of those that it holds: the commit that has this
     /// digest. `None` where it gives none back.
@@ -53,19 +71,22 @@ pub trait Keeper: Drop {
     ) -> Result<Option<Vec<u8>>, NotKept>
         ensures hashes { IfOk result (λ found. IfSome found (λ commit.
             sha256 commit.items ≡ digest)) }
-        ensures held { (records : List (List ℕ)) → holds self.old records
+        ensures held { (records : List KeptRecord) → holds self.old records
             → holds self.new records }
+        ensures end { is_at_end self.old → is_at_end self.new }
         ensures failed { OnErr result may_fail };
 
     /// Reads the item of a digest, if it keeps one.
     fn item(&mut self, alloc: Global, digest: Digest) -> Result<Option<Vec<u8>>, NotKept>
         ensures hashes { IfOk result (λ found. IfSome found (λ item. sha256 item.items ≡ digest)) }
-        ensures held { (records : List (List ℕ)) → holds self.old records
+        ensures held { (records : List KeptRecord) → holds self.old records
             → holds self.new records }
+        ensures end { is_at_end self.old → is_at_end self.new }
         ensures failed { OnErr result may_fail };
 
     /// Keeps no more from now on. The last record that was kept need not stand in the book.
     fn stop(&mut self)
-        ensures held { (records : List (List ℕ)) (last : List ℕ)
-            → holds self.old (records ++ last ∷ []) → holds self.new records };
+        ensures held { (records : List KeptRecord) (last : KeptRecord)
+            → holds self.old (records ++ last ∷ []) → holds self.new records }
+        ensures end { is_at_end self.old → is_at_end self.new };
 }
