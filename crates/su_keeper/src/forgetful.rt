@@ -16,6 +16,8 @@ impl Keeper for Forgetful {
 
     ghost is_at_end = { λ _. Unit {0} };
 
+    ghost is_clean = { λ _. Unit {0} };
+
     ghost may_fail = { ⊥ };
 
     ghost reads_back = { false };

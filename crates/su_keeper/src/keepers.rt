@@ -24,6 +24,9 @@ pub trait Keeper: Drop {
     // All that it found was kept anew.
     ghost is_at_end: { Self → Type 0 };
 
+    // No wrong answer of what it stands on was taken as true: what it found is told only so far.
+    ghost is_clean: { Self → Type 0 };
+
     // Whether it can fail at all is a matter of its type.
     ghost may_fail: { Type 0 };
 
@@ -41,19 +44,21 @@ pub trait Keeper: Drop {
             } ∷ [])) }
         ensures held { (records : List KeptRecord) → holds self.old records
             → OnErr result (holds self.new records) }
-        ensures found { (rest : List (List ℕ)) → found self.old rest
+        ensures found { (rest : List (List ℕ)) → found self.old rest → is_clean self.new
             → OnOk result (LeavesFound found commit.now rest self.new) }
         ensures end { is_at_end self.old → is_at_end self.new }
+        ensures clean { is_clean self.new → is_clean self.old }
         ensures failed { OnErr result may_fail };
 
     /// Reads the record that it found behind those that it holds, if there is one.
     fn next(&mut self, alloc: Global) -> Result<Option<Vec<u8>>, NotKept>
         ensures held { (records : List KeptRecord) → holds self.old records
             → holds self.new records }
-        ensures found { (rest : List (List ℕ)) → found self.old rest → IfOk result (λ next.
-            (option_map (λ commit. commit.items) next ≡ first_found rest)
+        ensures found { (rest : List (List ℕ)) → found self.old rest → is_clean self.new
+            → IfOk result (λ next. (option_map (λ commit. commit.items) next ≡ first_found rest)
             × found self.new rest) }
         ensures end { IfOk result (λ next. next ≡ None → is_at_end self.new) }
+        ensures clean { is_clean self.new → is_clean self.old }
         ensures failed { OnErr result may_fail };
 
     /// Whether records can be read back from it, so that they need no place in memory.
@@ -74,6 +79,7 @@ pub trait Keeper: Drop {
         ensures held { (records : List KeptRecord) → holds self.old records
             → holds self.new records }
         ensures end { is_at_end self.old → is_at_end self.new }
+        ensures clean { is_clean self.new → is_clean self.old }
         ensures failed { OnErr result may_fail };
 
     /// Reads the item of a digest, if it keeps one.
@@ -82,11 +88,13 @@ pub trait Keeper: Drop {
         ensures held { (records : List KeptRecord) → holds self.old records
             → holds self.new records }
         ensures end { is_at_end self.old → is_at_end self.new }
+        ensures clean { is_clean self.new → is_clean self.old }
         ensures failed { OnErr result may_fail };
 
     /// Keeps no more from now on. The last record that was kept need not stand in the book.
     fn stop(&mut self)
         ensures held { (records : List KeptRecord) (last : KeptRecord)
             → holds self.old (records ++ last ∷ []) → holds self.new records }
-        ensures end { is_at_end self.old → is_at_end self.new };
+        ensures end { is_at_end self.old → is_at_end self.new }
+        ensures clean { is_clean self.new → is_clean self.old };
 }
