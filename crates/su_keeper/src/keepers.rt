@@ -47,7 +47,7 @@ pub trait Keeper: Drop {
         ensures found { (rest : List (List ℕ)) → found self.old rest → is_clean self.new
             → OnOk result (LeavesFound found commit.now rest self.new) }
         ensures end { is_at_end self.old → is_at_end self.new }
-        ensures clean { is_clean self.new → is_clean self.old }
+        ensures clean { OnOk result (is_clean self.new → is_clean self.old) }
         ensures failed { OnErr result may_fail };
 
     /// Reads the record that it found behind those that it holds, if there is one.
@@ -58,7 +58,7 @@ pub trait Keeper: Drop {
             → IfOk result (λ next. (option_map (λ commit. commit.items) next ≡ first_found rest)
             × found self.new rest) }
         ensures end { IfOk result (λ next. next ≡ None → is_at_end self.new) }
-        ensures clean { is_clean self.new → is_clean self.old }
+        ensures clean { OnOk result (is_clean self.new → is_clean self.old) }
         ensures failed { OnErr result may_fail };
 
     /// Whether records can be read back from it, so that they need no place in memory.
@@ -79,7 +79,6 @@ pub trait Keeper: Drop {
         ensures held { (records : List KeptRecord) → holds self.old records
             → holds self.new records }
         ensures end { is_at_end self.old → is_at_end self.new }
-        ensures clean { is_clean self.new → is_clean self.old }
         ensures failed { OnErr result may_fail };
 
     /// Reads the item of a digest, if it keeps one.
@@ -88,13 +87,11 @@ pub trait Keeper: Drop {
         ensures held { (records : List KeptRecord) → holds self.old records
             → holds self.new records }
         ensures end { is_at_end self.old → is_at_end self.new }
-        ensures clean { is_clean self.new → is_clean self.old }
         ensures failed { OnErr result may_fail };
 
     /// Keeps no more from now on. The last record that was kept need not stand in the book.
     fn stop(&mut self)
         ensures held { (records : List KeptRecord) (last : KeptRecord)
             → holds self.old (records ++ last ∷ []) → holds self.new records }
-        ensures end { is_at_end self.old → is_at_end self.new }
-        ensures clean { is_clean self.new → is_clean self.old };
+        ensures end { is_at_end self.old → is_at_end self.new };
 }
