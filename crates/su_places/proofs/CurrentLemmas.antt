@@ -1,6 +1,6 @@
 -- What a file keeps as it is opened and read, as records are counted and appended, as a block is held,
 -- and as it is shut.
-use Rattle.std.proofs.Common.{◌≡◌, ◌≤◌, IsTrue, Result, Ok, Err, OnOk, OnErr, IfOk, IfSome, Option, None, option_map, inl, inr, ℕ, zero, suc, ◌+◌, List, [], ◌∷◌, ◌++◌, length, take, slice_get, Some, refl, sym, ap, subst, ◌∙◌, arith}
+use Rattle.std.proofs.Common.{◌≡◌, ◌≤◌, IsTrue, Result, Ok, Err, OnOk, OnErr, IfOk, IfSome, Option, None, option_map, map, inl, inr, ℕ, zero, suc, ◌+◌, List, [], ◌∷◌, ◌++◌, length, take, slice_get, Some, refl, sym, ap, subst, ◌∙◌, arith}
 use Rattle.std.proofs.Math.Logic.{∥∥₁_elim}
 use Rattle.sqlite_disk.specs.declared.Disk.{Ghosts}
 use Rattle.sqlite.specs.declared.FileStore.{FileStore}
@@ -15,9 +15,14 @@ use Rattle.su_store.specs.Tables.{Stands}
 use Rattle.su_store.specs.Changes.{Extends, HoldsBlock, Keeps, LeavesBlock}
 use Rattle.su_store.specs.Lookups.{IsRecord}
 use Rattle.su_store.specs.Files.{File, IsAtRest}
-use Rattle.su_places.specs.Places.{KeepsAll, IsShut}
-use Rattle.su_places.specs.Current.{AreSound, HoldsSound, Begins, Counts, count_of}
-use Rattle.su_places.specs.Laws.{take_whole, counts_begin}
+use Rattle.su_keeper.specs.Kept.{KeptRecord}
+use Rattle.su_vault.specs.Records.{commits_of, found_alone, found_of, kept_with, with_item}
+use Rattle.su_places.specs.Places.{StandsFor, KeepsAll, IsShut}
+use Rattle.su_places.specs.Current.{HoldsRecords, Begins, Counts, WasFound, count_of}
+use Rattle.su_places.proofs.BesideLemmas.{beside_block, beside_blocks, beside_more, beside_found, beside_with, commits_more, commits_with}
+use Rattle.std.specs.Global.{Vec}
+use Rattle.su_places.specs.Laws.{take_whole, counts_begin, starts}
+use Rattle.su_store.specs.declared.shut_files.ShutFile.{ShutFile}
 use Rattle.su_places.specs.declared.places.Place.{Place}
 use Rattle.su_places.specs.declared.places.Place.TheVariants.{Open, Shut, Unopened, Unshut, Away}
 
@@ -39,19 +44,34 @@ always_err (Ok x) p = tt
 always_err (Err e) p = p
 
 -- the tables that the two files held are shown
-pub sound_shown : (image : Image) (now : Trees) → HoldsSound image → ((db : Trees) → HoldsDatabase image db → now ≡ db) → AreSound now
-sound_shown image now was shows =
+pub records_shown : (records : List KeptRecord) (image : Image) (now : Trees) → HoldsRecords records image → ((db : Trees) → HoldsDatabase image db → now ≡ db) → StandsFor records now
+records_shown records image now was shows =
     let same : now ≡ was.db = ∥∥₁_elim was.held (Trees-set _ _) (shows was.db) in
-    subst AreSound (sym same) was.sound
+    subst (StandsFor records) (sym same) was.stands
 
 module _ {D : Type 0} (g : Ghosts D) where
   -- a file that isn't open counts what it keeps
-  pub shut_counts : (place : Place D g) (number : ℕ) (records : List (List ℕ)) → IsShut place → KeepsAll g place records → Counts g place number records
+  pub shut_counts : (place : Place D g) (number : ℕ) (records : List KeptRecord) → IsShut place → KeepsAll g place records → Counts g place number records
   shut_counts (Open f) number records shut kept = absurd shut
   shut_counts (Shut s) number records shut kept = kept
   shut_counts (Unopened left) number records shut kept = kept
   shut_counts (Unshut it) number records shut kept = kept
   shut_counts Away number records shut kept = kept
+
+  -- a file that isn't shut and was found is open
+  pub open_counts : (place : Place D g) (commits : List (List ℕ)) → ((s : ShutFile D g) → place ≡ Shut s → ⊥) → WasFound g place commits → Counts g place (count_of place) (found_of commits)
+  open_counts (Open f) commits other found = found
+  open_counts (Shut s) commits other found = absurd (other s refl)
+  open_counts (Unopened left) commits other found = absurd found
+  open_counts (Unshut it) commits other found = absurd found
+  open_counts Away commits other found = absurd found
+
+  pub open_starts : (place : Place D g) (commits : List (List ℕ)) → ((s : ShutFile D g) → place ≡ Shut s → ⊥) → WasFound g place commits → Counts g place 0 []
+  open_starts (Open f) commits other found = starts g f _ _ found
+  open_starts (Shut s) commits other found = absurd (other s refl)
+  open_starts (Unopened left) commits other found = absurd found
+  open_starts (Unshut it) commits other found = absurd found
+  open_starts Away commits other found = absurd found
 
   pub shut_none : (place : Place D g) → IsShut place → count_of place ≡ 0
   shut_none (Open f) shut = absurd shut
@@ -63,18 +83,18 @@ module _ {D : Type 0} (g : Ghosts D) where
   -- a file that shows no record
   pub starts_empty : (f : File (FileStore D g)) → (HasCleanDisk (file_state f.held) → IsAtRest over_files f) → (HasCleanDisk (file_state f.held) → Stands nothing (file_state f.held).now.trees) → (n : ℕ) → Counts g (Open f) n []
   starts_empty f rest fresh n = λ clean.
-      record { kept = nothing; stands = fresh clean; counted = (rest clean).counted nothing (fresh clean); first = take_whole [] n (omega arith); settled = (rest clean).settled }
+      record { kept = nothing; stands = fresh clean; counted = (rest clean).counted nothing (fresh clean); first = take_whole [] n (omega arith); beside = tt; settled = (rest clean).settled }
 
 module _ {D : Type 0} (g : Ghosts D) (f new : File (FileStore D g)) where
   -- a call that read the file, whether it failed or not
-  pub reads_begin : (records : List (List ℕ)) → Survives (file_state f.held) (file_state new.held) (λ _. ⊥) → Begins g (Open f) records → Begins g (Open new) records
+  pub reads_begin : (records : List KeptRecord) → Survives (file_state f.held) (file_state new.held) (λ _. ⊥) → Begins g (Open f) records → Begins g (Open new) records
   reads_begin records crash begins = λ clean db may. elim (crash.crash clean db may) [
     | inl before ↦ begins (omega (arith, clean, crash.clean)) db before
     | inr none ↦ absurd none
   ]
 
   -- a call that read it
-  reads : (number : ℕ) (records : List (List ℕ)) → Survives (file_state f.held) (file_state new.held) (λ _. ⊥) → (HasCleanDisk (file_state new.held) → (file_state new.held).now ≡ (file_state f.held).now) → new.count ≡ f.count
+  reads : (number : ℕ) (records : List KeptRecord) → Survives (file_state f.held) (file_state new.held) (λ _. ⊥) → (HasCleanDisk (file_state new.held) → (file_state new.held).now ≡ (file_state f.held).now) → new.count ≡ f.count
       → Counts g (Open f) number records → Counts g (Open new) number records
   reads number records crash same count counts = λ clean.
       let step = counts (omega (arith, clean, crash.clean)) in
@@ -84,20 +104,21 @@ module _ {D : Type 0} (g : Ghosts D) (f new : File (FileStore D g)) where
         stands = subst (Stands step.kept) (sym one) step.stands;
         counted = step.counted ∙ sym count;
         first = step.first;
+        beside = step.beside;
         settled = λ db may. elim (crash.crash clean db may) [
           | inl before ↦ step.settled db before ∙ sym one
           | inr none ↦ absurd none
         ];
       }
 
-  pub reads_or : {A E : Type 0} (r : Result A E) (number : ℕ) (records : List (List ℕ)) → Survives (file_state f.held) (file_state new.held) (λ _. ⊥) → (HasCleanDisk (file_state new.held) → OnOk r ((file_state new.held).now ≡ (file_state f.held).now))
+  pub reads_or : {A E : Type 0} (r : Result A E) (number : ℕ) (records : List KeptRecord) → Survives (file_state f.held) (file_state new.held) (λ _. ⊥) → (HasCleanDisk (file_state new.held) → OnOk r ((file_state new.held).now ≡ (file_state f.held).now))
       → new.count ≡ f.count → Counts g (Open f) number records → OnOk r (Counts g (Open new) number records)
   reads_or (Ok x) number records crash same count counts = reads number records crash same count counts
   reads_or (Err e) number records crash same count counts = tt
 
   -- the record behind those that stand in the book may be one of them
-  counts_found : (number : ℕ) (records : List (List ℕ)) (commit : List ℕ) → (HasCleanDisk (file_state new.held) → IsRecord number (Some commit) (file_state f.held).now.trees)
-      → (HasCleanDisk (file_state new.held) → (file_state new.held).now ≡ (file_state f.held).now) → Counts g (Open new) number records → Counts g (Open new) (number + 1) (records ++ commit ∷ [])
+  counts_found : (number : ℕ) (records : List KeptRecord) (commit : List ℕ) → (HasCleanDisk (file_state new.held) → IsRecord number (Some commit) (file_state f.held).now.trees)
+      → (HasCleanDisk (file_state new.held) → (file_state new.held).now ≡ (file_state f.held).now) → Counts g (Open new) number records → Counts g (Open new) (number + 1) (records ++ found_alone commit ∷ [])
   counts_found number records commit is same counts = λ clean.
       let step = counts clean in
       let there = subst (λ (d : Database). IsRecord number (Some commit) d.trees) (sym (same clean)) (is clean) in
@@ -105,30 +126,39 @@ module _ {D : Type 0} (g : Ghosts D) (f new : File (FileStore D g)) where
         kept = step.kept;
         stands = step.stands;
         counted = step.counted;
-        first = take_more step.kept.records number commit (sym (there step.kept step.stands)) ∙ ap (λ l. l ++ commit ∷ []) step.first;
+        first = take_more step.kept.records number commit (sym (there step.kept step.stands)) ∙ ap (λ l. l ++ commit ∷ []) step.first ∙ sym (commits_more records (found_alone commit));
+        beside = beside_found records step.kept.blocks commit step.beside;
         settled = step.settled;
       }
 
+  -- what was read of all that are counted
+  pub reads_at : {A E : Type 0} (bytes : A → List ℕ) (r : Result (Option A) E) (number : ℕ) (all : List KeptRecord) → (HasCleanDisk (file_state new.held) → IfOk r (λ x. IsRecord number (option_map bytes x) (file_state f.held).now.trees))
+      → (HasCleanDisk (file_state new.held) → HasCleanDisk (file_state f.held)) → HasCleanDisk (file_state new.held) → Counts g (Open f) f.count all → IfOk r (λ found. option_map bytes found ≡ slice_get (commits_of all) number)
+  reads_at bytes (Ok x) number all is was clean counts =
+      let step = counts (was clean) in
+      is clean step.kept step.stands ∙ ap (λ l. slice_get l number) (sym (take_whole step.kept.records f.count (omega (arith, step.counted))) ∙ step.first)
+  reads_at bytes (Err e) number all is was clean counts = tt
+
   pub found_or : {A E : Type 0} (bytes : A → List ℕ) (r : Result (Option A) E) (number : ℕ) → (HasCleanDisk (file_state new.held) → IfOk r (λ x. IsRecord number (option_map bytes x) (file_state f.held).now.trees))
       → (HasCleanDisk (file_state new.held) → OnOk r ((file_state new.held).now ≡ (file_state f.held).now))
-      → IfOk r (λ found. IfSome found (λ b. (records : List (List ℕ)) → Counts g (Open new) number records → Counts g (Open new) (number + 1) (records ++ bytes b ∷ [])))
+      → IfOk r (λ found. IfSome found (λ b. (records : List KeptRecord) → Counts g (Open new) number records → Counts g (Open new) (number + 1) (records ++ found_alone (bytes b) ∷ [])))
   found_or bytes (Ok None) number is same = tt
   found_or bytes (Ok (Some b)) number is same = λ records counts. counts_found number records (bytes b) is same counts
   found_or bytes (Err e) number is same = tt
 
   -- a call that held a block, whether it failed or not
-  pub holds_begin : (records : List (List ℕ)) (block : List ℕ) → Survives (file_state f.held) (file_state new.held) (LeavesBlock block (file_state f.held)) → Begins g (Open f) records → Begins g (Open new) records
+  pub holds_begin : (records : List KeptRecord) (block : List ℕ) → Survives (file_state f.held) (file_state new.held) (LeavesBlock block (file_state f.held)) → Begins g (Open f) records → Begins g (Open new) records
   holds_begin records block crash begins = λ clean db may.
       let was : HasCleanDisk (file_state f.held) = omega (arith, clean, crash.clean) in
       elim (crash.crash clean db may) [
         | inl before ↦ begins was db before
         | inr left ↦
             let shown = begins was (file_state f.held).now.trees left.shown in
-            record { kept = record shown.kept { blocks = with_block shown.kept.blocks block }; stands = left.held shown.kept shown.stands; more = shown.more; first = shown.first }
+            record { kept = record shown.kept { blocks = with_block shown.kept.blocks block }; stands = left.held shown.kept shown.stands; more = shown.more; first = shown.first; beside = beside_block records shown.kept.blocks block shown.beside }
       ]
 
   -- a call that held it
-  holds : (number : ℕ) (records : List (List ℕ)) (block : List ℕ) → (HasCleanDisk (file_state new.held) → Keeps (HoldsBlock block) (file_state f.held) (file_state new.held))
+  holds : (number : ℕ) (records : List KeptRecord) (block : List ℕ) → (HasCleanDisk (file_state new.held) → Keeps (HoldsBlock block) (file_state f.held) (file_state new.held))
       → Survives (file_state f.held) (file_state new.held) (LeavesBlock block (file_state f.held))
       → ((db : Trees) → IsTrue (file_state new.held).is_open → (file_state new.held).may_leave db → db ≡ (file_state new.held).committed.trees)
       → new.count ≡ f.count → Counts g (Open f) number records → Counts g (Open new) number records
@@ -142,10 +172,36 @@ module _ {D : Type 0} (g : Ghosts D) (f new : File (FileStore D g)) where
         stands = subst (Stands more) (sym one) (how.kept step.kept step.stands);
         counted = step.counted ∙ sym count;
         first = step.first;
+        beside = beside_block records step.kept.blocks block step.beside;
         settled = λ db may. settled db how.is_open may ∙ sym one;
       }
 
-  pub holds_or : {A E : Type 0} (r : Result A E) (number : ℕ) (records : List (List ℕ)) (block : List ℕ) → (HasCleanDisk (file_state new.held) → OnOk r (Keeps (HoldsBlock block) (file_state f.held) (file_state new.held)))
+  pub puts : (number : ℕ) (records : List KeptRecord) (block : List ℕ) → (HasCleanDisk (file_state new.held) → Keeps (HoldsBlock block) (file_state f.held) (file_state new.held))
+      → Survives (file_state f.held) (file_state new.held) (LeavesBlock block (file_state f.held))
+      → ((db : Trees) → IsTrue (file_state new.held).is_open → (file_state new.held).may_leave db → db ≡ (file_state new.held).committed.trees)
+      → new.count ≡ f.count → Counts g (Open f) number records → Counts g (Open new) number (with_item block records)
+  puts number records block keeps crash settled count counts = λ clean.
+      let step = counts (omega (arith, clean, crash.clean)) in
+      let how = keeps clean in
+      let more : Kept = record step.kept { blocks = with_block step.kept.blocks block } in
+      let one : (file_state new.held).now.trees ≡ (file_state new.held).committed.trees = ap (λ (d : Database). d.trees) how.same in
+      record {
+        kept = more;
+        stands = subst (Stands more) (sym one) (how.kept step.kept step.stands);
+        counted = step.counted ∙ sym count;
+        first = step.first ∙ sym (commits_with block records);
+        beside = beside_with block records step.kept.blocks step.beside;
+        settled = λ db may. settled db how.is_open may ∙ sym one;
+      }
+
+  pub puts_or : {A E : Type 0} (r : Result A E) (number : ℕ) (records : List KeptRecord) (block : List ℕ) → (HasCleanDisk (file_state new.held) → OnOk r (Keeps (HoldsBlock block) (file_state f.held) (file_state new.held)))
+      → Survives (file_state f.held) (file_state new.held) (LeavesBlock block (file_state f.held))
+      → ((db : Trees) → IsTrue (file_state new.held).is_open → (file_state new.held).may_leave db → db ≡ (file_state new.held).committed.trees)
+      → new.count ≡ f.count → Counts g (Open f) number records → OnOk r (Counts g (Open new) number (with_item block records))
+  puts_or (Ok x) number records block keeps crash settled count counts = puts number records block keeps crash settled count counts
+  puts_or (Err e) number records block keeps crash settled count counts = tt
+
+  pub holds_or : {A E : Type 0} (r : Result A E) (number : ℕ) (records : List KeptRecord) (block : List ℕ) → (HasCleanDisk (file_state new.held) → OnOk r (Keeps (HoldsBlock block) (file_state f.held) (file_state new.held)))
       → Survives (file_state f.held) (file_state new.held) (LeavesBlock block (file_state f.held))
       → ((db : Trees) → IsTrue (file_state new.held).is_open → (file_state new.held).may_leave db → db ≡ (file_state new.held).committed.trees)
       → new.count ≡ f.count → Counts g (Open f) number records → OnOk r (Counts g (Open new) number records)
@@ -153,36 +209,38 @@ module _ {D : Type 0} (g : Ghosts D) (f new : File (FileStore D g)) where
   holds_or (Err e) number records block keeps crash settled count counts = tt
 
   -- a call that put a record behind the others
-  pub appends : (number : ℕ) (records : List (List ℕ)) (record_ : List ℕ) (blocks : List (List ℕ)) → (HasCleanDisk (file_state new.held) → Keeps (Extends record_ blocks) (file_state f.held) (file_state new.held))
-      → Survives (file_state f.held) (file_state new.held) (Extends record_ blocks (file_state f.held).now.trees)
+  pub appends : (number : ℕ) (records : List KeptRecord) (record_ : List ℕ) (items : List (Vec ℕ)) → (HasCleanDisk (file_state new.held) → Keeps (Extends record_ (map (λ b. b.items) items)) (file_state f.held) (file_state new.held))
+      → Survives (file_state f.held) (file_state new.held) (Extends record_ (map (λ b. b.items) items) (file_state f.held).now.trees)
       → ((db : Trees) → IsTrue (file_state new.held).is_open → (file_state new.held).may_leave db → db ≡ (file_state new.held).committed.trees)
-      → new.count ≡ f.count + 1 → f.count ≤ number → Counts g (Open f) number records → Counts g (Open new) new.count (records ++ record_ ∷ [])
-  appends number records record_ blocks keeps crash settled count through counts = λ clean.
+      → new.count ≡ f.count + 1 → f.count ≤ number → Counts g (Open f) number records → Counts g (Open new) new.count (records ++ kept_with record_ items ∷ [])
+  appends number records record_ items keeps crash settled count through counts = λ clean.
+      let blocks = map (λ (b : Vec ℕ). b.items) items in
       let step = counts (omega (arith, clean, crash.clean)) in
       let how = keeps clean in
       let all : length step.kept.records ≤ number = omega (arith, step.counted, through) in
-      let own : step.kept.records ≡ records = sym (take_whole step.kept.records number all) ∙ step.first in
+      let own : step.kept.records ≡ commits_of records = sym (take_whole step.kept.records number all) ∙ step.first in
       let more = with_record step.kept record_ blocks in
       let one : (file_state new.held).now.trees ≡ (file_state new.held).committed.trees = ap (λ (d : Database). d.trees) how.same in
-      let same : more.records ≡ records ++ record_ ∷ [] = ap (λ l. l ++ record_ ∷ []) own in
+      let same : more.records ≡ commits_of (records ++ kept_with record_ items ∷ []) = ap (λ l. l ++ record_ ∷ []) own ∙ sym (commits_more records (kept_with record_ items)) in
       let long : length more.records ≡ new.count = length_more step.kept.records record_ ∙ (omega (arith, step.counted, count)) in
       record {
         kept = more;
         stands = subst (Stands more) (sym one) (how.kept step.kept step.stands);
         counted = long;
         first = take_whole more.records new.count (omega (arith, long)) ∙ same;
+        beside = beside_more records step.kept.blocks record_ items step.beside;
         settled = λ db may. settled db how.is_open may ∙ sym one;
       }
 
   -- a call that failed to
-  pub fails_to_append : (number : ℕ) (records : List (List ℕ)) (record_ : List ℕ) (blocks : List (List ℕ)) → Survives (file_state f.held) (file_state new.held) (Extends record_ blocks (file_state f.held).now.trees)
+  pub fails_to_append : (number : ℕ) (records : List KeptRecord) (record_ : List ℕ) (blocks : List (List ℕ)) → Survives (file_state f.held) (file_state new.held) (Extends record_ blocks (file_state f.held).now.trees)
       → f.count ≤ number → Counts g (Open f) number records → Begins g (Open new) records
   fails_to_append number records record_ blocks crash through counts = λ clean db may.
       let was : HasCleanDisk (file_state f.held) = omega (arith, clean, crash.clean) in
       let step = counts was in
       let all : length step.kept.records ≤ number = omega (arith, step.counted, through) in
-      let own : step.kept.records ≡ records = sym (take_whole step.kept.records number all) ∙ step.first in
+      let own : step.kept.records ≡ commits_of records = sym (take_whole step.kept.records number all) ∙ step.first in
       elim (crash.crash clean db may) [
         | inl before ↦ counts_begin g (Open f) number records counts was db before
-        | inr made ↦ record { kept = with_record step.kept record_ blocks; stands = made step.kept step.stands; more = record_ ∷ []; first = ap (λ l. l ++ record_ ∷ []) own }
+        | inr made ↦ record { kept = with_record step.kept record_ blocks; stands = made step.kept step.stands; more = record_ ∷ []; first = ap (λ l. l ++ record_ ∷ []) own; beside = beside_blocks records blocks step.kept.blocks step.beside }
       ]

@@ -1,2 +1,3 @@
+pub mod BesideLemmas
 pub mod PlaceLemmas
 pub mod CurrentLemmas

@@ -15,10 +15,12 @@ use Rattle.su_store.specs.Changes.{LeavesBlock}
 use Rattle.su_store.specs.Files.{File, IsAtRest}
 use Rattle.su_store.specs.Kept.{with_block}
 use Rattle.su_store.specs.Shut.{Rests}
+use Rattle.su_keeper.specs.Kept.{KeptRecord}
 use Rattle.su_places.specs.Places.{StandsFor, Keeps, KeepsAll}
+use Rattle.su_places.proofs.BesideLemmas.{beside_block}
 use Rattle.su_places.specs.declared.places.Place.TheVariants.{Open, Unshut}
 
-module _ {D : Type 0} (g : Ghosts D) (f : File (FileStore D g)) (records : List (List ℕ)) where
+module _ {D : Type 0} (g : Ghosts D) (f : File (FileStore D g)) (records : List KeptRecord) where
   pub read_keeps : (new : File (FileStore D g)) → Survives (file_state f.held) (file_state new.held) (λ _. ⊥) → KeepsAll g (Open f) records → KeepsAll g (Open new) records
   read_keeps new reads kept = λ clean db may. kept (omega (arith, clean, reads.clean)) db (elim (reads.crash clean db may) [
     | inl was ↦ was
@@ -32,7 +34,7 @@ module _ {D : Type 0} (g : Ghosts D) (f : File (FileStore D g)) (records : List 
         | inl before ↦ kept was db before
         | inr left ↦
             let shown = kept was (file_state f.held).now.trees left.shown in
-            record { kept = record shown.kept { blocks = with_block shown.kept.blocks block }; stands = left.held shown.kept shown.stands; same = shown.same }
+            record { kept = record shown.kept { blocks = with_block shown.kept.blocks block }; stands = left.held shown.kept shown.stands; same = shown.same; beside = beside_block records shown.kept.blocks block shown.beside }
       ]
 
   pub shut_keeps : (files : Files D) → (AreClean g files.log files.db → HasCleanDisk (file_state f.held)) → (AreClean g files.log files.db → Rests g files (file_state f.held).now.trees)

@@ -3,58 +3,58 @@ use Rattle.std.specs.Prelude.{◌≡◌, ℕ, List, [], ◌++◌, length, take}
 use Rattle.sqlite_disk.specs.declared.Disk.{Ghosts}
 use Rattle.sqlite.specs.declared.FileStore.{FileStore}
 use Rattle.sqlite.specs.Recovery.{Image}
+use Rattle.sqlite.specs.WalReads.{AreClean}
 use Rattle.sqlite.specs.Tree.{Trees}
 use Rattle.sqlite.specs.State.{State, HasCleanDisk}
 use Rattle.sqlite.specs.Files.{file_state, over_files, image_of, HoldsDatabase}
 use Rattle.su_store.specs.Kept.{Kept}
 use Rattle.su_store.specs.Tables.{Stands}
 use Rattle.su_store.specs.Files.{File, IsAtRest}
-use Rattle.su_places.specs.Places.{KeepsAll}
+use Rattle.su_keeper.specs.Kept.{KeptRecord}
+use Rattle.su_vault.specs.Records.{commits_of, found_of}
+use Rattle.su_places.specs.Places.{AreBeside, StandsFor, KeepsAll}
 use Rattle.su_places.specs.declared.places.Place.{Place}
 use Rattle.su_places.specs.declared.places.Place.TheVariants.{Open, Shut}
 
--- the tables stand for something
-pub record AreSound (db : Trees) : Type 0 where
-  pub kept : Kept
-  pub stands : Stands kept db
-
--- the two files hold tables that stand for something
-pub record HoldsSound (image : Image) : Type 0 where
+-- the two files hold tables that stand for these records
+pub record HoldsRecords (records : List KeptRecord) (image : Image) : Type 0 where
   pub db : Trees
-  pub sound : AreSound db
+  pub stands : StandsFor records db
   pub held : ∥ HoldsDatabase image db ∥₁
 
 -- the tables stand for records of which these are the first
-pub record BeginsWith (records : List (List ℕ)) (db : Trees) : Type 0 where
+pub record BeginsWith (records : List KeptRecord) (db : Trees) : Type 0 where
   pub kept : Kept
   pub stands : Stands kept db
   pub more : List (List ℕ)
-  pub first : kept.records ≡ records ++ more
+  pub first : kept.records ≡ commits_of records ++ more
+  pub beside : AreBeside records kept.blocks
 
 -- a crash leaves what the file shows
 abbrev pub IsSettled : State → Type 0
 IsSettled s = (db : Trees) → s.may_leave db → db ≡ s.now.trees
 
 -- The file shows tables that stand for as many records as it counts, and a crash leaves these. The
--- records here are the first of them, so many.
+-- records here are the first of them, so many, with the items that came with each.
 pub record IsInStep {D : Type 0} {g : Ghosts D} (f : File (FileStore D g)) (number : ℕ)
-    (records : List (List ℕ)) : Type 0 where
+    (records : List KeptRecord) : Type 0 where
   pub kept : Kept
   pub stands : Stands kept (file_state f.held).now.trees
   pub counted : length kept.records ≡ f.count
-  pub first : take number kept.records ≡ records
+  pub first : take number kept.records ≡ commits_of records
+  pub beside : AreBeside records kept.blocks
   pub settled : IsSettled (file_state f.held)
 
 -- Whatever a crash leaves of an open file begins with the records. One that isn't open keeps just
 -- these.
-abbrev pub Begins : {D : Type 0} (g : Ghosts D) → Place D g → List (List ℕ) → Type 0
+abbrev pub Begins : {D : Type 0} (g : Ghosts D) → Place D g → List KeptRecord → Type 0
 Begins g (Open f) records =
     HasCleanDisk (file_state f.held) → (db : Trees) → (file_state f.held).may_leave db
     → BeginsWith records db
 Begins g place records = KeepsAll g place records
 
 -- An open file is in step with the records. One that isn't open keeps just these.
-abbrev pub Counts : {D : Type 0} (g : Ghosts D) → Place D g → ℕ → List (List ℕ) → Type 0
+abbrev pub Counts : {D : Type 0} (g : Ghosts D) → Place D g → ℕ → List KeptRecord → Type 0
 Counts g (Open f) number records = HasCleanDisk (file_state f.held) → IsInStep f number records
 Counts g place number records = KeepsAll g place records
 
@@ -63,12 +63,18 @@ abbrev pub count_of : {D : Type 0} {g : Ghosts D} → Place D g → ℕ
 count_of (Open f) = f.count
 count_of place = 0
 
--- The file is as it was found: shut, and its two files hold tables that stand for something, or open
--- and in step with the records that it shows.
-abbrev pub IsSound : {D : Type 0} (g : Ghosts D) → Place D g → Type 0
-IsSound g (Shut s) = HoldsSound (image_of g s.files)
-IsSound g (Open f) = HasCleanDisk (file_state f.held) → IsInStep f 0 []
-IsSound g place = ⊥
+-- no wrong answer of the disk was taken as true, as far as the file was open or shut in order
+abbrev pub IsClean : {D : Type 0} (g : Ghosts D) → Place D g → Type 0
+IsClean g (Open f) = HasCleanDisk (file_state f.held)
+IsClean g (Shut s) = AreClean g s.files.log s.files.db
+IsClean g place = Unit {0}
+
+-- The file is as it was found: shut, and its two files hold tables that stand for these records, or
+-- open, and it shows and counts these.
+abbrev pub WasFound : {D : Type 0} (g : Ghosts D) → Place D g → List (List ℕ) → Type 0
+WasFound g (Shut s) commits = HoldsRecords (found_of commits) (image_of g s.files)
+WasFound g (Open f) commits = Counts g (Open f) f.count (found_of commits)
+WasFound g place commits = ⊥
 
 -- the file is open, and no call has changed it since
 abbrev pub RestsOpen : {D : Type 0} (g : Ghosts D) → Place D g → Type 0
@@ -80,7 +86,8 @@ abbrev pub RestsShut : {D : Type 0} {g : Ghosts D} → Place D g → Type 0
 RestsShut (Shut s) = Unit {0}
 RestsShut place = ⊥
 
--- the file is open, and shows tables that stand for something
-abbrev pub ShowsSound : {D : Type 0} (g : Ghosts D) → Place D g → Type 0
-ShowsSound g (Open f) = HasCleanDisk (file_state f.held) → AreSound (file_state f.held).now.trees
-ShowsSound g place = ⊥
+-- the file is open, and shows tables that stand for these records
+abbrev pub Shows : {D : Type 0} (g : Ghosts D) → Place D g → List (List ℕ) → Type 0
+Shows g (Open f) commits =
+    HasCleanDisk (file_state f.held) → StandsFor (found_of commits) (file_state f.held).now.trees
+Shows g place commits = ⊥

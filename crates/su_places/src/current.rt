@@ -1,7 +1,8 @@
 // A file of a store whose records are taken up or kept now.
-ghost use Rattle.std.specs.Prelude.{◌≡◌, ◌≤◌, ◌+◌, ◌++◌, ◌∷◌, [], None, List, ℕ, IfOk, OnOk, OnErr, IfSome};
+ghost use Rattle.std.specs.Prelude.{◌≡◌, ◌≤◌, ◌+◌, ◌++◌, ◌∷◌, [], None, List, ℕ, option_map, slice_get, IfOk, OnOk, OnErr, IfSome};
 ghost use Rattle.sha2.specs.Sha256.{sha256};
-ghost use Rattle.su_vault.specs.Records.{KeepsRecords};
+ghost use Rattle.su_keeper.specs.Kept.{KeptRecord};
+ghost use Rattle.su_vault.specs.Records.{KeepsRecords, kept_with, found_alone, commits_of, with_item};
 
 use crate::places::Place;
 use sqlite_disk::Disk;
@@ -10,7 +11,7 @@ use su_store::FileFault;
 
 impl<D: Disk + Drop> Place<D> {
     ghost use Rattle.su_places.specs.Places.{KeepsAll};
-    ghost use Rattle.su_places.specs.Current.{Begins, Counts, count_of};
+    ghost use Rattle.su_places.specs.Current.{Begins, Counts, IsClean, count_of};
 
     /// How many records the file shows, if it is open.
     pub(crate) fn len(&self) -> u32
@@ -26,11 +27,15 @@ impl<D: Disk + Drop> Place<D> {
     pub(crate) fn record(&mut self, number: u32) -> Result<Option<Vec<u8>>, FileFault>
         ensures kept { KeepsRecords (KeepsAll D.Disk) self.old self.new }
         ensures begun { KeepsRecords (Begins D.Disk) self.old self.new }
-        ensures counted { (n : ℕ) (records : List (List ℕ)) → Counts D.Disk self.old n records
+        ensures counted { (n : ℕ) (records : List KeptRecord) → Counts D.Disk self.old n records
             → OnOk result (Counts D.Disk self.new n records) }
-        ensures found { IfOk result (λ found. IfSome found (λ b. (records : List (List ℕ))
+        ensures found { IfOk result (λ found. IfSome found (λ b. (records : List KeptRecord)
             → Counts D.Disk self.new number records
-            → Counts D.Disk self.new (number + 1) (records ++ b.items ∷ []))) }
+            → Counts D.Disk self.new (number + 1) (records ++ found_alone b.items ∷ []))) }
+        ensures at { (all : List KeptRecord) → Counts D.Disk self.old (count_of self.old) all
+            → IsClean D.Disk self.new → IfOk result (λ found.
+            option_map (λ b. b.items) found ≡ slice_get (commits_of all) number) }
+        ensures clean { OnOk result (IsClean D.Disk self.new → IsClean D.Disk self.old) }
         ensures end { IfOk result (λ found. found ≡ None → count_of self.new ≤ number) }
         ensures same { count_of self.new ≡ count_of self.old }
     {
@@ -43,12 +48,15 @@ impl<D: Disk + Drop> Place<D> {
     /// Puts a record behind the others, with the blocks that it needs. `Full` at the most records of
     /// a file, and `Spent` where the file isn't open.
     pub(crate) fn append(&mut self, commit: &[u8], blocks: &[Vec<u8>]) -> Result<(), FileFault>
-        ensures appended { (n : ℕ) (records : List (List ℕ)) → count_of self.old ≤ n
+        ensures appended { (n : ℕ) (records : List KeptRecord) → count_of self.old ≤ n
             → Counts D.Disk self.old n records → OnOk result
-            (Counts D.Disk self.new (count_of self.new) (records ++ commit.now ∷ [])) }
-        ensures begun { (n : ℕ) (records : List (List ℕ)) → count_of self.old ≤ n
+            (Counts D.Disk self.new (count_of self.new)
+            (records ++ kept_with commit.now blocks.now ∷ [])) }
+        ensures begun { (n : ℕ) (records : List KeptRecord) → count_of self.old ≤ n
             → Counts D.Disk self.old n records
             → OnErr result (Begins D.Disk self.new records) }
+        ensures clean { OnOk result (IsClean D.Disk self.new → IsClean D.Disk self.old) }
+        ensures fewer { OnErr result (count_of self.new ≤ count_of self.old) }
     {
         match self {
             Place::Open(file) => {
@@ -64,8 +72,10 @@ impl<D: Disk + Drop> Place<D> {
         ensures hashes { IfOk result (λ found. IfSome found (λ b. sha256 b.items ≡ digest)) }
         ensures kept { KeepsRecords (KeepsAll D.Disk) self.old self.new }
         ensures begun { KeepsRecords (Begins D.Disk) self.old self.new }
-        ensures counted { (n : ℕ) (records : List (List ℕ)) → Counts D.Disk self.old n records
+        ensures counted { (n : ℕ) (records : List KeptRecord) → Counts D.Disk self.old n records
             → OnOk result (Counts D.Disk self.new n records) }
+        ensures clean { OnOk result (IsClean D.Disk self.new → IsClean D.Disk self.old) }
+        ensures same { count_of self.new ≡ count_of self.old }
     {
         match self {
             Place::Open(file) => file.block(digest),
@@ -77,8 +87,11 @@ impl<D: Disk + Drop> Place<D> {
     pub(crate) fn put_item(&mut self, item: &[u8]) -> Result<(), FileFault>
         ensures kept { KeepsRecords (KeepsAll D.Disk) self.old self.new }
         ensures begun { KeepsRecords (Begins D.Disk) self.old self.new }
-        ensures counted { (n : ℕ) (records : List (List ℕ)) → Counts D.Disk self.old n records
+        ensures counted { (n : ℕ) (records : List KeptRecord) → Counts D.Disk self.old n records
             → OnOk result (Counts D.Disk self.new n records) }
+        ensures put { (n : ℕ) (records : List KeptRecord) → Counts D.Disk self.old n records
+            → OnOk result (Counts D.Disk self.new n (with_item item.now records)) }
+        ensures same { count_of self.new ≡ count_of self.old }
     {
         match self {
             Place::Open(file) => file.hold_block(item),

@@ -1,6 +1,7 @@
 // A file of a store, which is read into memory only while it is open.
 ghost use Rattle.std.specs.Prelude.{[], List, ℕ, IfOk, IfErr, OnOk};
-ghost use Rattle.su_vault.specs.Records.{KeepsRecords};
+ghost use Rattle.su_keeper.specs.Kept.{KeptRecord};
+ghost use Rattle.su_vault.specs.Records.{KeepsRecords, found_of};
 
 use sqlite::{FileStore, Leftover, Options};
 use sqlite_disk::Disk;
@@ -37,11 +38,12 @@ impl<D: Disk + Drop> Drop for Place<D> {
 
 impl<D: Disk + Drop> Place<D> {
     ghost use Rattle.su_places.specs.Places.{KeepsAll, IsShut};
-    ghost use Rattle.su_places.specs.Current.{Counts, IsSound};
+    ghost use Rattle.su_places.specs.Current.{Counts, IsClean, WasFound, count_of};
 
     /// Shuts the file, if it is open.
     pub(crate) fn shut(&mut self) -> Result<(), FileFault>
         ensures kept { KeepsRecords (KeepsAll D.Disk) self.old self.new }
+        ensures clean { OnOk result (IsClean D.Disk self.new → IsClean D.Disk self.old) }
         ensures shut { IsShut self.new }
     {
         match mem::replace(self, Place::Away).into_shut() {
@@ -59,7 +61,11 @@ impl<D: Disk + Drop> Place<D> {
     /// Opens the file, if it is shut.
     pub(crate) fn open(&mut self, alloc: Global, options: Options) -> Result<(), FileFault>
         ensures kept { KeepsRecords (KeepsAll D.Disk) self.old self.new }
-        ensures anew { OnOk result (IsSound D.Disk self.old → Counts D.Disk self.new 0 []) }
+        ensures anew { OnOk result ((commits : List (List ℕ)) → WasFound D.Disk self.old commits
+            → Counts D.Disk self.new 0 []) }
+        ensures found { OnOk result ((commits : List (List ℕ)) → WasFound D.Disk self.old commits
+            → Counts D.Disk self.new (count_of self.new) (found_of commits)) }
+        ensures clean { OnOk result (IsClean D.Disk self.new → IsClean D.Disk self.old) }
     {
         match mem::replace(self, Place::Away).into_open(alloc, options) {
             Ok(place) => {
@@ -74,11 +80,12 @@ impl<D: Disk + Drop> Place<D> {
     }
 
     fn into_shut(self) -> Result<Place<D>, (FileFault, Place<D>)>
-        ensures kept { IfOk result (λ place. (records : List (List ℕ))
+        ensures kept { IfOk result (λ place. (records : List KeptRecord)
             → KeepsAll D.Disk self records → KeepsAll D.Disk place records) }
+        ensures clean { IfOk result (λ place. IsClean D.Disk place → IsClean D.Disk self) }
         ensures shut { IfOk result IsShut }
         ensures lost { IfErr result (λ e. IsShut e.1) }
-        ensures held { IfErr result (λ e. (records : List (List ℕ))
+        ensures held { IfErr result (λ e. (records : List KeptRecord)
             → KeepsAll D.Disk self records → KeepsAll D.Disk e.1 records) }
     {
         match self {
@@ -91,10 +98,15 @@ impl<D: Disk + Drop> Place<D> {
     }
 
     fn into_open(self, alloc: Global, options: Options) -> Result<Place<D>, (FileFault, Place<D>)>
-        ensures kept { IfOk result (λ place. (records : List (List ℕ))
+        ensures kept { IfOk result (λ place. (records : List KeptRecord)
             → KeepsAll D.Disk self records → KeepsAll D.Disk place records) }
-        ensures anew { IfOk result (λ place. IsSound D.Disk self → Counts D.Disk place 0 []) }
-        ensures held { IfErr result (λ e. (records : List (List ℕ))
+        ensures anew { IfOk result (λ place. (commits : List (List ℕ))
+            → WasFound D.Disk self commits → Counts D.Disk place 0 []) }
+        ensures found { IfOk result (λ place. (commits : List (List ℕ))
+            → WasFound D.Disk self commits
+            → Counts D.Disk place (count_of place) (found_of commits)) }
+        ensures clean { IfOk result (λ place. IsClean D.Disk place → IsClean D.Disk self) }
+        ensures held { IfErr result (λ e. (records : List KeptRecord)
             → KeepsAll D.Disk self records → KeepsAll D.Disk e.1 records) }
     {
         match self {

@@ -1,11 +1,12 @@
 // A file of a store as a volume.
-ghost use Rattle.std.specs.Prelude.{ℕ, []};
+ghost use Rattle.std.specs.Prelude.{ℕ, List, []};
 ghost use Rattle.sqlite.specs.State.{HasCleanDisk};
 ghost use Rattle.sqlite.specs.Files.{file_state, over_files, image_of};
 ghost use Rattle.su_store.specs.Kept.{nothing};
 ghost use Rattle.su_store.specs.Tables.{Stands};
 ghost use Rattle.su_store.specs.Files.{IsAtRest};
-ghost use Rattle.su_places.specs.Current.{HoldsSound, Counts, IsSound, RestsOpen, RestsShut};
+ghost use Rattle.su_vault.specs.Records.{found_of};
+ghost use Rattle.su_places.specs.Current.{HoldsRecords, Counts, WasFound, RestsOpen, RestsShut};
 
 use crate::places::Place;
 use sqlite::{FileStore, Options};
@@ -40,8 +41,9 @@ impl<D: Disk + Drop> StoreVolume<D> {
     /// Takes over a file that is shut.
     pub fn over_shut(file: ShutFile<D>, options: Options) -> StoreVolume<D>
         ensures rest { RestsShut result.place }
-        ensures sound { HoldsSound (image_of D.Disk file.files)
-            → IsSound D.Disk result.place }
+        ensures found { (commits : List (List ℕ))
+            → HoldsRecords (found_of commits) (image_of D.Disk file.files)
+            → WasFound D.Disk result.place commits }
     {
         StoreVolume {
             place: Place::Shut(file),
@@ -52,7 +54,7 @@ impl<D: Disk + Drop> StoreVolume<D> {
 
 impl<D: Disk + Drop> Volume for StoreVolume<D> {
     ghost use Rattle.su_places.specs.Places.{KeepsAll};
-    ghost use Rattle.su_places.specs.Current.{Begins, Counts, IsSound, count_of};
+    ghost use Rattle.su_places.specs.Current.{Begins, Counts, IsClean, WasFound, count_of};
     ghost use Rattle.su_places.specs.Laws.{counts_begin, counts_all};
 
     ghost keeps = { λ f. KeepsAll D.Disk f.place };
@@ -63,7 +65,9 @@ impl<D: Disk + Drop> Volume for StoreVolume<D> {
 
     ghost count = { λ f. count_of f.place };
 
-    ghost is_sound = { λ f. IsSound D.Disk f.place };
+    ghost was_found = { λ f. WasFound D.Disk f.place };
+
+    ghost is_clean = { λ f. IsClean D.Disk f.place };
 
     type Fault = FileFault;
 

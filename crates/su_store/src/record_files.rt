@@ -1,5 +1,5 @@
 // One file of records and blocks.
-ghost use Rattle.std.specs.Prelude.{◌≡◌, ◌+◌, ◌≤◌, None, false, IsTrue, IfOk, IfErr, OnOk, IfSome, map, option_map};
+ghost use Rattle.std.specs.Prelude.{◌≡◌, ◌+◌, ◌≤◌, None, false, IsTrue, IfOk, IfErr, OnOk, OnErr, IfSome, map, option_map};
 ghost use Rattle.sha2.specs.Sha256.{sha256};
 ghost use Rattle.sqlite.specs.State.{HasCleanDisk, Survives};
 ghost use Rattle.sqlite.specs.Held.{state};
@@ -206,6 +206,7 @@ impl<S: Alter> RecordFile<S> {
             (state S.Store self.old.held).now.trees) }
         ensures number { IfOk result (λ number. number ≡ self.old.count) }
         ensures count { OnOk result (self.new.count ≡ self.old.count + 1) }
+        ensures same { OnErr result (self.new.count ≡ self.old.count) }
         ensures unspent { OnOk result (self.new.is_spent ≡ false) }
     {
         if self.is_spent {

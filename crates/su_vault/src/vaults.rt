@@ -1,7 +1,8 @@
 // What files that keep records promise.
-ghost use Rattle.std.specs.Prelude.{◌≡◌, List, ℕ, Bool, true, false, None, IfOk, IfSome, OnOk, OnErr};
+ghost use Rattle.std.specs.Prelude.{◌≡◌, List, ℕ, Bool, true, false, None, option_map, IfOk, IfSome, OnOk, OnErr};
 ghost use Rattle.sha2.specs.Sha256.{sha256};
-ghost use Rattle.su_vault.specs.Records.{KeepsRecords, AddsRecord, LeavesLast};
+ghost use Rattle.su_keeper.specs.Kept.{KeptRecord};
+ghost use Rattle.su_vault.specs.Records.{KeepsRecords, AddsRecord, LeavesLast, KeepsFound, FindsNext, TakesFound, kept_with, found_alone};
 
 use std::alloc::{AllocError, Global};
 use su_bytes::Digest;
@@ -11,7 +12,13 @@ use su_bytes::Digest;
 /// call has failed no more are kept.
 pub trait Vault: Drop {
     // The files keep these records, the first of all that they keep, whatever becomes of the process.
-    ghost holds: { Self → List (List ℕ) → Type 0 };
+    ghost holds: { Self → List KeptRecord → Type 0 };
+
+    // These are the records that they were found with and that don't stand in the book yet.
+    ghost finds: { Self → List (List ℕ) → Type 0 };
+
+    // No wrong answer of what they stand on was taken as true.
+    ghost is_clean: { Self → Type 0 };
 
     // All records of all files stand in the book.
     ghost is_at_end: { Self → Type 0 };
@@ -39,6 +46,7 @@ pub trait Vault: Drop {
     fn halt(&mut self)
         ensures held { KeepsRecords holds self.old self.new }
         ensures last { LeavesLast holds self.old self.new }
+        ensures end { is_at_end self.old → is_at_end self.new }
         ensures stopped { is_stopped self.new ≡ true };
 
     /// Whether a record of the current file doesn't stand in the book yet.
@@ -50,7 +58,9 @@ pub trait Vault: Drop {
     fn take_up(&mut self, alloc: Global) -> Result<(), Self::Fault>
         requires running { is_stopped self.old ≡ false }
         ensures held { KeepsRecords holds self.old self.new }
+        ensures found { OnOk result (KeepsFound is_clean finds self.old self.new) }
         ensures running { OnOk result (is_stopped self.new ≡ false) }
+        ensures end { is_at_end self.old → is_at_end self.new }
         ensures taken_up { OnOk result (is_taken_up self.new) };
 
     /// Reads the first record that doesn't stand in the book, and takes up the next file for it.
@@ -58,15 +68,22 @@ pub trait Vault: Drop {
     fn next(&mut self, alloc: Global) -> Result<Option<Vec<u8>>, Self::Fault>
         requires running { is_stopped self.old ≡ false }
         ensures held { KeepsRecords holds self.old self.new }
-        ensures end { IfOk result (λ found. found ≡ None → is_at_end self.new) }
+        ensures found { IfOk result (λ next. FindsNext is_clean finds self.old
+            (option_map (λ commit. commit.items) next) self.new) }
+        ensures end { IfOk result (λ next. next ≡ None → is_at_end self.new) }
         ensures running { OnOk result (is_stopped self.new ≡ false) };
 
     /// Takes the next record of the current file for one that stands in the book. Fails where it
     /// isn't this one.
     fn keep_found(&mut self, commit: &[u8]) -> Result<(), Self::Fault>
         requires running { is_stopped self.old ≡ false }
-        ensures kept { OnOk result (AddsRecord holds self.old self.new commit.now) }
-        ensures held { OnErr result (KeepsRecords holds self.old self.new) };
+        ensures kept { OnOk result
+            (AddsRecord holds self.old self.new (found_alone commit.now)) }
+        ensures held { OnErr result (KeepsRecords holds self.old self.new) }
+        ensures found { OnOk result
+            (TakesFound is_clean finds self.old commit.now self.new) }
+        ensures running { OnOk result (is_stopped self.new ≡ false) }
+        ensures end { is_at_end self.old → is_at_end self.new };
 
     /// Goes on with a new file. Fails where none can be made, and where one of its number keeps
     /// something.
@@ -74,16 +91,21 @@ pub trait Vault: Drop {
         requires running { is_stopped self.old ≡ false }
         requires end { is_at_end self.old }
         ensures held { KeepsRecords holds self.old self.new }
+        ensures found { OnOk result (KeepsFound is_clean finds self.old self.new) }
         ensures running { OnOk result (is_stopped self.new ≡ false) }
-        ensures end { OnOk result (is_at_end self.new) };
+        ensures end { is_at_end self.new };
 
     /// Puts a record behind those of the last file, with the items that it needs. Fails where the
     /// file is full, and where they aren't kept.
     fn append(&mut self, commit: &[u8], items: &[Vec<u8>]) -> Result<(), Self::Fault>
         requires running { is_stopped self.old ≡ false }
         requires end { is_at_end self.old }
-        ensures kept { OnOk result (AddsRecord holds self.old self.new commit.now) }
-        ensures held { OnErr result (KeepsRecords holds self.old self.new) };
+        ensures kept { OnOk result
+            (AddsRecord holds self.old self.new (kept_with commit.now items.now)) }
+        ensures held { OnErr result (KeepsRecords holds self.old self.new) }
+        ensures found { OnOk result
+            (TakesFound is_clean finds self.old commit.now self.new) }
+        ensures end { is_at_end self.new };
 
     /// Reads the item of a digest from the file of a number, counted from 0. `None` where the file
     /// hasn't got it, or is a later one. Fails where the file isn't read, and where the item has
@@ -97,6 +119,8 @@ pub trait Vault: Drop {
         requires running { is_stopped self.old ≡ false }
         ensures hashes { IfOk result (λ found. IfSome found (λ b. sha256 b.items ≡ digest)) }
         ensures held { KeepsRecords holds self.old self.new }
+        ensures found { OnOk result (KeepsFound is_clean finds self.old self.new) }
+        ensures end { is_at_end self.old → is_at_end self.new }
         ensures running { OnOk result (is_stopped self.new ≡ false) };
 
     /// Keeps an item by itself in the file of a number, counted from 0, unless that one keeps it
@@ -105,6 +129,7 @@ pub trait Vault: Drop {
     fn put_item(&mut self, alloc: Global, number: usize, item: &[u8]) -> Result<bool, Self::Fault>
         requires running { is_stopped self.old ≡ false }
         ensures held { KeepsRecords holds self.old self.new }
+        ensures end { is_at_end self.old → is_at_end self.new }
         ensures running { OnOk result (is_stopped self.new ≡ false) };
 
     /// Reads the record of an index and a digest from the file of a number, both counted from 0.
@@ -120,6 +145,7 @@ pub trait Vault: Drop {
         requires running { is_stopped self.old ≡ false }
         ensures hashes { IfOk result (λ found. IfSome found (λ b. sha256 b.items ≡ digest)) }
         ensures held { KeepsRecords holds self.old self.new }
+        ensures end { is_at_end self.old → is_at_end self.new }
         ensures running { OnOk result (is_stopped self.new ≡ false) };
 
     /// Reads the record of an index from the file of a number, both counted from 0, whatever its
@@ -133,6 +159,7 @@ pub trait Vault: Drop {
     ) -> Result<Option<Vec<u8>>, Self::Fault>
         requires running { is_stopped self.old ≡ false }
         ensures held { KeepsRecords holds self.old self.new }
+        ensures end { is_at_end self.old → is_at_end self.new }
         ensures running { OnOk result (is_stopped self.new ≡ false) };
 
     /// Shuts all files, and gives them up. Fails at the first one that isn't shut; the others are left

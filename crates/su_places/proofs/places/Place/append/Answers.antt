@@ -8,7 +8,7 @@ pub returns-in_ok-append-in-Open-clause-appended : goal.returns-in_ok-append-in-
 returns-in_ok-append-in-Open-clause-appended g c number records within counts =
     let was = subst (λ p. Counts g.D.Disk p number records) c.in-Open.is counts in
     let through = subst (λ p. count_of p ≤ number) c.in-Open.is within in
-    appends g.D.Disk c.in-Open.file c.append.new.self number records c.args.commit.now (map (λ b. b.items) c.args.blocks.now) c.in_ok-append-in-Open.ensures.kept c.append.ensures.crash
+    appends g.D.Disk c.in-Open.file c.append.new.self number records c.args.commit.now c.args.blocks.now c.in_ok-append-in-Open.ensures.kept c.append.ensures.crash
     (λ db is_open may. settled_at c.append.new.self.held.store g.met.D.Disk.seen_may_stay db is_open may) c.in_ok-append-in-Open.ensures.count through was
 
 pub returns-in_err-append-in-Open-clause-begun : goal.returns-in_err-append-in-Open-clause-begun

@@ -3,7 +3,7 @@ use Rattle.sqlite_store.specs.Laws.{settled_at}
 use Rattle.su_places.specs.Places.{KeepsAll}
 use Rattle.su_places.specs.Current.{Begins, Counts}
 use Rattle.su_places.proofs.PlaceLemmas.{hold_keeps}
-use Rattle.su_places.proofs.CurrentLemmas.{holds_begin, holds_or}
+use Rattle.su_places.proofs.CurrentLemmas.{holds_begin, holds_or, puts_or}
 use Rattle.su_places.proofs.places.Place.put_item.Goals as goal
 
 pub returns-in-Open-clause-kept : goal.returns-in-Open-clause-kept
@@ -20,4 +20,10 @@ pub returns-in-Open-clause-counted : goal.returns-in-Open-clause-counted
 returns-in-Open-clause-counted g c number records counts =
     let how = c.hold_block.ensures in
     holds_or g.D.Disk c.in-Open.file c.hold_block.new.self _ number records c.args.item.now how.kept how.crash
+    (λ db is_open may. settled_at c.hold_block.new.self.held.store g.met.D.Disk.seen_may_stay db is_open may) how.count (subst (λ p. Counts g.D.Disk p number records) c.in-Open.is counts)
+
+pub returns-in-Open-clause-put : goal.returns-in-Open-clause-put
+returns-in-Open-clause-put g c number records counts =
+    let how = c.hold_block.ensures in
+    puts_or g.D.Disk c.in-Open.file c.hold_block.new.self _ number records c.args.item.now how.kept how.crash
     (λ db is_open may. settled_at c.hold_block.new.self.held.store g.met.D.Disk.seen_may_stay db is_open may) how.count (subst (λ p. Counts g.D.Disk p number records) c.in-Open.is counts)
