@@ -8,7 +8,7 @@ use Rattle.std.proofs.lemmas.Slice.Eq.{bytes_eq-Decides}
 use Rattle.std.specs.Global.{Vec}
 use Rattle.sha2.specs.Sha256.{sha256}
 use Rattle.su_keeper.specs.Kept.{KeptRecord}
-use Rattle.su_vault.specs.Records.{commits_of, found_alone, found_of, kept_with, with_item}
+use Rattle.su_vault.specs.Records.{commits_of, found_alone, kept_with, with_item}
 use Rattle.su_store.specs.Kept.{has_block, lies_under, with_block, with_blocks}
 use Rattle.su_places.specs.Places.{AreBeside}
 

@@ -16,12 +16,12 @@ use Rattle.su_store.specs.Changes.{Extends, HoldsBlock, Keeps, LeavesBlock}
 use Rattle.su_store.specs.Lookups.{IsRecord}
 use Rattle.su_store.specs.Files.{File, IsAtRest}
 use Rattle.su_keeper.specs.Kept.{KeptRecord}
-use Rattle.su_vault.specs.Records.{commits_of, found_alone, found_of, kept_with, with_item}
-use Rattle.su_places.specs.Places.{StandsFor, KeepsAll, IsShut}
-use Rattle.su_places.specs.Current.{HoldsRecords, Begins, Counts, WasFound, count_of}
+use Rattle.su_vault.specs.Records.{commits_of, found_alone, kept_with, with_item}
+use Rattle.su_places.specs.Places.{KeepsAll, IsShut}
+use Rattle.su_places.specs.Current.{HasRecords, HoldsRecords, Begins, Counts, Shows, WasFound, count_of}
 use Rattle.su_places.proofs.BesideLemmas.{beside_block, beside_blocks, beside_more, beside_found, beside_with, commits_more, commits_with}
 use Rattle.std.specs.Global.{Vec}
-use Rattle.su_places.specs.Laws.{take_whole, counts_begin, starts}
+use Rattle.su_places.specs.Laws.{take_whole, counts_begin, tables_shown}
 use Rattle.su_store.specs.declared.shut_files.ShutFile.{ShutFile}
 use Rattle.su_places.specs.declared.places.Place.{Place}
 use Rattle.su_places.specs.declared.places.Place.TheVariants.{Open, Shut, Unopened, Unshut, Away}
@@ -44,10 +44,10 @@ always_err (Ok x) p = tt
 always_err (Err e) p = p
 
 -- the tables that the two files held are shown
-pub records_shown : (records : List KeptRecord) (image : Image) (now : Trees) → HoldsRecords records image → ((db : Trees) → HoldsDatabase image db → now ≡ db) → StandsFor records now
-records_shown records image now was shows =
+pub records_shown : (commits : List (List ℕ)) (image : Image) (now : Trees) → HoldsRecords commits image → ((db : Trees) → HoldsDatabase image db → now ≡ db) → HasRecords commits now
+records_shown commits image now was shows =
     let same : now ≡ was.db = ∥∥₁_elim was.held (Trees-set _ _) (shows was.db) in
-    subst (StandsFor records) (sym same) was.stands
+    subst (HasRecords commits) (sym same) was.has
 
 module _ {D : Type 0} (g : Ghosts D) where
   -- a file that isn't open counts what it keeps
@@ -58,20 +58,13 @@ module _ {D : Type 0} (g : Ghosts D) where
   shut_counts (Unshut it) number records shut kept = kept
   shut_counts Away number records shut kept = kept
 
-  -- a file that isn't shut and was found is open
-  pub open_counts : (place : Place D g) (commits : List (List ℕ)) → ((s : ShutFile D g) → place ≡ Shut s → ⊥) → WasFound g place commits → Counts g place (count_of place) (found_of commits)
-  open_counts (Open f) commits other found = found
-  open_counts (Shut s) commits other found = absurd (other s refl)
-  open_counts (Unopened left) commits other found = absurd found
-  open_counts (Unshut it) commits other found = absurd found
-  open_counts Away commits other found = absurd found
-
-  pub open_starts : (place : Place D g) (commits : List (List ℕ)) → ((s : ShutFile D g) → place ≡ Shut s → ⊥) → WasFound g place commits → Counts g place 0 []
-  open_starts (Open f) commits other found = starts g f _ _ found
-  open_starts (Shut s) commits other found = absurd (other s refl)
-  open_starts (Unopened left) commits other found = absurd found
-  open_starts (Unshut it) commits other found = absurd found
-  open_starts Away commits other found = absurd found
+  -- a file that isn't shut and was found shows its records
+  pub open_shows : (place : Place D g) (commits : List (List ℕ)) → ((s : ShutFile D g) → place ≡ Shut s → ⊥) → WasFound g place commits → Shows g place commits
+  open_shows (Open f) commits other found = found
+  open_shows (Shut s) commits other found = absurd (other s refl)
+  open_shows (Unopened left) commits other found = absurd found
+  open_shows (Unshut it) commits other found = absurd found
+  open_shows Away commits other found = absurd found
 
   pub shut_none : (place : Place D g) → IsShut place → count_of place ≡ 0
   shut_none (Open f) shut = absurd shut
@@ -81,6 +74,9 @@ module _ {D : Type 0} (g : Ghosts D) where
   shut_none Away shut = refl
 
   -- a file that shows no record
+  pub shows_none : (f : File (FileStore D g)) → (HasCleanDisk (file_state f.held) → IsAtRest over_files f) → (HasCleanDisk (file_state f.held) → Stands nothing (file_state f.held).now.trees) → Shows g (Open f) []
+  shows_none f rest fresh = tables_shown g f [] rest (λ clean. record { kept = nothing; stands = fresh clean; same = refl })
+
   pub starts_empty : (f : File (FileStore D g)) → (HasCleanDisk (file_state f.held) → IsAtRest over_files f) → (HasCleanDisk (file_state f.held) → Stands nothing (file_state f.held).now.trees) → (n : ℕ) → Counts g (Open f) n []
   starts_empty f rest fresh n = λ clean.
       record { kept = nothing; stands = fresh clean; counted = (rest clean).counted nothing (fresh clean); first = take_whole [] n (omega arith); beside = tt; settled = (rest clean).settled }
@@ -131,13 +127,48 @@ module _ {D : Type 0} (g : Ghosts D) (f new : File (FileStore D g)) where
         settled = step.settled;
       }
 
-  -- what was read of all that are counted
-  pub reads_at : {A E : Type 0} (bytes : A → List ℕ) (r : Result (Option A) E) (number : ℕ) (all : List KeptRecord) → (HasCleanDisk (file_state new.held) → IfOk r (λ x. IsRecord number (option_map bytes x) (file_state f.held).now.trees))
-      → (HasCleanDisk (file_state new.held) → HasCleanDisk (file_state f.held)) → HasCleanDisk (file_state new.held) → Counts g (Open f) f.count all → IfOk r (λ found. option_map bytes found ≡ slice_get (commits_of all) number)
-  reads_at bytes (Ok x) number all is was clean counts =
-      let step = counts (was clean) in
-      is clean step.kept step.stands ∙ ap (λ l. slice_get l number) (sym (take_whole step.kept.records f.count (omega (arith, step.counted))) ∙ step.first)
-  reads_at bytes (Err e) number all is was clean counts = tt
+  -- what was read of all that are shown
+  pub reads_at : {A E : Type 0} (bytes : A → List ℕ) (r : Result (Option A) E) (number : ℕ) (commits : List (List ℕ)) → (HasCleanDisk (file_state new.held) → IfOk r (λ x. IsRecord number (option_map bytes x) (file_state f.held).now.trees))
+      → (HasCleanDisk (file_state new.held) → HasCleanDisk (file_state f.held)) → HasCleanDisk (file_state new.held) → Shows g (Open f) commits → IfOk r (λ found. option_map bytes found ≡ slice_get commits number)
+  reads_at bytes (Ok x) number commits is was clean shown =
+      let has = (shown (was clean)).has in
+      is clean has.kept has.stands ∙ ap (λ l. slice_get l number) has.same
+  reads_at bytes (Err e) number commits is was clean shown = tt
+
+  reads_shown : (commits : List (List ℕ)) → Survives (file_state f.held) (file_state new.held) (λ _. ⊥) → (HasCleanDisk (file_state new.held) → (file_state new.held).now ≡ (file_state f.held).now) → new.count ≡ f.count
+      → Shows g (Open f) commits → Shows g (Open new) commits
+  reads_shown commits crash same count shown = λ clean.
+      let is = shown (omega (arith, clean, crash.clean)) in
+      let one : (file_state new.held).now.trees ≡ (file_state f.held).now.trees = ap (λ (d : Database). d.trees) (same clean) in
+      record {
+        has = subst (HasRecords commits) (sym one) is.has;
+        counted = is.counted ∙ sym count;
+        settled = λ db may. elim (crash.crash clean db may) [
+          | inl before ↦ is.settled db before ∙ sym one
+          | inr none ↦ absurd none
+        ];
+      }
+
+  pub reads_shown_or : {A E : Type 0} (r : Result A E) (place : Place D g) → place ≡ Open f → Survives (file_state f.held) (file_state new.held) (λ _. ⊥) → (HasCleanDisk (file_state new.held) → OnOk r ((file_state new.held).now ≡ (file_state f.held).now))
+      → new.count ≡ f.count → OnOk r ((commits : List (List ℕ)) → Shows g place commits → Shows g (Open new) commits)
+  reads_shown_or (Ok x) place is crash same count = λ commits shown. reads_shown commits crash same count (subst (λ p. Shows g p commits) is shown)
+  reads_shown_or (Err e) place is crash same count = tt
+
+  -- a call that put a record behind the others shows it
+  pub appends_shown : (commits : List (List ℕ)) (record_ : List ℕ) (blocks : List (List ℕ)) → (HasCleanDisk (file_state new.held) → Keeps (Extends record_ blocks) (file_state f.held) (file_state new.held))
+      → Survives (file_state f.held) (file_state new.held) (Extends record_ blocks (file_state f.held).now.trees)
+      → ((db : Trees) → IsTrue (file_state new.held).is_open → (file_state new.held).may_leave db → db ≡ (file_state new.held).committed.trees)
+      → new.count ≡ f.count + 1 → Shows g (Open f) commits → Shows g (Open new) (commits ++ record_ ∷ [])
+  appends_shown commits record_ blocks keeps crash settled count shown = λ clean.
+      let is = shown (omega (arith, clean, crash.clean)) in
+      let how = keeps clean in
+      let more = with_record is.has.kept record_ blocks in
+      let one : (file_state new.held).now.trees ≡ (file_state new.held).committed.trees = ap (λ (d : Database). d.trees) how.same in
+      record {
+        has = record { kept = more; stands = subst (Stands more) (sym one) (how.kept is.has.kept is.has.stands); same = ap (λ l. l ++ record_ ∷ []) is.has.same };
+        counted = length_more commits record_ ∙ (omega (arith, is.counted, count));
+        settled = λ db may. settled db how.is_open may ∙ sym one;
+      }
 
   pub found_or : {A E : Type 0} (bytes : A → List ℕ) (r : Result (Option A) E) (number : ℕ) → (HasCleanDisk (file_state new.held) → IfOk r (λ x. IsRecord number (option_map bytes x) (file_state f.held).now.trees))
       → (HasCleanDisk (file_state new.held) → OnOk r ((file_state new.held).now ≡ (file_state f.held).now))

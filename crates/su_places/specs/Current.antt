@@ -11,15 +11,21 @@ use Rattle.su_store.specs.Kept.{Kept}
 use Rattle.su_store.specs.Tables.{Stands}
 use Rattle.su_store.specs.Files.{File, IsAtRest}
 use Rattle.su_keeper.specs.Kept.{KeptRecord}
-use Rattle.su_vault.specs.Records.{commits_of, found_of}
-use Rattle.su_places.specs.Places.{AreBeside, StandsFor, KeepsAll}
+use Rattle.su_vault.specs.Records.{commits_of}
+use Rattle.su_places.specs.Places.{AreBeside, KeepsAll}
 use Rattle.su_places.specs.declared.places.Place.{Place}
 use Rattle.su_places.specs.declared.places.Place.TheVariants.{Open, Shut}
 
+-- the tables stand for these records
+pub record HasRecords (commits : List (List ℕ)) (db : Trees) : Type 0 where
+  pub kept : Kept
+  pub stands : Stands kept db
+  pub same : kept.records ≡ commits
+
 -- the two files hold tables that stand for these records
-pub record HoldsRecords (records : List KeptRecord) (image : Image) : Type 0 where
+pub record HoldsRecords (commits : List (List ℕ)) (image : Image) : Type 0 where
   pub db : Trees
-  pub stands : StandsFor records db
+  pub has : HasRecords commits db
   pub held : ∥ HoldsDatabase image db ∥₁
 
 -- the tables stand for records of which these are the first
@@ -43,6 +49,13 @@ pub record IsInStep {D : Type 0} {g : Ghosts D} (f : File (FileStore D g)) (numb
   pub counted : length kept.records ≡ f.count
   pub first : take number kept.records ≡ commits_of records
   pub beside : AreBeside records kept.blocks
+  pub settled : IsSettled (file_state f.held)
+
+-- The file shows tables that stand for these records, as many as it counts, and a crash leaves them.
+pub record IsShown {D : Type 0} {g : Ghosts D} (f : File (FileStore D g)) (commits : List (List ℕ)) :
+    Type 0 where
+  pub has : HasRecords commits (file_state f.held).now.trees
+  pub counted : length commits ≡ f.count
   pub settled : IsSettled (file_state f.held)
 
 -- Whatever a crash leaves of an open file begins with the records. One that isn't open keeps just
@@ -69,12 +82,16 @@ IsClean g (Open f) = HasCleanDisk (file_state f.held)
 IsClean g (Shut s) = AreClean g s.files.log s.files.db
 IsClean g place = Unit {0}
 
+-- the file is open, and shows these records
+abbrev pub Shows : {D : Type 0} (g : Ghosts D) → Place D g → List (List ℕ) → Type 0
+Shows g (Open f) commits = HasCleanDisk (file_state f.held) → IsShown f commits
+Shows g place commits = ⊥
+
 -- The file is as it was found: shut, and its two files hold tables that stand for these records, or
--- open, and it shows and counts these.
+-- open, and it shows these.
 abbrev pub WasFound : {D : Type 0} (g : Ghosts D) → Place D g → List (List ℕ) → Type 0
-WasFound g (Shut s) commits = HoldsRecords (found_of commits) (image_of g s.files)
-WasFound g (Open f) commits = Counts g (Open f) f.count (found_of commits)
-WasFound g place commits = ⊥
+WasFound g (Shut s) commits = HoldsRecords commits (image_of g s.files)
+WasFound g place commits = Shows g place commits
 
 -- the file is open, and no call has changed it since
 abbrev pub RestsOpen : {D : Type 0} (g : Ghosts D) → Place D g → Type 0
@@ -86,8 +103,8 @@ abbrev pub RestsShut : {D : Type 0} {g : Ghosts D} → Place D g → Type 0
 RestsShut (Shut s) = Unit {0}
 RestsShut place = ⊥
 
--- the file is open, and shows tables that stand for these records
-abbrev pub Shows : {D : Type 0} (g : Ghosts D) → Place D g → List (List ℕ) → Type 0
-Shows g (Open f) commits =
-    HasCleanDisk (file_state f.held) → StandsFor (found_of commits) (file_state f.held).now.trees
-Shows g place commits = ⊥
+-- the file is open, and its tables stand for these records
+abbrev pub ShowsTables : {D : Type 0} (g : Ghosts D) → Place D g → List (List ℕ) → Type 0
+ShowsTables g (Open f) commits =
+    HasCleanDisk (file_state f.held) → HasRecords commits (file_state f.held).now.trees
+ShowsTables g place commits = ⊥

@@ -1,5 +1,5 @@
 -- What a file counts is the first of what it keeps, and begins with none; and a file that was opened
--- counts what it was found with.
+-- shows what it was found with.
 use Rattle.std.proofs.Common.{◌≡◌, ◌≤◌, ◌↔◌, ℕ, zero, suc, List, [], ◌∷◌, ◌++◌, length, take, drop, take-append-drop, refl, sym, ap, subst, ◌∙◌, arith}
 use Rattle.sqlite_disk.specs.declared.Disk.{Ghosts}
 use Rattle.sqlite.specs.declared.FileStore.{FileStore}
@@ -8,9 +8,8 @@ use Rattle.sqlite.specs.Files.{file_state, over_files}
 use Rattle.su_store.specs.Tables.{Stands}
 use Rattle.su_store.specs.Files.{File, IsAtRest}
 use Rattle.su_keeper.specs.Kept.{KeptRecord}
-use Rattle.su_vault.specs.Records.{found_of}
-use Rattle.su_places.specs.Places.{StandsFor, KeepsAll}
-use Rattle.su_places.specs.Current.{Begins, Counts, RestsOpen, Shows, WasFound, count_of}
+use Rattle.su_places.specs.Places.{KeepsAll}
+use Rattle.su_places.specs.Current.{HasRecords, Begins, Counts, IsClean, RestsOpen, Shows, ShowsTables, count_of}
 use Rattle.su_places.specs.declared.places.Place.{Place}
 use Rattle.su_places.specs.declared.places.Place.TheVariants.{Open, Shut, Unopened, Unshut, Away}
 
@@ -51,40 +50,32 @@ module _ {D : Type 0} (g : Ghosts D) where
   counts_all (Unshut it) number records through counts = counts
   counts_all Away number records through counts = counts
 
-  -- of what an open file counts none need stand in the book
-  pub starts : (f : File (FileStore D g)) (number : ℕ) (records : List KeptRecord) → Counts g (Open f) number records → Counts g (Open f) 0 []
-  starts f number records counts = λ clean.
-      let step = counts clean in
-      record { kept = step.kept; stands = step.stands; counted = step.counted; first = refl; beside = tt; settled = step.settled }
+  -- an open file that no call has changed shows what its tables stand for
+  pub tables_shown : (f : File (FileStore D g)) (commits : List (List ℕ)) → (HasCleanDisk (file_state f.held) → IsAtRest over_files f) → (HasCleanDisk (file_state f.held) → HasRecords commits (file_state f.held).now.trees) → Shows g (Open f) commits
+  tables_shown f commits rest tables = λ clean.
+      let has = tables clean in
+      record { has = has; counted = ap length (sym has.same) ∙ (rest clean).counted has.kept has.stands; settled = (rest clean).settled }
 
-  -- an open file that no call has changed counts what it shows
-  pub counts_shown : (f : File (FileStore D g)) (records : List KeptRecord) → (HasCleanDisk (file_state f.held) → IsAtRest over_files f) → (HasCleanDisk (file_state f.held) → StandsFor records (file_state f.held).now.trees)
-      → Counts g (Open f) f.count records
-  counts_shown f records rest shows = λ clean.
-      let shown = shows clean in
-      let all : length shown.kept.records ≡ f.count = (rest clean).counted shown.kept shown.stands in
-      record {
-        kept = shown.kept;
-        stands = shown.stands;
-        counted = all;
-        first = take_whole shown.kept.records f.count (omega (arith, all)) ∙ shown.same;
-        beside = shown.beside;
-        settled = (rest clean).settled;
-      }
-
-  pub rests_shown : (place : Place D g) (commits : List (List ℕ)) → RestsOpen g place → Shows g place commits ↔ WasFound g place commits
-  rests_shown (Open f) commits rests = (
-    counts_shown f (found_of commits) rests,
-    λ counts clean.
-        let step = counts clean in
-        record {
-          kept = step.kept;
-          stands = step.stands;
-          same = sym (take_whole step.kept.records f.count (omega (arith, step.counted))) ∙ step.first;
-          beside = step.beside;
-        },
-  )
+  pub rests_shown : (place : Place D g) (commits : List (List ℕ)) → RestsOpen g place → ShowsTables g place commits ↔ Shows g place commits
+  rests_shown (Open f) commits rests = (tables_shown f commits rests, λ shown clean. (shown clean).has)
   rests_shown (Shut s) commits rests = absurd rests
   rests_shown (Unopened left) commits rests = absurd rests
   rests_shown (Unshut it) commits rests = absurd rests
   rests_shown Away commits rests = absurd rests
+
+  -- of an open file none of the records need stand in the book
+  pub shown_counts : (place : Place D g) (commits : List (List ℕ)) → Shows g place commits → Counts g place 0 []
+  shown_counts (Open f) commits shown = λ clean.
+      let is = shown clean in
+      record { kept = is.has.kept; stands = is.has.stands; counted = ap length is.has.same ∙ is.counted; first = refl; beside = tt; settled = is.settled }
+  shown_counts (Shut s) commits shown = absurd shown
+  shown_counts (Unopened left) commits shown = absurd shown
+  shown_counts (Unshut it) commits shown = absurd shown
+  shown_counts Away commits shown = absurd shown
+
+  pub shows_counted : (place : Place D g) (commits : List (List ℕ)) → IsClean g place → Shows g place commits → length commits ≡ count_of place
+  shows_counted (Open f) commits clean shown = (shown clean).counted
+  shows_counted (Shut s) commits clean shown = absurd shown
+  shows_counted (Unopened left) commits clean shown = absurd shown
+  shows_counted (Unshut it) commits clean shown = absurd shown
+  shows_counted Away commits clean shown = absurd shown

@@ -2,7 +2,7 @@
 ghost use Rattle.std.specs.Prelude.{◌≡◌, ◌≤◌, ◌+◌, ◌++◌, ◌∷◌, [], None, List, ℕ, option_map, slice_get, IfOk, OnOk, OnErr, IfSome};
 ghost use Rattle.sha2.specs.Sha256.{sha256};
 ghost use Rattle.su_keeper.specs.Kept.{KeptRecord};
-ghost use Rattle.su_vault.specs.Records.{KeepsRecords, kept_with, found_alone, commits_of, with_item};
+ghost use Rattle.su_vault.specs.Records.{KeepsRecords, AddsRecord, kept_with, found_alone, with_item};
 
 use crate::places::Place;
 use sqlite_disk::Disk;
@@ -11,7 +11,7 @@ use su_store::FileFault;
 
 impl<D: Disk + Drop> Place<D> {
     ghost use Rattle.su_places.specs.Places.{KeepsAll};
-    ghost use Rattle.su_places.specs.Current.{Begins, Counts, IsClean, count_of};
+    ghost use Rattle.su_places.specs.Current.{Begins, Counts, IsClean, Shows, count_of};
 
     /// How many records the file shows, if it is open.
     pub(crate) fn len(&self) -> u32
@@ -32,9 +32,10 @@ impl<D: Disk + Drop> Place<D> {
         ensures found { IfOk result (λ found. IfSome found (λ b. (records : List KeptRecord)
             → Counts D.Disk self.new number records
             → Counts D.Disk self.new (number + 1) (records ++ found_alone b.items ∷ []))) }
-        ensures at { (all : List KeptRecord) → Counts D.Disk self.old (count_of self.old) all
+        ensures at { (commits : List (List ℕ)) → Shows D.Disk self.old commits
             → IsClean D.Disk self.new → IfOk result (λ found.
-            option_map (λ b. b.items) found ≡ slice_get (commits_of all) number) }
+            option_map (λ b. b.items) found ≡ slice_get commits number) }
+        ensures shown { OnOk result (KeepsRecords (Shows D.Disk) self.old self.new) }
         ensures clean { OnOk result (IsClean D.Disk self.new → IsClean D.Disk self.old) }
         ensures end { IfOk result (λ found. found ≡ None → count_of self.new ≤ number) }
         ensures same { count_of self.new ≡ count_of self.old }
@@ -55,6 +56,7 @@ impl<D: Disk + Drop> Place<D> {
         ensures begun { (n : ℕ) (records : List KeptRecord) → count_of self.old ≤ n
             → Counts D.Disk self.old n records
             → OnErr result (Begins D.Disk self.new records) }
+        ensures shown { OnOk result (AddsRecord (Shows D.Disk) self.old self.new commit.now) }
         ensures clean { OnOk result (IsClean D.Disk self.new → IsClean D.Disk self.old) }
         ensures fewer { OnErr result (count_of self.new ≤ count_of self.old) }
     {
@@ -74,6 +76,7 @@ impl<D: Disk + Drop> Place<D> {
         ensures begun { KeepsRecords (Begins D.Disk) self.old self.new }
         ensures counted { (n : ℕ) (records : List KeptRecord) → Counts D.Disk self.old n records
             → OnOk result (Counts D.Disk self.new n records) }
+        ensures shown { OnOk result (KeepsRecords (Shows D.Disk) self.old self.new) }
         ensures clean { OnOk result (IsClean D.Disk self.new → IsClean D.Disk self.old) }
         ensures same { count_of self.new ≡ count_of self.old }
     {

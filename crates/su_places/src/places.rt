@@ -1,7 +1,7 @@
 // A file of a store, which is read into memory only while it is open.
 ghost use Rattle.std.specs.Prelude.{[], List, ℕ, IfOk, IfErr, OnOk};
 ghost use Rattle.su_keeper.specs.Kept.{KeptRecord};
-ghost use Rattle.su_vault.specs.Records.{KeepsRecords, found_of};
+ghost use Rattle.su_vault.specs.Records.{KeepsRecords};
 
 use sqlite::{FileStore, Leftover, Options};
 use sqlite_disk::Disk;
@@ -38,7 +38,7 @@ impl<D: Disk + Drop> Drop for Place<D> {
 
 impl<D: Disk + Drop> Place<D> {
     ghost use Rattle.su_places.specs.Places.{KeepsAll, IsShut};
-    ghost use Rattle.su_places.specs.Current.{Counts, IsClean, WasFound, count_of};
+    ghost use Rattle.su_places.specs.Current.{Counts, IsClean, Shows, WasFound};
 
     /// Shuts the file, if it is open.
     pub(crate) fn shut(&mut self) -> Result<(), FileFault>
@@ -64,7 +64,7 @@ impl<D: Disk + Drop> Place<D> {
         ensures anew { OnOk result ((commits : List (List ℕ)) → WasFound D.Disk self.old commits
             → Counts D.Disk self.new 0 []) }
         ensures found { OnOk result ((commits : List (List ℕ)) → WasFound D.Disk self.old commits
-            → Counts D.Disk self.new (count_of self.new) (found_of commits)) }
+            → Shows D.Disk self.new commits) }
         ensures clean { OnOk result (IsClean D.Disk self.new → IsClean D.Disk self.old) }
     {
         match mem::replace(self, Place::Away).into_open(alloc, options) {
@@ -103,8 +103,7 @@ impl<D: Disk + Drop> Place<D> {
         ensures anew { IfOk result (λ place. (commits : List (List ℕ))
             → WasFound D.Disk self commits → Counts D.Disk place 0 []) }
         ensures found { IfOk result (λ place. (commits : List (List ℕ))
-            → WasFound D.Disk self commits
-            → Counts D.Disk place (count_of place) (found_of commits)) }
+            → WasFound D.Disk self commits → Shows D.Disk place commits) }
         ensures clean { IfOk result (λ place. IsClean D.Disk place → IsClean D.Disk self) }
         ensures held { IfErr result (λ e. (records : List KeptRecord)
             → KeepsAll D.Disk self records → KeepsAll D.Disk e.1 records) }

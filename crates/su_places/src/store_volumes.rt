@@ -5,8 +5,7 @@ ghost use Rattle.sqlite.specs.Files.{file_state, over_files, image_of};
 ghost use Rattle.su_store.specs.Kept.{nothing};
 ghost use Rattle.su_store.specs.Tables.{Stands};
 ghost use Rattle.su_store.specs.Files.{IsAtRest};
-ghost use Rattle.su_vault.specs.Records.{found_of};
-ghost use Rattle.su_places.specs.Current.{HoldsRecords, Counts, WasFound, RestsOpen, RestsShut};
+ghost use Rattle.su_places.specs.Current.{HoldsRecords, Counts, Shows, WasFound, RestsOpen, RestsShut};
 
 use crate::places::Place;
 use sqlite::{FileStore, Options};
@@ -31,6 +30,9 @@ impl<D: Disk + Drop> StoreVolume<D> {
         ensures fresh { (HasCleanDisk (file_state file.held)
             → Stands nothing (file_state file.held).now.trees)
             → (n : ℕ) → Counts D.Disk result.place n [] }
+        ensures shown { (HasCleanDisk (file_state file.held)
+            → Stands nothing (file_state file.held).now.trees)
+            → Shows D.Disk result.place [] }
     {
         StoreVolume {
             place: Place::Open(file),
@@ -42,7 +44,7 @@ impl<D: Disk + Drop> StoreVolume<D> {
     pub fn over_shut(file: ShutFile<D>, options: Options) -> StoreVolume<D>
         ensures rest { RestsShut result.place }
         ensures found { (commits : List (List ℕ))
-            → HoldsRecords (found_of commits) (image_of D.Disk file.files)
+            → HoldsRecords commits (image_of D.Disk file.files)
             → WasFound D.Disk result.place commits }
     {
         StoreVolume {
@@ -54,8 +56,8 @@ impl<D: Disk + Drop> StoreVolume<D> {
 
 impl<D: Disk + Drop> Volume for StoreVolume<D> {
     ghost use Rattle.su_places.specs.Places.{KeepsAll};
-    ghost use Rattle.su_places.specs.Current.{Begins, Counts, IsClean, WasFound, count_of};
-    ghost use Rattle.su_places.specs.Laws.{counts_begin, counts_all};
+    ghost use Rattle.su_places.specs.Current.{Begins, Counts, IsClean, Shows, WasFound, count_of};
+    ghost use Rattle.su_places.specs.Laws.{counts_begin, counts_all, shows_counted};
 
     ghost keeps = { λ f. KeepsAll D.Disk f.place };
 
@@ -66,6 +68,8 @@ impl<D: Disk + Drop> Volume for StoreVolume<D> {
     ghost count = { λ f. count_of f.place };
 
     ghost was_found = { λ f. WasFound D.Disk f.place };
+
+    ghost shows = { λ f. Shows D.Disk f.place };
 
     ghost is_clean = { λ f. IsClean D.Disk f.place };
 
@@ -115,6 +119,8 @@ impl<D: Disk + Drop> Volume for StoreVolume<D> {
     fn put_item(&mut self, item: &[u8]) -> Result<(), FileFault> {
         self.place.put_item(item)
     }
+
+    ghost shows_counted = { λ f. shows_counted _ f.place };
 
     ghost begins_with_counted = { λ f. counts_begin _ f.place };
 

@@ -11,9 +11,6 @@ kept_with commit items = record { commit = commit; items = map (λ item. item.it
 abbrev pub found_alone : List ℕ → KeptRecord
 found_alone commit = record { commit = commit; items = [] }
 
-abbrev pub found_of : List (List ℕ) → List KeptRecord
-found_of commits = map found_alone commits
-
 abbrev pub commits_of : List KeptRecord → List (List ℕ)
 commits_of records = map (λ r. r.commit) records
 

@@ -1,8 +1,8 @@
 // What a file of records promises.
-ghost use Rattle.std.specs.Prelude.{◌≡◌, ◌≤◌, ◌+◌, List, ℕ, [], ◌∷◌, ◌++◌, None, option_map, slice_get, IfOk, IfSome, OnOk, OnErr};
+ghost use Rattle.std.specs.Prelude.{◌≡◌, ◌≤◌, ◌+◌, List, ℕ, [], ◌∷◌, ◌++◌, None, option_map, slice_get, length, IfOk, IfSome, OnOk, OnErr};
 ghost use Rattle.sha2.specs.Sha256.{sha256};
 ghost use Rattle.su_keeper.specs.Kept.{KeptRecord};
-ghost use Rattle.su_vault.specs.Records.{KeepsRecords, kept_with, found_alone, found_of, commits_of, with_item};
+ghost use Rattle.su_vault.specs.Records.{KeepsRecords, AddsRecord, kept_with, found_alone, with_item};
 
 use crate::faults::VolumeFault;
 use std::alloc::{AllocError, Global};
@@ -27,6 +27,9 @@ pub trait Volume: Drop {
     // It is as it was found, and what it was found with stands for these records.
     ghost was_found: { Self → List (List ℕ) → Type 0 };
 
+    // It is open, and shows these records, as many as it counts.
+    ghost shows: { Self → List (List ℕ) → Type 0 };
+
     // No wrong answer of what it stands on was taken as true.
     ghost is_clean: { Self → Type 0 };
 
@@ -49,7 +52,7 @@ pub trait Volume: Drop {
         ensures anew { OnOk result ((commits : List (List ℕ)) → was_found self.old commits
             → counts self.new 0 []) }
         ensures found { OnOk result ((commits : List (List ℕ)) → was_found self.old commits
-            → counts self.new (count self.new) (found_of commits)) }
+            → shows self.new commits) }
         ensures clean { OnOk result (is_clean self.new → is_clean self.old) };
 
     /// Shuts the file, if it is open. Where it fails, the file is lost, and keeps what it kept.
@@ -73,9 +76,10 @@ pub trait Volume: Drop {
         ensures found { IfOk result (λ found. IfSome found (λ b. (records : List KeptRecord)
             → counts self.new number records
             → counts self.new (number + 1) (records ++ found_alone b.items ∷ []))) }
-        ensures at { (all : List KeptRecord) → counts self.old (count self.old) all
-            → is_clean self.new → IfOk result (λ found. option_map (λ b. b.items) found
-            ≡ slice_get (commits_of all) number) }
+        ensures at { (commits : List (List ℕ)) → shows self.old commits → is_clean self.new
+            → IfOk result (λ found.
+            option_map (λ b. b.items) found ≡ slice_get commits number) }
+        ensures shown { OnOk result (KeepsRecords shows self.old self.new) }
         ensures clean { OnOk result (is_clean self.new → is_clean self.old) }
         ensures end { IfOk result (λ found. found ≡ None → count self.new ≤ number) }
         ensures same { count self.new ≡ count self.old };
@@ -89,6 +93,7 @@ pub trait Volume: Drop {
             (records ++ kept_with commit.now items.now ∷ [])) }
         ensures begun { (n : ℕ) (records : List KeptRecord) → count self.old ≤ n
             → counts self.old n records → OnErr result (begins self.new records) }
+        ensures shown { OnOk result (AddsRecord shows self.old self.new commit.now) }
         ensures clean { OnOk result (is_clean self.new → is_clean self.old) }
         ensures fewer { OnErr result (count self.new ≤ count self.old) };
 
@@ -100,6 +105,7 @@ pub trait Volume: Drop {
         ensures begun { KeepsRecords begins self.old self.new }
         ensures counted { (n : ℕ) (records : List KeptRecord) → counts self.old n records
             → OnOk result (counts self.new n records) }
+        ensures shown { OnOk result (KeepsRecords shows self.old self.new) }
         ensures clean { OnOk result (is_clean self.new → is_clean self.old) }
         ensures same { count self.new ≡ count self.old };
 
@@ -114,6 +120,10 @@ pub trait Volume: Drop {
         ensures put { (n : ℕ) (records : List KeptRecord) → counts self.old n records
             → OnOk result (counts self.new n (with_item item.now records)) }
         ensures same { count self.new ≡ count self.old };
+
+    // It shows as many as it counts, as long as no wrong answer was taken as true.
+    ghost shows_counted: { (f : Self) (commits : List (List ℕ)) → is_clean f → shows f commits
+        → length commits ≡ count f };
 
     // What it counts is the first of what it keeps.
     ghost begins_with_counted: { (f : Self) (n : ℕ) (records : List KeptRecord)

@@ -1,11 +1,11 @@
 use Rattle.std.proofs.Common.{subst}
 use Rattle.sqlite.specs.Files.{file_state, image_of}
 use Rattle.su_places.specs.Places.{KeepsAll}
-use Rattle.su_vault.specs.Records.{found_of}
 use Rattle.su_places.specs.Current.{WasFound}
+use Rattle.su_places.specs.declared.places.Place.TheVariants.{Open}
 use Rattle.su_places.proofs.PlaceLemmas.{open_keeps}
-use Rattle.su_places.specs.Laws.{starts, counts_shown}
-use Rattle.su_places.proofs.CurrentLemmas.{records_shown, open_counts, open_starts}
+use Rattle.su_places.specs.Laws.{tables_shown, shown_counts}
+use Rattle.su_places.proofs.CurrentLemmas.{records_shown, open_shows}
 use Rattle.su_places.proofs.places.Place.into_open.Goals as goal
 
 pub returns-in-Ok-clause-kept : goal.returns-in-Ok-clause-kept
@@ -18,10 +18,10 @@ pub returns-in-Ok-clause-found : goal.returns-in-Ok-clause-found
 returns-in-Ok-clause-found g c commits found =
     let was = subst (λ p. WasFound g.D.Disk p commits) c.in-Shut.is found in
     let how = c.in-Ok.ensures in
-    counts_shown g.D.Disk c.in-Ok.file (found_of commits) how.rest (λ clean. records_shown (found_of commits) (image_of g.D.Disk c.in-Shut.shut.files) (file_state c.in-Ok.file.held).now.trees was (how.shows clean))
+    tables_shown g.D.Disk c.in-Ok.file commits how.rest (λ clean. records_shown commits (image_of g.D.Disk c.in-Shut.shut.files) (file_state c.in-Ok.file.held).now.trees was (how.shows clean))
 
 pub returns-in-Ok-clause-anew : goal.returns-in-Ok-clause-anew
-returns-in-Ok-clause-anew g c commits found = starts g.D.Disk c.in-Ok.file _ _ (returns-in-Ok-clause-found g c commits found)
+returns-in-Ok-clause-anew g c commits found = shown_counts g.D.Disk (Open c.in-Ok.file) commits (returns-in-Ok-clause-found g c commits found)
 
 pub returns-in-Err-clause-held : goal.returns-in-Err-clause-held
 returns-in-Err-clause-held g c records kept =
@@ -31,8 +31,8 @@ returns-in-Err-clause-held g c records kept =
 pub returns-in_default : goal.returns-in_default
 returns-in_default g c = record {
   kept = λ records kept. kept;
-  anew = λ commits found. open_starts g.D.Disk c.args.self commits c.in_default.not-Shut found;
-  found = λ commits found. open_counts g.D.Disk c.args.self commits c.in_default.not-Shut found;
+  anew = λ commits found. shown_counts g.D.Disk c.args.self commits (open_shows g.D.Disk c.args.self commits c.in_default.not-Shut found);
+  found = λ commits found. open_shows g.D.Disk c.args.self commits c.in_default.not-Shut found;
   clean = λ clean. clean;
   held = tt;
 }

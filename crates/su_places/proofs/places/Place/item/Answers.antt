@@ -2,7 +2,7 @@ use Rattle.std.proofs.Common.{subst}
 use Rattle.su_places.specs.Places.{KeepsAll}
 use Rattle.su_places.specs.Current.{Begins, Counts}
 use Rattle.su_places.proofs.PlaceLemmas.{read_keeps}
-use Rattle.su_places.proofs.CurrentLemmas.{reads_begin, reads_or}
+use Rattle.su_places.proofs.CurrentLemmas.{reads_begin, reads_or, reads_shown_or}
 use Rattle.su_places.proofs.places.Place.item.Goals as goal
 
 pub returns-in-Open-clause-kept : goal.returns-in-Open-clause-kept
@@ -19,3 +19,8 @@ pub returns-in-Open-clause-counted : goal.returns-in-Open-clause-counted
 returns-in-Open-clause-counted g c number records counts =
     let how = c.block.ensures in
     reads_or g.D.Disk c.in-Open.file c.block.new.self _ number records how.crash how.same how.count (subst (λ p. Counts g.D.Disk p number records) c.in-Open.is counts)
+
+pub returns-in-Open-clause-shown : goal.returns-in-Open-clause-shown
+returns-in-Open-clause-shown g c =
+    let how = c.block.ensures in
+    reads_shown_or g.D.Disk c.in-Open.file c.block.new.self _ _ c.in-Open.is how.crash how.same how.count

@@ -1,8 +1,8 @@
 use Rattle.std.proofs.Common.{subst, arith}
 use Rattle.su_places.specs.Places.{KeepsAll}
-use Rattle.su_places.specs.Current.{Begins, Counts, count_of}
+use Rattle.su_places.specs.Current.{Begins, Counts, Shows}
 use Rattle.su_places.proofs.PlaceLemmas.{read_keeps}
-use Rattle.su_places.proofs.CurrentLemmas.{reads_begin, reads_or, reads_at, found_or}
+use Rattle.su_places.proofs.CurrentLemmas.{reads_begin, reads_or, reads_at, reads_shown_or, found_or}
 use Rattle.su_places.proofs.places.Place.record.Goals as goal
 
 pub returns-in-Open-clause-kept : goal.returns-in-Open-clause-kept
@@ -25,5 +25,10 @@ returns-in-Open-clause-found g c =
     found_or g.D.Disk c.in-Open.file c.record.new.self (λ b. b.items) _ c.args.number c.record.ensures.found c.record.ensures.same
 
 pub returns-in-Open-clause-at : goal.returns-in-Open-clause-at
-returns-in-Open-clause-at g c all counts clean =
-    reads_at g.D.Disk c.in-Open.file c.record.new.self (λ b. b.items) _ c.args.number all c.record.ensures.found (λ new. omega (arith, new, c.record.ensures.crash.clean)) clean (subst (λ p. Counts g.D.Disk p (count_of p) all) c.in-Open.is counts)
+returns-in-Open-clause-at g c commits shown clean =
+    reads_at g.D.Disk c.in-Open.file c.record.new.self (λ b. b.items) _ c.args.number commits c.record.ensures.found (λ new. omega (arith, new, c.record.ensures.crash.clean)) clean (subst (λ p. Shows g.D.Disk p commits) c.in-Open.is shown)
+
+pub returns-in-Open-clause-shown : goal.returns-in-Open-clause-shown
+returns-in-Open-clause-shown g c =
+    let how = c.record.ensures in
+    reads_shown_or g.D.Disk c.in-Open.file c.record.new.self _ _ c.in-Open.is how.crash how.same how.count
