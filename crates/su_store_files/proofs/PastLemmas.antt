@@ -1,7 +1,24 @@
 -- What files keep in turn, as one of them changes and as one more comes.
-use Rattle.std.proofs.Common.{◌≡◌, ℕ, zero, suc, List, [], ◌∷◌, ◌++◌, get_or, subst}
+use Rattle.std.proofs.Common.{◌≡◌, ◌<◌, ℕ, zero, suc, List, [], ◌∷◌, ◌++◌, length, get_or, Result, Ok, Err, OnOk, sym, subst, arith}
 use Rattle.std.proofs.Math.ListN.{set}
-use Rattle.std.specs.List.{AllZip}
+use Rattle.std.specs.List.{All, AllZip}
+
+pub on_ok : {T E : Type 0} {P Q : Type 0} (r : Result T E) → (P → Q) → OnOk r P → OnOk r Q
+on_ok (Ok x) on p = on p
+on_ok (Err e) on p = tt
+
+-- what holds of all items with one changed held of all before, if it did of that one
+pub all_unset : {A : Type 0} (P : A → Type 0) (xs : List A) (i : ℕ) (old new : A) → get_or xs i old ≡ old → (P new → P old) → All P (set xs i new) → All P xs
+all_unset P [] i old new at on all k d lt = absurd (omega (arith, lt))
+all_unset P (x ∷ xs) zero old new at on all zero d lt = subst P (sym at) (on (all zero d (omega arith)))
+all_unset P (x ∷ xs) zero old new at on all (suc k) d lt = all (suc k) d lt
+all_unset P (x ∷ xs) (suc i) old new at on all zero d lt = all zero d (omega arith)
+all_unset P (x ∷ xs) (suc i) old new at on all (suc k) d lt =
+    all_unset P xs i old new at on (λ j e less. all (suc j) e (omega (arith, less))) k d (omega (arith, lt))
+
+pub unset_ok : {A T E : Type 0} (P : A → Type 0) (r : Result T E) (was xs : List A) (i : ℕ) (old new : A) → get_or xs i old ≡ old → (All P xs → All P was) → OnOk r (P new → P old) → OnOk r (All P (set xs i new) → All P was)
+unset_ok P (Ok t) was xs i old new at before on = λ all. before (all_unset P xs i old new at on all)
+unset_ok P (Err e) was xs i old new at before on = tt
 
 module _ {A B : Type 0} (R : A → B → Type 0) where
   -- an item may change where what holds of it stays so

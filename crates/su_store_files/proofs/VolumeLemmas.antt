@@ -1,13 +1,15 @@
 -- What the files of a vault hold in turn, as the current one changes and as another takes its place.
-use Rattle.std.proofs.Common.{◌≡◌, ℕ, true, false, List, [], ◌∷◌, ◌++◌, Option, None, Result, Ok, Err, IfOk, refl, sym, ap, ◌∙◌, append_assoc}
+use Rattle.std.proofs.Common.{◌≡◌, ◌≤◌, ◌<◌, ℕ, zero, suc, true, false, List, [], ◌∷◌, ◌++◌, Option, None, Result, Ok, Err, IfOk, refl, sym, ap, ◌∙◌, append_assoc, arith, length, drop, subst}
 use Rattle.std.proofs.lemmas.List.{append-nil}
+use Rattle.std.specs.List.{All, AllZip}
+use Rattle.su_keeper.specs.Kept.{KeptRecord}
 use Rattle.su_vault.specs.declared.volumes.Volume.{Ghosts}
 use Rattle.su_store_files.specs.Past.{KeepInTurn}
-use Rattle.su_store_files.specs.Volumes.{joined, halted, HoldsInTurn}
+use Rattle.su_store_files.specs.Volumes.{joined, in_turn, halted, HoldsInTurn, FindsInTurn, AreClean, WasSound}
 use Rattle.su_store_files.specs.declared.past.PastFiles.{PastFiles}
 use Rattle.su_store_files.specs.declared.volumes.Volumes.{Volumes}
 
-pub joined_more : (lists : List (List (List ℕ))) (own : List (List ℕ)) → joined (lists ++ own ∷ []) ++ [] ≡ joined lists ++ own
+pub joined_more : (lists : List (List KeptRecord)) (own : List KeptRecord) → joined (lists ++ own ∷ []) ++ [] ≡ joined lists ++ own
 joined_more [] own = append-nil (own ++ []) ∙ append-nil own
 joined_more (list ∷ lists) own = append_assoc list _ _ ∙ ap (λ l. list ++ l) (joined_more lists own) ∙ sym (append_assoc list _ _)
 
@@ -15,7 +17,14 @@ pub at_end : {A E : Type 0} {P Q : Type 0} (r : Result (Option A) E) → IfOk r 
 at_end (Ok x) end then = λ none. let p = end none in (p, then p)
 at_end (Err e) end then = tt
 
-module _ {F E : Type 0} (g : Ghosts F E) (v : Volumes F E) (records : List (List ℕ)) where
+-- each of the later files stood for the records of its list
+pub all_sound : {F E : Type 0} (g : Ghosts F E) (files : List F) (lists : List (List (List ℕ))) → AllZip g.was_found files lists → All (WasSound g) files
+all_sound g [] lists later k d lt = absurd (omega (arith, lt))
+all_sound g (x ∷ xs) [] later k d lt = absurd later
+all_sound g (x ∷ xs) (l ∷ ls) later zero d lt = (l, later.0)
+all_sound g (x ∷ xs) (l ∷ ls) later (suc k) d lt = all_sound g xs ls later.1 k d (omega (arith, lt))
+
+module _ {F E : Type 0} (g : Ghosts F E) (v : Volumes F E) (records : List KeptRecord) where
   pub with_current : (held : HoldsInTurn g v records) (place : F) → g.begins place held.own → (v.is_halted ≡ false → g.counts place v.kept held.own) → HoldsInTurn g (record v { current = place }) records
   with_current held place begun counted = record {
     lists = held.lists;
@@ -43,7 +52,7 @@ module _ {F E : Type 0} (g : Ghosts F E) (v : Volumes F E) (records : List (List
   }
 
   -- one more record of the current file stands in the book
-  pub with_more : (held : HoldsInTurn g v records) → v.is_halted ≡ false → (place : F) (number : ℕ) (commit : List ℕ) → g.begins place (held.own ++ commit ∷ []) → g.counts place number (held.own ++ commit ∷ [])
+  pub with_more : (held : HoldsInTurn g v records) → v.is_halted ≡ false → (place : F) (number : ℕ) (commit : KeptRecord) → g.begins place (held.own ++ commit ∷ []) → g.counts place number (held.own ++ commit ∷ [])
       → HoldsInTurn g (record v { current = place; kept = number }) (records ++ commit ∷ [])
   with_more held running place number commit begun counted = record {
     lists = held.lists;
@@ -76,7 +85,7 @@ module _ {F E : Type 0} (g : Ghosts F E) (v : Volumes F E) (records : List (List
   pub halts : HoldsInTurn g v records → HoldsInTurn g (halted v) records
   halts held = halts_at held v.current held.begun
 
-  pub halts_before : (last : List ℕ) → HoldsInTurn g v (records ++ last ∷ []) → HoldsInTurn g (halted v) records
+  pub halts_before : (last : KeptRecord) → HoldsInTurn g v (records ++ last ∷ []) → HoldsInTurn g (halted v) records
   halts_before last held = record {
     lists = held.lists;
     own = held.own;

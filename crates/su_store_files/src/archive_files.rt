@@ -1,6 +1,6 @@
 // The files of an archive, with what makes the next one.
-ghost use Rattle.std.specs.Prelude.{[], ◌↔◌};
-ghost use Rattle.su_store_files.specs.Volumes.{WereSound};
+ghost use Rattle.std.specs.Prelude.{ℕ, List, [], ◌↔◌};
+ghost use Rattle.su_store_files.specs.Volumes.{WereFound, WereSound, FindsInTurn};
 ghost use Rattle.su_store_files.specs.Archived.{Holds};
 
 use crate::volumes::{Opened, Volumes};
@@ -33,6 +33,8 @@ impl<N: ArchiveName, V: Volume, H: Shelf<V>> ArchiveFiles<N, V, H> {
     pub fn new(alloc: Global, files: Opened<V>, shelf: H) -> ArchiveFiles<N, V, H>
         requires named { N.found ↔ WereSound V.Volume files }
         ensures begun { Holds V.Volume N.found result.volumes [] }
+        ensures found { (commits : List (List ℕ)) → WereFound V.Volume files commits
+            → FindsInTurn V.Volume result.volumes commits }
     {
         ArchiveFiles {
             volumes: Volumes::new(alloc, files),
@@ -44,10 +46,14 @@ impl<N: ArchiveName, V: Volume, H: Shelf<V>> ArchiveFiles<N, V, H> {
 
 impl<N: ArchiveName, V: Volume, H: Shelf<V>> Vault for ArchiveFiles<N, V, H> {
     ghost use Rattle.std.specs.Prelude.{◌≡◌, []};
-    ghost use Rattle.su_store_files.specs.Volumes.{IsThrough, IsAtEnd};
+    ghost use Rattle.su_store_files.specs.Volumes.{AreClean, FindsInTurn, IsThrough, IsAtEnd};
     ghost use Rattle.su_store_files.specs.Archived.{Holds};
 
     ghost holds = { λ v. Holds V.Volume N.found v.volumes };
+
+    ghost finds = { λ v. FindsInTurn V.Volume v.volumes };
+
+    ghost is_clean = { λ v. AreClean V.Volume v.volumes };
 
     ghost is_at_end = { λ v. IsAtEnd V.Volume v.volumes };
 

@@ -1,6 +1,8 @@
 // The files of a vault whose records all stand in the book.
 ghost use Rattle.std.specs.Prelude.{◌≡◌, ◌∷◌, ◌++◌, [], List, ℕ, IfOk, IfErr, IfSome, OnOk, OnErr};
+ghost use Rattle.std.specs.List.{All};
 ghost use Rattle.sha2.specs.Sha256.{sha256};
+ghost use Rattle.su_keeper.specs.Kept.{KeptRecord};
 ghost use Rattle.su_vault.specs.Records.{KeepsRecords};
 
 use std::alloc::{AllocFailed, Global};
@@ -19,6 +21,7 @@ pub struct PastFiles<V: Volume> {
 fn read<V: Volume>(file: &mut V, alloc: Global, digest: Digest) -> Result<Option<Vec<u8>>, V::Fault>
     ensures hashes { IfOk result (λ found. IfSome found (λ b. sha256 b.items ≡ digest)) }
     ensures kept { KeepsRecords V.keeps file.old file.new }
+    ensures clean { OnOk result (V.is_clean file.new → V.is_clean file.old) }
 {
     file.open(alloc)?;
     file.item(digest)
@@ -64,9 +67,11 @@ impl<V: Volume> PastFiles<V> {
 
     /// Puts a file behind the others. It is given back where there is no memory.
     pub(crate) fn push(&mut self, place: V) -> Result<(), V>
-        ensures kept { (lists : List (List (List ℕ))) (own : List (List ℕ))
+        ensures kept { (lists : List (List KeptRecord)) (own : List KeptRecord)
             → KeepInTurn V.Volume self.old lists → V.keeps place own
             → OnOk result (KeepInTurn V.Volume self.new (lists ++ own ∷ [])) }
+        ensures clean { OnOk result (All V.is_clean self.new.places.items
+            → All V.is_clean self.old.places.items × V.is_clean place) }
         ensures given { IfErr result (λ e. e ≡ place) }
         ensures same { OnErr result (self.new.places.items ≡ self.old.places.items) }
     {
@@ -78,7 +83,9 @@ impl<V: Volume> PastFiles<V> {
 
     /// Shuts the file that was opened last, unless it has this number.
     fn turn_to(&mut self, number: usize) -> Result<(), V::Fault>
-        ensures { (lists : List (List (List ℕ))) → KeepInTurn V.Volume self.old lists
+        ensures clean { OnOk result (All V.is_clean self.new.places.items
+            → All V.is_clean self.old.places.items) }
+        ensures kept { (lists : List (List KeptRecord)) → KeepInTurn V.Volume self.old lists
             → KeepInTurn V.Volume self.new lists }
     {
         let last = self.opened;
@@ -97,8 +104,10 @@ impl<V: Volume> PastFiles<V> {
         digest: Digest,
     ) -> Result<Option<Vec<u8>>, V::Fault>
         ensures hashes { IfOk result (λ found. IfSome found (λ b. sha256 b.items ≡ digest)) }
-        ensures kept { (lists : List (List (List ℕ))) → KeepInTurn V.Volume self.old lists
+        ensures kept { (lists : List (List KeptRecord)) → KeepInTurn V.Volume self.old lists
             → KeepInTurn V.Volume self.new lists }
+        ensures clean { OnOk result (All V.is_clean self.new.places.items
+            → All V.is_clean self.old.places.items) }
     {
         self.turn_to(number)?;
         if self.places.len() <= number {
@@ -114,7 +123,7 @@ impl<V: Volume> PastFiles<V> {
         number: usize,
         item: &[u8],
     ) -> Result<bool, V::Fault>
-        ensures { (lists : List (List (List ℕ))) → KeepInTurn V.Volume self.old lists
+        ensures { (lists : List (List KeptRecord)) → KeepInTurn V.Volume self.old lists
             → KeepInTurn V.Volume self.new lists }
     {
         self.turn_to(number)?;
@@ -133,7 +142,7 @@ impl<V: Volume> PastFiles<V> {
         number: usize,
         index: u32,
     ) -> Result<Option<Vec<u8>>, V::Fault>
-        ensures { (lists : List (List (List ℕ))) → KeepInTurn V.Volume self.old lists
+        ensures { (lists : List (List KeptRecord)) → KeepInTurn V.Volume self.old lists
             → KeepInTurn V.Volume self.new lists }
     {
         self.turn_to(number)?;

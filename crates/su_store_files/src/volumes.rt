@@ -1,7 +1,9 @@
 // The files of a vault in their order.
-ghost use Rattle.std.specs.Prelude.{◌≡◌, ◌<◌, ◌+◌, ◌++◌, ◌∷◌, [], false, None, IsTrue, IfOk, IfSome, List, ℕ, OnOk, OnErr};
+ghost use Rattle.std.specs.Prelude.{◌≡◌, ◌<◌, ◌+◌, ◌++◌, ◌∷◌, [], false, None, IsTrue, IfOk, IfSome, List, ℕ, OnOk, OnErr, option_map, option_to_list, length};
+ghost use Rattle.std.specs.List.{All, AllZip};
 ghost use Rattle.sha2.specs.Sha256.{sha256};
-ghost use Rattle.su_vault.specs.Records.{KeepsRecords, AddsRecord, LeavesLast};
+ghost use Rattle.su_keeper.specs.Kept.{KeptRecord};
+ghost use Rattle.su_vault.specs.Records.{KeepsRecords, AddsRecord, LeavesLast, KeepsFound, FindsNext, TakesFound, kept_with, found_alone};
 
 use crate::past::PastFiles;
 use crate::turns::keep_found;
@@ -32,12 +34,14 @@ pub struct Volumes<V: Volume> {
 }
 
 impl<V: Volume> Volumes<V> {
-    ghost use Rattle.su_store_files.specs.Volumes.{WereSound, halted};
-    ghost use Rattle.su_store_files.specs.Volumes.{IsThrough, IsAtEnd, HoldsInTurn};
+    ghost use Rattle.su_store_files.specs.Volumes.{WereFound, WereSound, WasSound, halted, in_turn};
+    ghost use Rattle.su_store_files.specs.Volumes.{IsThrough, IsAtEnd, HoldsInTurn, FindsInTurn, AreClean};
 
     /// Begins with these files.
     pub fn new(alloc: Global, files: Opened<V>) -> Volumes<V>
-        ensures { WereSound V.Volume files → HoldsInTurn V.Volume result [] }
+        ensures held { WereSound V.Volume files → HoldsInTurn V.Volume result [] }
+        ensures found { (commits : List (List ℕ)) → WereFound V.Volume files commits
+            → FindsInTurn V.Volume result commits }
     {
         let Opened { first, later } = files;
         Volumes {
@@ -82,6 +86,7 @@ impl<V: Volume> Volumes<V> {
         ensures same { self.new ≡ halted self.old }
         ensures held { KeepsRecords (HoldsInTurn V.Volume) self.old self.new }
         ensures last { LeavesLast (HoldsInTurn V.Volume) self.old self.new }
+        ensures end { IsAtEnd V.Volume self.old → IsAtEnd V.Volume self.new }
     {
         self.is_halted = true;
     }
@@ -107,6 +112,8 @@ impl<V: Volume> Volumes<V> {
         ensures shut { V.count self.new.current ≡ 0 }
         ensures same { OnOk result
             (self.new ≡ record self.old { current = self.new.current }) }
+        ensures later { self.new.later ≡ self.old.later }
+        ensures clean { OnOk result (V.is_clean self.new.current → V.is_clean self.old.current) }
     {
         match self.current.shut() {
             Ok(()) => Ok(()),
@@ -127,6 +134,11 @@ impl<V: Volume> Volumes<V> {
         ensures same { OnErr result (KeepsRecords (HoldsInTurn V.Volume) self.old self.new) }
         ensures later { self.new.later ≡ self.old.later }
         ensures running { self.new.is_halted ≡ false }
+        ensures current { OnOk result ((self.new.current ≡ file) × (self.new.kept ≡ 0)) }
+        ensures old { OnErr result ((self.new.current ≡ self.old.current)
+            × (self.new.kept ≡ self.old.kept)) }
+        ensures clean { OnOk result (All V.is_clean self.new.past.places.items
+            → All V.is_clean self.old.past.places.items × V.is_clean self.old.current) }
     {
         match self.past.push(mem::replace(&mut self.current, file)) {
             Ok(()) => {
@@ -146,8 +158,13 @@ impl<V: Volume> Volumes<V> {
         requires shut { V.count self.old.current ≡ 0 }
         ensures held { V.counts file 0 []
             → KeepsRecords (HoldsInTurn V.Volume) self.old self.new }
-        ensures later { OnOk result (self.new.later ≡ self.old.later) }
+        ensures later { self.new.later ≡ self.old.later }
         ensures running { OnOk result (self.new.is_halted ≡ false) }
+        ensures current { OnOk result ((self.new.current ≡ file) × (self.new.kept ≡ 0)) }
+        ensures old { OnErr result ((self.new.current ≡ self.old.current)
+            × (self.new.kept ≡ self.old.kept)) }
+        ensures clean { OnOk result (All V.is_clean self.new.past.places.items
+            → All V.is_clean self.old.past.places.items × V.is_clean self.old.current) }
     {
         match self.push(file) {
             Ok(()) => Ok(()),
@@ -161,9 +178,11 @@ impl<V: Volume> Volumes<V> {
     /// Takes the next of the later files.
     fn take_next(&mut self) -> Option<V>
         ensures held { KeepsRecords (HoldsInTurn V.Volume) self.old self.new }
-        ensures sound { (records : List (List ℕ)) → HoldsInTurn V.Volume self.old records
-            → IfSome result V.is_sound }
+        ensures sound { (records : List KeptRecord) → HoldsInTurn V.Volume self.old records
+            → IfSome result (WasSound V.Volume) }
         ensures same { self.new ≡ record self.old { later = self.new.later } }
+        ensures taken { self.old.later.items ≡ self.new.later.items ++ option_to_list result }
+        ensures none { result ≡ None → self.old.later.items ≡ [] }
     {
         self.later.pop()
     }
@@ -172,8 +191,11 @@ impl<V: Volume> Volumes<V> {
     fn advance(&mut self, alloc: Global) -> Result<(), V::Fault>
         requires running { self.old.is_halted ≡ false }
         requires through { IsThrough V.Volume self.old }
+        requires more { 0 < length self.old.later.items }
         ensures held { KeepsRecords (HoldsInTurn V.Volume) self.old self.new }
         ensures running { OnOk result (self.new.is_halted ≡ false) }
+        ensures found { OnOk result
+            (KeepsFound (AreClean V.Volume) (FindsInTurn V.Volume) self.old self.new) }
     {
         self.settle()?;
         let Some(next) = self.take_next() else {
@@ -195,7 +217,9 @@ impl<V: Volume> Volumes<V> {
         requires end { IsAtEnd V.Volume self.old }
         ensures held { KeepsRecords (HoldsInTurn V.Volume) self.old self.new }
         ensures running { OnOk result (self.new.is_halted ≡ false) }
-        ensures end { OnOk result (IsAtEnd V.Volume self.new) }
+        ensures end { IsAtEnd V.Volume self.new }
+        ensures found { OnOk result
+            (KeepsFound (AreClean V.Volume) (FindsInTurn V.Volume) self.old self.new) }
     {
         self.settle()?;
         let file = match shelf.make(self.past.len().saturating_add(1)) {
@@ -205,12 +229,11 @@ impl<V: Volume> Volumes<V> {
                 return Err(fault);
             }
         };
-        self.go_on(file)?;
-        if self.has_next() {
+        if file.len() != 0 {
             self.halt();
             return Err(V::fault_for(VolumeFault::Foreign));
         }
-        Ok(())
+        self.go_on(file)
     }
 
     /// Takes up the next file, if all records of the current one stand in the book. An empty one is
@@ -219,7 +242,10 @@ impl<V: Volume> Volumes<V> {
         requires running { self.old.is_halted ≡ false }
         ensures held { KeepsRecords (HoldsInTurn V.Volume) self.old self.new }
         ensures running { OnOk result (self.new.is_halted ≡ false) }
-        ensures end { OnOk result (IsThrough V.Volume self.new → self.new.later.items ≡ []) }
+        ensures last { OnOk result (IsThrough V.Volume self.new → self.new.later.items ≡ []) }
+        ensures end { IsAtEnd V.Volume self.old → IsAtEnd V.Volume self.new }
+        ensures found { OnOk result
+            (KeepsFound (AreClean V.Volume) (FindsInTurn V.Volume) self.old self.new) }
     {
         if self.has_next() || self.later.is_empty() {
             return Ok(());
@@ -236,9 +262,12 @@ impl<V: Volume> Volumes<V> {
     pub fn next(&mut self, alloc: Global) -> Result<Option<Vec<u8>>, V::Fault>
         requires running { self.old.is_halted ≡ false }
         ensures held { KeepsRecords (HoldsInTurn V.Volume) self.old self.new }
-        ensures found { IfOk result (λ found. IfSome found (λ b. (records : List (List ℕ))
+        ensures found { IfOk result (λ found. IfSome found (λ b. (records : List KeptRecord)
             → V.counts self.new.current self.new.kept records
-            → V.counts self.new.current (self.new.kept + 1) (records ++ b.items ∷ []))) }
+            → V.counts self.new.current (self.new.kept + 1)
+            (records ++ found_alone b.items ∷ []))) }
+        ensures next { IfOk result (λ next. FindsNext (AreClean V.Volume) (FindsInTurn V.Volume)
+            self.old (option_map (λ commit. commit.items) next) self.new) }
         ensures end { IfOk result (λ found. found ≡ None → IsAtEnd V.Volume self.new) }
         ensures running { OnOk result (self.new.is_halted ≡ false) }
     {
@@ -257,8 +286,12 @@ impl<V: Volume> Volumes<V> {
     pub fn keep_found(&mut self, commit: &[u8]) -> Result<(), V::Fault>
         requires running { self.old.is_halted ≡ false }
         ensures kept { OnOk result
-            (AddsRecord (HoldsInTurn V.Volume) self.old self.new commit.now) }
+            (AddsRecord (HoldsInTurn V.Volume) self.old self.new (found_alone commit.now)) }
         ensures held { OnErr result (KeepsRecords (HoldsInTurn V.Volume) self.old self.new) }
+        ensures found { OnOk result (TakesFound (AreClean V.Volume) (FindsInTurn V.Volume)
+            self.old commit.now self.new) }
+        ensures running { OnOk result (self.new.is_halted ≡ false) }
+        ensures end { IsAtEnd V.Volume self.old → IsAtEnd V.Volume self.new }
     {
         if self.current.len() <= self.kept {
             self.halt();
@@ -281,9 +314,12 @@ impl<V: Volume> Volumes<V> {
     pub fn append(&mut self, commit: &[u8], items: &[Vec<u8>]) -> Result<(), V::Fault>
         requires running { self.old.is_halted ≡ false }
         requires end { IsAtEnd V.Volume self.old }
-        ensures kept { OnOk result
-            (AddsRecord (HoldsInTurn V.Volume) self.old self.new commit.now) }
+        ensures kept { OnOk result (AddsRecord (HoldsInTurn V.Volume) self.old self.new
+            (kept_with commit.now items.now)) }
         ensures held { OnErr result (KeepsRecords (HoldsInTurn V.Volume) self.old self.new) }
+        ensures found { OnOk result (TakesFound (AreClean V.Volume) (FindsInTurn V.Volume)
+            self.old commit.now self.new) }
+        ensures end { IsAtEnd V.Volume self.new }
     {
         match self.current.append(commit, items) {
             Ok(()) => {
@@ -308,6 +344,9 @@ impl<V: Volume> Volumes<V> {
         requires running { self.old.is_halted ≡ false }
         ensures hashes { IfOk result (λ found. IfSome found (λ b. sha256 b.items ≡ digest)) }
         ensures held { KeepsRecords (HoldsInTurn V.Volume) self.old self.new }
+        ensures found { OnOk result
+            (KeepsFound (AreClean V.Volume) (FindsInTurn V.Volume) self.old self.new) }
+        ensures end { IsAtEnd V.Volume self.old → IsAtEnd V.Volume self.new }
         ensures running { OnOk result (self.new.is_halted ≡ false) }
     {
         if number != self.past.len() {
@@ -332,6 +371,9 @@ impl<V: Volume> Volumes<V> {
         requires running { self.old.is_halted ≡ false }
         ensures hashes { IfOk result (λ found. IfSome found (λ b. sha256 b.items ≡ digest)) }
         ensures held { KeepsRecords (HoldsInTurn V.Volume) self.old self.new }
+        ensures found { OnOk result
+            (KeepsFound (AreClean V.Volume) (FindsInTurn V.Volume) self.old self.new) }
+        ensures end { IsAtEnd V.Volume self.old → IsAtEnd V.Volume self.new }
         ensures running { OnOk result (self.new.is_halted ≡ false) }
     {
         match self.past.item(alloc, number, digest) {
@@ -348,6 +390,7 @@ impl<V: Volume> Volumes<V> {
     pub fn put_item(&mut self, alloc: Global, number: usize, item: &[u8]) -> Result<bool, V::Fault>
         requires running { self.old.is_halted ≡ false }
         ensures held { KeepsRecords (HoldsInTurn V.Volume) self.old self.new }
+        ensures end { IsAtEnd V.Volume self.old → IsAtEnd V.Volume self.new }
         ensures running { OnOk result (self.new.is_halted ≡ false) }
     {
         if number != self.past.len() {
@@ -366,6 +409,7 @@ impl<V: Volume> Volumes<V> {
     fn put_past_item(&mut self, alloc: Global, number: usize, item: &[u8]) -> Result<bool, V::Fault>
         requires running { self.old.is_halted ≡ false }
         ensures held { KeepsRecords (HoldsInTurn V.Volume) self.old self.new }
+        ensures end { IsAtEnd V.Volume self.old → IsAtEnd V.Volume self.new }
         ensures running { OnOk result (self.new.is_halted ≡ false) }
     {
         match self.past.put_item(alloc, number, item) {
@@ -390,6 +434,7 @@ impl<V: Volume> Volumes<V> {
         requires running { self.old.is_halted ≡ false }
         ensures hashes { IfOk result (λ found. IfSome found (λ b. sha256 b.items ≡ digest)) }
         ensures held { KeepsRecords (HoldsInTurn V.Volume) self.old self.new }
+        ensures end { IsAtEnd V.Volume self.old → IsAtEnd V.Volume self.new }
         ensures running { OnOk result (self.new.is_halted ≡ false) }
     {
         let found = self.record_at(alloc, number, index)?;
@@ -412,6 +457,7 @@ impl<V: Volume> Volumes<V> {
     ) -> Result<Option<Vec<u8>>, V::Fault>
         requires running { self.old.is_halted ≡ false }
         ensures held { KeepsRecords (HoldsInTurn V.Volume) self.old self.new }
+        ensures end { IsAtEnd V.Volume self.old → IsAtEnd V.Volume self.new }
         ensures running { OnOk result (self.new.is_halted ≡ false) }
     {
         if number != self.past.len() {
@@ -435,6 +481,7 @@ impl<V: Volume> Volumes<V> {
     ) -> Result<Option<Vec<u8>>, V::Fault>
         requires running { self.old.is_halted ≡ false }
         ensures held { KeepsRecords (HoldsInTurn V.Volume) self.old self.new }
+        ensures end { IsAtEnd V.Volume self.old → IsAtEnd V.Volume self.new }
         ensures running { OnOk result (self.new.is_halted ≡ false) }
     {
         match self.past.record(alloc, number, index) {

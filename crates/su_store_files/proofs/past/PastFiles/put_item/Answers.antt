@@ -4,8 +4,8 @@ use Rattle.su_store_files.proofs.past.PastFiles.put_item.Goals as goal
 
 pub returns-in_err-put : goal.returns-in_err-put
 returns-in_err-put g c lists kept =
-    all_zip_set g.V.Volume.keeps c.turn_to.new.self.places.items lists c.args.number c.index_mut.result.now c.put.new.file (sym c.index_mut.ensures.value) c.put.ensures (c.turn_to.ensures lists kept)
+    all_zip_set g.V.Volume.keeps c.turn_to.new.self.places.items lists c.args.number c.index_mut.result.now c.put.new.file (sym c.index_mut.ensures.value) c.put.ensures (c.turn_to.ensures.kept lists kept)
 
 pub returns : goal.returns
 returns g c lists kept =
-    all_zip_set g.V.Volume.keeps c.turn_to.new.self.places.items lists c.args.number c.index_mut.result.now c.put.new.file (sym c.index_mut.ensures.value) c.put.ensures (c.turn_to.ensures lists kept)
+    all_zip_set g.V.Volume.keeps c.turn_to.new.self.places.items lists c.args.number c.index_mut.result.now c.put.new.file (sym c.index_mut.ensures.value) c.put.ensures (c.turn_to.ensures.kept lists kept)

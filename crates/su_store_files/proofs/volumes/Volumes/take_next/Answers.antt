@@ -1,9 +1,10 @@
 use Rattle.std.proofs.lemmas.List.Elements.{All-pop}
+use Rattle.su_store_files.specs.Volumes.{WasSound}
 use Rattle.su_store_files.proofs.volumes.Volumes.take_next.Goals as goal
 
 pub returns-clause-held : goal.returns-clause-held
 returns-clause-held g c records held =
-    let later = All-pop g.V.Volume.is_sound c.args.self.now.later.items c.pop.new.self.items c.pop.result c.pop.ensures.items held.later in
+    let later = All-pop (WasSound g.V.Volume) c.args.self.now.later.items c.pop.new.self.items c.pop.result c.pop.ensures.items held.later in
     record {
       lists = held.lists;
       own = held.own;
@@ -18,4 +19,4 @@ returns-clause-held g c records held =
 
 pub returns-clause-sound : goal.returns-clause-sound
 returns-clause-sound g c records held =
-    (All-pop g.V.Volume.is_sound c.args.self.now.later.items c.pop.new.self.items c.pop.result c.pop.ensures.items held.later).1
+    (All-pop (WasSound g.V.Volume) c.args.self.now.later.items c.pop.new.self.items c.pop.result c.pop.ensures.items held.later).1
