@@ -34,8 +34,8 @@ pub trait Keeper: Drop {
     ghost reads_back: { Bool };
 
     /// Keeps one more record behind those that it holds, with the items that it needs. Where it found
-    /// a record there, this has to be that one. After a failure it keeps no more, and this record may
-    /// be kept or not.
+    /// a record there, this has to be that one, and no items come with it. After a failure it keeps
+    /// no more, and this record may be kept or not.
     fn keep(&mut self, alloc: Global, commit: &[u8], items: &[Vec<u8>]) -> Result<(), NotKept>
         ensures kept { (records : List KeptRecord) → holds self.old records → OnOk result (holds
             self.new (records ++ record {

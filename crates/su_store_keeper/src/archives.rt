@@ -1,12 +1,12 @@
 // A book's keeper over what keeps its records in files.
-ghost use Rattle.std.specs.Prelude.{◌≡◌, ◌≢◌, [], false, None, Some, length, slice_get, option_map};
+ghost use Rattle.std.specs.Prelude.{◌≡◌, ◌≢◌, [], true, false, None, Some, Ok, length, slice_get, option_map};
 ghost use Rattle.std.specs.Prelude.{List, ℕ, IfOk, IfSome, OnOk, OnErr};
 ghost use Rattle.sha2.specs.Sha256.{sha256};
-ghost use Rattle.su_vault.specs.Records.{KeepsRecords, AddsRecord};
+ghost use Rattle.su_vault.specs.Records.{KeepsRecords, AddsRecord, KeepsFound, FindsNext, TakesFound, kept_with};
 
 use crate::ahead::{AHEAD, Ahead};
 use crate::fills::Fill;
-use crate::items::{change_of, item_of, release_item, share};
+use crate::items::{change_of, release_item, share};
 use crate::lacking::{LackingItem, LackingItems};
 use crate::numbers::Numbers;
 use std::alloc::{AllocError, Global};
@@ -18,8 +18,8 @@ use su_keeper::{Keeper, NotKept};
 use su_shared_items::SharedBlocks;
 use su_vault::Vault;
 
-/// Keeps the records of a book in a vault, each with the item of its change, which it gets from the
-/// items that the server's threads share. The records that the vault was found with go back into the
+/// Keeps the records of a book in a vault, each with the item of its change, which need not stay then
+/// among the items that the server's threads share. The records that the vault was found with go back into the
 /// book one by one, and their items among the shared ones. It begins with none in the book. It notes
 /// the items that are lacking, and they can be filled in.
 #[derive(Drop)]
@@ -53,6 +53,7 @@ impl<'a, V: Vault, R: Wait> Archive<'a, V, R> {
     ) -> Archive<'a, V, R>
         requires begun { V.holds vault [] }
         ensures begun { V.holds result.vault [] }
+        ensures vault { result.vault ≡ vault }
     {
         Archive {
             vault,
@@ -149,7 +150,8 @@ impl<'a, V: Vault, R: Wait> Archive<'a, V, R> {
 
     /// Stops for a fault.
     fn fail(&mut self, fault: V::Fault) -> NotKept
-        ensures { KeepsRecords V.holds self.old.vault self.new.vault }
+        ensures held { KeepsRecords V.holds self.old.vault self.new.vault }
+        ensures end { V.is_at_end self.old.vault → V.is_at_end self.new.vault }
     {
         self.vault.halt();
         self.fault = Some(fault);
@@ -161,6 +163,9 @@ impl<'a, V: Vault, R: Wait> Archive<'a, V, R> {
     fn share_item(&mut self, alloc: Global, commit: &[u8]) -> Result<(), V::Fault>
         requires running { V.is_stopped self.old.vault ≡ false }
         ensures held { KeepsRecords V.holds self.old.vault self.new.vault }
+        ensures found { OnOk result
+            (KeepsFound V.is_clean V.finds self.old.vault self.new.vault) }
+        ensures end { V.is_at_end self.old.vault → V.is_at_end self.new.vault }
     {
         self.fill.find(commit.len());
         let Some(digest) = change_of(alloc, commit)? else {
@@ -181,6 +186,8 @@ impl<'a, V: Vault, R: Wait> Archive<'a, V, R> {
     fn read_next(&mut self, alloc: Global) -> Result<Option<Vec<u8>>, V::Fault>
         requires running { V.is_stopped self.old.vault ≡ false }
         ensures held { KeepsRecords V.holds self.old.vault self.new.vault }
+        ensures found { IfOk result (λ next. FindsNext V.is_clean V.finds self.old.vault
+            (option_map (λ commit. commit.items) next) self.new.vault) }
         ensures end { IfOk result (λ found. found ≡ None → V.is_at_end self.new.vault) }
     {
         let found = self.vault.next(alloc);
@@ -209,8 +216,10 @@ impl<'a, V: Vault, R: Wait> Archive<'a, V, R> {
         requires running { V.is_stopped self.old.vault ≡ false }
         requires end { V.is_at_end self.old.vault }
         ensures held { KeepsRecords V.holds self.old.vault self.new.vault }
+        ensures found { OnOk result
+            (KeepsFound V.is_clean V.finds self.old.vault self.new.vault) }
         ensures running { OnOk result (V.is_stopped self.new.vault ≡ false) }
-        ensures end { OnOk result (V.is_at_end self.new.vault) }
+        ensures end { V.is_at_end self.new.vault }
     {
         if !self.fill.is_full() && !self.vault.is_full() {
             return Ok(());
@@ -221,21 +230,23 @@ impl<'a, V: Vault, R: Wait> Archive<'a, V, R> {
         Ok(())
     }
 
-    /// Puts the record behind those of the last file, with the item of its change, which need not
-    /// stay in memory from then on. Where it isn't shared, the record is kept without it.
-    fn keep_new(&mut self, alloc: Global, commit: &[u8]) -> Result<(), V::Fault>
+    /// Puts the record behind those of the last file, with the items that it needs: that of its
+    /// change, if there is one to keep, which need not stay in memory from then on.
+    fn keep_new(&mut self, alloc: Global, commit: &[u8], items: &[Vec<u8>]) -> Result<(), V::Fault>
         requires running { V.is_stopped self.old.vault ≡ false }
         requires end { V.is_at_end self.old.vault }
-        ensures kept { OnOk result
-            (AddsRecord V.holds self.old.vault self.new.vault commit.now) }
+        ensures kept { OnOk result (AddsRecord V.holds self.old.vault self.new.vault
+            (kept_with commit.now items.now)) }
         ensures held { OnErr result (KeepsRecords V.holds self.old.vault self.new.vault) }
+        ensures found { OnOk result
+            (TakesFound V.is_clean V.finds self.old.vault commit.now self.new.vault) }
+        ensures end { V.is_at_end self.new.vault }
     {
         let change = change_of(alloc, commit)?;
-        let items = item_of(self.rt, alloc, self.blocks, change.as_ref())?;
         self.make_room()?;
-        self.note(commit, change.as_ref(), &items)?;
-        self.vault.append(commit, &items)?;
-        release_item(self.rt, alloc, self.blocks, change.as_ref(), &items);
+        self.note(commit, change.as_ref(), items)?;
+        self.vault.append(commit, items)?;
+        release_item(self.rt, alloc, self.blocks, change.as_ref(), items);
         Ok(())
     }
 
@@ -287,21 +298,34 @@ impl<'a, V: Vault, R: Wait> Archive<'a, V, R> {
         Ok(())
     }
 
-    /// Keeps one more record: one that was found, or a new one.
-    fn keep_next(&mut self, alloc: Global, commit: &[u8]) -> Result<(), V::Fault>
+    /// Keeps one more record: one that was found, with which no items come, or a new one. `false`
+    /// where items come with one that was found.
+    fn keep_next(
+        &mut self,
+        alloc: Global,
+        commit: &[u8],
+        items: &[Vec<u8>],
+    ) -> Result<bool, V::Fault>
         requires running { V.is_stopped self.old.vault ≡ false }
-        ensures kept { OnOk result
-            (AddsRecord V.holds self.old.vault self.new.vault commit.now) }
-        ensures held { OnErr result (KeepsRecords V.holds self.old.vault self.new.vault) }
+        ensures kept { result ≡ Ok true → AddsRecord V.holds self.old.vault self.new.vault
+            (kept_with commit.now items.now) }
+        ensures held { result ≢ Ok true → KeepsRecords V.holds self.old.vault self.new.vault }
+        ensures found { result ≡ Ok true
+            → TakesFound V.is_clean V.finds self.old.vault commit.now self.new.vault }
+        ensures end { V.is_at_end self.old.vault → V.is_at_end self.new.vault }
     {
         self.vault.take_up(alloc)?;
         self.turn()?;
         if !self.vault.has_next() {
-            return self.keep_new(alloc, commit);
+            self.keep_new(alloc, commit, items)?;
+            return Ok(true);
+        }
+        if !items.is_empty() {
+            return Ok(false);
         }
         self.vault.keep_found(commit)?;
         self.fill.count_found();
-        Ok(())
+        Ok(true)
     }
 
     /// Reads the item of a digest from the file that has it, if one does.
@@ -309,6 +333,7 @@ impl<'a, V: Vault, R: Wait> Archive<'a, V, R> {
         requires running { V.is_stopped self.old.vault ≡ false }
         ensures hashes { IfOk result (λ found. IfSome found (λ b. sha256 b.items ≡ digest)) }
         ensures held { KeepsRecords V.holds self.old.vault self.new.vault }
+        ensures end { V.is_at_end self.old.vault → V.is_at_end self.new.vault }
     {
         let Some(number) = self.places.get(digest.as_bytes()) else {
             return Ok(None);
@@ -329,6 +354,7 @@ impl<'a, V: Vault, R: Wait> Archive<'a, V, R> {
         requires running { V.is_stopped self.old.vault ≡ false }
         ensures hashes { IfOk result (λ found. IfSome found (λ b. sha256 b.items ≡ digest)) }
         ensures held { KeepsRecords V.holds self.old.vault self.new.vault }
+        ensures end { V.is_at_end self.old.vault → V.is_at_end self.new.vault }
     {
         let Some((file, index)) = self.numbers.find(number) else {
             return Ok(None);
@@ -347,6 +373,7 @@ impl<'a, V: Vault, R: Wait> Archive<'a, V, R> {
     fn read_ahead(&mut self, alloc: Global, index: u32) -> Result<Ahead, V::Fault>
         requires running { V.is_stopped self.old.vault ≡ false }
         ensures held { KeepsRecords V.holds self.old.vault self.new.vault }
+        ensures end { V.is_at_end self.old.vault → V.is_at_end self.new.vault }
     {
         let mut ahead = Ahead::new(alloc);
         for next in index..index.saturating_add(AHEAD + 1) {
@@ -367,6 +394,7 @@ impl<'a, V: Vault, R: Wait> Archive<'a, V, R> {
     ) -> Result<bool, V::Fault>
         requires running { V.is_stopped self.old.vault ≡ false }
         ensures held { KeepsRecords V.holds self.old.vault self.new.vault }
+        ensures end { V.is_at_end self.old.vault → V.is_at_end self.new.vault }
         ensures running { OnOk result (V.is_stopped self.new.vault ≡ false) }
     {
         let Some(commit) = self.vault.record_at(alloc, self.asked, index)? else {
@@ -385,22 +413,32 @@ impl<'a, V: Vault, R: Wait> Archive<'a, V, R> {
 }
 
 impl<'a, V: Vault, R: Wait> Keeper for Archive<'a, V, R> {
-    ghost use Rattle.std.specs.Prelude.{⊤};
+    ghost use Rattle.std.specs.Prelude.{⊤, true};
 
     ghost holds = { λ a. V.holds a.vault };
 
+    ghost found = { λ a. V.finds a.vault };
+
     ghost is_at_end = { λ a. V.is_at_end a.vault };
+
+    ghost is_clean = { λ a. V.is_clean a.vault };
 
     ghost may_fail = { ⊤ };
 
-    fn keep(&mut self, alloc: Global, commit: &[u8]) -> Result<(), NotKept> {
+    ghost reads_back = { true };
+
+    fn keep(&mut self, alloc: Global, commit: &[u8], items: &[Vec<u8>]) -> Result<(), NotKept> {
         if self.vault.is_halted() {
             return Err(NotKept);
         }
-        match self.keep_next(alloc, commit) {
-            Ok(()) => {
+        match self.keep_next(alloc, commit, items) {
+            Ok(true) => {
                 self.numbers.count_one();
                 Ok(())
+            }
+            Ok(false) => {
+                self.vault.halt();
+                Err(NotKept)
             }
             Err(fault) => Err(self.fail(fault)),
         }

@@ -1,6 +1,5 @@
 // The item of a record's change, between the files and the items that threads share.
-ghost use Rattle.std.specs.Prelude.{◌≡◌, All, Some, IfOk, option_copied};
-ghost use Rattle.sha2.specs.Sha256.{sha256};
+ghost use Rattle.std.specs.Prelude.{◌≡◌, Some, IfOk};
 ghost use Rattle.su_version.specs.Commit.{Commit as CommitParts, IsCommit, commit_bytes};
 
 use std::alloc::{AllocError, Global};
@@ -19,28 +18,6 @@ pub(crate) fn change_of(alloc: Global, commit: &[u8]) -> Result<Option<Digest>, 
         Err(Refusal::NoMemory) => Err(AllocError),
         Err(_) => Ok(None),
     }
-}
-
-/// Gets the item of a change, or nothing where it isn't shared.
-pub(crate) fn item_of<R: Wait>(
-    rt: &R,
-    alloc: Global,
-    blocks: &SharedBlocks,
-    change: Option<&Digest>,
-) -> Result<Vec<Vec<u8>>, AllocError>
-    ensures { IfOk result (λ items.
-        All (λ item. option_copied change.entry ≡ Some (sha256 item.items)) items.items) }
-{
-    let mut items = Vec::new(alloc);
-    let Some(digest) = change else {
-        return Ok(items);
-    };
-    match blocks.get(rt, alloc, *digest) {
-        Ok(item) => items.push(item)?,
-        Err(Refusal::MissingBlock) => {}
-        Err(_) => return Err(AllocError),
-    }
-    Ok(items)
 }
 
 /// Tells that the item of a change is kept, where there was one to keep.
