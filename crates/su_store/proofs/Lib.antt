@@ -1,3 +1,4 @@
+pub mod CrashLemmas
 pub mod Shared
 pub mod RowLemmas
 pub mod CreateLemmas

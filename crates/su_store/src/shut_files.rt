@@ -9,7 +9,9 @@ ghost use Rattle.sqlite.specs.Files.{IsCleanLeft, LeavesFiles};
 ghost use Rattle.sqlite.specs.WalReads.{AreClean};
 ghost use Rattle.sqlite_store.specs.FileStore.{state as files_state, view, recovers};
 ghost use Rattle.su_store.specs.Files.{IsAtRest};
-ghost use Rattle.su_store.specs.Shut.{Rests};
+ghost use Rattle.sqlite.specs.Recovery.{Image};
+ghost use Rattle.sqlite.specs.WalFiles.{outcomes};
+ghost use Rattle.su_store.specs.Shut.{Rests, MayHold};
 
 use crate::faults::FileFault;
 use crate::record_files::RecordFile;
@@ -26,6 +28,14 @@ pub struct ShutFile<D: Disk> {
 }
 
 impl<D: Disk> ShutFile<D> {
+    /// Hands the two files back.
+    pub fn into_files(self) -> Files<D>
+        ensures { result ≡ self.files }
+    {
+        let ShutFile { files } = self;
+        files
+    }
+
     /// Takes over the handles of a file of the store that nothing has read yet.
     pub fn over(files: Files<D>) -> ShutFile<D>
         requires log { IsTrue (D.Disk.is_usable files.log) }
@@ -64,6 +74,24 @@ impl<D: Disk + Drop> RecordFile<FileStore<D>> {
             Ok(files) => Ok(ShutFile { files }),
             Err((error, store)) => Err((FileFault::from(error), store)),
         }
+    }
+}
+
+impl<D: Disk + Drop> RecordFile<FileStore<D>> {
+    /// Gives up what is in memory, and hands the two files back as they are, as a process that dies
+    /// leaves them. Whatever a crash makes of them then holds tables that a crash could leave before.
+    pub fn abandon(self) -> Files<D>
+        ensures clean { AreClean D.Disk result.log result.db → HasCleanDisk (file_state self.held) }
+        ensures left { AreClean D.Disk result.log result.db → (image : Image)
+            → outcomes D.Disk result.log result.db image
+            → ∥ MayHold (file_state self.held) image ∥₁ }
+    {
+        let RecordFile {
+            connection,
+            count: _,
+            is_spent: _,
+        } = self;
+        connection.into_store().close()
     }
 }
 
