@@ -43,12 +43,6 @@ pub always_err : {A E P : Type 0} (r : Result A E) → P → OnErr r P
 always_err (Ok x) p = tt
 always_err (Err e) p = p
 
--- the tables that the two files held are shown
-pub records_shown : (commits : List (List ℕ)) (image : Image) (now : Trees) → HoldsRecords commits image → ((db : Trees) → HoldsDatabase image db → now ≡ db) → HasRecords commits now
-records_shown commits image now was shows =
-    let same : now ≡ was.db = ∥∥₁_elim was.held (Trees-set _ _) (shows was.db) in
-    subst (HasRecords commits) (sym same) was.has
-
 module _ {D : Type 0} (g : Ghosts D) where
   -- a file that isn't open counts what it keeps
   pub shut_counts : (place : Place D g) (number : ℕ) (records : List KeptRecord) → IsShut place → KeepsAll g place records → Counts g place number records

@@ -1,3 +1,5 @@
+pub mod TablesLemmas
+pub mod CrashLemmas
 pub mod BesideLemmas
 pub mod PlaceLemmas
 pub mod CurrentLemmas

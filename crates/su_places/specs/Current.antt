@@ -23,10 +23,9 @@ pub record HasRecords (commits : List (List ℕ)) (db : Trees) : Type 0 where
   pub same : kept.records ≡ commits
 
 -- the two files hold tables that stand for these records
-pub record HoldsRecords (commits : List (List ℕ)) (image : Image) : Type 0 where
-  pub db : Trees
-  pub has : HasRecords commits db
-  pub held : ∥ HoldsDatabase image db ∥₁
+abbrev pub HoldsRecords : List (List ℕ) → Image → Type 0
+HoldsRecords commits image =
+    ∥ ((db : Trees) × HasRecords commits db × HoldsDatabase image db) ∥₁
 
 -- the tables stand for records of which these are the first
 pub record BeginsWith (records : List KeptRecord) (db : Trees) : Type 0 where

@@ -1,6 +1,7 @@
 //! One file of a store, open or shut: what it keeps, whatever a crash leaves of it.
 #![tactic(auto)]
 
+mod crashes;
 mod current;
 mod places;
 mod store_volumes;

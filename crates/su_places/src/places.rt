@@ -1,10 +1,13 @@
 // A file of a store, which is read into memory only while it is open.
-ghost use Rattle.std.specs.Prelude.{[], List, ℕ, IfOk, IfErr, OnOk};
+ghost use Rattle.std.specs.Prelude.{[], List, ℕ, IfOk, IfErr, IfSome, OnOk};
+ghost use Rattle.sqlite.specs.Files.{image_of};
+ghost use Rattle.sqlite.specs.WalReads.{AreClean};
 ghost use Rattle.su_keeper.specs.Kept.{KeptRecord};
-ghost use Rattle.su_vault.specs.Records.{KeepsRecords};
+ghost use Rattle.su_vault.specs.Records.{KeepsRecords, commits_of};
 
+use crate::crashes::crash_both;
 use sqlite::{FileStore, Leftover, Options};
-use sqlite_disk::Disk;
+use sqlite_disk::{Crash, Disk};
 use std::alloc::Global;
 use std::mem;
 use su_store::{FileFault, RecordFile, ShutFile};
@@ -126,5 +129,25 @@ impl<D: Disk + Drop> Place<D> {
             },
             Err((fault, _place)) => Err(fault),
         }
+    }
+}
+
+impl<D: Disk + Crash + Drop> Place<D> {
+    ghost use Rattle.su_places.specs.Places.{KeepsAll};
+    ghost use Rattle.su_places.specs.Current.{HoldsRecords};
+
+    /// Gives up what is in memory, and crashes the disks of the two files. `None` where the file was
+    /// lost to a call.
+    pub(crate) fn crash(self) -> Option<ShutFile<D>>
+        ensures { IfSome result (λ s. AreClean D.Disk s.files.log s.files.db
+            → (records : List KeptRecord) → KeepsAll D.Disk self records
+            → HoldsRecords (commits_of records) (image_of D.Disk s.files)) }
+    {
+        let files = match self {
+            Place::Open(file) => file.abandon(),
+            Place::Shut(shut) => shut.into_files(),
+            _ => return None,
+        };
+        Some(ShutFile::over(crash_both(files)))
     }
 }

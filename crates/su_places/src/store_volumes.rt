@@ -1,5 +1,6 @@
 // A file of a store as a volume.
-ghost use Rattle.std.specs.Prelude.{ℕ, List, []};
+ghost use Rattle.std.specs.Prelude.{◌≡◌, ℕ, List, []};
+ghost use Rattle.su_places.specs.declared.places.Place.TheVariants.{Shut};
 ghost use Rattle.sqlite.specs.State.{HasCleanDisk};
 ghost use Rattle.sqlite.specs.Files.{file_state, over_files, image_of};
 ghost use Rattle.su_store.specs.Kept.{nothing};
@@ -18,8 +19,8 @@ use su_vault::{Volume, VolumeFault};
 /// A file of a store, and how it is opened each time that it was shut.
 #[derive(Drop)]
 pub struct StoreVolume<D: Disk> {
-    place: Place<D>,
-    options: Options,
+    pub(crate) place: Place<D>,
+    pub(crate) options: Options,
 }
 
 impl<D: Disk + Drop> StoreVolume<D> {
@@ -43,6 +44,7 @@ impl<D: Disk + Drop> StoreVolume<D> {
     /// Takes over a file that is shut.
     pub fn over_shut(file: ShutFile<D>, options: Options) -> StoreVolume<D>
         ensures rest { RestsShut result.place }
+        ensures place { result.place ≡ Shut file }
         ensures found { (commits : List (List ℕ))
             → HoldsRecords commits (image_of D.Disk file.files)
             → WasFound D.Disk result.place commits }

@@ -5,7 +5,8 @@ use Rattle.su_places.specs.Current.{WasFound}
 use Rattle.su_places.specs.declared.places.Place.TheVariants.{Open}
 use Rattle.su_places.proofs.PlaceLemmas.{open_keeps}
 use Rattle.su_places.specs.Laws.{tables_shown, shown_counts}
-use Rattle.su_places.proofs.CurrentLemmas.{records_shown, open_shows}
+use Rattle.su_places.proofs.CurrentLemmas.{open_shows}
+use Rattle.su_places.proofs.TablesLemmas.{records_shown}
 use Rattle.su_places.proofs.places.Place.into_open.Goals as goal
 
 pub returns-in-Ok-clause-kept : goal.returns-in-Ok-clause-kept
