@@ -30,18 +30,18 @@ first_left [] more (suc n) none = ap first_found (sym (none (omega arith)))
 first_left (x ∷ own) more zero none = refl
 first_left (x ∷ own) more (suc n) none = first_left own more n (λ long. none (omega (arith, long)))
 
-in_turn_last : (lists : List (List (List ℕ))) (list : List (List ℕ)) → in_turn (lists ++ list ∷ []) ≡ list ++ in_turn lists
+pub in_turn_last : (lists : List (List (List ℕ))) (list : List (List ℕ)) → in_turn (lists ++ list ∷ []) ≡ list ++ in_turn lists
 in_turn_last [] list = sym (append-nil list)
 in_turn_last (x ∷ lists) list = ap (λ l. l ++ x) (in_turn_last lists list) ∙ append_assoc list (in_turn lists) x
 
-record Last {A B : Type 0} (R : A → B → Type 0) (xs : List A) (x : A) (ys : List B) : Type 0 where
-  others : List B
-  last : B
-  split : ys ≡ others ++ last ∷ []
-  all : AllZip R xs others
-  one : R x last
+pub record Last {A B : Type 0} (R : A → B → Type 0) (xs : List A) (x : A) (ys : List B) : Type 0 where
+  pub others : List B
+  pub last : B
+  pub split : ys ≡ others ++ last ∷ []
+  pub all : AllZip R xs others
+  pub one : R x last
 
-all_zip_last : {A B : Type 0} (R : A → B → Type 0) (xs : List A) (x : A) (ys : List B) → AllZip R (xs ++ x ∷ []) ys → Last R xs x ys
+pub all_zip_last : {A B : Type 0} (R : A → B → Type 0) (xs : List A) (x : A) (ys : List B) → AllZip R (xs ++ x ∷ []) ys → Last R xs x ys
 all_zip_last R [] x [] all = absurd all
 all_zip_last R [] x (y ∷ []) all = record { others = []; last = y; split = refl; all = tt; one = all.0 }
 all_zip_last R [] x (y ∷ z ∷ ys) all = absurd all.1
@@ -50,7 +50,7 @@ all_zip_last R (w ∷ xs) x (y ∷ ys) all =
     let it = all_zip_last R xs x ys all.1 in
     record { others = y ∷ it.others; last = it.last; split = ap (λ l. y ∷ l) it.split; all = (all.0, it.all); one = it.one }
 
-all_zip_none : {A B : Type 0} (R : A → B → Type 0) (ys : List B) → AllZip R [] ys → ys ≡ []
+pub all_zip_none : {A B : Type 0} (R : A → B → Type 0) (ys : List B) → AllZip R [] ys → ys ≡ []
 all_zip_none R [] all = refl
 all_zip_none R (y ∷ ys) all = absurd all
 

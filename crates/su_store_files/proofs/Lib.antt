@@ -1,3 +1,4 @@
+pub mod CrashLemmas
 pub mod FoundLemmas
 pub mod PastLemmas
 pub mod VolumeLemmas

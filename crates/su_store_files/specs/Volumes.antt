@@ -2,6 +2,7 @@
 use Rattle.std.specs.Prelude.{◌≡◌, ◌≤◌, ℕ, true, false, List, [], ◌∷◌, ◌++◌, drop}
 use Rattle.std.specs.List.{All, AllZip}
 use Rattle.su_keeper.specs.Kept.{KeptRecord}
+use Rattle.su_vault.specs.Records.{commits_of}
 use Rattle.su_vault.specs.declared.volumes.Volume.{Ghosts}
 use Rattle.su_store_files.specs.Past.{KeepInTurn}
 use Rattle.su_store_files.specs.declared.volumes.Opened.{Opened}
@@ -77,3 +78,15 @@ pub record AreClean {F E : Type 0} (g : Ghosts F E) (v : Volumes F E) : Type 0 w
   pub past : All g.is_clean v.past.places.items
   pub current : g.is_clean v.current
   pub later : All g.is_clean v.later.items
+
+-- What the next start finds of the file stands for these records, as long as no wrong answer was taken
+-- as true.
+abbrev pub IsLeft : {F E : Type 0} (g : Ghosts F E) → F → List (List ℕ) → Type 0
+IsLeft g file commits = g.is_clean file → g.was_found file commits
+
+-- So it is of files, the last of them first, which kept the records of these lists.
+pub record AreLeft {F E : Type 0} (g : Ghosts F E) (found : List F) (lists : List (List KeptRecord)) :
+    Type 0 where
+  pub commits : List (List (List ℕ))
+  pub all : in_turn commits ≡ commits_of (joined lists)
+  pub each : AllZip (IsLeft g) found commits

@@ -44,6 +44,20 @@ impl<N: ArchiveName, V: Volume, H: Shelf<V>> ArchiveFiles<N, V, H> {
     }
 }
 
+impl<N: ArchiveName, V: Volume, H: Shelf<V>> ArchiveFiles<N, V, H> {
+    /// Hands the files back.
+    pub fn into_volumes(self) -> Volumes<V>
+        ensures { result ≡ self.volumes }
+    {
+        let ArchiveFiles {
+            volumes,
+            shelf: _shelf,
+            name: _,
+        } = self;
+        volumes
+    }
+}
+
 impl<N: ArchiveName, V: Volume, H: Shelf<V>> Vault for ArchiveFiles<N, V, H> {
     ghost use Rattle.std.specs.Prelude.{◌≡◌, []};
     ghost use Rattle.su_store_files.specs.Volumes.{AreClean, FindsInTurn, IsThrough, IsAtEnd};

@@ -3,6 +3,7 @@
 #![tactic(auto)]
 
 mod archive_files;
+mod crashes;
 mod past;
 mod turns;
 mod volumes;

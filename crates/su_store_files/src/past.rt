@@ -60,6 +60,14 @@ impl<V: Volume> PastFiles<V> {
         }
     }
 
+    /// Hands the files back.
+    pub(crate) fn into_places(self) -> Vec<V>
+        ensures { result ≡ self.places }
+    {
+        let PastFiles { places, opened: _ } = self;
+        places
+    }
+
     /// How many files there are.
     pub(crate) fn len(&self) -> usize {
         self.places.len()

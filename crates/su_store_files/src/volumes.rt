@@ -26,11 +26,11 @@ pub struct Opened<V: Volume> {
 /// no more are kept.
 #[derive(Drop)]
 pub struct Volumes<V: Volume> {
-    past: PastFiles<V>,
-    current: V,
-    later: Vec<V>,
-    kept: u32,
-    is_halted: bool,
+    pub(crate) past: PastFiles<V>,
+    pub(crate) current: V,
+    pub(crate) later: Vec<V>,
+    pub(crate) kept: u32,
+    pub(crate) is_halted: bool,
 }
 
 impl<V: Volume> Volumes<V> {

@@ -142,6 +142,24 @@ impl<'a, V: Vault, R: Wait> Archive<'a, V, R> {
         Ok(())
     }
 
+    /// Hands the vault back.
+    pub fn into_vault(self) -> V
+        ensures { result ≡ self.vault }
+    {
+        let Archive {
+            vault,
+            fill: _,
+            places: _places,
+            lacking: _lacking,
+            numbers: _numbers,
+            asked: _,
+            fault: _fault,
+            blocks: _,
+            rt: _,
+        } = self;
+        vault
+    }
+
     /// Shuts all files, and gives them up. Fails at the first one that isn't shut; the others are left
     /// as they are.
     pub fn close(self) -> Result<(), V::Fault> {
