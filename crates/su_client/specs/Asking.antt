@@ -15,10 +15,17 @@ pub record Joins (a b : LinkState) : Type 0 where
   pub held : b.held ≡ a.held
   pub failed : b.failed ≡ a.failed
 
+-- Some bytes were read, and may be lost; nothing was written.
+pub record Reads (a b : LinkState) : Type 0 where
+  pub input : List ℕ
+  pub read : Consumes a.known b.known input
+  pub held : b.held ≡ a.held
+  pub failed : b.failed ≡ a.failed
+
 -- one read
 abbrev pub Refills : LinkState → Bool → LinkState → Type 0
 Refills a true b = Joins a b
-Refills a false b = b.failed ≡ a.failed
+Refills a false b = Reads a b
 
 -- The next message is taken of what waits and what is read.
 pub record Takes (a : LinkState) (message : List ℕ) (b : LinkState) : Type 0 where
@@ -31,7 +38,7 @@ pub record Takes (a : LinkState) (message : List ℕ) (b : LinkState) : Type 0 w
 
 abbrev pub Fetches : LinkState → Option (Vec ℕ) → LinkState → Type 0
 Fetches a (Some message) b = Takes a message.items b
-Fetches a None b = b.failed ≡ a.failed
+Fetches a None b = Reads a b
 
 -- A message is written whole, and the one that comes next is this reply.
 pub record Talks (message : List ℕ) (a : LinkState) (r : Reply) (b : LinkState) : Type 0 where
@@ -43,6 +50,14 @@ pub record Talks (message : List ℕ) (a : LinkState) (r : Reply) (b : LinkState
   pub next : a.waits ++ input ≡ frame (reply_bytes r) ++ b.waits
   pub failed : b.failed ≡ a.failed
 
+-- Some bytes were written and some read, and no reply came of it.
+pub record Spends (a b : LinkState) : Type 0 where
+  pub output : List ℕ
+  pub written : Appends a.held b.held output
+  pub input : List ℕ
+  pub read : Consumes a.known b.known input
+  pub failed : b.failed ≡ a.failed
+
 abbrev pub Exchanges : List ℕ → LinkState → Option Reply → LinkState → Type 0
 Exchanges message a (Some r) b = Talks message a r b
-Exchanges message a None b = b.failed ≡ a.failed
+Exchanges message a None b = Spends a b

@@ -1,3 +1,4 @@
 pub mod Fitting
 pub mod Link
+pub mod Following
 pub mod Asking

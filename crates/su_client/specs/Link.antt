@@ -1,8 +1,8 @@
 -- A link between a client and a server, and one request and its reply on it.
-use Rattle.std.specs.Prelude.{◌≡◌, ◌⊎◌, ℕ, Bool, true, false, List, ◌++◌, Contains, Option, Some, None, Result, Ok, Err}
+use Rattle.std.specs.Prelude.{◌≡◌, ◌⊎◌, ℕ, Bool, true, false, List, [], ◌++◌, Contains, MatchOption, Option, Some, None, Result, Ok, Err}
 use Rattle.std.specs.Io.KnownBytes.{Appends, Consumes}
 use Rattle.su_bytes.specs.declared.refusals.Refusal.{Refusal}
-use Rattle.su_bytes.specs.declared.refusals.Refusal.TheVariants.{NoMemory, LinkFailed}
+use Rattle.su_bytes.specs.declared.refusals.Refusal.TheVariants.{MissingBlock, SourceFailed, NoMemory, LinkFailed}
 use Rattle.su_bytes.specs.Refusal.{refusal_number}
 use Rattle.su_frames.specs.Stream.{frame, IsMessage, Splits}
 use Rattle.su_message.specs.declared.requests.Request.{Request}
@@ -10,7 +10,7 @@ use Rattle.su_message.specs.declared.replies.Reply.{Reply}
 use Rattle.su_message.specs.declared.replies.Reply.TheVariants.{Kept, Nothing, Item, Refused}
 use Rattle.su_message.specs.Request.{IsRequest, request_bytes}
 use Rattle.su_message.specs.Reply.{IsReply, reply_bytes, refused_argument}
-use Rattle.su_client.specs.Fitting.{may_refuse}
+use Rattle.su_client.specs.Fitting.{may_refuse, fitting}
 
 -- What contracts see of a link: the bytes that are still to come, and those that were written, where
 -- they are known; the bytes that have come and weren't used; whether it has failed.
@@ -19,6 +19,10 @@ pub record LinkState : Type 0 where
   pub held : Option (List ℕ)
   pub waits : List ℕ
   pub failed : Bool
+
+-- a link over which nothing has come that waits, and that works
+abbrev pub IsFresh : LinkState → Type 0
+IsFresh a = (a.waits ≡ []) × (a.failed ≡ false)
 
 -- The request was written whole, and the message that came next is this reply.
 pub record Exchanged (q : Request) (a b : LinkState) (r : Reply) : Type 0 where
@@ -32,6 +36,19 @@ pub record Exchanged (q : Request) (a b : LinkState) (r : Reply) : Type 0 where
   pub next : a.waits ++ input ≡ frame (reply_bytes r) ++ b.waits
   pub good : b.failed ≡ false
 
+-- What may have become of a link by some calls: some bytes were written, and some were read. A link
+-- that has failed is asked no more: nothing is written to it or read from it.
+pub record Follows (a b : LinkState) : Type 0 where
+  pub output : List ℕ
+  pub written : Appends a.held b.held output
+  pub input : List ℕ
+  pub read : Consumes a.known b.known input
+  pub no_more : a.failed ≡ true → b ≡ a
+
+-- the link failed in a call, or had before
+abbrev pub Fails : LinkState → LinkState → Refusal → Type 0
+Fails a b e = (e ≡ LinkFailed) × (b.failed ≡ true) × Follows a b
+
 -- Nothing was written, as there was no memory for the request.
 abbrev pub Unasked : LinkState → LinkState → Type 0
 Unasked a b = (a.failed ≡ false) × (b ≡ a)
@@ -39,18 +56,24 @@ Unasked a b = (a.failed ≡ false) × (b ≡ a)
 -- what became of a request
 abbrev pub Asked : Request → LinkState → LinkState → Result Reply Refusal → Type 0
 Asked q a b (Ok r) = Exchanged q a b r
-Asked q a b (Err e) =
-    ((e ≡ LinkFailed) × (b.failed ≡ true))
-    ⊎ ((e ≡ NoMemory) × Unasked a b)
+Asked q a b (Err e) = Fails a b e ⊎ ((e ≡ NoMemory) × Unasked a b)
 
 -- Why a call fails: the link failed, or had before; there was no memory for the request; or the
 -- server refused it, as it may.
 abbrev pub IsRefusal : Request → LinkState → LinkState → Refusal → Type 0
 IsRefusal q a b e =
-    ((e ≡ LinkFailed) × (b.failed ≡ true))
+    Fails a b e
     ⊎ ((e ≡ NoMemory) × Unasked a b)
     ⊎ ((may_refuse q e ≡ true)
     × Exchanged q a b (Refused (refusal_number e) (refused_argument e)))
+
+-- A reply came that isn't the request's own. It tells of a refusal that fits the request, and the
+-- link stays as it was; or the link has failed.
+abbrev pub Refuses : Request → Reply → LinkState → LinkState → Refusal → Type 0
+Refuses q r a b e =
+    MatchOption (fitting q r)
+    ((e ≡ LinkFailed) × (b ≡ record a { failed = true }))
+    (λ told. (e ≡ told) × (b ≡ a))
 
 -- the reply to a request for a record
 abbrev pub kept_or_nothing : Option (List ℕ) → Reply
@@ -69,3 +92,10 @@ IsToldOf waits (Some bytes) item =
 -- once it has failed
 abbrev pub MayGive : LinkState → List ℕ → Type 0
 MayGive a item = (a.failed ≡ false) × IsToldOf a.waits a.known item
+
+-- what a source that is a client answers to a refusal: a link that has failed is a source that
+-- could not be asked
+abbrev pub of_source : Refusal → Refusal
+of_source MissingBlock = MissingBlock
+of_source NoMemory = NoMemory
+of_source _ = SourceFailed

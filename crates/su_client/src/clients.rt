@@ -1,12 +1,14 @@
 // A client of a server.
-ghost use Rattle.std.specs.Prelude.{◌≡◌, ◌⊎◌, ◌↔◌, ℕ, List, [], true, false, IfOk, IfErr, OnErr, Err};
+ghost use Rattle.std.specs.Prelude.{◌≡◌, ◌⊎◌, ◌↔◌, ℕ, List, [], true, false, IfOk, IfErr, OnOk, OnErr, Err};
 ghost use Rattle.sha2.specs.Sha256.{sha256};
 ghost use Rattle.su_bytes.specs.declared.refusals.Refusal.TheVariants.{MissingBlock, SourceFailed, TooBig, NoMemory};
+ghost use Rattle.su_bytes.specs.Refusal.{refusal_number};
+ghost use Rattle.su_client.specs.Following.{follows_itself, follows_on};
 ghost use Rattle.su_block.specs.Item.{is_item};
 ghost use Rattle.su_block.specs.Failure.{failures_after};
 ghost use Rattle.su_message.specs.declared.requests.Request.TheVariants as request;
 ghost use Rattle.su_message.specs.declared.replies.Reply.TheVariants as reply;
-ghost use Rattle.su_client.specs.Link.{LinkState, Exchanged, IsRefusal, MayGive, kept_or_nothing};
+ghost use Rattle.su_client.specs.Link.{LinkState, Exchanged, Follows, IsRefusal, MayGive, kept_or_nothing, of_source};
 
 use crate::links::Link;
 use std::alloc::Global;
@@ -54,6 +56,7 @@ impl<R: Read + Drop, W: Write + Drop> Client<R, W> {
         ensures granted { IfOk result (λ g.
             Exchanged request.Grant self.old.link self.new.link (reply.Granted g.0 g.1)) }
         ensures refused { IfErr result (IsRefusal request.Grant self.old.link self.new.link) }
+        ensures follows { Follows self.old.link self.new.link }
     {
         let request = Request::Grant;
         match self.link.ask(&request)? {
@@ -70,6 +73,7 @@ impl<R: Read + Drop, W: Write + Drop> Client<R, W> {
             Exchanged (request.Commit bytes.items) self.old.link self.new.link (reply.Stored n)) }
         ensures refused { IfErr result
             (IsRefusal (request.Commit bytes.items) self.old.link self.new.link) }
+        ensures follows { Follows self.old.link self.new.link }
     {
         let request = Request::Commit(Bytes::new(bytes));
         match self.link.ask(&request)? {
@@ -83,6 +87,7 @@ impl<R: Read + Drop, W: Write + Drop> Client<R, W> {
         ensures given { IfOk result (λ _.
             Exchanged request.Give self.old.link self.new.link reply.Given) }
         ensures refused { IfErr result (IsRefusal request.Give self.old.link self.new.link) }
+        ensures follows { Follows self.old.link self.new.link }
     {
         let request = Request::Give;
         match self.link.ask(&request)? {
@@ -97,6 +102,7 @@ impl<R: Read + Drop, W: Write + Drop> Client<R, W> {
             self.new.link (kept_or_nothing bytes)) }
         ensures refused { IfErr result
             (IsRefusal (request.Fetch number) self.old.link self.new.link) }
+        ensures follows { Follows self.old.link self.new.link }
     {
         let request = Request::Fetch(number);
         match self.link.ask(&request)? {
@@ -112,6 +118,7 @@ impl<R: Read + Drop, W: Write + Drop> Client<R, W> {
             self.new.link (reply.Item item.items)) }
         ensures refused { IfErr result
             (IsRefusal (request.Get digest) self.old.link self.new.link) }
+        ensures follows { Follows self.old.link self.new.link }
         ensures failures { self.new.failures ≡ self.old.failures }
     {
         let request = Request::Get(digest);
@@ -127,6 +134,7 @@ impl<R: Read + Drop, W: Write + Drop> Client<R, W> {
             self.new.link (reply.PutDone digest)) }
         ensures refused { IfErr result
             (IsRefusal (request.Put item.items) self.old.link self.new.link) }
+        ensures follows { Follows self.old.link self.new.link }
         ensures failures { self.new.failures ≡ self.old.failures }
     {
         let request = Request::Put(Bytes::new(item));
@@ -140,7 +148,7 @@ impl<R: Read + Drop, W: Write + Drop> Client<R, W> {
 /// What a source that is a client answers to a refusal: a link that failed is a source that could
 /// not be asked.
 fn of_source(refusal: Refusal) -> Refusal
-    ensures { (result ≡ MissingBlock) ⊎ (result ≡ SourceFailed) ⊎ (result ≡ NoMemory) }
+    ensures { result ≡ of_source refusal }
 {
     match refusal {
         Refusal::MissingBlock => Refusal::MissingBlock,
@@ -159,10 +167,25 @@ impl<R: Read + Drop, W: Write + Drop> BlockSource for Client<R, W> {
 
     ghost failed = { λ c. c.failures };
 
+    ghost follows = { λ c d. Follows c.link d.link };
+
+    ghost puts = { λ c item d.
+        Exchanged (request.Put item) c.link d.link (reply.PutDone (sha256 item)) };
+
+    ghost follows_itself = { λ c. follows_itself c.link };
+
+    ghost follows_on = { λ a b c. follows_on a.link b.link c.link };
+
     fn get(&mut self, _alloc: Global, digest: Digest) -> Result<Vec<u8>, Refusal>
         ensures given { IfOk result (λ item. MayGive self.old.link item.items) }
+        ensures got { IfOk result (λ item. Exchanged (request.Get digest) self.old.link
+            self.new.link (reply.Item item.items)) }
+        ensures missing { result ≡ Err MissingBlock → Exchanged (request.Get digest) self.old.link
+            self.new.link (reply.Refused (refusal_number MissingBlock) 0) }
+        ensures failed { result ≡ Err SourceFailed → self.new.link.failed ≡ true }
         ensures refused { IfErr result (λ e.
             (e ≡ MissingBlock) ⊎ (e ≡ SourceFailed) ⊎ (e ≡ NoMemory)) }
+        ensures follows { Follows self.old.link self.new.link }
         ensures no_more { (s : List ℕ) → MayGive self.new.link s → MayGive self.old.link s }
         ensures counted { self.new.failures ≡ failures_after result digest self.old.failures }
     {
@@ -178,6 +201,10 @@ impl<R: Read + Drop, W: Write + Drop> BlockSource for Client<R, W> {
 
     fn put(&mut self, alloc: Global, item: &[u8]) -> Result<Digest, Refusal>
         ensures digest { IfOk result (λ digest. digest ≡ sha256 item.now) }
+        ensures puts { OnOk result (Exchanged (request.Put item.now) self.old.link self.new.link
+            (reply.PutDone (sha256 item.now))) }
+        ensures failed { result ≡ Err SourceFailed → self.new.link.failed ≡ true }
+        ensures follows { Follows self.old.link self.new.link }
         ensures too_big { (result ≡ Err TooBig) ↔ (is_item item.now ≡ false) }
         ensures refused { IfErr result (λ e. (e ≡ TooBig) ⊎ (e ≡ SourceFailed) ⊎ (e ≡ NoMemory)) }
         ensures no_more { (s : List ℕ) → MayGive self.new.link s → MayGive self.old.link s }

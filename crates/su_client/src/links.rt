@@ -1,7 +1,7 @@
 // The link to a server.
 ghost use Rattle.std.specs.Prelude.{◌≡◌, [], true, false};
 ghost use Rattle.su_bytes.specs.declared.refusals.Refusal.TheVariants.{LinkFailed};
-ghost use Rattle.su_client.specs.Link.{LinkState, Asked, Exchanged, IsRefusal};
+ghost use Rattle.su_client.specs.Link.{LinkState, Asked, Exchanged, IsRefusal, Refuses};
 ghost use Rattle.su_client.specs.Asking.{Exchanges, Fetches, Refills};
 
 use crate::refusals::{may_refuse, told};
@@ -83,10 +83,11 @@ impl<R: Read + Drop, W: Write + Drop> Link<R, W> {
         }
     }
 
-    /// Finds the refusal that a reply tells of, where it may refuse the request. Where it doesn't,
-    /// the link has failed.
+    /// Finds the refusal that a reply tells of, where it may refuse the request; the link stays as
+    /// it was. Where the reply tells of none that may, the link has failed.
     pub fn refusal(&mut self, request: &Request, reply: &Reply) -> Refusal
-        ensures { (a : LinkState) → Exchanged request.now a self.old reply.now
+        ensures told { Refuses request.now reply.now self.old self.new result }
+        ensures refused { (a : LinkState) → Exchanged request.now a self.old reply.now
             → IsRefusal request.now a self.new result }
     {
         let Reply::Refused(number, argument) = reply else {
@@ -156,7 +157,7 @@ impl<R: Read + Drop, W: Write + Drop> Link<R, W> {
     /// Lets the link have failed.
     pub fn fail(&mut self) -> Refusal
         ensures refusal { result ≡ LinkFailed }
-        ensures failed { self.new.failed ≡ true }
+        ensures failed { self.new ≡ record self.old { failed = true } }
     {
         self.failed = true;
         Refusal::LinkFailed

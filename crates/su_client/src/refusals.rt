@@ -2,7 +2,7 @@
 ghost use Rattle.std.specs.Prelude.{◌≡◌, IfSome};
 ghost use Rattle.su_bytes.specs.Refusal.{refusal_number};
 ghost use Rattle.su_message.specs.Reply.{refused_argument};
-ghost use Rattle.su_client.specs.Fitting.{may_refuse};
+ghost use Rattle.su_client.specs.Fitting.{may_refuse, told, told_alone};
 
 use su_bytes::Refusal;
 use su_message::Request;
@@ -10,7 +10,8 @@ use su_message::Request;
 /// Finds the refusal that a reply tells of by its number and argument, if it is one that a server
 /// gives.
 pub(crate) fn told(number: u8, argument: u64) -> Option<Refusal>
-    ensures { IfSome result (λ e.
+    ensures value { result ≡ told number argument }
+    ensures number { IfSome result (λ e.
         (refusal_number e ≡ number) × (refused_argument e ≡ argument)) }
 {
     match number {
@@ -34,7 +35,9 @@ pub(crate) fn told(number: u8, argument: u64) -> Option<Refusal>
 
 /// The same of a refusal whose argument is 0.
 fn told_alone(number: u8) -> Option<Refusal>
-    ensures { IfSome result (λ e. (refusal_number e ≡ number) × (refused_argument e ≡ 0)) }
+    ensures value { result ≡ told_alone number }
+    ensures number { IfSome result (λ e.
+        (refusal_number e ≡ number) × (refused_argument e ≡ 0)) }
 {
     match number {
         5 => Some(Refusal::MissingBlock),
