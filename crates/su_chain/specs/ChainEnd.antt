@@ -31,6 +31,7 @@ pub record IsEndOf (ro : Membership) (cs : List Commit) (e : ChainEnd) : Type 0 
 -- a user of the roster has a key that is none
 pub record HasBadKey (ro : Membership) : Type 0 where
   pub user : ℕ
+  pub number : is_user user ≡ true
   pub key : List ℕ
   pub listed : user_key ro user ≡ Some key
   pub bad : ¬ IsPublicKey key

@@ -1,9 +1,10 @@
 // The end of a chain of commits.
-ghost use Rattle.std.specs.Prelude.{◌≡◌, ◌≤◌, ◌<◌, ◌+◌, ◌-◌, ◌^◌, ◌⊎◌, ◌↔◌, ◌++◌, ◌∷◌, ℕ, List, [], None, length, IsTrue, IfOk, IfErr, OnOk};
+ghost use Rattle.std.specs.Prelude.{◌≡◌, ◌≤◌, ◌<◌, ◌+◌, ◌-◌, ◌^◌, ◌⊎◌, ◌↔◌, ◌++◌, ◌∷◌, ℕ, List, [], None, length, IsTrue, IfOk, IfErr, IfSome, OnOk};
 ghost use Rattle.su_bytes.specs.Membership.{Membership};
 ghost use Rattle.su_bytes.specs.Order.{RefusedBy};
 ghost use Rattle.su_bytes.specs.RosterBytes.{user_key};
 ghost use Rattle.su_bytes.specs.declared.refusals.Refusal.TheVariants.{BadKey, NoMemory};
+ghost use Rattle.su_lms.specs.Signature.{IsPublicKey};
 ghost use Rattle.su_vector.specs.Vector.{zeros};
 ghost use Rattle.su_version.specs.Commit.{Commit as CommitParts, commit_digest};
 ghost use Rattle.su_version.specs.Chain.{IsSignedBy, MayBeNext, next_order, tip};
@@ -41,6 +42,7 @@ impl ChainEnd {
     /// `NoMemory`.
     pub fn new(alloc: Global, roster: &Roster) -> Result<ChainEnd, Refusal>
         ensures end { IfOk result (λ end. IsEndOf roster.now [] end) }
+        ensures keys { OnOk result (¬ HasBadKey roster.now) }
         ensures refused { IfErr result (λ e.
             ((e ≡ BadKey) × HasBadKey roster.now) ⊎ (e ≡ NoMemory)) }
     {
@@ -171,6 +173,7 @@ fn keys_of(alloc: Global, roster: &Roster) -> Result<Vec<UserKey>, Refusal>
     ensures keys { IfOk result (λ users. AreKeysOf roster.now users.items) }
     ensures leaves { IfOk result (λ users. (u : ℕ)
         → (user_at users.items u).leaf ≡ None) }
+    ensures good { OnOk result (¬ HasBadKey roster.now) }
     ensures refused { IfErr result (λ e.
         ((e ≡ BadKey) × HasBadKey roster.now) ⊎ (e ≡ NoMemory)) }
 {
@@ -188,10 +191,12 @@ fn keys_of(alloc: Global, roster: &Roster) -> Result<Vec<UserKey>, Refusal>
 /// Reads the key of a user, if there is such a user; `BadKey` where it is none.
 fn key_of(roster: &Roster, user: User) -> Result<Option<PublicKey>, Refusal>
     ensures key { IfOk result (λ key. key ≡ user_key roster.now user) }
+    ensures good { IfOk result (λ key. IfSome key IsPublicKey) }
     ensures refused { IfErr result (λ e. (e ≡ BadKey) × HasBadKey roster.now) }
 {
     // names the type for the prover (docs/ARCHITECTURE.md, "Forms the kit wants")
     let _file: Option<FileId> = None;
+    let _number = user.number();
     match roster.key(user) {
         None => Ok(None),
         Some(bytes) => Ok(Some(PublicKey::parse(bytes)?)),

@@ -1,5 +1,5 @@
 use Rattle.std.specs.Prelude.{◌≡◌, false, true}
-use Rattle.std.proofs.Common.{sym}
+use Rattle.std.proofs.Common.{sym, arith}
 use Rattle.std.proofs.lemmas.Result.{err_from_is_err_and}
 use Rattle.su_chain.proofs.ends.key_of.Goals as goal
 
@@ -10,6 +10,7 @@ returns-in_err-parse-in-Some-clause-refused c =
       c.in_err-parse-in-Some.ensures.refused,
       record {
         user = c.args.user;
+        number = grind (arith, c.number-number.ensures.range);
         key = c.in-Some.bytes.now;
         listed = sym c.in-Some.ensures;
         bad = λ is. let clash : false ≡ true = c.in_err-parse-in-Some.ensures.accepted.1 is in cc;
