@@ -57,14 +57,14 @@ making_order key v change =
     ∷ []
 
 -- Why no commit is made of a change: that doesn't hold; or then the source failed when it was given
--- the item, each leaf has signed, or the store of the signer's next leaf failed.
+-- the item; or each leaf has signed; or not each has, and the store of the next one's number failed.
 abbrev pub IsRefusedMaking : Failures → Failures → List ℕ → Type 0 → HoldingState → Change → ViewRefusal → Type 0
 IsRefusedMaking before after key Spent v change e =
     RefusedBy (making_order key v change) e
     ⊎ (Passes (making_order key v change)
     × (HasFailed before after (change_digest change) e
     ⊎ ((e ≡ Plain KeySpent) × Spent)
-    ⊎ (e ≡ Plain KeyFileFault)))
+    ⊎ ((e ≡ Plain KeyFileFault) × ¬ Spent)))
 
 -- What is at hand of a change before it is signed: it is accepted, and these are its item, and the
 -- i-handles and numbers of the tree with it.

@@ -60,7 +60,8 @@ impl Holding {
         ensures value { IfOk result (λ h. h ≡ record { roster = roster; user = user; held = [] }) }
         ensures user { OnOk result (has_user roster user ≡ true) }
         ensures refused { IfErr result (λ e. ((e ≡ BadKey) × HasBadKey roster)
-            ⊎ ((e ≡ NoUser user) × ¬ (has_user roster user ≡ true)) ⊎ (e ≡ NoMemory)) }
+            ⊎ ((e ≡ NoUser user) × ¬ HasBadKey roster × ¬ (has_user roster user ≡ true))
+            ⊎ (e ≡ NoMemory)) }
     {
         // its clause tells the prover that it is a roster (docs/ARCHITECTURE.md, "Forms the kit
         // wants")

@@ -4,12 +4,13 @@
 
 mod handles;
 mod holdings;
+mod keys;
 mod last_commits;
 mod lists;
 mod records;
 mod refusals;
-mod signing;
 mod views;
 
+pub use keys::OwnKey;
 pub use refusals::ViewRefusal;
 pub use views::View;

@@ -1,5 +1,5 @@
 // A client's view.
-ghost use Rattle.std.specs.Prelude.{◌≡◌, ◌⊎◌, ◌∷◌, ◌++◌, ◌+◌, ◌-◌, ◌<◌, ◌^◌, ◌↔◌, ℕ, List, [], true, length, None, Ok, Err, IsTrue, IfOk, IfErr, OnOk, OnErr, MatchOption, option_map};
+ghost use Rattle.std.specs.Prelude.{◌≡◌, ◌≢◌, ◌⊎◌, ◌∷◌, ◌++◌, ◌+◌, ◌-◌, ◌<◌, ◌^◌, ◌↔◌, ℕ, List, [], true, length, None, Ok, Err, IsTrue, IfOk, IfErr, OnOk, OnErr, MatchOption, option_map};
 ghost use Rattle.std.specs.Borrow.{Lends, sem};
 ghost use Rattle.su_bytes.specs.Membership.{has_user};
 ghost use Rattle.su_bytes.specs.RosterBytes.{user_key};
@@ -29,13 +29,13 @@ ghost use Rattle.su_view.specs.declared.refusals.ViewRefusal.TheVariants.{Plain}
 ghost use Rattle.su_view.specs.contracts.views.View.{the_row};
 
 use crate::holdings::Holding;
+use crate::keys::OwnKey;
 use crate::lists::first_record;
 use crate::refusals::ViewRefusal;
-use crate::signing::signed;
 use std::alloc::Global;
 use su_block::BlockSource;
 use su_bytes::{Digest, FileId, Name, Principal, Refusal, Roster, User};
-use su_lms::{KeyStore, PublicKey, Signer};
+use su_lms::{KeyStore, PublicKey};
 use su_op::{Change, Op};
 use su_plan::Command;
 use su_version::{Commit, Verdict};
@@ -57,7 +57,8 @@ impl<S: BlockSource + Drop> View<S> {
             view.holding ≡ record { roster = roster; user = user; held = [] }) }
         ensures source { IfOk result (λ view. view.source ≡ source) }
         ensures refused { IfErr result (λ e. ((e ≡ BadKey) × HasBadKey roster)
-            ⊎ ((e ≡ NoUser user) × ¬ (has_user roster user ≡ true)) ⊎ (e ≡ NoMemory)) }
+            ⊎ ((e ≡ NoUser user) × ¬ HasBadKey roster × ¬ (has_user roster user ≡ true))
+            ⊎ (e ≡ NoMemory)) }
     {
         let holding = Holding::new(alloc, roster, user)?;
         Ok(View {
@@ -105,6 +106,7 @@ impl<S: BlockSource + Drop> View<S> {
         ensures err { OnErr result (self.new.holding ≡ self.old.holding) }
         ensures no_more { (item : List ℕ) → S.may_give self.new.source item
             → S.may_give self.old.source item }
+        ensures follows { S.follows self.old.source self.new.source }
         ensures no_failure { OnOk result
             (S.failed self.new.source ≡ S.failed self.old.source) }
     {
@@ -136,6 +138,7 @@ impl<S: BlockSource + Drop> View<S> {
         ensures err { OnErr result (self.new.holding ≡ self.old.holding) }
         ensures no_more { (item : List ℕ) → S.may_give self.new.source item
             → S.may_give self.old.source item }
+        ensures follows { S.follows self.old.source self.new.source }
         ensures no_failure { OnOk result
             (S.failed self.new.source ≡ S.failed self.old.source) }
     {
@@ -161,6 +164,7 @@ impl<S: BlockSource + Drop> View<S> {
         ensures err { OnErr result (self.new.holding ≡ self.old.holding) }
         ensures no_more { (item : List ℕ) → S.may_give self.new.source item
             → S.may_give self.old.source item }
+        ensures follows { S.follows self.old.source self.new.source }
         ensures no_failure { OnOk result
             (S.failed self.new.source ≡ S.failed self.old.source) }
     {
@@ -187,6 +191,7 @@ impl<S: BlockSource + Drop> View<S> {
         ensures err { OnErr result (self.new.holding ≡ self.old.holding) }
         ensures no_more { (item : List ℕ) → S.may_give self.new.source item
             → S.may_give self.old.source item }
+        ensures follows { S.follows self.old.source self.new.source }
         ensures no_failure { OnOk result
             (S.failed self.new.source ≡ S.failed self.old.source) }
     {
@@ -215,6 +220,9 @@ impl<S: BlockSource + Drop> View<S> {
             e.0 e.1 self.new.holding) }
         ensures no_more { (item : List ℕ) → S.may_give self.new.source item
             → S.may_give self.old.source item }
+        ensures follows { S.follows self.old.source self.new.source }
+        ensures no_failure { OnOk result
+            (S.failed self.new.source ≡ S.failed self.old.source) }
     {
         let mut rest = bytes;
         let mut count = 0;
@@ -232,38 +240,48 @@ impl<S: BlockSource + Drop> View<S> {
         Ok(count)
     }
 
-    /// Makes a commit of a change of the view's user, signed by the next leaf of the signer, and
-    /// gives the item of the change to the source. The view's list stays as it was: once the commit
-    /// is stored, `accept_own` takes it. `BadSignature` where the signer's key isn't that of the
-    /// user; `Change` where the change is refused; `SourceFailed`; `NoMemory`; `KeySpent` where
-    /// each leaf has signed; `KeyFileFault` where the signer's store fails. It signs last: on a
-    /// refusal no leaf was used.
+    /// Makes a commit of a change of the view's user, signed by the next leaf of the user's key, and
+    /// puts the item of the change into the source. The view's list stays as it was: once the commit
+    /// is stored, `accept_own` takes it. `BadSignature` where the key isn't that of the user;
+    /// `Change` where the change is refused; `SourceFailed`; `NoMemory`; `KeySpent` where each leaf
+    /// has signed; `KeyFileFault` where the key's store fails. It signs last: on a refusal nothing
+    /// was signed, and no leaf was used.
     pub fn make<K: KeyStore>(
         &mut self,
         change: Change,
-        signer: &mut Signer<K>,
+        key: &mut OwnKey<K>,
     ) -> Result<Commit, ViewRefusal>
-        ensures made { IfOk result (IsMade self.old.holding change signer.old.next) }
+        ensures made { IfOk result (IsMade self.old.holding change key.old.next) }
         // It may be signed, and with it the list is legal, unless its leaf has signed before.
         ensures may_sign { IfOk result (λ c. MaySign self.old.holding c.version) }
         ensures joins { IfOk result (λ c. let v = self.old.holding in
-            IsNewLeaf (last_leaf v.user (commits_of v.held)) signer.old.next
+            IsNewLeaf (last_leaf v.user (commits_of v.held)) key.old.next
             → MayJoin v.roster v.held (record { commit = c; change = change })) }
         ensures refused { IfErr result (λ e. (e ≡ Plain NoMemory)
             ⊎ IsRefusedMaking (S.failed self.old.source) (S.failed self.new.source)
-            (key_of signer.old.key) (signer.old.next ≡ leaf_count signer.old.key)
+            (key_of key.old.key) (key.old.next ≡ leaf_count key.old.key)
             self.old.holding change e) }
         ensures view { self.new.holding ≡ self.old.holding }
+        // Its item was put, and it alone was signed, once the number of the next leaf was stored.
+        ensures puts { OnOk result (S.puts self.old.source (item_bytes change) self.new.source) }
+        ensures signed { IfOk result (λ c. key.new.signed ≡ key.old.signed ++ c ∷ []) }
+        ensures stored { OnOk result (K.stores key.old.store (key.old.next + 1) key.new.store) }
+        ensures used { OnOk result (key.new.next ≡ key.old.next + 1) }
+        ensures none_signed { OnErr result (key.new.signed ≡ key.old.signed) }
+        ensures unused { OnErr result (key.new.next ≡ key.old.next) }
+        ensures same_key { key.new.key ≡ key.old.key }
+        ensures follows { S.follows self.old.source self.new.source }
         ensures more { (item : List ℕ) → S.may_give self.new.source item
             → S.may_give self.old.source item ⊎ (item ≡ item_bytes change) }
-        ensures used { OnOk result (signer.new.next ≡ signer.old.next + 1) }
-        ensures unused { OnErr result (signer.new.next ≡ signer.old.next) }
-        ensures key { signer.new.key ≡ signer.old.key }
         ensures fault { IfErr result (λ e. e ≡ Plain KeyFileFault
-            → K.failure_count signer.old.store < 2 ^ 64 - 1
-            → K.failure_count signer.old.store < K.failure_count signer.new.store) }
+            → K.failure_count key.old.store < 2 ^ 64 - 1
+            → K.failure_count key.old.store < K.failure_count key.new.store) }
+        ensures missed { IfErr result (λ e. e ≡ Plain KeyFileFault
+            → K.misses key.old.store (key.old.next + 1) key.new.store) }
+        ensures untouched { IfErr result (λ e. e ≢ Plain KeyFileFault
+            → key.new.store ≡ key.old.store) }
     {
-        if !self.holding.is_own_key(signer.public()) {
+        if !self.holding.is_own_key(key.public()) {
             return Err(ViewRefusal::Plain(Refusal::BadSignature));
         }
         let draft = self.holding.draft(change)?;
@@ -275,7 +293,7 @@ impl<S: BlockSource + Drop> View<S> {
             Ok(version) => version,
             Err(refusal) => return Err(ViewRefusal::Plain(refusal)),
         };
-        match signed(self.alloc, version, signer) {
+        match key.sign(self.alloc, version) {
             Ok(commit) => Ok(commit),
             Err(refusal) => Err(ViewRefusal::Plain(refusal)),
         }
@@ -296,6 +314,9 @@ impl<S: BlockSource + Drop> View<S> {
         ensures err { OnErr result (self.new.holding ≡ self.old.holding) }
         ensures no_more { (item : List ℕ) → S.may_give self.new.source item
             → S.may_give self.old.source item }
+        ensures follows { S.follows self.old.source self.new.source }
+        ensures no_failure { OnOk result
+            (S.failed self.new.source ≡ S.failed self.old.source) }
     {
         // its clause tells the prover that it is a commit (docs/ARCHITECTURE.md, "Forms the kit
         // wants")

@@ -5,7 +5,7 @@ use Rattle.su_view.proofs.views.View.accept.Goals as goal
 
 pub returns-in-Err-clause-refused : goal.returns-in-Err-clause-refused
 returns-in-Err-clause-refused g c =
-    let (taken, sum, failed, may) = c.loop-rest.invariant in
+    let (taken, sum, failed, may, follows) = c.loop-rest.invariant in
     refuses_next (g.S.BlockSource.may_give c.loop-rest.self.source) (g.S.BlockSource.may_give c.args.self.now.source) may
     (g.S.BlockSource.failed c.args.self.now.source) (g.S.BlockSource.failed c.loop-rest.self.source) (g.S.BlockSource.failed c.accept_bytes.new.self.source) failed
     c.args.self.now.holding c.loop-rest.self.holding c.accept_bytes.new.self.holding c.args.bytes.now c.loop-rest.rest.now c.in-Some.first.now c.in-Some.others.now
@@ -13,7 +13,7 @@ returns-in-Err-clause-refused g c =
 
 pub loop-rest-preserved : goal.loop-rest-preserved
 loop-rest-preserved g c =
-    let (taken, sum, failed, may) = c.loop-rest.invariant in
+    let (taken, sum, failed, may, follows) = c.loop-rest.invariant in
     let ok = c.in_default-accept_bytes.ensures in
     let (committed, is, given, took) = ok.took in
     let less = shorter c.loop-rest.rest.now c.in-Some.first.now c.in-Some.others.now c.in-Some.ensures in (
@@ -22,4 +22,10 @@ loop-rest-preserved g c =
       omega (arith, sum, less),
       ok.no_failure ∙ failed,
       λ item m. may item (ok.no_more item m),
+      g.met.S.BlockSource.follows_on c.args.self.now.source c.loop-rest.self.source c.accept_bytes.new.self.source follows ok.follows,
     )
+
+pub returns-in-Err-clause-follows : goal.returns-in-Err-clause-follows
+returns-in-Err-clause-follows g c =
+    let (taken, sum, failed, may, follows) = c.loop-rest.invariant in
+    g.met.S.BlockSource.follows_on c.args.self.now.source c.loop-rest.self.source c.accept_bytes.new.self.source follows c.in-Err.ensures.follows

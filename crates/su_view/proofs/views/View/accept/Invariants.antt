@@ -8,6 +8,7 @@ invariant-loop-rest g l =
     × (l.count + length l.rest ≤ length l.fn.bytes)
     × (g.S.BlockSource.failed l.self.source ≡ g.S.BlockSource.failed l.fn.self.source)
     × ((item : List ℕ) → g.S.BlockSource.may_give l.self.source item → g.S.BlockSource.may_give l.fn.self.source item)
+    × g.S.BlockSource.follows l.fn.self.source l.self.source
 
 abbrev pub decreases-loop-rest : goal.decreases-loop-rest
 decreases-loop-rest g l = length l.rest
