@@ -1,14 +1,9 @@
 -- The number of the last operation that stands, from those of all that do.
-use Rattle.std.proofs.Common.{◌≡◌, ℕ, ◌-◌, List, [], ◌∷◌, length, map, Option, None, Some, Result, Ok, Err, refl, sym, ap, ◌∙◌, subst, arith}
-use Rattle.std.specs.Prelude.{slice_get, IfOk}
+use Rattle.std.proofs.Common.{◌≡◌, ℕ, ◌-◌, List, [], ◌∷◌, length, map, Option, None, Some, refl, sym, ap, ◌∙◌, arith}
+use Rattle.std.specs.Prelude.{slice_get}
 use Rattle.std.specs.Option.{unwrap_or, option_or}
 use Rattle.std.proofs.lemmas.List.{length-map}
-use Rattle.su_op.specs.declared.operations.Change.TheVariants.{Undo}
-use Rattle.su_desk.specs.History.{NumberedAction, last_number, last_live}
-use Rattle.su_legal.specs.Legal.{history}
-use Rattle.su_view.specs.Holding.{HoldingState}
-use Rattle.su_view.specs.declared.refusals.ViewRefusal.{ViewRefusal}
-use Rattle.su_client_work.specs.Publishing.{IsPublished, PublishesUndo}
+use Rattle.su_desk.specs.History.{NumberedAction, last_number}
 
 abbrev numbers : List NumberedAction → List ℕ
 numbers ts = map (λ t. t.number) ts
@@ -30,10 +25,3 @@ last_of_all (t ∷ us) =
 
 pub last_is : (ts : List NumberedAction) (all : List ℕ) (n : ℕ) → all ≡ numbers ts → n ≡ unwrap_or (slice_get all (length all - 1)) 0 → n ≡ unwrap_or (last_number ts) 0
 last_is ts all n is last = last ∙ ap (λ (l : List ℕ). unwrap_or (slice_get l (length l - 1)) 0) is ∙ last_of_all ts
-
--- what is published is the undo of this last operation
-pub undone : (r : Result ℕ ViewRefusal) (v w : HoldingState) (last leaf next : ℕ) → last ≡ last_live (history v.held) → leaf ≡ next
-    → IfOk r (IsPublished v (Undo last) leaf w) → IfOk r (PublishesUndo next w)
-undone (Ok n) v w last leaf next is same p =
-    (v, subst (λ (m : ℕ). IsPublished v (Undo m) next w n) is (subst (λ (l : ℕ). IsPublished v (Undo last) l w n) same p))
-undone (Err e) v w last leaf next is same p = tt

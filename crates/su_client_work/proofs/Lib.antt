@@ -1,4 +1,5 @@
 pub mod Taking
+pub mod Turns
 pub mod Working
 pub mod SavedLogs
 pub mod LastLive

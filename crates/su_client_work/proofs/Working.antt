@@ -1,56 +1,98 @@
 -- A client that does acts: none, and some after others; it takes, signs and publishes.
-use Rattle.std.proofs.Common.{◌≡◌, ◌+◌, List, [], ◌∷◌, ◌++◌, ap, subst, arith}
+use Rattle.std.proofs.Common.{◌≡◌, ℕ, List, [], ◌∷◌, ◌++◌, inl, inr, map, append-nil, append_assoc, length-append, refl, sym, ◌∙◌, ap, subst, arith, Result, Ok, Err}
+use Rattle.std.specs.Prelude.{IfOk, OnErr}
+use Rattle.std.proofs.lemmas.List.{map-append}
+use Rattle.su_op.specs.declared.operations.Change.{Change}
 use Rattle.su_legal.specs.Act.{Act, Act.Takes, Act.Signs}
 use Rattle.su_version.specs.Version.{Version}
-use Rattle.su_view.specs.Acting.{Does, TakesSome, after}
+use Rattle.su_version.specs.Commit.{Commit}
+use Rattle.su_view.specs.Acting.{Does, after}
 use Rattle.su_view.specs.Holding.{HoldingState, MaySign}
-use Rattle.su_client_work.specs.Member.{MemberState}
-use Rattle.su_client_work.specs.Work.{Works, signs}
+use Rattle.su_view.specs.Making.{IsMade}
+use Rattle.su_view.specs.declared.refusals.ViewRefusal.{ViewRefusal}
+use Rattle.su_client_work.specs.Member.{MemberState, OnlyTakes, Stays}
+use Rattle.su_client_work.specs.Publishing.{SignsNone, SignsOne, SignsAtMost, TakesOwn}
+use Rattle.su_client_work.specs.Work.{Works, signed_in}
 
 does_both : (u v w : HoldingState) (xs ys : List Act) → Does u xs v → Does v ys w → Does u (xs ++ ys) w
 does_both u v w [] ys same done = subst (λ (x : HoldingState). Does x ys w) same done
 does_both u v w (x ∷ xs) ys (may, rest) done = (may, does_both (after u x) v w xs ys rest done)
 
-signs_both : (xs ys : List Act) → signs (xs ++ ys) ≡ signs xs + signs ys
-signs_both [] ys = omega arith
-signs_both (Takes more ∷ xs) ys = signs_both xs ys
-signs_both (Signs s ∷ xs) ys = let rest = signs_both xs ys in omega (arith, rest)
+signed_both : (xs ys : List Act) → signed_in (xs ++ ys) ≡ signed_in xs ++ signed_in ys
+signed_both [] ys = refl
+signed_both (Takes more ∷ xs) ys = signed_both xs ys
+signed_both (Signs s ∷ xs) ys = ap (λ (vs : List Version). s ∷ vs) (signed_both xs ys)
 
 -- nothing was signed or taken
-pub works_not : (s t : MemberState) → t.holding ≡ s.holding → t.next ≡ s.next → Works s t
-works_not s t same next = record {
+pub works_not : (s t : MemberState) → t.holding ≡ s.holding → t.signed ≡ s.signed → t.next ≡ s.next → Works s t
+works_not s t same signed next = record {
   acts = [];
+  commits = [];
   does = same;
+  signed = signed ∙ sym (append-nil s.signed);
+  signs = refl;
   leaves = omega (arith, next);
 }
 
+pub works_still : (s t : MemberState) → Stays s t → Works s t
+works_still s t stays = works_not s t stays.holding stays.signed stays.next
+
 pub works_same : (s t : MemberState) → t ≡ s → Works s t
-works_same s t same = works_not s t (ap (λ (x : MemberState). x.holding) same) (ap (λ (x : MemberState). x.next) same)
+works_same s t same =
+    works_not s t (ap (λ (x : MemberState). x.holding) same) (ap (λ (x : MemberState). x.signed) same) (ap (λ (x : MemberState). x.next) same)
 
 pub works_then : (s t u : MemberState) → Works s t → Works t u → Works s u
 works_then s t u first second = record {
   acts = first.acts ++ second.acts;
+  commits = first.commits ++ second.commits;
   does = does_both s.holding t.holding u.holding first.acts second.acts first.does second.does;
+  signed = second.signed ∙ ap (λ (l : List Commit). l ++ second.commits) first.signed ∙ append_assoc s.signed first.commits second.commits;
+  signs = signed_both first.acts second.acts ∙ ap (λ (l : List Version). l ++ signed_in second.acts) first.signs
+      ∙ ap (λ (l : List Version). map (λ c. c.version) first.commits ++ l) second.signs ∙ sym (map-append (λ (c : Commit). c.version) first.commits second.commits);
   leaves =
-      let sum = signs_both first.acts second.acts in
+      let sum = length-append first.commits second.commits in
       let one = first.leaves in
       let two = second.leaves in
       omega (arith, sum, one, two);
 }
 
-pub works_takes : (s t : MemberState) → TakesSome s.holding t.holding → t.next ≡ s.next → Works s t
-works_takes s t (more, took) next = record {
-  acts = Takes more ∷ [];
-  does = (took.may, took.becomes);
-  leaves = omega (arith, next);
+pub works_takes : (s t : MemberState) → OnlyTakes s t → Works s t
+works_takes s t o = record {
+  acts = Takes o.takes.0 ∷ [];
+  commits = [];
+  does = (o.takes.1.may, o.takes.1.becomes);
+  signed = o.signed ∙ sym (append-nil s.signed);
+  signs = refl;
+  leaves = let same = o.next in omega (arith, same);
 }
 
-pub works_signs : (s t : MemberState) (v : Version) → MaySign s.holding v → t.holding ≡ s.holding → t.next ≡ s.next + 1 → Works s t
-works_signs s t v may same next = record {
-  acts = Signs v ∷ [];
-  does = (may, same);
-  leaves = omega (arith, next);
+-- what was made may be signed
+may_sign : (v : HoldingState) (change : Change) (leaf : ℕ) (c : Commit) → IsMade v change leaf c → MaySign v c.version
+may_sign v change leaf c made = (ap (λ (s : Version). s.author) made.version, ap (λ (s : Version). s.prev) made.version)
+
+pub works_signs : (s t : MemberState) (change : Change) (c : Commit) → SignsOne s.holding change c s t → t.holding ≡ s.holding → Works s t
+works_signs s t change c one same = record {
+  acts = Signs c.version ∷ [];
+  commits = c ∷ [];
+  does = (may_sign s.holding change s.next c one.made, same);
+  signed = one.signed;
+  signs = refl;
+  leaves = one.next;
 }
+
+pub works_most : (s t : MemberState) (change : Change) → SignsAtMost s.holding change s t → t.holding ≡ s.holding → Works s t
+works_most s t change (inl none) same = works_not s t same none.signed none.next
+works_most s t change (inr (c, one)) same = works_signs s t change c one same
+
+-- what was made is taken, or not
+works_own : (m t : MemberState) (c : Commit) (r : Result ℕ ViewRefusal) → SignsNone m t → IfOk r (TakesOwn m.holding c t.holding) → OnErr r (t.holding ≡ m.holding) → Works m t
+works_own m t c (Ok n) none took err = works_takes m t (record { takes = (took.committed ∷ [], took.took); signed = none.signed; next = none.next })
+works_own m t c (Err e) none took err = works_not m t err none.signed none.next
+
+pub works_published : (s m t : MemberState) (change : Change) (c : Commit) (r : Result ℕ ViewRefusal) → SignsAtMost s.holding change s m → m.holding ≡ s.holding
+    → SignsNone m t → IfOk r (TakesOwn m.holding c t.holding) → OnErr r (t.holding ≡ m.holding) → Works s t
+works_published s m t change c r signs same none took err =
+    works_then s m t (works_most s m change signs same) (works_own m t c r none took err)
 
 -- after acts all stays
 pub works_stays : (s t u : MemberState) → Works s t → u ≡ t → Works s u

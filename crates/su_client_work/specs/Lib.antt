@@ -1,4 +1,5 @@
 pub mod Member
+pub mod Turn
 pub mod Work
 pub mod Publishing
 pub mod SavedLog

@@ -6,17 +6,28 @@ use Rattle.su_version.specs.Commit.{Commit}
 use Rattle.su_table.specs.Query.{listing, contents_within}
 use Rattle.su_draft.specs.Walk.{found}
 use Rattle.su_view.specs.Holding.{HoldingState, tree_of_list}
-use Rattle.su_view.specs.LastCommits.{own_last, shown_order}
-use Rattle.su_bytes.specs.Order.{Passes}
+use Rattle.su_view.specs.Acting.{TakesSome}
+use Rattle.su_client.specs.Link.{LinkState}
 
--- what it holds, and which leaf of its key signs next
+-- what it holds; its link to the server; the commits that were signed with its key, and which leaf
+-- of the key signs next
 pub record MemberState : Type 0 where
   pub holding : HoldingState
+  pub link : LinkState
+  pub signed : List Commit
   pub next : ℕ
 
--- Some commits were shown as the users' last ones, and passed. (SUNDR, section 3.3.)
-abbrev pub ShownPasses : HoldingState → Type 0
-ShownPasses v = (shown : List Commit) × Passes (shown_order v.roster v.user (own_last v) shown)
+-- what it holds and what it has signed stay; over its link it may be asked
+pub record Stays (s t : MemberState) : Type 0 where
+  pub holding : t.holding ≡ s.holding
+  pub signed : t.signed ≡ s.signed
+  pub next : t.next ≡ s.next
+
+-- it takes some commits, as it may, and signs nothing
+pub record OnlyTakes (s t : MemberState) : Type 0 where
+  pub takes : TakesSome s.holding t.holding
+  pub signed : t.signed ≡ s.signed
+  pub next : t.next ≡ s.next
 
 -- the path leads to a directory of the list's tree, which has these names
 abbrev pub Lists : HoldingState → List ℕ → List (Name × FileId) → Type 0

@@ -1,26 +1,88 @@
 -- What a client commits.
-use Rattle.std.specs.Prelude.{◌≡◌, ℕ, [], ◌∷◌, length}
+use Rattle.std.specs.Prelude.{◌≡◌, ◌⊎◌, ◌+◌, ◌++◌, ℕ, [], ◌∷◌, length}
+use Rattle.sha2.specs.Sha256.{sha256}
+use Rattle.su_message.specs.declared.requests.Request.TheVariants as request
+use Rattle.su_message.specs.declared.replies.Reply.TheVariants.{PutDone, Stored}
+use Rattle.su_client.specs.Link.{LinkState, Exchanged, Follows}
 use Rattle.su_op.specs.declared.operations.Change.{Change}
 use Rattle.su_op.specs.declared.operations.Change.TheVariants.{Undo}
+use Rattle.su_change.specs.Item.{item_bytes}
+use Rattle.su_version.specs.Commit.{Commit, commit_bytes}
 use Rattle.su_desk.specs.History.{last_live}
 use Rattle.su_legal.specs.Legal.{Committed, history}
+use Rattle.su_view.specs.Acting.{TakesSome}
 use Rattle.su_view.specs.Holding.{HoldingState, Took}
 use Rattle.su_view.specs.Making.{IsMade}
+use Rattle.su_client_work.specs.Member.{MemberState, OnlyTakes}
+use Rattle.su_client_work.specs.Turn.{TakesTurn}
 
--- A client that held v took a commit that it made of the change, signed by this leaf; then it holds
--- w, and the number is that of the commit.
-pub record IsPublished (v : HoldingState) (change : Change) (leaf : ℕ) (w : HoldingState) (n : ℕ)
-    : Type 0 where
+-- ---- what is signed
+
+-- nothing was signed
+pub record SignsNone (s t : MemberState) : Type 0 where
+  pub signed : t.signed ≡ s.signed
+  pub next : t.next ≡ s.next
+
+-- one commit was signed, by one leaf: this one, which a client that held v made of the change
+pub record SignsOne (v : HoldingState) (change : Change) (c : Commit) (s t : MemberState) : Type 0
+  where
+    pub made : IsMade v change s.next c
+    pub signed : t.signed ≡ s.signed ++ c ∷ []
+    pub next : t.next ≡ s.next + 1
+
+-- no more than one commit of this change was signed
+abbrev pub SignsAtMost : HoldingState → Change → MemberState → MemberState → Type 0
+SignsAtMost v change s t = SignsNone s t ⊎ ((c : Commit) × SignsOne v change c s t)
+
+-- what is committed, by what the client holds when it has the turn
+abbrev pub always : Change → HoldingState → Change
+always change v = change
+
+-- the undo of the last operation that stands
+abbrev pub last_undo : HoldingState → Change
+last_undo v = Undo (last_live (history v.held))
+
+-- Some commits were taken, and then no more than one commit of the change was signed.
+pub record CommitsAtMost (change_of : HoldingState → Change) (s t : MemberState) : Type 0 where
+  pub held : HoldingState
+  pub takes : TakesSome s.holding held
+  pub signs : SignsAtMost held (change_of held) s t
+
+-- ---- what the server stores
+
+-- The item of a change was put, and then the commit was handed in, and stored.
+pub record IsStored (change : Change) (c : Commit) (a b : LinkState) : Type 0 where
+  pub between : LinkState
+  pub put : Exchanged (request.Put (item_bytes change)) a between
+      (PutDone (sha256 (item_bytes change)))
+  pub number : ℕ
+  pub stored : Exchanged (request.Commit (commit_bytes c)) between b (Stored number)
+
+-- A commit of a change is made, signed, and stored by the server.
+pub record HandsIn (change : Change) (s : MemberState) (c : Commit) (t : MemberState) : Type 0 where
+  pub signs : SignsOne s.holding change c s t
+  pub stored : IsStored change c s.link t.link
+
+-- The client took this commit as the next of its list: that is its number.
+pub record TakesOwn (v : HoldingState) (c : Commit) (w : HoldingState) (n : ℕ) : Type 0 where
   pub committed : Committed
-  pub made : IsMade v change leaf committed.commit
+  pub is : committed.commit ≡ c
   pub took : Took v (committed ∷ []) w
   pub number : n ≡ length w.held
 
--- so it did at the end of what it holds now
-abbrev pub Publishes : Change → ℕ → HoldingState → ℕ → Type 0
-Publishes change leaf w n = (v : HoldingState) × IsPublished v change leaf w n
+-- A commit of a change is made, signed, stored by the server, and then taken.
+pub record IsPublished (change : Change) (s t : MemberState) (n : ℕ) : Type 0 where
+  pub commit : Commit
+  pub signs : SignsOne s.holding change commit s t
+  pub handed_in : LinkState
+  pub stored : IsStored change commit s.link handed_in
+  pub follows : Follows handed_in t.link
+  pub takes : TakesOwn s.holding commit t.holding n
 
--- and the change was the undo of the last operation that stood
-abbrev pub PublishesUndo : ℕ → HoldingState → ℕ → Type 0
-PublishesUndo leaf w n =
-    (v : HoldingState) × IsPublished v (Undo (last_live (history v.held))) leaf w n
+-- The client takes its turn and what commits it lacks, and then publishes the change.
+pub record Publishes (MayConnect : LinkState → Type 0) (change_of : HoldingState → Change)
+    (s t : MemberState) (n : ℕ) : Type 0 where
+  pub turn : MemberState
+  pub takes_turn : TakesTurn MayConnect s.holding s.link turn.link
+  pub takes : OnlyTakes s turn
+  pub published : IsPublished (change_of turn.holding) turn t n

@@ -1,17 +1,25 @@
--- What a client does from one state to another: acts that it may, one after the other, and each that
--- signs uses one leaf. (SUNDR, section 3.3; RFC 8554, section 9.2: a leaf signs once.)
-use Rattle.std.specs.Prelude.{◌≡◌, ℕ, List, [], ◌∷◌, ◌+◌}
+-- What a client does from one state to another: acts that it may, one after the other, and each
+-- commit that is signed with its key is one of them. (SUNDR, section 3.3; RFC 8554, section 9.2: a
+-- leaf signs once.)
+use Rattle.std.specs.Prelude.{◌≡◌, List, [], ◌∷◌, ◌+◌, ◌++◌, length, map}
 use Rattle.su_legal.specs.Act.{Act, Act.Takes, Act.Signs}
+use Rattle.su_version.specs.Version.{Version}
+use Rattle.su_version.specs.Commit.{Commit}
 use Rattle.su_view.specs.Acting.{Does}
 use Rattle.su_client_work.specs.Member.{MemberState}
 
--- how many of the acts sign
-abbrev pub signs : List Act → ℕ
-signs [] = 0
-signs (Takes more ∷ acts) = signs acts
-signs (Signs s ∷ acts) = 1 + signs acts
+-- the version structures that these acts sign, in order
+abbrev pub signed_in : List Act → List Version
+signed_in [] = []
+signed_in (Takes more ∷ acts) = signed_in acts
+signed_in (Signs s ∷ acts) = s ∷ signed_in acts
 
+-- It does these acts, and signs these commits: their version structures are those of the acts, and
+-- each uses one leaf.
 pub record Works (s t : MemberState) : Type 0 where
   pub acts : List Act
+  pub commits : List Commit
   pub does : Does s.holding acts t.holding
-  pub leaves : t.next ≡ s.next + signs acts
+  pub signed : t.signed ≡ s.signed ++ commits
+  pub signs : signed_in acts ≡ map (λ c. c.version) commits
+  pub leaves : t.next ≡ s.next + length commits

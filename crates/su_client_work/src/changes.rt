@@ -1,15 +1,19 @@
 // What a client changes: each change is a commit of its own.
-ghost use Rattle.std.specs.Prelude.{◌≡◌, ◌-◌, ℕ, Ok, IfOk, length, slice_get};
+ghost use Rattle.std.specs.Prelude.{◌≡◌, ◌-◌, ℕ, Ok, IfOk, OnOk, OnErr, length, slice_get};
 ghost use Rattle.std.specs.Option.{unwrap_or};
+ghost use Rattle.su_message.specs.declared.requests.Request.TheVariants as request;
+ghost use Rattle.su_message.specs.declared.replies.Reply.TheVariants.{Stored};
+ghost use Rattle.su_client.specs.Link.{Exchanged, Follows};
 ghost use Rattle.su_desk.specs.History.{last_live};
 ghost use Rattle.su_legal.specs.Legal.{history};
 ghost use Rattle.su_op.specs.declared.operations.Change.{Change as Change_};
-ghost use Rattle.su_op.specs.declared.operations.Change.TheVariants.{Undo};
 ghost use Rattle.su_plan.specs.Plan.{plan};
-ghost use Rattle.su_view.specs.Acting.{TakesSome};
+ghost use Rattle.su_version.specs.Commit.{commit_bytes};
 ghost use Rattle.su_view.specs.Holding.{tree_of_list};
 ghost use Rattle.su_view.specs.Making.{IsMade};
-ghost use Rattle.su_client_work.specs.Publishing.{IsPublished, Publishes, PublishesUndo};
+ghost use Rattle.su_client_work.specs.Member.{OnlyTakes, Stays};
+ghost use Rattle.su_client_work.specs.Publishing.{always, last_undo, CommitsAtMost, HandsIn, IsPublished, Publishes, SignsAtMost, SignsNone, TakesOwn};
+ghost use Rattle.su_client_work.specs.Turn.{Comes, TakesTurn};
 ghost use Rattle.su_client_work.specs.Work.{Works};
 
 use crate::members::Member;
@@ -31,17 +35,27 @@ impl<R: Read + Drop, W: Write + Drop, K: KeyStore + Drop> Member<R, W, K> {
         around: &mut A,
         command: &Command,
     ) -> Result<Vec<Op>, ViewRefusal>
-        ensures takes { TakesSome self.old.holding self.new.holding }
-        ensures next { self.new.next ≡ self.old.next }
+        ensures takes { OnlyTakes self.old self.new }
+        ensures link { Comes A.may_connect self.old.link self.new.link }
+        ensures turn { OnOk result
+            (TakesTurn A.may_connect self.old.holding self.old.link self.new.link) }
         ensures planned { let v = self.new.holding in IfOk result (λ operations.
             plan v.roster (tree_of_list v) v.user command.now ≡ Ok operations.items) }
     {
         self.begin(around)?;
         let planned = self.view.plan(command);
-        if !matches!(&planned, Ok(operations) if !operations.is_empty()) {
+        self.keep_turn(matches!(&planned, Ok(operations) if !operations.is_empty()));
+        Ok(planned?)
+    }
+
+    /// Gives the turn back, unless it is to be kept.
+    fn keep_turn(&mut self, keeps: bool)
+        ensures stays { Stays self.old self.new }
+        ensures follows { Follows self.old.link self.new.link }
+    {
+        if !keeps {
             self.give_up();
         }
-        Ok(planned?)
     }
 
     /// Commits a change, once all commits are taken, and returns the number of its commit. The
@@ -52,7 +66,10 @@ impl<R: Read + Drop, W: Write + Drop, K: KeyStore + Drop> Member<R, W, K> {
         change: Change,
     ) -> Result<u64, ViewRefusal>
         ensures works { Works self.old self.new }
-        ensures published { IfOk result (Publishes change self.old.next self.new.holding) }
+        ensures signs { CommitsAtMost (always change) self.old self.new }
+        ensures link { Comes A.may_connect self.old.link self.new.link }
+        ensures published { IfOk result
+            (Publishes A.may_connect (always change) self.old self.new) }
     {
         self.begin(around)?;
         self.publish(change)
@@ -63,7 +80,10 @@ impl<R: Read + Drop, W: Write + Drop, K: KeyStore + Drop> Member<R, W, K> {
     /// `NoOperation` 0.
     pub fn undo_last<A: Surroundings<R, W>>(&mut self, around: &mut A) -> Result<u64, ViewRefusal>
         ensures works { Works self.old self.new }
-        ensures published { IfOk result (PublishesUndo self.old.next self.new.holding) }
+        ensures signs { CommitsAtMost last_undo self.old self.new }
+        ensures link { Comes A.may_connect self.old.link self.new.link }
+        ensures published { IfOk result
+            (Publishes A.may_connect last_undo self.old self.new) }
     {
         self.begin(around)?;
         match self.last_live() {
@@ -91,8 +111,10 @@ impl<R: Read + Drop, W: Write + Drop, K: KeyStore + Drop> Member<R, W, K> {
     /// `Client::commit` and of `View::accept`.
     pub fn publish(&mut self, change: Change) -> Result<u64, ViewRefusal>
         ensures works { Works self.old self.new }
-        ensures published { IfOk result
-            (IsPublished self.old.holding change self.old.next self.new.holding) }
+        ensures signs { SignsAtMost self.old.holding change self.old self.new }
+        ensures follows { Follows self.old.link self.new.link }
+        ensures published { IfOk result (IsPublished change self.old self.new) }
+        ensures err { OnErr result (self.new.holding ≡ self.old.holding) }
     {
         let commit = self.hand_in(change)?;
         self.take_own(commit)
@@ -104,10 +126,10 @@ impl<R: Read + Drop, W: Write + Drop, K: KeyStore + Drop> Member<R, W, K> {
     fn take_own(&mut self, commit: Commit) -> Result<u64, ViewRefusal>
         requires made { (change : Change_) × (leaf : ℕ)
             × IsMade self.old.holding change leaf commit }
-        ensures takes { TakesSome self.old.holding self.new.holding }
-        ensures next { self.new.next ≡ self.old.next }
-        ensures published { (change : Change_) (leaf : ℕ) → IsMade self.old.holding change leaf commit
-            → IfOk result (IsPublished self.old.holding change leaf self.new.holding) }
+        ensures signs { SignsNone self.old self.new }
+        ensures follows { Follows self.old.link self.new.link }
+        ensures took { IfOk result (TakesOwn self.old.holding commit self.new.holding) }
+        ensures err { OnErr result (self.new.holding ≡ self.old.holding) }
     {
         let bytes = commit.encode(self.alloc)?;
         let verdict = Verdict {
@@ -121,24 +143,28 @@ impl<R: Read + Drop, W: Write + Drop, K: KeyStore + Drop> Member<R, W, K> {
 
     /// Makes a commit and hands it in. Where one of them is refused, the turn is given back.
     fn hand_in(&mut self, change: Change) -> Result<Commit, ViewRefusal>
-        ensures works { Works self.old self.new }
         ensures holding { self.new.holding ≡ self.old.holding }
-        ensures made { IfOk result (IsMade self.old.holding change self.old.next) }
+        ensures signs { SignsAtMost self.old.holding change self.old self.new }
+        ensures follows { Follows self.old.link self.new.link }
+        ensures stored { IfOk result (λ c. HandsIn change self.old c self.new) }
     {
-        let stored = self.store_new(change);
-        if stored.is_err() {
-            self.give_up();
+        match self.store_new(change) {
+            Ok(commit) => Ok(commit),
+            Err(refusal) => {
+                self.give_up();
+                Err(refusal)
+            }
         }
-        stored
     }
 
     /// Makes a commit, and lets the server store it.
     fn store_new(&mut self, change: Change) -> Result<Commit, ViewRefusal>
-        ensures works { Works self.old self.new }
         ensures holding { self.new.holding ≡ self.old.holding }
-        ensures made { IfOk result (IsMade self.old.holding change self.old.next) }
+        ensures signs { SignsAtMost self.old.holding change self.old self.new }
+        ensures follows { Follows self.old.link self.new.link }
+        ensures stored { IfOk result (λ c. HandsIn change self.old c self.new) }
     {
-        let commit = self.view.make(change, &mut self.signer)?;
+        let commit = self.view.make(change, &mut self.key)?;
         match self.store_commit(&commit) {
             Ok(()) => Ok(commit),
             Err(refusal) => Err(ViewRefusal::Plain(refusal)),
@@ -147,7 +173,10 @@ impl<R: Read + Drop, W: Write + Drop, K: KeyStore + Drop> Member<R, W, K> {
 
     /// Lets the server store a commit.
     fn store_commit(&mut self, commit: &Commit) -> Result<(), Refusal>
-        ensures { self.new ≡ self.old }
+        ensures stays { Stays self.old self.new }
+        ensures follows { Follows self.old.link self.new.link }
+        ensures stored { OnOk result ((n : ℕ) × Exchanged (request.Commit (commit_bytes commit.now))
+            self.old.link self.new.link (Stored n)) }
     {
         let bytes = commit.encode(self.alloc)?;
         self.view.source_mut().source_mut().commit(bytes)?;

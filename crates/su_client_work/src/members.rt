@@ -1,9 +1,13 @@
 // A client that works with a server, and how it begins what it does.
-ghost use Rattle.std.specs.Prelude.{◌≡◌, OnOk};
+ghost use Rattle.std.specs.Prelude.{◌≡◌, [], true, Err, IfOk, OnOk, OnErr};
+ghost use Rattle.su_bytes.specs.declared.refusals.Refusal.TheVariants.{LinkFailed};
+ghost use Rattle.su_message.specs.declared.requests.Request.TheVariants.{Grant, Give, Fetch};
+ghost use Rattle.su_message.specs.declared.replies.Reply.TheVariants.{Granted, Given};
+ghost use Rattle.su_client.specs.Link.{IsFresh, Exchanged, Follows};
 ghost use Rattle.su_version.specs.Chain.{IsSignedByAuthor};
-ghost use Rattle.su_view.specs.Acting.{TakesSome};
 ghost use Rattle.su_view.specs.LastCommits.{AreSigned};
-ghost use Rattle.su_client_work.specs.Member.{ShownPasses};
+ghost use Rattle.su_client_work.specs.Member.{OnlyTakes, Stays};
+ghost use Rattle.su_client_work.specs.Turn.{AreShown, Comes, IsGranted, IsGrantedOver, IsShown, Looks, PassesShown, TakesTurn, commit_or_nothing};
 
 use crate::shown::Shown;
 use crate::surroundings::Surroundings;
@@ -17,7 +21,7 @@ use su_client::Client;
 use su_lms::{KeyStore, Signer};
 use su_message::LastNumbers;
 use su_version::{Commit, Verdict};
-use su_view::{View, ViewRefusal};
+use su_view::{OwnKey, View, ViewRefusal};
 
 /// How many milliseconds a client waits before it asks again for a turn that another has.
 const PAUSE: u64 = 1;
@@ -31,7 +35,7 @@ const NO_SEAT: u16 = u16::MAX;
 #[derive(Drop)]
 pub struct Member<R: Read, W: Write, K: KeyStore> {
     pub(crate) view: View<Checked<Client<R, W>>>,
-    pub(crate) signer: Signer<K>,
+    pub(crate) key: OwnKey<K>,
     tries: u32,
     pub(crate) alloc: Global,
 }
@@ -41,7 +45,12 @@ impl<R: Read, W: Write, K: KeyStore> Model for Member<R, W, K> {
 
     ghost Value = { MemberState };
 
-    ghost view = { λ s. record { holding = s.view.holding; next = s.signer.next } };
+    ghost view = { λ s. record {
+      holding = s.view.holding;
+      link = s.view.source.source.link;
+      signed = s.key.signed;
+      next = s.key.next;
+    } };
 }
 
 impl<R: Read + Drop, W: Write + Drop, K: KeyStore + Drop> Member<R, W, K> {
@@ -54,11 +63,13 @@ impl<R: Read + Drop, W: Write + Drop, K: KeyStore + Drop> Member<R, W, K> {
         tries: u32,
     ) -> Member<R, W, K>
         ensures holding { result.holding ≡ view.holding }
+        ensures link { result.link ≡ view.source.source.link }
+        ensures signed { result.signed ≡ [] }
         ensures next { result.next ≡ signer.next }
     {
         Member {
             view,
-            signer,
+            key: OwnKey::new(signer),
             tries,
             alloc,
         }
@@ -67,6 +78,7 @@ impl<R: Read + Drop, W: Write + Drop, K: KeyStore + Drop> Member<R, W, K> {
     /// Tells whether the link to the server has failed. All that is asked of it then is refused by
     /// `LinkFailed`, until `begin` makes it anew.
     pub fn has_failed(&mut self) -> bool
+        ensures value { result ≡ self.old.link.failed }
         ensures same { self.new ≡ self.old }
     {
         self.view.source_mut().source_mut().has_failed()
@@ -74,7 +86,7 @@ impl<R: Read + Drop, W: Write + Drop, K: KeyStore + Drop> Member<R, W, K> {
 
     /// Lends where the leaf that signs next is stored.
     pub fn store(&self) -> &K {
-        self.signer.store()
+        self.key.store()
     }
 
     /// Takes the turn, checks what the server shows as the users' last commits, and takes the
@@ -85,40 +97,54 @@ impl<R: Read + Drop, W: Write + Drop, K: KeyStore + Drop> Member<R, W, K> {
     /// `LinkFailed`; `NoMemory`. Where it is refused, the turn is given back, and what was taken
     /// before stays.
     pub fn begin<A: Surroundings<R, W>>(&mut self, around: &mut A) -> Result<(), ViewRefusal>
-        ensures takes { TakesSome self.old.holding self.new.holding }
-        ensures next { self.new.next ≡ self.old.next }
-        ensures passes { OnOk result (ShownPasses self.old.holding) }
+        ensures takes { OnlyTakes self.old self.new }
+        ensures link { Comes A.may_connect self.old.link self.new.link }
+        ensures turn { OnOk result
+            (TakesTurn A.may_connect self.old.holding self.old.link self.new.link) }
     {
         let (count, last) = match self.take_turn(around) {
             Ok(granted) => granted,
             Err(refusal) => return Err(ViewRefusal::Plain(refusal)),
         };
-        let caught_up = self.catch_up(count, last.as_slice());
-        if caught_up.is_err() {
-            self.give_up();
+        match self.catch_up(count, last.as_slice()) {
+            Ok(()) => Ok(()),
+            Err(refusal) => {
+                self.give_up();
+                Err(refusal)
+            }
         }
-        caught_up
     }
 
     /// Takes the turn, checks and takes what the list lacks, and gives the turn back. The refusals
     /// are those of `begin`.
     pub fn look<A: Surroundings<R, W>>(&mut self, around: &mut A) -> Result<(), ViewRefusal>
-        ensures takes { TakesSome self.old.holding self.new.holding }
-        ensures next { self.new.next ≡ self.old.next }
-        ensures passes { OnOk result (ShownPasses self.old.holding) }
+        ensures takes { OnlyTakes self.old self.new }
+        ensures link { Comes A.may_connect self.old.link self.new.link }
+        ensures looks { OnOk result
+            (Looks A.may_connect self.old.holding self.old.link self.new.link) }
     {
         self.begin(around)?;
-        match self.view.source_mut().source_mut().give() {
+        match self.give() {
             Ok(()) => Ok(()),
             Err(refusal) => Err(ViewRefusal::Plain(refusal)),
         }
     }
 
+    /// Gives the turn back.
+    fn give(&mut self) -> Result<(), Refusal>
+        ensures stays { Stays self.old self.new }
+        ensures follows { Follows self.old.link self.new.link }
+        ensures given { OnOk result (Exchanged Give self.old.link self.new.link Given) }
+    {
+        self.view.source_mut().source_mut().give()
+    }
+
     /// Gives the turn back after a refusal, which is what is told.
     pub(crate) fn give_up(&mut self)
-        ensures { self.new ≡ self.old }
+        ensures stays { Stays self.old self.new }
+        ensures follows { Follows self.old.link self.new.link }
     {
-        let _ = self.view.source_mut().source_mut().give();
+        let _ = self.give();
     }
 
     /// Takes the turn. Where the link has failed, as that of a session that was ended, nothing has
@@ -128,7 +154,10 @@ impl<R: Read + Drop, W: Write + Drop, K: KeyStore + Drop> Member<R, W, K> {
         &mut self,
         around: &mut A,
     ) -> Result<(u64, LastNumbers), Refusal>
-        ensures { self.new ≡ self.old }
+        ensures stays { Stays self.old self.new }
+        ensures link { Comes A.may_connect self.old.link self.new.link }
+        ensures granted { IfOk result (λ g.
+            IsGranted A.may_connect self.old.link self.new.link g.0 g.1) }
     {
         match self.await_turn(around) {
             Err(Refusal::LinkFailed) => {
@@ -141,7 +170,9 @@ impl<R: Read + Drop, W: Write + Drop, K: KeyStore + Drop> Member<R, W, K> {
 
     /// Puts a new link in the place of one that has failed. `LinkFailed` where none can be made.
     fn connect_anew<A: Surroundings<R, W>>(&mut self, around: &mut A) -> Result<(), Refusal>
-        ensures { self.new ≡ self.old }
+        ensures stays { Stays self.old self.new }
+        ensures new { OnOk result (IsFresh self.new.link × A.may_connect self.new.link) }
+        ensures err { OnErr result (self.new.link ≡ self.old.link) }
     {
         match around.connect() {
             Ok(link) => {
@@ -158,7 +189,11 @@ impl<R: Read + Drop, W: Write + Drop, K: KeyStore + Drop> Member<R, W, K> {
         &mut self,
         around: &mut A,
     ) -> Result<(u64, LastNumbers), Refusal>
-        ensures { self.new ≡ self.old }
+        ensures stays { Stays self.old self.new }
+        ensures follows { Follows self.old.link self.new.link }
+        ensures granted { IfOk result (λ g.
+            IsGrantedOver self.old.link self.new.link g.0 g.1) }
+        ensures failed { result ≡ Err LinkFailed → self.new.link.failed ≡ true }
     {
         let tries = self.tries;
         for _ in 1..tries {
@@ -174,7 +209,11 @@ impl<R: Read + Drop, W: Write + Drop, K: KeyStore + Drop> Member<R, W, K> {
 
     /// Asks for the turn once.
     fn ask_turn(&mut self) -> Result<(u64, LastNumbers), Refusal>
-        ensures { self.new ≡ self.old }
+        ensures stays { Stays self.old self.new }
+        ensures follows { Follows self.old.link self.new.link }
+        ensures granted { IfOk result (λ g.
+            Exchanged Grant self.old.link self.new.link (Granted g.0 g.1)) }
+        ensures failed { result ≡ Err LinkFailed → self.new.link.failed ≡ true }
     {
         self.view.source_mut().source_mut().grant()
     }
@@ -182,9 +221,10 @@ impl<R: Read + Drop, W: Write + Drop, K: KeyStore + Drop> Member<R, W, K> {
     /// Checks what the server shows as the last commits of these users, and takes what the list lacks
     /// of so many.
     fn catch_up(&mut self, count: u64, last: &[(User, u64)]) -> Result<(), ViewRefusal>
-        ensures takes { TakesSome self.old.holding self.new.holding }
-        ensures next { self.new.next ≡ self.old.next }
-        ensures passes { OnOk result (ShownPasses self.old.holding) }
+        ensures takes { OnlyTakes self.old self.new }
+        ensures follows { Follows self.old.link self.new.link }
+        ensures passes { OnOk result
+            (PassesShown self.old.holding last.now self.old.link self.new.link) }
     {
         let shown = self.last_commits(last)?;
         self.view.check_list(shown.commits())?;
@@ -193,20 +233,40 @@ impl<R: Read + Drop, W: Write + Drop, K: KeyStore + Drop> Member<R, W, K> {
 
     /// Fetches these last commits. What the server says that it hasn't is left out.
     fn last_commits(&mut self, last: &[(User, u64)]) -> Result<Shown, Refusal>
-        ensures { self.new ≡ self.old }
+        ensures stays { Stays self.old self.new }
+        ensures follows { Follows self.old.link self.new.link }
+        ensures shown { IfOk result (λ shown.
+            AreShown last.now [] self.old.link shown.commits.items self.new.link) }
     {
         let mut shown = Shown::new(self.alloc);
         for (_, number) in last {
-            if let Some(commit) = self.fetch_commit(*number)? {
-                shown.push(*number, commit)?;
-            }
+            self.fetch_shown(*number, &mut shown)?;
         }
         Ok(shown)
     }
 
+    /// Fetches the commit of that number, and adds it to those that are shown.
+    fn fetch_shown(&mut self, number: u64, shown: &mut Shown) -> Result<(), Refusal>
+        ensures stays { Stays self.old self.new }
+        ensures follows { Follows self.old.link self.new.link }
+        ensures shown { OnOk result (IsShown number shown.old.commits.items self.old.link
+            shown.new.commits.items self.new.link) }
+    {
+        match self.fetch_commit(number)? {
+            Some(commit) => {
+                shown.push(number, commit)?;
+                Ok(())
+            }
+            None => Ok(()),
+        }
+    }
+
     /// Fetches the commit of that number; none where the server says that it has none.
     fn fetch_commit(&mut self, number: u64) -> Result<Option<Commit>, Refusal>
-        ensures { self.new ≡ self.old }
+        ensures stays { Stays self.old self.new }
+        ensures follows { Follows self.old.link self.new.link }
+        ensures shown { IfOk result (λ commit. Exchanged (Fetch number) self.old.link
+            self.new.link (commit_or_nothing commit)) }
     {
         match self.view.source_mut().source_mut().fetch(number)? {
             Some(bytes) => Ok(Some(Commit::decode(self.alloc, bytes.as_slice())?)),
@@ -218,8 +278,8 @@ impl<R: Read + Drop, W: Write + Drop, K: KeyStore + Drop> Member<R, W, K> {
     /// hasn't is left out, so that the one after it is refused.
     fn take_up_to(&mut self, count: u64, shown: &Shown) -> Result<(), ViewRefusal>
         requires signed { AreSigned self.old.holding.roster shown.now.commits.items }
-        ensures takes { TakesSome self.old.holding self.new.holding }
-        ensures next { self.new.next ≡ self.old.next }
+        ensures takes { OnlyTakes self.old self.new }
+        ensures follows { Follows self.old.link self.new.link }
     {
         let (held, _) = self.view.head();
         for before in held..count {
@@ -231,8 +291,8 @@ impl<R: Read + Drop, W: Write + Drop, K: KeyStore + Drop> Member<R, W, K> {
     /// Takes the commit of that number: the one that is shown with it, or else what is fetched.
     fn take_one(&mut self, number: u64, shown: &Shown) -> Result<(), ViewRefusal>
         requires signed { AreSigned self.old.holding.roster shown.now.commits.items }
-        ensures takes { TakesSome self.old.holding self.new.holding }
-        ensures next { self.new.next ≡ self.old.next }
+        ensures takes { OnlyTakes self.old self.new }
+        ensures follows { Follows self.old.link self.new.link }
     {
         match shown.of(number) {
             Some(commit) => self.take_signed(commit),
@@ -243,8 +303,8 @@ impl<R: Read + Drop, W: Write + Drop, K: KeyStore + Drop> Member<R, W, K> {
     /// Takes a commit that was found to be signed by its author, so that this isn't checked again.
     fn take_signed(&mut self, commit: &Commit) -> Result<(), ViewRefusal>
         requires signed { IsSignedByAuthor self.old.holding.roster commit.now }
-        ensures takes { TakesSome self.old.holding self.new.holding }
-        ensures next { self.new.next ≡ self.old.next }
+        ensures takes { OnlyTakes self.old self.new }
+        ensures follows { Follows self.old.link self.new.link }
     {
         // its clause tells the prover that it is a commit (docs/ARCHITECTURE.md, "Forms the kit
         // wants")
@@ -260,8 +320,8 @@ impl<R: Read + Drop, W: Write + Drop, K: KeyStore + Drop> Member<R, W, K> {
 
     /// Fetches the commit of that number, and takes it.
     fn take_fetched(&mut self, number: u64) -> Result<(), ViewRefusal>
-        ensures takes { TakesSome self.old.holding self.new.holding }
-        ensures next { self.new.next ≡ self.old.next }
+        ensures takes { OnlyTakes self.old self.new }
+        ensures follows { Follows self.old.link self.new.link }
     {
         match self.view.source_mut().source_mut().fetch(number) {
             Ok(Some(bytes)) => self.view.accept_bytes(bytes.as_slice()),

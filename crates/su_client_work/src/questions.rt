@@ -1,7 +1,7 @@
 // What a client asks of the tree of its list, and its list as a log.
-ghost use Rattle.std.specs.Prelude.{◌≡◌, IfOk};
-ghost use Rattle.su_view.specs.Acting.{TakesSome};
-ghost use Rattle.su_client_work.specs.Member.{Lists, Shows};
+ghost use Rattle.std.specs.Prelude.{◌≡◌, IfOk, OnOk};
+ghost use Rattle.su_client_work.specs.Member.{Lists, OnlyTakes, Shows};
+ghost use Rattle.su_client_work.specs.Turn.{Comes, Looks};
 ghost use Rattle.su_client_work.specs.SavedLog.{saved_log};
 
 use crate::logs::log_of;
@@ -22,8 +22,10 @@ impl<R: Read + Drop, W: Write + Drop, K: KeyStore + Drop> Member<R, W, K> {
         around: &mut A,
         path: &[u8],
     ) -> Result<Vec<(Name, FileId)>, ViewRefusal>
-        ensures takes { TakesSome self.old.holding self.new.holding }
-        ensures next { self.new.next ≡ self.old.next }
+        ensures takes { OnlyTakes self.old self.new }
+        ensures link { Comes A.may_connect self.old.link self.new.link }
+        ensures looks { OnOk result
+            (Looks A.may_connect self.old.holding self.old.link self.new.link) }
         ensures lists { IfOk result (λ names. Lists self.new.holding path.now names.items) }
     {
         self.look(around)?;
@@ -41,8 +43,10 @@ impl<R: Read + Drop, W: Write + Drop, K: KeyStore + Drop> Member<R, W, K> {
         off: u64,
         len: u64,
     ) -> Result<Vec<u8>, ViewRefusal>
-        ensures takes { TakesSome self.old.holding self.new.holding }
-        ensures next { self.new.next ≡ self.old.next }
+        ensures takes { OnlyTakes self.old self.new }
+        ensures link { Comes A.may_connect self.old.link self.new.link }
+        ensures looks { OnOk result
+            (Looks A.may_connect self.old.holding self.old.link self.new.link) }
         ensures shows { IfOk result (λ bytes.
             Shows self.new.holding path.now off len bytes.items) }
     {
@@ -54,8 +58,10 @@ impl<R: Read + Drop, W: Write + Drop, K: KeyStore + Drop> Member<R, W, K> {
     /// Returns the log of all commits, once they are taken: of each its bytes and the item of its
     /// change, each with its length before it. The refusals of `begin`.
     pub fn log<A: Surroundings<R, W>>(&mut self, around: &mut A) -> Result<Vec<u8>, ViewRefusal>
-        ensures takes { TakesSome self.old.holding self.new.holding }
-        ensures next { self.new.next ≡ self.old.next }
+        ensures takes { OnlyTakes self.old self.new }
+        ensures link { Comes A.may_connect self.old.link self.new.link }
+        ensures looks { OnOk result
+            (Looks A.may_connect self.old.holding self.old.link self.new.link) }
         ensures log { IfOk result (λ log. log.items ≡ saved_log self.new.holding.held) }
     {
         self.look(around)?;

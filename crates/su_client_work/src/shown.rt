@@ -1,5 +1,5 @@
 // What a server shows as the users' last commits.
-ghost use Rattle.std.specs.Prelude.{◌≡◌, IfSome, OnOk};
+ghost use Rattle.std.specs.Prelude.{◌≡◌, ◌∷◌, ◌++◌, [], IfSome, OnOk};
 ghost use Rattle.std.specs.Option.{option_copied};
 ghost use Rattle.su_bytes.specs.Membership.{Membership};
 ghost use Rattle.su_version.specs.Chain.{IsSignedByAuthor};
@@ -17,7 +17,9 @@ pub(crate) struct Shown {
 
 impl Shown {
     /// Makes it of no commits.
-    pub fn new(alloc: Global) -> Shown {
+    pub fn new(alloc: Global) -> Shown
+        ensures { result.commits.items ≡ [] }
+    {
         Shown {
             numbers: Vec::new(alloc),
             commits: Vec::new(alloc),
@@ -25,7 +27,9 @@ impl Shown {
     }
 
     /// Adds a commit with its number.
-    pub fn push(&mut self, number: u64, commit: Commit) -> Result<(), AllocError> {
+    pub fn push(&mut self, number: u64, commit: Commit) -> Result<(), AllocError>
+        ensures { OnOk result (self.new.commits.items ≡ self.old.commits.items ++ commit ∷ []) }
+    {
         self.numbers.push(number)?;
         self.commits.push(commit)?;
         Ok(())

@@ -1,5 +1,6 @@
-use Rattle.std.proofs.Common.{◌≡◌}
+use Rattle.su_client.specs.Link.{Follows}
+use Rattle.su_client_work.specs.Member.{Stays}
 use Rattle.su_client_work.proofs.members.Member.await_turn.Given as goal
 
 abbrev pub invariant-loop : goal.invariant-loop
-invariant-loop g l = l.self ≡ l.fn.self
+invariant-loop g l = record { stays : Stays l.fn.self l.self; follows : Follows l.fn.self.link l.self.link }

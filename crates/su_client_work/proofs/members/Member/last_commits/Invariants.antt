@@ -1,5 +1,12 @@
-use Rattle.std.proofs.Common.{◌≡◌}
+use Rattle.std.proofs.Common.{[], take}
+use Rattle.su_client.specs.Link.{Follows}
+use Rattle.su_client_work.specs.Member.{Stays}
+use Rattle.su_client_work.specs.Turn.{AreShown}
 use Rattle.su_client_work.proofs.members.Member.last_commits.Given as goal
 
 abbrev pub invariant-loop-number : goal.invariant-loop-number
-invariant-loop-number g l = l.self ≡ l.fn.self
+invariant-loop-number g l = record {
+  stays : Stays l.fn.self l.self;
+  follows : Follows l.fn.self.link l.self.link;
+  shown : AreShown (take l.number-index l.last) [] l.fn.self.link l.shown.commits.items l.self.link;
+}

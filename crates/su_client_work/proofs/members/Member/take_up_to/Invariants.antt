@@ -1,6 +1,6 @@
-use Rattle.std.proofs.Common.{◌≡◌}
-use Rattle.su_view.specs.Acting.{TakesSome}
+use Rattle.su_client.specs.Link.{Follows}
+use Rattle.su_client_work.specs.Member.{OnlyTakes}
 use Rattle.su_client_work.proofs.members.Member.take_up_to.Given as goal
 
 abbrev pub invariant-loop-before : goal.invariant-loop-before
-invariant-loop-before g l = TakesSome l.fn.self.holding l.self.holding × (l.self.next ≡ l.fn.self.next)
+invariant-loop-before g l = record { takes : OnlyTakes l.fn.self l.self; follows : Follows l.fn.self.link l.self.link }

@@ -1,0 +1,11 @@
+use Rattle.su_client.specs.Following.{follows_on}
+use Rattle.su_client_work.proofs.Turns.{comes_on}
+use Rattle.su_client_work.proofs.members.Member.begin.Goals as goal
+
+pub returns-in-Ok-catch_up-clause-link : goal.returns-in-Ok-catch_up-clause-link
+returns-in-Ok-catch_up-clause-link g c = comes_on _ c.args.self.now.link c.take_turn.new.self.link c.catch_up.new.self.link c.take_turn.ensures.link c.catch_up.ensures.follows
+
+pub returns-clause-link : goal.returns-clause-link
+returns-clause-link g c =
+    comes_on _ c.args.self.now.link c.take_turn.new.self.link c.give_up.new.self.link c.take_turn.ensures.link
+    (follows_on c.take_turn.new.self.link c.catch_up.new.self.link c.give_up.new.self.link c.catch_up.ensures.follows c.give_up.ensures.follows)

@@ -1,0 +1,84 @@
+-- How a client takes its turn at a server, and what it is shown before it looks at the tree. (The
+-- protocol is this project's own; what is checked is SUNDR's, section 3.3.)
+use Rattle.std.specs.Prelude.{◌≡◌, ◌⊎◌, ◌++◌, ℕ, true, List, [], ◌∷◌, Option, option_map, option_to_list}
+use Rattle.su_bytes.specs.Order.{Passes}
+use Rattle.su_message.specs.declared.requests.Request.TheVariants.{Grant, Give, Fetch}
+use Rattle.su_message.specs.declared.replies.Reply.{Reply}
+use Rattle.su_message.specs.declared.replies.Reply.TheVariants.{Granted, Given}
+use Rattle.su_client.specs.Link.{LinkState, IsFresh, Exchanged, Follows, kept_or_nothing}
+use Rattle.su_version.specs.Commit.{Commit, commit_bytes}
+use Rattle.su_view.specs.Holding.{HoldingState}
+use Rattle.su_view.specs.LastCommits.{own_last, shown_order}
+
+-- A link failed, and a new one, which may be made, was put in its place.
+pub record IsMadeAnew (MayConnect : LinkState → Type 0) (a b : LinkState) : Type 0 where
+  pub broken : LinkState
+  pub follows : Follows a broken
+  pub failed : broken.failed ≡ true
+  pub start : LinkState
+  pub fresh : IsFresh start
+  pub may : MayConnect start
+  pub then_follows : Follows start b
+
+-- What has become of a client's link: it was asked over it; or it failed, and from then on it was
+-- asked over a new one.
+abbrev pub Comes : (LinkState → Type 0) → LinkState → LinkState → Type 0
+Comes MayConnect a b = Follows a b ⊎ IsMadeAnew MayConnect a b
+
+-- Over the link the server granted the turn: it has so many records, and these are the numbers of
+-- the users' last ones.
+pub record IsGrantedOver (a b : LinkState) (count : ℕ) (last : List (ℕ × ℕ)) : Type 0 where
+  pub before : LinkState
+  pub follows : Follows a before
+  pub granted : Exchanged Grant before b (Granted count last)
+
+-- over the link, or over a new one
+pub record IsGranted (MayConnect : LinkState → Type 0) (a b : LinkState) (count : ℕ)
+    (last : List (ℕ × ℕ)) : Type 0 where
+  pub before : LinkState
+  pub comes : Comes MayConnect a before
+  pub granted : Exchanged Grant before b (Granted count last)
+
+-- the reply to a request for a commit
+abbrev pub commit_or_nothing : Option Commit → Reply
+commit_or_nothing c = kept_or_nothing (option_map commit_bytes c)
+
+-- The server is asked for the commit of this number; what it shows comes behind those that it has
+-- shown before.
+pub record IsShown (number : ℕ) (before : List Commit) (a : LinkState) (shown : List Commit)
+    (b : LinkState) : Type 0 where
+  pub answer : Option Commit
+  pub exchanged : Exchanged (Fetch number) a b (commit_or_nothing answer)
+  pub joins : shown ≡ before ++ option_to_list answer
+
+-- so it is for the last commit of each of these users, one after the other
+abbrev pub AreShown : List (ℕ × ℕ) → List Commit → LinkState → List Commit → LinkState → Type 0
+AreShown [] before a shown b = (shown ≡ before) × (b ≡ a)
+AreShown (user ∷ users) before a shown b =
+    (more : List Commit) × (between : LinkState) × IsShown user.1 before a more between
+    × AreShown users more between shown b
+
+-- A client that holds v is shown these users' last commits, and they pass; then more is asked.
+pub record PassesShown (v : HoldingState) (last : List (ℕ × ℕ)) (a b : LinkState) : Type 0 where
+  pub shown : List Commit
+  pub checked : LinkState
+  pub are_shown : AreShown last [] a shown checked
+  pub passes : Passes (shown_order v.roster v.user (own_last v) shown)
+  pub follows : Follows checked b
+
+-- A client that holds v takes its turn: it is granted, and what the server shows as the users' last
+-- commits passes.
+pub record TakesTurn (MayConnect : LinkState → Type 0) (v : HoldingState) (a b : LinkState)
+    : Type 0 where
+  pub count : ℕ
+  pub last : List (ℕ × ℕ)
+  pub turn : LinkState
+  pub granted : IsGranted MayConnect a turn count last
+  pub passes : PassesShown v last turn b
+
+-- and then it gives the turn back
+pub record Looks (MayConnect : LinkState → Type 0) (v : HoldingState) (a b : LinkState) : Type 0
+  where
+    pub between : LinkState
+    pub takes_turn : TakesTurn MayConnect v a between
+    pub gives : Exchanged Give between b Given
