@@ -8,3 +8,4 @@ mod Relating
 mod Counts
 mod Noticed
 mod Calling
+mod Committing

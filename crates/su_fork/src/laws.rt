@@ -14,7 +14,7 @@ ghost use Rattle.su_fork.specs.Events.{World, Event, taking, signing, list_of, a
 ghost use Rattle.su_fork.specs.Premises.{hashed, NoCollision, NoForgery, IsOnlyClient};
 ghost use Rattle.su_fork.specs.Consistency.{SharedUpTo, SharedBefore, AsMade, NotJoined, NeverJoins, NoneAbove};
 ghost use Rattle.su_fork.specs.Noticing.{AreOf, HasUpTo, NoneIsAbove, NoneComparable};
-ghost use Rattle.su_fork.specs.Calls.{holding_after, acting, Shown};
+ghost use Rattle.su_fork.specs.Calls.{holding_after, acting, CommitsIn, Shown};
 
 /// What an honest user's client holds, at whatever moment, is a legal list: all that a desk is for
 /// holds of its tree.
@@ -166,4 +166,15 @@ pub fn acts_make_runs()
     ensures acts { (w : World) (es : List Event) (k : ℕ) (acts : List Act) (v : HoldingState)
         → Run w es → w.honest (w.user k) ≡ true → Does (holding_after w es k) acts v
         → Run w (es ++ acting k acts) × (v ≡ holding_after w (es ++ acting k acts) k) }
+{}
+
+/// The runs of which the laws on forks speak have signatures in them: a commit that an honest user's
+/// client made, as the clauses `may_sign` and `joins` of `View::make` say it, and then took makes a
+/// run without forgery into one more, in which it is signed.
+pub fn commits_make_runs()
+    ensures none { (w : World) → Run w [] × NoForgery w [] (all_taken []) }
+    ensures more { (w : World) (es : List Event) (k : ℕ) (c : Committed)
+        → let v = holding_after w es k in
+        Run w es → NoForgery w es (all_taken es) → w.honest (w.user k) ≡ true
+        → MaySign v c.commit.version → MayJoin v.roster v.held c → CommitsIn w es k c }
 {}
