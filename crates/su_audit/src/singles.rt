@@ -71,12 +71,23 @@ impl Single {
 /// It is checked, and has no room for another item.
 impl BlockSource for Single {
     ghost use Rattle.std.specs.Prelude.{◌≡◌, true};
+    ghost use Rattle.std.proofs.Common.{refl, ◌∙◌};
 
     ghost may_give = { λ s item. item ≡ s.item };
 
     ghost is_checked = { true };
 
     ghost failed = { λ s. s.failed };
+
+    // It stays as it is.
+    ghost follows = { λ s t. t.item ≡ s.item };
+
+    // It takes none.
+    ghost puts = { λ s item t. ⊥ };
+
+    ghost follows_itself = { λ s. refl };
+
+    ghost follows_on = { λ s t u first second. second ∙ first };
 
     fn get(&mut self, alloc: Global, digest: Digest) -> Result<Vec<u8>, Refusal>
         ensures given { IfOk result (λ item. item.items ≡ self.old.item) }
