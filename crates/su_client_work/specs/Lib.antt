@@ -3,3 +3,4 @@ pub mod Turn
 pub mod Work
 pub mod Publishing
 pub mod SavedLog
+pub mod TakenLog

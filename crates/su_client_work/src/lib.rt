@@ -9,6 +9,6 @@ mod questions;
 mod shown;
 mod surroundings;
 
-pub use logs::{LogFault, take_log};
+pub use logs::{LogFault, saved_logs_are_logs, take_log};
 pub use members::Member;
 pub use surroundings::Surroundings;

@@ -1,10 +1,13 @@
 // Logs of commits, with the items of their changes: how one is made of a list, and taken in a view.
-ghost use Rattle.std.specs.Prelude.{◌≡◌, ◌++◌, true, Some, IfOk, IfErr, OnOk, OnErr};
+ghost use Rattle.std.specs.Prelude.{◌≡◌, ◌++◌, ℕ, List, map, true, Some, IfOk, IfErr, OnOk, OnErr};
 ghost use Rattle.su_legal.specs.Legal.{Committed};
 ghost use Rattle.su_view.specs.Acting.{TakesSome};
 ghost use Rattle.su_view.specs.Entry.{committed_at};
 ghost use Rattle.su_log.specs.Part.{part_bytes};
-ghost use Rattle.su_client_work.specs.SavedLog.{saved_log, entry_bytes};
+ghost use Rattle.su_log.specs.Log.{log_bytes};
+ghost use Rattle.su_log.specs.Record.{spelled};
+ghost use Rattle.su_client_work.specs.SavedLog.{saved_log, entry_bytes, saved_record};
+ghost use Rattle.su_client_work.specs.TakenLog.{TakesFront, TakesRecord, EndsSo};
 
 use std::alloc::Global;
 use std::io;
@@ -33,7 +36,11 @@ pub fn take_log<I: Read + Drop, S: BlockSource + Drop>(
     view: &mut View<S>,
 ) -> Result<u64, LogFault>
     requires { S.is_checked ≡ true }
-    ensures { TakesSome view.old.holding view.new.holding }
+    ensures takes { TakesSome view.old.holding view.new.holding }
+    ensures follows { S.follows view.old.source view.new.source }
+    ensures log { (log : List ℕ) → I.remaining reader ≡ Some log
+        → EndsSo (TakesFront S.follows S.puts view.old.holding view.old.source log
+        view.new.holding view.new.source) log result }
 {
     let mut log = Log::new(reader);
     for number in 1..u64::MAX {
@@ -61,7 +68,10 @@ fn take_record<S: BlockSource + Drop>(
     record: &Record,
 ) -> Result<(), ViewRefusal>
     requires { S.is_checked ≡ true }
-    ensures { TakesSome view.old.holding view.new.holding }
+    ensures took { OnOk result (TakesRecord S.follows S.puts (spelled record.now)
+        view.old.holding view.old.source view.new.holding view.new.source) }
+    ensures err { OnErr result (view.new.holding ≡ view.old.holding) }
+    ensures follows { S.follows view.old.source view.new.source }
 {
     view.source_mut().put(alloc, record.item.as_slice())?;
     view.accept_bytes(record.bytes.as_slice())
@@ -110,3 +120,8 @@ fn put_bytes(log: &mut Vec<u8>, bytes: &[u8]) -> Result<(), Refusal>
     log.extend_from_slice(bytes)?;
     Ok(())
 }
+
+/// What is saved is what is read: the log of a list is that of the records of its commits.
+pub fn saved_logs_are_logs()
+    ensures { (cs : List Committed) → saved_log cs ≡ log_bytes (map saved_record cs) }
+{}
