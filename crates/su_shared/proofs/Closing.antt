@@ -9,10 +9,10 @@ use Rattle.std.proofs.lemmas.List.Sorted.{sum_by-IsPermutation}
 use Rattle.std.proofs.lemmas.Bool.{cases_eq}
 use Rattle.std.proofs.lemmas.Option.{slice_get_read, slice_get-map, same_Some, get_or_from_slice_get}
 use Rattle.su_book.specs.Machine.{BookState, count_of}
-use Rattle.su_shared.specs.declared.cells.Record.{Record}
+use Rattle.su_shared.specs.Entry.{Entry}
 use Rattle.su_shared.specs.declared.seats.Kept.{Kept}
 use Rattle.su_shared.specs.Seats.{SeatView}
-use Rattle.su_shared.specs.Shares.{HeldView, IsHeld, IsOrderly, AreAll, EachKnows, EachStands, run_records, nothing}
+use Rattle.su_shared.specs.Shares.{HeldView, IsHeld, IsOrderly, AreAll, EachKnows, EachStands, nothing}
 
 -- what holds below i and at i holds below i + 1
 pub below_next : {X : Type 0} (P : ℕ → X → Type 0) (xs : List X) (i : ℕ) (x : X) → x ≡ get_or xs i x → i < length xs → P i x → ((k : ℕ) (s : X) → k < i → slice_get xs k ≡ Some s → P k s) → (k : ℕ) (s : X) → k < i + 1 → slice_get xs k ≡ Some s → P k s
@@ -37,7 +37,7 @@ sum_by-map f [] = refl
 sum_by-map f (x ∷ xs) =
     sum_by-cons f x.kept (map (λ (y : SeatView). y.kept) xs) ∙ (ap (λ (n : ℕ). f x.kept + n) (sum_by-map f xs) ∙ sym (sum_by-cons (λ (y : SeatView). f y.kept) x xs))
 
-pub all_kept : (cells : ℕ) (b : BookState) (receipts : List Record) (kept : List Kept) (seats : List SeatView) → IsHeld cells b receipts kept → map (λ (s : SeatView). s.kept) seats ≡ kept → ((k : ℕ) (s : SeatView) → slice_get seats k ≡ Some s → s.number ≡ k) → AreAll seats (record { book = b; seats = length kept })
+pub all_kept : (cells : ℕ) (b : BookState) (receipts : List Entry) (kept : List Kept) (seats : List SeatView) → IsHeld cells b receipts kept → map (λ (s : SeatView). s.kept) seats ≡ kept → ((k : ℕ) (s : SeatView) → slice_get seats k ≡ Some s → s.number ≡ k) → AreAll seats (record { book = b; seats = length kept; records = receipts })
 all_kept cells b receipts kept seats held same numbers =
     record {
       count = sym (length-map seats (λ (s : SeatView). s.kept)) ∙ ap length same;
@@ -52,8 +52,8 @@ all_kept cells b receipts kept seats held same numbers =
 pub same_sum : (f : SeatView → ℕ) (xs ys : List SeatView) → IsPermutation xs ys → sum_by f ys ≡ sum_by f xs
 same_sum f xs ys p = sum_by-IsPermutation f xs ys p
 
-pub stands : (h : HeldView) (book : BookState) (seats : List SeatView) → book ≡ h.book → IsOrderly h.book.journal → AreAll seats h → EachKnows seats (run_records h.book.journal) → EachStands seats book.journal
+pub stands : (h : HeldView) (book : BookState) (seats : List SeatView) → book ≡ h.book → IsOrderly h.book.journal → AreAll seats h → EachKnows seats h.records → EachStands seats book.journal h.records
 stands h book seats same order all knows =
-    subst (λ (v : BookState). EachStands seats v.journal) (sym same) (λ k s is.
+    subst (λ (v : BookState). EachStands seats v.journal h.records) (sym same) (λ k s is.
     let (number, kept) = all.each k s is in
     (number, kept, subst (λ (x : Kept). x.top ≤ count_of h.book.journal) (sym kept) (order.top k), knows k s is))

@@ -1,11 +1,10 @@
 -- What one more step does to what the lock keeps.
-use Rattle.std.proofs.Common.{◌≡◌, ◌≢◌, ℕ, zero, suc, ◌+◌, ◌-◌, ◌<◌, ◌≤◌, ◌==◌, true, false, cond, List, [], ◌∷◌, ◌++◌, length, map, Option, Some, None, get_or, refl, ap, sym, ◌∙◌, subst, arith, inl, inr, slice_get, length-append, MatchOption, get_or-set_other, option_to_list}
+use Rattle.std.proofs.Common.{◌≡◌, ◌≢◌, ◌⊎◌, ℕ, zero, suc, ◌+◌, ◌-◌, ◌<◌, ◌≤◌, ◌==◌, true, false, cond, List, [], ◌∷◌, ◌++◌, length, map, Option, Some, None, get_or, refl, ap, sym, ◌∙◌, subst, arith, inl, inr, slice_get, length-append, MatchOption, get_or-set_other, option_to_list}
 use Rattle.std.proofs.Math.ListN.{set}
-use Rattle.std.proofs.Math.Logic.{∥∥₁_map}
-use Rattle.std.proofs.lemmas.List.{append-nil, get_or_default, map-append}
+use Rattle.std.proofs.lemmas.List.{append-nil, get_or_default, map-append, length-map}
 use Rattle.std.proofs.lemmas.List.Sums.{sum_by-set, get_or-le-sum_by}
 use Rattle.std.proofs.lemmas.Bool.{cases_eq}
-use Rattle.std.proofs.lemmas.Option.{slice_get_read}
+use Rattle.std.proofs.lemmas.Option.{none-some, same_Some, slice_get_read}
 use Rattle.std.proofs.lemmas.Bool.Decides.{nat_tests}
 use Rattle.std.proofs.lemmas.Grind.{get_or-set_at}
 use Rattle.su_version.specs.Commit.{Commit, commit_bytes}
@@ -18,9 +17,10 @@ use Rattle.su_book.specs.declared.events.BookReply.{BookReply}
 use Rattle.su_book.specs.declared.events.BookReply.TheVariants as reply
 use Rattle.su_book.specs.Machine.{BookState, MayAct, Asks, Tells, with_step, stored_by, records_of, count_of}
 use Rattle.su_book.proofs.Public.{run_push, records_push}
-use Rattle.su_shared.specs.declared.cells.Record.{Record}
 use Rattle.su_shared.specs.declared.seats.Kept.{Kept}
-use Rattle.su_shared.specs.Shares.{IsHeld, nothing, after_grant, after_commit, kept_after, kept_by, kept_from, kept_of, numbered, run_records, record_bytes, HoldsLast, last_of, receipt_for, Gives}
+use Rattle.su_keeper.specs.Kept.{KeptRecord}
+use Rattle.su_shared.specs.Entry.{Entry, kept_as}
+use Rattle.su_shared.specs.Shares.{IsHeld, IsNumbered, AreRecords, nothing, after_grant, after_commit, kept_after, kept_all, kept_by, kept_from, kept_of, made_of, record_bytes, HoldsLast, last_of, receipt_for, Gives}
 
 abbrev pub step_of : ℕ → Act → Step
 step_of seat act = record { seat = seat; act = act }
@@ -65,39 +65,89 @@ steps_more k Given = refl
 
 -- ---- records
 
-pub numbered_append : (n : ℕ) (xs ys : List Commit) → numbered n (xs ++ ys) ≡ numbered n xs ++ numbered (n + length xs) ys
-numbered_append n [] ys = ap (λ (m : ℕ). numbered m ys) (omega arith)
-numbered_append n (x ∷ xs) ys =
-    let e : (n + 1) + length xs ≡ n + length (x ∷ xs) = omega arith in
-    ap (λ l. record { number = n; bytes = commit_bytes x } ∷ l) (numbered_append (n + 1) xs ys ∙ ap (λ (m : ℕ). numbered (n + 1) xs ++ numbered m ys) e)
-
--- what the act adds to the records
-abbrev pub added : BookState → Act → List Record
-added b act = numbered (1 + count_of b.journal) (stored_by act)
-
-pub records_step : (b : BookState) (seat : ℕ) (act : Act) → run_records b.journal ++ added b act ≡ run_records (b.journal ++ step_of seat act ∷ [])
-records_step b seat act =
-    sym (numbered_append 1 (records_of b.journal) (stored_by act)) ∙ ap (numbered 1) (sym (records_push b.journal (step_of seat act)))
+-- what the act adds to the records, with these items
+abbrev pub added : List (List ℕ) → Act → List Entry
+added items (Granted n) = []
+added items (Stored n c) = record { number = n; bytes = commit_bytes c; items = items } ∷ []
+added items Given = []
 
 -- the receipt of what was stored
-pub added_is : (b : BookState) (seat : ℕ) (act : Act) (o : Option Record) → MayAct b seat act → (stored_by act ≡ [] → o ≡ None)
-    → ((n : ℕ) (c : Commit) → act ≡ Stored n c → o ≡ Some (record { number = n; bytes = commit_bytes c })) → option_to_list o ≡ added b act
-added_is b seat (Granted n) o may none some = ap option_to_list (none refl)
-added_is b seat (Stored n c) o may none some =
-    let at : n ≡ 1 + count_of b.journal = omega (arith, may.number) in
-    ap option_to_list (some n c refl) ∙ ap (λ m. numbered m (c ∷ [])) at
-added_is b seat Given o may none some = ap option_to_list (none refl)
+pub added_is : (items : List (List ℕ)) (act : Act) (o : Option Entry) → (stored_by act ≡ [] → o ≡ None)
+    → ((n : ℕ) (c : Commit) → act ≡ Stored n c → o ≡ Some (record { number = n; bytes = commit_bytes c; items = items })) → option_to_list o ≡ added items act
+added_is items (Granted n) o none some = ap option_to_list (none refl)
+added_is items (Stored n c) o none some = ap option_to_list (some n c refl)
+added_is items Given o none some = ap option_to_list (none refl)
 
-pub held_step : (cells : ℕ) (b : BookState) (receipts : List Record) (kept : List Kept) (seat : ℕ) (act : Act) → IsHeld cells b receipts kept → seat < length kept → MayAct b seat act
-    → IsHeld cells (with_step b (step_of seat act)) (receipts ++ added b act) (set kept seat (kept_by (get_or kept seat nothing) act))
-held_step cells b receipts kept seat act held within may =
+-- it is what is made of the event
+pub added_made : (cs : List Commit) (items : List (List ℕ)) (e : Event) (act : Act) (r : BookReply) → Asks e act → Tells cs act r → added items act ≡ made_of e items r
+added_made cs items event.Grant (Granted n) (reply.Granted m last) asks tells = refl
+added_made cs items event.Grant (Granted n) (reply.Stored m) asks tells = absurd tells
+added_made cs items event.Grant (Granted n) reply.Given asks tells = absurd tells
+added_made cs items event.Grant (Stored n c) r asks tells = absurd asks
+added_made cs items event.Grant Given r asks tells = absurd asks
+added_made cs items (event.Commit bytes) (Granted n) r asks tells = absurd asks
+added_made cs items (event.Commit bytes) (Stored n c) (reply.Granted m last) asks tells = absurd tells
+added_made cs items (event.Commit bytes) (Stored n c) (reply.Stored m) asks tells = λ i. record { number = sym tells i; bytes = sym asks i; items = items } ∷ []
+added_made cs items (event.Commit bytes) (Stored n c) reply.Given asks tells = absurd tells
+added_made cs items (event.Commit bytes) Given r asks tells = absurd asks
+added_made cs items event.Give (Granted n) r asks tells = absurd asks
+added_made cs items event.Give (Stored n c) r asks tells = absurd asks
+added_made cs items event.Give Given (reply.Granted m last) asks tells = absurd tells
+added_made cs items event.Give Given (reply.Stored m) asks tells = absurd tells
+added_made cs items event.Give Given reply.Given asks tells = refl
+
+pub count_is : (records : List Entry) (steps : List Step) → AreRecords records steps → length records ≡ count_of steps
+count_is records steps are =
+    sym (length-map records (λ (r : Entry). r.bytes)) ∙ (ap length are.commits ∙ length-map (records_of steps) commit_bytes)
+
+commits_added : (items : List (List ℕ)) (act : Act) → map (λ (r : Entry). r.bytes) (added items act) ≡ map commit_bytes (stored_by act)
+commits_added items (Granted n) = refl
+commits_added items (Stored n c) = refl
+commits_added items Given = refl
+
+pub slice_get_push : {X : Type 0} (xs : List X) (y : X) (k : ℕ) (x : X) → slice_get (xs ++ y ∷ []) k ≡ Some x → (slice_get xs k ≡ Some x) ⊎ ((k ≡ length xs) × (x ≡ y))
+slice_get_push [] y zero x is = inr (refl, sym (same_Some y x is))
+slice_get_push [] y (suc k) x is = absurd (none-some x is)
+slice_get_push (z ∷ zs) y zero x is = inl is
+slice_get_push (z ∷ zs) y (suc k) x is = elim (slice_get_push zs y k x is) [
+  | inl was ↦ inl was
+  | inr (place, same) ↦ inr (ap suc place, same)
+]
+
+pushed_number : (records : List Entry) (x : Entry) → IsNumbered records → x.number ≡ length records + 1 → IsNumbered (records ++ x ∷ [])
+pushed_number records x are number k r is = elim (slice_get_push records x k r is) [
+  | inl was ↦ are k r was
+  | inr (place, same) ↦ ap (λ (y : Entry). y.number) same ∙ (number ∙ ap (λ n. n + 1) (sym place))
+]
+
+numbers_added : (b : BookState) (items : List (List ℕ)) (seat : ℕ) (act : Act) (records : List Entry) → AreRecords records b.journal → MayAct b seat act → IsNumbered (records ++ added items act)
+numbers_added b items seat (Granted n) records are may = subst IsNumbered (sym (append-nil records)) are.numbers
+numbers_added b items seat (Stored n c) records are may =
+    let count = count_is records b.journal are in
+    pushed_number records (record { number = n; bytes = commit_bytes c; items = items }) are.numbers (omega (arith, may.number))
+numbers_added b items seat Given records are may = subst IsNumbered (sym (append-nil records)) are.numbers
+
+pub records_step : (b : BookState) (items : List (List ℕ)) (seat : ℕ) (act : Act) (records : List Entry) → AreRecords records b.journal → MayAct b seat act → AreRecords (records ++ added items act) (b.journal ++ step_of seat act ∷ [])
+records_step b items seat act records are may = record {
+  commits =
+      map-append (λ (r : Entry). r.bytes) records (added items act)
+      ∙ (ap (λ (l : List (List ℕ)). l ++ map (λ (r : Entry). r.bytes) (added items act)) are.commits
+      ∙ (ap (λ (l : List (List ℕ)). record_bytes b.journal ++ l) (commits_added items act)
+      ∙ (sym (map-append commit_bytes (records_of b.journal) (stored_by act))
+      ∙ ap (map commit_bytes) (sym (records_push b.journal (step_of seat act))))));
+  numbers = numbers_added b items seat act records are may;
+}
+
+pub held_step : (cells : ℕ) (b : BookState) (receipts : List Entry) (kept : List Kept) (items : List (List ℕ)) (seat : ℕ) (act : Act) → IsHeld cells b receipts kept → seat < length kept → MayAct b seat act
+    → IsHeld cells (with_step b (step_of seat act)) (receipts ++ added items act) (set kept seat (kept_by (get_or kept seat nothing) act))
+held_step cells b receipts kept items seat act held within may =
     let j = b.journal in
     let k = get_or kept seat nothing in
     let pushed = records_push j (step_of seat act) in
     record {
       run = run_push b (step_of seat act) held.run may;
       room = held.room;
-      records = ap (λ l. l ++ added b act) held.records ∙ records_step b seat act;
+      records = records_step b items seat act receipts held.records may;
       each = λ i. elim (cases_eq i seat) [
         | inl same ↦ get_or-set_at kept seat i (kept_by k act) nothing same within ∙ (ap (λ (x : Kept). kept_by x act) (held.each seat) ∙ (sym (kept_same seat j act) ∙ ap (λ (n : ℕ). kept_of n (j ++ step_of seat act ∷ [])) (sym same)))
         | inr apart ↦ get_or-set_other kept seat i (kept_by k act) nothing apart ∙ (held.each i ∙ sym (kept_other i seat j act apart))
@@ -124,7 +174,7 @@ records_le [] = omega arith
 records_le (s ∷ ss) = omega (arith, records_le ss, stored_le s.act, length-append (stored_by s.act) (records_of ss))
 
 -- no seat stored or stepped more than the journal has
-pub kept_fits : (cells : ℕ) (b : BookState) (receipts : List Record) (kept : List Kept) (seat : ℕ) → IsHeld cells b receipts kept → seat < length kept → ((get_or kept seat nothing).stored ≤ length b.journal) × ((get_or kept seat nothing).steps ≤ length b.journal)
+pub kept_fits : (cells : ℕ) (b : BookState) (receipts : List Entry) (kept : List Kept) (seat : ℕ) → IsHeld cells b receipts kept → seat < length kept → ((get_or kept seat nothing).stored ≤ length b.journal) × ((get_or kept seat nothing).steps ≤ length b.journal)
 kept_fits cells b receipts kept seat held within =
     let s = get_or-le-sum_by (λ (x : Kept). x.stored) kept seat nothing within in
     let t = get_or-le-sum_by (λ (x : Kept). x.steps) kept seat nothing within in
@@ -151,26 +201,16 @@ last_push xs x =
     let place : length (xs ++ x ∷ []) - 1 ≡ length xs = omega arith in
     ap (λ b. cond b None (slice_get (xs ++ x ∷ []) (length (xs ++ x ∷ []) - 1))) some ∙ (ap (slice_get (xs ++ x ∷ [])) place ∙ get_push xs x)
 
-number_at : (n : ℕ) (cs : List Commit) (k : ℕ) (d : Record) → k < length cs → (get_or (numbered n cs) k d).number ≡ n + k
-number_at n [] k d lt = absurd (omega arith)
-number_at n (c ∷ cs) zero d lt = omega arith
-number_at n (c ∷ cs) (suc k) d lt = number_at (n + 1) cs k d (omega arith) ∙ omega arith
-
-pub length_numbered : (n : ℕ) (cs : List Commit) → length (numbered n cs) ≡ length cs
-length_numbered n [] = refl
-length_numbered n (c ∷ cs) = ap suc (length_numbered (n + 1) cs)
-
 -- the newest record is that of the count
-last_number : (cs : List Commit) → MatchOption (last_of (numbered 1 cs)) (length cs ≡ 0) (λ r. r.number ≡ length cs)
-last_number [] = refl
-last_number (c ∷ cs) =
-    let xs = numbered 1 (c ∷ cs) in
-    let first : Record = record { number = 1; bytes = commit_bytes c } in
-    let x : Record = get_or xs (length xs - 1) first in
-    let len : length xs ≡ length (c ∷ cs) = length_numbered 1 (c ∷ cs) in
-    let at : x.number ≡ 1 + (length xs - 1) = number_at 1 (c ∷ cs) (length xs - 1) first (omega arith) in
-    let last : last_of xs ≡ Some x = last_is xs x (omega arith) (get_or_default xs (length xs - 1) first x (omega arith)) in
-    subst (λ (o : Option Record). MatchOption o (length (c ∷ cs) ≡ 0) (λ r. r.number ≡ length (c ∷ cs))) (sym last) (omega arith)
+last_number : (records : List Entry) → IsNumbered records → MatchOption (last_of records) (length records ≡ 0) (λ r. r.number ≡ length records)
+last_number [] are = refl
+last_number (r ∷ rs) are =
+    let xs : List Entry = r ∷ rs in
+    let x : Entry = get_or xs (length xs - 1) r in
+    let last : last_of xs ≡ Some x = last_is xs x (omega arith) (get_or_default xs (length xs - 1) r x (omega arith)) in
+    let place : slice_get xs (length xs - 1) ≡ Some x = slice_get_read xs (length xs) (length xs - 1) x refl (omega arith) (get_or_default xs (length xs - 1) r x (omega arith)) in
+    let at : x.number ≡ (length xs - 1) + 1 = are (length xs - 1) x place in
+    subst (λ (o : Option Entry). MatchOption o (length xs ≡ 0) (λ r. r.number ≡ length xs)) (sym last) (omega arith)
 
 -- ---- what goes with a reply
 
@@ -185,63 +225,41 @@ counts b seat (Granted n) may = may.count
 counts b seat (Stored n c) may = may.number
 counts b seat Given may = tt
 
-gives_in : (cs : List Commit) (e : Event) (act : Act) (r : BookReply) → Asks e act → Counts cs act → Tells cs act r → Gives e r (receipt_for r (numbered 1 (cs ++ stored_by act)))
-gives_in cs event.Grant (Granted n) (reply.Granted m last) asks count tells =
-    let is : m ≡ length cs = tells.0 ∙ count in
-    let all : cs ≡ cs ++ [] = sym (append-nil cs) in
-    subst (λ (k : ℕ). MatchOption (last_of (numbered 1 (cs ++ []))) (k ≡ 0) (λ r. r.number ≡ k)) (sym is)
-    (subst (λ (l : List Commit). MatchOption (last_of (numbered 1 l)) (length cs ≡ 0) (λ r. r.number ≡ length cs)) all (last_number cs))
-gives_in cs event.Grant (Granted n) (reply.Stored m) asks count tells = absurd tells
-gives_in cs event.Grant (Granted n) reply.Given asks count tells = absurd tells
-gives_in cs event.Grant (Stored n c) r asks count tells = absurd asks
-gives_in cs event.Grant Given r asks count tells = absurd asks
-gives_in cs (event.Commit bytes) (Granted n) r asks count tells = absurd asks
-gives_in cs (event.Commit bytes) (Stored n c) (reply.Granted m last) asks count tells = absurd tells
-gives_in cs (event.Commit bytes) (Stored n c) (reply.Stored m) asks count tells =
-    let is : 1 + length cs ≡ m = omega (arith, count, tells) in
-    ap last_of (numbered_append 1 cs (c ∷ []))
-    ∙ (last_push (numbered 1 cs) (record { number = 1 + length cs; bytes = commit_bytes c })
-    ∙ (λ i. Some (record { number = is i; bytes = sym asks i })))
-gives_in cs (event.Commit bytes) (Stored n c) reply.Given asks count tells = absurd tells
-gives_in cs (event.Commit bytes) Given r asks count tells = absurd asks
-gives_in cs event.Give (Granted n) r asks count tells = absurd asks
-gives_in cs event.Give (Stored n c) r asks count tells = absurd asks
-gives_in cs event.Give Given (reply.Granted m last) asks count tells = absurd tells
-gives_in cs event.Give Given (reply.Stored m) asks count tells = absurd tells
-gives_in cs event.Give Given reply.Given asks count tells = refl
+gives_in : (cs : List Commit) (records : List Entry) (items : List (List ℕ)) (e : Event) (act : Act) (r : BookReply) → IsNumbered records → length records ≡ length cs → Asks e act → Counts cs act → Tells cs act r → Gives e items r (receipt_for r (records ++ made_of e items r))
+gives_in cs records items event.Grant (Granted n) (reply.Granted m last) are long asks count tells =
+    let is : length records ≡ m = omega (arith, tells.0, count) in
+    subst (λ (l : List Entry). MatchOption (last_of l) (m ≡ 0) (λ r. r.number ≡ m)) (sym (append-nil records))
+    (subst (λ (k : ℕ). MatchOption (last_of records) (k ≡ 0) (λ r. r.number ≡ k)) is (last_number records are))
+gives_in cs records items event.Grant (Granted n) (reply.Stored m) are long asks count tells = absurd tells
+gives_in cs records items event.Grant (Granted n) reply.Given are long asks count tells = absurd tells
+gives_in cs records items event.Grant (Stored n c) r are long asks count tells = absurd asks
+gives_in cs records items event.Grant Given r are long asks count tells = absurd asks
+gives_in cs records items (event.Commit bytes) (Granted n) r are long asks count tells = absurd asks
+gives_in cs records items (event.Commit bytes) (Stored n c) (reply.Granted m last) are long asks count tells = absurd tells
+gives_in cs records items (event.Commit bytes) (Stored n c) (reply.Stored m) are long asks count tells =
+    last_push records (record { number = m; bytes = bytes.items; items = items })
+gives_in cs records items (event.Commit bytes) (Stored n c) reply.Given are long asks count tells = absurd tells
+gives_in cs records items (event.Commit bytes) Given r are long asks count tells = absurd asks
+gives_in cs records items event.Give (Granted n) r are long asks count tells = absurd asks
+gives_in cs records items event.Give (Stored n c) r are long asks count tells = absurd asks
+gives_in cs records items event.Give Given (reply.Granted m last) are long asks count tells = absurd tells
+gives_in cs records items event.Give Given (reply.Stored m) are long asks count tells = absurd tells
+gives_in cs records items event.Give Given reply.Given are long asks count tells = refl
 
-pub gives : (b : BookState) (seat : ℕ) (e : Event) (act : Act) (r : BookReply) → Asks e act → MayAct b seat act → Tells (records_of b.journal) act r
-    → Gives e r (receipt_for r (run_records (b.journal ++ step_of seat act ∷ [])))
-gives b seat e act r asks may tells =
-    subst (λ (l : List Commit). Gives e r (receipt_for r (numbered 1 l))) (sym (records_push b.journal (step_of seat act)))
-    (gives_in (records_of b.journal) e act r asks (counts b seat act may) tells)
+pub gives : (b : BookState) (records : List Entry) (items : List (List ℕ)) (seat : ℕ) (e : Event) (act : Act) (r : BookReply) → AreRecords records b.journal → Asks e act → MayAct b seat act → Tells (records_of b.journal) act r
+    → Gives e items r (receipt_for r (records ++ made_of e items r))
+gives b records items seat e act r are asks may tells =
+    gives_in (records_of b.journal) records items e act r are.numbers (count_is records b.journal are) asks (counts b seat act may) tells
 
 -- ---- what a keeper holds
 
+-- one more record is kept behind the others
+pub kept_all_push : (records : List Entry) (r : Entry) → kept_all (records ++ r ∷ []) ≡ kept_all records ++ kept_as r ∷ []
+kept_all_push records r = map-append kept_as records (r ∷ [])
+
 -- what was just kept is held last
-pub kept_last : {K : Type 0} (holds : K → List (List ℕ) → Type 0) (old new : K) (bytes kept : List ℕ) → (records : List (List ℕ)) × ∥ holds old records ∥₁
-    → ((records : List (List ℕ)) → holds old records → holds new (records ++ kept ∷ [])) → kept ≡ bytes → HoldsLast holds new bytes
-kept_last holds old new bytes kept (records, held) keeps same = record {
+pub kept_last : {K : Type 0} (holds : K → List KeptRecord → Type 0) (keeper : K) (records : List KeptRecord) (kept r : KeptRecord) → ∥ holds keeper (records ++ kept ∷ []) ∥₁ → kept ≡ r → HoldsLast holds keeper r
+kept_last holds keeper records kept r held same = record {
   earlier = records;
-  held = ∥∥₁_map held (λ h. subst (λ (b : List ℕ). holds new (records ++ b ∷ [])) same (keeps records h));
+  held = subst (λ (x : KeptRecord). ∥ holds keeper (records ++ x ∷ []) ∥₁) same held;
 }
-
--- the keeper that kept what the act stores holds the records after it
-module _ {K : Type 0} (holds : K → List (List ℕ) → Type 0) (old new : K) (j : List Step) (seat : ℕ) where
-  pub holds_step : (act : Act) → ∥ holds old (record_bytes j) ∥₁ → (stored_by act ≡ [] → new ≡ old)
-      → ((n : ℕ) (c : Commit) → act ≡ Stored n c → ∥ holds new (record_bytes j ++ commit_bytes c ∷ []) ∥₁)
-      → ∥ holds new (record_bytes (j ++ step_of seat act ∷ [])) ∥₁
-  holds_step act held same kept = subst (λ (l : List (List ℕ)). ∥ holds new l ∥₁) (sym (bytes_more act)) (held_now act held same kept)
-    where
-      bytes_more : (a : Act) → record_bytes (j ++ step_of seat a ∷ []) ≡ record_bytes j ++ map commit_bytes (stored_by a)
-      bytes_more a = ap (map commit_bytes) (records_push j (step_of seat a)) ∙ map-append commit_bytes (records_of j) (stored_by a)
-
-      idle : ∥ holds old (record_bytes j) ∥₁ → new ≡ old → ∥ holds new (record_bytes j ++ []) ∥₁
-      idle was is = subst (λ (k : K). ∥ holds k (record_bytes j ++ []) ∥₁) (sym is) (subst (λ (l : List (List ℕ)). ∥ holds old l ∥₁) (sym (append-nil (record_bytes j))) was)
-
-      held_now : (a : Act) → ∥ holds old (record_bytes j) ∥₁ → (stored_by a ≡ [] → new ≡ old)
-          → ((n : ℕ) (c : Commit) → a ≡ Stored n c → ∥ holds new (record_bytes j ++ commit_bytes c ∷ []) ∥₁)
-          → ∥ holds new (record_bytes j ++ map commit_bytes (stored_by a)) ∥₁
-      held_now (Granted n) was is now = idle was (is refl)
-      held_now (Stored n c) was is now = now n c refl
-      held_now Given was is now = idle was (is refl)

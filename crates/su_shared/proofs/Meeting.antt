@@ -5,13 +5,13 @@ use Rattle.std.specs.Prelude.{Result, Err}
 use Rattle.su_bytes.specs.declared.refusals.Refusal.{Refusal}
 use Rattle.su_bytes.proofs.Public.{EachSays, refused_says}
 use Rattle.su_version.specs.Commit.{Commit}
-use Rattle.su_bytes.specs.declared.refusals.Refusal.TheVariants.{Busy, NotYourTurn, BookFull, NoMemory, SourceFailed}
+use Rattle.su_bytes.specs.declared.refusals.Refusal.TheVariants.{Busy, NotYourTurn, BookFull, NoMemory}
 use Rattle.su_book.specs.declared.events.Event.{Event}
 use Rattle.su_book.specs.declared.events.Event.TheVariants as event
 use Rattle.su_book.specs.Machine.{BookState, storing_order, IsUnfit, IsRefused, holder_of}
 use Rattle.su_shared.specs.declared.seats.Kept.{Kept}
 use Rattle.std.specs.Global.{Vec}
-use Rattle.su_shared.specs.Shares.{IsCommitRefusal, IsStorable, MayMeet, is_grant, has_turn}
+use Rattle.su_shared.specs.Shares.{IsCommitRefusal, IsStepRefusal, IsStorable, IsStoreFault, MayMeet, MayMeetOrFull, is_grant, has_turn}
 
 has_no_turn : (seat : ℕ) (h : Option ℕ) → h ≢ Some seat → has_turn seat h ≡ false
 has_no_turn seat None none = refl
@@ -56,10 +56,7 @@ unfolding NotOfTheTurn
 unfit_not_turn b bytes e unfit = (unfit_says b bytes e unfit).1
 
 no_memory_meets : (k : Kept) (seat : ℕ) (grant : Bool) (x : Refusal) → x ≡ NoMemory → MayMeet k seat grant x
-no_memory_meets k seat grant x is = record { busy = λ n other. absurd cc; not_turn = λ other. absurd cc; without = λ _ _. inr (inl is) }
-
-pub full_meets : (k : Kept) (seat : ℕ) (grant : Bool) (x : Refusal) → x ≡ BookFull → MayMeet k seat grant x
-full_meets k seat grant x is = record { busy = λ n other. absurd cc; not_turn = λ other. absurd cc; without = λ _ _. inr (inr is) }
+no_memory_meets k seat grant x is = record { busy = λ n other. absurd cc; not_turn = λ other. absurd cc; without = λ _ _. inr is }
 
 module _ (b : BookState) (seat : ℕ) (k : Kept) (told : k.turn ≡ has_turn seat (holder_of b.journal)) where
   refused_meets : (e : Event) (x : Refusal) → IsRefused b seat e x → MayMeet k seat (is_grant e) x
@@ -86,37 +83,50 @@ module _ (b : BookState) (seat : ℕ) (k : Kept) (told : k.turn ≡ has_turn sea
     without = λ _ _. inl turn;
   }
 
-  -- whose record isn't kept, has the turn
-  not_kept_meets : (e : Event) (x : Refusal) → x ≡ SourceFailed → IsStorable b seat e → MayMeet k seat (is_grant e) x
-  not_kept_meets event.Grant x is storable = absurd storable
-  not_kept_meets (event.Commit bytes) x is (n, c, spelled, may) =
-      let turn : k.turn ≡ true = told ∙ has_the_turn seat (holder_of b.journal) may.turn in
+  -- who has the turn may meet what doesn't speak of it
+  holder_meets : (grant : Bool) (x : Refusal) → NotOfTheTurn x → holder_of b.journal ≡ Some seat → MayMeet k seat grant x
+  unfolding NotOfTheTurn
+  holder_meets grant x other holder =
+      let turn : k.turn ≡ true = told ∙ has_the_turn seat (holder_of b.journal) holder in
       record {
-        busy = λ n busy. absurd cc;
-        not_turn = λ none. absurd cc;
+        busy = λ n is. absurd (other.0 n is);
+        not_turn = λ is. absurd (other.1 is);
         without = λ none _. absurd cc;
       }
-  not_kept_meets event.Give x is storable = absurd storable
 
-  pub meets : {F : Type 0} (e : Event) (x : Refusal) → IsRefused b seat e x ⊎ (((x ≡ NoMemory) × (e ≢ event.Give)) ⊎ (((x ≡ BookFull) × (e ≢ event.Grant) × (e ≢ event.Give)) ⊎ ((x ≡ SourceFailed) × F × IsStorable b seat e))) → MayMeet k seat (is_grant e) x
+  fault_says : {F : Type 0} (x : Refusal) → IsStoreFault F x → NotOfTheTurn x
+  unfolding NotOfTheTurn
+  fault_says x (inl full) = ((λ n is. absurd cc), (λ is. absurd cc))
+  fault_says x (inr (failed, _)) = ((λ n is. absurd cc), (λ is. absurd cc))
+
+  -- whose commit isn't stored, has the turn
+  not_stored_meets : (e : Event) (x : Refusal) → NotOfTheTurn x → IsStorable b seat e → MayMeet k seat (is_grant e) x
+  not_stored_meets event.Grant x other storable = absurd storable
+  not_stored_meets (event.Commit bytes) x other (n, c, spelled, may) = holder_meets false x other may.turn
+  not_stored_meets event.Give x other storable = absurd storable
+
+  pub meets : {F : Type 0} (e : Event) (x : Refusal) → IsStepRefusal F b seat e x → MayMeet k seat (is_grant e) x
   meets e x (inl refused) = refused_meets e x refused
   meets e x (inr (inl none)) = no_memory_meets k seat (is_grant e) x none.0
-  meets e x (inr (inr (inl full))) = full_meets k seat (is_grant e) x full.0
-  meets e x (inr (inr (inr failed))) = not_kept_meets e x failed.0 failed.2
+  meets {F = F} e x (inr (inr (fault, storable))) = not_stored_meets e x (fault_says {F = F} x fault) storable
 
 -- ---- the bytes of a commit
 
 -- a seat that isn't the book's is refused so, and one that is as the book or the lock refuses it
 pub refused_commit : {X F : Type 0} (b : BookState) (n : ℕ) (same : Vec ℕ) (bytes : List ℕ) (e : Refusal) (Is : Type 0) → same.items ≡ bytes
     → Is ⊎ (◌≡◌ {A = Result X Refusal} (Err e) (Err BookFull))
-    → (Is → IsRefused b n (event.Commit same) e ⊎
-    (((e ≡ NoMemory) × (event.Commit same ≢ event.Give)) ⊎
-    (((e ≡ BookFull) × (event.Commit same ≢ event.Grant) × (event.Commit same ≢ event.Give)) ⊎ ((e ≡ SourceFailed) × F × IsStorable b n (event.Commit same)))))
+    → (Is → IsStepRefusal F b n (event.Commit same) e)
     → IsCommitRefusal F n bytes e
 refused_commit b n same bytes e Is spelled (inr full) refused = let is : e ≡ BookFull = cc in inr (inr (inl is))
 refused_commit b n same bytes e Is spelled (inl is) refused = elim (refused is) [
   | inl by_book ↦ inl (b, same, spelled, by_book)
   | inr (inl none) ↦ inr (inl none.0)
-  | inr (inr (inl full)) ↦ inr (inr (inl full.0))
-  | inr (inr (inr failed)) ↦ inr (inr (inr (failed.0, failed.1)))
+  | inr (inr (inl full, storable)) ↦ inr (inr (inl full))
+  | inr (inr (inr failed, storable)) ↦ inr (inr (inr failed))
 ]
+
+-- what a seat of the book meets, and one that isn't told apart
+pub meets_or_full : {X : Type 0} (k : Kept) (n : ℕ) (grant : Bool) (e : Refusal) (Is : Type 0)
+    → Is ⊎ (◌≡◌ {A = Result X Refusal} (Err e) (Err BookFull)) → (Is → MayMeet k n grant e) → MayMeetOrFull k n grant e
+meets_or_full k n grant e Is (inl is) meets = inl (meets is)
+meets_or_full k n grant e Is (inr full) meets = let is : e ≡ BookFull = cc in inr is

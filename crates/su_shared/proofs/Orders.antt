@@ -1,17 +1,15 @@
 -- What every run says of the seats.
-use Rattle.std.proofs.Common.{◌≡◌, ℕ, ◌+◌, ◌≤◌, ◌==◌, Bool, true, false, cond, List, [], ◌∷◌, length, Option, None, Some, zero, suc, slice_get, refl, ap, sym, ◌∙◌, subst, arith, length-append}
+use Rattle.std.proofs.Common.{◌≡◌, ℕ, ◌+◌, ◌≤◌, ◌==◌, Bool, true, false, cond, List, [], ◌∷◌, length, Option, None, Some, refl, ap, sym, ◌∙◌, subst, arith, length-append}
 use Rattle.std.specs.List.{count_by}
 use Rattle.std.proofs.lemmas.List.Sums.{sum_by-cons}
-use Rattle.std.proofs.lemmas.Option.{none-some, same_Some}
-use Rattle.su_version.specs.Commit.{Commit, commit_bytes}
+use Rattle.su_version.specs.Commit.{Commit}
 use Rattle.su_book.specs.declared.steps.Step.{Step}
 use Rattle.su_book.specs.declared.steps.Act.{Act}
 use Rattle.su_book.specs.declared.steps.Act.TheVariants.{Granted, Stored, Given}
 use Rattle.su_book.specs.Machine.{BookState, IsRun, MayAct, MayFollow, stored_by, records_of, holder_of, turn_after, with_step}
 use Rattle.su_book.proofs.Public.{records_push, holder_push, along}
-use Rattle.su_shared.specs.declared.cells.Record.{Record}
 use Rattle.su_shared.specs.declared.seats.Kept.{Kept}
-use Rattle.su_shared.specs.Shares.{IsOrderly, has_turn, nothing, kept_by, kept_from, kept_of, numbered}
+use Rattle.su_shared.specs.Shares.{IsOrderly, has_turn, nothing, kept_by, kept_from, kept_of}
 use Rattle.su_shared.proofs.Keeping.{kept_push, Counts, counts}
 
 top_step : (cs : List Commit) (act : Act) (k : Kept) (b : Bool) → Counts cs act → k.top ≤ length cs → (cond b (kept_by k act) k).top ≤ length cs + length (stored_by act)
@@ -67,8 +65,3 @@ steps_from i k (s ∷ ss) =
     let more = one_more k s.act (s.seat == i) in
     let rest = steps_from i (cond (s.seat == i) (kept_by k s.act) k) ss in
     omega (arith, sum_by-cons (λ (x : Step). cond (x.seat == i) 1 0) s ss)
-
-pub numbered_get : (n : ℕ) (cs : List Commit) (k : ℕ) (r : Record) → slice_get (numbered n cs) k ≡ Some r → r.number ≡ n + k
-numbered_get n [] k r is = absurd (none-some r is)
-numbered_get n (c ∷ cs) zero r is = ap (λ (x : Record). x.number) (sym (same_Some (record { number = n; bytes = commit_bytes c }) r is)) ∙ omega arith
-numbered_get n (c ∷ cs) (suc k) r is = numbered_get (n + 1) cs k r is ∙ omega arith

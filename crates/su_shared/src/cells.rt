@@ -5,7 +5,7 @@ ghost use Rattle.sha2.specs.Sha256.{sha256};
 ghost use Rattle.su_bytes.specs.declared.refusals.Refusal.TheVariants.{NoMemory, BookFull, BadNumber};
 ghost use Rattle.su_version.specs.Commit.{commit_bytes};
 ghost use Rattle.su_book.specs.Machine.{IsCapacity};
-ghost use Rattle.su_shared.specs.Entry.{IsBy};
+ghost use Rattle.su_shared.specs.Entry.{IsBy, contents, kept_as};
 ghost use Rattle.su_shared.specs.Seats.{names_of, known_of};
 ghost use Rattle.su_shared.specs.Shares.{HoldsLast};
 
@@ -20,8 +20,8 @@ use su_bytes::{Digest, Refusal, User};
 use su_keeper::Keeper;
 
 /// A record of the book: a commit, with its number, from 1, and what is asked of it often. Its bytes
-/// are here, unless the keeper gives them back: then proofs alone know them. Its model is the number
-/// and the bytes.
+/// are here, unless the keeper gives them back: then proofs alone know them, as they alone know the
+/// items that were handed in with it. Its model is the number, the bytes, and these items.
 #[derive(Drop)]
 pub struct Record {
     number: u64,
@@ -29,16 +29,21 @@ pub struct Record {
     digest: Digest,
     here: Option<Vec<u8>>,
     bytes: Snapshot<Vec<u8>>,
+    items: Snapshot<Vec<Vec<u8>>>,
 }
 
 impl Model for Record {
     ghost use Rattle.std.specs.Prelude.{◌≡◌, IfSome};
     ghost use Rattle.sha2.specs.Sha256.{sha256};
-    ghost use Rattle.su_shared.specs.Entry.{Entry, IsBy};
+    ghost use Rattle.su_shared.specs.Entry.{Entry, IsBy, contents};
 
     ghost Value = { Entry };
 
-    ghost view = { λ r. record { number = r.number; bytes = r.bytes.value.items } };
+    ghost view = { λ r. record {
+      number = r.number;
+      bytes = r.bytes.value.items;
+      items = contents r.items.value.items;
+    } };
 
     ghost invariant = { λ r. IsBy r.bytes.value.items r.author
         × (r.digest ≡ sha256 r.bytes.value.items)
@@ -46,17 +51,22 @@ impl Model for Record {
 }
 
 impl Record {
-    /// Makes the record of a commit by its bytes, of which it has a copy, unless it `is_elsewhere`.
-    /// Fails where there is no memory for the copy.
+    /// Makes the record of a commit by its bytes, of which it has a copy, unless it `is_elsewhere`,
+    /// and of the items that were handed in with it. Fails where there is no memory for the copy.
     pub(crate) fn new(
         alloc: Global,
         number: u64,
         bytes: &Vec<u8>,
+        items: &Vec<Vec<u8>>,
         commit: &HashedCommit,
         is_elsewhere: bool,
     ) -> Result<Record, AllocError>
         requires { bytes.now.items ≡ commit_bytes commit.now }
-        ensures { IfOk result (λ r. r ≡ record { number = number; bytes = bytes.now.items }) }
+        ensures { IfOk result (λ r. r ≡ record {
+          number = number;
+          bytes = bytes.now.items;
+          items = contents items.now.items;
+        }) }
     {
         let here = if is_elsewhere {
             None
@@ -69,6 +79,7 @@ impl Record {
             digest: commit.digest(),
             here,
             bytes: Snapshot::of(bytes),
+            items: Snapshot::of(items),
         })
     }
 
@@ -181,7 +192,7 @@ impl Cells {
     ) -> Result<Receipt<N>, Refusal>
         requires cells { self.now ≡ N.cells }
         requires number { (0 < entry.value.number) × (entry.value.number ≤ length N.cells) }
-        requires kept { HoldsLast K.holds keeper.now entry.value.bytes }
+        requires kept { HoldsLast K.holds keeper.now (kept_as entry.value) }
         ensures receipt { IfOk result (λ receipt. receipt ≡ entry.value) }
         ensures refused { IfErr result (λ e. e ≡ BookFull) }
     {

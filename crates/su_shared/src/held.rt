@@ -4,9 +4,11 @@ ghost use Rattle.su_bytes.specs.declared.refusals.Refusal.TheVariants.{NoMemory,
 ghost use Rattle.su_version.specs.Commit.{Commit, commit_bytes};
 ghost use Rattle.su_book.specs.declared.events.Event.TheVariants.{Grant, Give};
 ghost use Rattle.su_book.specs.declared.steps.Act.TheVariants.{Stored};
-ghost use Rattle.su_book.specs.Machine.{Asks, IsRefused, IsRun, Stepped, TellsRecords, count_of, stored_by};
+ghost use Rattle.su_book.specs.Machine.{Asks, IsRun, Stepped, TellsRecords, count_of, stored_by};
+ghost use Rattle.su_keeper.specs.Kept.{KeptRecord};
+ghost use Rattle.su_shared.specs.Entry.{contents};
 ghost use Rattle.su_shared.specs.Seats.{Learns};
-ghost use Rattle.su_shared.specs.Shares.{kept_of, kept_after, record_bytes, IsStorable, numbered, run_records, receipt_for, learned, IsOrderly, IsFresh, MayMeet, is_grant, Gives, nothing, AreAll, Knows, EachKnows, IsSeat, last_of};
+ghost use Rattle.su_shared.specs.Shares.{kept_of, kept_after, kept_all, made_of, receipt_for, learned, AreRecords, IsOrderly, IsFresh, IsStepRefusal, IsStoreFault, LeavesBehind, MayMeet, is_grant, Gives, nothing, AreAll, Knows, EachKnows, IsSeat, last_of};
 
 use crate::cells::{BookName, Cells, Record};
 use crate::notes::{Notes, Receipt};
@@ -19,8 +21,8 @@ use su_bytes::Refusal;
 use su_keeper::Keeper;
 
 /// What lies under the lock, beside the keeper: the book, a receipt for each of its records, what
-/// each seat was told, and the ledger of the seats' steps. Its model is the book and the number of
-/// seats.
+/// each seat was told, and the ledger of the seats' steps. Its model is the book, the number of
+/// seats, and the records.
 #[derive(Drop)]
 pub struct Held<N: BookName> {
     book: Book,
@@ -36,7 +38,11 @@ impl<N: BookName> Model for Held<N> {
 
     ghost Value = { HeldView };
 
-    ghost view = { λ h. record { book = h.book; seats = length h.kept.items } };
+    ghost view = { λ h. record {
+      book = h.book;
+      seats = length h.kept.items;
+      records = h.receipts.items;
+    } };
 
     ghost invariant = { λ h. IsHeld (length N.cells) h.book h.receipts.items h.kept.items
         × (h.calls.total ≡ length h.book.journal) × (h.rest.amount ≡ 0)
@@ -49,7 +55,7 @@ impl<N: BookName> Held<N> {
         requires ledger { (blank.name ≡ N.name) × (blank.parts ≡ N.parts) × (257 ≤ N.parts) }
         requires cells { book.capacity ≡ length N.cells }
         requires empty { book.journal ≡ [] }
-        ensures { result ≡ record { book = book; seats = 0 } }
+        ensures { result ≡ record { book = book; seats = 0; records = [] } }
     {
         let (calls, rest) = blank.open::<N>();
         Held {
@@ -87,9 +93,10 @@ impl<N: BookName> Held<N> {
         Ok(seat)
     }
 
-    /// Makes the step of the book that a seat asks for. A record that it stores is kept before its
-    /// cell is set. The refusals are those of `Book::step`; and `BookFull`, before these where what
-    /// the seat was told isn't what is kept for it, and after them where the cell doesn't take the
+    /// Makes the step of the book that a seat asks for. A record that it stores is kept, with the
+    /// items that it needs, before its cell is set; where the keeper found one there, it has to be
+    /// that one. The refusals are those of `Book::step`; and `BookFull`, before these where what the
+    /// seat was told isn't what is kept for it, and after them where the cell doesn't take the
     /// record; and after these `SourceFailed`, where the record couldn't be kept. A refusal changes
     /// nothing but the keeper.
     pub fn step<K: Keeper>(
@@ -99,15 +106,21 @@ impl<N: BookName> Held<N> {
         keeper: &mut K,
         seat: &mut Seat<N>,
         event: Event,
+        items: &Vec<Vec<u8>>,
     ) -> Result<(BookReply, Option<Receipt<N>>), Refusal>
         requires cells { cells.now ≡ N.cells }
-        requires holds { ∥ K.holds keeper.old (record_bytes self.old.book.journal) ∥₁ }
-        ensures holds { ∥ K.holds keeper.new (record_bytes self.new.book.journal) ∥₁ }
+        requires holds { ∥ K.holds keeper.old (kept_all self.old.records) ∥₁ }
+        ensures holds { ∥ K.holds keeper.new (kept_all self.new.records) ∥₁ }
+        ensures found { (rest : List (List ℕ)) → K.found keeper.old rest → K.is_clean keeper.new
+            → OnOk result (LeavesBehind K.found event rest keeper.new) }
+        ensures clean { OnOk result (K.is_clean keeper.new → K.is_clean keeper.old) }
+        ensures end { ∥ K.is_at_end keeper.old ∥₁ → ∥ K.is_at_end keeper.new ∥₁ }
         ensures book { IfOk result (λ r.
             Stepped self.old.book seat.old.number event self.new.book r.0) }
         ensures seats { OnOk result (self.new.seats ≡ self.old.seats) }
-        ensures receipt { IfOk result (λ r.
-            r.1 ≡ receipt_for r.0 (run_records self.new.book.journal)) }
+        ensures records { IfOk result (λ r. self.new.records
+            ≡ self.old.records ++ made_of event (contents items.now.items) r.0) }
+        ensures receipt { IfOk result (λ r. r.1 ≡ receipt_for r.0 self.new.records) }
         ensures seat { IfOk result (λ r. seat.new ≡ record {
           number = seat.old.number;
           kept = kept_after seat.old.kept r.0;
@@ -115,23 +128,19 @@ impl<N: BookName> Held<N> {
         }) }
         ensures kept { OnOk result ((seat.old.kept ≡ kept_of seat.old.number self.old.book.journal)
             × (seat.new.kept ≡ kept_of seat.old.number self.new.book.journal)) }
-        ensures gives { IfOk result (λ r. Gives event r.0 r.1) }
+        ensures gives { IfOk result (λ r. Gives event (contents items.now.items) r.0 r.1) }
         ensures tells { IfOk result (λ r. TellsRecords r.0) }
         ensures learns { IfOk result (λ r.
             IfSome r.1 (λ x. Learns seat.old.known x seat.new.known)) }
         ensures fresh { IfOk result (λ r. IsFresh seat.old.kept.top r.0) }
         ensures holder { OnOk result (event ≢ Grant → seat.old.kept.turn ≡ true) }
-        ensures meets { IfErr result (λ e.
+        ensures meets { IsSeat seat.old self.old → IfErr result (λ e.
             MayMeet seat.old.kept seat.old.number (is_grant event) e) }
         ensures err { OnErr result ((self.new ≡ self.old) × (seat.new ≡ seat.old)) }
         ensures give { event ≡ Give → IfErr result (λ e. e ≢ NoMemory) }
         ensures other { IsSeat seat.old self.old ⊎ (result ≡ Err BookFull) }
-        ensures refused { IsSeat seat.old self.old → IfErr result (λ e.
-            IsRefused self.old.book seat.old.number event e
-            ⊎ (((e ≡ NoMemory) × (event ≢ Give))
-            ⊎ (((e ≡ BookFull) × (event ≢ Grant) × (event ≢ Give))
-            ⊎ ((e ≡ SourceFailed) × K.may_fail
-            × IsStorable self.old.book seat.old.number event)))) }
+        ensures refused { IsSeat seat.old self.old → IfErr result
+            (IsStepRefusal K.may_fail self.old.book seat.old.number event) }
     {
         self.orders();
         if !self.is_of(seat) {
@@ -143,6 +152,7 @@ impl<N: BookName> Held<N> {
             keeper,
             seat.number,
             event,
+            items,
             &mut seat.mark,
         )?;
         seat.kept = kept;
@@ -152,24 +162,24 @@ impl<N: BookName> Held<N> {
         Ok((reply, receipt))
     }
 
-    #[tactic(auto, using(crate::proofs::Keeping::length_numbered))]
     /// Makes a receipt for the record of this number, if there is one.
     pub fn receipt(&mut self, number: u64) -> Option<Receipt<N>>
         ensures held { self.new ≡ self.old }
-        ensures none { IfNone result ((number ≡ 0)
-            ⊎ (count_of self.old.book.journal < number)) }
+        ensures none { IfNone result ((number ≡ 0) ⊎ (length self.old.records < number)) }
         ensures some { IfSome result (λ r.
-            slice_get (run_records self.old.book.journal) (number - 1) ≡ Some r) }
+            slice_get self.old.records (number - 1) ≡ Some r) }
     {
-        if number == 0 || number > self.book.count() {
+        if number == 0 || number > self.receipts.len() as u64 {
             return None;
         }
         Some(receipt_at(&mut self.receipts, (number - 1) as usize))
     }
 
-    /// Tells that the steps are a run, and that what they say of the seats is in order.
+    /// Tells that the steps are a run, that what they say of the seats is in order, and that the
+    /// records are those of the steps.
     pub fn orders(&self)
         ensures run { IsRun self.now.book }
+        ensures records { AreRecords self.now.records self.now.book.journal }
         ensures orderly { IsOrderly self.now.book.journal }
     {
         let _ = &self.book;
@@ -186,7 +196,7 @@ impl<N: BookName> Held<N> {
     pub fn close(self, mut seats: Vec<Seat<N>>) -> Result<Book, (Held<N>, Vec<Seat<N>>)>
         ensures book { IfOk result (λ b. b ≡ self.book) }
         ensures all { OnOk result ((sorted : _) × IsPermutation seats.items sorted
-            × AreAll sorted self × EachKnows sorted (run_records self.book.journal)) }
+            × AreAll sorted self × EachKnows sorted self.records) }
         ensures err { IfErr result (λ r.
             (r.0 ≡ self) × IsPermutation seats.items r.1.items) }
     {
@@ -198,7 +208,7 @@ impl<N: BookName> Held<N> {
     fn close_in_order(mut self, mut seats: Vec<Seat<N>>) -> Result<Book, (Held<N>, Vec<Seat<N>>)>
         ensures book { IfOk result (λ b. b ≡ self.book) }
         ensures all { OnOk result (AreAll seats.items self) }
-        ensures knows { OnOk result (EachKnows seats.items (run_records self.book.journal)) }
+        ensures knows { OnOk result (EachKnows seats.items self.records) }
         ensures err { IfErr result (λ r. (r.0 ≡ self) × (r.1.items ≡ seats.items)) }
     {
         if !self.is_all(&seats) {
@@ -221,7 +231,7 @@ impl<N: BookName> Held<N> {
     pub fn check(&mut self, seat: &mut Seat<N>)
         ensures held { self.new ≡ self.old }
         ensures seat { seat.new ≡ seat.old }
-        ensures knows { Knows seat.old.known (run_records self.old.book.journal) }
+        ensures knows { Knows seat.old.known self.old.records }
     {
         check_all(&mut self.receipts, seat);
     }
@@ -243,37 +253,41 @@ impl<N: BookName> Held<N> {
         keeper: &mut K,
         number: u16,
         event: Event,
+        items: &Vec<Vec<u8>>,
         mark: &mut Share<N>,
     ) -> Result<(BookReply, Option<Receipt<N>>, Kept), Refusal>
         requires cells { cells.now ≡ N.cells }
-        requires holds { ∥ K.holds keeper.old (record_bytes self.old.book.journal) ∥₁ }
+        requires holds { ∥ K.holds keeper.old (kept_all self.old.records) ∥₁ }
         requires number { number < self.old.seats }
         requires mark { 0 < mark.old.parts }
-        ensures holds { ∥ K.holds keeper.new (record_bytes self.new.book.journal) ∥₁ }
+        ensures holds { ∥ K.holds keeper.new (kept_all self.new.records) ∥₁ }
+        ensures found { (rest : List (List ℕ)) → K.found keeper.old rest → K.is_clean keeper.new
+            → OnOk result (LeavesBehind K.found event rest keeper.new) }
+        ensures clean { OnOk result (K.is_clean keeper.new → K.is_clean keeper.old) }
+        ensures end { ∥ K.is_at_end keeper.old ∥₁ → ∥ K.is_at_end keeper.new ∥₁ }
         ensures mark { OnOk result ((mark.new.parts ≡ mark.old.parts)
             × (mark.new.amount ≡ mark.old.amount + 1)) }
         ensures same { OnErr result (mark.new ≡ mark.old) }
         ensures book { IfOk result (λ r.
             Stepped self.old.book number event self.new.book r.0) }
         ensures seats { OnOk result (self.new.seats ≡ self.old.seats) }
-        ensures receipt { IfOk result (λ r.
-            r.1 ≡ receipt_for r.0 (run_records self.new.book.journal)) }
-        ensures gives { IfOk result (λ r. Gives event r.0 r.1) }
+        ensures records { IfOk result (λ r. self.new.records
+            ≡ self.old.records ++ made_of event (contents items.now.items) r.0) }
+        ensures receipt { IfOk result (λ r. r.1 ≡ receipt_for r.0 self.new.records) }
+        ensures gives { IfOk result (λ r. Gives event (contents items.now.items) r.0 r.1) }
         ensures kept { IfOk result (λ r.
             (r.2 ≡ kept_after (kept_of number self.old.book.journal) r.0)
             × (r.2 ≡ kept_of number self.new.book.journal)) }
         ensures err { OnErr result (self.new ≡ self.old) }
-        ensures refused { IfErr result (λ e.
-            IsRefused self.old.book number event e
-            ⊎ (((e ≡ NoMemory) × (event ≢ Give))
-            ⊎ (((e ≡ BookFull) × (event ≢ Grant) × (event ≢ Give))
-            ⊎ ((e ≡ SourceFailed) × K.may_fail × IsStorable self.old.book number event)))) }
+        ensures refused { IfErr result
+            (IsStepRefusal K.may_fail self.old.book number event) }
     {
         let step = self.book.answer(number, &event)?;
         let Ok(reply) = self.book.reply(&step.act) else {
             return Err(Refusal::NoMemory);
         };
-        let mut stored = store(alloc, cells, keeper, &mut self.receipts, &step.act, event)?;
+        let receipts = &mut self.receipts;
+        let mut stored = store(alloc, cells, keeper, receipts, &step.act, event, items)?;
         let Ok(()) = self.book.apply(step) else {
             return Err(Refusal::NoMemory);
         };
@@ -288,7 +302,8 @@ impl<N: BookName> Held<N> {
     }
 }
 
-/// Keeps a new record, sets its cell, and gives a receipt for it. There is room for one more then.
+/// Keeps a new record with these items, sets its cell, and gives a receipt for it. There is room for
+/// one more then.
 fn store<N: BookName, K: Keeper>(
     alloc: Global,
     cells: &Cells,
@@ -296,26 +311,31 @@ fn store<N: BookName, K: Keeper>(
     receipts: &mut Vec<Receipt<N>>,
     act: &Act,
     event: Event,
+    items: &Vec<Vec<u8>>,
 ) -> Result<Option<Receipt<N>>, Refusal>
     requires cells { cells.now ≡ N.cells }
     requires asked { Asks event act.now }
     requires number { (n : ℕ) (c : Commit) → act.now ≡ Stored n c
         → (0 < n) × (n ≤ length N.cells) }
-    requires holds { (records : List (List ℕ)) × ∥ K.holds keeper.old records ∥₁ }
-    ensures kept { (records : List (List ℕ)) → ∥ K.holds keeper.old records ∥₁
-        → (n : ℕ) (c : Commit) → act.now ≡ Stored n c
-        → OnOk result ∥ K.holds keeper.new (records ++ commit_bytes c ∷ []) ∥₁ }
-    ensures same { stored_by act.now ≡ [] → OnOk result (keeper.new ≡ keeper.old) }
-    ensures held { (records : List (List ℕ)) → ∥ K.holds keeper.old records ∥₁
-        → OnErr result ∥ K.holds keeper.new records ∥₁ }
+    requires holds { ∥ K.holds keeper.old (kept_all receipts.old.items) ∥₁ }
+    ensures kept { IfOk result (λ o. ∥ K.holds keeper.new
+        (kept_all (receipts.old.items ++ option_to_list o)) ∥₁) }
+    ensures held { OnErr result ∥ K.holds keeper.new (kept_all receipts.old.items) ∥₁ }
+    ensures found { (rest : List (List ℕ)) → K.found keeper.old rest → K.is_clean keeper.new
+        → OnOk result (LeavesBehind K.found event rest keeper.new) }
+    ensures clean { OnOk result (K.is_clean keeper.new → K.is_clean keeper.old) }
+    ensures end { ∥ K.is_at_end keeper.old ∥₁ → ∥ K.is_at_end keeper.new ∥₁ }
     ensures items { receipts.new.items ≡ receipts.old.items }
     ensures room { IfOk result (λ o.
         IfSome o (λ _. vec_len receipts.new < vec_capacity receipts.new)) }
     ensures none { stored_by act.now ≡ [] → IfOk result (λ o. o ≡ None) }
     ensures stored { (n : ℕ) (c : Commit) → act.now ≡ Stored n c → IfOk result (λ o.
-        o ≡ Some (record { number = n; bytes = commit_bytes c })) }
-    ensures refused { IfErr result (λ e.
-        ((e ≡ NoMemory) ⊎ ((e ≡ BookFull) ⊎ ((e ≡ SourceFailed) × K.may_fail)))
+        o ≡ Some (record {
+          number = n;
+          bytes = commit_bytes c;
+          items = contents items.now.items;
+        })) }
+    ensures refused { IfErr result (λ e. ((e ≡ NoMemory) ⊎ IsStoreFault K.may_fail e)
         × (event ≢ Grant) × (event ≢ Give)) }
 {
     let (Act::Stored(number, commit), Event::Commit(bytes)) = (act, event) else {
@@ -324,11 +344,11 @@ fn store<N: BookName, K: Keeper>(
     if receipts.reserve(1).is_err() {
         return Err(Refusal::NoMemory);
     }
-    let entry = Record::new(alloc, *number, &bytes, commit, K::gives_back())?;
+    let entry = Record::new(alloc, *number, &bytes, items, commit, K::gives_back())?;
     let Ok(entry) = Box::new(alloc, entry) else {
         return Err(Refusal::NoMemory);
     };
-    let Ok(()) = keeper.keep(alloc, bytes.as_slice()) else {
+    let Ok(()) = keeper.keep(alloc, bytes.as_slice(), items.as_slice()) else {
         return Err(Refusal::SourceFailed);
     };
     let Ok(receipt) = cells.publish(keeper, entry) else {

@@ -14,7 +14,7 @@ mod shared;
 pub use cells::{BookName, Cells, Record};
 pub use faults::BookFault;
 pub use held::Held;
-pub use laws::{records_are_numbered, runs_are_orderly, steps_are_counted};
+pub use laws::{runs_are_orderly, steps_are_counted};
 pub use notes::Receipt;
 pub use seats::{Kept, Seat};
 pub use shared::{Closed, SharedBook};

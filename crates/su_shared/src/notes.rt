@@ -17,10 +17,10 @@ pub struct Receipt<N: BookName> {
 }
 
 impl<N: BookName> Model for Receipt<N> {
-    ghost use Rattle.su_shared.specs.declared.cells.Record.{Record as TheRecord};
+    ghost use Rattle.su_shared.specs.Entry.{Entry};
     ghost use Rattle.su_shared.specs.Seats.{shown, IsReceipt};
 
-    ghost Value = { TheRecord };
+    ghost Value = { Entry };
 
     ghost view = { λ r. shown r.note.known };
 
@@ -36,10 +36,10 @@ pub(crate) struct Notes<N: BookName> {
 
 impl<N: BookName> Model for Notes<N> {
     ghost use Rattle.std.specs.Prelude.{List, Option};
-    ghost use Rattle.su_shared.specs.declared.cells.Record.{Record as TheRecord};
+    ghost use Rattle.su_shared.specs.Entry.{Entry};
     ghost use Rattle.su_shared.specs.Seats.{AreNotes, known_of};
 
-    ghost Value = { List (Option TheRecord) };
+    ghost Value = { List (Option Entry) };
 
     ghost view = { λ s. known_of s.notes.items };
 

@@ -10,12 +10,13 @@ ghost use Rattle.su_book.specs.Machine.{IsCapacity, IsRun, TellsRecords, count_o
 ghost use Rattle.su_shared.specs.declared.faults.BookFault.TheVariants.{Refused};
 ghost use Rattle.su_shared.specs.Faults.{IsRecordFault};
 ghost use Rattle.su_shared.specs.Seats.{known_at, Learns};
-ghost use Rattle.su_shared.specs.Shares.{nothing, record_bytes, kept_after, after_commit, after_give, learned, Gives, IsFresh, IsGrantRefusal, IsCommitRefusal, IsGiveRefusal, MayMeet, EachStands};
+ghost use Rattle.su_shared.specs.Shares.{nothing, kept_after, after_commit, after_give, learned, Gives, IsFresh, IsGrantRefusal, IsCommitRefusal, IsGiveRefusal, MayMeet, MayMeetOrFull, IsOpened, EndsWith};
+ghost use Rattle.su_shared.specs.Entry.{contents};
 
 use crate::cells::{BookName, Cells, Record};
 use crate::faults::BookFault;
 use crate::held::Held;
-use crate::locked::Locked;
+use crate::locked::{Locked, Opening};
 use crate::notes::{Notes, Receipt};
 use crate::seats::Seat;
 use std::alloc::Global;
@@ -54,12 +55,13 @@ impl<N: BookName, K: Keeper> SharedBook<N, K> {
     {
         let book = Book::new(alloc, cells.len() as u64, roster)?;
         let held = Held::new(alloc, book, blank);
-        Ok(SharedBook::share(cells, Locked { held, keeper }))
+        Ok(SharedBook::share(cells, Opening { held, keeper }))
     }
 
     /// Makes a book and its first seat, and takes up each record that the keeper found, as a commit
-    /// of that seat; the number tells how many. The keeper is to hold none yet. The refusals are
-    /// those of `new`; and `Record` with the number of the first record that isn't taken up.
+    /// of that seat, which knows it; the number tells how many. The keeper is to hold none yet. The
+    /// refusals are those of `new`; and `Record` with the number of the first record that isn't
+    /// taken up.
     pub fn open(
         alloc: Global,
         cells: Cells,
@@ -70,6 +72,8 @@ impl<N: BookName, K: Keeper> SharedBook<N, K> {
         requires cells { cells ≡ N.cells }
         requires ledger { (blank.name ≡ N.name) × (blank.parts ≡ N.parts) × (257 ≤ N.parts) }
         requires holds { K.holds keeper [] }
+        ensures opened { IfOk result (λ r. IsOpened K.holds K.found K.is_at_end K.is_clean
+            keeper r.2 r.1.known) }
         ensures seat { IfOk result (λ r. (r.1.kept.stored ≡ r.2) × (r.1.kept.turn ≡ false)) }
         ensures refused { IfErr result (λ f.
             ((f ≡ Refused BadNumber) × ¬ IsCapacity (length cells))
@@ -81,17 +85,18 @@ impl<N: BookName, K: Keeper> SharedBook<N, K> {
         let notes = Notes::new(alloc, &cells)?;
         let mut held = Held::new(alloc, book, blank);
         let mut seat = held.seat(notes)?;
-        let mut locked = Locked { held, keeper };
-        let count = locked.take_up(alloc, &cells, &mut seat)?;
-        Ok((SharedBook::share(cells, locked), seat, count))
+        let mut opening = Opening { held, keeper };
+        let count = opening.take_up(alloc, &cells, &mut seat)?;
+        Ok((SharedBook::share(cells, opening), seat, count))
     }
 
     /// Shares a book, when all that its keeper found is taken up.
-    fn share(cells: Cells, locked: Locked<N, K>) -> SharedBook<N, K>
+    fn share(cells: Cells, opening: Opening<N, K>) -> SharedBook<N, K>
         requires cells { cells ≡ N.cells }
-        requires end { K.is_at_end locked.keeper }
+        requires end { K.is_at_end opening.keeper }
     {
-        let locked = Mutex::new(locked);
+        let Opening { held, keeper } = opening;
+        let locked = Mutex::new(Locked { held, keeper });
         SharedBook { cells, locked }
     }
 
@@ -116,7 +121,7 @@ impl<N: BookName, K: Keeper> SharedBook<N, K> {
         alloc: Global,
         seat: &mut Seat<N>,
     ) -> Result<(BookReply, Option<Receipt<N>>), Refusal>
-        ensures gives { IfOk result (λ r. Gives Grant r.0 r.1) }
+        ensures gives { IfOk result (λ r. Gives Grant [] r.0 r.1) }
         ensures tells { IfOk result (λ r. TellsRecords r.0) }
         ensures fresh { IfOk result (λ r. IsFresh seat.old.kept.top r.0) }
         ensures seat { IfOk result (λ r. seat.new ≡ record {
@@ -132,22 +137,29 @@ impl<N: BookName, K: Keeper> SharedBook<N, K> {
     {
         let locked = &mut *self.locked.lock(rt);
         let keeper = &mut locked.keeper;
+        let no_items = Vec::new(alloc);
         locked
             .held
-            .step(alloc, &self.cells, keeper, seat, Event::Grant)
+            .step(alloc, &self.cells, keeper, seat, Event::Grant, &no_items)
     }
 
-    /// Stores a commit by its bytes, and gives the turn back. The number is greater than all that
-    /// the seat was told before; the receipt is that of these bytes. The refusals are those of
-    /// `Held::step`. A refusal leaves the seat as it was.
+    /// Stores a commit by its bytes, which is kept with the items that it needs, and gives the turn
+    /// back. The number is greater than all that the seat was told before; the receipt is that of
+    /// these bytes and items. The refusals are those of `Held::step`. A refusal leaves the seat as it
+    /// was.
     pub fn commit(
         &self,
         rt: &impl Wait,
         alloc: Global,
         seat: &mut Seat<N>,
         bytes: &[u8],
+        items: &Vec<Vec<u8>>,
     ) -> Result<(u64, Receipt<N>), Refusal>
-        ensures receipt { IfOk result (λ r. r.1 ≡ record { number = r.0; bytes = bytes.now }) }
+        ensures receipt { IfOk result (λ r. r.1 ≡ record {
+          number = r.0;
+          bytes = bytes.now;
+          items = contents items.now.items;
+        }) }
         ensures fresh { IfOk result (λ r. seat.old.kept.top < r.0) }
         ensures seat { IfOk result (λ r. seat.new ≡ record {
           number = seat.old.number;
@@ -156,7 +168,8 @@ impl<N: BookName, K: Keeper> SharedBook<N, K> {
         }) }
         ensures learns { IfOk result (λ r. Learns seat.old.known r.1 seat.new.known) }
         ensures holder { OnOk result (seat.old.kept.turn ≡ true) }
-        ensures meets { IfErr result (λ e. MayMeet seat.old.kept seat.old.number false e) }
+        ensures meets { IfErr result
+            (MayMeetOrFull seat.old.kept seat.old.number false) }
         ensures refused { IfErr result (λ e.
             IsCommitRefusal K.may_fail seat.old.number bytes.now e) }
         ensures err { OnErr result (seat.new ≡ seat.old) }
@@ -167,7 +180,9 @@ impl<N: BookName, K: Keeper> SharedBook<N, K> {
         let locked = &mut *self.locked.lock(rt);
         let keeper = &mut locked.keeper;
         let commit = Event::Commit(bytes);
-        let (reply, receipt) = locked.held.step(alloc, &self.cells, keeper, seat, commit)?;
+        let (reply, receipt) = locked
+            .held
+            .step(alloc, &self.cells, keeper, seat, commit, items)?;
         let BookReply::Stored { number } = reply else {
             unreachable!()
         };
@@ -186,15 +201,17 @@ impl<N: BookName, K: Keeper> SharedBook<N, K> {
           known = seat.old.known;
         }) }
         ensures holder { OnOk result (seat.old.kept.turn ≡ true) }
-        ensures meets { IfErr result (λ e. MayMeet seat.old.kept seat.old.number false e) }
+        ensures meets { IfErr result
+            (MayMeetOrFull seat.old.kept seat.old.number false) }
         ensures refused { IfErr result IsGiveRefusal }
         ensures err { OnErr result (seat.new ≡ seat.old) }
     {
         let locked = &mut *self.locked.lock(rt);
         let keeper = &mut locked.keeper;
+        let no_items = Vec::new(alloc);
         let (_, _) = locked
             .held
-            .step(alloc, &self.cells, keeper, seat, Event::Give)?;
+            .step(alloc, &self.cells, keeper, seat, Event::Give, &no_items)?;
         Ok(())
     }
 
@@ -248,9 +265,9 @@ impl<N: BookName, K: Keeper> SharedBook<N, K> {
         ensures calls { IfOk result (λ c. c.calls ≡ length c.book.journal) }
         ensures stored { IfOk result (λ c. c.records ≡ sum_by (λ s. s.kept.stored) seats.items) }
         ensures steps { IfOk result (λ c. c.calls ≡ sum_by (λ s. s.kept.steps) seats.items) }
-        ensures seats { IfOk result (λ c. (sorted : _) × IsPermutation seats.items sorted
-            × EachStands sorted c.book.journal) }
-        ensures holds { IfOk result (λ c. ∥ K.holds c.keeper (record_bytes c.book.journal) ∥₁) }
+        ensures ends { IfOk result (λ c.
+            EndsWith K.holds c.keeper c.book.journal seats.items) }
+        ensures end { IfOk result (λ c. ∥ K.is_at_end c.keeper ∥₁) }
         ensures err { IfErr result (λ r. IsPermutation seats.items r.1.items) }
     {
         let SharedBook { cells, locked } = self;

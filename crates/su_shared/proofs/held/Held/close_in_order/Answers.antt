@@ -3,7 +3,7 @@ use Rattle.std.proofs.Math.ListN.{set}
 use Rattle.std.proofs.lemmas.List.{set-get_or}
 use Rattle.std.proofs.lemmas.Option.{slice_get_within}
 use Rattle.su_shared.specs.Seats.{SeatView}
-use Rattle.su_shared.specs.Shares.{HeldView, Knows, run_records}
+use Rattle.su_shared.specs.Shares.{HeldView, Knows}
 use Rattle.su_shared.proofs.Closing.{below_next}
 use Rattle.su_shared.proofs.held.Held.close_in_order.Goals as goal
 
@@ -13,12 +13,12 @@ loop-i-preserved g c =
     let now : List SeatView = c.loop-i.seats.items in
     let i = c.loop-i.i in
     let s : SeatView = c.index_mut.result.now in
-    let records = run_records c.args.self.book.journal in
+    let records = c.args.self.records in
     let same : now ≡ first = c.loop-i.invariant.seats in
     let held : c.loop-i.self ≡ c.args.self = c.loop-i.invariant.held in
     let within : i < length first = omega (arith, ap length same, c.args.seats.ok) in
     let at : s ≡ get_or first i s = subst (λ (l : List SeatView). s ≡ get_or l i s) same c.index_mut.ensures.value in
-    let knows : Knows s.known records = subst (λ (h : HeldView). Knows s.known (run_records h.book.journal)) held c.check.ensures.knows in
+    let knows : Knows s.known records = subst (λ (h : HeldView). Knows s.known h.records) held c.check.ensures.knows in
     record {
       held = c.check.ensures.held ∙ held;
       seats = ap (set now i) (c.check.ensures.seat ∙ c.index_mut.ensures.value) ∙ (set-get_or now i s ∙ same);

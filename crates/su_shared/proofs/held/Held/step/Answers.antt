@@ -17,5 +17,5 @@ returns-in_err-reply-clause-meets g c =
     let turn : k.turn ≡ has_turn n (holder_of b.journal) =
     ap (λ (x : Kept). x.turn) is.1 ∙ c.orders.ensures.orderly.turn c.args.seat.now.number ∙ ap (λ (i : ℕ). has_turn i (holder_of b.journal)) (sym number) in
     let p = err_from_is_err_and c.from_residual.result c.from_residual.ensures.1 in
-    rw (p.1, p.2) (subst (λ (i : ℕ). MayMeet k i (is_grant c.args.event) c.in_err-reply.field-0.0) number
+    rw (p.1, p.2) (λ _. subst (λ (i : ℕ). MayMeet k i (is_grant c.args.event) c.in_err-reply.field-0.0) number
     (meets b n k turn c.args.event c.in_err-reply.field-0.0 c.in_err-reply.ensures.refused))
