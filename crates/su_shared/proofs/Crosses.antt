@@ -21,32 +21,32 @@ use Rattle.su_shared.specs.contracts.held.Held as Held
 use Rattle.su_shared.specs.contracts.locked.Locked as Locked
 use Rattle.su_shared.specs.contracts.shared.SharedBook as SharedBook
 
-record_send : IsSend Record.the_row
-record_send = search (crosses, sendable) depth 30
-
-record_sync : IsSync Record.the_row
-record_sync = search (crosses, sendable) depth 30
-
-cell_sync : IsSync (OnceBox.the_row Record.the_row)
-cell_sync = Cell.the_sync Record.the_row record_send record_sync
-
-cells_sync : IsSync Cells.the_row
-cells_sync = search (cell_sync, crosses, sendable) depth 20
-
 book_send : IsSend Book.the_row
 book_send = search (Log.the_send, crosses, sendable) depth 60 fits 30000
 
-module _ (N : RattleType) (n : name.Ghosts N.Denot) (l : ledger.Ghosts N.Denot) where
-  receipt_send : IsSend N → IsSend (Receipt.the_row N n l)
-  receipt_send s = search (Note.the_send, crosses, sendable) depth 30
+module _ (K : RattleType) (k : keeper.Ghosts K.Denot) where
+  record_send : IsSend (Record.the_row K k)
+  record_send = search (crosses, sendable) depth 30
 
-  pub seat_send : IsSend N → IsSend (Seat.the_row N n l)
-  seat_send s = search (Note.the_send, Share.the_send, crosses, sendable) depth 30 fits 10000
+  record_sync : IsSync (Record.the_row K k)
+  record_sync = search (crosses, sendable) depth 30
 
-  held_send : IsSend N → IsSend (Held.the_row N n l)
-  held_send s = search (receipt_send, book_send, Share.the_send, Tally.the_send, view_send, struct_send, crosses, sendable) depth 40 fits 30000
+  cell_sync : IsSync (OnceBox.the_row (Record.the_row K k))
+  cell_sync = Cell.the_sync (Record.the_row K k) record_send record_sync
 
-  module _ (K : RattleType) (k : keeper.Ghosts K.Denot) where
+  cells_sync : IsSync (Cells.the_row K k)
+  cells_sync = search (cell_sync, crosses, sendable) depth 20
+
+  module _ (N : RattleType) (n : name.Ghosts N.Denot) (l : ledger.Ghosts N.Denot) where
+    receipt_send : IsSend N → IsSend (Receipt.the_row N K n l k)
+    receipt_send s = search (Note.the_send, crosses, sendable) depth 30
+
+    pub seat_send : IsSend N → IsSend (Seat.the_row N K n l k)
+    seat_send s = search (Note.the_send, Share.the_send, crosses, sendable) depth 30 fits 10000
+
+    held_send : IsSend N → IsSend (Held.the_row N K n l k)
+    held_send s = search (receipt_send, book_send, Share.the_send, Tally.the_send, view_send, struct_send, crosses, sendable) depth 40 fits 30000
+
     locked_send : IsSend N → IsSend K → IsSend (Locked.the_row N K n k l)
     locked_send s t = search (held_send, recorded_send, struct_send, crosses, sendable) depth 40 fits 30000
 

@@ -1,5 +1,5 @@
 // The row of cells, one for each record, which are read without the lock.
-ghost use Rattle.std.specs.Prelude.{◌≡◌, ℕ, ◌<◌, ◌-◌, ◌≤◌, length, replicate, None, ◌⊎◌, IfErr, IfOk, IfSome, slice_get, Some};
+ghost use Rattle.std.specs.Prelude.{◌≡◌, ℕ, ◌<◌, ◌-◌, ◌≤◌, length, replicate, true, None, ◌⊎◌, IfNone, IfErr, IfOk, IfSome, slice_get, Some};
 ghost use Rattle.once_cell.specs.Once.{cell_name};
 ghost use Rattle.sha2.specs.Sha256.{sha256};
 ghost use Rattle.su_bytes.specs.declared.refusals.Refusal.TheVariants.{NoMemory, BookFull, BadNumber};
@@ -12,7 +12,7 @@ ghost use Rattle.su_shared.specs.Shares.{HoldsLast};
 use crate::notes::Receipt;
 use once_cell::race::{Note, OnceBox};
 use std::alloc::{AllocError, Global};
-use std::marker::{Brand, Model};
+use std::marker::{Brand, Model, PhantomData};
 use std::snapshot::Snapshot;
 use std::sync::ledger::Ledger;
 use su_book::{HashedCommit, MOST_RECORDS};
@@ -23,17 +23,19 @@ use su_keeper::Keeper;
 /// are here, unless the keeper gives them back: then proofs alone know them, as they alone know the
 /// items that were handed in with it. Its model is the number, the bytes, and these items.
 #[derive(Drop)]
-pub struct Record {
+pub struct Record<K: Keeper> {
     number: u64,
     author: User,
     digest: Digest,
     here: Option<Vec<u8>>,
     bytes: Snapshot<Vec<u8>>,
     items: Snapshot<Vec<Vec<u8>>>,
+    // a record may go where its keeper may not
+    of: PhantomData<Snapshot<K>>,
 }
 
-impl Model for Record {
-    ghost use Rattle.std.specs.Prelude.{◌≡◌, IfSome};
+impl<K: Keeper> Model for Record<K> {
+    ghost use Rattle.std.specs.Prelude.{◌≡◌, true, IfNone, IfSome};
     ghost use Rattle.sha2.specs.Sha256.{sha256};
     ghost use Rattle.su_shared.specs.Entry.{Entry, IsBy, contents};
 
@@ -47,20 +49,21 @@ impl Model for Record {
 
     ghost invariant = { λ r. IsBy r.bytes.value.items r.author
         × (r.digest ≡ sha256 r.bytes.value.items)
-        × IfSome r.here (λ here. here.items ≡ r.bytes.value.items) };
+        × IfSome r.here (λ here. here.items ≡ r.bytes.value.items)
+        × IfNone r.here ((K.reads_back ≡ true) × K.may_fail) };
 }
 
-impl Record {
-    /// Makes the record of a commit by its bytes, of which it has a copy, unless it `is_elsewhere`,
-    /// and of the items that were handed in with it. Fails where there is no memory for the copy.
+impl<K: Keeper> Record<K> {
+    /// Makes the record of a commit by its bytes, of which it has a copy, unless the keeper gives
+    /// them back, and of the items that were handed in with it. Fails where there is no memory for
+    /// the copy.
     pub(crate) fn new(
         alloc: Global,
         number: u64,
         bytes: &Vec<u8>,
         items: &Vec<Vec<u8>>,
         commit: &HashedCommit,
-        is_elsewhere: bool,
-    ) -> Result<Record, AllocError>
+    ) -> Result<Record<K>, AllocError>
         requires { bytes.now.items ≡ commit_bytes commit.now }
         ensures { IfOk result (λ r. r ≡ record {
           number = number;
@@ -68,7 +71,7 @@ impl Record {
           items = contents items.now.items;
         }) }
     {
-        let here = if is_elsewhere {
+        let here = if K::gives_back() {
             None
         } else {
             Some(Vec::from_slice(alloc, bytes.as_slice())?)
@@ -80,6 +83,7 @@ impl Record {
             here,
             bytes: Snapshot::of(bytes),
             items: Snapshot::of(items),
+            of: PhantomData,
         })
     }
 
@@ -104,10 +108,11 @@ impl Record {
         self.digest
     }
 
-    /// Lends the bytes of the commit. `None` where the book's keeper gives them back
+    /// Lends the bytes of the commit. `None` only where the book's keeper gives them back
     /// (`SharedBook::record`).
     pub fn bytes(&self) -> Option<&[u8]>
-        ensures { IfSome result (λ bytes. bytes.now ≡ self.now.bytes) }
+        ensures some { IfSome result (λ bytes. bytes.now ≡ self.now.bytes) }
+        ensures none { IfNone result ((K.reads_back ≡ true) × K.may_fail) }
     {
         match &self.here {
             Some(bytes) => Some(bytes.as_slice()),
@@ -131,11 +136,11 @@ impl BookName for Brand {
 
 /// A row of cells, one for each record that a book may store. Its model is their names.
 #[derive(Drop)]
-pub struct Cells {
-    cells: Vec<OnceBox<Record>>,
+pub struct Cells<K: Keeper> {
+    cells: Vec<OnceBox<Record<K>>>,
 }
 
-impl Model for Cells {
+impl<K: Keeper> Model for Cells<K> {
     ghost use Rattle.std.specs.Prelude.{List, ℕ, map};
     ghost use Rattle.once_cell.specs.Once.{cell_name};
 
@@ -144,10 +149,10 @@ impl Model for Cells {
     ghost view = { λ c. map cell_name c.cells.items };
 }
 
-impl Cells {
+impl<K: Keeper> Cells<K> {
     /// Makes the cells of a book that may store so many commits. `BadNumber` where they aren't 1 to
     /// 1,000,000; else only `NoMemory`.
-    pub fn new(alloc: Global, capacity: u64) -> Result<Cells, Refusal>
+    pub fn new(alloc: Global, capacity: u64) -> Result<Cells<K>, Refusal>
         ensures length { IfOk result (λ cells. length cells ≡ capacity) }
         ensures refused { IfErr result (λ e.
             ((e ≡ BadNumber) × ¬ IsCapacity capacity) ⊎ (e ≡ NoMemory)) }
@@ -172,7 +177,7 @@ impl Cells {
     }
 
     /// Makes a new note for each cell.
-    pub(crate) fn notes(&self, alloc: Global) -> Result<Vec<Note<Record>>, AllocError>
+    pub(crate) fn notes(&self, alloc: Global) -> Result<Vec<Note<Record<K>>>, AllocError>
         ensures { IfOk result (λ notes. (names_of notes.items ≡ self.now)
             × (known_of notes.items ≡ replicate (length self.now) None)) }
     {
@@ -185,11 +190,11 @@ impl Cells {
 
     /// Sets the cell of a record that the keeper holds, and gives a receipt for it. `BookFull` where
     /// the cell doesn't take it.
-    pub(crate) fn publish<N: BookName, K: Keeper>(
+    pub(crate) fn publish<N: BookName>(
         &self,
         keeper: &K,
-        entry: Box<Record>,
-    ) -> Result<Receipt<N>, Refusal>
+        entry: Box<Record<K>>,
+    ) -> Result<Receipt<N, K>, Refusal>
         requires cells { self.now ≡ N.cells }
         requires number { (0 < entry.value.number) × (entry.value.number ≤ length N.cells) }
         requires kept { HoldsLast K.holds keeper.now (kept_as entry.value) }
@@ -206,7 +211,7 @@ impl Cells {
     }
 
     /// Lends the cell at this index.
-    pub(crate) fn cell(&self, index: usize) -> &OnceBox<Record>
+    pub(crate) fn cell(&self, index: usize) -> &OnceBox<Record<K>>
         requires { index < length self.now }
         ensures { slice_get self.now index ≡ Some (cell_name result.now) }
     {

@@ -24,15 +24,15 @@ use su_keeper::Keeper;
 /// each seat was told, and the ledger of the seats' steps. Its model is the book, the number of
 /// seats, and the records.
 #[derive(Drop)]
-pub struct Held<N: BookName> {
+pub struct Held<N: BookName, K: Keeper> {
     book: Book,
-    receipts: Vec<Receipt<N>>,
+    receipts: Vec<Receipt<N, K>>,
     kept: Vec<Kept>,
     calls: Tally<N>,
     rest: Share<N>,
 }
 
-impl<N: BookName> Model for Held<N> {
+impl<N: BookName, K: Keeper> Model for Held<N, K> {
     ghost use Rattle.std.specs.Prelude.{length, ◌≡◌, ◌≤◌, ◌+◌};
     ghost use Rattle.su_shared.specs.Shares.{HeldView, IsHeld};
 
@@ -49,9 +49,9 @@ impl<N: BookName> Model for Held<N> {
         × (257 ≤ h.rest.parts + length h.kept.items) };
 }
 
-impl<N: BookName> Held<N> {
+impl<N: BookName, K: Keeper> Held<N, K> {
     /// Makes what lies under the lock of a book without seats and steps.
-    pub fn new(alloc: Global, book: Book, blank: Blank) -> Held<N>
+    pub fn new(alloc: Global, book: Book, blank: Blank) -> Held<N, K>
         requires ledger { (blank.name ≡ N.name) × (blank.parts ≡ N.parts) × (257 ≤ N.parts) }
         requires cells { book.capacity ≡ length N.cells }
         requires empty { book.journal ≡ [] }
@@ -69,7 +69,7 @@ impl<N: BookName> Held<N> {
 
     /// Makes the next seat, which was told nothing and knows what these notes know. `BadNumber`
     /// after 256 seats; else only `NoMemory`. A refusal changes nothing.
-    pub(crate) fn seat(&mut self, notes: Notes<N>) -> Result<Seat<N>, Refusal>
+    pub(crate) fn seat(&mut self, notes: Notes<N, K>) -> Result<Seat<N, K>, Refusal>
         ensures seat { IfOk result (λ seat. seat ≡ record {
           number = self.old.seats;
           kept = nothing;
@@ -99,15 +99,15 @@ impl<N: BookName> Held<N> {
     /// seat was told isn't what is kept for it, and after them where the cell doesn't take the
     /// record; and after these `SourceFailed`, where the record couldn't be kept. A refusal changes
     /// nothing but the keeper.
-    pub fn step<K: Keeper>(
+    pub fn step(
         &mut self,
         alloc: Global,
-        cells: &Cells,
+        cells: &Cells<K>,
         keeper: &mut K,
-        seat: &mut Seat<N>,
+        seat: &mut Seat<N, K>,
         event: Event,
         items: &Vec<Vec<u8>>,
-    ) -> Result<(BookReply, Option<Receipt<N>>), Refusal>
+    ) -> Result<(BookReply, Option<Receipt<N, K>>), Refusal>
         requires cells { cells.now ≡ N.cells }
         requires holds { ∥ K.holds keeper.old (kept_all self.old.records) ∥₁ }
         ensures holds { ∥ K.holds keeper.new (kept_all self.new.records) ∥₁ }
@@ -163,7 +163,7 @@ impl<N: BookName> Held<N> {
     }
 
     /// Makes a receipt for the record of this number, if there is one.
-    pub fn receipt(&mut self, number: u64) -> Option<Receipt<N>>
+    pub fn receipt(&mut self, number: u64) -> Option<Receipt<N, K>>
         ensures held { self.new ≡ self.old }
         ensures none { IfNone result ((number ≡ 0) ⊎ (length self.old.records < number)) }
         ensures some { IfSome result (λ r.
@@ -186,14 +186,14 @@ impl<N: BookName> Held<N> {
     }
 
     /// Whether these are the book's seats, in order, and were told what is kept for them.
-    pub fn is_all(&self, seats: &Vec<Seat<N>>) -> bool
+    pub fn is_all(&self, seats: &Vec<Seat<N, K>>) -> bool
         ensures { result ≡ true → AreAll seats.now.items self.now }
     {
         are_kept(&self.kept, seats)
     }
 
     /// Ends the book. The seats are to be all of its seats, in any order; else all is handed back.
-    pub fn close(self, mut seats: Vec<Seat<N>>) -> Result<Book, (Held<N>, Vec<Seat<N>>)>
+    pub fn close(self, mut seats: Vec<Seat<N, K>>) -> Result<Book, (Held<N, K>, Vec<Seat<N, K>>)>
         ensures book { IfOk result (λ b. b ≡ self.book) }
         ensures all { OnOk result ((sorted : _) × IsPermutation seats.items sorted
             × AreAll sorted self × EachKnows sorted self.records) }
@@ -205,7 +205,10 @@ impl<N: BookName> Held<N> {
     }
 
     /// Ends the book, with the seats in order.
-    fn close_in_order(mut self, mut seats: Vec<Seat<N>>) -> Result<Book, (Held<N>, Vec<Seat<N>>)>
+    fn close_in_order(
+        mut self,
+        mut seats: Vec<Seat<N, K>>,
+    ) -> Result<Book, (Held<N, K>, Vec<Seat<N, K>>)>
         ensures book { IfOk result (λ b. b ≡ self.book) }
         ensures all { OnOk result (AreAll seats.items self) }
         ensures knows { OnOk result (EachKnows seats.items self.records) }
@@ -228,7 +231,7 @@ impl<N: BookName> Held<N> {
     }
 
     /// Compares what the seat knows under the number of each record: it is that record.
-    pub fn check(&mut self, seat: &mut Seat<N>)
+    pub fn check(&mut self, seat: &mut Seat<N, K>)
         ensures held { self.new ≡ self.old }
         ensures seat { seat.new ≡ seat.old }
         ensures knows { Knows seat.old.known self.old.records }
@@ -237,7 +240,7 @@ impl<N: BookName> Held<N> {
     }
 
     /// Whether the seat is one of the book's, and was told what is kept for it.
-    fn is_of(&self, seat: &Seat<N>) -> bool
+    fn is_of(&self, seat: &Seat<N, K>) -> bool
         ensures is { result ≡ true → IsSeat seat.now self.now }
         ensures not { result ≡ false → IsSeat seat.now self.now → ⊥ }
     {
@@ -246,16 +249,16 @@ impl<N: BookName> Held<N> {
     }
 
     /// Makes the step that the seat of this number asks for, and counts it in the ledger.
-    fn take<K: Keeper>(
+    fn take(
         &mut self,
         alloc: Global,
-        cells: &Cells,
+        cells: &Cells<K>,
         keeper: &mut K,
         number: u16,
         event: Event,
         items: &Vec<Vec<u8>>,
         mark: &mut Share<N>,
-    ) -> Result<(BookReply, Option<Receipt<N>>, Kept), Refusal>
+    ) -> Result<(BookReply, Option<Receipt<N, K>>, Kept), Refusal>
         requires cells { cells.now ≡ N.cells }
         requires holds { ∥ K.holds keeper.old (kept_all self.old.records) ∥₁ }
         requires number { number < self.old.seats }
@@ -306,13 +309,13 @@ impl<N: BookName> Held<N> {
 /// one more then.
 fn store<N: BookName, K: Keeper>(
     alloc: Global,
-    cells: &Cells,
+    cells: &Cells<K>,
     keeper: &mut K,
-    receipts: &mut Vec<Receipt<N>>,
+    receipts: &mut Vec<Receipt<N, K>>,
     act: &Act,
     event: Event,
     items: &Vec<Vec<u8>>,
-) -> Result<Option<Receipt<N>>, Refusal>
+) -> Result<Option<Receipt<N, K>>, Refusal>
     requires cells { cells.now ≡ N.cells }
     requires asked { Asks event act.now }
     requires number { (n : ℕ) (c : Commit) → act.now ≡ Stored n c
@@ -344,7 +347,7 @@ fn store<N: BookName, K: Keeper>(
     if receipts.reserve(1).is_err() {
         return Err(Refusal::NoMemory);
     }
-    let entry = Record::new(alloc, *number, &bytes, items, commit, K::gives_back())?;
+    let entry = Record::new(alloc, *number, &bytes, items, commit)?;
     let Ok(entry) = Box::new(alloc, entry) else {
         return Err(Refusal::NoMemory);
     };
@@ -359,7 +362,10 @@ fn store<N: BookName, K: Keeper>(
 }
 
 /// Keeps a second receipt of a new record.
-fn keep<N: BookName>(receipts: &mut Vec<Receipt<N>>, stored: &mut Option<Receipt<N>>)
+fn keep<N: BookName, K: Keeper>(
+    receipts: &mut Vec<Receipt<N, K>>,
+    stored: &mut Option<Receipt<N, K>>,
+)
     requires { IfSome stored.old (λ _. vec_len receipts.old < vec_capacity receipts.old) }
     ensures items { receipts.new.items ≡ receipts.old.items ++ option_to_list stored.old }
     ensures same { stored.new ≡ stored.old }
@@ -370,7 +376,10 @@ fn keep<N: BookName>(receipts: &mut Vec<Receipt<N>>, stored: &mut Option<Receipt
 }
 
 /// Makes a second receipt of one that is kept.
-fn receipt_at<N: BookName>(receipts: &mut Vec<Receipt<N>>, index: usize) -> Receipt<N>
+fn receipt_at<N: BookName, K: Keeper>(
+    receipts: &mut Vec<Receipt<N, K>>,
+    index: usize,
+) -> Receipt<N, K>
     requires { index < length receipts.old.items }
     ensures items { receipts.new.items ≡ receipts.old.items }
     ensures found { slice_get receipts.old.items index ≡ Some result }
@@ -379,7 +388,10 @@ fn receipt_at<N: BookName>(receipts: &mut Vec<Receipt<N>>, index: usize) -> Rece
 }
 
 /// Makes the receipt that goes with a reply.
-fn last<N: BookName>(receipts: &mut Vec<Receipt<N>>, reply: &BookReply) -> Option<Receipt<N>>
+fn last<N: BookName, K: Keeper>(
+    receipts: &mut Vec<Receipt<N, K>>,
+    reply: &BookReply,
+) -> Option<Receipt<N, K>>
     ensures items { receipts.new.items ≡ receipts.old.items }
     ensures receipt { result ≡ receipt_for reply.now receipts.old.items }
 {
@@ -392,7 +404,7 @@ fn last<N: BookName>(receipts: &mut Vec<Receipt<N>>, reply: &BookReply) -> Optio
 }
 
 /// Makes a second receipt of the last record, if there is one.
-fn last_receipt<N: BookName>(receipts: &mut Vec<Receipt<N>>) -> Option<Receipt<N>>
+fn last_receipt<N: BookName, K: Keeper>(receipts: &mut Vec<Receipt<N, K>>) -> Option<Receipt<N, K>>
     ensures items { receipts.new.items ≡ receipts.old.items }
     ensures last { result ≡ last_of receipts.old.items }
 {
@@ -410,7 +422,7 @@ fn are_same(one: Kept, other: Kept) -> bool
 }
 
 /// Whether these seats are numbered in order, and were told what is kept.
-fn are_kept<N: BookName>(kept: &Vec<Kept>, seats: &Vec<Seat<N>>) -> bool
+fn are_kept<N: BookName, K: Keeper>(kept: &Vec<Kept>, seats: &Vec<Seat<N, K>>) -> bool
     ensures { result ≡ true → (map (λ s. s.kept) seats.now.items ≡ kept.now.items)
         × ((k : ℕ) (s : _) → slice_get seats.now.items k ≡ Some s → s.number ≡ k) }
 {
@@ -430,7 +442,7 @@ fn are_kept<N: BookName>(kept: &Vec<Kept>, seats: &Vec<Seat<N>>) -> bool
 }
 
 /// Compares what the seat knows of each receipt's cell: it is what the receipt knows.
-fn check_all<N: BookName>(receipts: &mut Vec<Receipt<N>>, seat: &mut Seat<N>)
+fn check_all<N: BookName, K: Keeper>(receipts: &mut Vec<Receipt<N, K>>, seat: &mut Seat<N, K>)
     ensures receipts { receipts.new.items ≡ receipts.old.items }
     ensures seat { seat.new ≡ seat.old }
     ensures knows { Knows seat.old.known receipts.old.items }

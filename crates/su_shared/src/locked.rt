@@ -20,7 +20,7 @@ use su_keeper::Keeper;
 /// each with its items, and may have found more.
 #[derive(Drop)]
 pub(crate) struct Opening<N: BookName, K: Keeper> {
-    pub(crate) held: Held<N>,
+    pub(crate) held: Held<N, K>,
     pub(crate) keeper: K,
     ghost kept: { ∥ K.holds keeper (kept_all held.records) ∥₁ },
 }
@@ -29,7 +29,7 @@ pub(crate) struct Opening<N: BookName, K: Keeper> {
 /// order, each with its items. All that the keeper found is taken up.
 #[derive(Drop)]
 pub(crate) struct Locked<N: BookName, K: Keeper> {
-    pub(crate) held: Held<N>,
+    pub(crate) held: Held<N, K>,
     pub(crate) keeper: K,
     ghost kept: { ∥ K.holds keeper (kept_all held.records) ∥₁ },
     ghost end: { ∥ K.is_at_end keeper ∥₁ },
@@ -41,8 +41,8 @@ impl<N: BookName, K: Keeper> Opening<N, K> {
     pub(crate) fn take_up(
         &mut self,
         alloc: Global,
-        cells: &Cells,
-        seat: &mut Seat<N>,
+        cells: &Cells<K>,
+        seat: &mut Seat<N, K>,
     ) -> Result<u64, BookFault>
         requires cells { cells.now ≡ N.cells }
         requires none { self.old.held.book.journal ≡ [] }
@@ -73,8 +73,8 @@ impl<N: BookName, K: Keeper> Opening<N, K> {
     fn take_one(
         &mut self,
         alloc: Global,
-        cells: &Cells,
-        seat: &mut Seat<N>,
+        cells: &Cells<K>,
+        seat: &mut Seat<N, K>,
     ) -> Result<Option<u64>, Refusal>
         requires cells { cells.now ≡ N.cells }
         ensures end { IfOk result (λ o. IfNone o (K.is_at_end self.new.keeper)) }

@@ -7,16 +7,17 @@ use crate::cells::{BookName, Cells, Record};
 use once_cell::race::Note;
 use std::alloc::{AllocError, Global};
 use std::marker::{Model, PhantomData};
+use su_keeper::Keeper;
 
 /// Knows the record of one cell. Its model is that record.
 #[derive(Drop)]
-pub struct Receipt<N: BookName> {
+pub struct Receipt<N: BookName, K: Keeper> {
     number: u64,
-    note: Note<Record>,
+    note: Note<Record<K>>,
     of: PhantomData<N>,
 }
 
-impl<N: BookName> Model for Receipt<N> {
+impl<N: BookName, K: Keeper> Model for Receipt<N, K> {
     ghost use Rattle.su_shared.specs.Entry.{Entry};
     ghost use Rattle.su_shared.specs.Seats.{shown, IsReceipt};
 
@@ -29,12 +30,12 @@ impl<N: BookName> Model for Receipt<N> {
 
 /// What one seat knows of each cell. Its model is the records that are known, by index.
 #[derive(Drop)]
-pub(crate) struct Notes<N: BookName> {
-    notes: Vec<Note<Record>>,
+pub(crate) struct Notes<N: BookName, K: Keeper> {
+    notes: Vec<Note<Record<K>>>,
     of: PhantomData<N>,
 }
 
-impl<N: BookName> Model for Notes<N> {
+impl<N: BookName, K: Keeper> Model for Notes<N, K> {
     ghost use Rattle.std.specs.Prelude.{List, Option};
     ghost use Rattle.su_shared.specs.Entry.{Entry};
     ghost use Rattle.su_shared.specs.Seats.{AreNotes, known_of};
@@ -46,9 +47,9 @@ impl<N: BookName> Model for Notes<N> {
     ghost invariant = { λ s. AreNotes N.cells s.notes.items };
 }
 
-impl<N: BookName> Receipt<N> {
+impl<N: BookName, K: Keeper> Receipt<N, K> {
     /// Makes the receipt of a note that knows its cell's record.
-    pub(crate) fn of(number: u64, note: Note<Record>) -> Receipt<N>
+    pub(crate) fn of(number: u64, note: Note<Record<K>>) -> Receipt<N, K>
         requires { IsReceipt N.cells number note }
         ensures { result ≡ shown note.known }
     {
@@ -67,7 +68,7 @@ impl<N: BookName> Receipt<N> {
     }
 
     /// Makes a second receipt of the record.
-    pub fn again(&mut self) -> Receipt<N>
+    pub fn again(&mut self) -> Receipt<N, K>
         ensures { (self.new ≡ self.old) × (result ≡ self.old) }
     {
         Receipt {
@@ -78,9 +79,9 @@ impl<N: BookName> Receipt<N> {
     }
 }
 
-impl<N: BookName> Notes<N> {
+impl<N: BookName, K: Keeper> Notes<N, K> {
     /// Makes notes that know nothing.
-    pub fn new(alloc: Global, cells: &Cells) -> Result<Notes<N>, AllocError>
+    pub fn new(alloc: Global, cells: &Cells<K>) -> Result<Notes<N, K>, AllocError>
         requires { cells.now ≡ N.cells }
         ensures { IfOk result (λ notes. notes ≡ replicate (length N.cells) None) }
     {
@@ -92,7 +93,7 @@ impl<N: BookName> Notes<N> {
     }
 
     /// Makes a second note of one cell.
-    fn note(&mut self, index: usize) -> Note<Record>
+    fn note(&mut self, index: usize) -> Note<Record<K>>
         requires { index < length N.cells }
         ensures same { self.new ≡ self.old }
         ensures cell { slice_get N.cells index ≡ Some result.cell }
@@ -103,7 +104,7 @@ impl<N: BookName> Notes<N> {
     }
 
     /// Keeps a note of one cell in place of the old one.
-    fn put(&mut self, index: usize, note: Note<Record>)
+    fn put(&mut self, index: usize, note: Note<Record<K>>)
         requires cell { slice_get N.cells index ≡ Some note.cell }
         requires numbered { IfSome note.known (λ r. r.number ≡ index + 1) }
         ensures put { self.new ≡ slice_set self.old index note.known }
@@ -115,7 +116,7 @@ impl<N: BookName> Notes<N> {
     #[tactic(auto, using(crate::proofs::Knowing::learns_set))]
     /// Reads one cell. What is known is found; what is found has the number that is asked for, and
     /// is known from then on.
-    pub fn read<'a>(&mut self, cells: &'a Cells, number: u64) -> Option<&'a Record>
+    pub fn read<'a>(&mut self, cells: &'a Cells<K>, number: u64) -> Option<&'a Record<K>>
         requires { cells.now ≡ N.cells }
         ensures none { IfNone result ((self.new ≡ self.old)
             × (known_at self.old number ≡ None)) }
@@ -141,7 +142,7 @@ impl<N: BookName> Notes<N> {
     }
 
     /// Compares what these notes know of the receipt's cell: if anything, it is the same record.
-    pub fn check(&mut self, receipt: &mut Receipt<N>)
+    pub fn check(&mut self, receipt: &mut Receipt<N, K>)
         ensures notes { self.new ≡ self.old }
         ensures receipt { receipt.new ≡ receipt.old }
         ensures agrees { IfSome (known_at self.old receipt.old.number) (λ r. r ≡ receipt.old) }
@@ -152,7 +153,7 @@ impl<N: BookName> Notes<N> {
 
     #[tactic(auto, using(crate::proofs::Knowing::learns_set))]
     /// Learns the record of the receipt.
-    pub fn learn(&mut self, receipt: &mut Receipt<N>)
+    pub fn learn(&mut self, receipt: &mut Receipt<N, K>)
         ensures receipt { receipt.new ≡ receipt.old }
         ensures learned { self.new
             ≡ slice_set self.old (receipt.old.number - 1) (Some receipt.old) }

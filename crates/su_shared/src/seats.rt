@@ -9,6 +9,7 @@ use crate::notes::{Notes, Receipt};
 use std::marker::Model;
 use std::sync::ledger::Share;
 use su_book::BookReply;
+use su_keeper::Keeper;
 
 /// What a seat was told so far: the greatest count or number, how many commits of it were stored,
 /// how many steps it made, and whether it has the turn.
@@ -72,14 +73,14 @@ impl Kept {
 
 /// The seat of one worker. Its model is its number, what it was told, and which records it knows.
 #[derive(Drop)]
-pub struct Seat<N: BookName> {
+pub struct Seat<N: BookName, K: Keeper> {
     pub(crate) number: u16,
     pub(crate) kept: Kept,
-    pub(crate) notes: Notes<N>,
+    pub(crate) notes: Notes<N, K>,
     pub(crate) mark: Share<N>,
 }
 
-impl<N: BookName> Model for Seat<N> {
+impl<N: BookName, K: Keeper> Model for Seat<N, K> {
     ghost use Rattle.std.specs.Prelude.{◌≡◌, ◌<◌};
     ghost use Rattle.su_shared.specs.Seats.{SeatView};
 
@@ -91,9 +92,9 @@ impl<N: BookName> Model for Seat<N> {
     ghost invariant = { λ s. (0 < s.mark.parts) × (s.mark.amount ≡ s.kept.steps) };
 }
 
-impl<N: BookName> Seat<N> {
+impl<N: BookName, K: Keeper> Seat<N, K> {
     /// Makes a seat that was told nothing.
-    pub(crate) fn new(number: u16, notes: Notes<N>, mark: Share<N>) -> Seat<N>
+    pub(crate) fn new(number: u16, notes: Notes<N, K>, mark: Share<N>) -> Seat<N, K>
         requires { (0 < mark.parts) × (mark.amount ≡ 0) }
         ensures { result ≡ record { number = number; kept = nothing; known = notes } }
     {
@@ -126,7 +127,7 @@ impl<N: BookName> Seat<N> {
     }
 
     /// Reads one cell, as `SharedBook::published` does.
-    pub(crate) fn read<'a>(&mut self, cells: &'a Cells, number: u64) -> Option<&'a Record>
+    pub(crate) fn read<'a>(&mut self, cells: &'a Cells<K>, number: u64) -> Option<&'a Record<K>>
         requires { cells.now ≡ N.cells }
         ensures none { IfNone result ((self.new ≡ self.old)
             × (known_at self.old.known number ≡ None)) }
@@ -141,7 +142,7 @@ impl<N: BookName> Seat<N> {
     }
 
     /// Compares what it knows of the receipt's cell: if anything, it is the same record.
-    pub(crate) fn check(&mut self, receipt: &mut Receipt<N>)
+    pub(crate) fn check(&mut self, receipt: &mut Receipt<N, K>)
         ensures seat { self.new ≡ self.old }
         ensures receipt { receipt.new ≡ receipt.old }
         ensures agrees { IfSome (known_at self.old.known receipt.old.number)
@@ -151,7 +152,7 @@ impl<N: BookName> Seat<N> {
     }
 
     /// Learns the record of the receipt. It forgets nothing.
-    pub fn learn(&mut self, receipt: &mut Receipt<N>)
+    pub fn learn(&mut self, receipt: &mut Receipt<N, K>)
         ensures same { receipt.new ≡ receipt.old }
         ensures learned { self.new ≡ record self.old {
           known = slice_set self.old.known (receipt.old.number - 1) (Some receipt.old);

@@ -11,7 +11,7 @@ ghost use Rattle.su_shared.specs.declared.faults.BookFault.TheVariants.{Refused}
 ghost use Rattle.su_shared.specs.Faults.{IsRecordFault};
 ghost use Rattle.su_shared.specs.Seats.{known_at, Learns};
 ghost use Rattle.su_shared.specs.Shares.{nothing, kept_after, after_commit, after_give, learned, Gives, IsFresh, IsGrantRefusal, IsCommitRefusal, IsGiveRefusal, MayMeet, MayMeetOrFull, IsOpened, EndsWith};
-ghost use Rattle.su_shared.specs.Entry.{contents};
+ghost use Rattle.su_shared.specs.Entry.{IsShown, contents};
 
 use crate::cells::{BookName, Cells, Record};
 use crate::faults::BookFault;
@@ -30,7 +30,7 @@ use su_keeper::Keeper;
 /// it; each is kept before it can be read.
 #[derive(Drop)]
 pub struct SharedBook<N: BookName, K: Keeper> {
-    cells: Cells,
+    cells: Cells<K>,
     locked: Mutex<Locked<N, K>>,
     ghost named: { cells ≡ N.cells },
 }
@@ -41,7 +41,7 @@ impl<N: BookName, K: Keeper> SharedBook<N, K> {
     /// to 1,000,000; `BadKey` where a user's key is none; else only `NoMemory`.
     pub fn new(
         alloc: Global,
-        cells: Cells,
+        cells: Cells<K>,
         roster: Roster,
         blank: Blank,
         keeper: K,
@@ -64,11 +64,11 @@ impl<N: BookName, K: Keeper> SharedBook<N, K> {
     /// taken up.
     pub fn open(
         alloc: Global,
-        cells: Cells,
+        cells: Cells<K>,
         roster: Roster,
         blank: Blank,
         keeper: K,
-    ) -> Result<(SharedBook<N, K>, Seat<N>, u64), BookFault>
+    ) -> Result<(SharedBook<N, K>, Seat<N, K>, u64), BookFault>
         requires cells { cells ≡ N.cells }
         requires ledger { (blank.name ≡ N.name) × (blank.parts ≡ N.parts) × (257 ≤ N.parts) }
         requires holds { K.holds keeper [] }
@@ -91,7 +91,7 @@ impl<N: BookName, K: Keeper> SharedBook<N, K> {
     }
 
     /// Shares a book, when all that its keeper found is taken up.
-    fn share(cells: Cells, opening: Opening<N, K>) -> SharedBook<N, K>
+    fn share(cells: Cells<K>, opening: Opening<N, K>) -> SharedBook<N, K>
         requires cells { cells ≡ N.cells }
         requires end { K.is_at_end opening.keeper }
     {
@@ -102,7 +102,7 @@ impl<N: BookName, K: Keeper> SharedBook<N, K> {
 
     /// Makes the next seat, which was told nothing and knows nothing. `BadNumber` after 256 seats;
     /// else only `NoMemory`. Its notes, one of each cell, are made before the lock is taken.
-    pub fn seat(&self, rt: &impl Wait, alloc: Global) -> Result<Seat<N>, Refusal>
+    pub fn seat(&self, rt: &impl Wait, alloc: Global) -> Result<Seat<N, K>, Refusal>
         ensures kept { IfOk result (λ seat. seat.kept ≡ nothing) }
         ensures known { IfOk result (λ seat. seat.known ≡ replicate (length N.cells) None) }
         ensures refused { IfErr result (λ e. (e ≡ NoMemory) ⊎ (e ≡ BadNumber)) }
@@ -119,8 +119,8 @@ impl<N: BookName, K: Keeper> SharedBook<N, K> {
         &self,
         rt: &impl Wait,
         alloc: Global,
-        seat: &mut Seat<N>,
-    ) -> Result<(BookReply, Option<Receipt<N>>), Refusal>
+        seat: &mut Seat<N, K>,
+    ) -> Result<(BookReply, Option<Receipt<N, K>>), Refusal>
         ensures gives { IfOk result (λ r. Gives Grant [] r.0 r.1) }
         ensures tells { IfOk result (λ r. TellsRecords r.0) }
         ensures fresh { IfOk result (λ r. IsFresh seat.old.kept.top r.0) }
@@ -151,10 +151,10 @@ impl<N: BookName, K: Keeper> SharedBook<N, K> {
         &self,
         rt: &impl Wait,
         alloc: Global,
-        seat: &mut Seat<N>,
+        seat: &mut Seat<N, K>,
         bytes: &[u8],
         items: &Vec<Vec<u8>>,
-    ) -> Result<(u64, Receipt<N>), Refusal>
+    ) -> Result<(u64, Receipt<N, K>), Refusal>
         ensures receipt { IfOk result (λ r. r.1 ≡ record {
           number = r.0;
           bytes = bytes.now;
@@ -194,7 +194,7 @@ impl<N: BookName, K: Keeper> SharedBook<N, K> {
 
     /// Gives the turn back. The refusals are `NotYourTurn`, and `BookFull` where what the seat was
     /// told isn't what is kept for it. A refusal leaves the seat as it was.
-    pub fn give(&self, rt: &impl Wait, alloc: Global, seat: &mut Seat<N>) -> Result<(), Refusal>
+    pub fn give(&self, rt: &impl Wait, alloc: Global, seat: &mut Seat<N, K>) -> Result<(), Refusal>
         ensures seat { OnOk result (seat.new ≡ record {
           number = seat.old.number;
           kept = after_give seat.old.kept;
@@ -217,7 +217,7 @@ impl<N: BookName, K: Keeper> SharedBook<N, K> {
 
     /// Reads the cell of a record, without the lock. What the seat knows is found, and what is
     /// found has this number and is known from then on. Its bytes may have to be read by `record`.
-    pub fn published<'a>(&'a self, seat: &mut Seat<N>, number: u64) -> Option<&'a Record>
+    pub fn published<'a>(&'a self, seat: &mut Seat<N, K>, number: u64) -> Option<&'a Record<K>>
         ensures none { IfNone result ((seat.new ≡ seat.old)
             × (known_at seat.old.known number ≡ None)) }
         ensures number { IfSome result (λ r. r.now.number ≡ number) }
@@ -230,14 +230,22 @@ impl<N: BookName, K: Keeper> SharedBook<N, K> {
         seat.read(&self.cells, number)
     }
 
-    /// Reads the bytes of a record that `published` found, and that aren't in its cell, back from the
-    /// book's keeper, under the lock. `SourceFailed` where the keeper fails, or doesn't give them
-    /// back.
-    pub fn record(&self, rt: &impl Wait, alloc: Global, found: &Record) -> Result<Vec<u8>, Refusal>
-        ensures hashes { IfOk result (λ commit.
-            sha256 commit.items ≡ sha256 found.now.bytes) }
-        ensures refused { IfErr result (λ e. e ≡ SourceFailed) }
+    /// Returns the bytes of a record that `published` found. Where they aren't in its cell, they are
+    /// read back from the book's keeper, under the lock. `NoMemory` for a copy; and `SourceFailed`
+    /// where the keeper gives records back, and fails, or doesn't give this one.
+    pub fn record(
+        &self,
+        rt: &impl Wait,
+        alloc: Global,
+        found: &Record<K>,
+    ) -> Result<Vec<u8>, Refusal>
+        ensures shown { IfOk result (λ commit. IsShown K.may_fail found.now.bytes commit.items) }
+        ensures refused { IfErr result (λ e. (e ≡ NoMemory)
+            ⊎ ((e ≡ SourceFailed) × (K.reads_back ≡ true) × K.may_fail)) }
     {
+        if let Some(bytes) = found.bytes() {
+            return Ok(Vec::from_slice(alloc, bytes)?);
+        }
         let (number, digest) = (found.number(), found.digest());
         self.locked.lock(rt).record(alloc, number, digest)
     }
@@ -259,7 +267,10 @@ impl<N: BookName, K: Keeper> SharedBook<N, K> {
     #[tactic(auto, using(crate::proofs::Closing::same_sum))]
     /// Ends the book, and hands its keeper back, which holds its records. The seats are to be all of
     /// the book's, in any order, as they were told; else all is handed back.
-    pub fn close(self, seats: Vec<Seat<N>>) -> Result<Closed<K>, (SharedBook<N, K>, Vec<Seat<N>>)>
+    pub fn close(
+        self,
+        seats: Vec<Seat<N, K>>,
+    ) -> Result<Closed<K>, (SharedBook<N, K>, Vec<Seat<N, K>>)>
         ensures run { IfOk result (λ c. IsRun c.book) }
         ensures records { IfOk result (λ c. c.records ≡ count_of c.book.journal) }
         ensures calls { IfOk result (λ c. c.calls ≡ length c.book.journal) }

@@ -2,4 +2,4 @@ use Rattle.std.proofs.Common.{◌≡◌, vec_len}
 use Rattle.su_shared.proofs.cells.Cells.new.Given as goal
 
 abbrev pub invariant-loop : goal.invariant-loop
-invariant-loop l = vec_len l.cells ≡ l.counter
+invariant-loop g l = vec_len l.cells ≡ l.counter

@@ -6,7 +6,7 @@ use Rattle.su_shared.proofs.Knowing.{names_push, known_push}
 use Rattle.su_shared.proofs.cells.Cells.notes.Goals as goal
 
 pub loop-cell-preserved : goal.loop-cell-preserved
-loop-cell-preserved c =
+loop-cell-preserved g c =
     let xs = c.deref-cell-items.result.now in
     let i = c.loop-cell.cell-index in
     let x = c.cell-item.result in

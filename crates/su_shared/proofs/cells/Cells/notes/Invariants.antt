@@ -4,7 +4,7 @@ use Rattle.su_shared.specs.Seats.{names_of, known_of}
 use Rattle.su_shared.proofs.cells.Cells.notes.Given as goal
 
 abbrev pub invariant-loop-cell : goal.invariant-loop-cell
-invariant-loop-cell l = record {
+invariant-loop-cell g l = record {
   names : names_of l.notes.items ≡ take l.cell-index (map cell_name l.cell-items);
   known : known_of l.notes.items ≡ replicate l.cell-index None;
 }
