@@ -5,7 +5,7 @@ ghost use Rattle.su_bytes.specs.declared.refusals.Refusal.TheVariants.{BadKey, N
 ghost use Rattle.su_chain.specs.ChainEnd.{HasBadKey};
 ghost use Rattle.su_shared.specs.declared.faults.BookFault.TheVariants.{Refused};
 ghost use Rattle.su_shared.specs.Faults.{IsRecordFault};
-ghost use Rattle.su_shared.specs.Shares.{record_bytes};
+ghost use Rattle.su_shared.specs.Shares.{HoldsSteps};
 ghost use Rattle.su_backup.specs.Copied.{GoesOn, IsCopied};
 
 use crate::copiers::Copier;
@@ -55,7 +55,8 @@ where
     ensures run { IfOk result (λ c. IsRun c.closed.book) }
     ensures records { IfOk result (λ c. c.closed.records ≡ count_of c.closed.book.journal) }
     ensures holds { IfOk result (λ c.
-        ∥ K.holds c.closed.keeper (record_bytes c.closed.book.journal) ∥₁) }
+        HoldsSteps K.holds c.closed.keeper c.closed.book.journal) }
+    ensures end { IfOk result (λ c. ∥ K.is_at_end c.closed.keeper ∥₁) }
     ensures copied { IfOk result (λ c. IfOk c.new (λ n. IsCopied K.may_fail n client.old.source.link
         client.new.source.link c.closed.book.journal)) }
     ensures refused { IfErr result (λ f.
@@ -72,7 +73,7 @@ fn copy_named<N, K, T, R, W>(
     rt: &T,
     alloc: Global,
     client: &mut Checked<Client<R, W>>,
-    cells: Cells,
+    cells: Cells<K>,
     roster: Roster,
     blank: Blank,
     blocks: &SharedBlocks,
@@ -91,7 +92,8 @@ where
     ensures run { IfOk result (λ c. IsRun c.closed.book) }
     ensures records { IfOk result (λ c. c.closed.records ≡ count_of c.closed.book.journal) }
     ensures holds { IfOk result (λ c.
-        ∥ K.holds c.closed.keeper (record_bytes c.closed.book.journal) ∥₁) }
+        HoldsSteps K.holds c.closed.keeper c.closed.book.journal) }
+    ensures end { IfOk result (λ c. ∥ K.is_at_end c.closed.keeper ∥₁) }
     ensures copied { IfOk result (λ c. IfOk c.new (λ n. IsCopied K.may_fail n client.old.source.link
         client.new.source.link c.closed.book.journal)) }
     ensures refused { IfErr result (λ f.

@@ -1,11 +1,11 @@
 -- What the service of a worker may answer, by what its seat was told and knows. (This project's
 -- own.)
-use Rattle.std.specs.Prelude.{◌≡◌, ◌⊎◌, ℕ, ◌<◌, ◌≤◌, Bool, true, false, List, length, Option, Some, None, MatchOption, IfSome}
+use Rattle.std.specs.Prelude.{◌≡◌, ◌⊎◌, All, ℕ, ◌<◌, ◌≤◌, Bool, true, false, List, length, Option, Some, None, MatchOption, IfSome}
 use Rattle.once_cell.specs.Once.{Agrees}
 use Rattle.sha2.specs.Sha256.{sha256}
 use Rattle.su_bytes.specs.declared.refusals.Refusal.{Refusal}
 use Rattle.su_bytes.specs.declared.refusals.Refusal.TheVariants.{MissingBlock, SourceFailed, TooBig, NoMemory}
-use Rattle.su_version.specs.Commit.{Commit}
+use Rattle.su_version.specs.Commit.{Commit, IsCommit, commit_bytes}
 use Rattle.su_block.specs.Item.{is_item}
 use Rattle.su_book.specs.Machine.{last_numbers}
 use Rattle.su_message.specs.declared.requests.Request.{Request}
@@ -13,10 +13,9 @@ use Rattle.su_message.specs.declared.requests.Request.TheVariants as request
 use Rattle.su_message.specs.declared.replies.Reply.{Reply}
 use Rattle.su_message.specs.declared.replies.Reply.TheVariants as reply
 use Rattle.su_session.specs.Answer.{refusal_reply}
-use Rattle.su_shared.specs.declared.cells.Record.{Record}
-use Rattle.su_shared.specs.Entry.{IsShown}
+use Rattle.su_shared.specs.Entry.{Entry, IsShown}
 use Rattle.su_shared.specs.Seats.{SeatView, known_at, Learns}
-use Rattle.su_shared.specs.Shares.{after_grant, after_commit, after_give, learned, IsGrantRefusal, IsCommitRefusal, IsGiveRefusal, MayMeet}
+use Rattle.su_shared.specs.Shares.{after_grant, after_commit, after_give, learned, IsGrantRefusal, IsCommitRefusal, IsGiveRefusal, MayMeetOrFull}
 
 -- ---- the turn and commits
 
@@ -24,7 +23,7 @@ use Rattle.su_shared.specs.Shares.{after_grant, after_commit, after_give, learne
 -- seat knows the newest one from then on.
 pub record Grants (s : SeatView) (r : Reply) (t : SeatView) : Type 0 where
   pub records : List Commit
-  pub newest : Option Record
+  pub newest : Option Entry
   pub reply_is : r ≡ reply.Granted (length records) (last_numbers records)
   pub fresh : s.kept.top ≤ length records
   pub newest_is : MatchOption newest (length records ≡ 0) (λ x. x.number ≡ length records)
@@ -35,11 +34,18 @@ pub record Grants (s : SeatView) (r : Reply) (t : SeatView) : Type 0 where
   }
   pub learns : IfSome newest (λ x. Learns s.known x t.known)
 
--- The commit of these bytes is stored, under a number above all that the seat was told before. The
--- seat had the turn, and hasn't any more; it knows this record from then on.
+-- each of these items has the digest of the change that the commit of these bytes names
+abbrev pub AreOfChange : List ℕ → List (List ℕ) → Type 0
+AreOfChange bytes items = (c : Commit) → IsCommit c → bytes ≡ commit_bytes c
+    → All (λ item. sha256 item ≡ c.version.change) items
+
+-- The commit of these bytes is stored, under a number above all that the seat was told before, with
+-- no other items than that of its change. The seat had the turn, and hasn't any more; it knows this
+-- record from then on.
 pub record Stores (s : SeatView) (bytes : List ℕ) (r : Reply) (t : SeatView) : Type 0 where
-  pub stored : Record
+  pub stored : Entry
   pub bytes_are : stored.bytes ≡ bytes
+  pub items_are : AreOfChange bytes stored.items
   pub reply_is : r ≡ reply.Stored stored.number
   pub fresh : s.kept.top < stored.number
   pub holder : s.kept.turn ≡ true
@@ -62,7 +68,7 @@ pub record Meets (s : SeatView) (grant : Bool) (IsReason : Refusal → Type 0) (
     (t : SeatView) : Type 0 where
   pub refusal : Refusal
   pub reason : IsReason refusal
-  pub meets : MayMeet s.kept s.number grant refusal
+  pub meets : MayMeetOrFull s.kept s.number grant refusal
   pub reply_is : r ≡ refusal_reply refusal
   pub same : t ≡ s
 
@@ -86,7 +92,7 @@ Tells may_fail bytes r =
 -- it knows from then on, and is told of.
 pub record Reads (may_fail : Type 0) (s : SeatView) (number : ℕ) (r : Reply) (t : SeatView)
     : Type 0 where
-  pub found : Record
+  pub found : Entry
   pub numbered : found.number ≡ number
   pub agrees : Agrees (known_at s.known number) found
   pub told : Tells may_fail found.bytes r

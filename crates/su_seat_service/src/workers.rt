@@ -1,11 +1,12 @@
 // The service of a worker.
-ghost use Rattle.std.specs.Prelude.{◌≡◌, ◌⊎◌, IfOk, IfErr};
+ghost use Rattle.std.specs.Prelude.{◌≡◌, ◌⊎◌, All, IfOk, IfErr};
 ghost use Rattle.sha2.specs.Sha256.{sha256};
 ghost use Rattle.su_bytes.specs.declared.refusals.Refusal.TheVariants.{MissingBlock, SourceFailed, NoMemory};
 ghost use Rattle.su_message.specs.declared.requests.Request.TheVariants as request;
 ghost use Rattle.su_own_service.specs.Kept.{said};
-ghost use Rattle.su_shared.specs.Entry.{IsShown};
-ghost use Rattle.su_seat_service.specs.Worker.{Answers, Tells};
+ghost use Rattle.su_version.specs.Commit.{Commit as CommitParts, IsCommit, commit_bytes};
+ghost use Rattle.su_shared.specs.Entry.{IsShown, contents};
+ghost use Rattle.su_seat_service.specs.Worker.{Answers, AreOfChange, Tells};
 
 use crate::names::named_by;
 use std::alloc::Global;
@@ -26,7 +27,7 @@ pub struct Worker<'a, N: BookName, K: Keeper, R: Wait> {
     book: &'a SharedBook<N, K>,
     blocks: &'a SharedBlocks,
     items: SessionItems<'a>,
-    seat: Seat<N>,
+    seat: Seat<N, K>,
     rt: &'a R,
 }
 
@@ -45,7 +46,7 @@ impl<'a, N: BookName, K: Keeper, R: Wait> Worker<'a, N, K, R> {
         alloc: Global,
         book: &'a SharedBook<N, K>,
         blocks: &'a SharedBlocks,
-        seat: Seat<N>,
+        seat: Seat<N, K>,
     ) -> Worker<'a, N, K, R>
         ensures { result ≡ seat }
     {
@@ -59,7 +60,7 @@ impl<'a, N: BookName, K: Keeper, R: Wait> Worker<'a, N, K, R> {
     }
 
     /// Hands the seat back, with which the book is closed.
-    pub fn into_seat(self) -> Seat<N>
+    pub fn into_seat(self) -> Seat<N, K>
         ensures { result ≡ self.entry }
     {
         self.seat
@@ -72,17 +73,17 @@ impl<'a, N: BookName, K: Keeper, R: Wait> Worker<'a, N, K, R> {
         Ok(told(reply))
     }
 
-    /// Stores a commit. The item that it names stays for good from then on, whoever put it, and is
-    /// pinned meanwhile, so that it doesn't go before it is let stay. (A keeper that gives records
-    /// back has released it by then: it keeps it.)
+    /// Stores a commit. The item that it names is kept with it, and stays for good from then on,
+    /// whoever put it; it is pinned meanwhile, so that it doesn't go before it is let stay. (A keeper
+    /// that gives records back has released it by then: it keeps it.)
     fn commit(&mut self, alloc: Global, commit: &Bytes) -> Result<Reply, Refusal>
         ensures { Answers K.may_fail self.old (request.Commit commit.now) (said result) self.new }
     {
         let Some(digest) = named_by(alloc, commit.as_slice())? else {
-            return self.store(alloc, commit);
+            return self.store(alloc, commit, &Vec::new(alloc));
         };
         let pinned = self.items.pin_named(self.rt, digest);
-        let reply = self.store(alloc, commit);
+        let reply = self.store_naming(alloc, commit, digest);
         if reply.is_ok() {
             self.items.let_stay(self.rt, digest);
         } else if pinned {
@@ -91,11 +92,49 @@ impl<'a, N: BookName, K: Keeper, R: Wait> Worker<'a, N, K, R> {
         reply
     }
 
-    fn store(&mut self, alloc: Global, commit: &Bytes) -> Result<Reply, Refusal>
+    /// Stores a commit that names the item of this digest, and with it that item, where it is
+    /// shared.
+    fn store_naming(
+        &mut self,
+        alloc: Global,
+        commit: &Bytes,
+        digest: Digest,
+    ) -> Result<Reply, Refusal>
+        requires { (c : CommitParts) → IsCommit c → commit.now ≡ commit_bytes c
+            → digest ≡ c.version.change }
+        ensures { Answers K.may_fail self.old (request.Commit commit.now) (said result) self.new }
+    {
+        let items = self.shared_item(alloc, digest)?;
+        self.store(alloc, commit, &items)
+    }
+
+    /// Gets the item of a digest; nothing where it isn't shared.
+    fn shared_item(&self, alloc: Global, digest: Digest) -> Result<Vec<Vec<u8>>, Refusal>
+        ensures digests { IfOk result (λ items.
+            All (λ item. sha256 item ≡ digest) (contents items.items)) }
+        ensures refused { IfErr result (λ e. e ≡ NoMemory) }
+    {
+        match self.blocks.get(self.rt, alloc, digest) {
+            Ok(item) => Ok(Vec::from_array(alloc, [item])?),
+            Err(Refusal::MissingBlock) => Ok(Vec::new(alloc)),
+            Err(_) => Err(Refusal::NoMemory),
+        }
+    }
+
+    /// Stores a commit with these items, each of which is that of its change.
+    fn store(
+        &mut self,
+        alloc: Global,
+        commit: &Bytes,
+        items: &Vec<Vec<u8>>,
+    ) -> Result<Reply, Refusal>
+        requires { AreOfChange commit.now (contents items.now.items) }
         ensures { Answers K.may_fail self.old (request.Commit commit.now) (said result) self.new }
     {
         let bytes = commit.as_slice();
-        let (number, _receipt) = self.book.commit(self.rt, alloc, &mut self.seat, bytes)?;
+        let (number, _receipt) = self
+            .book
+            .commit(self.rt, alloc, &mut self.seat, bytes, items)?;
         self.share_record(alloc, bytes);
         Ok(Reply::Stored(number))
     }
@@ -117,7 +156,7 @@ impl<'a, N: BookName, K: Keeper, R: Wait> Worker<'a, N, K, R> {
     }
 
     /// Tells the bytes of a record.
-    fn tell(&self, alloc: Global, found: &Record) -> Result<Reply, Refusal>
+    fn tell(&self, alloc: Global, found: &Record<K>) -> Result<Reply, Refusal>
         ensures { Tells K.may_fail found.now.bytes (said result) }
     {
         let commit = self.bytes_of(alloc, found)?;
@@ -126,24 +165,22 @@ impl<'a, N: BookName, K: Keeper, R: Wait> Worker<'a, N, K, R> {
 
     /// Gets the bytes of a record. `NoMemory`; `SourceFailed` where they aren't in its cell and the
     /// keeper fails.
-    fn bytes_of(&self, alloc: Global, found: &Record) -> Result<Bytes, Refusal>
+    fn bytes_of(&self, alloc: Global, found: &Record<K>) -> Result<Bytes, Refusal>
         ensures shown { IfOk result (IsShown K.may_fail found.now.bytes) }
         ensures refused { IfErr result (λ e.
             (e ≡ NoMemory) ⊎ ((e ≡ SourceFailed) × K.may_fail)) }
     {
         match found.bytes() {
             Some(bytes) => Ok(Bytes::copy_of(alloc, bytes)?),
-            None if K::gives_back() => Ok(Bytes::new(self.kept_record(alloc, found)?)),
-            // all bytes are in their cells then, but no clause says so
-            None => Err(Refusal::NoMemory),
+            None => Ok(Bytes::new(self.kept_record(alloc, found)?)),
         }
     }
 
     /// Gets the bytes of a record that aren't in its cell: from the shared items, or else from the
     /// book's keeper, and then they are shared. `NoMemory`; `SourceFailed` where the keeper fails.
-    fn kept_record(&self, alloc: Global, found: &Record) -> Result<Vec<u8>, Refusal>
-        ensures hashes { IfOk result (λ commit.
-            sha256 commit.items ≡ sha256 found.now.bytes) }
+    fn kept_record(&self, alloc: Global, found: &Record<K>) -> Result<Vec<u8>, Refusal>
+        requires { K.may_fail }
+        ensures shown { IfOk result (λ commit. IsShown K.may_fail found.now.bytes commit.items) }
         ensures refused { IfErr result (λ e. (e ≡ NoMemory) ⊎ (e ≡ SourceFailed)) }
     {
         match self.blocks.get(self.rt, alloc, found.digest()) {

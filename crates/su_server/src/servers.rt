@@ -7,7 +7,7 @@ ghost use Rattle.su_chain.specs.ChainEnd.{HasBadKey};
 ghost use Rattle.su_threads.specs.Runs.{RanSo, IsWorkerCount};
 ghost use Rattle.su_shared.specs.declared.faults.BookFault.TheVariants.{Refused};
 ghost use Rattle.su_shared.specs.Faults.{IsRecordFault};
-ghost use Rattle.su_shared.specs.Shares.{record_bytes};
+ghost use Rattle.su_shared.specs.Shares.{HoldsSteps};
 ghost use Rattle.su_seat_service.specs.Worker.{Answers};
 
 use std::alloc::Global;
@@ -74,7 +74,8 @@ where
     ensures records { IfOk result (λ r. r.closed.records ≡ count_of r.closed.book.journal) }
     ensures calls { IfOk result (λ r. r.closed.calls ≡ length r.closed.book.journal) }
     ensures holds { IfOk result (λ r.
-        ∥ K.holds r.closed.keeper (record_bytes r.closed.book.journal) ∥₁) }
+        HoldsSteps K.holds r.closed.keeper r.closed.book.journal) }
+    ensures end { IfOk result (λ r. ∥ K.is_at_end r.closed.keeper ∥₁) }
     ensures range { OnOk result (IsWorkerCount workers × IsCapacity capacity) }
     ensures refused { IfErr result (λ f.
         ((f ≡ Refused BadNumber) × ¬ (IsWorkerCount workers × IsCapacity capacity))
@@ -99,7 +100,7 @@ fn serve_named<N, K, R, I, L, G>(
     alloc: Global,
     sessions: I,
     workers: usize,
-    cells: Cells,
+    cells: Cells<K>,
     roster: Roster,
     blank: Blank,
     blocks: &SharedBlocks,
@@ -127,7 +128,8 @@ where
     ensures records { IfOk result (λ r. r.closed.records ≡ count_of r.closed.book.journal) }
     ensures calls { IfOk result (λ r. r.closed.calls ≡ length r.closed.book.journal) }
     ensures holds { IfOk result (λ r.
-        ∥ K.holds r.closed.keeper (record_bytes r.closed.book.journal) ∥₁) }
+        HoldsSteps K.holds r.closed.keeper r.closed.book.journal) }
+    ensures end { IfOk result (λ r. ∥ K.is_at_end r.closed.keeper ∥₁) }
     ensures refused { IfErr result (λ f.
         ((f ≡ Refused BadKey) × HasBadKey roster)
         ⊎ (f ≡ Refused LinkFailed) ⊎ (f ≡ Refused NoMemory)
@@ -152,10 +154,10 @@ fn serve_at<N, K, R, I, L, G>(
     workers: usize,
     book: &SharedBook<N, K>,
     blocks: &SharedBlocks,
-    first: Seat<N>,
+    first: Seat<N, K>,
     records: u64,
     gate: &G,
-) -> Result<(Vec<Served>, Vec<Seat<N>>), Refusal>
+) -> Result<(Vec<Served>, Vec<Seat<N, K>>), Refusal>
 where
     N: BookName + Send,
     K: Keeper + Send,
@@ -189,7 +191,7 @@ fn services_of<'a, N: BookName, K: Keeper, R: Wait, G: Gate>(
     workers: usize,
     book: &'a SharedBook<N, K>,
     blocks: &'a SharedBlocks,
-    first: Seat<N>,
+    first: Seat<N, K>,
     gate: &'a G,
 ) -> Result<Services<'a, N, K, R, G>, Refusal>
     requires { 1 ≤ workers }
@@ -220,7 +222,7 @@ fn services_of<'a, N: BookName, K: Keeper, R: Wait, G: Gate>(
 fn seats_of<N: BookName, K: Keeper, R: Wait, G: Gate>(
     alloc: Global,
     services: Services<'_, N, K, R, G>,
-) -> Result<Vec<Seat<N>>, Refusal>
+) -> Result<Vec<Seat<N, K>>, Refusal>
     ensures { IfErr result (λ e. e ≡ NoMemory) }
 {
     let mut seats = Vec::new(alloc);

@@ -86,20 +86,26 @@ impl<K: Keeper, N: Notebook> Tallied<K, N> {
     }
 }
 
-/// It holds what the keeper within holds, and counts it. It is at the end where that is, and it
-/// found no fewer than were noted.
+/// It holds what the keeper within holds, and counts it, and found what that found. It is at the end
+/// where that is, and it found no fewer than were noted.
 impl<K: Keeper, N: Notebook> Keeper for Tallied<K, N> {
     ghost holds = { λ t records. K.holds t.keeper records × (length records ≡ t.kept) };
 
+    ghost found = { λ t rest. K.found t.keeper rest };
+
     ghost is_at_end = { λ t. K.is_at_end t.keeper × (t.noted ≤ t.kept) };
+
+    ghost is_clean = { λ t. K.is_clean t.keeper };
 
     ghost may_fail = { Unit {0} };
 
-    fn keep(&mut self, alloc: Global, commit: &[u8]) -> Result<(), NotKept> {
+    ghost reads_back = { K.reads_back };
+
+    fn keep(&mut self, alloc: Global, commit: &[u8], items: &[Vec<u8>]) -> Result<(), NotKept> {
         let Some(kept) = self.kept.checked_add(1) else {
             return Err(NotKept);
         };
-        self.keeper.keep(alloc, commit)?;
+        self.keeper.keep(alloc, commit, items)?;
         self.kept = kept;
         self.note();
         Ok(())
@@ -132,6 +138,11 @@ impl<K: Keeper, N: Notebook> Keeper for Tallied<K, N> {
 
     fn stop(&mut self) {
         self.keeper.stop();
+        let has_all = self.noted <= self.kept;
         self.kept = self.kept.saturating_sub(1);
+        // that the last record was noted is no loss
+        if has_all {
+            self.noted = self.noted.min(self.kept);
+        }
     }
 }
