@@ -1,5 +1,5 @@
 // The files of an archive, with what makes the next one.
-ghost use Rattle.std.specs.Prelude.{ℕ, List, [], ◌↔◌};
+ghost use Rattle.std.specs.Prelude.{◌≡◌, ℕ, List, [], ◌↔◌};
 ghost use Rattle.su_store_files.specs.Volumes.{WereFound, WereSound, FindsInTurn};
 ghost use Rattle.su_store_files.specs.Archived.{Holds};
 
