@@ -144,7 +144,7 @@ impl<'a, V: Vault, R: Wait> Archive<'a, V, R> {
 
     /// Hands the vault back.
     pub fn into_vault(self) -> V
-        ensures { result ≡ self.vault }
+        ensures { result ≡ self.entry.vault }
     {
         let Archive {
             vault,
