@@ -1,12 +1,12 @@
 -- A link over which more is asked, and a turn.
-use Rattle.std.proofs.Common.{◌≡◌, ◌+◌, ◌<◌, ℕ, suc, length, take, get_or, arith, List, [], ◌∷◌, ◌++◌, inl, inr, sym, ◌∙◌, ap, subst, refl}
+use Rattle.std.proofs.Common.{◌≡◌, ◌+◌, ◌<◌, ℕ, suc, length, Result, Ok, Err, OnOk, take, get_or, arith, List, [], ◌∷◌, ◌++◌, inl, inr, sym, ◌∙◌, ap, subst, refl}
 use Rattle.std.proofs.Math.Seq.{take-suc}
 use Rattle.su_version.specs.Commit.{Commit}
 use Rattle.su_client.specs.Link.{LinkState, Follows}
 use Rattle.su_client.specs.Following.{follows_on}
 use Rattle.su_view.specs.Holding.{HoldingState}
 use Rattle.su_client_work.specs.Member.{MemberState, OnlyTakes, Stays}
-use Rattle.su_client_work.specs.Turn.{Comes, IsShown, AreShown, TakesTurn}
+use Rattle.su_client_work.specs.Turn.{Comes, HasMore, IsCaughtUp, SaysNothing, IsShown, AreShown, TakesTurn}
 use Rattle.su_client_work.proofs.Taking.{takes_then}
 
 -- ---- what stays, and what is only taken
@@ -20,6 +20,45 @@ only_then s t u p q = record {
   signed = q.signed ∙ p.signed;
   next = q.next ∙ p.next;
 }
+
+-- ---- what is caught up
+
+-- more was asked behind it
+nothing_on : (a b c : LinkState) → SaysNothing a b → Follows b c → SaysNothing a c
+nothing_on a b c p q = record {
+  number = p.number;
+  before = p.before;
+  follows = p.follows;
+  behind = p.behind;
+  asked = p.asked;
+  then_follows = follows_on p.behind b c p.then_follows q;
+}
+
+-- more was asked before it
+nothing_after : (a b c : LinkState) → Follows a b → SaysNothing b c → SaysNothing a c
+nothing_after a b c p q = record {
+  number = q.number;
+  before = q.before;
+  follows = follows_on a b q.before p q.follows;
+  behind = q.behind;
+  asked = q.asked;
+  then_follows = q.then_follows;
+}
+
+pub caught_on : (count : ℕ) (v : HoldingState) (a b c : LinkState) → IsCaughtUp count v a b → Follows b c → IsCaughtUp count v a c
+caught_on count v a b c (inl all) q = inl all
+caught_on count v a b c (inr nothing) q = inr (nothing_on a b c nothing q)
+
+pub caught_after : {R E : Type 0} (r : Result R E) (count : ℕ) (v : HoldingState) (a b c : LinkState) → Follows a b → OnOk r (IsCaughtUp count v b c) → OnOk r (IsCaughtUp count v a c)
+caught_after (Ok x) count v a b c p (inl all) = inl all
+caught_after (Ok x) count v a b c p (inr nothing) = inr (nothing_after a b c p nothing)
+caught_after (Err e) count v a b c p q = tt
+
+-- so many were held, and then one more
+pub caught_one : (n : ℕ) (v w : HoldingState) (a b c : LinkState) → Follows a b → Follows b c → IsCaughtUp n v a b → HasMore v b w c → IsCaughtUp (n + 1) w a c
+caught_one n v w a b c p q (inl all) (inl more) = inl (omega (arith, all, more))
+caught_one n v w a b c p q (inl all) (inr nothing) = inr (nothing_after a b c p nothing)
+caught_one n v w a b c p q (inr nothing) more = inr (nothing_on a b c nothing q)
 
 -- ---- a link
 
@@ -36,8 +75,8 @@ module _ (MayConnect : LinkState → Type 0) where
     then_follows = follows_on p.start b c p.then_follows q;
   })
 
-  pub turn_on : (v : HoldingState) (a b c : LinkState) → TakesTurn MayConnect v a b → Follows b c → TakesTurn MayConnect v a c
-  turn_on v a b c p q = record {
+  pub turn_on : (v : HoldingState) (a : LinkState) (w : HoldingState) (b c : LinkState) → TakesTurn MayConnect v a w b → Follows b c → TakesTurn MayConnect v a w c
+  turn_on v a w b c p q = record {
     count = p.count;
     last = p.last;
     turn = p.turn;
@@ -49,6 +88,7 @@ module _ (MayConnect : LinkState → Type 0) where
       passes = p.passes.passes;
       follows = follows_on p.passes.checked b c p.passes.follows q;
     };
+    caught_up = caught_on p.count w p.turn b c p.caught_up q;
   }
 
 -- ---- what is shown

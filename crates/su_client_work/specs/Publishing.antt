@@ -1,5 +1,5 @@
 -- What a client commits.
-use Rattle.std.specs.Prelude.{◌≡◌, ◌⊎◌, ◌+◌, ◌++◌, ℕ, [], ◌∷◌, length}
+use Rattle.std.specs.Prelude.{◌≡◌, ◌⊎◌, ◌+◌, ◌++◌, ℕ, [], ◌∷◌, length, Result, OnErr}
 use Rattle.sha2.specs.Sha256.{sha256}
 use Rattle.su_message.specs.declared.requests.Request.TheVariants as request
 use Rattle.su_message.specs.declared.replies.Reply.TheVariants.{PutDone, Stored}
@@ -13,6 +13,7 @@ use Rattle.su_legal.specs.Legal.{Committed, history}
 use Rattle.su_view.specs.Acting.{TakesSome}
 use Rattle.su_view.specs.Holding.{HoldingState, Took}
 use Rattle.su_view.specs.Making.{IsMade}
+use Rattle.su_view.specs.declared.refusals.ViewRefusal.{ViewRefusal}
 use Rattle.su_client_work.specs.Member.{MemberState, OnlyTakes}
 use Rattle.su_client_work.specs.Turn.{TakesTurn}
 
@@ -42,11 +43,14 @@ always change v = change
 abbrev pub last_undo : HoldingState → Change
 last_undo v = Undo (last_live (history v.held))
 
--- Some commits were taken, and then no more than one commit of the change was signed.
-pub record CommitsAtMost (change_of : HoldingState → Change) (s t : MemberState) : Type 0 where
+-- Some commits were taken, and then no more than one commit of the change was signed. Where it is
+-- refused, it isn't taken.
+pub record CommitsAtMost (change_of : HoldingState → Change) (s : MemberState)
+    (answer : Result ℕ ViewRefusal) (t : MemberState) : Type 0 where
   pub held : HoldingState
   pub takes : TakesSome s.holding held
   pub signs : SignsAtMost held (change_of held) s t
+  pub refused : OnErr answer (t.holding ≡ held)
 
 -- ---- what the server stores
 
@@ -83,6 +87,6 @@ pub record IsPublished (change : Change) (s t : MemberState) (n : ℕ) : Type 0 
 pub record Publishes (MayConnect : LinkState → Type 0) (change_of : HoldingState → Change)
     (s t : MemberState) (n : ℕ) : Type 0 where
   pub turn : MemberState
-  pub takes_turn : TakesTurn MayConnect s.holding s.link turn.link
+  pub takes_turn : TakesTurn MayConnect s.holding s.link turn.holding turn.link
   pub takes : OnlyTakes s turn
   pub published : IsPublished (change_of turn.holding) turn t n

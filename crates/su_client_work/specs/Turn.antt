@@ -1,10 +1,10 @@
 -- How a client takes its turn at a server, and what it is shown before it looks at the tree. (The
 -- protocol is this project's own; what is checked is SUNDR's, section 3.3.)
-use Rattle.std.specs.Prelude.{◌≡◌, ◌⊎◌, ◌++◌, ℕ, true, List, [], ◌∷◌, Option, option_map, option_to_list}
+use Rattle.std.specs.Prelude.{◌≡◌, ◌≤◌, ◌⊎◌, ◌+◌, ◌++◌, ℕ, true, List, length, [], ◌∷◌, Option, option_map, option_to_list}
 use Rattle.su_bytes.specs.Order.{Passes}
 use Rattle.su_message.specs.declared.requests.Request.TheVariants.{Grant, Give, Fetch}
 use Rattle.su_message.specs.declared.replies.Reply.{Reply}
-use Rattle.su_message.specs.declared.replies.Reply.TheVariants.{Granted, Given}
+use Rattle.su_message.specs.declared.replies.Reply.TheVariants.{Granted, Given, Nothing}
 use Rattle.su_client.specs.Link.{LinkState, IsFresh, Exchanged, Follows, kept_or_nothing}
 use Rattle.su_version.specs.Commit.{Commit, commit_bytes}
 use Rattle.su_view.specs.Holding.{HoldingState}
@@ -66,19 +66,38 @@ pub record PassesShown (v : HoldingState) (last : List (ℕ × ℕ)) (a b : Link
   pub passes : Passes (shown_order v.roster v.user (own_last v) shown)
   pub follows : Follows checked b
 
--- A client that holds v takes its turn: it is granted, and what the server shows as the users' last
--- commits passes.
-pub record TakesTurn (MayConnect : LinkState → Type 0) (v : HoldingState) (a b : LinkState)
-    : Type 0 where
+-- Between these calls over the link the server was asked for a commit, and said that it has nothing
+-- of that number.
+pub record SaysNothing (a b : LinkState) : Type 0 where
+  pub number : ℕ
+  pub before : LinkState
+  pub follows : Follows a before
+  pub behind : LinkState
+  pub asked : Exchanged (Fetch number) before behind Nothing
+  pub then_follows : Follows behind b
+
+-- so many commits are held at least, or the server said of one that it has nothing
+abbrev pub IsCaughtUp : ℕ → HoldingState → LinkState → LinkState → Type 0
+IsCaughtUp count v a b = (count ≤ length v.held) ⊎ SaysNothing a b
+
+-- one commit more is held, or the server said that it has nothing
+abbrev pub HasMore : HoldingState → LinkState → HoldingState → LinkState → Type 0
+HasMore v a w b = IsCaughtUp (length v.held + 1) w a b
+
+-- A client that holds v takes its turn: it is granted, what the server shows as the users' last
+-- commits passes, and then the client holds w, which has all commits of which the server told.
+pub record TakesTurn (MayConnect : LinkState → Type 0) (v : HoldingState) (a : LinkState)
+    (w : HoldingState) (b : LinkState) : Type 0 where
   pub count : ℕ
   pub last : List (ℕ × ℕ)
   pub turn : LinkState
   pub granted : IsGranted MayConnect a turn count last
   pub passes : PassesShown v last turn b
+  pub caught_up : IsCaughtUp count w turn b
 
 -- and then it gives the turn back
-pub record Looks (MayConnect : LinkState → Type 0) (v : HoldingState) (a b : LinkState) : Type 0
-  where
-    pub between : LinkState
-    pub takes_turn : TakesTurn MayConnect v a between
-    pub gives : Exchanged Give between b Given
+pub record Looks (MayConnect : LinkState → Type 0) (v : HoldingState) (a : LinkState)
+    (w : HoldingState) (b : LinkState) : Type 0 where
+  pub between : LinkState
+  pub takes_turn : TakesTurn MayConnect v a w between
+  pub gives : Exchanged Give between b Given

@@ -37,8 +37,8 @@ impl<R: Read + Drop, W: Write + Drop, K: KeyStore + Drop> Member<R, W, K> {
     ) -> Result<Vec<Op>, ViewRefusal>
         ensures takes { OnlyTakes self.old self.new }
         ensures link { Comes A.may_connect self.old.link self.new.link }
-        ensures turn { OnOk result
-            (TakesTurn A.may_connect self.old.holding self.old.link self.new.link) }
+        ensures turn { OnOk result (TakesTurn A.may_connect self.old.holding self.old.link
+            self.new.holding self.new.link) }
         ensures planned { let v = self.new.holding in IfOk result (λ operations.
             plan v.roster (tree_of_list v) v.user command.now ≡ Ok operations.items) }
     {
@@ -66,7 +66,7 @@ impl<R: Read + Drop, W: Write + Drop, K: KeyStore + Drop> Member<R, W, K> {
         change: Change,
     ) -> Result<u64, ViewRefusal>
         ensures works { Works self.old self.new }
-        ensures signs { CommitsAtMost (always change) self.old self.new }
+        ensures signs { CommitsAtMost (always change) self.old result self.new }
         ensures link { Comes A.may_connect self.old.link self.new.link }
         ensures published { IfOk result
             (Publishes A.may_connect (always change) self.old self.new) }
@@ -80,7 +80,7 @@ impl<R: Read + Drop, W: Write + Drop, K: KeyStore + Drop> Member<R, W, K> {
     /// `NoOperation` 0.
     pub fn undo_last<A: Surroundings<R, W>>(&mut self, around: &mut A) -> Result<u64, ViewRefusal>
         ensures works { Works self.old self.new }
-        ensures signs { CommitsAtMost last_undo self.old self.new }
+        ensures signs { CommitsAtMost last_undo self.old result self.new }
         ensures link { Comes A.may_connect self.old.link self.new.link }
         ensures published { IfOk result
             (Publishes A.may_connect last_undo self.old self.new) }

@@ -7,7 +7,7 @@ ghost use Rattle.su_client.specs.Link.{IsFresh, Exchanged, Follows};
 ghost use Rattle.su_version.specs.Chain.{IsSignedByAuthor};
 ghost use Rattle.su_view.specs.LastCommits.{AreSigned};
 ghost use Rattle.su_client_work.specs.Member.{OnlyTakes, Stays};
-ghost use Rattle.su_client_work.specs.Turn.{AreShown, Comes, IsGranted, IsGrantedOver, IsShown, Looks, PassesShown, TakesTurn, commit_or_nothing};
+ghost use Rattle.su_client_work.specs.Turn.{AreShown, Comes, HasMore, IsCaughtUp, IsGranted, IsGrantedOver, IsShown, Looks, PassesShown, TakesTurn, commit_or_nothing};
 
 use crate::shown::Shown;
 use crate::surroundings::Surroundings;
@@ -99,8 +99,8 @@ impl<R: Read + Drop, W: Write + Drop, K: KeyStore + Drop> Member<R, W, K> {
     pub fn begin<A: Surroundings<R, W>>(&mut self, around: &mut A) -> Result<(), ViewRefusal>
         ensures takes { OnlyTakes self.old self.new }
         ensures link { Comes A.may_connect self.old.link self.new.link }
-        ensures turn { OnOk result
-            (TakesTurn A.may_connect self.old.holding self.old.link self.new.link) }
+        ensures turn { OnOk result (TakesTurn A.may_connect self.old.holding self.old.link
+            self.new.holding self.new.link) }
     {
         let (count, last) = match self.take_turn(around) {
             Ok(granted) => granted,
@@ -120,8 +120,8 @@ impl<R: Read + Drop, W: Write + Drop, K: KeyStore + Drop> Member<R, W, K> {
     pub fn look<A: Surroundings<R, W>>(&mut self, around: &mut A) -> Result<(), ViewRefusal>
         ensures takes { OnlyTakes self.old self.new }
         ensures link { Comes A.may_connect self.old.link self.new.link }
-        ensures looks { OnOk result
-            (Looks A.may_connect self.old.holding self.old.link self.new.link) }
+        ensures looks { OnOk result (Looks A.may_connect self.old.holding self.old.link
+            self.new.holding self.new.link) }
     {
         self.begin(around)?;
         match self.give() {
@@ -225,6 +225,8 @@ impl<R: Read + Drop, W: Write + Drop, K: KeyStore + Drop> Member<R, W, K> {
         ensures follows { Follows self.old.link self.new.link }
         ensures passes { OnOk result
             (PassesShown self.old.holding last.now self.old.link self.new.link) }
+        ensures caught_up { OnOk result
+            (IsCaughtUp count self.new.holding self.old.link self.new.link) }
     {
         let shown = self.last_commits(last)?;
         self.view.check_list(shown.commits())?;
@@ -280,6 +282,8 @@ impl<R: Read + Drop, W: Write + Drop, K: KeyStore + Drop> Member<R, W, K> {
         requires signed { AreSigned self.old.holding.roster shown.now.commits.items }
         ensures takes { OnlyTakes self.old self.new }
         ensures follows { Follows self.old.link self.new.link }
+        ensures caught_up { OnOk result
+            (IsCaughtUp count self.new.holding self.old.link self.new.link) }
     {
         let (held, _) = self.view.head();
         for before in held..count {
@@ -293,6 +297,8 @@ impl<R: Read + Drop, W: Write + Drop, K: KeyStore + Drop> Member<R, W, K> {
         requires signed { AreSigned self.old.holding.roster shown.now.commits.items }
         ensures takes { OnlyTakes self.old self.new }
         ensures follows { Follows self.old.link self.new.link }
+        ensures more { OnOk result
+            (HasMore self.old.holding self.old.link self.new.holding self.new.link) }
     {
         match shown.of(number) {
             Some(commit) => self.take_signed(commit),
@@ -305,6 +311,8 @@ impl<R: Read + Drop, W: Write + Drop, K: KeyStore + Drop> Member<R, W, K> {
         requires signed { IsSignedByAuthor self.old.holding.roster commit.now }
         ensures takes { OnlyTakes self.old self.new }
         ensures follows { Follows self.old.link self.new.link }
+        ensures more { OnOk result
+            (HasMore self.old.holding self.old.link self.new.holding self.new.link) }
     {
         // its clause tells the prover that it is a commit (docs/ARCHITECTURE.md, "Forms the kit
         // wants")
@@ -322,6 +330,8 @@ impl<R: Read + Drop, W: Write + Drop, K: KeyStore + Drop> Member<R, W, K> {
     fn take_fetched(&mut self, number: u64) -> Result<(), ViewRefusal>
         ensures takes { OnlyTakes self.old self.new }
         ensures follows { Follows self.old.link self.new.link }
+        ensures more { OnOk result
+            (HasMore self.old.holding self.old.link self.new.holding self.new.link) }
     {
         match self.view.source_mut().source_mut().fetch(number) {
             Ok(Some(bytes)) => self.view.accept_bytes(bytes.as_slice()),
