@@ -3,11 +3,12 @@ use Rattle.std.proofs.Common.{◌≡◌, ◌⊎◌, ℕ, ◌+◌, ◌<◌, ◌�
 use Rattle.std.proofs.lemmas.Option.{none-some, slice_get_within, slice_get_cases, get_or_from_slice_get, slice_get-get_or}
 use Rattle.std.proofs.lemmas.List.{length_push, get_or_push, get_or_append_left}
 use Rattle.su_client.specs.Link.{LinkState}
+use Rattle.su_keeper.specs.Kept.{KeptRecord}
 use Rattle.su_shared.specs.Seats.{SeatView, known_at}
-use Rattle.su_backup.specs.Copied.{Gives, GivesAll, Keeps, StoresOne, StoresAll, CopiesOne, CopiesSome, CopiesSomeAndKeeps}
+use Rattle.su_backup.specs.Copied.{Gives, GivesAll, Keeps, numbered, StoresOne, StoresAll, CopiesOne, CopiesSome, CopiesSomeAndKeeps}
 
-pushed_by : (xs : List (List ℕ)) (y x : List ℕ) (k : ℕ) → slice_get (xs ++ y ∷ []) k ≡ Some x
-    → ((w : List ℕ) × (k < length xs) × (slice_get xs k ≡ Some w) × (get_or xs k w ≡ w))
+pushed_by : {X : Type 0} (xs : List X) (y x : X) (k : ℕ) → slice_get (xs ++ y ∷ []) k ≡ Some x
+    → ((w : X) × (k < length xs) × (slice_get xs k ≡ Some w) × (get_or xs k w ≡ w))
     ⊎ ((length xs ≤ k) × (slice_get xs k ≡ None))
     → (slice_get xs k ≡ Some x) ⊎ ((k ≡ length xs) × (x ≡ y))
 pushed_by xs y x k was (inl (w, within, is, same)) =
@@ -23,11 +24,11 @@ pushed_by xs y x k was (inr (past, none)) =
     inr (place, sym here ∙ get_or_push xs y x k (sym place))
 
 -- an element of a list with one more at its end is one of those before, or that one
-pushed : (xs : List (List ℕ)) (y x : List ℕ) (k : ℕ) → slice_get (xs ++ y ∷ []) k ≡ Some x
+pushed : {X : Type 0} (xs : List X) (y x : X) (k : ℕ) → slice_get (xs ++ y ∷ []) k ≡ Some x
     → (slice_get xs k ≡ Some x) ⊎ ((k ≡ length xs) × (x ≡ y))
 pushed xs y x k was = pushed_by xs y x k was (slice_get_cases xs k).1
 
-gives_more : (number : ℕ) (records : List (List ℕ)) (n : ℕ) (bytes : List ℕ) (a b c : LinkState)
+gives_more : (number : ℕ) (records : List KeptRecord) (n : ℕ) (bytes : KeptRecord) (a b c : LinkState)
     → GivesAll number records a b → n ≡ number + length records → Gives n bytes b c
     → GivesAll number (records ++ bytes ∷ []) a c
 gives_more number [] n bytes a b c same place gives =
@@ -37,18 +38,18 @@ gives_more number (first ∷ more) n bytes a b c (m, one, rest) place gives =
     let next : n ≡ number + 1 + length more = omega arith in
     (m, one, gives_more (number + 1) more n bytes m b c rest next gives)
 
-knows_by : (number : ℕ) (records : List (List ℕ)) (n : ℕ) (bytes : List ℕ) (s t u : SeatView)
+knows_by : (number : ℕ) (records : List KeptRecord) (n : ℕ) (bytes : KeptRecord) (s t u : SeatView)
     → StoresAll number records s t → n ≡ number + length records → StoresOne n bytes t u
-    → (k : ℕ) (x : List ℕ) → (slice_get records k ≡ Some x) ⊎ ((k ≡ length records) × (x ≡ bytes))
-    → known_at u.known (number + k) ≡ Some (record { number = number + k; bytes = x })
+    → (k : ℕ) (x : KeptRecord) → (slice_get records k ≡ Some x) ⊎ ((k ≡ length records) × (x ≡ bytes))
+    → known_at u.known (number + k) ≡ Some (numbered (number + k) x)
 knows_by number records n bytes s t u all place one k x (inl was) =
-    one.learns.keeps (number + k) (record { number = number + k; bytes = x }) (all.knows k x was)
+    one.learns.keeps (number + k) (numbered (number + k) x) (all.knows k x was)
 knows_by number records n bytes s t u all place one k x (inr (last, same)) =
     let here : n ≡ number + k = omega arith in
-    subst (λ m. known_at u.known m ≡ Some (record { number = m; bytes = x })) here
-    (subst (λ w. known_at u.known n ≡ Some (record { number = n; bytes = w })) (sym same) one.learns.knows)
+    subst (λ m. known_at u.known m ≡ Some (numbered m x)) here
+    (subst (λ w. known_at u.known n ≡ Some (numbered n w)) (sym same) one.learns.knows)
 
-stores_more : (number : ℕ) (records : List (List ℕ)) (n : ℕ) (bytes : List ℕ) (s t u : SeatView)
+stores_more : (number : ℕ) (records : List KeptRecord) (n : ℕ) (bytes : KeptRecord) (s t u : SeatView)
     → StoresAll number records s t → n ≡ number + length records → StoresOne n bytes t u
     → StoresAll number (records ++ bytes ∷ []) s u
 stores_more number records n bytes s t u all place one =

@@ -1,8 +1,8 @@
 // Copying the records of a server.
-ghost use Rattle.std.specs.Prelude.{◌≡◌, true, false, IsTrue, IfOk, OnOk, OnErr};
-ghost use Rattle.su_client.specs.Link.{Exchanged, kept_or_nothing};
+ghost use Rattle.std.specs.Prelude.{◌≡◌, [], ◌∷◌, true, false, All, IsTrue, IfOk, OnOk, OnErr};
+ghost use Rattle.su_client.specs.Link.{Exchanged, MayGive, kept_or_nothing};
 ghost use Rattle.su_message.specs.declared.requests.Request.TheVariants as request;
-ghost use Rattle.su_shared.specs.Entry.{IsShown};
+ghost use Rattle.su_shared.specs.Entry.{IsShown, contents};
 ghost use Rattle.su_backup.specs.Copied.{OnlyItems, Keeps, StoresOne, CopiesOne, CopiesAll, CopiesSomeAndKeeps, IsLastOf, EndsAt};
 
 use crate::faults::BackupFault;
@@ -25,7 +25,7 @@ use su_version::Commit;
 pub struct Copier<'a, N: BookName, K: Keeper, T: Wait> {
     book: &'a SharedBook<N, K>,
     blocks: &'a SharedBlocks,
-    seat: Seat<N>,
+    seat: Seat<N, K>,
     rt: &'a T,
     alloc: Global,
 }
@@ -45,7 +45,7 @@ impl<'a, N: BookName, K: Keeper, T: Wait> Copier<'a, N, K, T> {
         alloc: Global,
         book: &'a SharedBook<N, K>,
         blocks: &'a SharedBlocks,
-        seat: Seat<N>,
+        seat: Seat<N, K>,
     ) -> Copier<'a, N, K, T>
         ensures { result ≡ seat }
     {
@@ -59,7 +59,7 @@ impl<'a, N: BookName, K: Keeper, T: Wait> Copier<'a, N, K, T> {
     }
 
     /// Hands the seat back, with which the book is closed.
-    pub fn into_seat(self) -> Seat<N>
+    pub fn into_seat(self) -> Seat<N, K>
         ensures { result ≡ self.entry }
     {
         self.seat
@@ -128,18 +128,20 @@ impl<'a, N: BookName, K: Keeper, T: Wait> Copier<'a, N, K, T> {
         let Some(bytes) = fetch(client, number)? else {
             return Ok(false);
         };
-        self.share_item(client, number, bytes.as_slice())?;
-        self.store(number, bytes.as_slice())?;
+        let items = self.share_item(client, number, bytes.as_slice())?;
+        self.store(number, bytes.as_slice(), &items)?;
         Ok(true)
     }
 
-    /// Shares the item of a record's change, unless the server has none.
+    /// Gets the item of a record's change, and shares it; nothing where the server has none.
     fn share_item<R: Read + Drop, W: Write + Drop>(
         &mut self,
         client: &mut Checked<Client<R, W>>,
         number: u64,
         bytes: &[u8],
-    ) -> Result<(), BackupFault>
+    ) -> Result<Vec<Vec<u8>>, BackupFault>
+        ensures given { IfOk result (λ items.
+            All (MayGive client.old.source.link) (contents items.items)) }
         ensures items { OnlyItems client.old.source.link client.new.source.link }
         ensures seat { self.new ≡ self.old }
     {
@@ -149,25 +151,31 @@ impl<'a, N: BookName, K: Keeper, T: Wait> Copier<'a, N, K, T> {
         };
         let item = match client.get(self.alloc, digest) {
             Ok(item) => item,
-            Err(Refusal::MissingBlock) => return Ok(()),
+            Err(Refusal::MissingBlock) => return Ok(Vec::new(self.alloc)),
             Err(refusal) => return Err(BackupFault::asking(number, refusal)),
         };
         match self.blocks.put(self.rt, self.alloc, item.as_slice()) {
+            Ok(_) => alone(self.alloc, item),
             // no client can have put what is no item
-            Ok(_) | Err(Refusal::TooBig) => Ok(()),
+            Err(Refusal::TooBig) => Ok(Vec::new(self.alloc)),
             Err(_) => Err(BackupFault::NoMemory),
         }
     }
 
-    /// Stores a record under this number. After a fault the seat may have the turn.
-    fn store(&mut self, number: u64, bytes: &[u8]) -> Result<(), BackupFault>
-        ensures stored { OnOk result (StoresOne number bytes.now self.old self.new) }
+    /// Stores a record under this number, with these items. After a fault the seat may have the
+    /// turn.
+    fn store(&mut self, number: u64, bytes: &[u8], items: &Vec<Vec<u8>>) -> Result<(), BackupFault>
+        ensures stored { OnOk result (StoresOne number
+            (record { commit = bytes.now; items = contents items.now.items }) self.old self.new) }
         ensures kept { OnErr result (Keeps self.old self.new) }
     {
         if let Err(refusal) = self.book.grant(self.rt, self.alloc, &mut self.seat) {
             return Err(BackupFault::taking(number, refusal));
         }
-        match self.book.commit(self.rt, self.alloc, &mut self.seat, bytes) {
+        match self
+            .book
+            .commit(self.rt, self.alloc, &mut self.seat, bytes, items)
+        {
             Ok((stored, _)) if stored == number => Ok(()),
             Ok(_) => Err(BackupFault::NotKept { number }),
             Err(refusal) => Err(BackupFault::taking(number, refusal)),
@@ -175,13 +183,23 @@ impl<'a, N: BookName, K: Keeper, T: Wait> Copier<'a, N, K, T> {
     }
 }
 
+/// Makes a list of this item alone.
+fn alone(alloc: Global, item: Vec<u8>) -> Result<Vec<Vec<u8>>, BackupFault>
+    ensures { IfOk result (λ items. contents items.items ≡ item.items ∷ []) }
+{
+    match Vec::from_array(alloc, [item]) {
+        Ok(items) => Ok(items),
+        Err(_) => Err(BackupFault::NoMemory),
+    }
+}
+
 /// Whether these bytes are those of a record; where they aren't in its cell, they have its SHA-256.
-fn is_shown<K: Keeper>(held: &Record, shown: &[u8]) -> bool
+fn is_shown<K: Keeper>(held: &Record<K>, shown: &[u8]) -> bool
     ensures { IsTrue result → IsShown K.may_fail held.now.bytes shown.now }
 {
     match held.bytes() {
         Some(bytes) => bytes == shown,
-        None => K::gives_back() && digest_of(shown) == held.digest(),
+        None => digest_of(shown) == held.digest(),
     }
 }
 

@@ -54,11 +54,11 @@ where
     requires holds { K.holds keeper [] }
     ensures run { IfOk result (λ c. IsRun c.closed.book) }
     ensures records { IfOk result (λ c. c.closed.records ≡ count_of c.closed.book.journal) }
-    ensures holds { IfOk result (λ c.
-        HoldsSteps K.holds c.closed.keeper c.closed.book.journal) }
     ensures end { IfOk result (λ c. ∥ K.is_at_end c.closed.keeper ∥₁) }
-    ensures copied { IfOk result (λ c. IfOk c.new (λ n. IsCopied K.may_fail n client.old.source.link
-        client.new.source.link c.closed.book.journal)) }
+    ensures copied { IfOk result (λ c.
+        (held : HoldsSteps K.holds c.closed.keeper c.closed.book.journal)
+        × IfOk c.new (λ n. IsCopied K.may_fail n client.old.source.link client.new.source.link
+        held.records)) }
     ensures refused { IfErr result (λ f.
         ((f ≡ Refused BadKey) × HasBadKey roster) ⊎ (f ≡ Refused NoMemory)
         ⊎ ((n : ℕ) × (0 < n) × IsRecordFault K.may_fail 0 n f)) }
@@ -91,11 +91,11 @@ where
     requires holds { K.holds keeper [] }
     ensures run { IfOk result (λ c. IsRun c.closed.book) }
     ensures records { IfOk result (λ c. c.closed.records ≡ count_of c.closed.book.journal) }
-    ensures holds { IfOk result (λ c.
-        HoldsSteps K.holds c.closed.keeper c.closed.book.journal) }
     ensures end { IfOk result (λ c. ∥ K.is_at_end c.closed.keeper ∥₁) }
-    ensures copied { IfOk result (λ c. IfOk c.new (λ n. IsCopied K.may_fail n client.old.source.link
-        client.new.source.link c.closed.book.journal)) }
+    ensures copied { IfOk result (λ c.
+        (held : HoldsSteps K.holds c.closed.keeper c.closed.book.journal)
+        × IfOk c.new (λ n. IsCopied K.may_fail n client.old.source.link client.new.source.link
+        held.records)) }
     ensures refused { IfErr result (λ f.
         ((f ≡ Refused BadKey) × HasBadKey roster) ⊎ (f ≡ Refused NoMemory)
         ⊎ ((n : ℕ) × (0 < n) × IsRecordFault K.may_fail 0 n f)) }

@@ -1,5 +1,6 @@
 // The keeper of a server with a store.
-ghost use Rattle.std.specs.Prelude.{◌≡◌, true, List, ℕ};
+ghost use Rattle.std.specs.Prelude.{List, ℕ};
+ghost use Rattle.su_keeper.specs.Kept.{KeptRecord};
 
 use crate::ends::Ends;
 use crate::faults::tell_fault;
@@ -65,7 +66,7 @@ impl<K: Keeper + HasFiles, N: Notebook> HasFiles for Tallied<K, N> {
 }
 
 /// A keeper whose first failure is told on standard error, and stops the server. It holds what the
-/// keeper within holds.
+/// keeper within holds, and found what that found.
 #[derive(Drop)]
 pub(crate) struct Guard<'a, 'f, 'n, K> {
     keeper: K,
@@ -76,8 +77,10 @@ pub(crate) struct Guard<'a, 'f, 'n, K> {
 impl<'a, 'f, 'n, K: Keeper> Guard<'a, 'f, 'n, K> {
     /// Guards the keeper over the files of a folder.
     pub fn new(keeper: K, folder: Folder<'f, 'n>, ends: &'a Ends) -> Guard<'a, 'f, 'n, K>
-        ensures { (records : List (List ℕ)) → K.holds keeper records
+        ensures holds { (records : List KeptRecord) → K.holds keeper records
             → K.holds result.keeper records }
+        ensures found { (rest : List (List ℕ)) → K.found keeper rest
+            → K.found result.keeper rest }
     {
         Guard {
             keeper,
@@ -209,12 +212,18 @@ impl<'a, 'f, 'n, K: HasFiles + Drop> Closing for Guard<'a, 'f, 'n, K> {
 impl<'a, 'f, 'n, K: Keeper + HasFiles> Keeper for Guard<'a, 'f, 'n, K> {
     ghost holds = { λ g. K.holds g.keeper };
 
+    ghost found = { λ g. K.found g.keeper };
+
     ghost is_at_end = { λ g. K.is_at_end g.keeper };
+
+    ghost is_clean = { λ g. K.is_clean g.keeper };
 
     ghost may_fail = { K.may_fail };
 
-    fn keep(&mut self, alloc: Global, commit: &[u8]) -> Result<(), NotKept> {
-        let kept = self.keeper.keep(alloc, commit);
+    ghost reads_back = { K.reads_back };
+
+    fn keep(&mut self, alloc: Global, commit: &[u8], items: &[Vec<u8>]) -> Result<(), NotKept> {
+        let kept = self.keeper.keep(alloc, commit, items);
         if kept.is_err() {
             self.alarm();
         }
@@ -229,9 +238,7 @@ impl<'a, 'f, 'n, K: Keeper + HasFiles> Keeper for Guard<'a, 'f, 'n, K> {
         found
     }
 
-    fn gives_back() -> bool
-        ensures { result ≡ true → K.may_fail }
-    {
+    fn gives_back() -> bool {
         K::gives_back()
     }
 

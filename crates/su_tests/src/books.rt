@@ -5,6 +5,7 @@ use std::process::Abort;
 use std::test::Fail;
 use su_book::{Book, BookReply, Event};
 use su_bytes::{KEY_LENGTH, Refusal, Roster, User};
+use su_keeper::Forgetful;
 use su_shared::Cells;
 
 /// Two commits of user 1, and the second signed by the leaf of the first.
@@ -75,7 +76,10 @@ fn a_book_has_room_and_keys(rt: HostRuntime) -> Result<(), Fail> {
         Book::new(alloc, 1, no_keys(alloc)?).err(),
         Some(Refusal::BadKey)
     );
-    assert_eq!(rt; Cells::new(alloc, 0).err(), Some(Refusal::BadNumber));
+    assert_eq!(rt;
+        Cells::<Forgetful>::new(alloc, 0).err(),
+        Some(Refusal::BadNumber)
+    );
     Ok(())
 }
 

@@ -21,15 +21,21 @@ struct GivesOneBack {
 }
 
 impl Keeper for GivesOneBack {
-    ghost use Rattle.std.specs.Prelude.{⊤};
+    ghost use Rattle.std.specs.Prelude.{◌≡◌, ⊤, [], true};
 
     ghost holds = { λ _ _. Unit {0} };
 
+    ghost found = { λ _ rest. rest ≡ [] };
+
     ghost is_at_end = { λ _. Unit {0} };
+
+    ghost is_clean = { λ _. Unit {0} };
 
     ghost may_fail = { ⊤ };
 
-    fn keep(&mut self, alloc: Global, commit: &[u8]) -> Result<(), NotKept> {
+    ghost reads_back = { true };
+
+    fn keep(&mut self, alloc: Global, commit: &[u8], _items: &[Vec<u8>]) -> Result<(), NotKept> {
         let Ok(copy) = Vec::from_slice(alloc, commit) else {
             return Err(NotKept);
         };
@@ -80,7 +86,7 @@ fn a_record_is_read_back(rt: HostRuntime) -> Result<(), Fail> {
 fn read_back<N: BookName, R: Wait + Abort>(
     rt: &R,
     alloc: Global,
-    cells: Cells,
+    cells: Cells<GivesOneBack>,
     roster: Roster,
     commit: &[u8],
     blank: Blank,
@@ -92,7 +98,7 @@ fn read_back<N: BookName, R: Wait + Abort>(
     let book: SharedBook<N, GivesOneBack> = SharedBook::new(alloc, cells, roster, blank, keeper)?;
     let mut seat = book.seat(rt, alloc)?;
     let (_reply, _receipt) = book.grant(rt, alloc, &mut seat)?;
-    let (number, _receipt) = book.commit(rt, alloc, &mut seat, commit)?;
+    let (number, _receipt) = book.commit(rt, alloc, &mut seat, commit, &Vec::new(alloc))?;
     let Some(found) = book.published(&mut seat, number) else {
         return Err(Fail::new("not published"));
     };

@@ -19,7 +19,7 @@ fn granted<N: BookName>(
     rt: &impl Wait,
     alloc: Global,
     book: &SharedBook<N, Forgetful>,
-    seat: &mut Seat<N>,
+    seat: &mut Seat<N, Forgetful>,
 ) -> Result<Option<(u64, Option<u64>)>, Refusal> {
     let (reply, receipt) = book.grant(rt, alloc, seat)?;
     let number = match &receipt {
@@ -37,10 +37,10 @@ fn stored<N: BookName>(
     rt: &impl Wait,
     alloc: Global,
     book: &SharedBook<N, Forgetful>,
-    seat: &mut Seat<N>,
+    seat: &mut Seat<N, Forgetful>,
     bytes: &[u8],
 ) -> Result<(u64, u64), Refusal> {
-    let (number, receipt) = book.commit(rt, alloc, seat, bytes)?;
+    let (number, receipt) = book.commit(rt, alloc, seat, bytes, &Vec::new(alloc))?;
     Ok((number, receipt.number()))
 }
 
@@ -56,7 +56,7 @@ fn a_shared_book_of_one_commit(rt: HostRuntime) -> Result<(), Fail> {
 fn one_commit<N: BookName, R: Wait + Abort>(
     rt: &R,
     alloc: Global,
-    cells: Cells,
+    cells: Cells<Forgetful>,
     roster: Roster,
     commits: &Commits,
     blank: Blank,
@@ -77,8 +77,8 @@ fn turns<N: BookName, R: Wait + Abort>(
     rt: &R,
     alloc: Global,
     book: &SharedBook<N, Forgetful>,
-    zero: &mut Seat<N>,
-    one: &mut Seat<N>,
+    zero: &mut Seat<N, Forgetful>,
+    one: &mut Seat<N, Forgetful>,
     first: &[u8],
 ) -> Result<(), Fail> {
     assert_eq!(rt; granted(rt, alloc, book, zero), Ok(Some((0, None))));
@@ -96,7 +96,7 @@ fn room<N: BookName, R: Wait + Abort>(
     rt: &R,
     alloc: Global,
     book: &SharedBook<N, Forgetful>,
-    one: &mut Seat<N>,
+    one: &mut Seat<N, Forgetful>,
     commits: &Commits,
 ) -> Result<(), Fail> {
     assert_eq!(rt; granted(rt, alloc, book, one), Ok(Some((0, None))));
@@ -114,7 +114,7 @@ fn full<N: BookName, R: Wait + Abort>(
     rt: &R,
     alloc: Global,
     book: &SharedBook<N, Forgetful>,
-    zero: &mut Seat<N>,
+    zero: &mut Seat<N, Forgetful>,
     commits: &Commits,
 ) -> Result<(), Fail> {
     assert_eq!(rt; granted(rt, alloc, book, zero), Ok(Some((1, Some(1)))));
@@ -141,7 +141,7 @@ fn a_seat_is_told_what_it_stored(rt: HostRuntime) -> Result<(), Fail> {
 fn two_commits<N: BookName, R: Wait + Abort>(
     rt: &R,
     alloc: Global,
-    cells: Cells,
+    cells: Cells<Forgetful>,
     roster: Roster,
     commits: &Commits,
     blank: Blank,
@@ -159,7 +159,7 @@ fn two_stored<N: BookName, R: Wait + Abort>(
     rt: &R,
     alloc: Global,
     book: &SharedBook<N, Forgetful>,
-    seat: &mut Seat<N>,
+    seat: &mut Seat<N, Forgetful>,
     commits: &Commits,
 ) -> Result<(), Fail> {
     assert_eq!(rt; granted(rt, alloc, book, seat), Ok(Some((0, None))));
@@ -198,7 +198,7 @@ fn a_shared_book_has_keys(rt: HostRuntime) -> Result<(), Fail> {
 
 fn refused<N: BookName>(
     alloc: Global,
-    cells: Cells,
+    cells: Cells<Forgetful>,
     roster: Roster,
     blank: Blank,
 ) -> Option<Refusal>

@@ -28,7 +28,7 @@ fn two_threads_at_one_book(rt: HostRuntime) -> Result<(), Fail> {
 fn hand_over<N: BookName + Send + Sync, R: Threads + Wait + Abort + Clock + Sync>(
     rt: &R,
     alloc: Global,
-    cells: Cells,
+    cells: Cells<Forgetful>,
     roster: Roster,
     commit: &[u8],
     blank: Blank,
@@ -67,13 +67,15 @@ fn store<N: BookName, R: Wait + Abort>(
     rt: &R,
     alloc: Global,
     book: &SharedBook<N, Forgetful>,
-    mut seat: Seat<N>,
+    mut seat: Seat<N, Forgetful>,
     commit: &[u8],
-    slot: &Mutex<Option<Receipt<N>>>,
-) -> Option<Seat<N>> {
+    slot: &Mutex<Option<Receipt<N, Forgetful>>>,
+) -> Option<Seat<N, Forgetful>> {
     let (_reply, receipt) = book.grant(rt, alloc, &mut seat).ok()?;
     assert!(rt; receipt.is_none());
-    let (number, receipt) = book.commit(rt, alloc, &mut seat, commit).ok()?;
+    let (number, receipt) = book
+        .commit(rt, alloc, &mut seat, commit, &Vec::new(alloc))
+        .ok()?;
     assert_eq!(rt; number, 1);
     *slot.lock(rt) = Some(receipt);
     Some(seat)
@@ -82,10 +84,10 @@ fn store<N: BookName, R: Wait + Abort>(
 fn read<N: BookName, R: Wait + Abort + Clock>(
     rt: &R,
     book: &SharedBook<N, Forgetful>,
-    mut seat: Seat<N>,
+    mut seat: Seat<N, Forgetful>,
     commit: &[u8],
-    slot: &Mutex<Option<Receipt<N>>>,
-) -> Option<Seat<N>> {
+    slot: &Mutex<Option<Receipt<N, Forgetful>>>,
+) -> Option<Seat<N, Forgetful>> {
     let mut receipt = taken(rt, slot)?;
     seat.learn(&mut receipt);
     let record = book.published(&mut seat, 1)?;
@@ -97,8 +99,8 @@ fn read<N: BookName, R: Wait + Abort + Clock>(
 // Takes the receipt out of the slot, once it is there.
 fn taken<N: BookName, R: Wait + Clock>(
     rt: &R,
-    slot: &Mutex<Option<Receipt<N>>>,
-) -> Option<Receipt<N>> {
+    slot: &Mutex<Option<Receipt<N, Forgetful>>>,
+) -> Option<Receipt<N, Forgetful>> {
     for _ in 0..10_000 {
         if let Some(receipt) = slot.lock(rt).take() {
             return Some(receipt);

@@ -3,14 +3,15 @@ use denote.Param.Send.{IsSend, sendable}
 use Rattle.std.proofs.Crossing.{crosses}
 use Rattle.std.specs.declared.sync.ledger.Ledger as ledger
 use Rattle.once_cell.proofs.race.note.Note.TheSendSync as Note
+use Rattle.su_keeper.specs.declared.keepers.Keeper as keeper
 use Rattle.su_shared.specs.declared.cells.BookName as name
 use Rattle.su_shared.specs.contracts.notes.Receipt as Receipt
 use Rattle.su_shared.proofs.Crosses.{seat_send, shared_sync}
 use Rattle.su_tests.proofs.threads.hand_over.Goals as goal
 
-receipt_send : (N : RattleType) (n : name.Ghosts N.Denot) (l : ledger.Ghosts N.Denot) → IsSend N
-    → IsSend (Receipt.the_row N n l)
-receipt_send N n l s = search (Note.the_send, crosses, sendable) depth 30
+receipt_send : (N : RattleType) (n : name.Ghosts N.Denot) (l : ledger.Ghosts N.Denot) (K : RattleType)
+    (k : keeper.Ghosts K.Denot) → IsSend N → IsSend (Receipt.the_row N K n l k)
+receipt_send N n l K k s = search (Note.the_send, crosses, sendable) depth 30
 
 pub join-a-requires-send-F : goal.join-a-requires-send-F
 join-a-requires-send-F g c κs within =
