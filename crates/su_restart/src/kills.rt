@@ -26,7 +26,7 @@ where
     R: Wait,
     requires running { archive.vault.volumes.is_halted ≡ false }
     requires end { IsAtEnd V.Volume archive.vault.volumes }
-    ensures { N.found → (records : List KeptRecord)
+    ensures { (records : List KeptRecord)
         → HoldsInTurn V.Volume archive.entry.vault.volumes records
         → IfSome result (λ files. V.Volume.is_clean files.first
         → All V.Volume.is_clean files.later.items

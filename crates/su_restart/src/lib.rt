@@ -1,9 +1,9 @@
-//! A theorem on servers that are killed, as two functions over any disk that can crash: what a server
-//! has acknowledged is what the next one's book begins with. No program calls them.
+//! How a server that was killed and the next one meet, as two functions over any disk that can crash:
+//! what the one has acknowledged is what the other's keeper finds. No program calls them.
 #![tactic(auto)]
 
 mod kills;
-mod starts;
+mod takes_over;
 
 pub use kills::kill;
-pub use starts::start;
+pub use takes_over::take_over;
