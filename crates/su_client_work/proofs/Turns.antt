@@ -1,12 +1,20 @@
 -- A link over which more is asked, and a turn.
-use Rattle.std.proofs.Common.{◌≡◌, ◌+◌, ◌<◌, ℕ, suc, length, Result, Ok, Err, OnOk, take, get_or, arith, List, [], ◌∷◌, ◌++◌, inl, inr, sym, ◌∙◌, ap, subst, refl}
+use Rattle.std.proofs.Common.{◌≡◌, ◌+◌, ◌<◌, ℕ, suc, length, Result, Ok, Err, OnOk, take, get_or, arith, List, [], ◌∷◌, ◌++◌, inl, inr, sym, ◌∙◌, ap, subst, refl, true, false, IfErr}
 use Rattle.std.proofs.Math.Seq.{take-suc}
+use Rattle.su_bytes.specs.declared.refusals.Refusal.{Refusal}
+use Rattle.su_bytes.specs.declared.refusals.Refusal.TheVariants.{LinkFailed}
+use Rattle.su_frames.specs.Stream.{frame}
+use Rattle.su_message.specs.declared.requests.Request.{Request}
+use Rattle.su_message.specs.declared.replies.Reply.{Reply}
+use Rattle.su_message.specs.declared.requests.Request.TheVariants.{Grant, Give, Fetch}
+use Rattle.su_message.specs.declared.replies.Reply.TheVariants.{Given}
+use Rattle.su_message.specs.Request.{request_bytes}
 use Rattle.su_version.specs.Commit.{Commit}
-use Rattle.su_client.specs.Link.{LinkState, Follows}
-use Rattle.su_client.specs.Following.{follows_on}
+use Rattle.su_client.specs.Link.{LinkState, IsFresh, Exchanged, Follows, IsRefusal}
+use Rattle.su_client.specs.Following.{follows_itself, follows_on}
 use Rattle.su_view.specs.Holding.{HoldingState}
 use Rattle.su_client_work.specs.Member.{MemberState, OnlyTakes, Stays}
-use Rattle.su_client_work.specs.Turn.{Comes, HasMore, IsCaughtUp, SaysNothing, IsShown, AreShown, TakesTurn}
+use Rattle.su_client_work.specs.Turn.{Comes, HasMore, IsCaughtUp, SaysNothing, IsShown, AreShown, TakesTurn, GivesUp, GivesTurnUp, IsUngranted, IsUngrantedOver, commit_or_nothing}
 use Rattle.su_client_work.proofs.Taking.{takes_then}
 
 -- ---- what stays, and what is only taken
@@ -107,3 +115,62 @@ shown_next all i u before a shown m more b inside there are is =
     let longer : take (i + 1) all ≡ take i all ++ u ∷ [] =
     subst (λ (n : ℕ). take n all ≡ take i all ++ u ∷ []) one (take-suc all i u inside ∙ ap (λ (x : ℕ × ℕ). take i all ++ x ∷ []) (sym there)) in
     subst (λ (us : List (ℕ × ℕ)). AreShown us before a more b) (sym longer) (shown_then (take i all) u before a shown m more b are is)
+
+-- ---- a turn that is given up
+
+exchanged : (q : Request) (a b : LinkState) (r : Reply) → Exchanged q a b r → Follows a b
+exchanged q a b r e = record {
+  output = frame (request_bytes q);
+  written = e.written;
+  input = e.input;
+  read = e.read;
+  no_more = λ failed. absurd (let bad : false ≡ true = sym e.works ∙ failed in cc);
+}
+
+shown_follows : (us : List (ℕ × ℕ)) (before : List Commit) (a : LinkState) (shown : List Commit) (b : LinkState) → AreShown us before a shown b → Follows a b
+shown_follows [] before a shown b (same, link) = subst (Follows a) (sym link) (follows_itself a)
+shown_follows (u ∷ us) before a shown b (more, between, is, rest) =
+    follows_on a between b (exchanged (Fetch u.1) a between (commit_or_nothing is.answer) is.exchanged) (shown_follows us more between shown b rest)
+
+-- the turn was given back, or that was refused
+pub gives_up : (r : Result (Unit {0}) Refusal) (a b : LinkState) → OnOk r (Exchanged Give a b Given) → IfErr r (IsRefusal Give a b) → GivesUp a b
+gives_up (Ok x) a b given refused = record { before = a; follows = follows_itself a; gives = inl given }
+gives_up (Err e) a b given refused = record { before = a; follows = follows_itself a; gives = inr (e, refused) }
+
+pub gives_up_after : (a b c : LinkState) → Follows a b → GivesUp b c → GivesUp a c
+gives_up_after a b c p q = record { before = q.before; follows = follows_on a b q.before p q.follows; gives = q.gives }
+
+pub gives_turn_up : (MayConnect : LinkState → Type 0) (v : HoldingState) (a : LinkState) (w : HoldingState) (b c : LinkState) → TakesTurn MayConnect v a w b → GivesUp b c
+    → GivesTurnUp MayConnect a c
+gives_turn_up MayConnect v a w b c t up = record {
+  count = t.count;
+  last = t.last;
+  turn = t.turn;
+  granted = t.granted;
+  gives_up = gives_up_after t.turn b c
+      (follows_on t.turn t.passes.checked b (shown_follows t.last [] t.turn t.passes.shown t.passes.checked t.passes.are_shown) t.passes.follows) up;
+}
+
+-- where the link fails, it has failed from then on
+link_failed : (a b : LinkState) → IsRefusal Grant a b LinkFailed → b.failed ≡ true
+link_failed a b (inl (is, failed, follows)) = failed
+link_failed a b (inr (inl (is, unasked))) = absurd (cc)
+link_failed a b (inr (inr (fits, told))) = absurd (cc)
+
+-- the turn isn't granted over a link that is made anew either
+pub ungranted : {A : Type 0} (r : Result A Refusal) (MayConnect : LinkState → Type 0) (a b start c : LinkState) → Follows a b → IsUngrantedOver a b LinkFailed
+    → IsFresh start × MayConnect start → IfErr r (IsUngrantedOver start c) → IfErr r (IsUngranted MayConnect a c)
+ungranted (Ok x) MayConnect a b start c follows over new again = tt
+ungranted (Err e) MayConnect a b start c follows over new again = record {
+  before = again.before;
+  comes = inr (record {
+    broken = b;
+    follows = follows;
+    failed = link_failed over.before b over.refused;
+    start = start;
+    fresh = new.0;
+    may = new.1;
+    then_follows = again.follows;
+  });
+  refused = again.refused;
+}

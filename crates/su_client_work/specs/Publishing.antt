@@ -15,7 +15,7 @@ use Rattle.su_view.specs.Holding.{HoldingState, Took}
 use Rattle.su_view.specs.Making.{IsMade}
 use Rattle.su_view.specs.declared.refusals.ViewRefusal.{ViewRefusal}
 use Rattle.su_client_work.specs.Member.{MemberState, OnlyTakes}
-use Rattle.su_client_work.specs.Turn.{TakesTurn}
+use Rattle.su_client_work.specs.Turn.{GivesUp, TakesTurn}
 
 -- ---- what is signed
 
@@ -82,6 +82,18 @@ pub record IsPublished (change : Change) (s t : MemberState) (n : ℕ) : Type 0 
   pub stored : IsStored change commit s.link handed_in
   pub follows : Follows handed_in t.link
   pub takes : TakesOwn s.holding commit t.holding n
+
+-- A commit of the change was signed, and the server stored it, which ends the turn.
+pub record WasStored (change : Change) (s t : MemberState) : Type 0 where
+  pub commit : Commit
+  pub signs : SignsOne s.holding change commit s t
+  pub handed_in : LinkState
+  pub stored : IsStored change commit s.link handed_in
+  pub follows : Follows handed_in t.link
+
+-- the turn is over: it was given up, or a commit of the change was stored
+abbrev pub EndsTurn : Change → MemberState → MemberState → Type 0
+EndsTurn change s t = GivesUp s.link t.link ⊎ WasStored change s t
 
 -- The client takes its turn and what commits it lacks, and then publishes the change.
 pub record Publishes (MayConnect : LinkState → Type 0) (change_of : HoldingState → Change)

@@ -5,9 +5,12 @@ use Rattle.su_bytes.specs.Order.{Passes}
 use Rattle.su_message.specs.declared.requests.Request.TheVariants.{Grant, Give, Fetch}
 use Rattle.su_message.specs.declared.replies.Reply.{Reply}
 use Rattle.su_message.specs.declared.replies.Reply.TheVariants.{Granted, Given, Nothing}
-use Rattle.su_client.specs.Link.{LinkState, IsFresh, Exchanged, Follows, kept_or_nothing}
+use Rattle.su_bytes.specs.declared.refusals.Refusal.{Refusal}
+use Rattle.su_client.specs.Link.{LinkState, IsFresh, Exchanged, Follows, IsRefusal, kept_or_nothing}
 use Rattle.su_version.specs.Commit.{Commit, commit_bytes}
 use Rattle.su_view.specs.Holding.{HoldingState}
+use Rattle.su_view.specs.declared.refusals.ViewRefusal.{ViewRefusal}
+use Rattle.su_view.specs.declared.refusals.ViewRefusal.TheVariants.{Plain}
 use Rattle.su_view.specs.LastCommits.{own_last, shown_order}
 
 -- A link failed, and a new one, which may be made, was put in its place.
@@ -101,3 +104,38 @@ pub record Looks (MayConnect : LinkState → Type 0) (v : HoldingState) (a : Lin
   pub between : LinkState
   pub takes_turn : TakesTurn MayConnect v a w between
   pub gives : Exchanged Give between b Given
+
+-- ---- what is refused
+
+-- Over the link the turn isn't granted: that is refused so.
+pub record IsUngrantedOver (a b : LinkState) (why : Refusal) : Type 0 where
+  pub before : LinkState
+  pub follows : Follows a before
+  pub refused : IsRefusal Grant before b why
+
+-- over the link, or over a new one
+pub record IsUngranted (MayConnect : LinkState → Type 0) (a b : LinkState) (why : Refusal) : Type 0
+  where
+    pub before : LinkState
+    pub comes : Comes MayConnect a before
+    pub refused : IsRefusal Grant before b why
+
+-- At last the turn was given back, or giving it back was refused.
+pub record GivesUp (a b : LinkState) : Type 0 where
+  pub before : LinkState
+  pub follows : Follows a before
+  pub gives : Exchanged Give before b Given ⊎ ((why : Refusal) × IsRefusal Give before b why)
+
+-- The turn was granted, and then given up.
+pub record GivesTurnUp (MayConnect : LinkState → Type 0) (a b : LinkState) : Type 0 where
+  pub count : ℕ
+  pub last : List (ℕ × ℕ)
+  pub turn : LinkState
+  pub granted : IsGranted MayConnect a turn count last
+  pub gives_up : GivesUp turn b
+
+-- Why nothing is done in a turn: it isn't granted, or else it is given up.
+abbrev pub IsRefusedTurn : (LinkState → Type 0) → LinkState → LinkState → ViewRefusal → Type 0
+IsRefusedTurn MayConnect a b e =
+    ((why : Refusal) × (e ≡ Plain why) × IsUngranted MayConnect a b why)
+    ⊎ GivesTurnUp MayConnect a b

@@ -1,5 +1,5 @@
 // What a client changes: each change is a commit of its own.
-ghost use Rattle.std.specs.Prelude.{◌≡◌, ◌-◌, ℕ, Ok, IfOk, OnOk, OnErr, length, slice_get};
+ghost use Rattle.std.specs.Prelude.{◌≡◌, ◌-◌, ℕ, Ok, IfErr, IfOk, OnOk, OnErr, length, slice_get};
 ghost use Rattle.std.specs.Option.{unwrap_or};
 ghost use Rattle.su_message.specs.declared.requests.Request.TheVariants as request;
 ghost use Rattle.su_message.specs.declared.replies.Reply.TheVariants.{Stored};
@@ -12,8 +12,8 @@ ghost use Rattle.su_version.specs.Commit.{commit_bytes};
 ghost use Rattle.su_view.specs.Holding.{tree_of_list};
 ghost use Rattle.su_view.specs.Making.{IsMade};
 ghost use Rattle.su_client_work.specs.Member.{OnlyTakes, Stays};
-ghost use Rattle.su_client_work.specs.Publishing.{always, last_undo, CommitsAtMost, HandsIn, IsPublished, Publishes, SignsAtMost, SignsNone, TakesOwn};
-ghost use Rattle.su_client_work.specs.Turn.{Comes, TakesTurn};
+ghost use Rattle.su_client_work.specs.Publishing.{always, last_undo, CommitsAtMost, EndsTurn, HandsIn, IsPublished, Publishes, SignsAtMost, SignsNone, TakesOwn};
+ghost use Rattle.su_client_work.specs.Turn.{Comes, GivesUp, IsRefusedTurn, TakesTurn};
 ghost use Rattle.su_client_work.specs.Work.{Works};
 
 use crate::members::Member;
@@ -41,11 +41,20 @@ impl<R: Read + Drop, W: Write + Drop, K: KeyStore + Drop> Member<R, W, K> {
             self.new.holding self.new.link) }
         ensures planned { let v = self.new.holding in IfOk result (λ operations.
             plan v.roster (tree_of_list v) v.user command.now ≡ Ok operations.items) }
+        ensures refused { IfErr result
+            (IsRefusedTurn A.may_connect self.old.link self.new.link) }
     {
         self.begin(around)?;
-        let planned = self.view.plan(command);
-        self.keep_turn(matches!(&planned, Ok(operations) if !operations.is_empty()));
-        Ok(planned?)
+        match self.view.plan(command) {
+            Ok(operations) => {
+                self.keep_turn(!operations.is_empty());
+                Ok(operations)
+            }
+            Err(refusal) => {
+                self.give_up();
+                Err(ViewRefusal::Plain(refusal))
+            }
+        }
     }
 
     /// Gives the turn back, unless it is to be kept.
@@ -114,7 +123,9 @@ impl<R: Read + Drop, W: Write + Drop, K: KeyStore + Drop> Member<R, W, K> {
         ensures signs { SignsAtMost self.old.holding change self.old self.new }
         ensures follows { Follows self.old.link self.new.link }
         ensures published { IfOk result (IsPublished change self.old self.new) }
+        // On a refusal it isn't taken, and the turn is over.
         ensures err { OnErr result (self.new.holding ≡ self.old.holding) }
+        ensures ends { OnErr result (EndsTurn change self.old self.new) }
     {
         let commit = self.hand_in(change)?;
         self.take_own(commit)
@@ -147,6 +158,7 @@ impl<R: Read + Drop, W: Write + Drop, K: KeyStore + Drop> Member<R, W, K> {
         ensures signs { SignsAtMost self.old.holding change self.old self.new }
         ensures follows { Follows self.old.link self.new.link }
         ensures stored { IfOk result (λ c. HandsIn change self.old c self.new) }
+        ensures gives_up { OnErr result (GivesUp self.old.link self.new.link) }
     {
         match self.store_new(change) {
             Ok(commit) => Ok(commit),

@@ -1,13 +1,13 @@
 // A client that works with a server, and how it begins what it does.
-ghost use Rattle.std.specs.Prelude.{◌≡◌, [], true, Err, IfOk, OnOk, OnErr};
+ghost use Rattle.std.specs.Prelude.{◌≡◌, [], IfOk, IfErr, OnOk, OnErr};
 ghost use Rattle.su_bytes.specs.declared.refusals.Refusal.TheVariants.{LinkFailed};
 ghost use Rattle.su_message.specs.declared.requests.Request.TheVariants.{Grant, Give, Fetch};
 ghost use Rattle.su_message.specs.declared.replies.Reply.TheVariants.{Granted, Given};
-ghost use Rattle.su_client.specs.Link.{IsFresh, Exchanged, Follows};
+ghost use Rattle.su_client.specs.Link.{IsFresh, Exchanged, Follows, IsRefusal};
 ghost use Rattle.su_version.specs.Chain.{IsSignedByAuthor};
 ghost use Rattle.su_view.specs.LastCommits.{AreSigned};
 ghost use Rattle.su_client_work.specs.Member.{OnlyTakes, Stays};
-ghost use Rattle.su_client_work.specs.Turn.{AreShown, Comes, HasMore, IsCaughtUp, IsGranted, IsGrantedOver, IsShown, Looks, PassesShown, TakesTurn, commit_or_nothing};
+ghost use Rattle.su_client_work.specs.Turn.{AreShown, Comes, GivesUp, HasMore, IsCaughtUp, IsGranted, IsGrantedOver, IsRefusedTurn, IsShown, IsUngranted, IsUngrantedOver, Looks, PassesShown, TakesTurn, commit_or_nothing};
 
 use crate::shown::Shown;
 use crate::surroundings::Surroundings;
@@ -101,6 +101,8 @@ impl<R: Read + Drop, W: Write + Drop, K: KeyStore + Drop> Member<R, W, K> {
         ensures link { Comes A.may_connect self.old.link self.new.link }
         ensures turn { OnOk result (TakesTurn A.may_connect self.old.holding self.old.link
             self.new.holding self.new.link) }
+        ensures refused { IfErr result
+            (IsRefusedTurn A.may_connect self.old.link self.new.link) }
     {
         let (count, last) = match self.take_turn(around) {
             Ok(granted) => granted,
@@ -122,6 +124,8 @@ impl<R: Read + Drop, W: Write + Drop, K: KeyStore + Drop> Member<R, W, K> {
         ensures link { Comes A.may_connect self.old.link self.new.link }
         ensures looks { OnOk result (Looks A.may_connect self.old.holding self.old.link
             self.new.holding self.new.link) }
+        ensures refused { IfErr result
+            (IsRefusedTurn A.may_connect self.old.link self.new.link) }
     {
         self.begin(around)?;
         match self.give() {
@@ -135,6 +139,7 @@ impl<R: Read + Drop, W: Write + Drop, K: KeyStore + Drop> Member<R, W, K> {
         ensures stays { Stays self.old self.new }
         ensures follows { Follows self.old.link self.new.link }
         ensures given { OnOk result (Exchanged Give self.old.link self.new.link Given) }
+        ensures refused { IfErr result (IsRefusal Give self.old.link self.new.link) }
     {
         self.view.source_mut().source_mut().give()
     }
@@ -143,6 +148,7 @@ impl<R: Read + Drop, W: Write + Drop, K: KeyStore + Drop> Member<R, W, K> {
     pub(crate) fn give_up(&mut self)
         ensures stays { Stays self.old self.new }
         ensures follows { Follows self.old.link self.new.link }
+        ensures gives_up { GivesUp self.old.link self.new.link }
     {
         let _ = self.give();
     }
@@ -158,11 +164,14 @@ impl<R: Read + Drop, W: Write + Drop, K: KeyStore + Drop> Member<R, W, K> {
         ensures link { Comes A.may_connect self.old.link self.new.link }
         ensures granted { IfOk result (λ g.
             IsGranted A.may_connect self.old.link self.new.link g.0 g.1) }
+        ensures refused { IfErr result (IsUngranted A.may_connect self.old.link self.new.link) }
     {
         match self.await_turn(around) {
             Err(Refusal::LinkFailed) => {
-                self.connect_anew(around)?;
-                self.await_turn(around)
+                match self.connect_anew(around) {
+                    Ok(()) => self.await_turn(around),
+                    Err(refusal) => Err(refusal),
+                }
             }
             answered => answered,
         }
@@ -172,6 +181,7 @@ impl<R: Read + Drop, W: Write + Drop, K: KeyStore + Drop> Member<R, W, K> {
     fn connect_anew<A: Surroundings<R, W>>(&mut self, around: &mut A) -> Result<(), Refusal>
         ensures stays { Stays self.old self.new }
         ensures new { OnOk result (IsFresh self.new.link × A.may_connect self.new.link) }
+        ensures refused { IfErr result (λ e. e ≡ LinkFailed) }
         ensures err { OnErr result (self.new.link ≡ self.old.link) }
     {
         match around.connect() {
@@ -193,7 +203,7 @@ impl<R: Read + Drop, W: Write + Drop, K: KeyStore + Drop> Member<R, W, K> {
         ensures follows { Follows self.old.link self.new.link }
         ensures granted { IfOk result (λ g.
             IsGrantedOver self.old.link self.new.link g.0 g.1) }
-        ensures failed { result ≡ Err LinkFailed → self.new.link.failed ≡ true }
+        ensures refused { IfErr result (IsUngrantedOver self.old.link self.new.link) }
     {
         let tries = self.tries;
         for _ in 1..tries {
@@ -213,7 +223,7 @@ impl<R: Read + Drop, W: Write + Drop, K: KeyStore + Drop> Member<R, W, K> {
         ensures follows { Follows self.old.link self.new.link }
         ensures granted { IfOk result (λ g.
             Exchanged Grant self.old.link self.new.link (Granted g.0 g.1)) }
-        ensures failed { result ≡ Err LinkFailed → self.new.link.failed ≡ true }
+        ensures refused { IfErr result (IsRefusal Grant self.old.link self.new.link) }
     {
         self.view.source_mut().source_mut().grant()
     }

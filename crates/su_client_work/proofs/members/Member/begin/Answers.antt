@@ -1,5 +1,6 @@
+use Rattle.std.proofs.Common.{inr}
 use Rattle.su_client.specs.Following.{follows_on}
-use Rattle.su_client_work.proofs.Turns.{comes_on}
+use Rattle.su_client_work.proofs.Turns.{comes_on, gives_up_after}
 use Rattle.su_client_work.proofs.members.Member.begin.Goals as goal
 
 pub returns-in-Ok-catch_up-clause-link : goal.returns-in-Ok-catch_up-clause-link
@@ -9,3 +10,12 @@ pub returns-clause-link : goal.returns-clause-link
 returns-clause-link g c =
     comes_on _ c.args.self.now.link c.take_turn.new.self.link c.give_up.new.self.link c.take_turn.ensures.link
     (follows_on c.take_turn.new.self.link c.catch_up.new.self.link c.give_up.new.self.link c.catch_up.ensures.follows c.give_up.ensures.follows)
+
+pub returns-clause-refused : goal.returns-clause-refused
+returns-clause-refused g c = inr (record {
+  count = _;
+  last = _;
+  turn = c.take_turn.new.self.link;
+  granted = c.in-Ok.ensures.granted;
+  gives_up = gives_up_after c.take_turn.new.self.link c.catch_up.new.self.link c.give_up.new.self.link c.catch_up.ensures.follows c.give_up.ensures.gives_up;
+})
