@@ -1,1 +1,4 @@
 pub mod Adding
+pub mod Carrying
+pub mod Committing
+pub mod Stepping

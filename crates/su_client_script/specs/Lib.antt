@@ -1,2 +1,5 @@
 pub mod Text
 pub mod Run
+pub mod Carrying
+pub mod Lines
+pub mod Step

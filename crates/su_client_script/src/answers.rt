@@ -1,6 +1,10 @@
 // What is printed of a command.
-ghost use Rattle.std.specs.Prelude.{OnOk};
-ghost use Rattle.su_client_script.specs.Run.{Adds};
+ghost use Rattle.std.specs.Prelude.{◌≡◌, List, ℕ, Ok, Err, IfOk, IsOk, OnOk, MatchResult};
+ghost use Rattle.std.specs.Io.KnownBytes.{Appends};
+ghost use Rattle.su_desk_script.specs.Answer.{bytes_text};
+ghost use Rattle.su_client_script.specs.Step.{IsOutcome, is_refused};
+ghost use Rattle.su_client_script.specs.Text.{listing_shown, number_shown, refusal_shown};
+ghost use Rattle.su_client_script.specs.declared.answers.Outcome.TheVariants as outcome;
 
 use crate::endings::Fault;
 use crate::texts::{listed, refused};
@@ -23,6 +27,15 @@ pub(crate) enum Outcome {
     },
 }
 
+impl Outcome {
+    /// Tells whether it was refused.
+    pub(crate) fn is_refused(&self) -> bool
+        ensures { result ≡ is_refused self.now }
+    {
+        matches!(self, Outcome::Refused { .. })
+    }
+}
+
 /// Prints `ok N`, or the refusal, behind a take of the same command or not.
 pub(crate) fn tell_number<O: Write>(
     alloc: Global,
@@ -30,7 +43,9 @@ pub(crate) fn tell_number<O: Write>(
     stored: Result<u64, ViewRefusal>,
     after_take: bool,
 ) -> Result<Outcome, Fault>
-    ensures { OnOk result (Adds (O.contents output.old) (O.contents output.new)) }
+    ensures printed { OnOk result
+        (Appends (O.contents output.old) (O.contents output.new) (number_shown stored)) }
+    ensures outcome { IfOk result (IsOutcome after_take stored) }
 {
     match stored {
         Ok(number) => tell_text(output, answered(alloc, Ok(number))),
@@ -44,7 +59,10 @@ pub(crate) fn tell_names<O: Write>(
     output: &mut O,
     names: Result<Vec<(Name, FileId)>, ViewRefusal>,
 ) -> Result<Outcome, Fault>
-    ensures { OnOk result (Adds (O.contents output.old) (O.contents output.new)) }
+    ensures { OnOk result (MatchResult names
+        (λ names. Appends (O.contents output.old) (O.contents output.new)
+        (listing_shown names.items))
+        (λ e. Appends (O.contents output.old) (O.contents output.new) (refusal_shown e))) }
 {
     match names {
         Ok(names) => tell_text(output, listed(alloc, names.as_slice())),
@@ -58,7 +76,10 @@ pub(crate) fn tell_bytes<O: Write>(
     output: &mut O,
     bytes: Result<Vec<u8>, ViewRefusal>,
 ) -> Result<Outcome, Fault>
-    ensures { OnOk result (Adds (O.contents output.old) (O.contents output.new)) }
+    ensures { OnOk result (MatchResult bytes
+        (λ bytes. Appends (O.contents output.old) (O.contents output.new)
+        (bytes_text (Ok bytes.items)))
+        (λ e. Appends (O.contents output.old) (O.contents output.new) (refusal_shown e))) }
 {
     match bytes {
         Ok(bytes) => tell_text(output, in_hex(alloc, bytes.as_slice())),
@@ -73,7 +94,9 @@ pub(crate) fn tell_refusal<O: Write>(
     refusal: ViewRefusal,
     after_take: bool,
 ) -> Result<Outcome, Fault>
-    ensures { OnOk result (Adds (O.contents output.old) (O.contents output.new)) }
+    ensures printed { OnOk result
+        (Appends (O.contents output.old) (O.contents output.new) (refusal_shown refusal)) }
+    ensures outcome { IfOk result (λ out. out ≡ outcome.Refused refusal after_take) }
 {
     print_text(output, refused(alloc, &refusal))?;
     Ok(Outcome::Refused {
@@ -84,7 +107,10 @@ pub(crate) fn tell_refusal<O: Write>(
 
 /// Prints the answer to a command that was carried out.
 fn tell_text<O: Write>(output: &mut O, text: Result<Vec<u8>, AllocError>) -> Result<Outcome, Fault>
-    ensures { OnOk result (Adds (O.contents output.old) (O.contents output.new)) }
+    ensures printed { OnOk result (IfOk text (λ text.
+        Appends (O.contents output.old) (O.contents output.new) text.items)) }
+    ensures some { OnOk result (IsOk text) }
+    ensures outcome { IfOk result (λ out. out ≡ outcome.Done) }
 {
     print_text(output, text)?;
     Ok(Outcome::Done)
@@ -95,7 +121,9 @@ pub(crate) fn print_text<O: Write>(
     output: &mut O,
     text: Result<Vec<u8>, AllocError>,
 ) -> Result<(), Fault>
-    ensures { OnOk result (Adds (O.contents output.old) (O.contents output.new)) }
+    ensures printed { OnOk result (IfOk text (λ text.
+        Appends (O.contents output.old) (O.contents output.new) text.items)) }
+    ensures some { OnOk result (IsOk text) }
 {
     let Ok(text) = text else {
         return Err(Fault::NoMemory);
@@ -108,7 +136,7 @@ pub(crate) fn print_text<O: Write>(
 
 /// Writes a text, and flushes it.
 fn print<O: Write>(output: &mut O, text: &[u8]) -> io::Result<()>
-    ensures { OnOk result (Adds (O.contents output.old) (O.contents output.new)) }
+    ensures { OnOk result (Appends (O.contents output.old) (O.contents output.new) text.now) }
 {
     output.write_all(text)?;
     output.flush()

@@ -1,7 +1,11 @@
 // The run of a script.
-ghost use Rattle.std.specs.Prelude.{◌≡◌, IfSome, OnOk};
+ghost use Rattle.std.specs.Prelude.{◌≡◌, ℕ, List, Some, IfSome, OnOk};
 ghost use Rattle.su_client_work.specs.Work.{Works};
+ghost use Rattle.su_desk_lines.specs.Script.{lines_of};
+ghost use Rattle.su_desk_lines.specs.Unread.{unread};
+ghost use Rattle.su_client_script.specs.Lines.{IsSaved, PrintsUnlessFault, Runs};
 ghost use Rattle.su_client_script.specs.Run.{Adds, AddsUnlessFault, StopsIfAsked};
+ghost use Rattle.su_client_script.specs.Step.{EndsWith, Steps};
 
 use crate::endings::{Ending, Fault};
 use crate::programs::Program;
@@ -36,6 +40,11 @@ where
     ensures works { Works member.old member.new }
     ensures adds { AddsUnlessFault (O.contents output.old) (O.contents output.new) result }
     ensures stops { StopsIfAsked stops result }
+    // What is done and printed for the lines, where it is known which they are.
+    ensures runs { (script : List ℕ) → I.remaining input ≡ Some script
+        → PrintsUnlessFault (O.contents output.old) (O.contents output.new)
+        (λ text. Runs P.may_connect (IsSaved P.saves) (lines_of script) member.old member.new
+        text result) result }
 {
     let mut lines = LineReader::new(alloc, input);
     for number in 1..u64::MAX {
@@ -53,7 +62,8 @@ where
 
 /// Returns how the run ends with the line of that number, if it does.
 fn ending_of(step: Step, number: u64, stops: bool) -> Option<Ending>
-    ensures { IfSome result (StopsIfAsked stops) }
+    ensures stops { IfSome result (StopsIfAsked stops) }
+    ensures ends { EndsWith number step result }
 {
     match step {
         Step::Refused if stops => Some(Ending::Refused { number }),
@@ -81,6 +91,9 @@ where
     K: KeyStore + Drop,
     ensures works { Works member.old member.new }
     ensures adds { OnOk result (Adds (O.contents output.old) (O.contents output.new)) }
+    ensures steps { (input : List ℕ) → unread I.remaining lines.old ≡ Some input
+        → Steps P.may_connect (IsSaved P.saves) number input member.old member.new
+        (unread I.remaining lines.new) (O.contents output.old) (O.contents output.new) result }
 {
     match lines.next_line() {
         Ok(NextLine::Line(line)) => match line.as_slice() {

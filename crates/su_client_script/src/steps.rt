@@ -1,7 +1,17 @@
 // What a run does with one line of a script.
-ghost use Rattle.std.specs.Prelude.{◌≡◌, OnOk};
+ghost use Rattle.std.specs.Prelude.{◌≡◌, ◌⊎◌, ℕ, List, false, Result, IfOk, OnOk, OnErr};
+ghost use Rattle.std.specs.Io.KnownBytes.{Appends};
+ghost use Rattle.su_view.specs.declared.refusals.ViewRefusal.{ViewRefusal as Refusal_};
+ghost use Rattle.su_view.specs.declared.refusals.ViewRefusal.TheVariants.{Plain};
+ghost use Rattle.su_client_work.specs.Member.{OnlyTakes};
 ghost use Rattle.su_client_work.specs.Work.{Works};
-ghost use Rattle.su_client_script.specs.Run.{Adds};
+ghost use Rattle.su_client_lines.specs.declared.commands.ClientCommand.TheVariants as command_;
+ghost use Rattle.su_desk_script.specs.Answer.{bad_text};
+ghost use Rattle.su_client_script.specs.Carrying.{Carries, CarriesChange, CarriesSome, CarriesSomeChange, CommitsIn, CommitsSome, CommitsUntil};
+ghost use Rattle.su_client_script.specs.Lines.{IsSaved, LineDoesSome, Prints};
+ghost use Rattle.su_client_script.specs.Step.{IsOutcome, LineSteps, is_after_take, is_first};
+ghost use Rattle.su_client_script.specs.Text.{number_shown, refusal_shown};
+ghost use Rattle.su_client_script.specs.declared.steps.Step.TheVariants as step;
 
 use crate::answers::{Outcome, print_text, tell_bytes, tell_names, tell_number, tell_refusal};
 use crate::endings::Fault;
@@ -44,7 +54,9 @@ enum Place {
 
 impl Place {
     /// Returns where the operation stands that follows this one.
-    fn after(self, operation: &Op) -> Place {
+    fn after(self, operation: &Op) -> Place
+        ensures { is_first result ≡ false }
+    {
         match (self, operation) {
             (Place::AfterTake, _) | (_, Op::Take(_)) => Place::AfterTake,
             _ => Place::Later,
@@ -68,7 +80,10 @@ where
     W: Write + Drop,
     K: KeyStore + Drop,
     ensures works { Works member.old member.new }
-    ensures adds { OnOk result (Adds (O.contents output.old) (O.contents output.new)) }
+    ensures steps { IfOk result (LineSteps P.may_connect (IsSaved P.saves) number line.now
+        member.old member.new (O.contents output.old) (O.contents output.new)) }
+    ensures some { OnErr result
+        (LineDoesSome P.may_connect line.now member.old member.new) }
 {
     match read_line(alloc, line) {
         Ok(ClientLine::Command(command)) => {
@@ -91,7 +106,9 @@ pub(crate) fn bad_step<O: Write>(
     number: u64,
     mistake: Option<Mistake>,
 ) -> Result<Step, Fault>
-    ensures { OnOk result (Adds (O.contents output.old) (O.contents output.new)) }
+    ensures printed { OnOk result
+        (Appends (O.contents output.old) (O.contents output.new) (bad_text number)) }
+    ensures step { IfOk result (λ it. it ≡ step.Bad mistake) }
 {
     print_text(output, bad(alloc, number))?;
     Ok(Step::Bad(mistake))
@@ -99,7 +116,9 @@ pub(crate) fn bad_step<O: Write>(
 
 /// Prints why a line is refused before anything is asked of the server.
 fn refused_step<O: Write>(alloc: Global, output: &mut O, refusal: Refusal) -> Result<Step, Fault>
-    ensures { OnOk result (Adds (O.contents output.old) (O.contents output.new)) }
+    ensures printed { OnOk result (Appends (O.contents output.old) (O.contents output.new)
+        (refusal_shown (Plain refusal))) }
+    ensures step { IfOk result (λ it. it ≡ step.Refused) }
 {
     tell_refusal(alloc, output, ViewRefusal::Plain(refusal), false)?;
     Ok(Step::Refused)
@@ -117,7 +136,8 @@ where
     R: Read + Drop,
     W: Write + Drop,
     K: KeyStore + Drop,
-    ensures { member.new ≡ member.old }
+    ensures same { member.new ≡ member.old }
+    ensures step { IfOk result (λ it. (it ≡ step.Done) ⊎ (it ≡ step.Refused)) }
 {
     let Outcome::Refused {
         refusal,
@@ -156,7 +176,10 @@ where
     W: Write + Drop,
     K: KeyStore + Drop,
     ensures works { Works member.old member.new }
-    ensures adds { OnOk result (Adds (O.contents output.old) (O.contents output.new)) }
+    ensures carries { OnOk result (Prints (O.contents output.old) (O.contents output.new)
+        (Carries P.may_connect (IsSaved P.saves) command member.old member.new)) }
+    ensures some { OnErr result
+        (CarriesSome P.may_connect command member.old member.new) }
 {
     match command {
         ClientCommand::Change(command) => change_step(program, alloc, output, member, &command),
@@ -196,7 +219,10 @@ where
     W: Write + Drop,
     K: KeyStore + Drop,
     ensures works { Works member.old member.new }
-    ensures adds { OnOk result (Adds (O.contents output.old) (O.contents output.new)) }
+    ensures carries { OnOk result (Prints (O.contents output.old) (O.contents output.new)
+        (CarriesChange P.may_connect command.now member.old member.new)) }
+    ensures some { OnErr result
+        (CarriesSomeChange P.may_connect command.now member.old member.new) }
 {
     match member.plan(program, command) {
         Ok(operations) => commit_all(program, alloc, output, member, operations),
@@ -219,13 +245,16 @@ where
     W: Write + Drop,
     K: KeyStore + Drop,
     ensures works { Works member.old member.new }
-    ensures adds { OnOk result (Adds (O.contents output.old) (O.contents output.new)) }
+    ensures commits { OnOk result (Prints (O.contents output.old) (O.contents output.new)
+        (CommitsUntil P.may_connect operations.items member.old member.new)) }
+    ensures some { OnErr result
+        (CommitsSome P.may_connect operations.items member.old member.new) }
 {
     let mut place = Place::First;
     for operation in operations {
         let next = place.after(&operation);
         let outcome = commit_one(program, alloc, output, member, operation, place)?;
-        if matches!(&outcome, Outcome::Refused { .. }) {
+        if outcome.is_refused() {
             return Ok(outcome);
         }
         place = next;
@@ -249,7 +278,10 @@ where
     W: Write + Drop,
     K: KeyStore + Drop,
     ensures works { Works member.old member.new }
-    ensures adds { OnOk result (Adds (O.contents output.old) (O.contents output.new)) }
+    ensures commits { (r : Result ℕ Refusal_)
+        × CommitsIn P.may_connect (is_first place) operation member.old member.new r
+        × IfOk result (λ out. IsOutcome (is_after_take place) r out
+        × Appends (O.contents output.old) (O.contents output.new) (number_shown r)) }
 {
     let stored = commit(program, member, operation, place);
     tell_number(alloc, output, stored, matches!(place, Place::AfterTake))
@@ -267,7 +299,8 @@ where
     R: Read + Drop,
     W: Write + Drop,
     K: KeyStore + Drop,
-    ensures { Works member.old member.new }
+    ensures works { Works member.old member.new }
+    ensures commits { CommitsIn P.may_connect (is_first place) operation member.old member.new result }
 {
     if matches!(place, Place::First) {
         return member.publish(Change::Do(operation));
@@ -290,7 +323,9 @@ where
     W: Write + Drop,
     K: KeyStore + Drop,
     ensures works { Works member.old member.new }
-    ensures adds { OnOk result (Adds (O.contents output.old) (O.contents output.new)) }
+    ensures carries { OnOk result (Prints (O.contents output.old) (O.contents output.new)
+        (Carries P.may_connect (IsSaved P.saves) (command_.Save file) member.old member.new)) }
+    ensures takes { OnlyTakes member.old member.new }
 {
     match member.log(program) {
         Ok(log) => match program.save(file.as_slice(), log.as_slice()) {
