@@ -10,7 +10,7 @@ use su_bytes::{
 use su_lms::{NoStore, Params, Signer};
 use su_op::{Change, Create, Op, Take, Write};
 use su_version::Commit;
-use su_view::{View, ViewRefusal};
+use su_view::{OwnKey, View, ViewRefusal};
 
 /// What a view answers to a list of commits.
 pub(crate) type Answer = Result<u64, (u64, ViewRefusal)>;
@@ -18,7 +18,7 @@ pub(crate) type Answer = Result<u64, (u64, ViewRefusal)>;
 /// A user's view with the user's key.
 pub(crate) struct Client {
     view: View<Checked<Courier>>,
-    signer: Signer<NoStore>,
+    key: OwnKey<NoStore>,
 }
 
 impl Drop for Client {
@@ -26,12 +26,12 @@ impl Drop for Client {
     fn drop(self) {
         let Client {
             view: _view,
-            signer: _signer,
+            key: _key,
         } = self;
     }
 }
 
-/// Makes the key of a user.
+/// Makes the signer of a user's key.
 pub(crate) fn signer(alloc: Global, user: u8) -> Result<Signer<NoStore>, Refusal> {
     Signer::generate(alloc, Params::new(5, 3)?, [user; 16], [7; 32], NoStore)
 }
@@ -49,10 +49,10 @@ pub(crate) fn roster(alloc: Global) -> Result<Roster, Refusal> {
 /// Makes the client of a user, which holds no commits.
 pub(crate) fn new_client(alloc: Global, user: u8) -> Result<Client, Refusal> {
     let whose = User::new(u64::from(user))?;
-    let signer = signer(alloc, user)?;
+    let key = OwnKey::new(signer(alloc, user)?);
     let roster = roster(alloc)?;
     let view = View::new(alloc, roster, whose, Checked::new(Courier::new(alloc)))?;
-    Ok(Client { view, signer })
+    Ok(Client { view, key })
 }
 
 /// The file of that number of group 0.
@@ -62,7 +62,7 @@ pub(crate) fn file(number: u64) -> Result<FileId, Refusal> {
 
 impl Client {
     fn make(&mut self, change: Change) -> Result<Commit, ViewRefusal> {
-        self.view.make(change, &mut self.signer)
+        self.view.make(change, &mut self.key)
     }
 
     fn take_own(&mut self, commit: &Commit) -> Result<u64, ViewRefusal> {
@@ -154,11 +154,6 @@ impl Client {
             push_counted(&mut list, bytes)?;
         }
         Ok(list)
-    }
-
-    /// Signs these bytes with the user's key.
-    pub(crate) fn sign(&mut self, bytes: &[u8]) -> Result<Vec<u8>, Refusal> {
-        self.signer.sign(bytes)
     }
 
     /// Holds the item from now on.

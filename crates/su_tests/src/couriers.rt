@@ -55,6 +55,14 @@ impl BlockSource for Courier {
 
     ghost failed = { λ c. c.failures };
 
+    ghost follows = { λ _ _. Unit {0} };
+
+    ghost puts = { λ _ _ _. Unit {0} };
+
+    ghost follows_itself = { λ _. tt };
+
+    ghost follows_on = { λ _ _ _ _ _. tt };
+
     fn get(&mut self, alloc: Global, digest: Digest) -> Result<Vec<u8>, Refusal> {
         let found = self.find(alloc, digest);
         if let Err(refusal) = &found {

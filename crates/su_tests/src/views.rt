@@ -1,5 +1,5 @@
 // What views take and refuse.
-use crate::clients::{Client, file, new_client, push_counted};
+use crate::clients::{Client, file, new_client, push_counted, signer};
 use std::alloc::Global;
 use std::process::Abort;
 use std::test::Fail;
@@ -173,7 +173,7 @@ fn a_wrong_handle_is_named(rt: HostRuntime) -> Result<(), Fail> {
     let mut zero = new_client(rt.alloc(), 0)?;
     let mut one = new_client(rt.alloc(), 1)?;
     zero.create(rt.alloc(), b"a", 2)?;
-    let wrong = wrong_handle(rt.alloc(), &mut zero)?;
+    let wrong = wrong_handle(rt.alloc(), &zero)?;
     one.get_items(rt.alloc(), &zero, &[1])?;
     let group = Principal::Group(Group::FIRST);
     one.refuses(&rt, rt.alloc(), &wrong, ViewRefusal::WrongHandle(group))?;
@@ -182,13 +182,13 @@ fn a_wrong_handle_is_named(rt: HostRuntime) -> Result<(), Fail> {
 }
 
 // A list of the first commit with another handle of group 0, signed by its author.
-fn wrong_handle(alloc: Global, author: &mut Client) -> Result<Vec<u8>, Fail> {
+fn wrong_handle(alloc: Global, author: &Client) -> Result<Vec<u8>, Fail> {
     let commit = author.commit_at(alloc, 1)?;
     let mut bytes = commit.version().encode(alloc)?;
     // behind `SV01`, the author, three digests, the count of groups and the group
     let byte = bytes.as_mut_slice().get_mut(103).ok_or("short")?;
     *byte ^= 1;
-    let signature = author.sign(&bytes)?;
+    let signature = signer(alloc, 0)?.sign(&bytes)?;
     push_counted(&mut bytes, &signature)?;
     let mut list = Vec::new(alloc);
     push_counted(&mut list, &bytes)?;
