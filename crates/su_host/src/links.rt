@@ -1,4 +1,7 @@
 // Links to a server.
+ghost use Rattle.std.specs.Prelude.{IfOk};
+ghost use Rattle.su_client.specs.Link.{IsFresh};
+
 use std::alloc::Global;
 use std::io;
 use std::io::BufReader;
@@ -18,7 +21,9 @@ pub fn connect<T: Net<Listener = TcpListener, Stream = TcpStream>>(
     alloc: Global,
     host: &T,
     port: u16,
-) -> io::Result<Link> {
+) -> io::Result<Link>
+    ensures { IfOk result (λ link. IsFresh link.link) }
+{
     let writer = TcpStream::connect(host, (Ipv4Addr::LOCALHOST, port))?;
     writer.set_nodelay(true)?;
     let limit = Some(Duration::from_secs(SECONDS));

@@ -1,4 +1,7 @@
 // Users' clients, each call of a view or a member in a function of its own.
+ghost use Rattle.std.specs.Prelude.{◌≡◌, IfOk};
+ghost use Rattle.su_client.specs.Link.{IsFresh};
+
 use std::alloc::Global;
 use std::net::{Net, SocketAddr, TcpListener, TcpStream};
 use std::time::{Clock, Duration};
@@ -65,6 +68,8 @@ impl<R> Surroundings<TcpStream, TcpStream> for Runner<'_, R>
 where
     R: Net<Listener = TcpListener, Stream = TcpStream> + Clock,
 {
+    ghost may_connect = { λ _. Unit {0} };
+
     fn pause(&mut self, time: Duration) {
         thread::sleep(self.rt, time);
     }
@@ -78,6 +83,8 @@ impl<R> Program<TcpStream, TcpStream> for Runner<'_, R>
 where
     R: Net<Listener = TcpListener, Stream = TcpStream> + Clock,
 {
+    ghost saves = { λ _ _ log after. after.saved.items ≡ log };
+
     fn save(&mut self, _file: &[u8], log: &[u8]) -> io::Result<()> {
         self.saved = Vec::from_slice(self.alloc, log)?;
         Ok(())
@@ -105,6 +112,7 @@ pub(crate) fn roster(alloc: Global) -> Result<Roster, Refusal> {
 fn link_to<R>(rt: &R, alloc: Global, at: SocketAddr) -> io::Result<Link>
 where
     R: Net<Listener = TcpListener, Stream = TcpStream>,
+    ensures { IfOk result (λ link. IsFresh link.link) }
 {
     let writer = TcpStream::connect(rt, at)?;
     writer.set_nodelay(true)?;

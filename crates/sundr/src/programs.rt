@@ -37,6 +37,9 @@ impl<T> Surroundings<BufReader<TcpStream>, TcpStream> for ClientProgram<'_, T>
 where
     T: Net<Listener = TcpListener, Stream = TcpStream>,
 {
+    // Of what a connection brings no contract can speak.
+    ghost may_connect = { λ _. Unit {0} };
+
     fn pause(&mut self, time: Duration) {
         thread::sleep(self.rt, time);
     }
@@ -65,6 +68,9 @@ impl<T> Program<BufReader<TcpStream>, TcpStream> for ClientProgram<'_, T>
 where
     T: Net<Listener = TcpListener, Stream = TcpStream>,
 {
+    // Of what a file holds no contract can speak.
+    ghost saves = { λ _ _ _ _. Unit {0} };
+
     fn save(&mut self, file: &[u8], log: &[u8]) -> io::Result<()> {
         save_log(self.rt, file, log)
     }
