@@ -282,6 +282,10 @@ abbrev pub EachKnows : List SeatView → List Entry → Type 0
 EachKnows seats records = (k : ℕ) (s : SeatView) → slice_get seats k ≡ Some s
     → Knows s.known records
 
+-- each of these seats has its place as its number
+abbrev pub AreInOrder : List SeatView → Type 0
+AreInOrder seats = (k : ℕ) (s : SeatView) → slice_get seats k ≡ Some s → s.number ≡ k
+
 -- these are the book's seats, in order, with what the steps say that they were told
 pub record AreAll (seats : List SeatView) (h : HeldView) : Type 0 where
   pub count : length seats ≡ h.seats

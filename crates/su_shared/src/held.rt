@@ -1,5 +1,6 @@
 // What lies under the lock, beside the keeper.
 ghost use Rattle.std.specs.Prelude.{◌≡◌, ◌≢◌, ◌-◌, ◌+◌, ◌≤◌, ◌<◌, ◌++◌, [], ◌⊎◌, length, true, false, IfSome, IfNone, IfOk, IfErr, OnOk, OnErr, Err, None, Some, vec_len, vec_capacity, option_to_list, replicate, map, slice_get, ℕ, List, ◌∷◌, IsPermutation};
+ghost use Rattle.std.specs.List.Sorted.{IsNonDecreasingBy};
 ghost use Rattle.su_bytes.specs.declared.refusals.Refusal.TheVariants.{NoMemory, BookFull, BadNumber, SourceFailed};
 ghost use Rattle.su_version.specs.Commit.{Commit, commit_bytes};
 ghost use Rattle.su_book.specs.declared.events.Event.TheVariants.{Grant, Give};
@@ -8,7 +9,7 @@ ghost use Rattle.su_book.specs.Machine.{Asks, IsRun, Stepped, TellsRecords, coun
 ghost use Rattle.su_keeper.specs.Kept.{KeptRecord};
 ghost use Rattle.su_shared.specs.Entry.{contents};
 ghost use Rattle.su_shared.specs.Seats.{Learns};
-ghost use Rattle.su_shared.specs.Shares.{kept_of, kept_after, kept_all, made_of, receipt_for, learned, AreRecords, IsOrderly, IsFresh, IsStepRefusal, IsStoreFault, LeavesBehind, MayMeet, is_grant, Gives, nothing, AreAll, Knows, EachKnows, IsSeat, last_of};
+ghost use Rattle.su_shared.specs.Shares.{kept_of, kept_after, kept_all, made_of, receipt_for, learned, AreRecords, AreInOrder, IsOrderly, IsFresh, IsStepRefusal, IsStoreFault, LeavesBehind, MayMeet, is_grant, Gives, nothing, AreAll, Knows, EachKnows, IsSeat, last_of};
 
 use crate::cells::{BookName, Cells, Record};
 use crate::notes::{Notes, Receipt};
@@ -187,18 +188,20 @@ impl<N: BookName, K: Keeper> Held<N, K> {
 
     /// Whether these are the book's seats, in order, and were told what is kept for them.
     pub fn is_all(&self, seats: &Vec<Seat<N, K>>) -> bool
-        ensures { result ≡ true → AreAll seats.now.items self.now }
+        ensures is { result ≡ true → AreAll seats.now.items self.now }
+        ensures not { result ≡ false → ¬ AreAll seats.now.items self.now }
     {
         are_kept(&self.kept, seats)
     }
 
-    /// Ends the book. The seats are to be all of its seats, in any order; else all is handed back.
+    /// Ends the book. The seats are to be all of its seats, in any order, as they were told; else all
+    /// is handed back, the seats in the order of their numbers.
     pub fn close(self, mut seats: Vec<Seat<N, K>>) -> Result<Book, (Held<N, K>, Vec<Seat<N, K>>)>
         ensures book { IfOk result (λ b. b ≡ self.book) }
         ensures all { OnOk result ((sorted : _) × IsPermutation seats.items sorted
             × AreAll sorted self × EachKnows sorted self.records) }
-        ensures err { IfErr result (λ r.
-            (r.0 ≡ self) × IsPermutation seats.items r.1.items) }
+        ensures err { IfErr result (λ r. (r.0 ≡ self) × IsPermutation seats.items r.1.items
+            × IsNonDecreasingBy (λ s. s.number) r.1.items × ¬ AreAll r.1.items self) }
     {
         seats.sort_unstable_by_key(|seat| seat.number());
         self.close_in_order(seats)
@@ -212,7 +215,8 @@ impl<N: BookName, K: Keeper> Held<N, K> {
         ensures book { IfOk result (λ b. b ≡ self.book) }
         ensures all { OnOk result (AreAll seats.items self) }
         ensures knows { OnOk result (EachKnows seats.items self.records) }
-        ensures err { IfErr result (λ r. (r.0 ≡ self) × (r.1.items ≡ seats.items)) }
+        ensures err { IfErr result (λ r. (r.0 ≡ self) × (r.1.items ≡ seats.items)
+            × ¬ AreAll seats.items self) }
     {
         if !self.is_all(&seats) {
             return Err((self, seats));
@@ -416,15 +420,18 @@ fn last_receipt<N: BookName, K: Keeper>(receipts: &mut Vec<Receipt<N, K>>) -> Op
 }
 
 fn are_same(one: Kept, other: Kept) -> bool
-    ensures { result ≡ true → one ≡ other }
+    ensures is { result ≡ true → one ≡ other }
+    ensures not { result ≡ false → one ≢ other }
 {
     one == other
 }
 
 /// Whether these seats are numbered in order, and were told what is kept.
 fn are_kept<N: BookName, K: Keeper>(kept: &Vec<Kept>, seats: &Vec<Seat<N, K>>) -> bool
-    ensures { result ≡ true → (map (λ s. s.kept) seats.now.items ≡ kept.now.items)
-        × ((k : ℕ) (s : _) → slice_get seats.now.items k ≡ Some s → s.number ≡ k) }
+    ensures is { result ≡ true → (map (λ s. s.kept) seats.now.items ≡ kept.now.items)
+        × AreInOrder seats.now.items }
+    ensures not { result ≡ false → map (λ s. s.kept) seats.now.items ≡ kept.now.items
+        → ¬ AreInOrder seats.now.items }
 {
     if seats.len() != kept.len() {
         return false;

@@ -16,15 +16,15 @@ loop-i-preserved g c =
     let in_seats : i < length seats = omega (arith, c.args.seats.now.ok) in
     let in_kept : i < length kept = omega (arith, c.args.seats.now.ok, c.args.kept.now.ok) in
     let at : s ≡ get_or seats i s = c.index-seat.ensures in
-    let same : s.kept ≡ get_or kept i nothing = sym c.kept.ensures ∙ (c.if-not-are_same.ensures refl ∙ get_or_read kept i c.index.result.now in_kept c.index.ensures nothing) in
+    let same : s.kept ≡ get_or kept i nothing = sym c.kept.ensures ∙ (c.if-not-are_same.ensures.is refl ∙ get_or_read kept i c.index.result.now in_kept c.index.ensures nothing) in
     let number : s.number ≡ i = omega (arith, c.number.ensures, c.from.ensures) in
     record {
       kept = kept_more seats kept i s at in_seats in_kept same c.loop-i.invariant.kept;
       numbers = below_next (λ k (x : SeatView). x.number ≡ k) seats i s at in_seats number (λ k x lt is. c.loop-i.invariant.numbers k x lt is);
     }
 
-pub returns : goal.returns
-returns g c = λ yes.
+pub returns-clause-is : goal.returns-clause-is
+returns-clause-is g c = λ yes.
     let seats : List SeatView = c.args.seats.now.items in
     let kept : List Kept = c.args.kept.now.items in
     let all : c.loop-i.i ≡ length seats = omega (arith, c.args.seats.now.ok) in
