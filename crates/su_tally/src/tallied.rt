@@ -32,7 +32,7 @@ impl<K: Keeper, N: Notebook> Tallied<K, N> {
     /// process.
     pub fn new(keeper: K, notebook: N, noted: u64) -> Tallied<K, N>
         requires { K.holds keeper [] }
-        ensures holds { K.holds result.keeper [] }
+        ensures keeper { result.keeper ≡ keeper }
         ensures none { result.kept ≡ 0 }
         ensures noted { result.noted ≡ noted }
     {
