@@ -210,6 +210,8 @@ impl<'a, 'f, 'n, K: HasFiles + Drop> Closing for Guard<'a, 'f, 'n, K> {
 }
 
 impl<'a, 'f, 'n, K: Keeper + HasFiles> Keeper for Guard<'a, 'f, 'n, K> {
+    ghost use Rattle.std.specs.Prelude.{◌≡◌, true};
+
     ghost holds = { λ g. K.holds g.keeper };
 
     ghost found = { λ g. K.found g.keeper };
@@ -238,7 +240,10 @@ impl<'a, 'f, 'n, K: Keeper + HasFiles> Keeper for Guard<'a, 'f, 'n, K> {
         found
     }
 
-    fn gives_back() -> bool {
+    fn gives_back() -> bool
+        ensures is { result ≡ K.reads_back }
+        ensures failed { result ≡ true → K.may_fail }
+    {
         K::gives_back()
     }
 
