@@ -1,4 +1,3 @@
-pub mod AheadLemmas
 mod KeyLemmas
 mod StepLemmas
 mod AuditLemmas

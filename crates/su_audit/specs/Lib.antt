@@ -1,4 +1,3 @@
-pub mod Ahead
 pub mod Single
 pub mod Step
 pub mod Audit

@@ -4,7 +4,6 @@ ghost use Rattle.std.specs.Io.KnownBytes.{Appends};
 ghost use Rattle.su_audit.specs.declared.audits.Ending.TheVariants.{Taken, Refused};
 ghost use Rattle.su_audit.specs.Audit.{Prints, PrintsSome, Tells, taken_text, refused_text};
 
-use crate::ahead::Ahead;
 use crate::singles::Single;
 use crate::steps::{Step, next_step};
 use std::alloc::{AllocError, Global};
@@ -13,6 +12,7 @@ use std::thread::Threads;
 use std::{fmt, io};
 use su_block::MemoryBlocks;
 use su_bytes::{Refusal, Roster, User};
+use su_log_ahead::Ahead;
 use su_view::{View, ViewRefusal};
 
 /// How an audit ended.

@@ -2,7 +2,6 @@
 //! view, up to the first one that this refuses.
 #![tactic(auto)]
 
-mod ahead;
 mod audits;
 mod keys;
 mod singles;

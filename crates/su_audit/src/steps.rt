@@ -1,6 +1,5 @@
 // One record of a log.
 ghost use Rattle.std.specs.Prelude.{◌≡◌, ◌≢◌, ◌⊎◌, ℕ, List, [], ◌∷◌, Ok, IfErr, OnOk, OnErr};
-ghost use Rattle.std.specs.List.{AllByRecursion};
 ghost use Rattle.su_view.specs.declared.refusals.ViewRefusal.TheVariants.{Plain};
 ghost use Rattle.sha2.specs.Sha256.{sha256};
 ghost use Rattle.su_bytes.specs.declared.refusals.Refusal.TheVariants.{Malformed, MissingBlock, NoMemory};
@@ -10,11 +9,10 @@ ghost use Rattle.su_version.specs.Commit.{commit_bytes};
 ghost use Rattle.su_view.specs.Holding.{Took};
 ghost use Rattle.su_view.specs.Joining.{HasFailed, IsRefusedCommit};
 ghost use Rattle.su_log.specs.Record.{IsExamined, IsVerdict, spelled};
-ghost use Rattle.su_audit.specs.Ahead.{IsLeft};
+ghost use Rattle.su_log_ahead.specs.Ahead.{IsLeft};
 ghost use Rattle.su_audit.specs.declared.steps.Step.TheVariants as step;
 ghost use Rattle.su_audit.specs.Step.{IsRefusedRecord, TakesRecord, Steps};
 
-use crate::ahead::Ahead;
 use crate::singles::Single;
 use std::alloc::Global;
 use std::io;
@@ -23,6 +21,7 @@ use std::thread::Threads;
 use su_block::{BlockSource, MemoryBlocks};
 use su_bytes::Refusal;
 use su_log::{Record, Stop};
+use su_log_ahead::Ahead;
 use su_version::{Commit, Verdict};
 use su_view::{View, ViewRefusal};
 
@@ -51,14 +50,9 @@ pub(crate) fn next_step<T: Threads + Sync, R: Read + Drop>(
     items: &mut MemoryBlocks,
     view: &mut View<Single>,
 ) -> Step
-    requires { AllByRecursion IsExamined log.old.records.items }
-    ensures examined { AllByRecursion IsExamined log.new.records.items }
-    ensures steps { (place : ℕ) (input : List ℕ)
-        → IsLeft log.old.records.items log.old.stop log.old.log.place
-        (R.remaining log.old.log.reader) place input
-        → Steps place view.old.holding items.old.items input
-        (IsLeft log.new.records.items log.new.stop log.new.log.place
-        (R.remaining log.new.log.reader)) view.new.holding items.new.items result }
+    ensures { (place : ℕ) (input : List ℕ) → IsLeft log.old place input
+        → Steps place view.old.holding items.old.items input (IsLeft log.new)
+        view.new.holding items.new.items result }
 {
     match log.next(rt, alloc, view.roster()) {
         Ok(next) => match take(alloc, items, view, next) {

@@ -1,13 +1,14 @@
 // Records that are read ahead of their turn, so that their signatures are checked on all cores.
-ghost use Rattle.std.specs.Prelude.{◌≡◌, ◌<◌, ◌+◌, ℕ, List, [], Some, None, IfOk, MatchResult, length, slice_index_or, vec_len};
+ghost use Rattle.std.specs.Prelude.{◌≡◌, ◌<◌, ◌+◌, ◌↔◌, ℕ, IsTrue, List, [], Some, None, IfOk, MatchResult, length, vec_len};
 ghost use Rattle.std.specs.List.{AllByRecursion};
 ghost use Rattle.su_log.specs.Log.{record_bytes};
 ghost use Rattle.su_log.specs.Record.{IsRead, IsExamined, BeginsWithRecord, StopsSo, spelled};
-ghost use Rattle.su_audit.specs.Ahead.{IsLeft, IsExaminedFrom};
+ghost use Rattle.su_log_ahead.specs.Ahead.{IsLeft, IsUsedUp, AreExaminedFrom};
 
 use std::alloc::{AllocError, Global};
 use std::collections::VecDeque;
 use std::io::Read;
+use std::marker::Model;
 use std::thread;
 use std::thread::Threads;
 use su_bytes::Roster;
@@ -19,9 +20,10 @@ const MOST_RECORDS: usize = 256;
 /// Once the records that were read ahead have so many bytes, no more are.
 const MANY_BYTES: usize = 16_777_216;
 
-/// A log of which records are read ahead.
+/// A log of which records are read ahead. Of each of these it is known whether its commit is
+/// signed, unless memory was refused for that.
 #[derive(Drop)]
-pub(crate) struct Ahead<R> {
+pub struct Ahead<R: Read> {
     log: Log<R>,
     /// What was read and not taken yet.
     records: VecDeque<Record>,
@@ -29,13 +31,32 @@ pub(crate) struct Ahead<R> {
     stop: Option<Stop>,
 }
 
+impl<R: Read> Model for Ahead<R> {
+    ghost use Rattle.std.specs.List.{AllByRecursion};
+    ghost use Rattle.su_log.specs.Record.{IsExamined};
+    ghost use Rattle.su_log_ahead.specs.Ahead.{AheadState};
+
+    ghost Value = { AheadState };
+
+    ghost view = { λ s. record {
+      records = s.records.items;
+      stop = s.stop;
+      place = s.log.place;
+      known = R.remaining s.log.reader;
+    } };
+
+    ghost invariant = { λ s. AllByRecursion IsExamined s.records.items };
+}
+
 impl<R: Read + Drop> Ahead<R> {
     /// Makes the log that this reader gives, of which nothing is read yet.
     pub fn new(alloc: Global, reader: R) -> Ahead<R>
-        ensures reader { result.log.reader ≡ reader }
-        ensures place { result.log.place ≡ 0 }
-        ensures records { result.records.items ≡ [] }
-        ensures stop { result.stop ≡ None }
+        ensures { result ≡ record {
+          records = [];
+          stop = None;
+          place = 0;
+          known = R.remaining reader;
+        } }
     {
         Ahead {
             log: Log::new(reader),
@@ -44,31 +65,31 @@ impl<R: Read + Drop> Ahead<R> {
         }
     }
 
-    /// Whether what was read ahead is taken, and there may be more.
-    pub fn is_used_up(&self) -> bool {
+    /// Tells whether all that was read ahead is taken, so that the next call of `next` reads ahead.
+    pub fn is_used_up(&self) -> bool
+        ensures { IsTrue result ↔ IsUsedUp self.now }
+    {
         self.records.is_empty() && self.stop.is_none()
     }
 
-    /// Gives away the next record, with what is known of it; where nothing is left of what was read
-    /// ahead, it reads ahead first. Fails where there is none.
+    /// Gives away the next record, with what is known of it. Where nothing is left of what was read
+    /// ahead, it reads ahead first: 256 records, or fewer once they have 16 MiB, and finds out on
+    /// all cores which of their commits are signed. Fails where no record comes next: `End` at the
+    /// end of the log; `Cut` with the place of a number of bytes that is cut or goes past the end;
+    /// `Failed` where the log can't be read, or memory is refused.
     pub fn next<T: Threads + Sync>(
         &mut self,
         rt: &T,
         alloc: Global,
         roster: &Roster,
     ) -> Result<Record, Stop>
-        requires { AllByRecursion IsExamined self.old.records.items }
-        ensures examined { AllByRecursion IsExamined self.new.records.items }
         ensures known { IfOk result IsExamined }
-        ensures next { (place : ℕ) (input : List ℕ)
-            → IsLeft self.old.records.items self.old.stop self.old.log.place
-            (R.remaining self.old.log.reader) place input
+        ensures next { (place : ℕ) (input : List ℕ) → IsLeft self.old place input
             → MatchResult result (λ r. (rest : List ℕ) × BeginsWithRecord input (spelled r) rest
-            × IsLeft self.new.records.items self.new.stop self.new.log.place
-            (R.remaining self.new.log.reader) (place + length (record_bytes (spelled r))) rest)
+            × IsLeft self.new (place + length (record_bytes (spelled r))) rest)
             (λ stop. StopsSo stop place input) }
     {
-        if self.records.is_empty() && self.stop.is_none() {
+        if self.is_used_up() {
             self.read_ahead(rt, alloc, roster);
         }
         match self.records.pop_front() {
@@ -83,15 +104,10 @@ impl<R: Read + Drop> Ahead<R> {
     /// Reads ahead, where nothing is left of what was, and finds out on all cores which of the
     /// commits are signed.
     fn read_ahead<T: Threads + Sync>(&mut self, rt: &T, alloc: Global, roster: &Roster)
-        requires records { self.old.records.items ≡ [] }
-        requires stop { self.old.stop ≡ None }
-        ensures examined { AllByRecursion IsExamined self.new.records.items }
-        ensures some { self.new.records.items ≡ [] → self.new.stop ≡ None → ⊥ }
-        ensures left { (place : ℕ) (input : List ℕ)
-            → IsLeft self.old.records.items self.old.stop self.old.log.place
-            (R.remaining self.old.log.reader) place input
-            → IsLeft self.new.records.items self.new.stop self.new.log.place
-            (R.remaining self.new.log.reader) place input }
+        requires { IsUsedUp self.old }
+        ensures some { ¬ IsUsedUp self.new }
+        ensures left { (place : ℕ) (input : List ℕ) → IsLeft self.old place input
+            → IsLeft self.new place input }
     {
         match read_records(alloc, &mut self.log) {
             Ok((mut records, stop)) => {
@@ -114,7 +130,12 @@ fn read_records<R: Read + Drop>(
         AllByRecursion (λ r. IsRead r.bytes.items r.commit) b.0.items) }
     ensures some { IfOk result (λ b. b.1 ≡ None → 0 < vec_len b.0) }
     ensures left { IfOk result (λ b. (input : List ℕ) → R.remaining log.old.reader ≡ Some input
-        → IsLeft b.0.items b.1 log.new.place (R.remaining log.new.reader) log.old.place input) }
+        → IsLeft (record {
+          records = b.0.items;
+          stop = b.1;
+          place = log.new.place;
+          known = R.remaining log.new.reader;
+        }) log.old.place input) }
 {
     let mut records = Vec::with_capacity(alloc, MOST_RECORDS)?;
     let mut bytes = 0;
@@ -134,11 +155,10 @@ fn read_records<R: Read + Drop>(
     Ok((records, None))
 }
 
-/// Finds out which of the commits are signed, on all cores.
-fn examine<T: Threads + Sync>(rt: &T, alloc: Global, roster: &Roster, records: &mut [Record])
-    ensures { (i : ℕ) (d : Record) → i < length records.old
-        → IsExaminedFrom (slice_index_or records.old i d)
-        (slice_index_or records.new i d) }
+/// Finds out on all cores which of the commits are signed under their author's key. Of a record
+/// without a commit, or where memory is refused, it isn't known.
+pub fn examine<T: Threads + Sync>(rt: &T, alloc: Global, roster: &Roster, records: &mut [Record])
+    ensures { AreExaminedFrom records.old records.new }
 {
     let threads = match thread::available_parallelism(rt) {
         Ok(threads) => threads.get(),

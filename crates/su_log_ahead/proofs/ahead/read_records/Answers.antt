@@ -1,6 +1,6 @@
 use Rattle.std.proofs.Common.{arith}
-use Rattle.su_audit.proofs.AheadLemmas.{left_further, left_stopped, read_more}
-use Rattle.su_audit.proofs.ahead.read_records.Goals as goal
+use Rattle.su_log_ahead.proofs.AheadLemmas.{left_further, left_stopped, read_more}
+use Rattle.su_log_ahead.proofs.ahead.read_records.Goals as goal
 
 pub loop-alloc-preserved : goal.loop-alloc-preserved
 loop-alloc-preserved g c = record {

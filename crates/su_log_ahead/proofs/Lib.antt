@@ -1,0 +1,2 @@
+mod AheadLemmas
+pub mod Public
