@@ -8,11 +8,12 @@ use Rattle.su_format.specs.Format.{whole}
 use Rattle.su_format.proofs.Public.{whole_lawful, spelling_told}
 use Rattle.su_version.specs.Commit.{Commit, IsCommit, commit_bytes, commit_format}
 use Rattle.su_version.proofs.Public.{commit_of, commit_lawful}
+use Rattle.su_book.specs.Malformed.{IsMalformed}
 use Rattle.su_book.specs.declared.events.Event.{Event}
 use Rattle.su_book.specs.declared.events.Event.TheVariants as event
 use Rattle.su_book.specs.declared.steps.Act.{Act}
 use Rattle.su_book.specs.declared.steps.Act.TheVariants.{Granted, Stored, Given}
-use Rattle.su_book.specs.Machine.{BookState, storing_order, MayBeGranted, MayBeStored, MayAct, Asks, IsMalformed, IsUnfit, IsRefused}
+use Rattle.su_book.specs.Machine.{BookState, storing_order, MayBeGranted, MayBeStored, MayAct, Asks, IsUnfit, IsRefused}
 
 -- ---- what bytes spell
 

@@ -4,11 +4,10 @@ use Rattle.std.specs.Prelude.{◌≡◌, ◌≢◌, ◌≤◌, ◌<◌, ◌+◌,
 use Rattle.su_bytes.specs.Membership.{Membership}
 use Rattle.su_bytes.specs.Order.{Line, demand, Passes, RefusedBy}
 use Rattle.su_bytes.specs.declared.refusals.Refusal.{Refusal}
-use Rattle.su_bytes.specs.declared.refusals.Refusal.TheVariants.{Malformed, Busy, NotYourTurn, BookFull}
-use Rattle.su_format.specs.Format.{whole}
-use Rattle.su_format.specs.Reading.{start, IsRefusedAt}
-use Rattle.su_version.specs.Commit.{Commit, IsCommit, commit_bytes, commit_format}
+use Rattle.su_bytes.specs.declared.refusals.Refusal.TheVariants.{Busy, NotYourTurn, BookFull}
+use Rattle.su_version.specs.Commit.{Commit, IsCommit, commit_bytes}
 use Rattle.su_version.specs.Chain.{next_order, tip}
+use Rattle.su_book.specs.Malformed.{IsMalformed}
 use Rattle.su_book.specs.declared.events.Event.{Event}
 use Rattle.su_book.specs.declared.events.Event.TheVariants as event
 use Rattle.su_book.specs.declared.events.BookReply.{BookReply}
@@ -113,11 +112,6 @@ Asks event.Give Given = Unit {0}
 Asks _ _ = ⊥
 
 -- ---- what it is refused
-
--- no commit is spelled so; the first part that isn't there begins at that place
-abbrev pub IsMalformed : List ℕ → Refusal → Type 0
-IsMalformed bytes e =
-    (place : ℕ) × (e ≡ Malformed place) × IsRefusedAt (whole commit_format) (start bytes) place
 
 -- the bytes are those of no commit, or of one that isn't stored for the seat that has the turn
 abbrev pub IsUnfit : BookState → List ℕ → Refusal → Type 0

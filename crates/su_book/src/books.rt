@@ -8,6 +8,7 @@ ghost use Rattle.su_book.specs.Machine.{IsCapacity, IsRun, Asks, MayFollow, IsRe
 
 use crate::events::{BookReply, Event};
 use crate::keeping::{Keeping, find_room, last_numbers};
+use crate::offers::Offer;
 use crate::steps::{Act, Step};
 use std::alloc::{AllocError, Global};
 use std::marker::Model;
@@ -73,18 +74,20 @@ impl Book {
     /// in, or the turn given back, by a seat that hasn't the turn. Of a commit then: `Malformed`
     /// where the bytes are none's, with the place of the first part that isn't there;
     /// `BadSignature`, `WrongPrev` with the number of records, `WrongVector`, `KeyReuse` where it
-    /// isn't the next, as `ChainEnd::check` says; `BookFull`; and `NoMemory`. It makes one check of
-    /// a signature, and takes no longer where there are more steps.
-    pub fn answer(&self, seat: u16, event: &Event) -> Result<Step, Refusal>
+    /// isn't the next, as `ChainEnd::check` says; `BookFull`; and `NoMemory`. It takes what was
+    /// found out of the commit before, which the offer then has no longer; else it makes one check
+    /// of a signature. It takes no longer where there are more steps.
+    pub fn answer(&self, seat: u16, event: &mut Event) -> Result<Step, Refusal>
+        ensures same { event.new ≡ event.old }
         ensures seat { IfOk result (λ step. step.seat ≡ seat) }
-        ensures asked { IfOk result (λ step. Asks event.now step.act) }
+        ensures asked { IfOk result (λ step. Asks event.old step.act) }
         ensures follows { IfOk result (λ step. MayFollow self.now step) }
-        ensures refused { IfErr result (λ e. IsRefused self.now seat event.now e
-            ⊎ ((e ≡ NoMemory) × (event.now ≢ Grant) × (event.now ≢ Give))) }
+        ensures refused { IfErr result (λ e. IsRefused self.now seat event.old e
+            ⊎ ((e ≡ NoMemory) × (event.old ≢ Grant) × (event.old ≢ Give))) }
     {
         match event {
             Event::Grant => self.grant(seat),
-            Event::Commit(bytes) => self.store(seat, bytes),
+            Event::Commit(offer) => self.store(seat, offer),
             Event::Give => self.give(seat),
         }
     }
@@ -102,17 +105,18 @@ impl Book {
         Ok(Step { seat, act })
     }
 
-    fn store(&self, seat: u16, bytes: &Vec<u8>) -> Result<Step, Refusal>
+    fn store(&self, seat: u16, offer: &mut Offer) -> Result<Step, Refusal>
+        ensures same { offer.new ≡ offer.old }
         ensures seat { IfOk result (λ step. step.seat ≡ seat) }
-        ensures asked { IfOk result (λ step. Asks (Commit bytes.now) step.act) }
+        ensures asked { IfOk result (λ step. Asks (Commit offer.old) step.act) }
         ensures follows { IfOk result (λ step. MayFollow self.now step) }
-        ensures refused { IfErr result (λ e. IsRefused self.now seat (Commit bytes.now) e
+        ensures refused { IfErr result (λ e. IsRefused self.now seat (Commit offer.old) e
             ⊎ (e ≡ NoMemory)) }
     {
         if !self.keeping.has_turn(seat) {
             return Err(Refusal::NotYourTurn);
         }
-        let commit = self.keeping.check(self.alloc, bytes.as_slice())?;
+        let commit = self.keeping.check(self.alloc, offer)?;
         let act = Act::Stored(self.keeping.count() + 1, commit);
         Ok(Step { seat, act })
     }
@@ -162,10 +166,11 @@ impl Book {
 
     /// Makes the step that a seat asks for, and tells the seat of it. The refusals are those of
     /// `answer`, and of a grant `NoMemory`; they change nothing.
-    pub fn step(&mut self, seat: u16, event: &Event) -> Result<BookReply, Refusal>
-        ensures stepped { IfOk result (Stepped self.old seat event.now self.new) }
-        ensures refused { IfErr result (λ e. IsRefused self.old seat event.now e
-            ⊎ ((e ≡ NoMemory) × (event.now ≢ Give))) }
+    pub fn step(&mut self, seat: u16, event: &mut Event) -> Result<BookReply, Refusal>
+        ensures same { event.new ≡ event.old }
+        ensures stepped { IfOk result (Stepped self.old seat event.old self.new) }
+        ensures refused { IfErr result (λ e. IsRefused self.old seat event.old e
+            ⊎ ((e ≡ NoMemory) × (event.old ≢ Give))) }
         ensures err { OnErr result (self.new ≡ self.old) }
     {
         let step = self.answer(seat, event)?;

@@ -2,7 +2,7 @@
 ghost use Rattle.std.specs.Prelude.{◌≡◌, ◌⊎◌, IfOk, IfErr};
 ghost use Rattle.su_bytes.specs.declared.refusals.Refusal.TheVariants.{NoMemory};
 ghost use Rattle.su_version.specs.Commit.{IsCommit, commit_bytes, commit_digest};
-ghost use Rattle.su_book.specs.Machine.{IsMalformed};
+ghost use Rattle.su_book.specs.Malformed.{IsMalformed};
 
 use sha2::Sha256;
 use std::alloc::Global;

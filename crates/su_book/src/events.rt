@@ -1,11 +1,12 @@
 // What a seat asks of a book, and what it is told.
+use crate::offers::Offer;
 use su_bytes::User;
 
 /// What a seat asks for: the turn; that the commit of these bytes is stored; to give the turn back.
 #[derive(Drop)]
 pub enum Event {
     Grant,
-    Commit(Vec<u8>),
+    Commit(Offer),
     Give,
 }
 

@@ -1,20 +1,24 @@
 // How a book is kept.
 ghost use Rattle.std.specs.Prelude.{◌≡◌, ◌≢◌, ◌<◌, ◌+◌, ◌-◌, ◌^◌, ◌⊎◌, ◌↔◌, ◌++◌, ℕ, List, [], IsTrue, IfSome, IfNone, Some, None, length, IfOk, IfErr, OnOk, OnErr};
 ghost use Rattle.su_bytes.specs.Membership.{Membership};
-ghost use Rattle.su_bytes.specs.Order.{Passes};
+ghost use Rattle.su_bytes.specs.Order.{Passes, RefusedBy};
 ghost use Rattle.su_bytes.specs.declared.refusals.Refusal.TheVariants.{BadKey, NoMemory};
-ghost use Rattle.su_version.specs.Commit.{Commit, IsCommit, commit_bytes};
+ghost use Rattle.su_version.specs.Commit.{Commit as CommitParts, IsCommit, commit_bytes};
+ghost use Rattle.su_version.specs.Chain.{MayBeNext, next_order, tip};
 ghost use Rattle.su_chain.specs.ChainEnd.{IsEndOf, HasBadKey};
 ghost use Rattle.su_book.specs.declared.steps.Act.TheVariants.{Granted, Stored, Given};
 ghost use Rattle.su_book.specs.Machine.{IsCapacity, MayFollow, IsUnfit, storing_order, stored_by, turn_after, with_step, holder_of, records_of, count_of, last_numbers, paired};
+ghost use Rattle.su_book.specs.Offer.{IsVerdict};
 ghost use Rattle.su_book.specs.Kept.{AreLast, IsKeeping, book_of, StoresNext};
 
 use crate::commits::HashedCommit;
 use crate::journals::Journal;
+use crate::offers::{Found, Offer};
 use crate::steps::{Act, Step};
 use std::alloc::{AllocError, Global};
 use su_bytes::{Refusal, Roster, User};
 use su_chain::ChainEnd;
+use su_version::{Commit, Verdict};
 
 /// How many users there can be.
 const USERS: usize = 64;
@@ -84,22 +88,47 @@ impl Keeping {
         self.holder.filter(|holder| *holder != seat)
     }
 
-    /// Checks whether the commit of these bytes may be stored, but for the turn, and finds its
-    /// number. It makes one check of a signature.
-    pub fn check(&self, alloc: Global, bytes: &[u8]) -> Result<HashedCommit, Refusal>
+    /// Checks whether the commit of these bytes may be stored, but for the turn. It takes what was
+    /// found out of them before, and checks the signature where there is no verdict on it under the
+    /// author's key.
+    pub fn check(&self, alloc: Global, offer: &mut Offer) -> Result<HashedCommit, Refusal>
         requires kept { IsKeeping self.now }
-        ensures spelled { IfOk result (λ c. bytes.now ≡ commit_bytes c) }
+        ensures same { offer.new ≡ offer.old }
+        ensures spelled { IfOk result (λ c. offer.old.items ≡ commit_bytes c) }
         ensures commit { IfOk result IsCommit }
         ensures fits { IfOk result (λ c. Passes (storing_order (book_of self.now) c)) }
         ensures refused { IfErr result (λ e.
-            (e ≡ NoMemory) ⊎ IsUnfit (book_of self.now) bytes.now e) }
+            (e ≡ NoMemory) ⊎ IsUnfit (book_of self.now) offer.old.items e) }
     {
-        let commit = HashedCommit::decode(alloc, bytes)?;
-        self.end.check(alloc, &self.roster, commit.commit())?;
+        let Found { commit, verdict } = offer.give_up(alloc)?;
+        self.check_next(alloc, verdict, commit.commit())?;
         if self.end.number() >= self.capacity {
             return Err(Refusal::BookFull);
         }
         Ok(commit)
+    }
+
+    /// Checks whether a commit may come next after the records, as `ChainEnd::check` does. It takes
+    /// the verdict on its signature, if there is one under the author's key.
+    fn check_next(
+        &self,
+        alloc: Global,
+        verdict: Option<Verdict>,
+        commit: &Commit,
+    ) -> Result<(), Refusal>
+        requires kept { IsKeeping self.now }
+        requires verdict { IsVerdict commit.now verdict }
+        ensures next { OnOk result
+            (MayBeNext self.now.roster (records_of self.now.journal) commit.now) }
+        ensures refused { IfErr result (λ e. (e ≡ NoMemory)
+            ⊎ RefusedBy (next_order self.now.roster
+            (tip self.now.roster (records_of self.now.journal) commit.now.version.author)
+            commit.now) e) }
+    {
+        match verdict {
+            Some(verdict) => self.end.check_known(alloc, &self.roster, verdict, commit),
+            None => self.end.check(alloc, &self.roster, commit),
+        }
     }
 
     /// Adds a step that may follow. It takes no memory.
@@ -144,9 +173,9 @@ fn turn_after(seat: u16, act: &Act) -> Option<u16>
 /// Adds what was stored to the end of the chain of records. It takes no memory.
 fn add_record(end: &mut ChainEnd, roster: &Roster, act: &Act)
     requires room { end.old.number < 2 ^ 64 - 1 }
-    requires next { (cs : List Commit) × IsEndOf roster.now cs end.old
+    requires next { (cs : List CommitParts) × IsEndOf roster.now cs end.old
         × StoresNext roster.now cs act.now }
-    ensures { (cs : List Commit) → IsEndOf roster.now cs end.old → StoresNext roster.now cs act.now
+    ensures { (cs : List CommitParts) → IsEndOf roster.now cs end.old → StoresNext roster.now cs act.now
         → IsEndOf roster.now (cs ++ stored_by act.now) end.new }
 {
     match act {
@@ -158,7 +187,7 @@ fn add_record(end: &mut ChainEnd, roster: &Roster, act: &Act)
 /// Sets the number of its author's last record to that of what was stored.
 fn set_last(last: &mut Vec<Option<u64>>, act: &Act)
     requires { length last.old.items ≡ USERS }
-    ensures { (ro : Membership) (cs : List Commit) → AreLast cs last.old.items
+    ensures { (ro : Membership) (cs : List CommitParts) → AreLast cs last.old.items
         → StoresNext ro cs act.now → AreLast (cs ++ stored_by act.now) last.new.items }
 {
     match act {
@@ -186,7 +215,7 @@ pub(crate) fn last_numbers(
     last: &Vec<Option<u64>>,
 ) -> Result<Vec<(User, u64)>, AllocError>
     requires { length last.now.items ≡ USERS }
-    ensures { IfOk result (λ numbers. (cs : List Commit) → AreLast cs last.now.items
+    ensures { IfOk result (λ numbers. (cs : List CommitParts) → AreLast cs last.now.items
         → numbers.items ≡ last_numbers cs) }
 {
     let mut numbers = Vec::new(alloc);

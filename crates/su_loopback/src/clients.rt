@@ -4,11 +4,12 @@ ghost use Rattle.su_client.specs.Link.{IsFresh};
 
 use std::alloc::Global;
 use std::net::{Net, SocketAddr, TcpListener, TcpStream};
+use std::thread::Threads;
 use std::time::{Clock, Duration};
 use std::{io, thread};
 use su_block::Checked;
 use su_bytes::{KEY_LENGTH, Refusal, Roster, User};
-use su_client::Client;
+use su_client::{Client, Outbox};
 use su_client_script::{Cause, Ending, Program, run_client};
 use su_client_work::{Member, Surroundings, take_log};
 use su_lms::{NoStore, Params, Signer};
@@ -21,7 +22,7 @@ const TRIES: u32 = 1_000;
 type Link = Client<TcpStream, TcpStream>;
 
 /// What a client looks at, over a link to a server.
-type LinkedView = View<Checked<Link>>;
+type LinkedView = View<Checked<Outbox<TcpStream, TcpStream>>>;
 
 /// A user's client, with the user's key, the address of the server, and the log that was saved last,
 /// under any name.
@@ -66,9 +67,15 @@ impl<R> Runner<'_, R> {
 
 impl<R> Surroundings<TcpStream, TcpStream> for Runner<'_, R>
 where
-    R: Net<Listener = TcpListener, Stream = TcpStream> + Clock,
+    R: Net<Listener = TcpListener, Stream = TcpStream> + Clock + Threads + Sync,
 {
     ghost may_connect = { λ _. Unit {0} };
+
+    type Host = R;
+
+    fn host(&self) -> &R {
+        self.rt
+    }
 
     fn pause(&mut self, time: Duration) {
         thread::sleep(self.rt, time);
@@ -81,7 +88,7 @@ where
 
 impl<R> Program<TcpStream, TcpStream> for Runner<'_, R>
 where
-    R: Net<Listener = TcpListener, Stream = TcpStream> + Clock,
+    R: Net<Listener = TcpListener, Stream = TcpStream> + Clock + Threads + Sync,
 {
     ghost saves = { λ _ _ log after. after.saved.items ≡ log };
 
@@ -125,7 +132,7 @@ fn linked_view<R>(rt: &R, alloc: Global, user: u8, at: SocketAddr) -> Option<Lin
 where
     R: Net<Listener = TcpListener, Stream = TcpStream>,
 {
-    let source = Checked::new(link_to(rt, alloc, at).ok()?);
+    let source = Checked::new(Outbox::new(alloc, link_to(rt, alloc, at).ok()?));
     let whose = User::new(u64::from(user)).ok()?;
     View::new(alloc, roster(alloc).ok()?, whose, source).ok()
 }
@@ -157,10 +164,11 @@ pub(crate) fn returning<R>(
     log: &[u8],
 ) -> Option<(Person, u64)>
 where
-    R: Net<Listener = TcpListener, Stream = TcpStream>,
+    R: Net<Listener = TcpListener, Stream = TcpStream> + Threads + Sync,
 {
     let mut view = linked_view(rt, alloc, user, at)?;
-    let count = take_log(alloc, log, &mut view).ok()?;
+    let count = take_log(rt, alloc, log, &mut view).ok()?;
+    view.source_mut().source_mut().settle(alloc).ok()?;
     Some((person_of(alloc, user, at, view)?, count))
 }
 
@@ -168,7 +176,7 @@ impl Person {
     /// Carries out a script to its end, and returns what was printed.
     pub(crate) fn run<R>(&mut self, rt: &R, alloc: Global, script: &[u8]) -> Option<Vec<u8>>
     where
-        R: Net<Listener = TcpListener, Stream = TcpStream> + Clock,
+        R: Net<Listener = TcpListener, Stream = TcpStream> + Clock + Threads + Sync,
     {
         let mut printed = Vec::new(alloc);
         let mut runner = Runner {

@@ -67,7 +67,7 @@ fn ended_well(rt: &impl Abort, report: &Report<Forgetful>, sessions: usize) {
 // User 0 makes a directory, in which user 1 makes a file: so user 0 can't undo it.
 fn two_users<R>(rt: &R, alloc: Global, at: SocketAddr) -> Option<Vec<u8>>
 where
-    R: Net<Listener = TcpListener, Stream = TcpStream> + Abort + Clock,
+    R: Net<Listener = TcpListener, Stream = TcpStream> + Threads + Abort + Clock + Sync,
 {
     let mut zero = new_person(rt, alloc, 0, at)?;
     let mut one = new_person(rt, alloc, 1, at)?;
@@ -88,7 +88,7 @@ where
 // A script of a user prints this, and ends.
 fn prints<R>(rt: &R, alloc: Global, user: &mut Person, script: &[u8], text: &[u8]) -> Option<()>
 where
-    R: Net<Listener = TcpListener, Stream = TcpStream> + Abort + Clock,
+    R: Net<Listener = TcpListener, Stream = TcpStream> + Threads + Abort + Clock + Sync,
 {
     let printed = user.run(rt, alloc, script)?;
     assert!(rt; printed.as_slice() == text);
@@ -127,7 +127,7 @@ where
 // nothing.
 fn with_and_without<R>(rt: &R, alloc: Global, at: SocketAddr, log: &[u8]) -> Option<()>
 where
-    R: Net<Listener = TcpListener, Stream = TcpStream> + Abort + Clock,
+    R: Net<Listener = TcpListener, Stream = TcpStream> + Threads + Abort + Clock + Sync,
 {
     let (mut old, count) = returning(rt, alloc, 1, at, log)?;
     let mut new = new_person(rt, alloc, 1, at)?;

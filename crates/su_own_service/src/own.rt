@@ -8,7 +8,7 @@ ghost use Rattle.su_own_service.specs.Own.{Answers, reply_of};
 use std::alloc::Global;
 use std::marker::Model;
 use su_block::{BlockSource, MemoryBlocks};
-use su_book::{Book, BookReply, Event};
+use su_book::{Book, BookReply, Event, Offer};
 use su_bytes::{Digest, Refusal};
 use su_message::{Bytes, LastNumbers, Reply, Request};
 use su_session::Service;
@@ -61,7 +61,7 @@ impl OwnService {
     fn grant(&mut self) -> Result<Reply, Refusal>
         ensures { Answers self.old request.Grant (said result) self.new }
     {
-        let reply = self.book.step(SEAT, &Event::Grant)?;
+        let reply = self.book.step(SEAT, &mut Event::Grant)?;
         Ok(told(reply))
     }
 
@@ -69,20 +69,21 @@ impl OwnService {
     fn store(&mut self, alloc: Global, commit: &Bytes) -> Result<Reply, Refusal>
         ensures { Answers self.old (request.Commit commit.now) (said result) self.new }
     {
-        let event = Event::Commit(Vec::from_slice(alloc, commit.as_slice())?);
+        let bytes = Vec::from_slice(alloc, commit.as_slice())?;
+        let mut event = Event::Commit(Offer::new(bytes));
         self.records.reserve(1)?;
-        let reply = self.book.step(SEAT, &event)?;
-        let Event::Commit(bytes) = event else {
+        let reply = self.book.step(SEAT, &mut event)?;
+        let Event::Commit(offer) = event else {
             unreachable!()
         };
-        self.records.push_reserved(Bytes::new(bytes));
+        self.records.push_reserved(Bytes::new(offer.into_bytes()));
         Ok(told(reply))
     }
 
     fn give(&mut self) -> Result<Reply, Refusal>
         ensures { Answers self.old request.Give (said result) self.new }
     {
-        let reply = self.book.step(SEAT, &Event::Give)?;
+        let reply = self.book.step(SEAT, &mut Event::Give)?;
         Ok(told(reply))
     }
 

@@ -28,6 +28,8 @@ pub struct Worker<'a, N: BookName, K: Keeper, R: Wait> {
     blocks: &'a SharedBlocks,
     items: SessionItems<'a>,
     seat: Seat<N, K>,
+    /// Whether an item was refused since the turn was granted last.
+    lacks_item: bool,
     rt: &'a R,
 }
 
@@ -55,6 +57,7 @@ impl<'a, N: BookName, K: Keeper, R: Wait> Worker<'a, N, K, R> {
             blocks,
             items: SessionItems::new(alloc, blocks),
             seat,
+            lacks_item: false,
             rt,
         }
     }
@@ -70,15 +73,21 @@ impl<'a, N: BookName, K: Keeper, R: Wait> Worker<'a, N, K, R> {
         ensures { Answers K.may_fail self.old request.Grant (said result) self.new }
     {
         let (reply, _receipt) = self.book.grant(self.rt, alloc, &mut self.seat)?;
+        self.lacks_item = false;
         Ok(told(reply))
     }
 
     /// Stores a commit. The item that it names is kept with it, and stays for good from then on,
     /// whoever put it; it is pinned meanwhile, so that it doesn't go before it is let stay. (A keeper
-    /// that gives records back has released it by then: it keeps it.)
+    /// that gives records back has released it by then: it keeps it.) `NoMemory` where an item was
+    /// refused in this turn: a client that sends both at once isn't to have a commit stored without
+    /// its item.
     fn commit(&mut self, alloc: Global, commit: &Bytes) -> Result<Reply, Refusal>
         ensures { Answers K.may_fail self.old (request.Commit commit.now) (said result) self.new }
     {
+        if self.lacks_item {
+            return Err(Refusal::NoMemory);
+        }
         let Some(digest) = named_by(alloc, commit.as_slice())? else {
             return self.store(alloc, commit, &Vec::new(alloc));
         };
@@ -203,8 +212,9 @@ impl<'a, N: BookName, K: Keeper, R: Wait> Worker<'a, N, K, R> {
     fn put(&mut self, alloc: Global, item: &Bytes) -> Result<Reply, Refusal>
         ensures { Answers K.may_fail self.old (request.Put item.now) (said result) self.new }
     {
-        let digest = self.items.put(self.rt, alloc, item.as_slice())?;
-        Ok(Reply::PutDone(digest))
+        let put = self.items.put(self.rt, alloc, item.as_slice());
+        self.lacks_item = self.lacks_item || put.is_err();
+        Ok(Reply::PutDone(put?))
     }
 
     fn get(&self, alloc: Global, digest: Digest) -> Result<Reply, Refusal>

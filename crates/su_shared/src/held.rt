@@ -259,7 +259,7 @@ impl<N: BookName, K: Keeper> Held<N, K> {
         cells: &Cells<K>,
         keeper: &mut K,
         number: u16,
-        event: Event,
+        mut event: Event,
         items: &Vec<Vec<u8>>,
         mark: &mut Share<N>,
     ) -> Result<(BookReply, Option<Receipt<N, K>>, Kept), Refusal>
@@ -289,7 +289,7 @@ impl<N: BookName, K: Keeper> Held<N, K> {
         ensures refused { IfErr result
             (IsStepRefusal K.may_fail self.old.book number event) }
     {
-        let step = self.book.answer(number, &event)?;
+        let step = self.book.answer(number, &mut event)?;
         let Ok(reply) = self.book.reply(&step.act) else {
             return Err(Refusal::NoMemory);
         };
@@ -345,9 +345,10 @@ fn store<N: BookName, K: Keeper>(
     ensures refused { IfErr result (λ e. ((e ≡ NoMemory) ⊎ IsStoreFault K.may_fail e)
         × (event ≢ Grant) × (event ≢ Give)) }
 {
-    let (Act::Stored(number, commit), Event::Commit(bytes)) = (act, event) else {
+    let (Act::Stored(number, commit), Event::Commit(offer)) = (act, event) else {
         return Ok(None);
     };
+    let bytes = offer.into_bytes();
     if receipts.reserve(1).is_err() {
         return Err(Refusal::NoMemory);
     }

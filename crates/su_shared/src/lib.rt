@@ -17,4 +17,4 @@ pub use held::Held;
 pub use laws::{runs_are_orderly, steps_are_counted};
 pub use notes::Receipt;
 pub use seats::{Kept, Seat};
-pub use shared::{Closed, SharedBook};
+pub use shared::{Closed, SharedBook, Unshared};

@@ -12,7 +12,7 @@ use crate::faults::BookFault;
 use crate::held::Held;
 use crate::seats::Seat;
 use std::alloc::Global;
-use su_book::{BookReply, Event};
+use su_book::{BookReply, Event, Offer};
 use su_bytes::{Digest, Refusal};
 use su_keeper::Keeper;
 
@@ -110,7 +110,7 @@ impl<N: BookName, K: Keeper> Opening<N, K> {
         let (_, _) = self
             .held
             .step(alloc, cells, keeper, seat, Event::Grant, &no_items)?;
-        let commit = Event::Commit(bytes);
+        let commit = Event::Commit(Offer::new(bytes));
         let (reply, _) = self
             .held
             .step(alloc, cells, keeper, seat, commit, &no_items)?;

@@ -1,6 +1,7 @@
 // A book that threads share.
 ghost use Rattle.std.specs.Prelude.{◌≡◌, ◌⊎◌, ℕ, [], IsPermutation, ◌≤◌, ◌<◌, ◌-◌, length, replicate, true, false, IfSome, IfNone, IfOk, IfErr, OnOk, OnErr, None, Some, slice_set};
 ghost use Rattle.std.specs.List.{sum_by};
+ghost use Rattle.std.specs.List.Sorted.{IsNonDecreasingBy};
 ghost use Rattle.once_cell.specs.Once.{Agrees};
 ghost use Rattle.sha2.specs.Sha256.{sha256};
 ghost use Rattle.su_bytes.specs.declared.refusals.Refusal.TheVariants.{BadNumber, BadKey, SourceFailed, NoMemory};
@@ -10,7 +11,7 @@ ghost use Rattle.su_book.specs.Machine.{IsCapacity, IsRun, TellsRecords, count_o
 ghost use Rattle.su_shared.specs.declared.faults.BookFault.TheVariants.{Refused};
 ghost use Rattle.su_shared.specs.Faults.{IsRecordFault};
 ghost use Rattle.su_shared.specs.Seats.{known_at, Learns};
-ghost use Rattle.su_shared.specs.Shares.{nothing, kept_after, after_commit, after_give, learned, Gives, IsFresh, IsGrantRefusal, IsCommitRefusal, IsGiveRefusal, MayMeet, MayMeetOrFull, IsOpened, EndsWith};
+ghost use Rattle.su_shared.specs.Shares.{nothing, kept_after, after_commit, after_give, learned, Gives, IsFresh, IsGrantRefusal, IsCommitRefusal, IsGiveRefusal, MayMeet, MayMeetOrFull, IsOpened, EndsWith, AreAll};
 ghost use Rattle.su_shared.specs.Entry.{IsShown, contents};
 
 use crate::cells::{BookName, Cells, Record};
@@ -20,9 +21,10 @@ use crate::locked::{Locked, Opening};
 use crate::notes::{Notes, Receipt};
 use crate::seats::Seat;
 use std::alloc::Global;
+use std::marker::Model;
 use std::sync::ledger::Blank;
 use std::sync::{Mutex, Wait};
-use su_book::{Book, BookReply, Event};
+use su_book::{Book, BookReply, Event, Keys, Offer};
 use su_bytes::{Digest, Refusal, Roster};
 use su_keeper::Keeper;
 
@@ -31,6 +33,8 @@ use su_keeper::Keeper;
 #[derive(Drop)]
 pub struct SharedBook<N: BookName, K: Keeper> {
     cells: Cells<K>,
+    // by which a commit is examined before the lock is taken
+    keys: Keys,
     locked: Mutex<Locked<N, K>>,
     ghost named: { cells ≡ N.cells },
 }
@@ -53,9 +57,10 @@ impl<N: BookName, K: Keeper> SharedBook<N, K> {
         ensures refused { IfErr result (λ e. ((e ≡ BadNumber) × ¬ IsCapacity (length cells))
             ⊎ ((e ≡ BadKey) × IsCapacity (length cells) × HasBadKey roster) ⊎ (e ≡ NoMemory)) }
     {
+        let keys = Keys::of(alloc, &roster)?;
         let book = Book::new(alloc, cells.len() as u64, roster)?;
         let held = Held::new(alloc, book, blank);
-        Ok(SharedBook::share(cells, Opening { held, keeper }))
+        Ok(SharedBook::share(cells, keys, Opening { held, keeper }))
     }
 
     /// Makes a book and its first seat, and takes up each record that the keeper found, as a commit
@@ -81,23 +86,29 @@ impl<N: BookName, K: Keeper> SharedBook<N, K> {
             ⊎ (f ≡ Refused NoMemory)
             ⊎ ((n : ℕ) × (0 < n) × IsRecordFault K.may_fail 0 n f)) }
     {
+        let keys = Keys::of(alloc, &roster)?;
         let book = Book::new(alloc, cells.len() as u64, roster)?;
         let notes = Notes::new(alloc, &cells)?;
         let mut held = Held::new(alloc, book, blank);
         let mut seat = held.seat(notes)?;
         let mut opening = Opening { held, keeper };
         let count = opening.take_up(alloc, &cells, &mut seat)?;
-        Ok((SharedBook::share(cells, opening), seat, count))
+        Ok((SharedBook::share(cells, keys, opening), seat, count))
     }
 
     /// Shares a book, when all that its keeper found is taken up.
-    fn share(cells: Cells<K>, opening: Opening<N, K>) -> SharedBook<N, K>
+    fn share(cells: Cells<K>, keys: Keys, opening: Opening<N, K>) -> SharedBook<N, K>
         requires cells { cells ≡ N.cells }
         requires end { K.is_at_end opening.keeper }
     {
         let Opening { held, keeper } = opening;
-        let locked = Mutex::new(Locked { held, keeper });
-        SharedBook { cells, locked }
+        let locked = Locked { held, keeper };
+        Unshared {
+            cells,
+            keys,
+            locked,
+        }
+        .share()
     }
 
     /// Makes the next seat, which was told nothing and knows nothing. `BadNumber` after 256 seats;
@@ -144,9 +155,10 @@ impl<N: BookName, K: Keeper> SharedBook<N, K> {
     }
 
     /// Stores a commit by its bytes, which is kept with the items that it needs, and gives the turn
-    /// back. The number is greater than all that the seat was told before; the receipt is that of
-    /// these bytes and items. The refusals are those of `Held::step`. A refusal leaves the seat as it
-    /// was.
+    /// back. The commit is examined before the lock is taken, so that no seat waits while its
+    /// signature is checked. The number is greater than all that the seat was told before; the
+    /// receipt is that of these bytes and items. The refusals are those of `Held::step`. A refusal
+    /// leaves the seat as it was.
     pub fn commit(
         &self,
         rt: &impl Wait,
@@ -174,12 +186,10 @@ impl<N: BookName, K: Keeper> SharedBook<N, K> {
             IsCommitRefusal K.may_fail seat.old.number bytes.now e) }
         ensures err { OnErr result (seat.new ≡ seat.old) }
     {
-        let Ok(bytes) = Vec::from_slice(alloc, bytes) else {
-            return Err(Refusal::NoMemory);
-        };
+        let offer = self.offer(alloc, seat.kept().turn, bytes)?;
         let locked = &mut *self.locked.lock(rt);
         let keeper = &mut locked.keeper;
-        let commit = Event::Commit(bytes);
+        let commit = Event::Commit(offer);
         let (reply, receipt) = locked
             .held
             .step(alloc, &self.cells, keeper, seat, commit, items)?;
@@ -190,6 +200,22 @@ impl<N: BookName, K: Keeper> SharedBook<N, K> {
             unreachable!()
         };
         Ok((number, receipt))
+    }
+
+    /// Makes the offer of a copy of these bytes. It is examined where the seat has the turn; else the
+    /// book refuses the commit unread.
+    fn offer(&self, alloc: Global, has_turn: bool, bytes: &[u8]) -> Result<Offer, Refusal>
+        ensures value { IfOk result (λ offer. offer.items ≡ bytes.now) }
+        ensures refused { IfErr result (λ e. e ≡ NoMemory) }
+    {
+        let Ok(bytes) = Vec::from_slice(alloc, bytes) else {
+            return Err(Refusal::NoMemory);
+        };
+        let mut offer = Offer::new(bytes);
+        if has_turn {
+            offer.examine(alloc, &self.keys);
+        }
+        Ok(offer)
     }
 
     /// Gives the turn back. The refusals are `NotYourTurn`, and `BookFull` where what the seat was
@@ -266,11 +292,12 @@ impl<N: BookName, K: Keeper> SharedBook<N, K> {
 
     #[tactic(auto, using(crate::proofs::Closing::same_sum))]
     /// Ends the book, and hands its keeper back, which holds its records. The seats are to be all of
-    /// the book's, in any order, as they were told; else all is handed back.
+    /// the book's, in any order, as they were told; else all is handed back, the seats in the order
+    /// of their numbers.
     pub fn close(
         self,
         seats: Vec<Seat<N, K>>,
-    ) -> Result<Closed<K>, (SharedBook<N, K>, Vec<Seat<N, K>>)>
+    ) -> Result<Closed<K>, (Unshared<N, K>, Vec<Seat<N, K>>)>
         ensures run { IfOk result (λ c. IsRun c.book) }
         ensures records { IfOk result (λ c. c.records ≡ count_of c.book.journal) }
         ensures calls { IfOk result (λ c. c.calls ≡ length c.book.journal) }
@@ -279,9 +306,14 @@ impl<N: BookName, K: Keeper> SharedBook<N, K> {
         ensures ends { IfOk result (λ c.
             EndsWith K.holds c.keeper c.book.journal seats.items) }
         ensures end { IfOk result (λ c. ∥ K.is_at_end c.keeper ∥₁) }
-        ensures err { IfErr result (λ r. IsPermutation seats.items r.1.items) }
+        ensures err { IfErr result (λ r. IsPermutation seats.items r.1.items
+            × IsNonDecreasingBy (λ s. s.number) r.1.items × ¬ AreAll r.1.items r.0) }
     {
-        let SharedBook { cells, locked } = self;
+        let SharedBook {
+            cells,
+            keys,
+            locked,
+        } = self;
         let Locked { held, keeper } = locked.into_inner();
         held.orders();
         match held.close(seats) {
@@ -292,9 +324,51 @@ impl<N: BookName, K: Keeper> SharedBook<N, K> {
                 keeper,
             }),
             Err((held, seats)) => {
-                let locked = Mutex::new(Locked { held, keeper });
-                Err((SharedBook { cells, locked }, seats))
+                let locked = Locked { held, keeper };
+                let unshared = Unshared {
+                    cells,
+                    keys,
+                    locked,
+                };
+                Err((unshared, seats))
             }
+        }
+    }
+}
+
+/// A book that threads don't share any more: its cells, and what lay under the lock. Its model is
+/// that of what lay there beside the keeper.
+#[derive(Drop)]
+pub struct Unshared<N: BookName, K: Keeper> {
+    cells: Cells<K>,
+    keys: Keys,
+    locked: Locked<N, K>,
+}
+
+impl<N: BookName, K: Keeper> Model for Unshared<N, K> {
+    ghost use Rattle.std.specs.Prelude.{◌≡◌};
+    ghost use Rattle.su_shared.specs.Shares.{HeldView};
+
+    ghost Value = { HeldView };
+
+    ghost view = { λ u. u.locked.held };
+
+    ghost invariant = { λ u. u.cells ≡ N.cells };
+}
+
+impl<N: BookName, K: Keeper> Unshared<N, K> {
+    /// Shares the book.
+    pub fn share(self) -> SharedBook<N, K> {
+        let Unshared {
+            cells,
+            keys,
+            locked,
+        } = self;
+        let locked = Mutex::new(locked);
+        SharedBook {
+            cells,
+            keys,
+            locked,
         }
     }
 }

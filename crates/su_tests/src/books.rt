@@ -3,7 +3,7 @@ use crate::clients::{new_client, push_counted, roster, signer};
 use std::alloc::Global;
 use std::process::Abort;
 use std::test::Fail;
-use su_book::{Book, BookReply, Event};
+use su_book::{Book, BookReply, Event, Offer};
 use su_bytes::{KEY_LENGTH, Refusal, Roster, User};
 use su_keeper::Forgetful;
 use su_shared::Cells;
@@ -46,7 +46,7 @@ pub(crate) fn no_keys(alloc: Global) -> Result<Roster, Refusal> {
 
 // What a grant tells: the number of records, and the users' last ones.
 fn granted(book: &mut Book, seat: u16) -> Result<Option<(u64, Vec<(User, u64)>)>, Refusal> {
-    match book.step(seat, &Event::Grant)? {
+    match book.step(seat, &mut Event::Grant)? {
         BookReply::Granted { count, last } => Ok(Some((count, last))),
         BookReply::Stored { number: _ } | BookReply::Given => Ok(None),
     }
@@ -54,15 +54,15 @@ fn granted(book: &mut Book, seat: u16) -> Result<Option<(u64, Vec<(User, u64)>)>
 
 // The number under which a commit is stored.
 fn stored(alloc: Global, book: &mut Book, seat: u16, bytes: &[u8]) -> Result<Option<u64>, Refusal> {
-    let event = Event::Commit(Vec::from_slice(alloc, bytes)?);
-    match book.step(seat, &event)? {
+    let mut event = Event::Commit(Offer::new(Vec::from_slice(alloc, bytes)?));
+    match book.step(seat, &mut event)? {
         BookReply::Stored { number } => Ok(Some(number)),
         BookReply::Granted { count: _, last: _ } | BookReply::Given => Ok(None),
     }
 }
 
 fn give(book: &mut Book, seat: u16) -> Option<Refusal> {
-    book.step(seat, &Event::Give).err()
+    book.step(seat, &mut Event::Give).err()
 }
 
 #[test]

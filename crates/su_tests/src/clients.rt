@@ -36,7 +36,8 @@ pub(crate) fn signer(alloc: Global, user: u8) -> Result<Signer<NoStore>, Refusal
     Signer::generate(alloc, Params::new(5, 3)?, [user; 16], [7; 32], NoStore)
 }
 
-fn key(alloc: Global, user: u8) -> Result<[u8; KEY_LENGTH], Refusal> {
+/// Makes the public key of a user.
+pub(crate) fn key(alloc: Global, user: u8) -> Result<[u8; KEY_LENGTH], Refusal> {
     Ok(*signer(alloc, user)?.public().as_bytes())
 }
 

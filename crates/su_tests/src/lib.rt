@@ -12,6 +12,8 @@ mod items;
 #[cfg(test)]
 mod keepers;
 #[cfg(test)]
+mod offers;
+#[cfg(test)]
 mod shared_books;
 #[cfg(test)]
 mod sources;

@@ -50,10 +50,11 @@ fn hand_over<N: BookName + Send + Sync, R: Threads + Wait + Abort + Clock + Sync
     let one = b.ok_or("not read")?;
     let mut seats = Vec::new(alloc);
     seats.push(zero)?;
-    let Err((book, mut seats)) = book.close(seats) else {
+    let Err((unshared, mut seats)) = book.close(seats) else {
         return Err(Fail::new("closed with one seat"));
     };
     assert_eq!(rt; seats.len(), 1);
+    let book = unshared.share();
     seats.push(one)?;
     let Ok(closed) = book.close(seats) else {
         return Err(Fail::new("not closed"));

@@ -29,7 +29,7 @@ returns-clause-end g c = λ end. ∥∥₁_map end c.in-Ok-keep.ensures.end
 
 pub returns-clause-found : goal.returns-clause-found
 returns-clause-found g c = λ rest found clean.
-    let spelled : c.as_slice.result.now ≡ c.in-Stored-Commit.bytes.items = search rules in
+    let spelled : c.as_slice.result.now ≡ c.in-Stored-Commit.offer.items = search rules in
     subst (λ (e : Event). LeavesBehind g.K.Keeper.found e rest c.keep.new.self) (sym c.in-Stored-Commit.is-1)
     (subst (λ (b : List ℕ). LeavesFound g.K.Keeper.found b rest c.keep.new.self) spelled (c.in-Ok-keep.ensures.found rest found clean))
 

@@ -1,4 +1,4 @@
-use Rattle.std.proofs.Common.{◌≡◌, ◌∙◌, ℕ, List, [], ◌∷◌, ◌++◌, Option, IfSome, ap, refl, sym, subst, inr, arith}
+use Rattle.std.proofs.Common.{◌≡◌, ◌∙◌, ℕ, List, [], ◌∷◌, ◌++◌, Option, Some, IfSome, ap, refl, sym, subst, inr, arith}
 use Rattle.std.proofs.lemmas.List.{append-nil}
 use Rattle.std.specs.Global.{Vec}
 use Rattle.std.specs.Option.{option_map}
@@ -39,20 +39,20 @@ returns-in_err-reply-clause-refused g c =
     let p = err_from_is_err_and c.from_residual-in_err-reply.result c.from_residual-in_err-reply.ensures.1 in
     let e : Refusal = c.in_err-reply.field-0.0 in
     let number : c.step.new.seat.number ≡ c.args.seat.now.number = ap (λ (s : SeatView). s.number) c.in_ok-step.ensures.seat in
-    let refused = refused_commit c.step.new.self.book c.step.new.seat.number c.in-Some.bytes c.in-Some.bytes.items e _ refl c.in_err-reply.ensures.other c.in_err-reply.ensures.refused in
-    rw (p.1, p.2) (subst (λ (n : ℕ). IsRecordRefusal g.K.Keeper.may_fail n e) number (inr (inr (c.in-Some.bytes.items, refused))))
+    let refused = refused_commit c.step.new.self.book c.step.new.seat.number c.new.result c.new.result.items e _ refl c.in_err-reply.ensures.other c.in_err-reply.ensures.refused in
+    rw (p.1, p.2) (subst (λ (n : ℕ). IsRecordRefusal g.K.Keeper.may_fail n e) number (inr (inr (c.new.result.items, refused))))
 
 pub returns-clause-taken : goal.returns-clause-taken
 returns-clause-taken g c =
     let number : c.step.new.seat.number ≡ c.args.seat.now.number = ap (λ (s : SeatView). s.number) c.in_ok-step.ensures.seat in
     let between : BookState = c.step.new.self.book in
     let after : BookState = c.step-2.new.self.book in
-    let stored = subst (λ (r : BookReply). Stepped between c.step.new.seat.number (event.Commit c.in-Some.bytes) after r) c.in-Stored.is c.in_ok-reply.ensures.book in (
+    let stored = subst (λ (r : BookReply). Stepped between c.step.new.seat.number (event.Commit c.new.result) after r) c.in-Stored.is c.in_ok-reply.ensures.book in (
       between,
       c.in_ok-step.field-0-0,
-      c.in-Some.bytes,
+      c.new.result,
       c.in_ok-step.ensures.book,
-      subst (λ (n : ℕ). Stepped between n (event.Commit c.in-Some.bytes) after (reply.Stored c.in-Stored.number)) number stored,
+      subst (λ (n : ℕ). Stepped between n (event.Commit c.new.result) after (reply.Stored c.in-Stored.number)) number stored,
     )
 
 pub returns-clause-count : goal.returns-clause-count
@@ -60,9 +60,9 @@ returns-clause-count g c =
     let between : BookState = c.step.new.self.book in
     let after : BookState = c.step-2.new.self.book in
     let one = count_granted c.args.self.now.held.book c.args.seat.now.number between c.in_ok-step.field-0-0 c.in_ok-step.ensures.book in
-    let two = count_stored between c.step.new.seat.number c.in-Some.bytes after c.in_ok-reply.reply c.in_ok-reply.ensures.book in
-    let stored = subst (λ (r : BookReply). Stepped between c.step.new.seat.number (event.Commit c.in-Some.bytes) after r) c.in-Stored.is c.in_ok-reply.ensures.book in
-    let three = number_stored between c.step.new.seat.number c.in-Some.bytes after c.in-Stored.number stored in
+    let two = count_stored between c.step.new.seat.number c.new.result after c.in_ok-reply.reply c.in_ok-reply.ensures.book in
+    let stored = subst (λ (r : BookReply). Stepped between c.step.new.seat.number (event.Commit c.new.result) after r) c.in-Stored.is c.in_ok-reply.ensures.book in
+    let three = number_stored between c.step.new.seat.number c.new.result after c.in-Stored.number stored in
     (omega (arith, one, three), omega (arith, two, three))
 
 pub returns-in_default-found-clause-none : goal.returns-in_default-found-clause-none
@@ -75,7 +75,7 @@ returns-clause-clean g c = λ clean. c.in-Ok.ensures.clean (c.in_ok-step.ensures
 
 pub returns-clause-next : goal.returns-clause-next
 returns-clause-next g c =
-    let bytes : Vec ℕ = c.in-Some.bytes in
+    let bytes : Vec ℕ = c.new.result in
     let n = c.in-Stored.number in
     let gives = subst (λ (r : BookReply). Gives (event.Commit bytes) (contents c.new-no_items.result.items) r c.in_ok-reply.field-0-1) c.in-Stored.is c.in_ok-reply.ensures.gives in
     let learns = subst (λ (o : Option Entry). IfSome o (λ x. Learns c.step.new.seat.known x c.step-2.new.seat.known)) gives c.in_ok-reply.ensures.learns in
@@ -92,6 +92,6 @@ returns-clause-next g c =
       λ rest found clean.
           let between = c.in_ok-reply.ensures.clean clean in
           let (first, left) = c.in-Ok.ensures.found rest found (c.in_ok-step.ensures.clean between) in
-          let some = ap (option_map (λ (commit : Vec ℕ). commit.items)) (sym c.in-Some.is) ∙ first in
+          let some = ap (λ (commit : Vec ℕ). Some commit.items) c.new.ensures ∙ ap (option_map (λ (commit : Vec ℕ). commit.items)) (sym c.in-Some.is) ∙ first in
           first_is g.K.Keeper.found rest bytes.items c.step-2.new.keeper some (c.in_ok-reply.ensures.found rest (c.in_ok-step.ensures.found rest left between) clean),
     )
