@@ -4,7 +4,7 @@ use Rattle.su_lms.specs.ParameterSets.{CanBeMade}
 use Rattle.su_arguments.specs.declared.line.Line.{Line}
 use Rattle.su_arguments.specs.declared.line.Line.TheVariants.{Desk, Keygen, Audit, Serve, Client, Backup, Text}
 use Rattle.su_arguments.specs.Ranges.{IsUserCount, IsUser, IsPort, IsWorkerCount, IsCapacity, IsTurnLimit, IsIdleLimit}
-use Rattle.su_arguments.specs.Ranges.{IsSessionCount, IsCacheSize, IsTryCount}
+use Rattle.su_arguments.specs.Ranges.{IsSessionCount, IsCacheSize, IsTryCount, IsLeafCount}
 
 -- each number is in its range, there are the keys of 1 to 64 users, and a key to be made is of a kind
 -- that can be made
@@ -19,6 +19,6 @@ HasGoodNumbers (Serve args) =
     × IsUserCount (length args.keys.items)
 HasGoodNumbers (Client args) =
     IsPort args.port × IsUser args.user × IsTryCount args.tries
-    × IsUserCount (length args.keys.items)
+    × IsLeafCount args.leaves_ahead × IsUserCount (length args.keys.items)
 HasGoodNumbers (Backup port to keys) = IsPort port × IsUserCount (length keys.items)
 HasGoodNumbers (Text text) = ⊤

@@ -40,3 +40,7 @@ IsCacheSize n = (1 ≤ n) × (n ≤ 1000000)
 -- how often a client may ask for a turn
 abbrev pub IsTryCount : ℕ → Type 0
 IsTryCount n = (1 ≤ n) × (n ≤ 1000000)
+
+-- how many signatures one write of a key file may serve
+abbrev pub IsLeafCount : ℕ → Type 0
+IsLeafCount n = (1 ≤ n) × (n ≤ 16)

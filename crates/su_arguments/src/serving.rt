@@ -1,7 +1,7 @@
 // The command lines of a server, of its clients, and of its backups.
 ghost use Rattle.std.specs.Prelude.{IfOk, IfSome};
 ghost use Rattle.su_arguments.specs.Line.{HasGoodNumbers};
-ghost use Rattle.su_arguments.specs.Ranges.{IsPort, IsUser, IsWorkerCount, IsCapacity, IsTurnLimit, IsIdleLimit, IsSessionCount, IsCacheSize, IsTryCount};
+ghost use Rattle.su_arguments.specs.Ranges.{IsPort, IsUser, IsWorkerCount, IsCapacity, IsTurnLimit, IsIdleLimit, IsSessionCount, IsCacheSize, IsTryCount, IsLeafCount};
 
 use crate::drafts::Draft;
 use crate::help::{BACKUP_ABOUT, BACKUP_ANSWERS, CLIENT_ABOUT, SERVE_ABOUT};
@@ -36,8 +36,8 @@ pub struct ServeArgs {
 
 /// A client of a user, 0 to 63, with the key in a file, at the server on a port, 1 to 65535, of users
 /// with the public keys in these files, 1 to 64 of them. The commits of a log are taken first. So often,
-/// 1 to 1,000,000 times, a turn that another has is asked for. The script ends at the first refusal, or
-/// goes on.
+/// 1 to 1,000,000 times, a turn that another has is asked for. One write of the key file serves so many
+/// signatures, 1 to 16. The script ends at the first refusal, or goes on.
 #[derive(Debug, Drop)]
 pub struct ClientArgs {
     pub port: u16,
@@ -45,6 +45,7 @@ pub struct ClientArgs {
     pub key: String,
     pub log: Option<String>,
     pub tries: u32,
+    pub leaves_ahead: u32,
     pub stop: bool,
     pub keys: Vec<String>,
 }
@@ -136,6 +137,7 @@ pub(crate) fn client_command<'a>(alloc: Global, help: &'a str) -> Result<Command
         .arg(needed(alloc, "key", "FILE", "The user's key file"))
         .arg(option(alloc, "log", "FILE", log))
         .arg(tries(alloc))
+        .arg(leaves_ahead(alloc))
         .arg(flag(alloc, "stop", stop))
         .arg(needed_keys(alloc))
         .finish()
@@ -152,6 +154,13 @@ fn tries<'a>(alloc: Global) -> Arg<'a> {
     option(alloc, "tries", "T", help)
         .value_parser(clap::value_parser!(u32).range(1..1_000_001))
         .default_value("1000")
+}
+
+fn leaves_ahead<'a>(alloc: Global) -> Arg<'a> {
+    let help = "How many signatures one write of the key file serves, 1 to 16";
+    option(alloc, "leaves-ahead", "N", help)
+        .value_parser(clap::value_parser!(u32).range(1..17))
+        .default_value("16")
 }
 
 /// Builds the backup's command line.
@@ -228,15 +237,16 @@ pub(crate) fn backup_of(alloc: Global, values: &ArgMatches<'_>) -> Result<Line, 
     })
 }
 
-/// `client --port P --user U --key FILE [--log FILE] [--tries T] [--stop] PUB..`
+/// `client --port P --user U --key FILE [--log FILE] [--tries T] [--leaves-ahead N] [--stop] PUB..`
 pub(crate) fn client_of(alloc: Global, values: &ArgMatches<'_>) -> Result<Line, LineFault>
     ensures { IfOk result HasGoodNumbers }
 {
-    let (Some(port), Some(user), Some(key), Some(tries)) = (
+    let (Some(port), Some(user), Some(key), Some(tries), Some(leaves_ahead)) = (
         port_of(values),
         user_of(values),
         values.get_str("key"),
         tries_of(values),
+        leaves_ahead_of(values),
     ) else {
         return Err(usage(
             alloc,
@@ -250,6 +260,7 @@ pub(crate) fn client_of(alloc: Global, values: &ArgMatches<'_>) -> Result<Line, 
         key: String::from_str(alloc, key)?,
         log: copy(alloc, values.get_str("log"))?,
         tries,
+        leaves_ahead,
         stop: values.get_flag("stop"),
         keys,
     }))
@@ -322,4 +333,11 @@ fn tries_of(values: &ArgMatches<'_>) -> Option<u32>
 {
     let tries = values.get_one::<u32>("tries");
     tries.filter(|tries| 1 <= *tries && *tries <= 1_000_000)
+}
+
+fn leaves_ahead_of(values: &ArgMatches<'_>) -> Option<u32>
+    ensures { IfSome result IsLeafCount }
+{
+    let leaves = values.get_one::<u32>("leaves-ahead");
+    leaves.filter(|leaves| 1 <= *leaves && *leaves <= 16)
 }

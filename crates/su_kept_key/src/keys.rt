@@ -1,11 +1,14 @@
 // A key in its file. The kit says nothing of what a file holds, so the contracts speak of the value:
-// its key, and the leaf that signs next. `KeptKey::of_reader` says that they are those of the bytes
-// that are read, `KeptKey::spelled` that the bytes to be written are those of the next leaf. That a
-// file has them is left to `files::replace`, which answers once the disk has it.
-ghost use Rattle.std.specs.Prelude.{◌≡◌, ◌<◌, ◌^◌, ◌↔◌, ℕ, List, Some, IfOk, IfErr, OnOk, IsSome};
-ghost use Rattle.std.specs.Prelude.{string_bytes, take};
+// its key, the leaf that signs next, and the one that is stored, which is what the file says.
+// `KeptKey::of_reader` says that they are those of the bytes that are read, `KeptKey::spelled` that
+// the bytes to be written are those of the leaf that is stored then. That a file has them is left to
+// `files::replace`, which answers once the disk has it.
+ghost use Rattle.std.specs.Prelude.{◌≡◌, ◌<◌, ◌≤◌, ◌^◌, ◌↔◌, ℕ, List, Some, IfOk, IfErr, OnOk, IsSome};
+ghost use Rattle.std.specs.Prelude.{max, string_bytes, take};
+ghost use Rattle.su_lms.specs.PrivateKey.{leaf_count};
 ghost use Rattle.su_lms.specs.ParameterSets.{height_of};
 ghost use Rattle.su_lms.specs.KeyFile.{private_key_of, key_file_bytes};
+ghost use Rattle.su_kept_key.specs.Kept.{Suffices};
 ghost use Rattle.su_kept_key.specs.Reading.{RefusesNoKey};
 ghost use Rattle.su_bytes.specs.declared.refusals.Refusal.TheVariants.{NoMemory};
 
@@ -13,6 +16,7 @@ use crate::faults::KeptKeyFault;
 use crate::files::{folder_of, read_key, replace, require_plain};
 use crate::locks::lock_key;
 use std::alloc::Global;
+use std::cell::Cell;
 use std::fs::File;
 use std::io;
 use std::io::{ErrorKind, Read};
@@ -21,13 +25,15 @@ use std::thread::Threads;
 use su_bytes::Refusal;
 use su_lms::{KeyFile, KeyStore, Params, Signer};
 
-/// What a key file says with its next leaf, and the bytes that are written.
+/// What a key file is to say, and the bytes that are written.
 struct NextFile {
     file: KeyFile,
     bytes: [u8; 64],
 }
 
-/// A key in its file, which no other process uses as long as this value lives.
+/// A key in its file, which no other process uses as long as this value lives. What the file says is
+/// the leaf that is stored: the one that signs next, or a later one, so that the file needn't be
+/// written for each signature. A process that opens it signs with that leaf and those behind it.
 #[derive(Drop)]
 pub struct KeptKey<'a> {
     rt: &'a HostRuntime,
@@ -36,6 +42,9 @@ pub struct KeptKey<'a> {
     folder: File,
     _lock: File,
     file: KeyFile,
+    stored: u32,
+    ahead: u32,
+    is_put_back: Cell<bool>,
     failures: u64,
     fault: Option<io::Error>,
 }
@@ -43,7 +52,8 @@ pub struct KeptKey<'a> {
 impl<'a> Model for KeptKey<'a> {
     ghost use Rattle.std.specs.Prelude.{◌≡◌, is_some, nat_lt, string_bytes};
     ghost use Rattle.su_lms.specs.KeyFile.{private_key_of};
-    ghost use Rattle.su_kept_key.specs.Kept.{Kept};
+    ghost use Rattle.su_lms.specs.PrivateKey.{leaf_count};
+    ghost use Rattle.su_kept_key.specs.Kept.{Kept, Suffices};
 
     ghost Value = { Kept };
 
@@ -51,19 +61,24 @@ impl<'a> Model for KeptKey<'a> {
       path = string_bytes s.path;
       key = private_key_of s.file;
       next = s.file.next;
+      stored = s.stored;
+      ahead = s.ahead;
       failures = s.failures;
     } };
 
-    ghost invariant = { λ s. is_some s.fault ≡ nat_lt 0 s.failures };
+    ghost invariant = { λ s. (is_some s.fault ≡ nat_lt 0 s.failures)
+        × Suffices (private_key_of s.file) s.ahead s.file.next s.stored };
 }
 
 impl<'a> KeptKey<'a> {
-    /// Opens the key file at a path, and locks the key. Faults in order: `NoName`; `Unread` where
-    /// nothing stands there; `InTheWay`; `ManyNames`; `Lock`, as `lock_key` answers; `Unread`;
-    /// `NoKey`; `Folder`. `NoMemory` can come at any time. Beside the file `PATH.lock` is made and
-    /// stays.
-    pub fn open(rt: &'a HostRuntime, path: &str) -> Result<KeptKey<'a>, KeptKeyFault>
+    /// Opens the key file at a path, and locks the key. One write of the file is to serve `ahead`
+    /// signatures, and one where that is 0. Faults in order: `NoName`; `Unread` where nothing stands
+    /// there; `InTheWay`; `ManyNames`; `Lock`, as `lock_key` answers; `Unread`; `NoKey`; `Folder`.
+    /// `NoMemory` can come at any time. Beside the file `PATH.lock` is made and stays.
+    pub fn open(rt: &'a HostRuntime, path: &str, ahead: u32) -> Result<KeptKey<'a>, KeptKeyFault>
         ensures path { IfOk result (λ kept. kept.path ≡ path.now) }
+        ensures stored { IfOk result (λ kept. kept.stored ≡ kept.next) }
+        ensures ahead { IfOk result (λ kept. kept.ahead ≡ max ahead 1) }
         ensures failures { IfOk result (λ kept. kept.failures ≡ 0) }
     {
         let alloc = rt.alloc();
@@ -76,22 +91,26 @@ impl<'a> KeptKey<'a> {
         let lock = lock_key(rt, path)?;
         // Who had the lock before may have signed: only now the next leaf stays what it is.
         match File::open(rt, path) {
-            Ok(file) => KeptKey::of_reader(rt, lock, path, folder, file),
+            Ok(file) => KeptKey::of_reader(rt, lock, path, folder, file, ahead),
             Err(reason) => Err(KeptKeyFault::unread(alloc, path, reason)),
         }
     }
 
     /// Makes the value of the key at a path in a folder, whose file a reader brings: its key and
-    /// its next leaf are those of the first 65 bytes, or of all where there are fewer. Faults in
-    /// order: `Unread`; `NoKey`; `Folder`. `NoMemory` can come at any time.
+    /// its next leaf are those of the first 65 bytes, or of all where there are fewer. One write of
+    /// the file is to serve `ahead` signatures, and one where that is 0. Faults in order: `Unread`;
+    /// `NoKey`; `Folder`. `NoMemory` can come at any time.
     fn of_reader<F: Read + Drop>(
         rt: &'a HostRuntime,
         lock: File,
         path: &str,
         folder: &str,
         reader: F,
+        ahead: u32,
     ) -> Result<KeptKey<'a>, KeptKeyFault>
         ensures path { IfOk result (λ kept. kept.path ≡ path.now) }
+        ensures stored { IfOk result (λ kept. kept.stored ≡ kept.next) }
+        ensures ahead { IfOk result (λ kept. kept.ahead ≡ max ahead 1) }
         ensures failures { IfOk result (λ kept. kept.failures ≡ 0) }
         ensures file { IfOk result (λ kept. (input : List ℕ) → F.remaining reader ≡ Some input
             → take 65 input ≡ key_file_bytes kept.key kept.next) }
@@ -111,12 +130,15 @@ impl<'a> KeptKey<'a> {
             folder,
             _lock: lock,
             file,
+            stored: file.next,
+            ahead: ahead.max(1),
+            is_put_back: Cell::new(false),
             failures: 0,
             fault: None,
         })
     }
 
-    /// Returns the parameter set, I, SEED and the next leaf, as they stand in the file.
+    /// Returns the parameter set, I, SEED and the leaf that signs next.
     pub fn file(&self) -> &KeyFile
         ensures key { private_key_of result.now ≡ self.now.key }
         ensures next { result.now.next ≡ self.now.next }
@@ -131,42 +153,79 @@ impl<'a> KeptKey<'a> {
         self.fault.as_ref()
     }
 
-    /// Writes the key file with that next leaf, and returns what it says, once the disk has it.
-    /// `InvalidInput` where it is no later leaf than the one that signs next, or above the number
-    /// of leaves.
-    fn write(&self, q: u32) -> io::Result<KeyFile>
-        ensures key { IfOk result (λ file. private_key_of file ≡ self.now.key) }
-        ensures next { IfOk result (λ file. file.next ≡ q) }
-        ensures later { OnOk result (self.now.next < q) }
+    /// Puts the leaf that signs next in the file, where that says a later one, so that none is lost
+    /// that hasn't signed, and returns what the file says, once the disk has it. It is the end of
+    /// signing: from then on `store_next` fails. After an error the file says either leaf.
+    // A view lends its key's store and doesn't give it back, so this takes it as it is lent.
+    pub fn put_back(&self) -> io::Result<u32>
+        ensures { IfOk result (λ stored. stored ≡ self.now.next) }
     {
-        let NextFile { file, bytes } = self.spelled(q)?;
+        self.is_put_back.set(true);
+        let next = self.file.next;
+        if self.stored == next {
+            return Ok(next);
+        }
+        let file = self.write(next)?;
+        Ok(file.next)
+    }
+
+    /// Sees to it that the file says this leaf or a later one, and returns which, once the disk has
+    /// it. Nothing is written where the file does already. `InvalidInput` where it is no later leaf
+    /// than the one that signs next, or above the number of leaves, or where the next leaf was put
+    /// back.
+    fn store_ahead(&self, q: u32) -> io::Result<u32>
+        ensures later { OnOk result (self.now.next < q) }
+        ensures in_tree { OnOk result (q ≤ leaf_count self.now.key) }
+        ensures suffices { IfOk result (Suffices self.now.key self.now.ahead q) }
+        ensures no_lower { IfOk result (λ stored. self.now.stored ≤ stored) }
+        ensures untouched { IfOk result (λ stored. q ≤ self.now.stored
+            → stored ≡ self.now.stored) }
+    {
+        let leaves = leaf_count(self.file.params);
+        if self.is_put_back.get() || q <= self.file.next || leaves < q {
+            return Err(io::Error::new(ErrorKind::InvalidInput, "no later leaf of the key"));
+        }
+        if q <= self.stored {
+            return Ok(self.stored);
+        }
+        let last = q.saturating_add(self.ahead - 1);
+        let file = self.write(last.min(leaves))?;
+        Ok(file.next)
+    }
+
+    /// Writes the key file with that leaf, and returns what it says, once the disk has it.
+    /// `InvalidInput` where it is above the number of leaves.
+    fn write(&self, leaf: u32) -> io::Result<KeyFile>
+        ensures key { IfOk result (λ file. private_key_of file ≡ self.now.key) }
+        ensures next { IfOk result (λ file. file.next ≡ leaf) }
+    {
+        let NextFile { file, bytes } = self.spelled(leaf)?;
         let (path, new_path) = (self.path.as_str(), self.new_path.as_str());
         replace(self.rt, &self.folder, path, new_path, &bytes)?;
         Ok(file)
     }
 
-    /// Returns the key file with that next leaf, and its bytes. `InvalidInput` where it is no later
-    /// leaf than the one that signs next, or above the number of leaves.
-    fn spelled(&self, q: u32) -> io::Result<NextFile>
+    /// Returns the key file with that leaf, and its bytes. `InvalidInput` where it is above the
+    /// number of leaves.
+    fn spelled(&self, leaf: u32) -> io::Result<NextFile>
         ensures key { IfOk result (λ made. private_key_of made.file ≡ self.now.key) }
-        ensures next { IfOk result (λ made. made.file.next ≡ q) }
-        ensures bytes { IfOk result (λ made. made.bytes ≡ key_file_bytes self.now.key q) }
-        ensures later { OnOk result (self.now.next < q) }
+        ensures next { IfOk result (λ made. made.file.next ≡ leaf) }
+        ensures bytes { IfOk result (λ made. made.bytes ≡ key_file_bytes self.now.key leaf) }
     {
         let KeyFile {
             params,
             id,
             seed,
-            next,
+            ..
         } = self.file;
-        if q <= next || leaf_count(params) < q {
-            return Err(io::Error::new(ErrorKind::InvalidInput, "no later leaf of the key"));
+        if leaf_count(params) < leaf {
+            return Err(io::Error::new(ErrorKind::InvalidInput, "no leaf of the key"));
         }
         let file = KeyFile {
             params,
             id,
             seed,
-            next: q,
+            next: leaf,
         };
         let bytes = file.encode();
         Ok(NextFile { file, bytes })
@@ -182,12 +241,14 @@ impl<'a> KeyStore for KeptKey<'a> {
 
     ghost failure_count = { λ kept. kept.failures };
 
-    /// Puts the key file with that next leaf in the place of the old one, and says whether the disk
-    /// has it. After a `false` either file stands, whole.
+    /// Has that leaf sign next, once the file says it or a later one: where it says an earlier one, a
+    /// key file with the last leaf of so many takes its place. Says whether the disk has it. After a
+    /// `false` either file stands, whole.
     fn store_next(&mut self, q: u32) -> bool {
-        match self.write(q) {
-            Ok(file) => {
-                self.file = file;
+        match self.store_ahead(q) {
+            Ok(stored) => {
+                self.file.next = q;
+                self.stored = stored;
                 true
             }
             Err(reason) => {
