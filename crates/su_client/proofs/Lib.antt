@@ -1,2 +1,5 @@
+mod Ahead
 mod Following
 mod Joining
+mod Sending
+pub mod Public

@@ -40,6 +40,28 @@ abbrev pub Fetches : LinkState → Option (Vec ℕ) → LinkState → Type 0
 Fetches a (Some message) b = Takes a message.items b
 Fetches a None b = Reads a b
 
+-- These bytes are written; what is read meanwhile joins what waits.
+pub record Writes (bytes : List ℕ) (a b : LinkState) : Type 0 where
+  pub written : Appends a.held b.held bytes
+  pub input : List ℕ
+  pub read : Consumes a.known b.known input
+  pub waits : b.waits ≡ a.waits ++ input
+  pub failed : b.failed ≡ a.failed
+
+-- The message that comes next is this reply.
+pub record Hears (a : LinkState) (r : Reply) (b : LinkState) : Type 0 where
+  pub input : List ℕ
+  pub read : Consumes a.known b.known input
+  pub replies : IsReply r
+  pub is : IsMessage (reply_bytes r)
+  pub next : a.waits ++ input ≡ frame (reply_bytes r) ++ b.waits
+  pub held : b.held ≡ a.held
+  pub failed : b.failed ≡ a.failed
+
+abbrev pub Hearing : LinkState → Option Reply → LinkState → Type 0
+Hearing a (Some r) b = Hears a r b
+Hearing a None b = Reads a b
+
 -- A message is written whole, and the one that comes next is this reply.
 pub record Talks (message : List ℕ) (a : LinkState) (r : Reply) (b : LinkState) : Type 0 where
   pub written : Appends a.held b.held (frame message)
@@ -61,3 +83,11 @@ pub record Spends (a b : LinkState) : Type 0 where
 abbrev pub Exchanges : List ℕ → LinkState → Option Reply → LinkState → Type 0
 Exchanges message a (Some r) b = Talks message a r b
 Exchanges message a None b = Spends a b
+
+-- the bytes are written; or some bytes were, and no more
+abbrev pub Writing : List ℕ → LinkState → Bool → LinkState → Type 0
+Writing bytes a true b = Writes bytes a b
+Writing bytes a false b = Spends a b
+
+abbrev pub Sending : List ℕ → LinkState → Bool → LinkState → Type 0
+Sending message a sent b = Writing (frame message) a sent b

@@ -1,4 +1,6 @@
 pub mod Fitting
 pub mod Link
 pub mod Following
+pub mod Ahead
 pub mod Asking
+pub mod Outbox

@@ -1,6 +1,6 @@
 -- A link between a client and a server, and one request and its reply on it.
 use Rattle.std.specs.Prelude.{◌≡◌, ◌⊎◌, ℕ, Bool, true, false, List, [], ◌++◌, Contains, MatchOption, Option, Some, None, Result, Ok, Err}
-use Rattle.std.specs.Io.KnownBytes.{Appends, Consumes}
+use Rattle.std.specs.Io.KnownBytes.{Appends, Consumes, Keeps}
 use Rattle.su_bytes.specs.declared.refusals.Refusal.{Refusal}
 use Rattle.su_bytes.specs.declared.refusals.Refusal.TheVariants.{MissingBlock, SourceFailed, NoMemory, LinkFailed}
 use Rattle.su_bytes.specs.Refusal.{refusal_number}
@@ -12,8 +12,9 @@ use Rattle.su_message.specs.Request.{IsRequest, request_bytes}
 use Rattle.su_message.specs.Reply.{IsReply, reply_bytes, refused_argument}
 use Rattle.su_client.specs.Fitting.{may_refuse, fitting}
 
--- What contracts see of a link: the bytes that are still to come, and those that were written, where
--- they are known; the bytes that have come and weren't used; whether it has failed.
+-- What contracts see of a link: the bytes that are still to come, and those that were written for
+-- what was asked, where they are known; the bytes that have come and weren't used; whether it has
+-- failed. (A request that is sent ahead of its time counts as written once it is asked for.)
 pub record LinkState : Type 0 where
   pub known : Option (List ℕ)
   pub held : Option (List ℕ)
@@ -44,6 +45,20 @@ pub record Follows (a b : LinkState) : Type 0 where
   pub input : List ℕ
   pub read : Consumes a.known b.known input
   pub no_more : a.failed ≡ true → b ≡ a
+
+-- What was read meanwhile waits; nothing else of what is known has changed.
+pub record Waits (a b : LinkState) : Type 0 where
+  pub input : List ℕ
+  pub read : Consumes a.known b.known input
+  pub waits : b.waits ≡ a.waits ++ input
+  pub held : Keeps a.held b.held
+  pub failed : b.failed ≡ a.failed
+  pub no_more : a.failed ≡ true → b ≡ a
+
+-- A request may have been sent ahead of its time: as to what was asked, nothing has changed, or the
+-- link has failed.
+abbrev pub GoesAhead : LinkState → LinkState → Type 0
+GoesAhead a b = Waits a b ⊎ ((b.failed ≡ true) × Follows a b)
 
 -- the link failed in a call, or had before
 abbrev pub Fails : LinkState → LinkState → Refusal → Type 0

@@ -8,7 +8,7 @@ ghost use Rattle.su_block.specs.Item.{is_item};
 ghost use Rattle.su_block.specs.Failure.{failures_after};
 ghost use Rattle.su_message.specs.declared.requests.Request.TheVariants as request;
 ghost use Rattle.su_message.specs.declared.replies.Reply.TheVariants as reply;
-ghost use Rattle.su_client.specs.Link.{LinkState, Exchanged, Follows, IsRefusal, MayGive, kept_or_nothing, of_source};
+ghost use Rattle.su_client.specs.Link.{LinkState, Exchanged, Follows, GoesAhead, IsRefusal, MayGive, kept_or_nothing, of_source};
 
 use crate::links::Link;
 use std::alloc::Global;
@@ -48,6 +48,26 @@ impl<R: Read + Drop, W: Write + Drop> Client<R, W> {
         ensures { result ≡ self.now.link.failed }
     {
         self.link.has_failed()
+    }
+
+    /// Sends a request ahead of its time, and tells whether it is on its way, on which nothing rests:
+    /// its reply is read when it is asked for. It isn't sent where many are on their way, without
+    /// memory for it, or over a link that fails. What was sent ahead has to be asked for next, in its
+    /// order, or passed by: else the link fails.
+    pub fn send_ahead(&mut self, request: &Request) -> bool
+        ensures ahead { GoesAhead self.old.link self.new.link }
+        ensures no_more { (s : List ℕ) → MayGive self.new.link s → MayGive self.old.link s }
+        ensures failures { self.new.failures ≡ self.old.failures }
+    {
+        self.link.send_ahead(request)
+    }
+
+    /// Reads the replies to what was sent ahead, which isn't asked for any more.
+    pub fn pass_ahead(&mut self)
+        ensures follows { Follows self.old.link self.new.link }
+        ensures failures { self.new.failures ≡ self.old.failures }
+    {
+        self.link.pass_ahead();
     }
 
     /// Asks for the turn. Returns how many records there are, and the last of each user. `Busy`
@@ -147,7 +167,7 @@ impl<R: Read + Drop, W: Write + Drop> Client<R, W> {
 
 /// What a source that is a client answers to a refusal: a link that failed is a source that could
 /// not be asked.
-fn of_source(refusal: Refusal) -> Refusal
+pub(crate) fn of_source(refusal: Refusal) -> Refusal
     ensures { result ≡ of_source refusal }
 {
     match refusal {

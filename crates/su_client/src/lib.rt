@@ -3,6 +3,9 @@
 
 mod clients;
 mod links;
+mod outboxes;
 mod refusals;
+mod wires;
 
 pub use clients::Client;
+pub use outboxes::Outbox;

@@ -1,44 +1,44 @@
-// The link to a server.
+// The link to a server, with requests that are sent ahead.
 ghost use Rattle.std.specs.Prelude.{◌≡◌, [], true, false};
 ghost use Rattle.su_bytes.specs.declared.refusals.Refusal.TheVariants.{LinkFailed};
-ghost use Rattle.su_client.specs.Link.{LinkState, Asked, Exchanged, IsRefusal, Refuses};
-ghost use Rattle.su_client.specs.Asking.{Exchanges, Fetches, Refills};
+ghost use Rattle.su_client.specs.Link.{LinkState, Asked, Exchanged, Follows, GoesAhead, IsRefusal, Refuses};
+ghost use Rattle.su_client.specs.Asking.{Exchanges, Sending};
 
 use crate::refusals::{may_refuse, told};
+use crate::wires::Wire;
 use std::alloc::Global;
-use std::io::{ErrorKind, Read, Write};
+use std::collections::VecDeque;
+use std::io::{Read, Write};
 use std::marker::Model;
 use su_bytes::Refusal;
-use su_frames::{Frames, Sent, send};
 use su_message::{Reply, Request};
 
-/// How often the link is read at most for one reply.
-const MOST_READS: u32 = 10_000_000;
+/// How many requests are sent ahead at most.
+pub const MOST_AHEAD: usize = 512;
 
-/// Bytes that are asked for in one read.
-const CHUNK: usize = 4096;
+/// How many bytes the messages of those may have.
+const MOST_BYTES: usize = 1_048_576;
 
-/// A link to a server, of which nothing is known but what comes over it.
+/// A link to a server, of which nothing is known but what comes over it. A request may be sent ahead
+/// of its time; its reply is read when it is asked for, in its turn. Its model is the link as if no
+/// request left before it is asked for.
 #[derive(Drop)]
 pub(crate) struct Link<R: Read, W: Write> {
-    reader: R,
-    writer: W,
-    frames: Frames,
-    failed: bool,
+    wire: Wire<R, W>,
+    /// The messages that were sent ahead and not asked for yet, in order.
+    ahead: VecDeque<Vec<u8>>,
+    /// How many bytes those have.
+    bytes: usize,
     alloc: Global,
 }
 
 impl<R: Read, W: Write> Model for Link<R, W> {
     ghost use Rattle.su_client.specs.Link.{LinkState};
+    ghost use Rattle.su_client.specs.Ahead.{without};
 
     ghost Value = { LinkState };
 
-    ghost view = { λ l. record {
-      known = R.remaining l.reader;
-      held = W.contents l.writer;
-      waits = l.frames;
-      failed = l.failed;
-    } };
+    ghost view = { λ l. without l.wire l.ahead.items };
 }
 
 impl<R: Read + Drop, W: Write + Drop> Link<R, W> {
@@ -52,10 +52,9 @@ impl<R: Read + Drop, W: Write + Drop> Link<R, W> {
         } }
     {
         Link {
-            reader,
-            writer,
-            frames: Frames::new(alloc),
-            failed: false,
+            wire: Wire::new(alloc, reader, writer),
+            ahead: VecDeque::new(alloc),
+            bytes: 0,
             alloc,
         }
     }
@@ -64,16 +63,16 @@ impl<R: Read + Drop, W: Write + Drop> Link<R, W> {
     pub fn has_failed(&self) -> bool
         ensures { result ≡ self.now.failed }
     {
-        self.failed
+        self.wire.has_failed()
     }
 
-    /// Sends a request and reads the reply. `NoMemory` where there is none for the request: then
+    /// Asks a request, and reads the reply. `NoMemory` where there is none for the request: then
     /// nothing is sent. `LinkFailed` where the link fails, what comes is no reply, or there is no
-    /// memory for it: from then on the link has failed.
+    /// memory for it, and where other requests were sent ahead: from then on the link has failed.
     pub fn ask(&mut self, request: &Request) -> Result<Reply, Refusal>
         ensures { Asked request.now self.old self.new result }
     {
-        if self.failed {
+        if self.has_failed() {
             return Err(Refusal::LinkFailed);
         }
         let message = request.encode(self.alloc)?;
@@ -81,6 +80,59 @@ impl<R: Read + Drop, W: Write + Drop> Link<R, W> {
             Some(reply) => Ok(reply),
             None => Err(self.fail()),
         }
+    }
+
+    /// Sends a request ahead of its time, and tells whether it is on its way: it isn't where many
+    /// are, nor without memory for it, nor over a link that fails. What is sent ahead has to be asked
+    /// for next, in order, or passed by.
+    pub fn send_ahead(&mut self, request: &Request) -> bool
+        ensures { GoesAhead self.old self.new }
+    {
+        if self.has_failed() || MOST_AHEAD <= self.ahead.len() {
+            return false;
+        }
+        let Ok(message) = request.encode(self.alloc) else {
+            return false;
+        };
+        let bytes = self.bytes.saturating_add(message.len());
+        if MOST_BYTES < bytes || self.ahead.reserve(1).is_err() {
+            return false;
+        }
+        let are_replies_due = !self.ahead.is_empty();
+        if !self.wire.send(message.as_slice(), are_replies_due) {
+            self.ahead.clear();
+            self.wire.fail();
+            return false;
+        }
+        self.bytes = bytes;
+        self.ahead.push_back_reserved(message);
+        true
+    }
+
+    /// Reads the replies to what was sent ahead, which aren't asked for any more.
+    pub fn pass_ahead(&mut self)
+        ensures { Follows self.old self.new }
+    {
+        for _ in 0..self.ahead.len() {
+            self.pass_one();
+        }
+    }
+
+    /// Reads the reply to the first of those.
+    fn pass_one(&mut self)
+        ensures { Follows self.old self.new }
+    {
+        if self.has_failed() {
+            return;
+        }
+        let Some(first) = self.ahead.pop_front() else {
+            return;
+        };
+        self.bytes = self.bytes.saturating_sub(first.len());
+        let Some(_) = self.wire.reply() else {
+            self.wire.fail();
+            return;
+        };
     }
 
     /// Finds the refusal that a reply tells of, where it may refuse the request; the link stays as
@@ -105,61 +157,38 @@ impl<R: Read + Drop, W: Write + Drop> Link<R, W> {
         }
     }
 
-    /// Sends a message and reads the reply. None where the link fails, what comes is no reply, or
-    /// there is no memory for it.
-    fn exchange(&mut self, message: &[u8]) -> Option<Reply>
-        ensures { Exchanges message.now self.old result self.new }
-    {
-        let Sent::Whole = send(self.alloc, message, &mut self.writer) else {
-            return None;
-        };
-        let answer = self.next_message()?;
-        match Reply::decode(self.alloc, answer.as_slice()) {
-            Ok(reply) => Some(reply),
-            Err(_) => None,
-        }
-    }
-
-    /// Reads the message that comes next. None where the link fails or ends before it, or there is
-    /// no memory for it.
-    fn next_message(&mut self) -> Option<Vec<u8>>
-        ensures { Fetches self.old result self.new }
-    {
-        for _ in 0..MOST_READS {
-            match self.frames.next() {
-                Ok(Some(message)) => return Some(message),
-                Ok(None) => {}
-                Err(_) => return None,
-            }
-            if !self.refill() {
-                return None;
-            }
-        }
-        None
-    }
-
-    /// Reads once. False where the input has ended, the read failed, or there is no memory for what
-    /// came.
-    fn refill(&mut self) -> bool
-        ensures { Refills self.old result self.new }
-    {
-        let mut chunk = [0u8; CHUNK];
-        match self.reader.read(&mut chunk) {
-            Ok(0) => false,
-            Ok(count) => match self.frames.feed(&chunk[..count]) {
-                Ok(()) => true,
-                Err(_) => false,
-            },
-            Err(error) => error.kind() == ErrorKind::Interrupted,
-        }
-    }
-
     /// Lets the link have failed.
     pub fn fail(&mut self) -> Refusal
         ensures refusal { result ≡ LinkFailed }
         ensures failed { self.new ≡ record self.old { failed = true } }
     {
-        self.failed = true;
+        self.wire.fail();
         Refusal::LinkFailed
+    }
+
+    /// Sends a message, unless it was sent ahead, and reads the reply. None where the link fails,
+    /// what comes is no reply, there is no memory for it, or another message was sent ahead.
+    fn exchange(&mut self, message: &[u8]) -> Option<Reply>
+        ensures { Exchanges message.now self.old result self.new }
+    {
+        if !self.is_sent(message) {
+            return None;
+        }
+        self.wire.reply()
+    }
+
+    /// Sends a message, unless it is the next of those that were sent ahead. False where the link
+    /// fails, there is no memory, or another message is the next.
+    fn is_sent(&mut self, message: &[u8]) -> bool
+        ensures { Sending message.now self.old result self.new }
+    {
+        let Some(first) = self.ahead.pop_front() else {
+            return self.wire.send(message, false);
+        };
+        self.bytes = self.bytes.saturating_sub(first.len());
+        if first.as_slice() != message {
+            return false;
+        }
+        true
     }
 }

@@ -184,7 +184,7 @@ where
     match command {
         ClientCommand::Change(command) => change_step(program, alloc, output, member, &command),
         ClientCommand::Undo(number) => {
-            let undone = member.change(program, Change::Undo(number));
+            let undone = member.change(program, Change::Undo(number), false);
             tell_number(alloc, output, undone, false)
         }
         ClientCommand::UndoLast => {
@@ -251,9 +251,12 @@ where
         (CommitsSome P.may_connect operations.items member.old member.new) }
 {
     let mut place = Place::First;
+    let mut left = operations.len();
     for operation in operations {
         let next = place.after(&operation);
-        let outcome = commit_one(program, alloc, output, member, operation, place)?;
+        left = left.saturating_sub(1);
+        let ahead = 0 < left;
+        let outcome = commit_one(program, alloc, output, member, operation, place, ahead)?;
         if outcome.is_refused() {
             return Ok(outcome);
         }
@@ -262,7 +265,8 @@ where
     Ok(Outcome::Done)
 }
 
-/// Commits an operation, and prints what comes of it.
+/// Commits an operation, and prints what comes of it. The next turn is asked for ahead of its time,
+/// where that is told.
 fn commit_one<P, O, R, W, K>(
     program: &mut P,
     alloc: Global,
@@ -270,6 +274,7 @@ fn commit_one<P, O, R, W, K>(
     member: &mut Member<R, W, K>,
     operation: Op,
     place: Place,
+    ahead: bool,
 ) -> Result<Outcome, Fault>
 where
     P: Program<R, W>,
@@ -283,7 +288,7 @@ where
         × IfOk result (λ out. IsOutcome (is_after_take place) r out
         × Appends (O.contents output.old) (O.contents output.new) (number_shown r)) }
 {
-    let stored = commit(program, member, operation, place);
+    let stored = commit(program, member, operation, place, ahead);
     tell_number(alloc, output, stored, matches!(place, Place::AfterTake))
 }
 
@@ -293,6 +298,7 @@ fn commit<P, R, W, K>(
     member: &mut Member<R, W, K>,
     operation: Op,
     place: Place,
+    ahead: bool,
 ) -> Result<u64, ViewRefusal>
 where
     P: Program<R, W>,
@@ -303,9 +309,9 @@ where
     ensures commits { CommitsIn P.may_connect (is_first place) operation member.old member.new result }
 {
     if matches!(place, Place::First) {
-        return member.publish(Change::Do(operation));
+        return member.publish(Change::Do(operation), ahead);
     }
-    member.change(program, Change::Do(operation))
+    member.change(program, Change::Do(operation), ahead)
 }
 
 /// Saves the log, and prints nothing but a refusal.

@@ -1,5 +1,5 @@
 -- One record more of a log is taken.
-use Rattle.std.proofs.Common.{◌≡◌, ℕ, ◌+◌, ◌-◌, ◌≤◌, Option, Ok, Some, List, [], ◌∷◌, ◌++◌, map, length, length-append, refl, sym, ap, ◌∙◌, subst, arith, append_assoc, append-nil}
+use Rattle.std.proofs.Common.{◌≡◌, ℕ, ◌+◌, ◌-◌, ◌≤◌, List, [], ◌∷◌, ◌++◌, map, length, length-append, refl, sym, ap, ◌∙◌, subst, arith, append_assoc, append-nil}
 use Rattle.std.proofs.lemmas.List.{map-append, flat_map_more}
 use Rattle.su_version.specs.Commit.{commit_bytes}
 use Rattle.su_legal.specs.Legal.{Committed, LegalAfter}
@@ -7,7 +7,8 @@ use Rattle.su_legal.proofs.Public.{after_both}
 use Rattle.su_view.specs.Holding.{HoldingState, with_more, Took}
 use Rattle.su_log.specs.Log.{LogRecord, record_bytes, log_bytes}
 use Rattle.su_log.specs.Part.{part_bytes}
-use Rattle.su_log.specs.Record.{spelled, BeginsWithRecord, ReadsNext}
+use Rattle.su_log.specs.Record.{spelled, BeginsWithRecord}
+use Rattle.su_log_ahead.specs.Ahead.{AheadState, IsLeft}
 use Rattle.su_log.specs.declared.records.Record.{Record}
 use Rattle.su_client_work.specs.SavedLog.{saved_log, entry_bytes, saved_record}
 use Rattle.su_client_work.specs.TakenLog.{PutsEach, TakesFront, TakesRecord}
@@ -68,19 +69,20 @@ module _ {S : Type 0} (Follows : S → S → Type 0) (Puts : S → List ℕ → 
 
 -- ---- where the log is
 
--- a rest that is known stands at this place of the log, and the front before it is so
-pub record IsReadTo (Front : List ℕ → Type 0) (log : List ℕ) (place : ℕ) (known : Option (List ℕ)) : Type 0 where
+-- this is left at a place of the log, and the front before it is so
+pub record IsReadTo (Front : List ℕ → Type 0) (log : List ℕ) (s : AheadState) : Type 0 where
+  pub place : ℕ
   pub rest : List ℕ
-  pub left : known ≡ Some rest
+  pub left : IsLeft s place rest
   pub place_is : place + length rest ≡ length log
   pub front : Front rest
 
-further : (place place' : ℕ) (log rest others : List ℕ) (r : LogRecord) → place + length rest ≡ length log → BeginsWithRecord rest r others
-    → place' ≡ place + length (record_bytes r) → place' + length others ≡ length log
-further place place' log rest others r here begins on =
+further : (place : ℕ) (log rest others : List ℕ) (r : LogRecord) → place + length rest ≡ length log → BeginsWithRecord rest r others
+    → place + length (record_bytes r) + length others ≡ length log
+further place log rest others r here begins =
     let long = ap length (record_first rest r others begins) in
     let sum = length-append (record_bytes r) others in
-    omega (arith, here, long, sum, on)
+    omega (arith, here, long, sum)
 
 module _ {S : Type 0} (Follows : S → S → Type 0) (Puts : S → List ℕ → S → Type 0) (v : HoldingState) (s : S) (log : List ℕ) where
   -- the source was asked for more, and nothing was taken
@@ -97,18 +99,20 @@ module _ {S : Type 0} (Follows : S → S → Type 0) (Puts : S → List ℕ → 
   }
 
   -- one record more was read, and taken
-  pub read_on : (w x : HoldingState) (t u : S) (k place place' : ℕ) (known known' : Option (List ℕ)) (r : Record)
-      → 1 ≤ k → IsReadTo (λ rest. TakesFront Follows Puts v s log w t (k - 1) rest) log place known
-      → ((input : List ℕ) → known ≡ Some input → ReadsNext (Ok r) place input place' known')
+  pub read_on : (w x : HoldingState) (t u : S) (k : ℕ) (a b : AheadState) (r : Record)
+      → 1 ≤ k → IsReadTo (λ rest. TakesFront Follows Puts v s log w t (k - 1) rest) log a
+      → ((place : ℕ) (input : List ℕ) → IsLeft a place input
+      → (rest : List ℕ) × BeginsWithRecord input (spelled r) rest × IsLeft b (place + length (record_bytes (spelled r))) rest)
       → TakesRecord Follows Puts (spelled r) w t x u
-      → IsReadTo (λ rest. TakesFront Follows Puts v s log x u (k + 1 - 1) rest) log place' known'
-  read_on w x t u k place place' known known' r some f reads took =
-      let (others, begins, left, on) = reads f.rest f.left in
+      → IsReadTo (λ rest. TakesFront Follows Puts v s log x u (k + 1 - 1) rest) log b
+  read_on w x t u k a b r some f reads took =
+      let (others, begins, left) = reads f.place f.rest f.left in
       let count : k - 1 + 1 ≡ k + 1 - 1 = omega (arith, some) in
       record {
+        place = f.place + length (record_bytes (spelled r));
         rest = others;
         left = left;
-        place_is = further place place' log f.rest others (spelled r) f.place_is begins on;
+        place_is = further f.place log f.rest others (spelled r) f.place_is begins;
         front = subst (λ n. TakesFront Follows Puts v s log x u n others) count
             (one_taken Follows Puts v w x s t took.with_item u log f.rest others (k - 1) (spelled r) took.committed f.front begins took.bytes_are took.took took.put took.follows);
       }

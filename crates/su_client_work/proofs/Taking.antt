@@ -32,6 +32,11 @@ pub takes_one : {R E : Type 0} (r : Result R E) (B M : Committed → Type 0) (v 
 takes_one (Ok x) B M v w (c, b, m, took) same = (c ∷ [], took)
 takes_one (Err e) B M v w took same = subst (TakesSome v) (sym same) (takes_none v)
 
+pub takes_found : {R E : Type 0} (r : Result R E) (B : Committed → Type 0) (v w : HoldingState)
+    → OnOk r ((c : Committed) × B c × Took v (c ∷ []) w) → OnErr r (w ≡ v) → TakesSome v w
+takes_found (Ok x) B v w (c, b, took) same = (c ∷ [], took)
+takes_found (Err e) B v w took same = subst (TakesSome v) (sym same) (takes_none v)
+
 -- the same of a commit that is known
 pub takes_own : {R E : Type 0} (r : Result R E) (x : Commit) (M : Change → Type 0) (v w : HoldingState)
     → OnOk r ((change : Change) × M change × Took v (record { commit = x; change = change } ∷ []) w) → OnErr r (w ≡ v) → TakesSome v w

@@ -1,5 +1,5 @@
 -- A link over which more is asked, and a turn.
-use Rattle.std.proofs.Common.{◌≡◌, ◌+◌, ◌<◌, ℕ, suc, length, Result, Ok, Err, OnOk, take, get_or, arith, List, [], ◌∷◌, ◌++◌, inl, inr, sym, ◌∙◌, ap, subst, refl, true, false, IfErr}
+use Rattle.std.proofs.Common.{◌≡◌, ◌+◌, ◌<◌, ℕ, suc, length, Option, None, Some, Result, Ok, Err, OnOk, take, get_or, arith, List, [], ◌∷◌, ◌++◌, inl, inr, sym, ◌∙◌, ap, subst, refl, true, false, IfErr}
 use Rattle.std.proofs.Math.Seq.{take-suc}
 use Rattle.su_bytes.specs.declared.refusals.Refusal.{Refusal}
 use Rattle.su_bytes.specs.declared.refusals.Refusal.TheVariants.{LinkFailed}
@@ -7,14 +7,28 @@ use Rattle.su_frames.specs.Stream.{frame}
 use Rattle.su_message.specs.declared.requests.Request.{Request}
 use Rattle.su_message.specs.declared.replies.Reply.{Reply}
 use Rattle.su_message.specs.declared.requests.Request.TheVariants.{Grant, Give, Fetch}
-use Rattle.su_message.specs.declared.replies.Reply.TheVariants.{Given}
+use Rattle.su_message.specs.declared.replies.Reply.TheVariants.{Given, Granted}
 use Rattle.su_message.specs.Request.{request_bytes}
 use Rattle.su_version.specs.Commit.{Commit}
-use Rattle.su_client.specs.Link.{LinkState, IsFresh, Exchanged, Follows, IsRefusal}
+use Rattle.sha2.specs.Sha256.{sha256}
+use Rattle.std.specs.Prelude.{slice_get, option_to_list}
+use Rattle.std.proofs.lemmas.List.{get_or_default}
+use Rattle.std.proofs.lemmas.Option.{get_or_from_slice_get, slice_get-get_or}
+use Rattle.su_op.specs.declared.operations.Change.{Change}
+use Rattle.su_change.specs.Item.{item_bytes}
+use Rattle.su_version.specs.Commit.{commit_bytes}
+use Rattle.su_message.specs.declared.requests.Request.TheVariants as request
+use Rattle.su_message.specs.declared.replies.Reply.TheVariants.{PutDone, Stored}
+use Rattle.su_client.specs.Link.{LinkState, IsFresh, Exchanged, Follows, GoesAhead, IsRefusal, kept_or_nothing}
+use Rattle.std.specs.Global.{Vec}
+use Rattle.std.specs.Prelude.{IfOk, IfNone}
+use Rattle.su_client.specs.Outbox.{contents, IsHandedIn, PutsAll, WaitsToo}
+use Rattle.su_client.proofs.Public.{exchanged_ahead}
+use Rattle.su_client_work.specs.Publishing.{IsStored}
 use Rattle.su_client.specs.Following.{follows_itself, follows_on}
 use Rattle.su_view.specs.Holding.{HoldingState}
 use Rattle.su_client_work.specs.Member.{MemberState, OnlyTakes, Stays}
-use Rattle.su_client_work.specs.Turn.{Comes, HasMore, IsCaughtUp, SaysNothing, IsShown, AreShown, TakesTurn, GivesUp, GivesTurnUp, IsUngranted, IsUngrantedOver, commit_or_nothing}
+use Rattle.su_client_work.specs.Turn.{Comes, HasMore, IsCaughtUp, SaysNothing, IsShown, AreShown, TakesTurn, GivesUp, GivesTurnUp, IsGrantedOver, IsUngranted, IsUngrantedOver, commit_or_nothing}
 use Rattle.su_client_work.proofs.Taking.{takes_then}
 
 -- ---- what stays, and what is only taken
@@ -62,6 +76,10 @@ caught_after (Ok x) count v a b c p (inl all) = inl all
 caught_after (Ok x) count v a b c p (inr nothing) = inr (nothing_after a b c p nothing)
 caught_after (Err e) count v a b c p q = tt
 
+pub more_after : {R E : Type 0} (r : Result R E) (u v w : HoldingState) (a b c : LinkState) → v ≡ u → Follows a b → OnOk r (HasMore v b w c) → OnOk r (HasMore u a w c)
+more_after r u v w a b c same p more =
+    caught_after r (length u.held + 1) w a b c p (subst (λ (x : HoldingState). OnOk r (HasMore x b w c)) same more)
+
 -- so many were held, and then one more
 pub caught_one : (n : ℕ) (v w : HoldingState) (a b c : LinkState) → Follows a b → Follows b c → IsCaughtUp n v a b → HasMore v b w c → IsCaughtUp (n + 1) w a c
 caught_one n v w a b c p q (inl all) (inl more) = inl (omega (arith, all, more))
@@ -107,14 +125,92 @@ shown_then [] u before a shown m more b (same, link) is =
     (more, b, subst (λ (l : LinkState). IsShown u.1 before l more b) link (subst (λ (cs : List Commit). IsShown u.1 cs m more b) same is), (refl, refl))
 shown_then (x ∷ us) u before a shown m more b (one, between, first, rest) is = (one, between, first, shown_then us u one between shown m more b rest is)
 
+pub is_shown : (all : List (ℕ × ℕ)) (i : ℕ) (v u : ℕ × ℕ) (before more : List Commit) (a m b : LinkState) (answer : Option Commit) → slice_get all i ≡ Some u → Follows a m
+    → Exchanged (Fetch (get_or all i v).1) m b (commit_or_nothing answer) → more ≡ before ++ option_to_list answer → IsShown u.1 before a more b
+is_shown all i v u before more a m b answer there follows exchanged joins =
+    subst (λ (w : ℕ × ℕ). IsShown w.1 before a more b) (get_or_from_slice_get all i u v there)
+    (record { asked = m; follows = follows; answer = answer; exchanged = exchanged; joins = joins })
+
 -- the same of the user that comes next among all
-pub shown_next : (all : List (ℕ × ℕ)) (i : ℕ) (u : ℕ × ℕ) (before : List Commit) (a : LinkState) (shown : List Commit) (m : LinkState) (more : List Commit) (b : LinkState)
-    → i < length all → u ≡ get_or all i u → AreShown (take i all) before a shown m → IsShown u.1 shown m more b → AreShown (take (i + 1) all) before a more b
-shown_next all i u before a shown m more b inside there are is =
+pub shown_next : (all : List (ℕ × ℕ)) (i : ℕ) (before : List Commit) (a : LinkState) (shown : List Commit) (m : LinkState) (more : List Commit) (b : LinkState)
+    → i < length all → AreShown (take i all) before a shown m → ((u : ℕ × ℕ) → slice_get all i ≡ Some u → IsShown u.1 shown m more b) → AreShown (take (i + 1) all) before a more b
+shown_next all i before a shown m more b inside are is =
+    let u : ℕ × ℕ = get_or all i (0, 0) in
     let one : suc i ≡ i + 1 = omega arith in
+    let there : get_or all i u ≡ u = get_or_default all i u (0, 0) inside in
     let longer : take (i + 1) all ≡ take i all ++ u ∷ [] =
-    subst (λ (n : ℕ). take n all ≡ take i all ++ u ∷ []) one (take-suc all i u inside ∙ ap (λ (x : ℕ × ℕ). take i all ++ x ∷ []) (sym there)) in
-    subst (λ (us : List (ℕ × ℕ)). AreShown us before a more b) (sym longer) (shown_then (take i all) u before a shown m more b are is)
+    subst (λ (n : ℕ). take n all ≡ take i all ++ u ∷ []) one (take-suc all i u inside ∙ ap (λ (x : ℕ × ℕ). take i all ++ x ∷ []) there) in
+    subst (λ (us : List (ℕ × ℕ)). AreShown us before a more b) (sym longer) (shown_then (take i all) u before a shown m more b are (is u (slice_get-get_or all i (0, 0) inside)))
+
+-- ---- what is asked after more
+
+pub granted_on : (a b c : LinkState) (count : ℕ) (last : List (ℕ × ℕ)) → Follows a b → IsGrantedOver b c count last → IsGrantedOver a c count last
+granted_on a b c count last p g = record { before = g.before; follows = follows_on a b g.before p g.follows; granted = g.granted }
+
+pub ungranted_on : (a b c : LinkState) (e : Refusal) → Follows a b → IsUngrantedOver b c e → IsUngrantedOver a c e
+ungranted_on a b c e p u = record { before = u.before; follows = follows_on a b u.before p u.follows; refused = u.refused }
+
+pub granted_later : (r : Result (ℕ × List (ℕ × ℕ)) Refusal) (a b c : LinkState) → Follows a b → IfOk r (λ g. IsGrantedOver b c g.0 g.1) → IfOk r (λ g. IsGrantedOver a c g.0 g.1)
+granted_later (Ok g) a b c p granted = granted_on a b c g.0 g.1 p granted
+granted_later (Err e) a b c p granted = tt
+
+pub ungranted_later : {A : Type 0} (r : Result A Refusal) (a b c : LinkState) → Follows a b → IfErr r (IsUngrantedOver b c) → IfErr r (IsUngrantedOver a c)
+ungranted_later (Ok x) a b c p refused = tt
+ungranted_later (Err e) a b c p refused = ungranted_on a b c e p refused
+
+pub granted_after : (r : Result (ℕ × List (ℕ × ℕ)) Refusal) (a b c : LinkState) → Follows a b → IfOk r (λ g. Exchanged Grant b c (Granted g.0 g.1)) → IfOk r (λ g. IsGrantedOver a c g.0 g.1)
+granted_after (Ok g) a b c p granted = record { before = b; follows = p; granted = granted }
+granted_after (Err e) a b c p granted = tt
+
+pub ungranted_after : {A : Type 0} (r : Result A Refusal) (a b c : LinkState) → Follows a b → IfErr r (IsRefusal Grant b c) → IfErr r (IsUngrantedOver a c)
+ungranted_after (Ok x) a b c p refused = tt
+ungranted_after (Err e) a b c p refused = record { before = b; follows = p; refused = refused }
+
+-- the server said of a number that it has nothing
+pub nothing_said : (r : Result (Option (List ℕ)) Refusal) (number : ℕ) (a b c : LinkState) → Follows a b → IfOk r (λ bytes. Exchanged (Fetch number) b c (kept_or_nothing bytes))
+    → IfOk r (λ bytes. IfNone bytes (SaysNothing a c))
+nothing_said (Ok (Some bytes)) number a b c p e = tt
+nothing_said (Ok None) number a b c p e = record { number = number; before = b; follows = p; behind = c; asked = e; then_follows = follows_itself c }
+nothing_said (Err e) number a b c p exchanged = tt
+
+-- ---- what is handed in
+
+pub handed_ahead : (items : List (List ℕ)) (commit : List ℕ) (a m b : LinkState) (n : ℕ) → GoesAhead a m → IsHandedIn items commit m b n → IsHandedIn items commit a b n
+handed_ahead [] commit a m b n ahead h = record {
+  between = a;
+  put = refl;
+  stored = exchanged_ahead (request.Commit commit) a m b _ ahead (subst (λ (l : LinkState). Exchanged (request.Commit commit) l b (Stored n)) h.put h.stored);
+}
+handed_ahead (x ∷ items) commit a m b n ahead h =
+    let (k, first, rest) = h.put in
+    record { between = h.between; put = (k, exchanged_ahead (request.Put x) a m k _ ahead first, rest); stored = h.stored }
+
+pub handed_after : (r : Result ℕ Refusal) (vs vs' : List (Vec ℕ)) (commit : List ℕ) (a m b : LinkState) → vs' ≡ vs → GoesAhead a m → IfOk r (IsHandedIn (contents vs') commit m b)
+    → IfOk r (IsHandedIn (contents vs) commit a b)
+handed_after (Ok n) vs vs' commit a m b same ahead h =
+    handed_ahead (contents vs) commit a m b n ahead (subst (λ (l : List (Vec ℕ)). IsHandedIn (contents l) commit m b n) same h)
+handed_after (Err e) vs vs' commit a m b same ahead h = tt
+
+-- no other item waits
+pub waits_alone : (item : List ℕ) (waiting waiting' : List (List ℕ)) (a b : LinkState) → waiting ≡ [] → WaitsToo waiting item a waiting' b → (waiting' ≡ item ∷ []) × (b ≡ a)
+waits_alone item waiting waiting' a b none w = alone (subst (λ (l : List (List ℕ)). WaitsToo l item a waiting' b) none w)
+  where
+    alone : WaitsToo [] item a waiting' b → (waiting' ≡ item ∷ []) × (b ≡ a)
+    alone (inl same) = same
+    alone (inr same) = same
+
+pub is_stored : (change : Change) (c : Commit) (bytes : List ℕ) (waiting waiting' : List (List ℕ)) (a b d : LinkState) (n : ℕ) → waiting ≡ [] → WaitsToo waiting (item_bytes change) a waiting' b
+    → bytes ≡ commit_bytes c → IsHandedIn waiting' bytes b d n → IsStored change c a d
+is_stored change c bytes waiting waiting' a b d n none w spelled h =
+    let (alone, same) = waits_alone (item_bytes change) waiting waiting' a b none w in
+    let (k, put, last) = subst (λ (l : List (List ℕ)). PutsAll l b h.between) alone h.put in
+    record {
+      between = k;
+      put = subst (λ (l : LinkState). Exchanged (request.Put (item_bytes change)) l k (PutDone (sha256 (item_bytes change)))) same put;
+      number = n;
+      stored = subst (λ (l : LinkState). Exchanged (request.Commit (commit_bytes c)) l d (Stored n)) last
+          (subst (λ (s : List ℕ). Exchanged (request.Commit s) h.between d (Stored n)) spelled h.stored);
+    }
 
 -- ---- a turn that is given up
 
@@ -130,7 +226,7 @@ exchanged q a b r e = record {
 shown_follows : (us : List (ℕ × ℕ)) (before : List Commit) (a : LinkState) (shown : List Commit) (b : LinkState) → AreShown us before a shown b → Follows a b
 shown_follows [] before a shown b (same, link) = subst (Follows a) (sym link) (follows_itself a)
 shown_follows (u ∷ us) before a shown b (more, between, is, rest) =
-    follows_on a between b (exchanged (Fetch u.1) a between (commit_or_nothing is.answer) is.exchanged) (shown_follows us more between shown b rest)
+    follows_on a between b (follows_on a is.asked between is.follows (exchanged (Fetch u.1) is.asked between (commit_or_nothing is.answer) is.exchanged)) (shown_follows us more between shown b rest)
 
 -- the turn was given back, or that was refused
 pub gives_up : (r : Result (Unit {0}) Refusal) (a b : LinkState) → OnOk r (Exchanged Give a b Given) → IfErr r (IsRefusal Give a b) → GivesUp a b

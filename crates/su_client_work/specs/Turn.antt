@@ -47,11 +47,14 @@ abbrev pub commit_or_nothing : Option Commit → Reply
 commit_or_nothing c = kept_or_nothing (option_map commit_bytes c)
 
 -- The server is asked for the commit of this number; what it shows comes behind those that it has
--- shown before.
+-- shown before. (More may be asked first: what a client asked for ahead of its time, and doesn't need
+-- then.)
 pub record IsShown (number : ℕ) (before : List Commit) (a : LinkState) (shown : List Commit)
     (b : LinkState) : Type 0 where
+  pub asked : LinkState
+  pub follows : Follows a asked
   pub answer : Option Commit
-  pub exchanged : Exchanged (Fetch number) a b (commit_or_nothing answer)
+  pub exchanged : Exchanged (Fetch number) asked b (commit_or_nothing answer)
   pub joins : shown ≡ before ++ option_to_list answer
 
 -- so it is for the last commit of each of these users, one after the other

@@ -1,14 +1,12 @@
 // What a client changes: each change is a commit of its own.
 ghost use Rattle.std.specs.Prelude.{◌≡◌, ◌-◌, ℕ, Ok, IfErr, IfOk, OnOk, OnErr, length, slice_get};
 ghost use Rattle.std.specs.Option.{unwrap_or};
-ghost use Rattle.su_message.specs.declared.requests.Request.TheVariants as request;
-ghost use Rattle.su_message.specs.declared.replies.Reply.TheVariants.{Stored};
-ghost use Rattle.su_client.specs.Link.{Exchanged, Follows};
+ghost use Rattle.su_client.specs.Link.{Follows, GoesAhead};
+ghost use Rattle.su_client.specs.Outbox.{contents, IsHandedIn};
 ghost use Rattle.su_desk.specs.History.{last_live};
 ghost use Rattle.su_legal.specs.Legal.{history};
 ghost use Rattle.su_op.specs.declared.operations.Change.{Change as Change_};
 ghost use Rattle.su_plan.specs.Plan.{plan};
-ghost use Rattle.su_version.specs.Commit.{commit_bytes};
 ghost use Rattle.su_view.specs.Holding.{tree_of_list};
 ghost use Rattle.su_view.specs.Making.{IsMade};
 ghost use Rattle.su_client_work.specs.Member.{OnlyTakes, Stays};
@@ -16,11 +14,15 @@ ghost use Rattle.su_client_work.specs.Publishing.{always, last_undo, CommitsAtMo
 ghost use Rattle.su_client_work.specs.Turn.{Comes, GivesUp, IsRefusedTurn, TakesTurn};
 ghost use Rattle.su_client_work.specs.Work.{Works};
 
+use crate::early::Early;
 use crate::members::Member;
 use crate::surroundings::Surroundings;
+use std::alloc::Global;
 use std::io::{Read, Write};
 use su_bytes::Refusal;
+use su_client::Outbox;
 use su_lms::KeyStore;
+use su_message::{Bytes, Request};
 use su_op::{Change, Op};
 use su_plan::Command;
 use su_version::{Commit, Verdict};
@@ -67,12 +69,14 @@ impl<R: Read + Drop, W: Write + Drop, K: KeyStore + Drop> Member<R, W, K> {
         }
     }
 
-    /// Commits a change, once all commits are taken, and returns the number of its commit. The
-    /// refusals are those of `begin`, and then of `publish`.
+    /// Commits a change, once all commits are taken, and returns the number of its commit. Where
+    /// another one is to follow at once, the next turn is asked for with it. The refusals are those
+    /// of `begin`, and then of `publish`.
     pub fn change<A: Surroundings<R, W>>(
         &mut self,
         around: &mut A,
         change: Change,
+        is_followed: bool,
     ) -> Result<u64, ViewRefusal>
         ensures works { Works self.old self.new }
         ensures signs { CommitsAtMost (always change) self.old result self.new }
@@ -81,7 +85,7 @@ impl<R: Read + Drop, W: Write + Drop, K: KeyStore + Drop> Member<R, W, K> {
             (Publishes A.may_connect (always change) self.old self.new) }
     {
         self.begin(around)?;
-        self.publish(change)
+        self.publish(change, is_followed)
     }
 
     /// Undoes the last operation that stands, once all commits are taken, and returns the number of
@@ -96,7 +100,7 @@ impl<R: Read + Drop, W: Write + Drop, K: KeyStore + Drop> Member<R, W, K> {
     {
         self.begin(around)?;
         match self.last_live() {
-            Ok(last) => self.publish(Change::Undo(last)),
+            Ok(last) => self.publish(Change::Undo(last), false),
             Err(refusal) => {
                 self.give_up();
                 Err(ViewRefusal::Plain(refusal))
@@ -116,9 +120,10 @@ impl<R: Read + Drop, W: Write + Drop, K: KeyStore + Drop> Member<R, W, K> {
 
     /// Commits a change while the client has the turn: makes the commit, which the next leaf of the
     /// key signs, hands it in, and takes it once it is stored; returns its number in the list. That
-    /// ends the turn; on a refusal it is given back. The refusals are those of `View::make`, of
-    /// `Client::commit` and of `View::accept`.
-    pub fn publish(&mut self, change: Change) -> Result<u64, ViewRefusal>
+    /// ends the turn; on a refusal it is given back. Where another change is to follow at once, the
+    /// next turn is asked for with it. The refusals are those of `View::make`, of `Client::commit`
+    /// and of `View::accept`.
+    pub fn publish(&mut self, change: Change, is_followed: bool) -> Result<u64, ViewRefusal>
         ensures works { Works self.old self.new }
         ensures signs { SignsAtMost self.old.holding change self.old self.new }
         ensures follows { Follows self.old.link self.new.link }
@@ -127,7 +132,7 @@ impl<R: Read + Drop, W: Write + Drop, K: KeyStore + Drop> Member<R, W, K> {
         ensures err { OnErr result (self.new.holding ≡ self.old.holding) }
         ensures ends { OnErr result (EndsTurn change self.old self.new) }
     {
-        let commit = self.hand_in(change)?;
+        let commit = self.hand_in(change, is_followed)?;
         self.take_own(commit)
     }
 
@@ -153,14 +158,14 @@ impl<R: Read + Drop, W: Write + Drop, K: KeyStore + Drop> Member<R, W, K> {
     }
 
     /// Makes a commit and hands it in. Where one of them is refused, the turn is given back.
-    fn hand_in(&mut self, change: Change) -> Result<Commit, ViewRefusal>
+    fn hand_in(&mut self, change: Change, is_followed: bool) -> Result<Commit, ViewRefusal>
         ensures holding { self.new.holding ≡ self.old.holding }
         ensures signs { SignsAtMost self.old.holding change self.old self.new }
         ensures follows { Follows self.old.link self.new.link }
         ensures stored { IfOk result (λ c. HandsIn change self.old c self.new) }
         ensures gives_up { OnErr result (GivesUp self.old.link self.new.link) }
     {
-        match self.store_new(change) {
+        match self.store_new(change, is_followed) {
             Ok(commit) => Ok(commit),
             Err(refusal) => {
                 self.give_up();
@@ -170,30 +175,77 @@ impl<R: Read + Drop, W: Write + Drop, K: KeyStore + Drop> Member<R, W, K> {
     }
 
     /// Makes a commit, and lets the server store it.
-    fn store_new(&mut self, change: Change) -> Result<Commit, ViewRefusal>
+    fn store_new(&mut self, change: Change, is_followed: bool) -> Result<Commit, ViewRefusal>
         ensures holding { self.new.holding ≡ self.old.holding }
         ensures signs { SignsAtMost self.old.holding change self.old self.new }
         ensures follows { Follows self.old.link self.new.link }
         ensures stored { IfOk result (λ c. HandsIn change self.old c self.new) }
     {
+        self.view.source_mut().source_mut().forget();
         let commit = self.view.make(change, &mut self.key)?;
-        match self.store_commit(&commit) {
-            Ok(()) => Ok(commit),
+        let Ok(bytes) = commit.encode(self.alloc) else {
+            return Err(ViewRefusal::Plain(Refusal::NoMemory));
+        };
+        let (held, _) = self.view.head();
+        self.early
+            .note_own(self.view.user(), held.saturating_add(1));
+        let outbox = self.view.source_mut().source_mut();
+        match hand_over(self.alloc, outbox, bytes, &mut self.early, is_followed) {
+            Ok(_) => Ok(commit),
             Err(refusal) => Err(ViewRefusal::Plain(refusal)),
         }
     }
+}
 
-    /// Lets the server store a commit.
-    fn store_commit(&mut self, commit: &Commit) -> Result<(), Refusal>
-        ensures stays { Stays self.old self.new }
-        ensures follows { Follows self.old.link self.new.link }
-        ensures stored { OnOk result ((n : ℕ) × Exchanged (request.Commit (commit_bytes commit.now))
-            self.old.link self.new.link (Stored n)) }
-    {
-        let bytes = commit.encode(self.alloc)?;
-        self.view.source_mut().source_mut().commit(bytes)?;
-        Ok(())
+/// Hands in a commit by its bytes, once the items that wait are put: all of them leave together, and
+/// with them the requests for the next turn, where that is to follow.
+fn hand_over<R: Read + Drop, W: Write + Drop>(
+    alloc: Global,
+    outbox: &mut Outbox<R, W>,
+    bytes: Vec<u8>,
+    early: &mut Early,
+    is_followed: bool,
+) -> Result<u64, Refusal>
+    ensures handed_in { IfOk result (IsHandedIn (contents outbox.old.waiting.items) bytes.items
+        outbox.old.client.link outbox.new.client.link) }
+    ensures follows { Follows outbox.old.client.link outbox.new.client.link }
+{
+    send_all(alloc, outbox, bytes.as_slice(), early, is_followed);
+    outbox.hand_in(alloc, bytes)
+}
+
+/// Sends the items that wait and a commit ahead of their time, and with them the requests for the
+/// next turn, where that is to follow; as far as they leave.
+fn send_all<R: Read + Drop, W: Write + Drop>(
+    alloc: Global,
+    outbox: &mut Outbox<R, W>,
+    commit: &[u8],
+    early: &mut Early,
+    is_followed: bool,
+)
+    ensures ahead { GoesAhead outbox.old.client.link outbox.new.client.link }
+    ensures waiting { outbox.new.waiting ≡ outbox.old.waiting }
+{
+    let Ok(commit) = Bytes::copy_of(alloc, commit) else {
+        return;
+    };
+    if !outbox.send_ahead(alloc) {
+        return;
     }
+    if !send_commit(outbox, commit) {
+        return;
+    }
+    if is_followed {
+        early.send_turn(outbox.client_mut());
+    }
+}
+
+/// Sends a commit ahead of its time, and tells whether it is on its way.
+fn send_commit<R: Read + Drop, W: Write + Drop>(outbox: &mut Outbox<R, W>, commit: Bytes) -> bool
+    ensures ahead { GoesAhead outbox.old.client.link outbox.new.client.link }
+    ensures waiting { outbox.new.waiting ≡ outbox.old.waiting }
+{
+    outbox.client_mut().send_ahead(&Request::Commit(commit))
 }
 
 /// Returns the last of some numbers, 0 where there is none.

@@ -3,9 +3,11 @@
 #![tactic(auto)]
 
 mod changes;
+mod early;
 mod logs;
 mod members;
 mod questions;
+mod ready;
 mod shown;
 mod surroundings;
 

@@ -1,20 +1,24 @@
 // Logs of commits, with the items of their changes: how one is made of a list, and taken in a view.
-ghost use Rattle.std.specs.Prelude.{◌≡◌, ◌++◌, ℕ, List, map, true, Some, IfOk, IfErr, OnOk, OnErr};
+ghost use Rattle.std.specs.Prelude.{◌≡◌, ◌∷◌, ◌++◌, ℕ, List, [], map, true, Some, IfOk, IfErr, OnOk, OnErr};
+ghost use Rattle.su_version.specs.Commit.{commit_bytes};
 ghost use Rattle.su_legal.specs.Legal.{Committed};
 ghost use Rattle.su_view.specs.Acting.{TakesSome};
 ghost use Rattle.su_view.specs.Entry.{committed_at};
+ghost use Rattle.su_view.specs.Holding.{Took};
 ghost use Rattle.su_log.specs.Part.{part_bytes};
 ghost use Rattle.su_log.specs.Log.{log_bytes};
-ghost use Rattle.su_log.specs.Record.{spelled};
+ghost use Rattle.su_log.specs.Record.{IsExamined, spelled};
 ghost use Rattle.su_client_work.specs.SavedLog.{saved_log, entry_bytes, saved_record};
 ghost use Rattle.su_client_work.specs.TakenLog.{TakesFront, TakesRecord, EndsSo};
 
 use std::alloc::Global;
 use std::io;
 use std::io::Read;
+use std::thread::Threads;
 use su_block::BlockSource;
 use su_bytes::Refusal;
-use su_log::{Log, Record, Stop};
+use su_log::{Record, Stop};
+use su_log_ahead::Ahead;
 use su_view::{View, ViewRefusal};
 
 /// Why a log isn't taken whole.
@@ -27,10 +31,12 @@ pub enum LogFault {
 }
 
 /// Takes the commits of a log in a view, one after the other, each once the item that follows it is
-/// put into the view's source; returns how many. `Refused` by `Malformed` with the place in the log
-/// of a length that is cut or goes past the end, by the refusals of the source, or by those of
-/// `View::accept`; those before it stay taken.
-pub fn take_log<I: Read + Drop, S: BlockSource + Drop>(
+/// put into the view's source; returns how many. It reads ahead, and checks the signatures of what
+/// it read on all cores. `Refused` by `Malformed` with the place in the log of a length that is cut
+/// or goes past the end, by the refusals of the source, or by those of `View::accept`; those before
+/// it stay taken. `Unread` where the log can't be read, or memory to read ahead is refused.
+pub fn take_log<T: Threads + Sync, I: Read + Drop, S: BlockSource + Drop>(
+    rt: &T,
     alloc: Global,
     reader: I,
     view: &mut View<S>,
@@ -42,11 +48,11 @@ pub fn take_log<I: Read + Drop, S: BlockSource + Drop>(
         → EndsSo (TakesFront S.follows S.puts view.old.holding view.old.source log
         view.new.holding view.new.source) log result }
 {
-    let mut log = Log::new(reader);
+    let mut log = Ahead::new(alloc, reader);
     for number in 1..u64::MAX {
-        match log.next_record(alloc) {
-            Ok(record) => {
-                if let Err(refusal) = take_record(alloc, view, &record) {
+        match log.next(rt, alloc, view.roster()) {
+            Ok(next) => {
+                if let Err(refusal) = take_record(alloc, view, next) {
                     return Err(LogFault::Refused { number, refusal });
                 }
             }
@@ -65,16 +71,42 @@ pub fn take_log<I: Read + Drop, S: BlockSource + Drop>(
 fn take_record<S: BlockSource + Drop>(
     alloc: Global,
     view: &mut View<S>,
-    record: &Record,
+    next: Record,
 ) -> Result<(), ViewRefusal>
-    requires { S.is_checked ≡ true }
-    ensures took { OnOk result (TakesRecord S.follows S.puts (spelled record.now)
+    requires checked { S.is_checked ≡ true }
+    requires examined { IsExamined next }
+    ensures took { OnOk result (TakesRecord S.follows S.puts (spelled next)
         view.old.holding view.old.source view.new.holding view.new.source) }
     ensures err { OnErr result (view.new.holding ≡ view.old.holding) }
     ensures follows { S.follows view.old.source view.new.source }
 {
-    view.source_mut().put(alloc, record.item.as_slice())?;
-    view.accept_bytes(record.bytes.as_slice())
+    view.source_mut().put(alloc, next.item.as_slice())?;
+    take_commit(view, next)
+}
+
+/// Lets the view take the commit of a record. Where it is known whether it is signed, that isn't
+/// checked again.
+pub(crate) fn take_commit<S: BlockSource + Drop>(
+    view: &mut View<S>,
+    next: Record,
+) -> Result<(), ViewRefusal>
+    requires checked { S.is_checked ≡ true }
+    requires examined { IsExamined next }
+    ensures took { OnOk result ((c : Committed) × (next.bytes.items ≡ commit_bytes c.commit)
+        × Took view.old.holding (c ∷ []) view.new.holding) }
+    ensures err { OnErr result (view.new.holding ≡ view.old.holding) }
+    ensures follows { S.follows view.old.source view.new.source }
+{
+    let Record {
+        bytes,
+        item: _item,
+        commit,
+        verdict,
+    } = next;
+    match (commit, verdict) {
+        (Ok(commit), Some(verdict)) => view.accept_known(commit, bytes.as_slice(), verdict),
+        _ => view.accept_bytes(bytes.as_slice()),
+    }
 }
 
 /// Returns the log of a view's list: of each commit its bytes and the item of its change, each with

@@ -1,14 +1,18 @@
 // A client that works with a server, and how it begins what it does.
-ghost use Rattle.std.specs.Prelude.{◌≡◌, [], IfOk, IfErr, OnOk, OnErr};
+ghost use Rattle.std.specs.Prelude.{◌≡◌, ◌<◌, ℕ, [], Some, length, slice_get, IfOk, IfErr, IfNone, OnOk, OnErr};
 ghost use Rattle.su_bytes.specs.declared.refusals.Refusal.TheVariants.{LinkFailed};
 ghost use Rattle.su_message.specs.declared.requests.Request.TheVariants.{Grant, Give, Fetch};
 ghost use Rattle.su_message.specs.declared.replies.Reply.TheVariants.{Granted, Given};
-ghost use Rattle.su_client.specs.Link.{IsFresh, Exchanged, Follows, IsRefusal};
+ghost use Rattle.su_client.specs.Link.{IsFresh, Exchanged, Follows, GoesAhead, IsRefusal, kept_or_nothing};
 ghost use Rattle.su_version.specs.Chain.{IsSignedByAuthor};
 ghost use Rattle.su_view.specs.LastCommits.{AreSigned};
+ghost use Rattle.su_log.specs.Record.{IsExamined};
 ghost use Rattle.su_client_work.specs.Member.{OnlyTakes, Stays};
-ghost use Rattle.su_client_work.specs.Turn.{AreShown, Comes, GivesUp, HasMore, IsCaughtUp, IsGranted, IsGrantedOver, IsRefusedTurn, IsShown, IsUngranted, IsUngrantedOver, Looks, PassesShown, TakesTurn, commit_or_nothing};
+ghost use Rattle.su_client_work.specs.Turn.{AreShown, Comes, GivesUp, HasMore, IsCaughtUp, IsGranted, IsGrantedOver, IsRefusedTurn, IsShown, IsUngranted, IsUngrantedOver, Looks, PassesShown, SaysNothing, TakesTurn, commit_or_nothing};
 
+use crate::early::Early;
+use crate::logs::take_commit;
+use crate::ready::{Fetched, MOST_READY, Ready};
 use crate::shown::Shown;
 use crate::surroundings::Surroundings;
 use std::alloc::Global;
@@ -16,10 +20,11 @@ use std::io::{Read, Write};
 use std::marker::Model;
 use std::time::Duration;
 use su_block::Checked;
-use su_bytes::{Refusal, User};
-use su_client::Client;
+use su_bytes::{Digest, Refusal, User};
+use su_client::{Client, Outbox};
 use su_lms::{KeyStore, Signer};
-use su_message::LastNumbers;
+use su_log::Record;
+use su_message::{Bytes, LastNumbers, Request};
 use su_version::{Commit, Verdict};
 use su_view::{OwnKey, View, ViewRefusal};
 
@@ -34,9 +39,10 @@ const NO_SEAT: u16 = u16::MAX;
 /// signs nothing that it may not.
 #[derive(Drop)]
 pub struct Member<R: Read, W: Write, K: KeyStore> {
-    pub(crate) view: View<Checked<Client<R, W>>>,
+    pub(crate) view: View<Checked<Outbox<R, W>>>,
     pub(crate) key: OwnKey<K>,
     tries: u32,
+    pub(crate) early: Early,
     pub(crate) alloc: Global,
 }
 
@@ -47,7 +53,7 @@ impl<R: Read, W: Write, K: KeyStore> Model for Member<R, W, K> {
 
     ghost view = { λ s. record {
       holding = s.view.holding;
-      link = s.view.source.source.link;
+      link = s.view.source.source.client.link;
       signed = s.key.signed;
       next = s.key.next;
     } };
@@ -58,12 +64,12 @@ impl<R: Read + Drop, W: Write + Drop, K: KeyStore + Drop> Member<R, W, K> {
     /// for a turn that another has, and once where that is 0.
     pub fn new(
         alloc: Global,
-        view: View<Checked<Client<R, W>>>,
+        view: View<Checked<Outbox<R, W>>>,
         signer: Signer<K>,
         tries: u32,
     ) -> Member<R, W, K>
         ensures holding { result.holding ≡ view.holding }
-        ensures link { result.link ≡ view.source.source.link }
+        ensures link { result.link ≡ view.source.source.client.link }
         ensures signed { result.signed ≡ [] }
         ensures next { result.next ≡ signer.next }
     {
@@ -71,6 +77,7 @@ impl<R: Read + Drop, W: Write + Drop, K: KeyStore + Drop> Member<R, W, K> {
             view,
             key: OwnKey::new(signer),
             tries,
+            early: Early::new(alloc),
             alloc,
         }
     }
@@ -81,7 +88,11 @@ impl<R: Read + Drop, W: Write + Drop, K: KeyStore + Drop> Member<R, W, K> {
         ensures value { result ≡ self.old.link.failed }
         ensures same { self.new ≡ self.old }
     {
-        self.view.source_mut().source_mut().has_failed()
+        self.view
+            .source_mut()
+            .source_mut()
+            .client_mut()
+            .has_failed()
     }
 
     /// Lends where the leaf that signs next is stored.
@@ -108,7 +119,7 @@ impl<R: Read + Drop, W: Write + Drop, K: KeyStore + Drop> Member<R, W, K> {
             Ok(granted) => granted,
             Err(refusal) => return Err(ViewRefusal::Plain(refusal)),
         };
-        match self.catch_up(count, last.as_slice()) {
+        match self.catch_up(around, count, last.as_slice()) {
             Ok(()) => Ok(()),
             Err(refusal) => {
                 self.give_up();
@@ -141,7 +152,7 @@ impl<R: Read + Drop, W: Write + Drop, K: KeyStore + Drop> Member<R, W, K> {
         ensures given { OnOk result (Exchanged Give self.old.link self.new.link Given) }
         ensures refused { IfErr result (IsRefusal Give self.old.link self.new.link) }
     {
-        self.view.source_mut().source_mut().give()
+        self.view.source_mut().source_mut().client_mut().give()
     }
 
     /// Gives the turn back after a refusal, which is what is told.
@@ -150,7 +161,43 @@ impl<R: Read + Drop, W: Write + Drop, K: KeyStore + Drop> Member<R, W, K> {
         ensures follows { Follows self.old.link self.new.link }
         ensures gives_up { GivesUp self.old.link self.new.link }
     {
+        self.pass_over();
         let _ = self.give();
+    }
+
+    /// Sends a request ahead of its time, and tells whether it is on its way.
+    fn send_ahead(&mut self, request: &Request) -> bool
+        ensures stays { Stays self.old self.new }
+        ensures ahead { GoesAhead self.old.link self.new.link }
+    {
+        self.view
+            .source_mut()
+            .source_mut()
+            .client_mut()
+            .send_ahead(request)
+    }
+
+    /// Passes what was sent ahead by, as it isn't asked for any more.
+    fn pass_over(&mut self)
+        ensures stays { Stays self.old self.new }
+        ensures follows { Follows self.old.link self.new.link }
+    {
+        self.early.forget();
+        self.view
+            .source_mut()
+            .source_mut()
+            .client_mut()
+            .pass_ahead();
+    }
+
+    /// Puts the items that wait, if that can be, and forgets them and the one at hand.
+    fn clear(&mut self)
+        ensures stays { Stays self.old self.new }
+        ensures follows { Follows self.old.link self.new.link }
+    {
+        let outbox = self.view.source_mut().source_mut();
+        let _ = outbox.settle(self.alloc);
+        outbox.forget();
     }
 
     /// Takes the turn. Where the link has failed, as that of a session that was ended, nothing has
@@ -186,7 +233,8 @@ impl<R: Read + Drop, W: Write + Drop, K: KeyStore + Drop> Member<R, W, K> {
     {
         match around.connect() {
             Ok(link) => {
-                *self.view.source_mut().source_mut() = link;
+                *self.view.source_mut().source_mut().client_mut() = link;
+                self.early.forget();
                 Ok(())
             }
             Err(_) => Err(Refusal::LinkFailed),
@@ -207,30 +255,71 @@ impl<R: Read + Drop, W: Write + Drop, K: KeyStore + Drop> Member<R, W, K> {
     {
         let tries = self.tries;
         for _ in 1..tries {
-            match self.ask_turn() {
-                Err(Refusal::Busy(seat)) if seat != NO_SEAT => {
-                    around.pause(Duration::from_millis(PAUSE));
-                }
-                answered => return answered,
+            let answered = self.ask_turn();
+            if !is_busy(&answered) {
+                return answered;
             }
+            around.pause(Duration::from_millis(PAUSE));
         }
         self.ask_turn()
     }
 
-    /// Asks for the turn once.
+    /// Asks for the turn once. With the request those for the users' last commits leave, as far as
+    /// the client knows these, unless all have left before.
     fn ask_turn(&mut self) -> Result<(u64, LastNumbers), Refusal>
+        ensures stays { Stays self.old self.new }
+        ensures follows { Follows self.old.link self.new.link }
+        ensures granted { IfOk result (λ g.
+            IsGrantedOver self.old.link self.new.link g.0 g.1) }
+        ensures refused { IfErr result (IsUngrantedOver self.old.link self.new.link) }
+    {
+        self.prepare_turn();
+        self.grant()
+    }
+
+    /// Asks for the turn, whose request is sent ahead or not.
+    fn grant(&mut self) -> Result<(u64, LastNumbers), Refusal>
         ensures stays { Stays self.old self.new }
         ensures follows { Follows self.old.link self.new.link }
         ensures granted { IfOk result (λ g.
             Exchanged Grant self.old.link self.new.link (Granted g.0 g.1)) }
         ensures refused { IfErr result (IsRefusal Grant self.old.link self.new.link) }
     {
-        self.view.source_mut().source_mut().grant()
+        self.early.is_asked = false;
+        self.view.source_mut().source_mut().client_mut().grant()
+    }
+
+    /// Sends the request for the turn ahead, and with it those for the users' last commits, unless
+    /// that was done. What else was sent ahead is passed by.
+    fn prepare_turn(&mut self)
+        ensures stays { Stays self.old self.new }
+        ensures follows { Follows self.old.link self.new.link }
+    {
+        if self.early.is_asked {
+            return;
+        }
+        self.pass_over();
+        self.clear();
+        self.send_turn();
+    }
+
+    /// Sends the request for the turn ahead, and with it those for the users' last commits.
+    fn send_turn(&mut self)
+        ensures stays { Stays self.old self.new }
+        ensures ahead { GoesAhead self.old.link self.new.link }
+    {
+        let outbox = self.view.source_mut().source_mut();
+        self.early.send_turn(outbox.client_mut());
     }
 
     /// Checks what the server shows as the last commits of these users, and takes what the list lacks
     /// of so many.
-    fn catch_up(&mut self, count: u64, last: &[(User, u64)]) -> Result<(), ViewRefusal>
+    fn catch_up<A: Surroundings<R, W>>(
+        &mut self,
+        around: &mut A,
+        count: u64,
+        last: &[(User, u64)],
+    ) -> Result<(), ViewRefusal>
         ensures takes { OnlyTakes self.old self.new }
         ensures follows { Follows self.old.link self.new.link }
         ensures passes { OnOk result
@@ -240,7 +329,7 @@ impl<R: Read + Drop, W: Write + Drop, K: KeyStore + Drop> Member<R, W, K> {
     {
         let shown = self.last_commits(last)?;
         self.view.check_list(shown.commits())?;
-        self.take_up_to(count, &shown)
+        self.take_up_to(around, count, &shown)
     }
 
     /// Fetches these last commits. What the server says that it hasn't is left out.
@@ -251,25 +340,63 @@ impl<R: Read + Drop, W: Write + Drop, K: KeyStore + Drop> Member<R, W, K> {
             AreShown last.now [] self.old.link shown.commits.items self.new.link) }
     {
         let mut shown = Shown::new(self.alloc);
-        for (_, number) in last {
-            self.fetch_shown(*number, &mut shown)?;
+        let same = self.early.same_as(last);
+        for index in 0..last.len() {
+            self.fetch_shown(last, index, same, &mut shown)?;
         }
+        self.early.note(self.alloc, last);
         Ok(shown)
     }
 
-    /// Fetches the commit of that number, and adds it to those that are shown.
-    fn fetch_shown(&mut self, number: u64, shown: &mut Shown) -> Result<(), Refusal>
+    /// Fetches the last commit at this place among these, and adds it to those that are shown. So
+    /// many of them were asked for ahead of their time.
+    fn fetch_shown(
+        &mut self,
+        last: &[(User, u64)],
+        index: usize,
+        same: usize,
+        shown: &mut Shown,
+    ) -> Result<(), Refusal>
+        requires { index < length last.now }
         ensures stays { Stays self.old self.new }
         ensures follows { Follows self.old.link self.new.link }
-        ensures shown { OnOk result (IsShown number shown.old.commits.items self.old.link
+        ensures shown { (u : ℕ × ℕ) → slice_get last.now index ≡ Some u
+            → OnOk result (IsShown u.1 shown.old.commits.items self.old.link
             shown.new.commits.items self.new.link) }
     {
+        self.turn_to(last, index, same);
+        let (_, number) = last[index];
         match self.fetch_commit(number)? {
             Some(commit) => {
                 shown.push(number, commit)?;
                 Ok(())
             }
             None => Ok(()),
+        }
+    }
+
+    /// Where the last commits weren't asked for ahead of their time from this place on, sends the
+    /// requests for them ahead.
+    fn turn_to(&mut self, last: &[(User, u64)], index: usize, same: usize)
+        requires { index < length last.now }
+        ensures stays { Stays self.old self.new }
+        ensures follows { Follows self.old.link self.new.link }
+    {
+        if index == same {
+            self.send_rest(&last[index..]);
+        }
+    }
+
+    /// Passes what was sent ahead by, and sends the requests for these last commits ahead.
+    fn send_rest(&mut self, last: &[(User, u64)])
+        ensures stays { Stays self.old self.new }
+        ensures follows { Follows self.old.link self.new.link }
+    {
+        self.pass_over();
+        for (_, number) in last {
+            if !self.send_ahead(&Request::Fetch(*number)) {
+                return;
+            }
         }
     }
 
@@ -280,15 +407,45 @@ impl<R: Read + Drop, W: Write + Drop, K: KeyStore + Drop> Member<R, W, K> {
         ensures shown { IfOk result (λ commit. Exchanged (Fetch number) self.old.link
             self.new.link (commit_or_nothing commit)) }
     {
-        match self.view.source_mut().source_mut().fetch(number)? {
+        match self.fetch(number)? {
             Some(bytes) => Ok(Some(Commit::decode(self.alloc, bytes.as_slice())?)),
             None => Ok(None),
         }
     }
 
-    /// Takes the commits that the list lacks of the first `count`. What the server says that it
-    /// hasn't is left out, so that the one after it is refused.
-    fn take_up_to(&mut self, count: u64, shown: &Shown) -> Result<(), ViewRefusal>
+    /// Fetches the bytes of the commit of that number; none where the server says that it has none.
+    fn fetch(&mut self, number: u64) -> Result<Option<Bytes>, Refusal>
+        ensures stays { Stays self.old self.new }
+        ensures follows { Follows self.old.link self.new.link }
+        ensures fetched { IfOk result (λ bytes. Exchanged (Fetch number) self.old.link
+            self.new.link (kept_or_nothing bytes)) }
+    {
+        self.view
+            .source_mut()
+            .source_mut()
+            .client_mut()
+            .fetch(number)
+    }
+
+    /// Passes what was sent ahead by, and fetches the bytes of the commit of that number.
+    fn fetch_alone(&mut self, number: u64) -> Result<Option<Bytes>, Refusal>
+        ensures stays { Stays self.old self.new }
+        ensures follows { Follows self.old.link self.new.link }
+        ensures nothing { IfOk result (λ bytes.
+            IfNone bytes (SaysNothing self.old.link self.new.link)) }
+    {
+        self.pass_over();
+        self.fetch(number)
+    }
+
+    /// Takes the commits that the list lacks of the first `count`, many at a time. What the server
+    /// says that it hasn't is left out, so that the one after it is refused.
+    fn take_up_to<A: Surroundings<R, W>>(
+        &mut self,
+        around: &mut A,
+        count: u64,
+        shown: &Shown,
+    ) -> Result<(), ViewRefusal>
         requires signed { AreSigned self.old.holding.roster shown.now.commits.items }
         ensures takes { OnlyTakes self.old self.new }
         ensures follows { Follows self.old.link self.new.link }
@@ -296,14 +453,55 @@ impl<R: Read + Drop, W: Write + Drop, K: KeyStore + Drop> Member<R, W, K> {
             (IsCaughtUp count self.new.holding self.old.link self.new.link) }
     {
         let (held, _) = self.view.head();
+        let mut ready = Ready::new(self.alloc);
         for before in held..count {
-            self.take_one(before + 1, shown)?;
+            self.take_next(around, before, count, shown, &mut ready)?;
         }
         Ok(())
     }
 
-    /// Takes the commit of that number: the one that is shown with it, or else what is fetched.
-    fn take_one(&mut self, number: u64, shown: &Shown) -> Result<(), ViewRefusal>
+    /// Takes the commit behind so many, of which there are `count`, once it is fetched with others.
+    fn take_next<A: Surroundings<R, W>>(
+        &mut self,
+        around: &mut A,
+        before: u64,
+        count: u64,
+        shown: &Shown,
+        ready: &mut Ready,
+    ) -> Result<(), ViewRefusal>
+        requires signed { AreSigned self.old.holding.roster shown.now.commits.items }
+        requires some { before < count }
+        ensures takes { OnlyTakes self.old self.new }
+        ensures follows { Follows self.old.link self.new.link }
+        ensures more { OnOk result
+            (HasMore self.old.holding self.old.link self.new.holding self.new.link) }
+    {
+        self.make_ready(around, before, count, shown, ready)?;
+        self.take_one(before + 1, shown, ready)
+    }
+
+    /// Fetches more, where a list of so many commits has all that were fetched.
+    fn make_ready<A: Surroundings<R, W>>(
+        &mut self,
+        around: &mut A,
+        held: u64,
+        count: u64,
+        shown: &Shown,
+        ready: &mut Ready,
+    ) -> Result<(), Refusal>
+        ensures stays { Stays self.old self.new }
+        ensures follows { Follows self.old.link self.new.link }
+    {
+        if !ready.is_taken_at(held) {
+            return Ok(());
+        }
+        *ready = self.fetch_ready(around, held, count, shown)?;
+        Ok(())
+    }
+
+    /// Takes the commit of that number: the one that is shown with it, or else what was fetched, or
+    /// is fetched then.
+    fn take_one(&mut self, number: u64, shown: &Shown, ready: &mut Ready) -> Result<(), ViewRefusal>
         requires signed { AreSigned self.old.holding.roster shown.now.commits.items }
         ensures takes { OnlyTakes self.old self.new }
         ensures follows { Follows self.old.link self.new.link }
@@ -312,8 +510,119 @@ impl<R: Read + Drop, W: Write + Drop, K: KeyStore + Drop> Member<R, W, K> {
     {
         match shown.of(number) {
             Some(commit) => self.take_signed(commit),
-            None => self.take_fetched(number),
+            None => match ready.next() {
+                Some(found) => self.take_record(found),
+                None => self.take_fetched(number),
+            },
         }
+    }
+
+    /// Fetches the commits behind so many, up to `count` or many, which aren't shown, and finds out
+    /// on all cores which of them are signed. The requests leave together, and behind them those for
+    /// the items of all.
+    fn fetch_ready<A: Surroundings<R, W>>(
+        &mut self,
+        around: &mut A,
+        held: u64,
+        count: u64,
+        shown: &Shown,
+    ) -> Result<Ready, Refusal>
+        ensures stays { Stays self.old self.new }
+        ensures follows { Follows self.old.link self.new.link }
+    {
+        let end = count.min(held.saturating_add(MOST_READY));
+        let mut leave = self.send_fetches(held, end, shown);
+        let mut fetched = Fetched::new(self.alloc);
+        for before in held..end {
+            self.fetch_one(before + 1, shown, &mut fetched, &mut leave)?;
+        }
+        Ok(fetched.examined(around.host(), self.alloc, self.view.roster(), end))
+    }
+
+    /// Sends the requests for these commits ahead of their time, but for those that are shown, and
+    /// tells whether all are on their way.
+    fn send_fetches(&mut self, held: u64, end: u64, shown: &Shown) -> bool
+        ensures stays { Stays self.old self.new }
+        ensures follows { Follows self.old.link self.new.link }
+    {
+        self.pass_over();
+        for before in held..end {
+            if !self.send_fetch(before + 1, shown) {
+                return false;
+            }
+        }
+        true
+    }
+
+    /// Sends the request for the commit of that number ahead of its time, unless it is shown, and
+    /// tells whether it is on its way, if so.
+    fn send_fetch(&mut self, number: u64, shown: &Shown) -> bool
+        ensures stays { Stays self.old self.new }
+        ensures follows { Follows self.old.link self.new.link }
+    {
+        if shown.of(number).is_some() {
+            return true;
+        }
+        self.send_ahead(&Request::Fetch(number))
+    }
+
+    /// Fetches the commit of that number, unless it is shown. Where all requests before are on their
+    /// way, that for its item is sent ahead.
+    fn fetch_one(
+        &mut self,
+        number: u64,
+        shown: &Shown,
+        fetched: &mut Fetched,
+        leave: &mut bool,
+    ) -> Result<(), Refusal>
+        ensures stays { Stays self.old self.new }
+        ensures follows { Follows self.old.link self.new.link }
+    {
+        let named = self.named_by(number, shown, fetched)?;
+        *leave = self.send_get(named, *leave);
+        Ok(())
+    }
+
+    /// Fetches the commit of that number, unless it is shown, and tells the digest of its item.
+    fn named_by(
+        &mut self,
+        number: u64,
+        shown: &Shown,
+        fetched: &mut Fetched,
+    ) -> Result<Option<Digest>, Refusal>
+        ensures stays { Stays self.old self.new }
+        ensures follows { Follows self.old.link self.new.link }
+    {
+        if let Some(commit) = shown.of(number) {
+            return Ok(Some(commit.version().change()));
+        }
+        match self.fetch(number)? {
+            Some(bytes) => fetched.push(self.alloc, bytes.into_vec()),
+            None => Ok(None),
+        }
+    }
+
+    /// Sends the request for an item ahead of its time, if there is one and those before are on
+    /// their way, and tells whether all are.
+    fn send_get(&mut self, named: Option<Digest>, leave: bool) -> bool
+        ensures stays { Stays self.old self.new }
+        ensures follows { Follows self.old.link self.new.link }
+    {
+        match named {
+            Some(digest) if leave => self.send_ahead(&Request::Get(digest)),
+            _ => leave,
+        }
+    }
+
+    /// Takes a commit that was fetched and examined.
+    fn take_record(&mut self, found: Record) -> Result<(), ViewRefusal>
+        requires { IsExamined found }
+        ensures takes { OnlyTakes self.old self.new }
+        ensures follows { Follows self.old.link self.new.link }
+        ensures more { OnOk result
+            (HasMore self.old.holding self.old.link self.new.holding self.new.link) }
+    {
+        take_commit(&mut self.view, found)
     }
 
     /// Takes a commit that was found to be signed by its author, so that this isn't checked again.
@@ -336,17 +645,25 @@ impl<R: Read + Drop, W: Write + Drop, K: KeyStore + Drop> Member<R, W, K> {
         self.view.accept_known(copy, bytes.as_slice(), verdict)
     }
 
-    /// Fetches the commit of that number, and takes it.
+    /// Fetches the commit of that number, and takes it. What was sent ahead is passed by.
     fn take_fetched(&mut self, number: u64) -> Result<(), ViewRefusal>
         ensures takes { OnlyTakes self.old self.new }
         ensures follows { Follows self.old.link self.new.link }
         ensures more { OnOk result
             (HasMore self.old.holding self.old.link self.new.holding self.new.link) }
     {
-        match self.view.source_mut().source_mut().fetch(number) {
+        match self.fetch_alone(number) {
             Ok(Some(bytes)) => self.view.accept_bytes(bytes.as_slice()),
             Ok(None) => Ok(()),
             Err(refusal) => Err(ViewRefusal::Plain(refusal)),
         }
+    }
+}
+
+/// Tells whether another has the turn, for which a client may ask again.
+fn is_busy(answered: &Result<(u64, LastNumbers), Refusal>) -> bool {
+    match answered {
+        Err(Refusal::Busy(seat)) => *seat != NO_SEAT,
+        _ => false,
     }
 }

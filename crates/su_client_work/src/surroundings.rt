@@ -4,6 +4,7 @@ ghost use Rattle.su_client.specs.Link.{LinkState, IsFresh};
 
 use std::io;
 use std::io::{Read, Write};
+use std::thread::Threads;
 use std::time::Duration;
 use su_client::Client;
 
@@ -12,6 +13,12 @@ use su_client::Client;
 pub trait Surroundings<R: Read, W: Write> {
     // The links that it may make.
     ghost may_connect: { LinkState → Type 0 };
+
+    /// What starts threads.
+    type Host: Threads + Sync;
+
+    /// Lends what starts threads.
+    fn host(&self) -> &Self::Host;
 
     /// Waits for so long before the client asks again for a turn that another has.
     fn pause(&mut self, time: Duration);

@@ -9,14 +9,15 @@ use std::net::{Ipv4Addr, Net, TcpListener, TcpStream};
 use std::time::Duration;
 use su_client::Client;
 
-/// How many seconds a client waits for a server: for each answer, and to be rid of each request.
-const SECONDS: u64 = 30;
+/// How many milliseconds a read or a write waits before the client turns to the other. (It tries
+/// 3,000 times in a row, which makes 30 seconds in which nothing comes, or nothing is taken.)
+const MILLISECONDS: u64 = 10;
 
 /// A link to a server.
 pub type Link = Client<BufReader<TcpStream>, TcpStream>;
 
 /// Connects to the server on that port of this machine. Small requests leave at once. The link fails
-/// once the server hasn't answered for 30 seconds.
+/// once the server hasn't answered, or taken a request, for 30 seconds.
 pub fn connect<T: Net<Listener = TcpListener, Stream = TcpStream>>(
     alloc: Global,
     host: &T,
@@ -26,9 +27,9 @@ pub fn connect<T: Net<Listener = TcpListener, Stream = TcpStream>>(
 {
     let writer = TcpStream::connect(host, (Ipv4Addr::LOCALHOST, port))?;
     writer.set_nodelay(true)?;
-    let limit = Some(Duration::from_secs(SECONDS));
-    writer.set_read_timeout(limit)?;
-    writer.set_write_timeout(limit)?;
+    let moment = Some(Duration::from_millis(MILLISECONDS));
+    writer.set_read_timeout(moment)?;
+    writer.set_write_timeout(moment)?;
     let reader = BufReader::new(alloc, writer.try_clone()?)?;
     Ok(Client::new(alloc, reader, writer))
 }

@@ -18,6 +18,7 @@ use su_arguments::ClientArgs;
 use su_audit::tell_refused;
 use su_block::{BlockSource, Checked, MemoryBlocks};
 use su_bytes::{Roster, User};
+use su_client::Outbox;
 use su_client_script::{Ending, Fault, run_client};
 use su_client_work::{LogFault, Member, take_log};
 use su_desk_script::Status;
@@ -30,7 +31,8 @@ use su_view::View;
 /// a log, its commits are taken first, and a refused one is printed as an audit does. `Fault` where
 /// the client can't begin: for want of a public key of the user, by the key file, by a public key, by
 /// the log, by the port, in this order. Standard error tells that, what a client without a log
-/// believes, what refusals may come from, and at the end why a leaf of the key couldn't be stored.
+/// believes, what refusals may come from, and at the end why a leaf of the key couldn't be stored, or
+/// not be put back.
 // The client runs in the first thread, whose stack is what the shell allows (`ulimit -s`, mostly
 // 8 MiB), as a desk does; the deepest names need 2 MiB at most.
 pub(crate) fn client<T, R: Read + Drop, W: Write>(
@@ -62,7 +64,7 @@ fn work<T, R: Read + Drop, W: Write>(
     writer: &mut W,
 ) -> Status
 where
-    T: Net<Listener = TcpListener, Stream = TcpStream>,
+    T: Net<Listener = TcpListener, Stream = TcpStream> + Threads + Sync,
     ensures { (before : List ℕ) → W.contents writer.old ≡ Some before
         → AddsUnlessFault before (W.contents writer.new) result }
 {
@@ -72,12 +74,24 @@ where
     let mut program = ClientProgram::new(rt, host, args.port);
     let alloc = rt.alloc();
     let ending = run_client(&mut program, alloc, reader, writer, &mut member, args.stop);
-    if let Some(reason) = member.store().fault() {
-        let key = args.key.as_str();
-        tell_fault(rt, format_args!("writing {key}: {reason}"));
-    }
+    put_leaf_back(rt, args.key.as_str(), member.store());
     tell_ending(rt, &ending);
     ending.status()
+}
+
+/// Puts the leaf that signs next back in the key file, unless a leaf couldn't be stored before.
+/// Standard error tells which of the two failed, and why.
+fn put_leaf_back(rt: &HostRuntime, path: &str, key: &KeptKey<'_>) {
+    match key.fault() {
+        Some(reason) => {
+            tell_fault(rt, format_args!("writing {path}: {reason}"));
+        }
+        None => {
+            if let Err(reason) = key.put_back() {
+                tell_fault(rt, format_args!("writing {path}: {reason}"));
+            }
+        }
+    }
 }
 
 /// Makes the client, whose list are the commits of the log.
@@ -91,7 +105,7 @@ where
     requires { IsUserCount (length args.now.keys.items) }
 {
     let user = user_of(args)?;
-    let signer = open_signer(rt, host, args.key.as_str())?;
+    let signer = open_signer(rt, host, args.key.as_str(), args.leaves_ahead)?;
     match view_at(rt, host, args, user) {
         Ok(view) => Ok(Member::new(rt.alloc(), view, signer, args.tries)),
         Err(fault) => Err(fault),
@@ -105,18 +119,18 @@ fn view_at<T>(
     host: &T,
     args: &ClientArgs,
     user: User,
-) -> Result<View<Checked<Link>>, ClientFault>
+) -> Result<View<Checked<Items>>, ClientFault>
 where
-    T: Net<Listener = TcpListener, Stream = TcpStream>,
+    T: Net<Listener = TcpListener, Stream = TcpStream> + Threads + Sync,
     requires { IsUserCount (length args.now.keys.items) }
 {
     let alloc = rt.alloc();
     let roster = read_roster(rt, args.keys.as_slice())?;
     let log = open_log(rt, args.log.as_ref().map(|path| path.as_str()))?;
     match connect(alloc, host, args.port) {
-        Ok(link) => view_of(alloc, roster, user, link, log),
+        Ok(link) => view_of(host, alloc, roster, user, link, log),
         Err(reason) => {
-            check_log(alloc, roster, user, log)?;
+            check_log(host, alloc, roster, user, log)?;
             let port = args.port;
             Err(ClientFault::Unlinked { port, reason })
         }
@@ -131,15 +145,19 @@ fn user_of(args: &ClientArgs) -> Result<User, ClientFault> {
     }
 }
 
-/// Opens the key file, and makes the signer of its key.
+/// Opens the key file, one write of which serves so many signatures, and makes the signer of its key.
 fn open_signer<'a, T: Threads + Sync>(
     rt: &'a HostRuntime,
     host: &T,
     key: &str,
+    leaves_ahead: u32,
 ) -> Result<Signer<KeptKey<'a>>, ClientFault> {
-    let kept = KeptKey::open(rt, key)?;
+    let kept = KeptKey::open(rt, key, leaves_ahead)?;
     Ok(signer_of(host, rt.alloc(), kept)?)
 }
+
+/// The items of a view, as a server gives them and is given them.
+type Items = Outbox<BufReader<TcpStream>, TcpStream>;
 
 /// A log that is open.
 #[derive(Drop)]
@@ -163,14 +181,15 @@ fn open_log<'a>(
 }
 
 /// Takes the commits of a log in a view.
-fn take<S: BlockSource + Drop>(
+fn take<T: Threads + Sync, S: BlockSource + Drop>(
+    host: &T,
     alloc: Global,
     log: OpenLog<'_>,
     view: &mut View<S>,
 ) -> Result<(), ClientFault>
     requires { S.is_checked ≡ true }
 {
-    match take_log(alloc, log.reader, view) {
+    match take_log(host, alloc, log.reader, view) {
         Ok(_) => Ok(()),
         Err(LogFault::Refused { number, refusal }) => {
             Err(ClientFault::RefusedLog { number, refusal })
@@ -188,28 +207,34 @@ fn unread(alloc: Global, path: &str, reason: io::Error) -> ClientFault {
 }
 
 /// Makes the view of a user, and takes the commits of the log, whose items go to the server.
-fn view_of(
+fn view_of<T: Threads + Sync>(
+    host: &T,
     alloc: Global,
     roster: Roster,
     user: User,
     link: Link,
     log: Option<OpenLog<'_>>,
-) -> Result<View<Checked<Link>>, ClientFault> {
-    let mut view = View::new(alloc, roster, user, Checked::new(link))?;
+) -> Result<View<Checked<Items>>, ClientFault> {
+    let items = Checked::new(Outbox::new(alloc, link));
+    let mut view = View::new(alloc, roster, user, items)?;
     let Some(log) = log else {
         return Ok(view);
     };
-    let taken = take(alloc, log, &mut view);
-    let has_failed = view.source_mut().source_mut().has_failed();
-    match taken {
+    let taken = take(host, alloc, log, &mut view);
+    let outbox = view.source_mut().source_mut();
+    let put = outbox.settle(alloc);
+    let has_failed = outbox.client_mut().has_failed();
+    match (taken, put) {
         _ if has_failed => Err(ClientFault::LinkFailed),
-        Ok(()) => Ok(view),
-        Err(fault) => Err(fault),
+        (Err(fault), _) => Err(fault),
+        (Ok(()), Err(_)) => Err(ClientFault::NoMemory),
+        (Ok(()), Ok(())) => Ok(view),
     }
 }
 
 /// Takes the commits of the log without a server, only to see whether all can be taken.
-fn check_log(
+fn check_log<T: Threads + Sync>(
+    host: &T,
     alloc: Global,
     roster: Roster,
     user: User,
@@ -219,7 +244,7 @@ fn check_log(
         return Ok(());
     };
     let mut view = View::new(alloc, roster, user, MemoryBlocks::new(alloc))?;
-    take(alloc, log, &mut view)
+    take(host, alloc, log, &mut view)
 }
 
 /// Tells why a client can't begin: a refused log on standard output, anything else on standard

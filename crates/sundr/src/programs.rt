@@ -3,6 +3,7 @@ use crate::savers::save_log;
 use crate::sentences::sentence_of;
 use std::io::BufReader;
 use std::net::{Net, TcpListener, TcpStream};
+use std::thread::Threads;
 use std::time::Duration;
 use std::{io, thread};
 use su_bytes::Refusal;
@@ -35,10 +36,16 @@ impl<'a, T> ClientProgram<'a, T> {
 
 impl<T> Surroundings<BufReader<TcpStream>, TcpStream> for ClientProgram<'_, T>
 where
-    T: Net<Listener = TcpListener, Stream = TcpStream>,
+    T: Net<Listener = TcpListener, Stream = TcpStream> + Threads + Sync,
 {
     // Of what a connection brings no contract can speak.
     ghost may_connect = { λ _. Unit {0} };
+
+    type Host = T;
+
+    fn host(&self) -> &T {
+        self.host
+    }
 
     fn pause(&mut self, time: Duration) {
         thread::sleep(self.rt, time);
@@ -66,7 +73,7 @@ where
 
 impl<T> Program<BufReader<TcpStream>, TcpStream> for ClientProgram<'_, T>
 where
-    T: Net<Listener = TcpListener, Stream = TcpStream>,
+    T: Net<Listener = TcpListener, Stream = TcpStream> + Threads + Sync,
 {
     // Of what a file holds no contract can speak.
     ghost saves = { λ _ _ _ _. Unit {0} };

@@ -10,5 +10,5 @@ invariant-loop-number g l = record {
   follows : g.S.BlockSource.follows l.fn.view.source l.view.source;
   front : (log : List ℕ) → g.I.Read.remaining l.fn.reader ≡ Some log
       → IsReadTo (TakesFront g.S.BlockSource.follows g.S.BlockSource.puts l.fn.view.holding l.fn.view.source log l.view.holding l.view.source (l.number - 1))
-      log l.log.place (g.I.Read.remaining l.log.reader);
+      log l.log;
 }

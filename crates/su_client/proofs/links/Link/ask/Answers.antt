@@ -3,5 +3,5 @@ use Rattle.su_client.specs.Link.{LinkState}
 use Rattle.su_client.specs.Following.{follows_itself}
 use Rattle.su_client.proofs.links.Link.ask.Goals as goal
 
-pub returns-then-self : goal.returns-then-self
-returns-then-self g c = inl (refl, ap (λ (l : LinkState). l.failed) (sym c.self.view_is) ∙ c.if-self.true, follows_itself c.args.self.now)
+pub returns-then-has_failed : goal.returns-then-has_failed
+returns-then-has_failed g c = inl (refl, sym c.has_failed.ensures ∙ c.if-has_failed.true, follows_itself c.args.self.now)

@@ -1,15 +1,52 @@
-use Rattle.std.proofs.Common.{ap, subst}
+use Rattle.std.proofs.Common.{◌≡◌, ◌∙◌, sym, ap, subst, inr, ℕ, List}
+use Rattle.std.specs.Global.{Vec}
 use Rattle.su_client.specs.Link.{LinkState, Follows}
 use Rattle.su_client.specs.Following.{follows_on}
+use Rattle.su_client.specs.Outbox.{contents, IsHandedIn, WaitsToo}
+use Rattle.su_change.specs.Item.{item_bytes}
 use Rattle.su_client_work.specs.Member.{MemberState}
+use Rattle.su_client_work.proofs.Turns.{is_stored}
+use Rattle.su_client_work.proofs.members.Member.store_new.Goals.{in-Ok-hand_over, in-Err}
 use Rattle.su_client_work.proofs.members.Member.store_new.Goals as goal
 
-pub returns-in-Ok-clause-follows : goal.returns-in-Ok-clause-follows
-returns-in-Ok-clause-follows g c =
-    subst (λ (l : LinkState). Follows l c.store_commit.new.self.link) (ap (λ (x : MemberState). x.link) c.self.view_is)
-    (follows_on c.self.inside.view.source.source.link c.make.new.self.source.source.link c.store_commit.new.self.link c.make.ensures.follows c.store_commit.ensures.follows)
+pub returns-clause-signs : goal.returns-clause-signs
+returns-clause-signs g c =
+    rw (sym c.self.view_is) (inr (c.in_ok-commit.commit, record { made = c.in_ok-commit.ensures.made; signed = c.in_ok-commit.ensures.signed; next = c.in_ok-commit.ensures.used }))
 
-pub returns-in-Err-clause-follows : goal.returns-in-Err-clause-follows
-returns-in-Err-clause-follows g c =
-    subst (λ (l : LinkState). Follows l c.store_commit.new.self.link) (ap (λ (x : MemberState). x.link) c.self.view_is)
-    (follows_on c.self.inside.view.source.source.link c.make.new.self.source.source.link c.store_commit.new.self.link c.make.ensures.follows c.store_commit.ensures.follows)
+pub returns-clause-follows : goal.returns-clause-follows
+returns-clause-follows g c =
+    let begun = ap (λ (x : MemberState). x.link) c.self.view_is in
+    let forgot = c.forget.ensures.client in
+    let one = c.source_mut.ensures.value in
+    let two = c.source_mut-2.ensures.value in
+    let three = c.source_mut-3.ensures.value in
+    let four = c.source_mut-outbox.ensures.value in
+    let first : c.forget.new.self.client.link ≡ c.args.self.now.link = cc in
+    let second : c.source_mut-outbox.result.now.client.link ≡ c.make.new.self.source.source.client.link = cc in
+    follows_on c.args.self.now.link c.make.new.self.source.source.client.link c.hand_over.new.outbox.client.link
+    (subst (λ (l : LinkState). Follows l c.make.new.self.source.source.client.link) first c.make.ensures.follows)
+    (subst (λ (l : LinkState). Follows l c.hand_over.new.outbox.client.link) second c.hand_over.ensures.follows)
+
+pub returns-clause-stored : goal.returns-clause-stored
+returns-clause-stored g c =
+    let begun = ap (λ (x : MemberState). x.link) c.self.view_is in
+    let forgot = c.forget.ensures.client in
+    let one = c.source_mut.ensures.value in
+    let two = c.source_mut-2.ensures.value in
+    let three = c.source_mut-3.ensures.value in
+    let four = c.source_mut-outbox.ensures.value in
+    let first : c.forget.new.self.client.link ≡ c.args.self.now.link = cc in
+    let second : c.source_mut-outbox.result.now ≡ c.make.new.self.source.source = cc in
+    elim c.match-hand_over.branch [
+      | in-Ok-hand_over w ↦ rw w.result-is (record {
+        signs = rw (sym c.self.view_is) (record { made = c.in_ok-commit.ensures.made; signed = c.in_ok-commit.ensures.signed; next = c.in_ok-commit.ensures.used });
+        stored = is_stored c.args.change c.in_ok-commit.commit c.in-Ok.bytes.items (contents c.forget.new.self.waiting.items) (contents c.make.new.self.source.source.waiting.items) c.args.self.now.link
+            c.make.new.self.source.source.client.link c.hand_over.new.outbox.client.link w.in-Ok-hand_over.field-0 (ap contents c.forget.ensures.waiting)
+            (subst (λ (l : LinkState). WaitsToo (contents c.forget.new.self.waiting.items) (item_bytes c.args.change) l (contents c.make.new.self.source.source.waiting.items)
+            c.make.new.self.source.source.client.link) first c.in_ok-commit.ensures.puts)
+            c.in-Ok.ensures.value
+            (subst (λ o. IsHandedIn (contents o.waiting.items) c.in-Ok.bytes.items o.client.link c.hand_over.new.outbox.client.link w.in-Ok-hand_over.field-0) second
+            w.in-Ok-hand_over.ensures.handed_in);
+      })
+      | in-Err w ↦ rw w.result-is tt
+    ]

@@ -2,7 +2,7 @@ use Rattle.std.proofs.Common.{◌∙◌, ap, subst}
 use Rattle.su_client.specs.Link.{LinkState}
 use Rattle.su_client.specs.Asking.{Joins, Reads}
 use Rattle.su_client.proofs.Joining.{joins_trans, reads_after, nothing_taken}
-use Rattle.su_client.proofs.links.Link.next_message.Goals as goal
+use Rattle.su_client.proofs.wires.Wire.next_message.Goals as goal
 
 pub loop-preserved : goal.loop-preserved
 loop-preserved g c = joins_trans _ c.loop.self _ c.loop.invariant

@@ -1,6 +1,6 @@
 use Rattle.std.proofs.Common.{sym, refl}
-use Rattle.su_client.proofs.links.Link.refill.Goals.{in-Ok-feed, in-Err-feed}
-use Rattle.su_client.proofs.links.Link.refill.Goals as goal
+use Rattle.su_client.proofs.wires.Wire.refill.Goals.{in-Ok-feed, in-Err-feed}
+use Rattle.su_client.proofs.wires.Wire.refill.Goals as goal
 
 pub returns-after-feed : goal.returns-after-feed
 returns-after-feed g c = elim c.match-feed.branch [

@@ -1,5 +1,5 @@
 use Rattle.su_client.specs.Asking.{Joins}
-use Rattle.su_client.proofs.links.Link.next_message.Given as goal
+use Rattle.su_client.proofs.wires.Wire.next_message.Given as goal
 
 abbrev pub invariant-loop : goal.invariant-loop
 invariant-loop g l = Joins l.fn.self l.self

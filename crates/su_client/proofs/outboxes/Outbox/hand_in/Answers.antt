@@ -1,0 +1,5 @@
+use Rattle.su_client.specs.Following.{follows_on}
+use Rattle.su_client.proofs.outboxes.Outbox.hand_in.Goals as goal
+
+pub returns-clause-follows : goal.returns-clause-follows
+returns-clause-follows g c = follows_on c.args.self.now.client.link c.settle.new.self.client.link c.commit.new.self.link c.settle.ensures.follows c.commit.ensures.follows
