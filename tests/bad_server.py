@@ -196,12 +196,12 @@ class Replies(Show):
 
     def __init__(self, publics, records, name, data, at=1, count=1):
         super().__init__(publics, records)
-        self.name, self.data, self.left, self.count = name, data, at, count
+        self.name, self.data, self.left, self.times = name, data, at, count
 
     def answer(self, seat, message):
         name, _ = wire.request_in(message)
         self.left -= name == self.name
-        if -self.count < self.left <= 0 and name == self.name:
+        if -self.times < self.left <= 0 and name == self.name:
             raise Instead(self.data)
         return super().answer(seat, message)
 

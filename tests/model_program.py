@@ -44,6 +44,7 @@ def arguments():
     client.add_argument("--key", required=True)
     client.add_argument("--log")
     client.add_argument("--tries", type=in_range(1, 1000000), default=1000)
+    client.add_argument("--leaves-ahead", type=in_range(1, 16), default=16)
     client.add_argument("--stop", action="store_true")
     audit = programs.add_parser("audit")
     audit.add_argument("--log", required=True)
@@ -99,10 +100,11 @@ def serve(words):
 
 
 class KeptKey:
-    """A key in its file, where one process uses it."""
+    """A key in its file, where one process uses it. The file says the leaf that signs next, or one behind it: one write of the file
+    serves `ahead` signatures."""
 
-    def __init__(self, path):
-        self.path = path
+    def __init__(self, path, ahead):
+        self.path, self.ahead, self.has_failed = path, ahead, False
         data = read_file(path)
         self.lock = os.open(f"{path}.lock", os.O_CREAT | os.O_RDWR, 0o600)
         try:
@@ -112,24 +114,41 @@ class KeptKey:
         kinds = [int.from_bytes(data[at:at + 4], "big") for at in (4, 8, 60)]
         if len(data) != 64 or data[:4] != b"SK01" or kinds[0] not in (5, 6) or kinds[1] not in (3, 4):
             raise Fault(f"{path} is no key file: 9 BadKey")
-        self.next = kinds[2]
+        self.next = self.stored = kinds[2]
         self.key = lms.Key(data[12:60], lms.HEIGHTS[kinds[0]], lms.OTS[kinds[1]][0])
         if self.next > self.key.leaves:
             raise Fault(f"{path} is no key file: 9 BadKey")
 
     def store(self, leaf):
+        if leaf > self.stored:
+            stored = min(leaf + self.ahead - 1, self.key.leaves)
+            try:
+                self.write(stored)
+            except OSError:
+                self.has_failed = True
+                raise Refused("10 KeyFileFault") from None
+            self.stored = stored
+        self.next = leaf
+
+    def put_back(self):
+        """Has the file say the leaf that signs next, once the last one has signed."""
+        if self.has_failed or self.stored == self.next:
+            return
         try:
-            with open(f"{self.path}.next", "wb") as file:
-                file.write(self.key.file(leaf))
-            os.replace(f"{self.path}.next", self.path)
-        except OSError:
-            raise Refused("10 KeyFileFault") from None
+            self.write(self.next)
+        except OSError as why:
+            tell(f"writing {self.path}: {why.strerror}")
+
+    def write(self, leaf):
+        with open(f"{self.path}.next", "wb") as file:
+            file.write(self.key.file(leaf))
+        os.replace(f"{self.path}.next", self.path)
 
 
 def client(words):
     if words.user >= len(words.publics):
         raise Fault(f"user {words.user} has no public key")
-    kept = KeptKey(words.key)
+    kept = KeptKey(words.key, words.leaves_ahead)
     publics = read_publics(words.publics)
     log = read_file(words.log) if words.log else b""
     try:
@@ -148,6 +167,7 @@ def client(words):
     except client_model.LinkFailed:
         raise Fault("the link to the server failed") from None
     finally:
+        kept.put_back()
         member.link.close()
 
 

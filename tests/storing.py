@@ -156,7 +156,8 @@ class Writer(threading.Thread):
         self.listed, self.acknowledged, self.others, self.is_over = None, [], [], threading.Event()
 
     def run(self):
-        with self.room.client(self.port, self.user, "--log", self.log) as client:
+        # (so that the leaves of a key last for all kills)
+        with self.room.client(self.port, self.user, "--log", self.log, "--leaves-ahead", 1) as client:
             printed = client.say(b"ls /%d" % self.user)
             self.ready.set()
             if any(line.startswith(b"no ") for line in printed):
