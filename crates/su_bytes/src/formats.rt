@@ -1,11 +1,35 @@
 // Formats of commits.
+ghost use Rattle.std.specs.Prelude.{◌≡◌};
+ghost use Rattle.su_bytes.specs.Format.{format_number, is_as_new};
 
-/// The format of a commit, which its first bytes name: how its version structure is spelled, and how
-/// large a file its change may make.
+/// The format of a commit, which its first bytes name: how its version structure is spelled, which
+/// changes it may have, and how large a file its change may make.
 #[derive(Clone, Copy, Debug, PartialEq, Eq)]
 pub enum Format {
+    /// The first one.
     V1,
+    /// The second one: files are larger, and a body that no file id leads to can be dropped.
+    V2,
 }
 
 /// The format in which changes are made.
-pub const NEWEST_FORMAT: Format = Format::V1;
+pub const NEWEST_FORMAT: Format = Format::V2;
+
+impl Format {
+    /// Its number, from 1 on. A newer format has a greater one.
+    pub fn number(self) -> u8
+        ensures { result ≡ format_number self }
+    {
+        match self {
+            Format::V1 => 1,
+            Format::V2 => 2,
+        }
+    }
+
+    /// Whether it is the other one, or newer.
+    pub fn is_as_new(self, other: Format) -> bool
+        ensures { result ≡ is_as_new self other }
+    {
+        other.number() <= self.number()
+    }
+}
