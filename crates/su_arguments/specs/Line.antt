@@ -9,7 +9,7 @@ use Rattle.su_arguments.specs.Ranges.{IsSessionCount, IsCacheSize, IsTryCount, I
 -- each number is in its range, there are the keys of 1 to 64 users, and a key to be made is of a kind
 -- that can be made
 abbrev pub HasGoodNumbers : Line → Type 0
-HasGoodNumbers (Desk users) = IsUserCount users
+HasGoodNumbers (Desk users format) = IsUserCount users
 HasGoodNumbers (Keygen entropy out params) = CanBeMade params.lms params.ots
 HasGoodNumbers (Audit log keys) = IsUserCount (length keys.items)
 HasGoodNumbers (Serve args) =

@@ -39,19 +39,22 @@ Refusals:
   14 NoFile FILE        there is no such file
   15 WrongKind FILE     it is a file and not a directory, or the other way round
   16 NotHolder U        user U holds it: take it over first
-  17 Held               the number is in use, or the user holds the file already
+  17 Held               the number is in use, or the user holds the file already;
+                        what is to be dropped is still some file's body
   18 NoName             the name is not there, or is that of another file
   19 Exists             the name is there already
   20 NotEmpty           the directory has names
   21 DirMove            a directory stays in its directory
-  22 TooBig             a file has at most 1,048,576 bytes
+  22 TooBig             a file has at most 16,777,216 bytes
   23 TooManyLinks       a file has at most 255 names
   24 NoOperation N      there is no entry N
   25 NotOperation N     entry N is an undo
   26 AlreadyUndone N M  entry N was undone by entry M
   27 NotAuthor U        the entry is user U's, who alone can undo it
   28 Blocked N          operation N rests on it: undo that one first
-  30 NoMemory           memory was refused";
+  30 NoMemory           memory was refused
+  44 OldFormat          the format has no such change
+In format 1 files have at most 1,048,576 bytes, and nothing is dropped.";
 
 pub const KEYGEN_ABOUT: &str = "Makes a key, and prints its public key in hex
 
@@ -97,7 +100,8 @@ Refusals:
   35 WrongVector        its version numbers are not those that come next
   36 KeyReuse           its author's key signed with this leaf, or a later one
   38 WrongHandle P      it holds another i-handle of P than the tree has then
-  39 Change NUMBER ..   its change is refused so, or its item spells none";
+  39 Change NUMBER ..   its change is refused so, or its item spells none
+  44 OldFormat          its format is older than that of the one before";
 
 pub const SERVE_ABOUT: &str = "Serves a shared folder to the users with these public keys
 
@@ -203,7 +207,7 @@ Refusals:
   19 Exists             the name is there already
   20 NotEmpty           the directory has names
   21 DirMove            a directory stays in its directory
-  22 TooBig             a file has at most 1,048,576 bytes
+  22 TooBig             a file has at most 16,777,216 bytes
   23 TooManyLinks       a file has at most 255 names
   29 BadPath            it is no path, or / where a name is needed
   30 NoMemory           memory was refused
@@ -223,4 +227,5 @@ Refusals:
          27 NotAuthor U        the commit is user U's, who alone can undo it
          28 Blocked N          commit N rests on it: undo that one first
   40 OwnMissing         the server hides the user's own last commit
-  43 LinkFailed         the link to the server failed";
+  43 LinkFailed         the link to the server failed
+  44 OldFormat          a commit's format is older than that of the one before";

@@ -1,6 +1,7 @@
 // The command line.
 ghost use Rattle.std.specs.Prelude.{◌≡◌, IfOk, IfSome};
 ghost use Rattle.std.specs.Str.Parse.{digits_value};
+ghost use Rattle.su_bytes.specs.Format.{format_number};
 ghost use Rattle.su_lms.specs.ParameterSets.{height_of, width_of};
 ghost use Rattle.su_arguments.specs.declared.line.LineFault.TheVariants.{NoMemory};
 ghost use Rattle.su_arguments.specs.Line.{HasGoodNumbers};
@@ -17,15 +18,17 @@ use crate::serving::{
 };
 use clap::{Arg, ArgMatches, Command};
 use std::alloc::{AllocError, Global};
+use su_bytes::Format;
 use su_lms::Params;
 use thiserror::Error;
 
 /// What a command line asks for.
 #[derive(Debug, Drop)]
 pub enum Line {
-    /// Reads a script for so many users, 1 to 64.
+    /// Reads a script for so many users, 1 to 64, whose changes are made in that format.
     Desk {
         users: u8,
+        format: Format,
     },
     /// Makes a key of the entropy in a file, and keeps it in another.
     Keygen {
@@ -132,11 +135,15 @@ fn desk_command<'a>(alloc: Global, help: &'a str) -> Result<Command<'a>, AllocEr
     let users = option(alloc, "users", "N", help_of_users)
         .value_parser(clap::value_parser!(u8).range(1..65))
         .default_value("2");
-    Command::new(alloc, "desk")
+    let format = option(alloc, "format", "1|2", "Of the changes: 2 has all of them").default_value("2");
+    let command = Command::new(alloc, "desk")
         .about("Runs a script from standard input")
         .long_about(DESK_ABOUT)
-        .after_help(help)
+        .after_help(help);
+    Draft::of(command)
         .arg(users)
+        .arg(one_of(format, FORMATS.as_slice()))
+        .finish()
 }
 
 fn keygen_command<'a>(alloc: Global) -> Result<Command<'a>, AllocError> {
@@ -170,6 +177,8 @@ fn audit_command<'a>(alloc: Global) -> Result<Command<'a>, AllocError> {
         .finish()
 }
 
+const FORMATS: [&str; 2] = ["1", "2"];
+
 const HEIGHTS: [&str; 2] = ["5", "10"];
 
 const WIDTHS: [&str; 2] = ["4", "8"];
@@ -188,13 +197,29 @@ fn shown(alloc: Global, error: &clap::Error) -> Result<Line, LineFault>
     }
 }
 
-/// `desk [--users N]`
+/// `desk [--users N] [--format 1|2]`
 fn desk(alloc: Global, values: &ArgMatches<'_>) -> Result<Line, LineFault>
     ensures { IfOk result HasGoodNumbers }
 {
-    match values.get_one::<u8>("users") {
-        Some(users) if (1..=64).contains(&users) => Ok(Line::Desk { users }),
+    let format = format_of(values.get_str("format").unwrap_or(""));
+    match (values.get_one::<u8>("users"), format) {
+        (Some(users), Some(format)) if (1..=64).contains(&users) => {
+            Ok(Line::Desk { users, format })
+        }
+        (_, None) => Err(usage(alloc, "error: the format is 1 or 2")),
         _ => Err(usage(alloc, "error: the number of users is 1 to 64")),
+    }
+}
+
+/// Returns the format of that number, if there is one.
+fn format_of(number: &str) -> Option<Format>
+    ensures { IfSome result (λ format.
+        digits_value 10 number.now ≡ format_number format) }
+{
+    match number {
+        "1" => Some(Format::V1),
+        "2" => Some(Format::V2),
+        _ => None,
     }
 }
 

@@ -35,7 +35,7 @@ one_place bytes x y (p, is_p, refused_p) (q, is_q, refused_q) =
 -- ---- a commit that isn't stored
 
 storing_once : (b : BookState) (c : Commit) → EachOnce (storing_order b c)
-storing_once b c = (once, (once, (once, (once, (once, tt)))))
+storing_once b c = (once, (once, (once, (once, (once, (once, tt))))))
 
 one_unfit : (b : BookState) (bytes : List ℕ) (x y : Refusal) → IsUnfit b bytes x → IsUnfit b bytes y → x ≡ y
 one_unfit b bytes x y (inl p) (inl q) = one_place bytes x y p q

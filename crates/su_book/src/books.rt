@@ -73,10 +73,10 @@ impl Book {
     /// turn, where the turn is asked for and another has it. `NotYourTurn` where a commit is handed
     /// in, or the turn given back, by a seat that hasn't the turn. Of a commit then: `Malformed`
     /// where the bytes are none's, with the place of the first part that isn't there;
-    /// `BadSignature`, `WrongPrev` with the number of records, `WrongVector`, `KeyReuse` where it
-    /// isn't the next, as `ChainEnd::check` says; `BookFull`; and `NoMemory`. It takes what was
-    /// found out of the commit before, which the offer then has no longer; else it makes one check
-    /// of a signature. It takes no longer where there are more steps.
+    /// `BadSignature`, `WrongPrev` with the number of records, `OldFormat`, `WrongVector`, `KeyReuse`
+    /// where it isn't the next, as `ChainEnd::check` says; `BookFull`; and `NoMemory`. It takes what
+    /// was found out of the commit before, which the offer then has no longer; else it makes one
+    /// check of a signature. It takes no longer where there are more steps.
     pub fn answer(&self, seat: u16, event: &mut Event) -> Result<Step, Refusal>
         ensures same { event.new ≡ event.old }
         ensures seat { IfOk result (λ step. step.seat ≡ seat) }

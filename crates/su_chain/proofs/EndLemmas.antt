@@ -14,10 +14,12 @@ use Rattle.su_bytes.specs.RosterBytes.{roster_digest}
 use Rattle.su_lms.specs.Signature.{leaf_of}
 use Rattle.su_vector.specs.Vector.{zeros}
 use Rattle.su_version.specs.Commit.{Commit, IsCommit, commit_digest}
-use Rattle.su_version.specs.Chain.{last_digest, chain_head, last_vector, chain_vector, Tip, tip, next_order, MayBeNext, ChainAfter, IsChain}
+use Rattle.su_bytes.specs.declared.formats.Format.{Format}
+use Rattle.su_bytes.specs.declared.formats.Format.TheVariants.{V1}
+use Rattle.su_version.specs.Chain.{last_digest, chain_head, last_format, chain_format, last_vector, chain_vector, Tip, tip, next_order, MayBeNext, ChainAfter, IsChain}
 use Rattle.su_vector.proofs.Public.{length-bump}
 use Rattle.su_version.proofs.Public.{leaf_further, length-chain_vector, next_counts}
-use Rattle.su_chain.specs.ChainEnd.{user_at, AreKeysOf, IsEndOf}
+use Rattle.su_chain.specs.ChainEnd.{user_at, tip_at, AreKeysOf, IsEndOf}
 use Rattle.su_chain.specs.declared.ends.ChainEnd.{ChainEnd}
 use Rattle.su_chain.specs.declared.ends.UserKey.{UserKey}
 use Rattle.su_chain.specs.declared.ends.TheConstants.{USERS}
@@ -38,6 +40,14 @@ last_digest-append d (x ∷ cs) c = last_digest-append (commit_digest x) cs c
 pub head_further : (ro : Membership) (cs : List Commit) (c : Commit) → chain_head ro (cs ++ c ∷ []) ≡ commit_digest c
 unfolding chain_head
 head_further ro cs c = last_digest-append (roster_digest ro) cs c
+
+last_format-append : (f : Format) (cs : List Commit) (c : Commit) → last_format f (cs ++ c ∷ []) ≡ c.version.format
+last_format-append f [] c = refl
+last_format-append f (x ∷ cs) c = last_format-append x.version.format cs c
+
+pub format_further : (cs : List Commit) (c : Commit) → chain_format (cs ++ c ∷ []) ≡ c.version.format
+unfolding chain_format
+format_further cs c = last_format-append V1 cs c
 
 last_vector-append : (v : List ℕ) (cs : List Commit) (c : Commit) → last_vector v (cs ++ c ∷ []) ≡ c.version.vector
 last_vector-append v [] c = refl
@@ -76,9 +86,9 @@ module _ (users : List UserKey) (a : ℕ) (q : Option ℕ) (within : a < length 
 module _ (ro : Membership) (cs : List Commit) (e : ChainEnd) (is : IsEndOf ro cs e) where
   -- the tip for the user
   pub tip_of : (u : ℕ) → is_user u ≡ true
-      → record { number = e.number; head = e.head; vector = e.vector; key = (user_at e.users.items u).key; leaf = (user_at e.users.items u).leaf } ≡ tip ro cs u
+      → tip_at e u ≡ tip ro cs u
   unfolding tip
-  tip_of u user = λ i. record { number = is.number i; head = is.head i; vector = is.vector i; key = is.keys.keys u user i; leaf = is.leaves u user i }
+  tip_of u user = λ i. record { number = is.number i; head = is.head i; format = is.format i; vector = is.vector i; key = is.keys.keys u user i; leaf = is.leaves u user i }
 
   pub next_of : (t : Tip) (c : Commit) → t ≡ tip ro cs c.version.author → IsCommit c → Passes (next_order ro t c) → MayBeNext ro cs c
   next_of t c at spelled may = record { spelled = spelled; follows = subst (λ t. Passes (next_order ro t c)) at may }
@@ -87,11 +97,12 @@ module _ (ro : Membership) (cs : List Commit) (e : ChainEnd) (is : IsEndOf ro cs
   pub end_further : (c : Commit) (f : ChainEnd) → MayBeNext ro cs c → is_user c.version.author ≡ true
       → (within : c.version.author < length e.users.items)
       → f.users.items ≡ set e.users.items c.version.author (signed e.users.items c.version.author (Some (leaf_of c.signature)) within)
-      → f.number ≡ e.number + 1 → f.head ≡ commit_digest c → f.vector ≡ c.version.vector → IsEndOf ro (cs ++ c ∷ []) f
-  end_further c f next user within users number head vector = record {
+      → f.number ≡ e.number + 1 → f.head ≡ commit_digest c → f.format ≡ c.version.format → f.vector ≡ c.version.vector → IsEndOf ro (cs ++ c ∷ []) f
+  end_further c f next user within users number head format vector = record {
     chain = chain_further ro cs c is.chain next;
     number = number ∙ ap (λ n. n + 1) is.number ∙ sym (length-append cs (c ∷ []));
     head = head ∙ sym (head_further ro cs c);
+    format = format ∙ sym (format_further cs c);
     vector = vector ∙ sym (vector_further ro cs c);
     keys = subst (AreKeysOf ro) (sym users) (keys_after e.users.items c.version.author (Some (leaf_of c.signature)) within ro is.keys);
     leaves = λ u user. ap (λ l. (user_at l u).leaf) users
@@ -104,12 +115,11 @@ module _ (ro : Membership) (cs : List Commit) (e : ChainEnd) (is : IsEndOf ro cs
 
 -- the tip for a user, of that commit's author
 pub tip_for : (e : ChainEnd) (u : ℕ) (c : Commit) (t : Tip) → u ≡ c.version.author
-    → t ≡ record { number = e.number; head = e.head; vector = e.vector; key = (user_at e.users.items u).key; leaf = (user_at e.users.items u).leaf }
-    → t ≡ record { number = e.number; head = e.head; vector = e.vector; key = (user_at e.users.items c.version.author).key; leaf = (user_at e.users.items c.version.author).leaf }
-tip_for e u c t same is = is ∙ (λ i. record { number = e.number; head = e.head; vector = e.vector; key = (user_at e.users.items (same i)).key; leaf = (user_at e.users.items (same i)).leaf })
+    → t ≡ tip_at e u → t ≡ tip_at e c.version.author
+tip_for e u c t same is = is ∙ ap (tip_at e) same
 
 module _ (ro : Membership) (e : ChainEnd) (c : Commit) (t : Tip) (is : IsCommit c)
-    (here : t ≡ record { number = e.number; head = e.head; vector = e.vector; key = (user_at e.users.items c.version.author).key; leaf = (user_at e.users.items c.version.author).leaf }) where
+    (here : t ≡ tip_at e c.version.author) where
   tip_is : (cs : List Commit) → IsEndOf ro cs e → t ≡ tip ro cs c.version.author
   tip_is cs end = here ∙ tip_of ro cs e end c.version.author is.version.author
 

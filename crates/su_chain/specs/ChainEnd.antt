@@ -5,7 +5,7 @@ use Rattle.su_bytes.specs.Principal.{is_user}
 use Rattle.su_bytes.specs.RosterBytes.{user_key}
 use Rattle.su_lms.specs.Signature.{IsPublicKey}
 use Rattle.su_version.specs.Commit.{Commit}
-use Rattle.su_version.specs.Chain.{chain_head, chain_vector, last_leaf, IsChain}
+use Rattle.su_version.specs.Chain.{chain_head, chain_format, chain_vector, last_leaf, Tip, IsChain}
 use Rattle.su_chain.specs.declared.ends.UserKey.{UserKey}
 use Rattle.su_chain.specs.declared.ends.ChainEnd.{ChainEnd}
 use Rattle.su_chain.specs.declared.ends.TheConstants.{USERS}
@@ -13,6 +13,17 @@ use Rattle.su_chain.specs.declared.ends.TheConstants.{USERS}
 -- what is known of user u: the key, and the leaf that signed last
 abbrev pub user_at : List UserKey → ℕ → UserKey
 user_at users u = get_or users u (record { key = None; leaf = None })
+
+-- what the next commit of user u is measured by
+abbrev pub tip_at : ChainEnd → ℕ → Tip
+tip_at e u = record {
+  number = e.number;
+  head = e.head;
+  format = e.format;
+  vector = e.vector;
+  key = (user_at e.users.items u).key;
+  leaf = (user_at e.users.items u).leaf;
+}
 
 -- the keys of all users
 pub record AreKeysOf (ro : Membership) (users : List UserKey) : Type 0 where
@@ -24,6 +35,7 @@ pub record IsEndOf (ro : Membership) (cs : List Commit) (e : ChainEnd) : Type 0 
   pub chain : IsChain ro cs
   pub number : e.number ≡ length cs
   pub head : e.head ≡ chain_head ro cs
+  pub format : e.format ≡ chain_format cs
   pub vector : e.vector ≡ chain_vector ro cs
   pub keys : AreKeysOf ro e.users.items
   pub leaves : (u : ℕ) → is_user u ≡ true → (user_at e.users.items u).leaf ≡ last_leaf u cs

@@ -8,10 +8,10 @@ ghost use Rattle.su_lms.specs.Signature.{IsPublicKey};
 ghost use Rattle.su_vector.specs.Vector.{zeros};
 ghost use Rattle.su_version.specs.Commit.{Commit as CommitParts, commit_digest};
 ghost use Rattle.su_version.specs.Chain.{IsSignedBy, MayBeNext, next_order, tip};
-ghost use Rattle.su_chain.specs.ChainEnd.{user_at, AreKeysOf, IsEndOf, HasBadKey};
+ghost use Rattle.su_chain.specs.ChainEnd.{user_at, tip_at, AreKeysOf, IsEndOf, HasBadKey};
 
 use std::alloc::Global;
-use su_bytes::{Digest, FileId, Refusal, Roster, User};
+use su_bytes::{Digest, FileId, Format, Refusal, Roster, User};
 use su_lms::PublicKey;
 use su_vector::Vector;
 use su_version::{Commit, Tip, Verdict};
@@ -27,13 +27,15 @@ struct UserKey {
 }
 
 /// What a chain of commits comes to, so that the next one can be checked without those before it:
-/// their number, the digest of the last one (at first that of the roster), its vector (at first
-/// zeros), and of each user the key and the last leaf. It takes 64 times 64 bytes and the vector.
+/// their number, the digest of the last one (at first that of the roster), its format (at first the
+/// oldest), its vector (at first zeros), and of each user the key and the last leaf. It takes 64
+/// times 64 bytes and the vector.
 #[derive(Drop)]
 pub struct ChainEnd {
     users: Vec<UserKey>,
     number: u64,
     head: Digest,
+    format: Format,
     vector: Vector,
 }
 
@@ -52,6 +54,7 @@ impl ChainEnd {
             users,
             number: 0,
             head: roster.digest(),
+            format: Format::V1,
             vector,
         })
     }
@@ -81,9 +84,9 @@ impl ChainEnd {
 
     /// Checks whether a commit may come next. `BadSignature` where its author is no user of the
     /// roster or didn't sign it; `WrongPrev` with the number of commits where it names another one
-    /// before it; `WrongVector` where it carries a group that isn't in the roster, or its vector
-    /// isn't the next; `KeyReuse` where its leaf isn't above the author's last; `NoMemory`. It
-    /// makes one check of a signature.
+    /// before it; `OldFormat` where its format is older than that one's; `WrongVector` where it
+    /// carries a group that isn't in the roster, or its vector isn't the next; `KeyReuse` where its
+    /// leaf isn't above the author's last; `NoMemory`. It makes one check of a signature.
     pub fn check(&self, alloc: Global, roster: &Roster, commit: &Commit) -> Result<(), Refusal>
         requires { AreKeysOf roster.now self.now.users.items }
         ensures next { OnOk result ((cs : List CommitParts) → IsEndOf roster.now cs self.now
@@ -122,16 +125,18 @@ impl ChainEnd {
     /// What the next commit of that user is measured by.
     fn tip(&self, user: User) -> Tip<'_>
         requires { length self.now.users.items ≡ USERS }
-        ensures { result ≡ record {
-          number = self.now.number;
-          head = self.now.head;
-          vector = self.now.vector;
-          key = (user_at self.now.users.items user).key;
-          leaf = (user_at self.now.users.items user).leaf;
-        } }
+        ensures { result ≡ tip_at self.now user }
     {
         let user = self.users[usize::from(user.number())];
-        Tip::new(self.number, self.head, &self.vector, user.key, user.leaf)
+        let vector = &self.vector;
+        Tip::new(
+            self.number,
+            self.head,
+            self.format,
+            vector,
+            user.key,
+            user.leaf,
+        )
     }
 
     /// Adds a commit that may come next, by its digest. It takes no memory.
@@ -148,6 +153,7 @@ impl ChainEnd {
         self.users[usize::from(version.author().number())].leaf = Some(commit.leaf());
         self.number += 1;
         self.head = digest;
+        self.format = version.format();
         self.vector.set(version.vector());
     }
 }

@@ -1,7 +1,7 @@
 -- Which refusals fit a request, and how a reply tells of them. (This project's own protocol.)
 use Rattle.std.specs.Prelude.{ℕ, Bool, true, false, ◌==◌, nat_lt, if◌then◌else◌, Option, Some, None}
 use Rattle.su_bytes.specs.declared.refusals.Refusal.{Refusal}
-use Rattle.su_bytes.specs.declared.refusals.Refusal.TheVariants.{Malformed, MissingBlock, TooBig, NoMemory, Busy, NotYourTurn, BadSignature, WrongPrev, WrongVector, KeyReuse, BookFull}
+use Rattle.su_bytes.specs.declared.refusals.Refusal.TheVariants.{Malformed, MissingBlock, TooBig, NoMemory, Busy, NotYourTurn, BadSignature, WrongPrev, WrongVector, KeyReuse, BookFull, OldFormat}
 use Rattle.su_message.specs.declared.requests.Request.{Request}
 use Rattle.su_message.specs.declared.requests.Request.TheVariants.{Grant, Commit, Give, Fetch, Put, Get}
 use Rattle.su_message.specs.declared.replies.Reply.{Reply}
@@ -16,6 +16,7 @@ refuses_commit (WrongPrev _) = true
 refuses_commit WrongVector = true
 refuses_commit KeyReuse = true
 refuses_commit BookFull = true
+refuses_commit OldFormat = true
 refuses_commit NoMemory = true
 refuses_commit _ = false
 
@@ -66,6 +67,7 @@ told_alone number =
     else if number == 35 then Some WrongVector
     else if number == 36 then Some KeyReuse
     else if number == 37 then Some BookFull
+    else if number == 44 then Some OldFormat
     else None
 
 -- the refusal with this number and argument, if a server tells of one; a seat has two bytes

@@ -48,6 +48,7 @@ fn told_alone(number: u8) -> Option<Refusal>
         35 => Some(Refusal::WrongVector),
         36 => Some(Refusal::KeyReuse),
         37 => Some(Refusal::BookFull),
+        44 => Some(Refusal::OldFormat),
         _ => None,
     }
 }
@@ -66,6 +67,7 @@ pub(crate) fn may_refuse(request: &Request, refusal: &Refusal) -> bool
         (Request::Commit(_), Refusal::WrongVector) => true,
         (Request::Commit(_), Refusal::KeyReuse) => true,
         (Request::Commit(_), Refusal::BookFull) => true,
+        (Request::Commit(_), Refusal::OldFormat) => true,
         (Request::Give, Refusal::NotYourTurn) => true,
         (Request::Put(_), Refusal::TooBig) => true,
         (Request::Get(_), Refusal::MissingBlock) => true,

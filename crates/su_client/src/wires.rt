@@ -12,7 +12,7 @@ use su_message::Reply;
 const MOST_WRITES: u32 = 10_000_000;
 
 /// How often in a row the writer may take nothing, or the reader bring nothing.
-const MOST_WAITS: u32 = 3_000;
+const MOST_WAITS: u32 = 600;
 
 /// How often the link is read at most for one reply.
 const MOST_READS: u32 = 10_000_000;

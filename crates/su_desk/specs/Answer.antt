@@ -1,14 +1,16 @@
 -- The answer to a change after a history, and good histories.
-use Rattle.std.specs.Prelude.{◌≡◌, ℕ, ◌+◌, cond, List, [], ◌∷◌, ◌++◌, length, Option, None, Some, Result, Ok, Err, nat_eq}
+use Rattle.std.specs.Prelude.{◌≡◌, ℕ, ◌+◌, Bool, ◌&&◌, cond, List, [], ◌∷◌, ◌++◌, length, Option, None, Some, Result, Ok, Err, nat_eq}
 use Rattle.std.specs.Option.{option_or}
+use Rattle.su_bytes.specs.Format.{is_as_new}
 use Rattle.su_bytes.specs.Membership.{Membership, has_user}
+use Rattle.su_bytes.specs.declared.formats.Format.{Format}
 use Rattle.su_bytes.specs.declared.refusals.Refusal.{Refusal}
-use Rattle.su_bytes.specs.declared.refusals.Refusal.TheVariants.{NoUser, NoOperation, NotOperation, AlreadyUndone, NotAuthor, Blocked}
+use Rattle.su_bytes.specs.declared.refusals.Refusal.TheVariants.{NoUser, NoOperation, NotOperation, AlreadyUndone, NotAuthor, Blocked, OldFormat}
 use Rattle.su_op.specs.declared.operations.Change.{Change}
 use Rattle.su_op.specs.declared.operations.Change.TheVariants.{Do, Undo}
-use Rattle.su_op.specs.Operation.{why}
+use Rattle.su_op.specs.Operation.{why, change_format}
 use Rattle.su_desk.specs.declared.entries.Entry.{Entry}
-use Rattle.su_desk.specs.History.{action_of, entry_at, undoer}
+use Rattle.su_desk.specs.History.{action_of, entry_at, format_after, undoer}
 use Rattle.su_desk.specs.Applied.{tree_after}
 use Rattle.su_desk.specs.Blocker.{blocker}
 
@@ -49,15 +51,24 @@ undo_refusal ro h a n =
     (option_or (author_refusal a (entry_at h n)) (blocked_refusal (blocker ro h n))))
     (Some (NoUser a))
 
--- why an entry, whose change is given, is refused after a history. (After a good history there
--- always is a tree.)
+-- a format fits a change after a history: it is as new as that of the last entry, and has the change
+abbrev pub has_format : List Entry → Format → Change → Bool
+has_format h f c = is_as_new f (format_after h) && is_as_new f (change_format c)
+
+-- why a change in format f is refused after a history for its format alone
+abbrev pub format_refusal : List Entry → Format → Change → Option Refusal
+format_refusal h f c = cond (has_format h f c) None (Some OldFormat)
+
+-- why an entry, whose change is given, is refused after a history, whatever its format. (After a
+-- good history there always is a tree.)
 abbrev pub refusal_by_change : Membership → List Entry → Entry → Change → Option Refusal
 refusal_by_change ro h e (Do op) = why ro (tree_after ro h) (action_of e op)
 refusal_by_change ro h e (Undo n) = undo_refusal ro h e.author n
 
--- why an entry is refused after a history
+-- why an entry is refused after a history: first of all for its format
 abbrev pub refusal_of : Membership → List Entry → Entry → Option Refusal
-refusal_of ro h e = refusal_by_change ro h e e.change
+refusal_of ro h e =
+    option_or (format_refusal h e.format e.change) (refusal_by_change ro h e e.change)
 
 -- number n, or the refusal if there is one
 abbrev pub reply : ℕ → Option Refusal → Result ℕ Refusal

@@ -1,5 +1,6 @@
 -- What the desk is for, in one place: of a roster, a history and the tree of a desk.
-use Rattle.std.specs.Prelude.{◌≡◌, ◌↔◌, ℕ, ◌≤◌, List, [], ◌∷◌, ◌++◌, None, Some, All}
+use Rattle.std.specs.Prelude.{◌≡◌, ◌↔◌, ℕ, ◌≤◌, List, [], ◌∷◌, ◌++◌, true, None, Some, All}
+use Rattle.su_bytes.specs.Format.{is_as_new}
 use Rattle.su_bytes.specs.Membership.{Membership}
 use Rattle.su_bytes.specs.declared.formats.Format.{Format}
 use Rattle.su_bytes.specs.declared.principals.Principal.{Principal}
@@ -7,7 +8,7 @@ use Rattle.su_table.specs.Tree.{Tree, genesis}
 use Rattle.su_op.specs.Store.{store}
 use Rattle.su_undo.specs.Replay.{CanBeTakenOut}
 use Rattle.su_desk.specs.declared.entries.Entry.{Entry}
-use Rattle.su_desk.specs.History.{NumberedAction, actions, undo_by, undos, live, replay, tree, last_live}
+use Rattle.su_desk.specs.History.{NumberedAction, actions, undo_by, undos, live, replay, tree, last_live, format_after}
 use Rattle.su_desk.specs.Applied.{GoesAsApplied}
 use Rattle.su_desk.specs.Version.{version}
 use Rattle.su_desk.specs.Blocker.{blocker, ReadsCellOf, IsLastReader}
@@ -25,10 +26,10 @@ pub record Headline (ro : Membership) (h : List Entry) (T : Tree) : Type 0 where
   pub rising : (e : Entry) (p : Principal) → version ro h p ≤ version ro (h ++ e ∷ []) p
   -- the latest operation that wasn't undone is never blocked
   pub latest : blocker ro h (last_live h) ≡ None
-  -- undone from the last on, each by its author, in whichever format, live operations are never
-  -- blocked or refused
-  pub accepted : (f : Format) (ts us : List NumberedAction) → live h ≡ ts ++ us
-      → GoodAfter ro h (undos f us)
+  -- undone from the last on, each by its author, in whichever format is as new as the last entry's,
+  -- live operations are never blocked or refused
+  pub accepted : (f : Format) (ts us : List NumberedAction) → is_as_new f (format_after h) ≡ true
+      → live h ≡ ts ++ us → GoodAfter ro h (undos f us)
   -- and the tree comes by every earlier point: after the undos of the last ones it is the replay of
   -- those before them
   pub every_point : (f : Format) (ts us : List NumberedAction) → live h ≡ ts ++ us

@@ -5,6 +5,7 @@ use Rattle.std.specs.List.{filter, list_any}
 use Rattle.std.specs.Option.{option_or, unwrap_or}
 use Rattle.su_bytes.specs.Membership.{Membership}
 use Rattle.su_bytes.specs.declared.formats.Format.{Format}
+use Rattle.su_bytes.specs.declared.formats.Format.TheVariants.{V1}
 use Rattle.su_table.specs.Tree.{Tree, genesis}
 use Rattle.su_op.specs.declared.operations.Op.{Op}
 use Rattle.su_op.specs.declared.operations.Change.{Change}
@@ -78,6 +79,14 @@ replay ro T ts = replay_actions (store ro) T (actions ts)
 -- the tree after a history: a replay of its live operations from the first tree
 unfoldable pub tree : Membership → List Entry → Option Tree
 tree ro h = replay ro genesis (live h)
+
+abbrev pub last_format : Format → List Entry → Format
+last_format f [] = f
+last_format f (e ∷ es) = last_format e.format es
+
+-- the format of the last entry, at first the oldest one
+abbrev pub format_after : List Entry → Format
+format_after h = last_format V1 h
 
 -- the entry of a number
 abbrev pub entry_at : List Entry → ℕ → Option Entry

@@ -3,10 +3,10 @@ ghost use Rattle.std.specs.Prelude.{◌≡◌, ◌⊎◌, [], map, option_copied
 ghost use Rattle.su_desk.specs.Version.{versions};
 ghost use Rattle.su_desk.specs.Headline.{Headline};
 ghost use Rattle.su_bytes.specs.declared.refusals.Refusal.TheVariants.{NoMemory};
-ghost use Rattle.su_op.specs.declared.operations.Change.TheVariants.{Do};
-ghost use Rattle.su_desk.specs.History.{entry_by, undo_by, tree, live_numbers, last_live, entry_at, undoer};
+ghost use Rattle.su_op.specs.declared.operations.Change.TheVariants.{Do, Undo};
+ghost use Rattle.su_desk.specs.History.{entry_by, undo_by, tree, live_numbers, last_live, format_after, entry_at, undoer};
 ghost use Rattle.su_desk.specs.Blocker.{blocker};
-ghost use Rattle.su_desk.specs.Answer.{live_refusal, undo_refusal, Good};
+ghost use Rattle.su_desk.specs.Answer.{format_refusal, live_refusal, undo_refusal, Good};
 ghost use Rattle.su_desk.specs.Desk.{Answers, Runs, result_of, with_entry};
 ghost use Rattle.su_desk.specs.Tried.{IsKeptAt};
 
@@ -120,14 +120,39 @@ impl Desk {
         self.apply_as(NEWEST_FORMAT, author, change)
     }
 
-    /// Makes a change in that format, and returns the number of its entry. A refusal, the first in
-    /// order or `NoMemory`, changes nothing.
+    /// Makes a change in that format, and returns the number of its entry. A refusal changes nothing:
+    /// `OldFormat` where the format is older than that of the last entry, or has no such change; the
+    /// first one in the order of the change; or `NoMemory`.
     pub fn apply_as(&mut self, format: Format, author: User, change: Change) -> Result<u64, Refusal>
         ensures { Answers self.old (entry_by author format change) result self.new }
     {
+        if let Some(refusal) = self.format_refusal(format, &change) {
+            return Err(refusal);
+        }
         match change {
             Change::Do(op) => self.operate(format, author, op),
             Change::Undo(number) => self.undo(format, author, number),
+        }
+    }
+
+    /// Finds why a change in that format is refused for its format alone, if it is.
+    fn format_refusal(&self, format: Format, change: &Change) -> Option<Refusal>
+        ensures { result ≡ format_refusal self.now.history format change.now }
+    {
+        if format.is_as_new(self.format()) && format.is_as_new(change.oldest_format()) {
+            None
+        } else {
+            Some(Refusal::OldFormat)
+        }
+    }
+
+    /// Returns the format of the last entry, at first the oldest one.
+    fn format(&self) -> Format
+        ensures { result ≡ format_after self.now.history }
+    {
+        match self.entries.last() {
+            Some(entry) => entry.format,
+            None => Format::V1,
         }
     }
 
@@ -137,8 +162,17 @@ impl Desk {
         ensures { Answers self.old (undo_by author NEWEST_FORMAT (last_live self.old.history))
             result self.new }
     {
+        self.undo_last_as(NEWEST_FORMAT, author)
+    }
+
+    /// Undoes the last live operation in that format, as `apply_as` does. Fails with `NoOperation`
+    /// of 0 where there is none.
+    pub fn undo_last_as(&mut self, format: Format, author: User) -> Result<u64, Refusal>
+        ensures { Answers self.old (undo_by author format (last_live self.old.history))
+            result self.new }
+    {
         let number = self.last();
-        self.undo(NEWEST_FORMAT, author, number)
+        self.apply_as(format, author, Change::Undo(number))
     }
 
     /// Makes the changes one after another in the newest format, and returns a reply to each. Fails
@@ -167,8 +201,9 @@ impl Desk {
         }
     }
 
-    /// Does an operation in that format, and adds it to the history.
+    /// Does an operation in that format, which has it, and adds it to the history.
     fn operate(&mut self, format: Format, author: User, op: Op) -> Result<u64, Refusal>
+        requires { format_refusal self.old.history format (Do op) ≡ None }
         ensures { Answers self.old (entry_by author format (Do op)) result self.new }
     {
         // no `?`, for the prover (docs/ARCHITECTURE.md, "Forms the kit wants")
@@ -197,8 +232,9 @@ impl Desk {
         Ok(number)
     }
 
-    /// Undoes an operation in that format, and adds that to the history.
+    /// Undoes an operation in that format, which may come next, and adds that to the history.
     fn undo(&mut self, format: Format, author: User, number: u64) -> Result<u64, Refusal>
+        requires { format_refusal self.old.history format (Undo number) ≡ None }
         ensures { Answers self.old (undo_by author format number) result self.new }
     {
         self.take_out(format, author, number)?;

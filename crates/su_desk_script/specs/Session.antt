@@ -6,7 +6,7 @@ use Rattle.std.specs.Cmp.Lexicographic.{pointwise}
 use Rattle.su_bytes.specs.Membership.{Membership}
 use Rattle.su_bytes.specs.Principal.{principals}
 use Rattle.su_bytes.specs.declared.file_ids.FileId.{FileId}
-use Rattle.su_bytes.specs.declared.formats.TheConstants.{NEWEST_FORMAT}
+use Rattle.su_bytes.specs.declared.formats.Format.{Format}
 use Rattle.su_bytes.specs.declared.refusals.Refusal.{Refusal}
 use Rattle.su_bytes.specs.declared.refusals.Refusal.TheVariants.{NoMemory, NoFile, WrongKind}
 use Rattle.su_node.specs.Inode.{Inode}
@@ -23,9 +23,10 @@ use Rattle.su_desk_lines.specs.declared.ranges.Question.{Question}
 use Rattle.su_desk_lines.specs.declared.ranges.Question.TheVariants.{List as Listing, Read, Describe, Handle}
 use Rattle.su_desk_script.specs.Answer.{answer_text, refused_text, listing_text, bytes_text, description_text, digest_line, versions_text}
 
--- a desk, and the digests that were kept to compare with
+-- a desk, the format of the changes that are made, and the digests that were kept to compare with
 pub record SessionState : Type 0 where
   pub desk : DeskState
+  pub format : Format
   pub mark : Option (List (List ℕ))
 
 -- the tree of a desk. (A good history always has one.)
@@ -67,17 +68,20 @@ same_text (Some kept) now =
 abbrev pub IsText : List ℕ → List ℕ → Type 0
 IsText text out = (out ≡ text) ⊎ (out ≡ refused_text NoMemory)
 
+-- the format and the mark stay
+abbrev pub KeepsRest : SessionState → SessionState → Type 0
+KeepsRest s s' = (s'.format ≡ s.format) × (s'.mark ≡ s.mark)
+
 -- What a command prints, whose words are all within their ranges, and what the desk and the mark
--- are then. Changes are made in the newest format. A question and a mark may be refused for want of
--- memory.
+-- are then. A question and a mark may be refused for want of memory.
 abbrev pub Does : SessionState → Command → List ℕ → SessionState → Type 0
 Does s (Apply a c) out s' =
-    (r : Result ℕ Refusal) × Answers s.desk (entry_by a NEWEST_FORMAT c) r s'.desk
-    × (s'.mark ≡ s.mark) × (out ≡ answer_text r)
+    (r : Result ℕ Refusal) × Answers s.desk (entry_by a s.format c) r s'.desk
+    × KeepsRest s s' × (out ≡ answer_text r)
 Does s (UndoLast a) out s' =
     (r : Result ℕ Refusal)
-    × Answers s.desk (undo_by a NEWEST_FORMAT (last_live s.desk.history)) r s'.desk
-    × (s'.mark ≡ s.mark) × (out ≡ answer_text r)
+    × Answers s.desk (undo_by a s.format (last_live s.desk.history)) r s'.desk
+    × KeepsRest s s' × (out ≡ answer_text r)
 Does s (Ask q) out s' = IsText (question_text (desk_tree s.desk) q) out × (s' ≡ s)
 Does s Versions out s' =
     (out ≡ versions_text (versions s.desk.roster s.desk.history)) × (s' ≡ s)

@@ -1,6 +1,7 @@
 -- What a desk prints for a script: line by line the stated text of each answer.
 use Rattle.std.specs.Prelude.{◌≡◌, ℕ, ◌+◌, ◌⊎◌, List, [], ◌∷◌, ◌++◌, Option, None, Some, replicate}
 use Rattle.su_bytes.specs.Membership.{Membership, membership_of_keys}
+use Rattle.su_bytes.specs.declared.formats.Format.{Format}
 use Rattle.su_bytes.specs.declared.refusals.Refusal.{Refusal}
 use Rattle.su_bytes.specs.declared.rosters.TheConstants.{KEY_LENGTH}
 use Rattle.su_bytes.specs.declared.refusals.Refusal.TheVariants.{NoMemory}
@@ -60,9 +61,9 @@ desk_members n = membership_of_keys (replicate n (replicate KEY_LENGTH 0))
 abbrev pub new_desk : ℕ → DeskState
 new_desk n = record { roster = desk_members n; history = [] }
 
--- such a desk, and nothing kept
-abbrev pub start : ℕ → SessionState
-start n = record { desk = new_desk n; mark = None }
+-- such a desk for changes in that format, and nothing kept
+abbrev pub start : ℕ → Format → SessionState
+start n format = record { desk = new_desk n; format = format; mark = None }
 
 -- Unless a fault ended the run, the writer holds what it held, and then the transcript of the bytes
 -- from line k on.
@@ -71,6 +72,7 @@ PrintsFrom d k input before after Fault = Unit {0}
 PrintsFrom d k input before after status =
     (out : List ℕ) × (after ≡ Some (before ++ out)) × Transcript d k (lines_of input) out status
 
--- the same of a whole script, on a new desk of n users
-abbrev pub Prints : ℕ → List ℕ → List ℕ → Option (List ℕ) → Status → Type 0
-Prints n input before after status = PrintsFrom (start n) 1 input before after status
+-- the same of a whole script, on a new desk of n users for changes in that format
+abbrev pub Prints : ℕ → Format → List ℕ → List ℕ → Option (List ℕ) → Status → Type 0
+Prints n format input before after status =
+    PrintsFrom (start n format) 1 input before after status

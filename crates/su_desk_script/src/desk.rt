@@ -10,7 +10,7 @@ use crate::session::{Session, bad, refused};
 use std::alloc::{AllocError, Global};
 use std::io::{Read, Write};
 use std::{fmt, io};
-use su_bytes::{KEY_LENGTH, Refusal, Roster};
+use su_bytes::{Format, KEY_LENGTH, Refusal, Roster};
 use su_desk::Desk;
 use su_desk_lines::{LineReader, Mistake, NextLine, check_ranges, mistake_in, parse_line};
 
@@ -93,24 +93,26 @@ enum Step {
     Ends(Ending),
 }
 
-/// Runs a script on a new desk of `users` users, 1 to 64, and prints what it answers.
+/// Runs a script on a new desk of `users` users, 1 to 64, and prints what it answers. Changes are
+/// made in that format.
 pub fn run_desk<R: Read + Drop, W: Write>(
     alloc: Global,
     reader: R,
     writer: &mut W,
     users: u8,
+    format: Format,
 ) -> Ending
     requires { (1 ≤ users) × (users ≤ 64) }
     ensures { (input before : List ℕ) →
         R.remaining reader ≡ Some input → W.contents writer.old ≡ Some before →
-        Prints users input before (W.contents writer.new) (status_of result) }
+        Prints users format input before (W.contents writer.new) (status_of result) }
 {
     let Ok(desk) = new_desk(alloc, users) else {
         return Ending::Failed(Fault::NoMemory);
     };
     run(
         alloc,
-        Session::new(desk),
+        Session::new(desk, format),
         LineReader::new(alloc, reader),
         writer,
     )

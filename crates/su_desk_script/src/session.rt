@@ -8,16 +8,18 @@ ghost use Rattle.su_desk_script.specs.Session.{desk_tree, handles, question_text
 
 use std::alloc::{AllocError, Global};
 use std::marker::Model;
-use su_bytes::{Digest, FileId, Inum, Kind, Name, Principal, Refusal, Roster, User};
+use su_bytes::{Digest, FileId, Format, Inum, Kind, Name, Principal, Refusal, Roster, User};
 use su_desk::Desk;
 use su_desk_lines::{Command, Question};
 use su_node::Inode;
 use su_table::Forest;
 
-/// A desk, and the digests that a script keeps to compare with later.
+/// A desk, the format of the changes that a script makes, and the digests that it keeps to compare
+/// with later.
 #[derive(Drop)]
 pub struct Session {
     desk: Desk,
+    format: Format,
     mark: Option<Vec<Digest>>,
 }
 
@@ -27,15 +29,23 @@ impl Model for Session {
 
     ghost Value = { SessionState };
 
-    ghost view = { λ s. record { desk = s.desk; mark = option_map (λ v. v.items) s.mark } };
+    ghost view = { λ s. record {
+      desk = s.desk;
+      format = s.format;
+      mark = option_map (λ v. v.items) s.mark;
+    } };
 }
 
 impl Session {
-    /// Wraps a desk, with nothing kept.
-    pub fn new(desk: Desk) -> Session
-        ensures { result ≡ record { desk = desk; mark = None } }
+    /// Wraps a desk on which changes are made in that format, with nothing kept.
+    pub fn new(desk: Desk, format: Format) -> Session
+        ensures { result ≡ record { desk = desk; format = format; mark = None } }
     {
-        Session { desk, mark: None }
+        Session {
+            desk,
+            format,
+            mark: None,
+        }
     }
 
     /// Returns the roster of the desk.
@@ -50,8 +60,10 @@ impl Session {
         ensures { IfOk result (λ text. Does self.old command text.items self.new) }
     {
         match command {
-            Command::Apply(user, change) => answered(alloc, self.desk.apply(user, change)),
-            Command::UndoLast(user) => answered(alloc, self.desk.undo_last(user)),
+            Command::Apply(user, change) => {
+                answered(alloc, self.desk.apply_as(self.format, user, change))
+            }
+            Command::UndoLast(user) => answered(alloc, self.desk.undo_last_as(self.format, user)),
             Command::Ask(question) => answer(alloc, self.desk.forest(), question),
             Command::Versions => versions_shown(alloc, self.desk.versions()),
             Command::Mark => self.keep_mark(alloc),

@@ -9,9 +9,10 @@ use std::net::{Ipv4Addr, Net, TcpListener, TcpStream};
 use std::time::Duration;
 use su_client::Client;
 
-/// How many milliseconds a read or a write waits before the client turns to the other. (It tries
-/// 3,000 times in a row, which makes 30 seconds in which nothing comes, or nothing is taken.)
-const MILLISECONDS: u64 = 10;
+/// How many milliseconds a read or a write waits before the client turns to the other. (It tries 600
+/// times in a row, which makes 30 seconds in which nothing comes, or nothing is taken. A system may
+/// wait some milliseconds longer each time.)
+const MILLISECONDS: u64 = 50;
 
 /// A link to a server.
 pub type Link = Client<BufReader<TcpStream>, TcpStream>;

@@ -28,7 +28,7 @@ pub struct Worker<'a, N: BookName, K: Keeper, R: Wait> {
     blocks: &'a SharedBlocks,
     items: SessionItems<'a>,
     seat: Seat<N, K>,
-    /// Whether an item was refused since the turn was granted last.
+    /// Whether there was no memory for an item since the turn was granted, or given back, last.
     lacks_item: bool,
     rt: &'a R,
 }
@@ -79,9 +79,9 @@ impl<'a, N: BookName, K: Keeper, R: Wait> Worker<'a, N, K, R> {
 
     /// Stores a commit. The item that it names is kept with it, and stays for good from then on,
     /// whoever put it; it is pinned meanwhile, so that it doesn't go before it is let stay. (A keeper
-    /// that gives records back has released it by then: it keeps it.) `NoMemory` where an item was
-    /// refused in this turn: a client that sends both at once isn't to have a commit stored without
-    /// its item.
+    /// that gives records back has released it by then: it keeps it.) `NoMemory` where there was none
+    /// for an item in this turn: a client that sends both at once isn't to have a commit stored
+    /// without its item.
     fn commit(&mut self, alloc: Global, commit: &Bytes) -> Result<Reply, Refusal>
         ensures { Answers K.may_fail self.old (request.Commit commit.now) (said result) self.new }
     {
@@ -152,6 +152,7 @@ impl<'a, N: BookName, K: Keeper, R: Wait> Worker<'a, N, K, R> {
         ensures { Answers K.may_fail self.old request.Give (said result) self.new }
     {
         self.book.give(self.rt, alloc, &mut self.seat)?;
+        self.lacks_item = false;
         Ok(Reply::Given)
     }
 
@@ -213,7 +214,9 @@ impl<'a, N: BookName, K: Keeper, R: Wait> Worker<'a, N, K, R> {
         ensures { Answers K.may_fail self.old (request.Put item.now) (said result) self.new }
     {
         let put = self.items.put(self.rt, alloc, item.as_slice());
-        self.lacks_item = self.lacks_item || put.is_err();
+        if let Err(Refusal::NoMemory) = put {
+            self.lacks_item = true;
+        }
         Ok(Reply::PutDone(put?))
     }
 

@@ -38,7 +38,10 @@ storing_says b c = (
   apart ((λ n is. absurd cc), (λ is. absurd cc)),
   (
     apart ((λ n is. absurd cc), (λ is. absurd cc)),
-    (apart ((λ n is. absurd cc), (λ is. absurd cc)), (apart ((λ n is. absurd cc), (λ is. absurd cc)), (apart ((λ n is. absurd cc), (λ is. absurd cc)), tt))),
+    (
+      apart ((λ n is. absurd cc), (λ is. absurd cc)),
+      (apart ((λ n is. absurd cc), (λ is. absurd cc)), (apart ((λ n is. absurd cc), (λ is. absurd cc)), (apart ((λ n is. absurd cc), (λ is. absurd cc)), tt))),
+    ),
   ),
 )
 

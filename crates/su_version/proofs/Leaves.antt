@@ -33,7 +33,7 @@ Bounds a cs = (q : ℕ) → IsNewLeaf (last_leaf a cs) q → AllByRecursion (Low
 
 own_leaf : (ro : Membership) (a : ℕ) (before : List Commit) (c : Commit) → MayBeNext ro before c → c.version.author ≡ a → IsNewLeaf (last_leaf a before) (leaf_of c.signature)
 unfolding tip
-own_leaf ro a before c next by = subst (λ b. IsNewLeaf (last_leaf b before) (leaf_of c.signature)) by next.follows.1.1.1.0
+own_leaf ro a before c next by = subst (λ b. IsNewLeaf (last_leaf b before) (leaf_of c.signature)) by next.follows.1.1.1.1.0
 
 bounds_more : (ro : Membership) (a : ℕ) (before : List Commit) (c : Commit) → MayBeNext ro before c → ((q : ℕ) → IsNewLeaf (last_leaf a before) q → AllByRecursion (LowerLeaf a q) before)
     → (b : Bool) → nat_eq c.version.author a ≡ b → (q : ℕ) → IsNewLeaf (cond b (Some (leaf_of c.signature)) (last_leaf a before)) q → AllByRecursion (LowerLeaf a q) (before ++ c ∷ [])

@@ -1,11 +1,12 @@
 -- What a commit that may come next in a chain has, by its name.
 use Rattle.std.proofs.Common.{◌≡◌, ℕ, true, List, refl}
 use Rattle.std.specs.Prelude.{Option, Some, None}
+use Rattle.su_bytes.specs.Format.{is_as_new}
 use Rattle.su_bytes.specs.Membership.{Membership, has_user}
 use Rattle.su_bytes.specs.RosterBytes.{user_key}
 use Rattle.su_bytes.proofs.Public.{key_listed}
 use Rattle.su_version.specs.Commit.{Commit}
-use Rattle.su_version.specs.Chain.{chain_head, chain_vector, tip, IsSignedBy, IsSignedByAuthor, CountsOn, MayBeNext}
+use Rattle.su_version.specs.Chain.{chain_head, chain_format, chain_vector, tip, IsSignedBy, IsSignedByAuthor, CountsOn, MayBeNext}
 
 -- a commit that its author signed is a user's
 pub signed_by_user : (ro : Membership) (c : Commit) → IsSignedByAuthor ro c → has_user ro c.version.author ≡ true
@@ -24,9 +25,13 @@ module _ (ro : Membership) (cs : List Commit) (c : Commit) (next : MayBeNext ro 
   unfolding tip
   next_prev = next.follows.1.0
 
+  pub next_format : is_as_new c.version.format (chain_format cs) ≡ true
+  unfolding tip
+  next_format = next.follows.1.1.0
+
   pub next_counts : CountsOn ro (chain_vector ro cs) c
   unfolding tip
-  next_counts = next.follows.1.1.0
+  next_counts = next.follows.1.1.1.0
 
   pub next_user : has_user ro c.version.author ≡ true
   next_user = signed_by_user ro c next_signed

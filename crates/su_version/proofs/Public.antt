@@ -4,4 +4,4 @@ pub use Rattle.su_version.proofs.CommitSpelling.{commit_of, commit_lawful, roste
 pub use Rattle.su_version.proofs.Chaining.{group_listed}
 pub use Rattle.su_version.proofs.Counting.{length-chain_vector}
 pub use Rattle.su_version.proofs.Leaves.{above_all, leaf_further, next_leaf}
-pub use Rattle.su_version.proofs.Nexts.{signed_by_user, next_signed, next_prev, next_counts, next_user}
+pub use Rattle.su_version.proofs.Nexts.{signed_by_user, next_signed, next_prev, next_format, next_counts, next_user}

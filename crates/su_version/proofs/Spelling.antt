@@ -2,7 +2,7 @@
 use Rattle.std.proofs.Common.{◌≡◌, ◌<◌, ◌≤◌, ◌+◌, ◌^◌, ℕ, true, List, [], ◌∷◌, ◌++◌, length, get_or, refl, sym, ap}
 use Rattle.std.specs.List.{flat_map, AllByRecursion}
 use Rattle.su_bytes.specs.declared.formats.Format.{Format as CommitFormat}
-use Rattle.su_bytes.specs.declared.formats.Format.TheVariants.{V1}
+use Rattle.su_bytes.specs.declared.formats.Format.TheVariants.{V1, V2}
 use Rattle.su_bytes.specs.Principal.{is_group}
 use Rattle.su_format.specs.Format.{part, IsLawful, EachFrom, IsFormatOf}
 use Rattle.su_format.specs.Part.{u8_bytes, u64_bytes}
@@ -54,6 +54,9 @@ vector_of =
 -- the first bytes tell the format
 format_told : (f g : CommitFormat) (rest behind : List ℕ) → AnyFormat f → AnyFormat g → first_bytes f ++ rest ≡ first_bytes g ++ behind → (f ≡ g) × (rest ≡ behind)
 format_told V1 V1 rest behind _ _ e = (refl, cc)
+format_told V1 V2 rest behind _ _ e = absurd cc
+format_told V2 V1 rest behind _ _ e = absurd cc
+format_told V2 V2 rest behind _ _ e = (refl, cc)
 
 pub first_bytes_lawful : IsLawful (part AnyFormat first_bytes)
 first_bytes_lawful = part_lawful AnyFormat first_bytes format_told
@@ -61,10 +64,12 @@ first_bytes_lawful = part_lawful AnyFormat first_bytes format_told
 -- there are four of them
 pub length-first_bytes : (f : CommitFormat) → length (first_bytes f) ≡ 4
 length-first_bytes V1 = refl
+length-first_bytes V2 = refl
 
 -- the second isn't that of a roster
 pub second_byte : (f : CommitFormat) (body behind : List ℕ) → get_or ((first_bytes f ++ body) ++ behind) 1 0 ≡ 86
 second_byte V1 body behind = refl
+second_byte V2 body behind = refl
 
 first_bytes_of : Makes format_part (λ f. f) AnyFormat first_bytes
 unfolding format_part

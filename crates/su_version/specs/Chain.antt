@@ -4,10 +4,13 @@ use Rattle.std.specs.Prelude.{◌≡◌, ◌<◌, ℕ, Bool, true, false, Option
 use Rattle.std.specs.List.{AllByRecursion}
 use Rattle.su_bytes.specs.Membership.{Membership, has_number}
 use Rattle.su_bytes.specs.Order.{Line, demand, Passes}
+use Rattle.su_bytes.specs.Format.{is_as_new}
+use Rattle.su_bytes.specs.declared.formats.Format.{Format}
+use Rattle.su_bytes.specs.declared.formats.Format.TheVariants.{V1}
 use Rattle.su_bytes.specs.declared.principals.Principal.{Principal}
 use Rattle.su_bytes.specs.declared.principals.Principal.TheVariants.{User, Group}
 use Rattle.su_bytes.specs.declared.refusals.Refusal.{Refusal}
-use Rattle.su_bytes.specs.declared.refusals.Refusal.TheVariants.{BadSignature, WrongPrev, WrongVector, KeyReuse}
+use Rattle.su_bytes.specs.declared.refusals.Refusal.TheVariants.{BadSignature, WrongPrev, OldFormat, WrongVector, KeyReuse}
 use Rattle.su_lms.specs.Signature.{IsSigned, leaf_of}
 use Rattle.su_vector.specs.Vector.{zeros, bump}
 use Rattle.su_version.specs.Version.{version_bytes}
@@ -32,6 +35,14 @@ last_vector v (c ∷ cs) = last_vector c.version.vector cs
 unfoldable pub chain_vector : Membership → List Commit → List ℕ
 chain_vector ro cs = last_vector (zeros ro) cs
 
+abbrev pub last_format : Format → List Commit → Format
+last_format f [] = f
+last_format f (c ∷ cs) = last_format c.version.format cs
+
+-- the format of the last commit, at first the oldest one
+unfoldable pub chain_format : List Commit → Format
+chain_format cs = last_format V1 cs
+
 abbrev pub later_leaf : ℕ → Option ℕ → List Commit → Option ℕ
 later_leaf a q [] = q
 later_leaf a q (c ∷ cs) =
@@ -45,6 +56,7 @@ last_leaf a cs = later_leaf a None cs
 pub record Tip : Type 0 where
   pub number : ℕ
   pub head : List ℕ
+  pub format : Format
   pub vector : List ℕ
   -- the user's key, and the leaf by which the user signed last
   pub key : Option (List ℕ)
@@ -54,6 +66,7 @@ unfoldable pub tip : Membership → List Commit → ℕ → Tip
 tip ro cs a = record {
   number = length cs;
   head = chain_head ro cs;
+  format = chain_format cs;
   vector = chain_vector ro cs;
   key = user_key ro a;
   leaf = last_leaf a cs;
@@ -88,11 +101,12 @@ IsNewLeaf None q = Unit {0}
 IsNewLeaf (Some last) q = last < q
 
 -- What a commit has to meet to follow a tip, in this order: it is signed under the key; it names
--- the commit before; its vector counts on; its leaf is new.
+-- the commit before; its format is as new as that one's; its vector counts on; its leaf is new.
 abbrev pub next_order : Membership → Tip → Commit → List (Line Refusal)
 next_order ro t c =
     demand (IsSignedBy t.key c) BadSignature
     ∷ demand (c.version.prev ≡ t.head) (WrongPrev t.number)
+    ∷ demand (is_as_new c.version.format t.format ≡ true) OldFormat
     ∷ demand (CountsOn ro t.vector c) WrongVector
     ∷ demand (IsNewLeaf t.leaf (leaf_of c.signature)) KeyReuse
     ∷ []

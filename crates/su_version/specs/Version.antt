@@ -3,7 +3,7 @@
 use Rattle.std.specs.Prelude.{◌≡◌, ◌≤◌, ◌<◌, ◌+◌, ◌^◌, ℕ, true, List, ◌∷◌, ◌++◌, length, codes}
 use Rattle.std.specs.List.{flat_map, AllByRecursion}
 use Rattle.su_bytes.specs.declared.formats.Format.{Format as CommitFormat}
-use Rattle.su_bytes.specs.declared.formats.Format.TheVariants.{V1}
+use Rattle.su_bytes.specs.declared.formats.Format.TheVariants.{V1, V2}
 use Rattle.su_bytes.specs.Principal.{is_user, is_group}
 use Rattle.su_format.specs.Format.{Format, part, making, ◌>>=◌, repeated, EachFrom}
 use Rattle.su_format.specs.Part.{u8_bytes, u64_bytes, u8_part, u64_part, user_part, digest_part}
@@ -50,6 +50,7 @@ group_bytes g = g.0 ∷ g.1
 -- the first bytes, which say what format the rest has
 abbrev pub first_bytes : CommitFormat → List ℕ
 first_bytes V1 = codes "SV01"
+first_bytes V2 = codes "SV02"
 
 -- the rest: author, prev, change, i-handle; how many groups, and each with its i-handle; how many
 -- numbers, and these

@@ -9,7 +9,7 @@ ghost use Rattle.su_bytes.specs.declared.refusals.Refusal.TheVariants.{NoMemory}
 use crate::commits::Commit;
 use std::alloc::Global;
 use std::marker::Model;
-use su_bytes::{Digest, FileId, Group, Principal, Refusal, Roster};
+use su_bytes::{Digest, FileId, Format, Group, Principal, Refusal, Roster};
 use su_lms::PublicKey;
 use su_vector::{Vector, are_numbers_after};
 
@@ -43,6 +43,7 @@ impl Verdict {
 pub struct Tip<'a> {
     number: u64,
     head: Digest,
+    format: Format,
     vector: &'a Vector,
     key: Option<PublicKey>,
     leaf: Option<u32>,
@@ -56,6 +57,7 @@ impl<'a> Model for Tip<'a> {
     ghost view = { λ t. record {
       number = t.number;
       head = t.head;
+      format = t.format;
       vector = t.vector.now;
       key = t.key;
       leaf = t.leaf;
@@ -64,11 +66,12 @@ impl<'a> Model for Tip<'a> {
 
 impl<'a> Tip<'a> {
     /// The tip of a chain of so many commits, with the digest of the last one (at first that of the
-    /// roster), its vector (at first zeros), the user's key, if there is such a user, and the leaf
-    /// by which the user signed the user's last commit.
+    /// roster), its format (at first the oldest), its vector (at first zeros), the user's key, if
+    /// there is such a user, and the leaf by which the user signed the user's last commit.
     pub fn new(
         number: u64,
         head: Digest,
+        format: Format,
         vector: &'a Vector,
         key: Option<PublicKey>,
         leaf: Option<u32>,
@@ -76,6 +79,7 @@ impl<'a> Tip<'a> {
         ensures { result ≡ record {
           number = number;
           head = head;
+          format = format;
           vector = vector.now;
           key = key;
           leaf = leaf;
@@ -84,6 +88,7 @@ impl<'a> Tip<'a> {
         Tip {
             number,
             head,
+            format,
             vector,
             key,
             leaf,
@@ -92,9 +97,10 @@ impl<'a> Tip<'a> {
 
     /// Checks whether a commit of that user may come next. `BadSignature` where there is no such
     /// user, or the signature isn't under the user's key; `WrongPrev` with the number of commits
-    /// where it names another one before it; `WrongVector` where it carries a group that isn't in
-    /// the roster, or its vector isn't the next; `KeyReuse` where its leaf isn't above the last;
-    /// `NoMemory`. It makes one check of a signature.
+    /// where it names another one before it; `OldFormat` where its format is older than that one's;
+    /// `WrongVector` where it carries a group that isn't in the roster, or its vector isn't the
+    /// next; `KeyReuse` where its leaf isn't above the last; `NoMemory`. It makes one check of a
+    /// signature.
     pub fn check(&self, alloc: Global, roster: &Roster, commit: &Commit) -> Result<(), Refusal>
         ensures follows { OnOk result (Passes (next_order roster.now self.now commit.now)) }
         ensures refused { IfErr result (λ e.
@@ -141,6 +147,9 @@ impl<'a> Tip<'a> {
         }
         if commit.version().prev() != self.head {
             return Err(Refusal::WrongPrev(self.number));
+        }
+        if !commit.version().format().is_as_new(self.format) {
+            return Err(Refusal::OldFormat);
         }
         if !counts_on(roster, principals.as_slice(), self.vector, commit) {
             return Err(Refusal::WrongVector);

@@ -19,6 +19,7 @@ fn first_bytes(format: Format) -> &'static [u8]
 {
     match format {
         Format::V1 => b"SV01",
+        Format::V2 => b"SV02",
     }
 }
 
@@ -29,6 +30,9 @@ pub fn format_of(bytes: &[u8]) -> Option<Format>
 {
     if bytes == first_bytes(Format::V1) {
         return Some(Format::V1);
+    }
+    if bytes == first_bytes(Format::V2) {
+        return Some(Format::V2);
     }
     None
 }

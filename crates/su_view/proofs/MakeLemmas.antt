@@ -3,6 +3,8 @@ use Rattle.std.proofs.Common.{◌≡◌, ◌≢◌, ℕ, ◌+◌, ◌<◌, ◌�
 use Rattle.std.specs.List.{filter, AllByRecursion}
 use Rattle.std.proofs.lemmas.List.{length-map, map-append}
 use Rattle.std.proofs.lemmas.Bool.{eq-eqb}
+use Rattle.su_bytes.specs.Format.{is_as_new}
+use Rattle.su_bytes.proofs.Public.{newest}
 use Rattle.su_bytes.specs.Membership.{Membership, has_number, has_user}
 use Rattle.su_bytes.specs.Principal.{principals}
 use Rattle.su_bytes.specs.declared.formats.TheConstants.{NEWEST_FORMAT}
@@ -32,7 +34,7 @@ use Rattle.su_lms.specs.ParameterSets.{chain_count}
 use Rattle.su_vector.specs.Vector.{bump}
 use Rattle.su_version.specs.Version.{Version, IsVersion, IsCarried}
 use Rattle.su_version.specs.Commit.{Commit, IsCommit}
-use Rattle.su_version.specs.Chain.{ChainAfter, IsChain, IsNewLeaf, IsSignedBy, last_leaf, tip, MayBeNext, chain_head}
+use Rattle.su_version.specs.Chain.{ChainAfter, IsChain, IsNewLeaf, IsSignedBy, last_leaf, tip, MayBeNext, chain_format, chain_head}
 use Rattle.su_legal.specs.Legal.{Committed, commits_of, entry_made, history, head_of, vector_of, tree_with, author_handle, group_handles, MayJoin, LegalAfter, Legal}
 use Rattle.su_legal.proofs.Public.{vector_counts, bump_counts, groups_listed}
 use Rattle.su_view.specs.Holding.{HoldingState}
@@ -100,6 +102,8 @@ module _ (v : HoldingState) (change : Change) (leaf : ℕ) (c : Commit) (legal :
       (
         ap (λ (s : Version). s.prev) made.version,
         (
+          ap (λ (s : Version). is_as_new s.format (chain_format (commits_of v.held))) made.version ∙ newest (chain_format (commits_of v.held)),
+          (
           record {
             groups = subst (λ (s : Version). AllByRecursion (λ (g : ℕ × List ℕ). has_number v.roster.groups g.0 ≡ true) s.groups) (sym made.version)
                 (groups_known v.roster (history v.held) (own_entry v change));
@@ -110,6 +114,7 @@ module _ (v : HoldingState) (change : Change) (leaf : ℕ) (c : Commit) (legal :
             subst (λ q. IsNewLeaf (last_leaf c.version.author (commits_of v.held)) q) (sym made.leaf_is)
                 (subst (λ (s : Version). IsNewLeaf (last_leaf s.author (commits_of v.held)) leaf) (sym made.version) new),
             tt,
+          ),
           ),
         ),
       ),

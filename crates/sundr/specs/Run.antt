@@ -50,7 +50,8 @@ IsCopiedLine text = (records new : ℕ) × (text ≡ copied_text records new)
 -- it comes after what was there, as it rests on what the server shows; a backup that ends well prints
 -- how many records the copy has and how many are new
 abbrev pub CarriesOut : Line → List ℕ → List ℕ → Option (List ℕ) → Status → Type 0
-CarriesOut (Desk users) input before after status = Prints users input before after status
+CarriesOut (Desk users format) input before after status =
+    Prints users format input before after status
 CarriesOut (Keygen entropy out params) input before after status =
     PrintsUnlessFault (IsPublicLine params) before after status
 CarriesOut (Audit log keys) input before after status =

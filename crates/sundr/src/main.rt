@@ -37,6 +37,7 @@ use std::sync::Wait;
 use std::thread::Threads;
 use std::{env, io};
 use su_arguments::{Line, LineFault, line_of};
+use su_bytes::Format;
 use su_client_lines::CLIENT_WORDS;
 use su_desk_script::{DESK_WORDS, Ending, Fault, Status, run_desk};
 use su_keygen::{KeygenFault, make_key};
@@ -86,7 +87,7 @@ where
         → CarriesOut line input before (W.contents writer.new) result }
 {
     match line {
-        Line::Desk { users } => run_script(rt, users, reader, writer),
+        Line::Desk { users, format } => run_script(rt, users, format, reader, writer),
         Line::Keygen {
             entropy,
             out,
@@ -107,19 +108,20 @@ where
     }
 }
 
-/// Runs a script on a new desk of `users` users, 1 to 64.
+/// Runs a script on a new desk of `users` users, 1 to 64, whose changes are made in that format.
 fn run_script<R: Read + Drop, W: Write>(
     rt: &HostRuntime,
     users: u8,
+    format: Format,
     reader: R,
     writer: &mut W,
 ) -> Status
     requires { (1 ≤ users) × (users ≤ 64) }
     ensures { (input before : List ℕ)
         → R.remaining reader ≡ Some input → W.contents writer.old ≡ Some before
-        → Prints users input before (W.contents writer.new) result }
+        → Prints users format input before (W.contents writer.new) result }
 {
-    let ending = run_desk(rt.alloc(), reader, writer, users);
+    let ending = run_desk(rt.alloc(), reader, writer, users, format);
     tell_ending(rt, &ending);
     ending.status()
 }

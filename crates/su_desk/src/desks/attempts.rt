@@ -42,6 +42,9 @@ impl Desk {
             ⊎ (answer self.old.roster self.old.history (entry_by author format change) ≡ Err e)) }
         ensures err { OnErr result (self.new ≡ self.old) }
     {
+        if let Some(refusal) = self.format_refusal(format, &change) {
+            return Err(refusal);
+        }
         let versions = Vec::from_slice(self.alloc, self.counters.as_slice())?;
         match change {
             Change::Do(op) => {
