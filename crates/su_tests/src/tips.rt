@@ -3,7 +3,7 @@
 use crate::clients::{push_counted, signer};
 use std::alloc::{AllocError, Global};
 use std::test::Fail;
-use su_bytes::{Digest, FileId, KEY_LENGTH, Refusal, Roster, User};
+use su_bytes::{Digest, FileId, Format, KEY_LENGTH, Refusal, Roster, User};
 use su_lms::PublicKey;
 use su_vector::Vector;
 use su_version::{Commit, Tip};
@@ -73,13 +73,14 @@ impl Signed {
         self.commit.version().author()
     }
 
-    /// Checks it as the first commit behind HEAD, where its author signed last by this leaf.
-    fn check(&self, alloc: Global, leaf: Option<u32>) -> Result<(), Refusal> {
+    /// Checks it as the commit behind HEAD, one of that format, where its author signed last by this
+    /// leaf.
+    fn check(&self, alloc: Global, format: Format, leaf: Option<u32>) -> Result<(), Refusal> {
         // names the type for the prover (docs/ARCHITECTURE.md, "Forms the kit wants")
         let _file: Option<FileId> = None;
         let key = key_of(&self.roster, self.commit.version().author())?;
         let zeros = Vector::new(vec![in alloc; 0; 4]?);
-        let tip = Tip::new(0, Digest::new(HEAD), &zeros, key, leaf);
+        let tip = Tip::new(0, Digest::new(HEAD), format, &zeros, key, leaf);
         tip.check(alloc, &self.roster, &self.commit)
     }
 }
@@ -88,7 +89,9 @@ impl Signed {
 fn a_commit_follows_once(rt: HostRuntime) -> Result<(), Fail> {
     let signed = first_commit(rt.alloc())?;
     assert_eq!(rt; signed.author(), User::FIRST);
-    assert_eq!(rt; signed.check(rt.alloc(), None), Ok(()));
-    assert_eq!(rt; signed.check(rt.alloc(), Some(0)), Err(Refusal::KeyReuse));
+    let alloc = rt.alloc();
+    assert_eq!(rt; signed.check(alloc, Format::V1, None), Ok(()));
+    assert_eq!(rt; signed.check(alloc, Format::V1, Some(0)), Err(Refusal::KeyReuse));
+    assert_eq!(rt; signed.check(alloc, Format::V2, None), Err(Refusal::OldFormat));
     Ok(())
 }

@@ -185,7 +185,7 @@ fn a_wrong_handle_is_named(rt: HostRuntime) -> Result<(), Fail> {
 fn wrong_handle(alloc: Global, author: &Client) -> Result<Vec<u8>, Fail> {
     let commit = author.commit_at(alloc, 1)?;
     let mut bytes = commit.version().encode(alloc)?;
-    // behind `SV01`, the author, three digests, the count of groups and the group
+    // behind the first four, the author, three digests, the count of groups and the group
     let byte = bytes.as_mut_slice().get_mut(103).ok_or("short")?;
     *byte ^= 1;
     let signature = signer(alloc, 0)?.sign(&bytes)?;
