@@ -2,6 +2,7 @@
 use Rattle.std.proofs.Common.{◌≡◌, ℕ, true, cond, List, [], ◌∷◌, ◌++◌, None, Some, refl, sym, ap, ◌∙◌, append_assoc, append-nil}
 use Rattle.std.specs.Option.{option_or, unwrap_or}
 use Rattle.std.proofs.lemmas.Bool.{eq-eqb}
+use Rattle.su_bytes.specs.Format.{is_as_new}
 use Rattle.su_bytes.specs.Membership.{Membership, has_user}
 use Rattle.su_bytes.specs.declared.formats.Format.{Format}
 use Rattle.su_bytes.specs.declared.refusals.Refusal.TheVariants.{NotAuthor}
@@ -11,11 +12,12 @@ use Rattle.su_op.specs.Rule.{Plan}
 use Rattle.su_op.specs.Operation.{rule_of, why}
 use Rattle.su_op.proofs.Public.{Gives, gives_of, none_is}
 use Rattle.su_desk.specs.declared.entries.Entry.{Entry}
-use Rattle.su_desk.specs.History.{NumberedAction, undo_by, undos, live, replay, tree, entry_at, last_number, last_live}
+use Rattle.su_desk.specs.History.{NumberedAction, format_after, undo_by, undos, live, replay, tree, entry_at, last_number, last_live}
 use Rattle.su_desk.specs.Applied.{tree_after}
 use Rattle.su_desk.specs.Blocker.{blocker}
 use Rattle.su_desk.specs.Answer.{author_refusal, blocked_refusal, undo_refusal, Good, GoodAfter}
 use Rattle.su_desk.specs.Headline.{Headline}
+use Rattle.su_desk.proofs.FormatLemmas.{by_change, undo_fits, undos_as_new}
 use Rattle.su_desk.proofs.VersionNumbers.{never_falls}
 use Rattle.su_desk.proofs.Blockers.{latest_free, named_exact, free_exact}
 use Rattle.su_desk.proofs.LiveNumbers.{live_alone, by_blocker_alone}
@@ -54,25 +56,29 @@ last_accepted ro h T r ts t is =
     let last : last_live h ≡ t.number = ap (λ us. unwrap_or (last_number us) 0) is ∙ ap (λ o. unwrap_or o 0) (last_number-append ts t) in
     refused_by_blocker ro h T r ts [] t is ∙ ap blocked_refusal (ap (blocker ro h) (sym last) ∙ latest_free ro h)
 
--- so can all behind a point, and then those before it are left
-record ComeBack (ro : Membership) (h : List Entry) (f : Format) (ts us : List NumberedAction) : Type 0 where
-  good : GoodAfter ro h (undos f us)
-  left : live (h ++ undos f us) ≡ ts
-
-come_back : (ro : Membership) (h : List Entry) → HasTree ro h → (f : Format) (ts us : List NumberedAction) → live h ≡ ts ++ us → ComeBack ro h f ts us
-come_back ro h r f ts [] is = record { good = tt; left = ap live (append-nil h) ∙ is ∙ append-nil ts }
-come_back ro h r f ts (t ∷ us) is =
+-- where all behind a point are undone, those before it are left
+left : (h : List Entry) (f : Format) (ts us : List NumberedAction) → live h ≡ ts ++ us → live (h ++ undos f us) ≡ ts
+left h f ts [] is = ap live (append-nil h) ∙ is ∙ append-nil ts
+left h f ts (t ∷ us) is =
     let e : Entry = undo_by t.action.author f t.number in
-    let b = come_back ro h r f (ts ++ t ∷ []) us (is ∙ sym (append_assoc ts (t ∷ []) us)) in
-    let q = good_after ro h (undos f us) r b.good in
-    record {
-      good = good_further_after ro h (undos f us) e b.good (last_accepted ro (h ++ undos f us) q.state q.replayed ts t b.left);
-      left = ap live (sym (append_assoc h (undos f us) (e ∷ []))) ∙ undone_out (h ++ undos f us) ts [] t t.action.author f b.left ∙ append-nil ts;
-    }
+    ap live (sym (append_assoc h (undos f us) (e ∷ [])))
+    ∙ undone_out (h ++ undos f us) ts [] t t.action.author f (left h f (ts ++ t ∷ []) us (is ∙ sym (append_assoc ts (t ∷ []) us))) ∙ append-nil ts
+
+-- and they can be, in a format as new as the last entry's
+come_back : (ro : Membership) (h : List Entry) → HasTree ro h → (f : Format) (ts us : List NumberedAction) → is_as_new f (format_after h) ≡ true → live h ≡ ts ++ us → GoodAfter ro h (undos f us)
+come_back ro h r f ts [] new is = tt
+come_back ro h r f ts (t ∷ us) new is =
+    let e : Entry = undo_by t.action.author f t.number in
+    let before = is ∙ sym (append_assoc ts (t ∷ []) us) in
+    let good = come_back ro h r f (ts ++ t ∷ []) us new before in
+    let q = good_after ro h (undos f us) r good in
+    let fits = undo_fits (h ++ undos f us) f t.number (undos_as_new h f us new) in
+    good_further_after ro h (undos f us) e good
+    (by_change ro (h ++ undos f us) e fits ∙ last_accepted ro (h ++ undos f us) q.state q.replayed ts t (left h f (ts ++ t ∷ []) us before))
 
 point_tree : (ro : Membership) (h : List Entry) (f : Format) (ts us : List NumberedAction) → live (h ++ undos f us) ≡ ts → tree ro (h ++ undos f us) ≡ replay ro genesis ts
 unfolding tree
-point_tree ro h f ts us left = ap (replay ro genesis) left
+point_tree ro h f ts us is = ap (replay ro genesis) is
 
 undone_tree : (ro : Membership) (h : List Entry) (before after : List NumberedAction) (t : NumberedAction) (a : ℕ) (f : Format) → live h ≡ before ++ t ∷ after → tree ro (h ++ undo_by a f t.number ∷ []) ≡ replay ro genesis (before ++ after)
 unfolding tree
@@ -89,8 +95,8 @@ headline_of ro h T good is =
       as_applied = goes_in_replay ro h T r;
       rising = never_falls ro h;
       latest = latest_free ro h;
-      accepted = λ f ts us whole. (come_back ro h has f ts us whole).good;
-      every_point = λ f ts us whole. point_tree ro h f ts us (come_back ro h has f ts us whole).left;
+      accepted = come_back ro h has;
+      every_point = λ f ts us whole. point_tree ro h f ts us (left h f ts us whole);
       out = undone_out h;
       undone = undone_tree ro h;
       taken_out = can_be_taken_out ro h T r;

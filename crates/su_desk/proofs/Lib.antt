@@ -1,3 +1,4 @@
+pub mod FormatLemmas
 pub mod Operations
 pub mod LiveNumbers
 pub mod VersionNumbers

@@ -23,6 +23,7 @@ use Rattle.su_desk.specs.declared.entries.Entry.{Entry}
 use Rattle.su_desk.specs.History.{NumberedAction, actions, entry_doing, action_of, undo_by, is_undone, live, replay, tree}
 use Rattle.su_desk.specs.Applied.{tree_after, GoesAsApplied}
 use Rattle.su_desk.specs.Blocker.{blocker}
+use Rattle.su_desk.proofs.FormatLemmas.{change_accepted}
 use Rattle.su_desk.specs.Answer.{refusal_by_change, refusal_of, live_refusal, Good, GoodAfter}
 use Rattle.su_desk.proofs.Operations.{Rising, rising_live, one_taken_out, is_undone-append, live-do, live-undo}
 use Rattle.su_desk.proofs.WhereApplied.{InReplay, AllInReplay, entry_within, replay_reached, goes_beside, all_further, all_added, in_replay_now, written_of}
@@ -162,7 +163,7 @@ next_undo ro h T a f n r lives free =
     }
 
 next : (ro : Membership) (h : List Entry) (e : Entry) → HasTree ro h → refusal_of ro h e ≡ None → HasTree ro (h ++ e ∷ [])
-next ro h e r = go e.change
+next ro h e r accepted = go e.change (change_accepted ro h e accepted)
   where
     go : (c : Change) → refusal_by_change ro h e c ≡ None → HasTree ro (h ++ record e { change = c } ∷ [])
     go (Do op) accepted =

@@ -9,6 +9,7 @@ use Rattle.su_bytes.specs.declared.refusals.Refusal.TheVariants.{NoMemory}
 use Rattle.su_table.specs.Tree.{Tree, genesis}
 use Rattle.su_inverse.specs.Kept.{IsPutBack}
 use Rattle.su_op.specs.Action.{Action}
+use Rattle.su_op.specs.declared.operations.Change.TheVariants.{Do, Undo}
 use Rattle.su_op.specs.Operation.{why}
 use Rattle.su_desk.specs.declared.entries.Entry.{Entry}
 use Rattle.su_desk.specs.History.{entry_doing, undo_by, tree, last_live}
@@ -18,7 +19,8 @@ use Rattle.su_desk.specs.Applied.{written_by}
 use Rattle.su_desk.specs.Keeping.{Keeps, IsIndexOf}
 use Rattle.su_desk.proofs.KeptOperations.{keeps_undo, written_there, last_kept, none_kept}
 use Rattle.su_desk.proofs.KeptIndexes.{split_at}
-use Rattle.su_desk.specs.Answer.{undo_refusal, refusal_of, reply, answer}
+use Rattle.su_desk.proofs.FormatLemmas.{by_change}
+use Rattle.su_desk.specs.Answer.{format_refusal, undo_refusal, refusal_of, reply, answer}
 
 pub answer_done : (ro : Membership) (h : List Entry) (e : Entry) → refusal_of ro h e ≡ None → answer ro h e ≡ Ok (length h + 1)
 unfolding answer
@@ -42,9 +44,13 @@ pub passed_on : (d : DeskState) (e : Entry) (r : Result ℕ Refusal) (x : Refusa
 passed_on d e (Ok n) x is why = absurd is
 passed_on d e (Err r) x is why = (⊎_elim (λ m. inl (is ∙ m)) (λ f. inr (f ∙ ap Err (sym is))) why, refl)
 
--- an operation is answered from the tree
-pub refusal_of-do : (ro : Membership) (h : List Entry) (T : Tree) (x : Action) → tree ro h ≡ Some T → refusal_of ro h (entry_doing x) ≡ why ro T x
-refusal_of-do ro h T x e = ap (λ o. why ro (unwrap_or o genesis) x) e
+-- an operation in a format that fits is answered from the tree
+pub refusal_of-do : (ro : Membership) (h : List Entry) (T : Tree) (x : Action) → format_refusal h x.format (Do x.op) ≡ None → tree ro h ≡ Some T → refusal_of ro h (entry_doing x) ≡ why ro T x
+refusal_of-do ro h T x fits e = by_change ro h (entry_doing x) fits ∙ ap (λ o. why ro (unwrap_or o genesis) x) e
+
+-- an undo in a format that fits is refused as undos are
+pub refusal_of-undo : (ro : Membership) (h : List Entry) (a : ℕ) (f : Format) (n : ℕ) → format_refusal h f (Undo n) ≡ None → refusal_of ro h (undo_by a f n) ≡ undo_refusal ro h a n
+refusal_of-undo ro h a f n fits = by_change ro h (undo_by a f n) fits
 
 -- a list ends with its last element
 ends_at : {A : Type 0} (xs : List A) (n : ℕ) (x : A) → length xs ≡ suc n → slice_get xs n ≡ Some x → xs ≡ take n xs ++ x ∷ []

@@ -1,9 +1,10 @@
-use Rattle.std.proofs.Common.{ℕ, ◌≡◌, ◌∙◌, ◌+◌, ◌++◌, ◌∷◌, [], sym, refl, ap, subst, inr, Ok, Err, length, length-append, List, arith, take, drop, ◌<◌, ◌^◌}
+use Rattle.std.proofs.Common.{ℕ, ◌≡◌, ◌∙◌, ◌+◌, ◌++◌, ◌∷◌, [], sym, refl, ap, subst, inr, None, Ok, Err, length, length-append, List, arith, take, drop, ◌<◌, ◌^◌}
 use Rattle.su_op.specs.Action.{action_by}
 use Rattle.su_op.specs.Area.{has}
 use Rattle.su_desk.specs.declared.entries.Entry.{Entry}
 use Rattle.su_desk.specs.History.{entry_doing}
-use Rattle.su_desk.specs.Answer.{answer}
+use Rattle.su_op.specs.declared.operations.Change.TheVariants.{Do}
+use Rattle.su_desk.specs.Answer.{format_refusal, answer}
 use Rattle.su_desk.specs.Desk.{DeskState, with_entry}
 use Rattle.su_desk.specs.Keeping.{Keeps}
 use Rattle.std.specs.Option.{unwrap_or}
@@ -47,12 +48,13 @@ invariant_of-self-2 c =
 
 pub returns : goal.returns
 returns c =
+    let fits = subst (λ d. format_refusal d.history c.args.format (Do c.args.op) ≡ None) (sym c.self.view_is) c.requires in
     let s = c.self.inside in
     let entries = c.push_reserved.ensures.items ∙ ap (λ h. h ++ entry_doing (action_by c.args.author c.args.format c.args.op) ∷ []) c.in_ok-reserve.ensures.items in
     let number : length s.entries.items + 1 ≡ c.len-number.result = omega (arith, c.len-number.ensures, c.push_reserved.new.self.ok.0, ap length entries, length-append s.entries.items (entry_doing (action_by c.args.author c.args.format c.args.op) ∷ [])) in
     let seen : List Entry → DeskState = λ h. record { roster = s.roster; history = h } in (
       subst (λ d. answer d.roster d.history (entry_doing (action_by c.args.author c.args.format c.args.op)) ≡ Ok c.len-number.result) c.self.view_is
-          (answer_done _ _ _ (refusal_of-do s.roster s.entries.items s.forest (action_by c.args.author c.args.format c.args.op) (tree_kept _ _ _ _ c.self.invariant.0) ∙ c.in-Ok.ensures.accepted) ∙ ap Ok number),
+          (answer_done _ _ _ (refusal_of-do s.roster s.entries.items s.forest (action_by c.args.author c.args.format c.args.op) fits (tree_kept _ _ _ _ c.self.invariant.0) ∙ c.in-Ok.ensures.accepted) ∙ ap Ok number),
       ap seen entries ∙ ap (λ d. with_entry d (entry_doing (action_by c.args.author c.args.format c.args.op))) c.self.view_is,
     )
 
@@ -63,9 +65,10 @@ build-requires c =
 
 pub returns-in-Err : goal.returns-in-Err
 returns-in-Err c =
+    let fits = subst (λ d. format_refusal d.history c.args.format (Do c.args.op) ≡ None) (sym c.self.view_is) c.requires in
     let s = c.self.inside in (
       inr (subst (λ d. answer d.roster d.history (entry_doing (action_by c.args.author c.args.format c.args.op)) ≡ Err c.in-Err.refusal) c.self.view_is
-          (answer_refused _ _ _ _ (refusal_of-do s.roster s.entries.items s.forest (action_by c.args.author c.args.format c.args.op) (tree_kept _ _ _ _ c.self.invariant.0) ∙ c.in-Err.ensures.refused))),
+          (answer_refused _ _ _ _ (refusal_of-do s.roster s.entries.items s.forest (action_by c.args.author c.args.format c.args.op) fits (tree_kept _ _ _ _ c.self.invariant.0) ∙ c.in-Err.ensures.refused))),
       refl,
     )
 

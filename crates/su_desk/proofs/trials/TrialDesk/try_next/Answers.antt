@@ -7,7 +7,9 @@ use Rattle.su_desk.specs.Desk.{DeskState}
 use Rattle.su_desk.specs.History.{entry_doing}
 use Rattle.su_desk.specs.Trial.{tree_of, tree_with_ready}
 use Rattle.su_desk.proofs.StandingReady.{Stand, stand, stands_more, seen_so, fits_so}
-use Rattle.su_desk.proofs.RehearsalLemmas.{effect_done, why_refused}
+use Rattle.su_desk.proofs.RehearsalLemmas.{effect_done, why_accepted, why_refused}
+use Rattle.su_op.specs.declared.operations.Change.TheVariants.{Do}
+use Rattle.su_desk.proofs.FormatLemmas.{newest_fits}
 use Rattle.su_desk.proofs.TrialLemmas.{refused_by}
 use Rattle.su_desk.proofs.trials.TrialDesk.try_next.Goals as goal
 
@@ -31,7 +33,7 @@ returns-in_err-tried-clause-refused c =
     let same : c.in_ok-clone.field-0 ≡ c.args.operation.now = search rules in
     refused_by (λ e. (e ≡ NoMemory) ⊎ (why v.settled.roster (tree_with_ready v) (action_by a NEWEST_FORMAT c.args.operation.now) ≡ Some e)) c.from_residual-in_err-tried.result x c.from_residual-in_err-tried.ensures.1
     (⊎_elim (λ none. inl none)
-    (λ refused. inr (sym (ap (λ (d : DeskState). why d.roster (tree_of d) (action_by a NEWEST_FORMAT c.args.operation.now)) there.whole) ∙ sym (ap (λ op. why s.desk.roster (tree_of s.desk) (action_by a NEWEST_FORMAT op)) same) ∙ why_refused s.desk (action_by a NEWEST_FORMAT c.in_ok-clone.field-0) x refused))
+    (λ refused. inr (sym (ap (λ (d : DeskState). why d.roster (tree_of d) (action_by a NEWEST_FORMAT c.args.operation.now)) there.whole) ∙ sym (ap (λ op. why s.desk.roster (tree_of s.desk) (action_by a NEWEST_FORMAT op)) same) ∙ why_refused s.desk (action_by a NEWEST_FORMAT c.in_ok-clone.field-0) x (newest_fits s.desk.history (Do c.in_ok-clone.field-0)) refused))
     c.in_err-tried.ensures.refused)
 
 pub invariant_of-self-2 : goal.invariant_of-self-2
@@ -48,6 +50,6 @@ returns-clause-effect c =
     ap tree_with_ready (seen_so _ _ _ (more c))
     ∙ ap tree_of (sym (more c).whole)
     ∙ ap tree_of c.in_ok-tried.ensures.done
-    ∙ effect_done s.desk (action_by a NEWEST_FORMAT op) c.in_ok-tried.ensures.good c.in_ok-tried.ensures.accepted
+    ∙ effect_done s.desk (action_by a NEWEST_FORMAT op) c.in_ok-tried.ensures.good (why_accepted s.desk (action_by a NEWEST_FORMAT op) c.in_ok-tried.ensures.accepted)
     ∙ ap (λ op. effect s.desk.roster (tree_of s.desk) (action_by a NEWEST_FORMAT op)) same
     ∙ ap (λ (d : DeskState). effect d.roster (tree_of d) (action_by a NEWEST_FORMAT c.args.operation.now)) there.whole
