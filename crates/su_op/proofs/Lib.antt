@@ -12,6 +12,7 @@ pub mod TruncateLemmas
 pub mod TakeLemmas
 pub mod LinkLemmas
 pub mod RenameLemmas
+pub mod DropBodyLemmas
 pub mod StoreLemmas
 pub mod SoundnessLemmas
 pub mod Public

@@ -13,7 +13,7 @@ use Rattle.su_node.specs.Field.{Field.KindOf, Value.Nothing, Value.AKind, Value.
 use Rattle.su_table.specs.Cell.{Cell, Cell.At, Cell.Pointer, place_value, val}
 use Rattle.su_table.specs.Edit.{edits}
 use Rattle.su_op.specs.declared.operations.Op.{Op}
-use Rattle.su_op.specs.declared.operations.Op.TheVariants.{Create, Unlink, Write, Truncate, Take, Link, Rename}
+use Rattle.su_op.specs.declared.operations.Op.TheVariants.{Create, Unlink, Write, Truncate, Take, Link, Rename, Drop}
 use Rattle.su_op.specs.Area.{in_area, has}
 use Rattle.su_op.specs.Rule.{Plan, refusal, plan_of, plan_reads, plan_writes}
 use Rattle.su_op.specs.Operation.{rule_by_user, rule_of, Row, why, effect, reads, writes}
@@ -33,6 +33,7 @@ use Rattle.su_op.proofs.TruncateLemmas.{truncate_admissible}
 use Rattle.su_op.proofs.TakeLemmas.{take_admissible}
 use Rattle.su_op.proofs.LinkLemmas.{link_admissible}
 use Rattle.su_op.proofs.RenameLemmas.{rename_admissible}
+use Rattle.su_op.proofs.DropBodyLemmas.{drop_admissible}
 use Rattle.std.proofs.lemmas.Bool.{or_right}
 
 -- ---- operations
@@ -46,6 +47,7 @@ admissible (Truncate t) = truncate_admissible t
 admissible (Take t) = take_admissible t
 admissible (Link l) = link_admissible l
 admissible (Rename r) = rename_admissible r
+admissible (Drop d) = drop_admissible d
 
 pub row_of : (op : Op) → Row op
 row_of op = (admissible op).row

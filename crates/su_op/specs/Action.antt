@@ -1,7 +1,11 @@
--- An action: what a user does to the tree, and in which format.
+-- An action: what a user does to the tree, and in which format; and which formats have it.
 use Rattle.std.specs.Prelude.{ℕ}
 use Rattle.su_bytes.specs.declared.formats.Format.{Format}
+use Rattle.su_bytes.specs.declared.formats.Format.TheVariants.{V1, V2}
 use Rattle.su_op.specs.declared.operations.Op.{Op}
+use Rattle.su_op.specs.declared.operations.Op.TheVariants.{Drop}
+use Rattle.su_op.specs.declared.operations.Change.{Change}
+use Rattle.su_op.specs.declared.operations.Change.TheVariants.{Do, Undo}
 
 -- an operation by a user, made in a format
 pub record Action : Type 0 where
@@ -12,3 +16,15 @@ pub record Action : Type 0 where
 -- that operation, by that user, in that format
 abbrev pub action_by : ℕ → Format → Op → Action
 action_by a format op = record { author = a; format = format; op = op }
+
+-- ---- formats
+
+-- the oldest format that has the operation
+abbrev pub oldest_format : Op → Format
+oldest_format (Drop d) = V2
+oldest_format _ = V1
+
+-- the oldest format that has the change; each has an undo
+abbrev pub change_format : Change → Format
+change_format (Do op) = oldest_format op
+change_format (Undo n) = V1

@@ -11,6 +11,7 @@ pub mod Truncate
 pub mod Take
 pub mod Link
 pub mod Rename
+pub mod DropBody
 pub mod Action
 pub mod Operation
 pub mod Soundness

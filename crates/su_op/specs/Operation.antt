@@ -7,7 +7,7 @@ use Rattle.su_table.specs.Tree.{Tree}
 use Rattle.su_table.specs.Edit.{edits}
 use Rattle.su_op.specs.declared.areas.Area.{Area}
 use Rattle.su_op.specs.declared.operations.Op.{Op}
-use Rattle.su_op.specs.declared.operations.Op.TheVariants.{Create, Unlink, Write, Truncate, Take, Link, Rename}
+use Rattle.su_op.specs.declared.operations.Op.TheVariants.{Create, Unlink, Write, Truncate, Take, Link, Rename, Drop}
 use Rattle.su_op.specs.declared.operations.Accepted.{Accepted}
 use Rattle.su_op.specs.declared.operations.Accepted.TheVariants as accepted
 use Rattle.su_op.specs.Action.{Action}
@@ -19,6 +19,7 @@ use Rattle.su_op.specs.Truncate.{truncate_rule, accepted_truncate_plan, Truncate
 use Rattle.su_op.specs.Take.{take_rule, accepted_take_plan, TakeFits, TakeRow}
 use Rattle.su_op.specs.Link.{link_rule, accepted_link_plan, LinkFits, LinkRow}
 use Rattle.su_op.specs.Rename.{rename_rule, accepted_rename_plan, RenameRow}
+use Rattle.su_op.specs.DropBody.{drop_rule, accepted_drop_plan, DropRow}
 
 -- the rule of an action by one of the users, by cases over its operation
 abbrev pub rule_by_user : Membership → Tree → Action → Op → Rule
@@ -29,6 +30,7 @@ rule_by_user ro T x (Truncate t) = truncate_rule ro T x.author x.format t
 rule_by_user ro T x (Take t) = take_rule ro T x.author t
 rule_by_user ro T x (Link l) = link_rule ro T x.author l
 rule_by_user ro T x (Rename r) = rename_rule ro T x.author r
+rule_by_user ro T x (Drop d) = drop_rule T x.author d
 
 -- the rule of an action, whose author has to be a user
 abbrev pub rule_of : Membership → Tree → Action → Rule
@@ -43,6 +45,7 @@ accepted_plan T (accepted.Truncate x) = accepted_truncate_plan x
 accepted_plan T (accepted.Take x) = accepted_take_plan T x
 accepted_plan T (accepted.Link x) = accepted_link_plan x
 accepted_plan T (accepted.Rename x) = accepted_rename_plan x
+accepted_plan T (accepted.Drop x) = accepted_drop_plan x
 
 -- what its check found, as far as it matters, holds in T
 abbrev pub StillFits : Tree → Accepted → Type 0
@@ -53,6 +56,7 @@ StillFits T (accepted.Truncate x) = TruncateFits T x
 StillFits T (accepted.Take x) = TakeFits T x
 StillFits T (accepted.Link x) = LinkFits T x
 StillFits T (accepted.Rename x) = ⊤
+StillFits T (accepted.Drop x) = ⊤
 
 -- The table of cells, by operations: what each reads besides what it writes, and what it writes.
 -- The places are those of the bodies of the files that it names.
@@ -64,6 +68,7 @@ Row (Truncate t) = TruncateRow t
 Row (Take t) = TakeRow t
 Row (Link l) = LinkRow l
 Row (Rename r) = RenameRow r
+Row (Drop d) = DropRow d
 
 -- ---- what an action is and does in T
 

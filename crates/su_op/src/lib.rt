@@ -4,6 +4,7 @@
 mod access;
 mod areas;
 mod create;
+mod drop_body;
 mod footprints;
 mod laws;
 mod limits;
@@ -18,6 +19,7 @@ mod write;
 
 pub use areas::{Area, BlockRun, Part};
 pub use create::Create;
+pub use drop_body::{DropBody, stale_home};
 pub use footprints::Footprint;
 pub use laws::{kinds_change_whole, operations_are_local, table_of_cells};
 pub use limits::{LARGEST_WRITE, MOST_LINKS, largest_file};

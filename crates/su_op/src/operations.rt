@@ -3,11 +3,12 @@ ghost use Rattle.std.specs.Prelude.{◌≡◌, ◌⊎◌, Some, None, IfOk, IfEr
 ghost use Rattle.su_table.specs.Tree.{Tree};
 ghost use Rattle.su_table.specs.Edit.{edits};
 ghost use Rattle.su_op.specs.Rule.{plan_reads, plan_writes};
-ghost use Rattle.su_op.specs.Action.{action_by};
+ghost use Rattle.su_op.specs.Action.{action_by, oldest_format, change_format};
 ghost use Rattle.su_op.specs.Operation.{why, effect, reads, writes, accepted_plan, StillFits};
 ghost use Rattle.su_bytes.specs.declared.refusals.Refusal.TheVariants.{NoMemory};
 
 use crate::create::{AcceptedCreate, Create};
+use crate::drop_body::{AcceptedDrop, DropBody};
 use crate::footprints::Footprint;
 use crate::link::{AcceptedLink, Link};
 use crate::rename::{AcceptedRename, Rename};
@@ -29,6 +30,7 @@ pub enum Op {
     Take(Take),
     Link(Link),
     Rename(Rename),
+    Drop(DropBody),
 }
 
 /// An operation that its check accepted, with what the check found, so that nothing is looked up
@@ -42,6 +44,7 @@ pub enum Accepted<'a> {
     Take(AcceptedTake<'a>),
     Link(AcceptedLink<'a>),
     Rename(AcceptedRename<'a>),
+    Drop(AcceptedDrop<'a>),
 }
 
 /// What an entry of the history does: an operation, or the undo of the operation with that number.
@@ -90,6 +93,29 @@ impl Op {
             Op::Take(take) => take.check(forest, roster, author),
             Op::Link(link) => link.check(forest, roster, author),
             Op::Rename(rename) => rename.check(forest, roster, author),
+            Op::Drop(dropped) => dropped.check(forest, author),
+        }
+    }
+
+    /// Returns the oldest format that has the operation.
+    pub fn oldest_format(&self) -> Format
+        ensures { result ≡ oldest_format self.now }
+    {
+        match self {
+            Op::Drop(_) => Format::V2,
+            _ => Format::V1,
+        }
+    }
+}
+
+impl Change {
+    /// Returns the oldest format that has the change. Each format has an undo.
+    pub fn oldest_format(&self) -> Format
+        ensures { result ≡ change_format self.now }
+    {
+        match self {
+            Change::Do(op) => op.oldest_format(),
+            Change::Undo(_) => Format::V1,
         }
     }
 }
@@ -111,6 +137,7 @@ impl Accepted<'_> {
             Accepted::Take(take) => take.footprint(alloc),
             Accepted::Link(link) => link.footprint(alloc),
             Accepted::Rename(rename) => rename.footprint(alloc),
+            Accepted::Drop(dropped) => dropped.footprint(alloc),
         }
     }
 
@@ -134,6 +161,10 @@ impl Accepted<'_> {
             Accepted::Take(take) => take.perform(forest),
             Accepted::Link(link) => link.perform(forest),
             Accepted::Rename(rename) => rename.perform(forest),
+            Accepted::Drop(dropped) => {
+                dropped.perform(forest);
+                Ok(())
+            }
         }
     }
 }
