@@ -4,7 +4,7 @@ use Rattle.std.proofs.lemmas.Bool.{eqb-true}
 use Rattle.std.specs.Prelude.{Result, Ok, Err}
 use Rattle.su_bytes.specs.declared.refusals.Refusal.{Refusal}
 use Rattle.su_bytes.specs.declared.refusals.Refusal.TheVariants.{NoMemory}
-use Rattle.su_op.specs.declared.operations.Op.TheVariants.{Create, Unlink, Write, Truncate, Take, Link, Rename}
+use Rattle.su_op.specs.declared.operations.Op.TheVariants.{Create, Unlink, Write, Truncate, Take, Link, Rename, Drop}
 use Rattle.su_op.specs.declared.operations.Change.{Change}
 use Rattle.su_op.specs.declared.operations.Change.TheVariants.{Do, Undo}
 use Rattle.su_format.specs.Format.{Format, IsLawful, IsFormatOf, part, ◌>>=◌}
@@ -18,6 +18,7 @@ use Rattle.su_change.specs.Write.{IsWrite, IsLength, HasLength, length_part, wri
 use Rattle.su_change.specs.Truncate.{IsTruncate, truncate_bytes, truncate_fields}
 use Rattle.su_change.specs.Rename.{IsRename, rename_bytes, rename_fields}
 use Rattle.su_change.specs.Take.{IsTake, take_bytes, take_fields}
+use Rattle.su_change.specs.DropBody.{IsDrop, drop_bytes, drop_fields}
 use Rattle.su_change.specs.Item.{HasItem, IsChange, tagged_bytes, first_byte, item_bytes, undo_fields, kinds, no_kind, fields_of, tagged_format, item_format}
 use Rattle.su_change.proofs.Sizes.{joined, six, one, name_size, file_name_file, file_number}
 
@@ -146,6 +147,14 @@ take_kind = record {
   is = λ t is. (is, tt, refl);
 }
 
+pub drop_kind : IsKind 8 drop_fields (λ d. Do (Drop d)) IsDrop drop_bytes
+unfolding drop_fields
+drop_kind = record {
+  makes = said_as (last_of inum_of _) (λ n. record { body = n }) (λ d. d.body) (λ n is. (is, refl, refl)) (λ d is. (is, refl, refl));
+  few = λ d is. omega arith;
+  is = λ d is. (is, tt, refl);
+}
+
 -- ---- what the number of a kind tells
 
 -- the fields behind the number spell changes of that kind
@@ -191,7 +200,7 @@ by_number : (n : ℕ) → Tells n (fields_of kinds n)
 by_number =
     fields_tell kinds (
       told undo_kind,
-      (told create_kind, (told write_kind, (told truncate_kind, (told link_kind, (told rename_kind, (told unlink_kind, (told take_kind, tt))))))),
+      (told create_kind, (told write_kind, (told truncate_kind, (told link_kind, (told rename_kind, (told unlink_kind, (told take_kind, (told drop_kind, tt)))))))),
     )
 
 -- ---- what a change tells
@@ -218,6 +227,7 @@ by_change (Do (Link l)) is has = of_kind (omega arith) link_kind l is
 by_change (Do (Rename r)) is has = of_kind (omega arith) rename_kind r is
 by_change (Do (Unlink u)) is has = of_kind (omega arith) unlink_kind u is
 by_change (Do (Take t)) is has = of_kind (omega arith) take_kind t is
+by_change (Do (Drop d)) is has = of_kind (omega arith) drop_kind d is
 
 tagged : Makes tagged_format (λ c. c) (λ c. IsChange c × HasItem c) tagged_bytes
 unfolding tagged_format ◌>>=◌ part u8_part

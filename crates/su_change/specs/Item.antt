@@ -2,7 +2,7 @@
 -- project's own format.)
 use Rattle.std.specs.Prelude.{◌≡◌, ◌<◌, ◌^◌, ℕ, cond, nat_eq, List, [], ◌∷◌, ◌++◌}
 use Rattle.sha2.specs.Sha256.{sha256}
-use Rattle.su_op.specs.declared.operations.Op.TheVariants.{Create, Write, Truncate, Link, Rename, Unlink, Take}
+use Rattle.su_op.specs.declared.operations.Op.TheVariants.{Create, Write, Truncate, Link, Rename, Unlink, Take, Drop}
 use Rattle.su_op.specs.declared.operations.Change.{Change}
 use Rattle.su_op.specs.declared.operations.Change.TheVariants.{Do, Undo}
 use Rattle.su_format.specs.Format.{Format, making, ◌>>=◌}
@@ -13,6 +13,7 @@ use Rattle.su_change.specs.Write.{IsWrite, HasLength, write_bytes, write_fields}
 use Rattle.su_change.specs.Truncate.{IsTruncate, truncate_bytes, truncate_fields}
 use Rattle.su_change.specs.Rename.{IsRename, rename_bytes, rename_fields}
 use Rattle.su_change.specs.Take.{IsTake, take_bytes, take_fields}
+use Rattle.su_change.specs.DropBody.{IsDrop, drop_bytes, drop_fields}
 
 -- each number and name of a change is in its range, as the types of the code have it
 abbrev pub IsChange : Change → Type 0
@@ -24,6 +25,7 @@ IsChange (Do (Link l)) = IsNameAt (linked_name l)
 IsChange (Do (Rename r)) = IsRename r
 IsChange (Do (Unlink u)) = IsNameAt (unlinked_name u)
 IsChange (Do (Take t)) = IsTake t
+IsChange (Do (Drop d)) = IsDrop d
 
 -- a change has an item where a write has 1 to 65,536 bytes; another has one in any case
 abbrev pub HasItem : Change → Type 0
@@ -42,6 +44,7 @@ tagged_bytes (Do (Link l)) = 4 ∷ name_at_bytes (linked_name l)
 tagged_bytes (Do (Rename r)) = 5 ∷ rename_bytes r
 tagged_bytes (Do (Unlink u)) = 6 ∷ name_at_bytes (unlinked_name u)
 tagged_bytes (Do (Take t)) = 7 ∷ take_bytes t
+tagged_bytes (Do (Drop d)) = 8 ∷ drop_bytes d
 
 -- the first byte of a change's item, which is that of no other item that is stored
 abbrev pub first_byte : List ℕ
@@ -72,6 +75,7 @@ kinds =
     ∷ (5, rename_fields)
     ∷ (6, unlink_fields)
     ∷ (7, take_fields)
+    ∷ (8, drop_fields)
     ∷ []
 
 -- no change: what is refused is this number in front, which is no kind's

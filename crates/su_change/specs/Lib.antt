@@ -4,4 +4,5 @@ pub mod Write
 pub mod Truncate
 pub mod Rename
 pub mod Take
+pub mod DropBody
 pub mod Item

@@ -3,6 +3,7 @@
 
 mod create;
 mod decoder;
+mod drop_body;
 mod encoder;
 mod laws;
 mod name_at;
