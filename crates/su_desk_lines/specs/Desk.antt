@@ -1,7 +1,7 @@
 -- A desk script: which command a line is.
 use Rattle.std.specs.Prelude.{ℕ, List, [], ◌∷◌, length, map, Option, Some, None, cond, nat_lt}
 use Rattle.std.specs.Option.{option_map}
-use Rattle.su_op.specs.declared.operations.Op.TheVariants.{Create, Unlink, Write, Truncate, Take, Link, Rename}
+use Rattle.su_op.specs.declared.operations.Op.TheVariants.{Create, Unlink, Write, Truncate, Take, Link, Rename, Drop}
 use Rattle.su_op.specs.declared.operations.Change.{Change}
 use Rattle.su_op.specs.declared.operations.Change.TheVariants.{Do, Undo}
 use Rattle.su_desk_lines.specs.declared.ranges.Command.{Command}
@@ -44,6 +44,7 @@ change_said (Do (Take t)) = spoken change.Take (File t.file ∷ Body t.body ∷ 
 change_said (Do (Link l)) = spoken change.Link (File l.dir ∷ Name l.name ∷ File l.file ∷ [])
 change_said (Do (Rename r)) =
     spoken change.Rename (File r.from_ ∷ Name r.old_ ∷ File r.to_ ∷ Name r.new_ ∷ File r.file ∷ [])
+change_said (Do (Drop d)) = spoken change.Drop (Body d.body ∷ [])
 change_said (Undo n) = spoken change.Undo (Number n ∷ [])
 
 abbrev pub question_said : Question → Spoken QuestionVerb

@@ -15,7 +15,7 @@ use crate::verbs::{ChangeVerb, QuestionVerb, Verb};
 use crate::words::{Words, check_values};
 use std::alloc::Global;
 use su_bytes::{FileId, Group, Inum, Kind, Principal, Refusal, Roster, User};
-use su_op::{Change, Create, Link, Op, Rename, Take, Truncate, Unlink, Write};
+use su_op::{Change, Create, DropBody, Link, Op, Rename, Take, Truncate, Unlink, Write};
 
 /// A command of a script, each of its words within its range.
 #[derive(Drop)]
@@ -172,6 +172,10 @@ fn take_change(verb: ChangeVerb, words: &mut Words) -> Option<Change>
             Some(Change::Do(Op::Link(Link { dir, name, file })))
         }
         ChangeVerb::Rename => take_rename(words),
+        ChangeVerb::Drop => {
+            let body = words.take_body()?;
+            Some(Change::Do(Op::Drop(DropBody { body })))
+        }
         ChangeVerb::Undo => Some(Change::Undo(words.take_number()?)),
     }
 }

@@ -25,6 +25,7 @@ pub enum ChangeVerb {
     Take,
     Link,
     Rename,
+    Drop,
     Undo,
 }
 
@@ -90,6 +91,12 @@ macro_rules! desk_rows {
                     Verb::Change(ChangeVerb::Rename),
                     [File, Name, File, Name, File],
                     "U rename FROM OLD TO NEW FILE  give a file another name, here or elsewhere"
+                ),
+                (
+                    "drop",
+                    Verb::Change(ChangeVerb::Drop),
+                    [Body],
+                    "U drop BODY                    take away a body that no file id leads to"
                 ),
                 (
                     "undo",
@@ -172,14 +179,14 @@ macro_rules! desk_help {
             "
 U is the number of a user. DIR, FROM, TO and FILE are file ids: U0:2 is number 2
 of user 0, G0:1 number 1 of group 0, which is the root directory. BODY is the
-number of the user at which the file stands then; a file of a user has its own
-number. PRINCIPAL is a user as U0 or a group as G0."
+number of the user at which the file stands then, or the body that goes; a file
+of a user has its own number. PRINCIPAL is a user as U0 or a group as G0."
         )
     };
 }
 
 /// The commands of a user, which stand after the user's number, and the words after each.
-pub const USER_FORMS: [Form<Verb>; 10] = desk_rows!(user_forms);
+pub const USER_FORMS: [Form<Verb>; 11] = desk_rows!(user_forms);
 
 /// The commands that are no user's, and the words after each.
 pub const OTHER_FORMS: [Form<Verb>; 7] = desk_rows!(other_forms);
