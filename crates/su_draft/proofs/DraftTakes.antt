@@ -1,6 +1,7 @@
 -- Each draft takes what it must, and counts its numbers through.
 use Rattle.std.proofs.Common.{◌≡◌, ℕ, Bool, true, false, cond, ◌||◌, nat_eq, List, [], ◌∷◌, Option, Some, None, Result, Err, refl, ◌⊎◌, inl, inr}
-use Rattle.std.specs.Prelude.{IfOk}
+use Rattle.std.specs.Prelude.{IfOk, map}
+use Rattle.std.specs.List.{list_any}
 use Rattle.std.specs.Cmp.Lexicographic.{pointwise}
 use Rattle.su_bytes.specs.Membership.{Membership, has_user}
 use Rattle.su_bytes.specs.declared.file_ids.FileId.{FileId}
@@ -15,19 +16,22 @@ use Rattle.su_op.specs.declared.operations.Op.{Op}
 use Rattle.su_op.specs.declared.operations.Op.TheVariants as op
 use Rattle.su_op.specs.declared.rename.Rename.{Rename as RenameOp}
 use Rattle.su_draft.specs.declared.commands.Command.{Command}
-use Rattle.su_draft.specs.declared.commands.Command.TheVariants.{Mkdir, Create, Write, Truncate, Link, Rename, Remove}
+use Rattle.su_draft.specs.declared.commands.Command.TheVariants.{Mkdir, Create, Write, Truncate, Link, Rename, Remove, Tidy}
 use Rattle.su_draft.specs.Refusable.{◌>>=◌}
 use Rattle.su_draft.specs.Path.{path_names, named_path}
 use Rattle.su_draft.specs.Walk.{at, entry, directory_of, directory_place, led_to}
-use Rattle.su_draft.specs.Draft.{DraftState, empty_draft, with_operation, next_body, with_take}
+use Rattle.su_draft.specs.Draft.{DraftState, empty_draft, with_operation, next_body, takes, with_take}
+use Rattle.su_draft.specs.Taking.{writes_to}
+use Rattle.su_draft.specs.Counting.{CountUp}
 use Rattle.su_draft.specs.Make.{new_file, make_draft}
 use Rattle.su_draft.specs.Write.{write_draft}
 use Rattle.su_draft.specs.Truncate.{truncate_draft}
 use Rattle.su_draft.specs.Link.{link_draft}
 use Rattle.su_draft.specs.Remove.{remove_draft}
 use Rattle.su_draft.specs.Rename.{with_unlink, with_name_free, moved, renamed, rename_draft}
+use Rattle.su_draft.specs.Tidy.{stale_from, drop_of, tidy_draft}
 use Rattle.su_draft.specs.Command.{draft_of, draft}
-use Rattle.su_draft.proofs.TakeCounts.{IsFair, Fair, fair_empty, fair_more, fair_end, fair_take, bind_eq, bind_has, bind_with, next_least, or_false}
+use Rattle.su_draft.proofs.TakeCounts.{IsFair, Fair, fair_empty, fair_more, fair_end, fair_none, fair_take, bind_eq, bind_has, bind_with, next_least, or_false}
 
 two : (b c : Bool) → (b || (c || false)) ≡ (false || (b || c))
 two true c = refl
@@ -144,6 +148,25 @@ rename_takes T a old new =
     bind_has (directory_of T to) _ _ (λ target.
     renamed_takes T a (pointwise nat_eq old new) (record { from_ = source; old_ = from.name; to_ = target; new_ = to.name; file = file }))))))
 
+-- drops of these bodies write and take no file, and make no body
+drops_write : (f : FileId) (ns : List ℕ) → list_any (writes_to f) (map drop_of ns) ≡ false
+drops_write f [] = refl
+drops_write f (n ∷ ns) = drops_write f ns
+
+drops_take : (f : FileId) (ns : List ℕ) → list_any (takes f) (map drop_of ns) ≡ false
+drops_take f [] = refl
+drops_take f (n ∷ ns) = drops_take f ns
+
+drops_count : (T : Tree) (a used : ℕ) (ns : List ℕ) → CountUp T a used (map drop_of ns)
+drops_count T a used [] = tt
+drops_count T a used (n ∷ ns) = (tt, drops_count T a used ns)
+
+tidy_takes : (T : Tree) (a : ℕ) → IsFair T a (tidy_draft T a)
+unfolding tidy_draft
+tidy_takes T a =
+    let ns : List ℕ = stale_from T a 1 in
+    fair_none T a (map drop_of ns) (λ f. drops_take f ns) (λ f. drops_write f ns) (drops_count T a 0 ns)
+
 of_takes : (T : Tree) (a : ℕ) (command : Command) → IfOk (draft_of T a command) (IsFair T a)
 of_takes T a (Mkdir path) = make_takes T a Dir path.items
 of_takes T a (Create path) = make_takes T a File path.items
@@ -152,6 +175,7 @@ of_takes T a (Truncate path size) = truncate_takes T a path.items size
 of_takes T a (Link old new) = link_takes T a old.items new.items
 of_takes T a (Rename old new) = rename_takes T a old.items new.items
 of_takes T a (Remove path) = remove_takes T a path.items
+of_takes T a Tidy = tidy_takes T a
 
 known_takes : (T : Tree) (a : ℕ) (command : Command) (known : Bool) → IfOk (cond known (draft_of T a command) (Err (NoUser a))) (IsFair T a)
 known_takes T a command true = of_takes T a command

@@ -7,10 +7,10 @@ use Rattle.su_table.specs.Free.{IsLeastFree}
 use Rattle.su_draft.specs.Number.{least_free, last_number}
 
 -- i-numbers are those of 1 to the last one
-inum_range : (n : ℕ) → IsTrue (is_inum n) → (1 ≤ n) × (n ≤ last_number)
+pub inum_range : (n : ℕ) → IsTrue (is_inum n) → (1 ≤ n) × (n ≤ last_number)
 inum_range n h = search (rules, tests)
 
-range_inum : (n : ℕ) → 1 ≤ n → n ≤ last_number → IsTrue (is_inum n)
+pub range_inum : (n : ℕ) → 1 ≤ n → n ≤ last_number → IsTrue (is_inum n)
 range_inum n h k = search (rules, tests)
 
 -- the least free one of n numbers, from `from` on

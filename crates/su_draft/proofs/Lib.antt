@@ -2,5 +2,6 @@ pub mod DraftTakes
 pub mod LeastFree
 pub mod NameLists
 pub mod Spelling
+pub mod StaleBodies
 pub mod TakeCounts
 pub mod WalkSteps

@@ -151,6 +151,13 @@ fair_end T a files written d op h next k all = (
   counts_last T a 0 d.operations op k.numbers (subst (λ (u : ℕ). IsNext T a u (number_used op)) (sym k.last) (subst (λ (n : ℕ). IsNext T n d.used (number_used op)) k.author next)),
 )
 
+-- operations that write and take no file
+pub fair_none : (T : Tree) (a : ℕ) (ops : List Op) → ((f : FileId) → list_any (takes f) ops ≡ false) → ((f : FileId) → list_any (writes_to f) ops ≡ false) → CountUp T a 0 ops → IsFair T a ops
+fair_none T a ops untaken unwritten numbers = (
+  λ f. uncounted (takes f) ops (untaken f) ∙ ap (λ b. one (b && is_held_by_others T a f)) (sym (unwritten f)),
+  numbers,
+)
+
 -- ---- a take, where one is needed
 
 or_true : (b : Bool) → (b || true) ≡ true

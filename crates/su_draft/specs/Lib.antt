@@ -10,6 +10,7 @@ pub mod Truncate
 pub mod Link
 pub mod Rename
 pub mod Remove
+pub mod Tidy
 pub mod Command
 pub mod Taking
 pub mod Counting

@@ -7,11 +7,11 @@ use Rattle.su_table.specs.Tree.{Tree}
 use Rattle.su_table.specs.Query.{body}
 use Rattle.su_op.specs.Take.{is_group_file}
 use Rattle.su_op.specs.declared.operations.Op.{Op}
-use Rattle.su_op.specs.declared.operations.Op.TheVariants.{Create, Unlink, Write, Truncate, Take, Link, Rename}
+use Rattle.su_op.specs.declared.operations.Op.TheVariants.{Create, Unlink, Write, Truncate, Take, Link, Rename, Drop}
 use Rattle.su_draft.specs.Draft.{is_others, takes}
 
 -- The operation writes the file or directory in its place, so that its author must hold it. (A take
--- writes a copy. A rename doesn't write its file.)
+-- writes a copy. A rename doesn't write its file. To what a drop takes away no file id leads.)
 abbrev pub writes_to : FileId → Op → Bool
 writes_to f (Create c) = file_eq c.dir f
 writes_to f (Unlink u) = file_eq u.dir f || file_eq u.file f
@@ -20,6 +20,7 @@ writes_to f (Truncate t) = file_eq t.file f
 writes_to f (Take t) = false
 writes_to f (Link l) = file_eq l.dir f || file_eq l.file f
 writes_to f (Rename r) = file_eq r.from_ f || file_eq r.to_ f
+writes_to f (Drop d) = false
 
 -- a group file that another user than a holds
 abbrev pub is_held_by_others : Tree → ℕ → FileId → Bool

@@ -6,6 +6,7 @@ use crate::link::link;
 use crate::make::make;
 use crate::remove::remove;
 use crate::rename::rename;
+use crate::tidy::tidy;
 use crate::truncate::truncate;
 use crate::write::write;
 use std::alloc::Global;
@@ -49,6 +50,8 @@ pub enum Command {
     Remove {
         path: Vec<u8>,
     },
+    /// Takes away each body of the user that no file id leads to any more.
+    Tidy,
 }
 
 impl Command {
@@ -86,6 +89,7 @@ impl Command {
                 rename(alloc, forest, user, old_.as_slice(), new_.as_slice())
             }
             Command::Remove { path } => remove(alloc, forest, user, path.as_slice()),
+            Command::Tidy => tidy(alloc, forest, user),
         }
     }
 }

@@ -10,6 +10,7 @@ mod numbers;
 mod paths;
 mod remove;
 mod rename;
+mod tidy;
 mod truncate;
 mod walks;
 mod write;
