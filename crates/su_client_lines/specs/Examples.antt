@@ -5,7 +5,7 @@ use Rattle.su_bytes.specs.declared.refusals.Refusal.TheVariants.{BadNumber}
 use Rattle.su_desk_lines.specs.Form.{Value.Number, Value.Size, Value.Bytes, Value.Text}
 use Rattle.su_desk_lines.specs.Script.{read_bytes, read_number}
 use Rattle.su_client_lines.specs.declared.verbs.Verb.TheVariants.{Change, Read}
-use Rattle.su_client_lines.specs.declared.verbs.PathVerb.TheVariants.{Mkdir, Write, Truncate, Rename}
+use Rattle.su_client_lines.specs.declared.verbs.PathVerb.TheVariants.{Mkdir, Write, Truncate, Rename, Tidy}
 use Rattle.su_client_lines.specs.Said.{Said.Asks, Said.OutOfRange, Said.Bad, spoken}
 use Rattle.su_client_lines.specs.ClientScript.{line_said}
 
@@ -38,6 +38,9 @@ a_number_past_64_bits = refl
 pub hex_before_range : line_said (codes "write /a 4294967296 4") ≡ Bad
 unfolding read_number read_bytes
 hex_before_range = refl
+
+pub no_words : line_said (codes "tidy") ≡ Asks (spoken (Change Tidy) [])
+no_words = refl
 
 pub two_spaces : line_said (codes "ls  /a") ≡ Bad
 two_spaces = refl

@@ -27,7 +27,7 @@ pub data Said : Type 0 where
 abbrev pub spoken : {V : Type 0} → V → List Value → Spoken V
 spoken v values = record { verb = v; values = values }
 
--- the words of a command on paths
+-- the words of a command that is planned
 abbrev pub change_of : Command → Spoken PathVerb
 change_of (command.Mkdir path) = spoken path_verb.Mkdir (Text path.items ∷ [])
 change_of (command.Create path) = spoken path_verb.Create (Text path.items ∷ [])
@@ -39,6 +39,7 @@ change_of (command.Link old new) = spoken path_verb.Link (Text old.items ∷ Tex
 change_of (command.Rename old new) =
     spoken path_verb.Rename (Text old.items ∷ Text new.items ∷ [])
 change_of (command.Remove path) = spoken path_verb.Remove (Text path.items ∷ [])
+change_of command.Tidy = spoken path_verb.Tidy []
 
 -- the words of a command
 abbrev pub asked_of : ClientCommand → Spoken Verb

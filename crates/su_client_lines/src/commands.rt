@@ -6,7 +6,7 @@ use su_draft::Command;
 /// word is a path is seen where the command is planned.
 #[derive(Drop)]
 pub enum ClientCommand {
-    /// Carries out a command on paths.
+    /// Carries out a command that is planned as operations.
     Change(Command),
     /// Undoes the operation of that number.
     Undo(u64),

@@ -113,33 +113,46 @@ fn take_command(verb: Verb, words: &mut Words) -> Option<ClientCommand>
     }
 }
 
-/// Takes the words of a command on paths. `None` where other words come.
+/// Takes the words of a command that is planned. `None` where other words come.
 fn take_change(verb: PathVerb, words: &mut Words) -> Option<Command>
     ensures verb { IfSome result (λ c. (change_of c).verb ≡ verb) }
     ensures words { IfSome result (λ c.
         left_of words.old ≡ (change_of c).values ++ left_of words.new) }
 {
-    let path = words.take_text()?;
     match verb {
-        PathVerb::Mkdir => Some(Command::Mkdir { path }),
-        PathVerb::Create => Some(Command::Create { path }),
+        PathVerb::Mkdir => {
+            let path = words.take_text()?;
+            Some(Command::Mkdir { path })
+        }
+        PathVerb::Create => {
+            let path = words.take_text()?;
+            Some(Command::Create { path })
+        }
         PathVerb::Write => {
+            let path = words.take_text()?;
             let off = words.take_size()?;
             let bytes = words.take_bytes()?;
             Some(Command::Write { path, off, bytes })
         }
         PathVerb::Truncate => {
+            let path = words.take_text()?;
             let size = words.take_size()?;
             Some(Command::Truncate { path, size })
         }
         PathVerb::Link => {
+            let old_ = words.take_text()?;
             let new_ = words.take_text()?;
-            Some(Command::Link { old_: path, new_ })
+            Some(Command::Link { old_, new_ })
         }
         PathVerb::Rename => {
+            let old_ = words.take_text()?;
             let new_ = words.take_text()?;
-            Some(Command::Rename { old_: path, new_ })
+            Some(Command::Rename { old_, new_ })
         }
-        PathVerb::Remove => Some(Command::Remove { path }),
+        PathVerb::Remove => {
+            let path = words.take_text()?;
+            Some(Command::Remove { path })
+        }
+        PathVerb::Tidy => Some(Command::Tidy),
     }
 }

@@ -13,7 +13,7 @@ pub enum Verb {
     Save,
 }
 
-/// Which command on paths a line is.
+/// Which command of those that are planned as operations a line is.
 #[derive(Clone, Copy)]
 pub enum PathVerb {
     Mkdir,
@@ -23,6 +23,7 @@ pub enum PathVerb {
     Link,
     Rename,
     Remove,
+    Tidy,
 }
 
 // The commands: of each its own word, which it is, the words after it, and its line of help.
@@ -72,6 +73,12 @@ macro_rules! client_rows {
                 "remove P         take a name away, and the file with its last one"
             ),
             (
+                "tidy",
+                Verb::Change(PathVerb::Tidy),
+                [],
+                "tidy             take away your old copies of files that were taken over"
+            ),
+            (
                 "undo",
                 Verb::Undo,
                 [Number],
@@ -119,7 +126,7 @@ and no FILE has a space in it."
 }
 
 /// The commands, and the words after each.
-pub const CLIENT_FORMS: [Form<Verb>; 12] = client_rows!(forms_of);
+pub const CLIENT_FORMS: [Form<Verb>; 13] = client_rows!(forms_of);
 
 /// The commands of a client's script, for a help text.
 pub const CLIENT_WORDS: &str = client_rows!(client_help);
