@@ -11,7 +11,7 @@ use Rattle.su_bytes.specs.declared.refusals.Refusal.TheVariants.{OldFormat}
 use Rattle.su_bytes.proofs.Public.{newest}
 use Rattle.su_op.specs.declared.operations.Change.{Change}
 use Rattle.su_op.specs.declared.operations.Change.TheVariants.{Undo}
-use Rattle.su_op.specs.Operation.{change_format}
+use Rattle.su_op.specs.Action.{change_format}
 use Rattle.su_desk.specs.declared.entries.Entry.{Entry}
 use Rattle.su_desk.specs.History.{NumberedAction, last_format, format_after, undo_by, undos}
 use Rattle.su_desk.specs.Answer.{has_format, format_refusal, refusal_by_change, refusal_of}

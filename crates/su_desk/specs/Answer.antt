@@ -8,7 +8,8 @@ use Rattle.su_bytes.specs.declared.refusals.Refusal.{Refusal}
 use Rattle.su_bytes.specs.declared.refusals.Refusal.TheVariants.{NoUser, NoOperation, NotOperation, AlreadyUndone, NotAuthor, Blocked, OldFormat}
 use Rattle.su_op.specs.declared.operations.Change.{Change}
 use Rattle.su_op.specs.declared.operations.Change.TheVariants.{Do, Undo}
-use Rattle.su_op.specs.Operation.{why, change_format}
+use Rattle.su_op.specs.Action.{change_format}
+use Rattle.su_op.specs.Operation.{why}
 use Rattle.su_desk.specs.declared.entries.Entry.{Entry}
 use Rattle.su_desk.specs.History.{action_of, entry_at, format_after, undoer}
 use Rattle.su_desk.specs.Applied.{tree_after}
