@@ -25,6 +25,7 @@ use Rattle.su_table.specs.Handle.{handle}
 use Rattle.su_desk.specs.declared.entries.Entry.{Entry}
 use Rattle.su_desk.specs.Answer.{refusal_by_change, refusal_of, answer}
 use Rattle.su_desk.specs.Version.{cells_of, carried_groups, numbered, versions}
+use Rattle.su_desk.proofs.FormatLemmas.{by_change, newest_fits}
 use Rattle.su_desk.proofs.VersionNumbers.{carried_ascend as groups_ascend}
 use Rattle.su_desk.specs.Trial.{Tells}
 use Rattle.su_desk.specs.declared.prepared.Prepared.{Prepared}
@@ -197,7 +198,9 @@ module _ (k : Keeping) (kept : IsKeeping k) (change : Change) where
   item_refused e (inr (none, has)) r so = draft_refused e (inl none) r so
   item_refused e (inl (bad, lacks)) r (inl (none, is)) = inl is
   item_refused e (inl (bad, lacks)) r (inr (other, is)) =
-      inr (BadNumber, is ∙ ap ChangeRefused bad, without_item w.roster (history w.held) (own_entry w change) change kept.member lacks)
+      inr (BadNumber, is ∙ ap ChangeRefused bad,
+          by_change w.roster (history w.held) (own_entry w change) (newest_fits (history w.held) change)
+          ∙ without_item w.roster (history w.held) (own_entry w change) change kept.member lacks)
 
 -- ---- the parts of its version structure are in their ranges
 
