@@ -1,12 +1,12 @@
 // From what a line says to its command, whose words are within their ranges.
-ghost use Rattle.std.specs.Prelude.{◌≡◌, ◌⊎◌, ◌++◌, true, false, None, Some, IfOk, IfErr, IfSome, OnOk, map};
-ghost use Rattle.su_bytes.specs.declared.refusals.Refusal.TheVariants.{NoMemory, NoUser, BadNumber};
+ghost use Rattle.std.specs.Prelude.{◌≡◌, ◌≢◌, ◌⊎◌, ◌++◌, cond, None, Some, IfOk, IfErr, IfSome, OnOk, map};
+ghost use Rattle.su_bytes.specs.declared.refusals.Refusal.TheVariants.{NoMemory, BadNumber};
 ghost use Rattle.su_bytes.specs.FileId.{is_file_id};
 ghost use Rattle.su_bytes.specs.Principal.{is_principal};
 ghost use Rattle.su_desk_lines.specs.Desk.{change_said, command_said, question_said, spoken, spoken_of};
 ghost use Rattle.su_desk_lines.specs.Form.{value_refusal};
 ghost use Rattle.su_desk_lines.specs.Raw.{file_of, principal_of};
-ghost use Rattle.su_desk_lines.specs.Range.{is_stranger, word_refusal};
+ghost use Rattle.su_desk_lines.specs.Range.{is_stranger, stranger, stranger_first, word_refusal};
 ghost use Rattle.su_desk_lines.specs.Value.{left_of, value_of};
 
 use crate::parse::{RawFile, RawPrincipal, Spoken};
@@ -47,9 +47,9 @@ pub enum Question {
     Handle(Principal),
 }
 
-/// Checks the words of a command. Refuses a user of 0 to 63 who isn't in the roster by `NoUser`,
-/// then a bad name by `BadName`, then any other word outside its range by `BadNumber`; fails with
-/// `NoMemory` where there is no room for the command.
+/// Checks the words of a command. Where one is outside its range, refuses a user of 0 to 63 who isn't
+/// in the roster by `NoUser`, then a bad name by `BadName`, then any other word by `BadNumber`; fails
+/// with `NoMemory` where there is no room for the command.
 pub fn check_ranges(alloc: Global, roster: &Roster, said: Spoken<'_>) -> Result<Command, Refusal>
     ensures value { IfOk result (λ c. command_said c ≡ spoken_of said.entry) }
     ensures accepted { OnOk result
@@ -58,43 +58,53 @@ pub fn check_ranges(alloc: Global, roster: &Roster, said: Spoken<'_>) -> Result<
         ⊎ (word_refusal roster.now (spoken_of said.entry).values ≡ Some e)) }
 {
     let Spoken { verb, values } = said;
-    check_user(roster, values.as_slice())?;
-    let words = check_values(alloc, values)?;
+    let user = stranger(roster, values.as_slice());
+    let words = match check_values(alloc, values) {
+        Ok(words) => words,
+        Err(refusal) => return Err(stranger_first(user, refusal)),
+    };
     match whole_command(verb, words) {
         Some(command) => Ok(command),
         None => Err(Refusal::NoMemory),
     }
 }
 
-/// Refuses a command of a user of 0 to 63 who isn't in the roster by `NoUser`.
-fn check_user(roster: &Roster, values: &[Value<'_>]) -> Result<(), Refusal>
-    ensures listed { OnOk result (word_refusal roster.now (map value_of values.now)
-        ≡ value_refusal (map value_of values.now)) }
-    ensures stranger { IfErr result (λ e.
-        word_refusal roster.now (map value_of values.now) ≡ Some e) }
+/// Finds the user of 0 to 63 whose command this is, if he isn't in the roster.
+fn stranger(roster: &Roster, values: &[Value<'_>]) -> Option<User>
+    ensures { result ≡ stranger roster.now (map value_of values.now) }
 {
     match values {
         [first, ..] => match first {
-            Value::User(user) => check_listed(roster, *user),
-            _ => Ok(()),
+            Value::User(user) => unlisted(roster, *user),
+            _ => None,
         },
-        [] => Ok(()),
+        [] => None,
     }
 }
 
-/// Refuses a user of 0 to 63 who isn't in the roster by `NoUser`.
-fn check_listed(roster: &Roster, number: u64) -> Result<(), Refusal>
-    ensures listed { OnOk result (is_stranger roster.now number ≡ false) }
-    ensures stranger { IfErr result (λ e.
-        (e ≡ NoUser number) × (is_stranger roster.now number ≡ true)) }
+/// Finds the user of that number, if there can be one who isn't in the roster.
+fn unlisted(roster: &Roster, number: u64) -> Option<User>
+    ensures { result ≡ cond (is_stranger roster.now number) (Some number) None }
 {
-    let Ok(user) = User::new(number) else {
-        return Ok(());
-    };
+    let user = User::new(number).ok()?;
     if roster.has_user(user) {
-        return Ok(());
+        None
+    } else {
+        Some(user)
     }
-    Err(Refusal::NoUser(user))
+}
+
+/// Returns the first refusal of words that are refused so, of a stranger if there is one. Want of
+/// memory stays.
+fn stranger_first(user: Option<User>, refusal: Refusal) -> Refusal
+    ensures { ((refusal ≡ NoMemory) × (result ≡ NoMemory))
+        ⊎ ((refusal ≢ NoMemory) × (stranger_first user (Some refusal) ≡ Some result)) }
+{
+    match (user, refusal) {
+        (_, Refusal::NoMemory) => Refusal::NoMemory,
+        (Some(user), _) => Refusal::NoUser(user),
+        (None, _) => refusal,
+    }
 }
 
 /// Makes a command of its words. `None` where they are not those of its form.
