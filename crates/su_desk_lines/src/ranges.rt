@@ -1,5 +1,5 @@
 // From what a line says to its command, whose words are within their ranges.
-ghost use Rattle.std.specs.Prelude.{◌≡◌, ◌≢◌, ◌⊎◌, ◌++◌, cond, None, Some, IfOk, IfErr, IfSome, OnOk, map};
+ghost use Rattle.std.specs.Prelude.{◌≡◌, ◌≢◌, ◌⊎◌, ◌++◌, true, false, cond, None, Some, IfOk, IfErr, IfSome, OnOk, map};
 ghost use Rattle.su_bytes.specs.declared.refusals.Refusal.TheVariants.{NoMemory, BadNumber};
 ghost use Rattle.su_bytes.specs.FileId.{is_file_id};
 ghost use Rattle.su_bytes.specs.Principal.{is_principal};
