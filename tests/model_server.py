@@ -43,7 +43,7 @@ class Service:
     """What a server replies: to each request by a call of its name."""
 
     def __init__(self, publics, capacity=1000000):
-        self.book, self.items, self.lacking = Book(publics, capacity), {}, set()
+        self.book, self.items = Book(publics, capacity), {}
         self.lock = threading.Lock()
 
     def answer(self, seat, message):
@@ -56,12 +56,9 @@ class Service:
             return wire.refused(why)
 
     def grant(self, seat, _):
-        granted = wire.granted(*self.book.grant(seat))
-        self.lacking.discard(seat)
-        return granted
+        return wire.granted(*self.book.grant(seat))
 
     def commit(self, seat, data):
-        demand(seat not in self.lacking, "30 NoMemory")
         return wire.stored(self.book.commit(seat, data))
 
     def give(self, seat, _):
@@ -72,10 +69,8 @@ class Service:
         records = self.book.records
         return wire.kept(records[number - 1]) if 1 <= number <= len(records) else wire.NOTHING
 
-    def put(self, seat, item):
-        if not 1 <= len(item) <= audit_model.LONGEST_ITEM:
-            self.lacking.add(seat)
-            raise Refused("22 TooBig")
+    def put(self, _, item):
+        demand(1 <= len(item) <= audit_model.LONGEST_ITEM, "22 TooBig")
         self.items.setdefault(sha256(item), item)
         return wire.put_done(sha256(item))
 

@@ -1033,16 +1033,15 @@ def crowded(at):
 
 
 def unanswered(at):
-    """A client of a server that says nothing asks again over a new link after half a minute at least, and ends after another one, and
-    says why. (It waits 3,000 times for a hundredth of a second each; the system makes up to twice that of each.)"""
+    """A client of a server that says nothing asks again over a new link after half a minute, and ends after another one, and says why."""
     if program == MODEL:
         return
     room = Room(at)
     with socket.create_server(("127.0.0.1", 0)) as listener:
         with room.client(listener.getsockname()[1], 0) as client:
             client.write(b"ls /\n")
-            took, (printed, told, status) = timed(lambda: client.end(3 * WAIT))
-            is_right = (printed, status) == ([b"no 43 LinkFailed"], 1) and 55 < took < 125
+            took, (printed, told, status) = timed(lambda: client.end(2 * WAIT))
+            is_right = (printed, status) == ([b"no 43 LinkFailed"], 1) and 55 < took < 75
             yield f"a_silent_server_is_told: {printed} {status} {took:.1f} s", is_right
             yield f"and_how_long_it_was_waited_for: {told}", is_told(told, "no answer", "30 s")
             yield f"and_that_it_was_asked_twice: {client.asides}", client.asides == ["without_log", "anew", "unknown"]
@@ -1502,10 +1501,9 @@ EXCHANGES = {
     "an_item": (b"\0\0\0\4\5abc", b"\0\0\0\x21\x86" + bytes.fromhex(ABC)),
     "the_same_item_by_its_digest": (b"\0\0\0\x21\6" + bytes.fromhex(ABC), b"\0\0\0\4\x87abc"),
     "an_item_that_isnt_held": (b"\0\0\0\x21\6" + bytes(32), b"\0\0\0\x0a\xff\5" + bytes(8)),
+    "an_empty_item": (b"\0\0\0\1\5", b"\0\0\0\x0a\xff\x16" + bytes(8)),
     "the_turn_is_given_back": (b"\0\0\0\1\3", b"\0\0\0\1\x83"),
     "a_commit_without_the_turn": (b"\0\0\0\2\2\0", b"\0\0\0\x0a\xff\x20" + bytes(8)),
-    "an_empty_item": (b"\0\0\0\1\5", b"\0\0\0\x0a\xff\x16" + bytes(8)),
-    "a_commit_behind_a_refused_item": (b"\0\0\0\2\2\0", b"\0\0\0\x0a\xff\x1e" + bytes(8)),
     "an_unknown_tag": (b"\0\0\0\1\x99", b"\0\0\0\x0a\xff\x2a" + bytes(8)),
     "a_byte_too_many": (b"\0\0\0\2\3\0", b"\0\0\0\x0a\xff\1" + bytes(7) + b"\1"),
 }
