@@ -93,6 +93,7 @@ class Server:
         self.listener = socket.create_server(("127.0.0.1", port))
         self.port = self.listener.getsockname()[1]
         self.links, self.open = queue.Queue(), set()
+        self.going, self.changed = 0, threading.Condition()  # sessions that have begun and haven't ended
         self.workers = [threading.Thread(target=self.work, args=(seat,), daemon=True) for seat in range(workers)]
         for thread in [threading.Thread(target=self.listen, daemon=True), *self.workers]:
             thread.start()
@@ -104,6 +105,7 @@ class Server:
                 stream, _ = self.listener.accept()
             except OSError:  # the server is closed
                 break
+            self.count(1)
             self.links.put(stream)
             served += 1
         self.listener.close()
@@ -120,6 +122,21 @@ class Server:
                 pass
             self.service.put_back(seat)
             self.open.discard(stream)
+            self.count(-1)
+
+    def count(self, more):
+        with self.changed:
+            self.going += more
+            self.changed.notify_all()
+
+    def settle(self):
+        """Waits until all sessions have ended whose clients have gone: nothing comes of them any more. (Connections are taken in their
+        order, so those before ours have begun once it is answered.) Tells whether they have, in time."""
+        link = wire.connect(self.port)
+        link.ask(wire.fetch(1))
+        link.close()
+        with self.changed:
+            return self.changed.wait_for(lambda: self.going == 0, wire.WAIT)
 
     def serve(self, seat, stream):
         link = wire.Link(stream)

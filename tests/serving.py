@@ -834,6 +834,7 @@ def kills(at):
                 time.sleep(seed.random() * 0.02)
                 client.process.send_signal(signal.SIGKILL)
                 client.process.wait(WAIT)
+            stuck += [] if server.settle() else [f"{n}, whose session goes on"]
             data = read(key)
             torn += [] if len(data) == 64 and data[:60] == room.keys[0].file()[:60] else [n]
             behind += [n] if service.seen and next_leaf(key) <= service.leaves()[-1][0] else []
@@ -869,16 +870,19 @@ class Ahead:
             with open(self.path, "wb") as file:
                 file.write(self.key.file())
 
-    def kill_one(self, port, number):
-        """Starts a client, and kills it: at any time after its start, or while it signs."""
+    def kill_one(self, server, number):
+        """Starts a client, and kills it: at any time after its start, or while it signs. What it sent has come before anything is looked
+        at."""
         before, seen = next_leaf(self.path), len(self.service.seen)
-        with Running(self.room.words(port, 0)) as client:
+        with Running(self.room.words(server.port, 0)) as client:
             client.write(b"create /%d\n" % number + b"".join(b"write /%d 0 %02x\n" % (number, n % 256) for n in range(300)))
             if number % 4:
                 client.printed.next()
             time.sleep(self.seed.random() * (0.05 if number % 4 else 0.5))
             client.process.send_signal(signal.SIGKILL)
             client.process.wait(WAIT)
+        if not server.settle():
+            self.faults.append(f"{number}: its session goes on")
         after = next_leaf(self.path)
         signed = [audit_model.leaf_of(audit_model.commit_in(data)[1]) for data in self.service.seen[seen:]]
         if not (before <= min(signed, default=before) and max(signed, default=before - 1) < after):
@@ -895,7 +899,7 @@ def kills_ahead(at):
         for number in range(count):
             if number % 10 == 0 or program == MODEL:
                 ahead.begin_anew(next_leaf(ahead.path))
-            ahead.kill_one(server.port, number)
+            ahead.kill_one(server, number)
             leaves = [leaf for leaf, _ in ahead.service.leaves()]
             if len(leaves) != len(set(leaves)):
                 ahead.faults.append(f"{number}: a leaf twice in {leaves}")
@@ -922,17 +926,18 @@ def kills_at_calls(at):
             file.write(fresh)
         with open(script, "rb") as given:
             words = ["strace", "-f", "-qq", *how, *program, *map(str, room.words(server.port, 0))]
-            return subprocess.run(words, stdin=given, stdout=subprocess.PIPE, stderr=subprocess.PIPE, timeout=WAIT)
+            subprocess.run(words, stdin=given, stdout=subprocess.PIPE, stderr=subprocess.PIPE, timeout=WAIT)
+        return server.settle()
 
     with model_server.Server(service) as server:
         traced("-o", f"{at}/trace")
         calls = list(calls_in(f"{at}/trace"))
         for call, which in calls[::-(-len(calls) // MOST_CALLS)]:
-            traced("-o", "/dev/null", "-e", f"inject={call}:signal=KILL:when={which}")
+            is_over = traced("-o", "/dev/null", "-e", f"inject={call}:signal=KILL:when={which}")
             data, leaves = read(key), [leaf for leaf, _ in service.leaves()]
             is_kept = len(data) == 64 and data[:60] == fresh[:60] and next_leaf(key) > max(leaves, default=-1)
             ended = room.run(server.port, 0, b"create /b\n")
-            is_right = is_kept and (ended[0], ended[2]) == ([b"ok %d" % len(service.book.records)], 0)
+            is_right = is_over and is_kept and (ended[0], ended[2]) == ([b"ok %d" % len(service.book.records)], 0)
             yield f"killed_at_{call}_{which}: {leaves} {ended}", is_right
             yield from check_leaves(f"at_{call}_{which}", service)
 
