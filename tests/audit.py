@@ -81,9 +81,9 @@ def is_so(room, publics, log, wanted=None):
     return wanted in (None, by_model) and room.audit(publics, log) == by_model
 
 
-def script(maker, text):
+def script(maker, text, form=None):
     for line in text.split("; "):
-        maker.say(line)
+        maker.say(line, form)
     return maker
 
 
@@ -136,6 +136,7 @@ ALL_KINDS = (
     "0 rename U0:2 f G0:1 h G0:3; 0 unlink G0:1 g G0:3; 1 take G0:3 7; 1 write G0:3 0 41; 1 undo 9; 1 undo 8; 0 undo 6; "
     "0 create G0:1 s G1:1 9; 0 unlink G0:1 s G1:1; 0 undo 14; 0 undo_last; 2 take G0:1 1; 2 mkdir G0:1 e G0:9 9; 2 undo_last; "
     "2 undo 17; 0 undo 4")
+KINDS_OF_THE_SECOND_FORMAT = "1 take G0:1 4; 0 drop 1; 0 undo 23; 1 undo 22; 1 take G0:1 5"
 
 
 def good(room):
@@ -143,8 +144,11 @@ def good(room):
         publics = [logs.key_of(n, width=4, leaves=1).public() for n in range(count)]
         yield f"an_empty_log_of_{count}", is_so(room, publics, b"", 0)
     for width in (4, 8):
-        maker = script(logs.Maker([logs.key_of(n, width=width) for n in range(3)]), ALL_KINDS)
-        yield f"all_kinds_of_width_{width}", is_so(room, maker.publics, maker.log(), 21)
+        keys_ = [logs.key_of(n, width=width) for n in range(3)]
+        maker = script(logs.Maker(keys_, form=1), ALL_KINDS)
+        yield f"all_kinds_of_width_{width}_in_the_first_format", is_so(room, maker.publics, maker.log(), 21)
+        maker = script(logs.Maker(keys_), f"{ALL_KINDS}; {KINDS_OF_THE_SECOND_FORMAT}")
+        yield f"all_kinds_of_width_{width}", is_so(room, maker.publics, maker.log(), 26)
     for height in lms.LMS_OF_HEIGHT:
         for width in lms.OTS_OF_WIDTH:
             maker = logs.Maker([logs.key_of(n, height, width, leaves=2) for n in range(2)])
@@ -159,7 +163,7 @@ def extremes(room):
     script(maker, "63 take G0:1 1; 63 create G0:1 a G0:2 2; 62 take G0:2 1; 62 write G0:2 0 41; 62 undo 4; 62 undo 3")
     yield "the_most_users", is_so(room, maker.publics, maker.log(), 6)
     maker = script(logs.Maker([logs.key_of(0, width=4)]), "0 create G0:1 a U0:2")
-    maker.add(0, ("write", ("U", 0, 2), 1048576 - 65536, bytes(range(256)) * 256))
+    maker.add(0, ("write", ("U", 0, 2), desk_model.LARGEST_FILE[2] - 65536, bytes(range(256)) * 256))
     names = [b"\n", b" ", b"\xff" * 255, b"...", bytes(n for n in range(1, 256) if n != 0x2f)]
     for number, name in enumerate(names, 3):
         maker.add(0, ("create", "create", desk_model.group_file(0, 1), name, ("U", 0, number), number))
@@ -172,13 +176,15 @@ def extremes(room):
 # ---- logs by chance
 
 def by_chance(room):
-    """Lines of the second desk's dice: those that are accepted make a log, and some that aren't come at the end of one."""
+    """Lines of the second desk's dice: those that are accepted make a log, and some that aren't come at the end of one. Some logs are
+    of the first format to their end, and some to their middle."""
     refused = {}
     for seed in range(CHANCE_LOGS):
         users = 1 + seed % 3
         maker = logs.Maker([logs.key_of(n, 20, 4, leaves=CHANCE_LINES) for n in range(users)])
         dice = desk_model.Dice(f"audit {seed}", maker.desk)
-        for _ in range(CHANCE_LINES):
+        for n in range(CHANCE_LINES):
+            maker.desk.form = 1 if seed % 4 == 1 or seed % 4 == 2 and n < CHANCE_LINES // 2 else desk_model.NEWEST
             line = dice.line()
             if line[0].isdigit() and is_spelled(*maker.read(line), users):
                 say(maker, line, refused)
@@ -209,8 +215,9 @@ def say(maker, line, refused):
 
 def unfit(maker, user, change):
     """A log with a commit at its end whose change the desk refuses, and which has the i-handles of no tree."""
-    version = logs.Version(user, maker.prev, sha256(logs.item_of(change)), bytes(32), [], maker.raised(user, []))
-    return maker.log() + logs.log_bytes([(maker.sign(version), logs.item_of(change))])
+    item = logs.item_of(change)
+    version = logs.Version(user, maker.prev, sha256(item), bytes(32), [], maker.raised(user, []), maker.desk.form)
+    return maker.log() + logs.log_bytes([(maker.sign(version), item)])
 
 
 # ---- a commit with each of its fields another
@@ -287,7 +294,8 @@ def other_item(maker, version, item, how):
 def carried(*groups):
     """Another list of carried groups, each with its i-handle after the change, and the vector that goes with it."""
     def make(maker, version, item, how):
-        maker.desk.history.append(maker.read(Next.CHANGE))
+        user, change = maker.read(Next.CHANGE)
+        maker.desk.history.append((user, maker.desk.form, change))
         handles = logs.Handles(maker.desk)
         maker.desk.history.pop()
         version.groups = [(group, handles.of("G", group)) for group in groups]
@@ -337,7 +345,8 @@ FIELDS = {
 UNFIT = {
     "1 take U1:2 9": "3 BadNumber", "2 create G0:1 x G1:1 9": "13 NotMember 1", "1 unlink G0:1 b U1:9": "14 NoFile U1:9",
     "1 write G0:1 0 41": "15 WrongKind G0:1", "0 create G0:1 x U0:3": "16 NotHolder 1", "1 take G0:1 9": "17 Held",
-    "1 rename G0:1 x G0:1 y U1:2": "18 NoName", "1 link G0:1 a U1:2": "19 Exists", "0 truncate G0:2 1048577": "22 TooBig",
+    "1 rename G0:1 x G0:1 y U1:2": "18 NoName", "1 link G0:1 a U1:2": "19 Exists", "0 truncate G0:2 16777217": "22 TooBig",
+    "1 drop 9": "14 NoFile U1:9", "1 drop 1": "17 Held", "1 drop 2": "17 Held", "2 drop 1": "14 NoFile U2:1",
     "1 undo 0": "24 NoOperation 0", "1 undo 5": "24 NoOperation 5", "1 undo 18446744073709551615": "24 NoOperation " + str(2 ** 64 - 1),
     "1 undo 2": "27 NotAuthor 0", "0 undo 1": "28 Blocked 3", "1 undo 3": "28 Blocked 4",
 }
@@ -346,7 +355,8 @@ UNFIT = {
 WRITE, TAKE = "0502" + "010000000002" + "00000000", "0507" + "010000000001"
 LINK = "0504" + "010000000001"
 NO_ITEMS = {
-    "00": 0, "06": 0, "05": 1, "0508": 1, "05ff": 1, "0500" + "00" * 7: 2, "0500" + "00" * 9: 10, "0503": 2,
+    "00": 0, "06": 0, "05": 1, "0509": 1, "05ff": 1, "0508": 2, "0508000000": 2, "050800000000": 2, "0508000f4241": 2, "05080000000100": 6,
+    "0500" + "00" * 7: 2, "0500" + "00" * 9: 10, "0503": 2,
     "0507" + "020000000001": 2, "0507" + "004000000001": 2, "0507" + "011000000001": 2, "0507" + "010000000000": 2,
     "0507" + "0100000f4241": 2, "0507" + "0100000000": 2, TAKE + "00000000": 8, TAKE + "000f4241": 8, TAKE + "000000": 8,
     TAKE + "00000001" + "00": 12, WRITE: 12, WRITE + "00000000": 12, WRITE + "00010001" + "41" * 65537: 12,
@@ -400,10 +410,11 @@ def spellings(room, next_):
         yield f"commit_of_{length}", refused(commit[:length], f"1 Malformed {place}")
     yield "commit_of_a_byte_more", refused(commit + b"\0", f"1 Malformed {len(commit)}")
     for name, at, part in (
-            ("later_format", 0, b"SV02"), ("author_out_of_range", 4, b"\x40"), ("group_out_of_range", 102, b"\x10"),
+            ("later_format", 0, b"SV03"), ("no_format", 0, b"SV00"), ("author_out_of_range", 4, b"\x40"), ("group_out_of_range", 102, b"\x10"),
             ("one_number", 135, b"\1"), ("too_many_numbers", 135, b"\x51"), ("no_signature", start, bytes(4)),
             ("too_long_a_signature", start, (9325).to_bytes(4, "big"))):
         yield name, refused(commit[:at] + part + commit[at + len(part):], f"1 Malformed {at}")
+    yield "format_that_is_not_signed", refused(b"SV01" + commit[4:], "33 BadSignature")
     for groups in ((0, 0), (1, 0), (0, 5, 5)):
         version.groups = [(group, bytes(32)) for group in groups]
         place = 102 + 33 * (len(groups) - 1)
@@ -417,6 +428,58 @@ def parts_of(version, commit):
     for length in lengths:
         yield at, at + length
         at += length
+
+
+# ---- formats
+
+BEFORE = "0 create G0:1 a U0:2; 1 take G0:1 1; 1 create G0:1 b U1:2"
+
+
+class Mixed:
+    """A log of three commits of the first format, and of one of the second format behind them, in which user 0 drops a body."""
+
+    def __init__(self):
+        self.old = script(logs.Maker([logs.key_of(n, width=4) for n in range(2)], form=1), BEFORE)
+        self.maker = self.old.copy()
+        self.maker.desk.form = 2
+        script(self.maker, "0 drop 1")
+        self.publics = self.maker.publics
+
+    def next(self, *changes, line="1 truncate U1:2 1"):
+        """The log with the commit of a line behind it, which is of the first format, and has these changes too."""
+        maker, how = self.maker.copy(), {}
+        user, change = maker.read(line)
+        version, item = maker.version(user, change), logs.item_of(change)
+        version.form = 1
+        for it in changes:
+            item = it(maker, version, item, how) or item
+        return maker.log() + logs.log_bytes([(maker.sign(version, **how), item)])
+
+
+def formats(room):
+    """Logs of both formats; a format that falls is refused behind the digest before and before all else, and a change that the first
+    format doesn't have only as a change."""
+    mixed = Mixed()
+    publics, old = mixed.publics, mixed.old
+    yield "three_of_the_first_format", is_so(room, publics, old.log(), 3)
+    yield "one_of_the_second_behind_them", is_so(room, publics, mixed.maker.log(), 4)
+    for name, changes, wanted in (
+            ("falls", (), "44 OldFormat"), ("falls_unsigned", (other_signer,), "33 BadSignature"), ("falls_elsewhere", (PREV,), "34 WrongPrev 4"),
+            ("falls_and_vector", (VECTOR,), "44 OldFormat"), ("falls_and_leaf", (old_leaf,), "44 OldFormat"),
+            ("falls_and_item", (CHANGE,), "44 OldFormat"), ("falls_and_handle", (HANDLE,), "44 OldFormat")):
+        yield f"format_{name}", is_so(room, publics, mixed.next(*changes), (5, wanted))
+    yield "format_falls_for_an_undo", is_so(room, publics, mixed.next(line="0 undo 4"), (5, "44 OldFormat"))
+    again = script(mixed.maker.copy(), "1 write U1:2 1048576 41; 0 undo 4; 1 undo 5; 1 undo 3; 1 undo 2; 0 undo 1")
+    yield "what_is_of_the_first_format_is_undone", is_so(room, publics, again.log(), 10)
+    for line, wanted in (
+            ("0 drop 1", "44 OldFormat"), ("0 drop 9", "44 OldFormat"), ("1 truncate U1:2 1048577", "22 TooBig"),
+            ("1 write U1:2 1048576 41", "22 TooBig")):
+        log = unfit(old, *old.read(line))
+        yield f"not_in_the_first_format_{line}", is_so(room, publics, log, (4, f"39 Change {wanted}"))
+    largest = script(old.copy(), "1 truncate U1:2 1048576")
+    yield "the_largest_of_the_first_format", is_so(room, publics, largest.log(), 4)
+    script(largest, "1 truncate U1:2 16777216; 1 undo 5; 1 write U1:2 16777215 41", form=2)
+    yield "the_largest_of_the_second_format", is_so(room, publics, largest.log(), 7)
 
 
 # ---- bytes of a log, and commits in another order
@@ -607,7 +670,7 @@ def main():
     results = {}
     if not tally.is_there("audit", PROGRAM):
         return 1
-    for part in (keys, signatures, many_keys, good, by_chance, fields, each_byte, orders, ahead, faults, example):
+    for part in (keys, signatures, many_keys, good, by_chance, fields, formats, each_byte, orders, ahead, faults, example):
         with tempfile.TemporaryDirectory() as at:
             results.update(part(Room(at)))
     return tally.told("audit", results)

@@ -52,7 +52,7 @@ def change_in(item):
     """The change of an item."""
     reader = Reader(item)
     reader.part(1, lambda part: part == b"\5")
-    words = ("undo", "create", "write", "truncate", "link", "rename", "unlink", "take")
+    words = ("undo", "create", "write", "truncate", "link", "rename", "unlink", "take", "drop")
     word = words[reader.number(1, 0, len(words) - 1)]
     change = globals().get(word + "_in", link_in)(word, reader)
     reader.end()
@@ -91,10 +91,15 @@ def take_in(word, reader):
     return word, reader.file(), reader.number(4, 1, 1000000)
 
 
+def drop_in(word, reader):
+    return word, reader.number(4, 1, 1000000)
+
+
 def commit_in(data):
     """The version structure of a commit, and its signature."""
     reader = Reader(data)
-    reader.part(4, lambda part: part == b"SV01")
+    forms = {begin: form for form, begin in logs.FIRST_BYTES.items()}
+    form = forms[reader.part(4, lambda part: part in forms)]
     author = reader.number(1, 0, 63)
     prev, change, handle = reader.part(32), reader.part(32), reader.part(32)
     groups, least = [], 0
@@ -105,7 +110,7 @@ def commit_in(data):
     vector = [reader.number(8) for _ in range(reader.number(1, 2, MOST_NUMBERS))]
     signature = reader.part(reader.number(4, 1, LONGEST_SIGNATURE))
     reader.end()
-    return logs.Version(author, prev, change, handle, groups, vector), signature
+    return logs.Version(author, prev, change, handle, groups, vector, form), signature
 
 
 class Chain:
@@ -115,7 +120,7 @@ class Chain:
         self.publics = publics
         self.prev = sha256(logs.roster_bytes(publics))
         self.vector = [0] * (len(publics) + 2)
-        self.count = 0
+        self.count, self.form = 0, 1
         self.last_leaf = {}
 
     def check_next(self, version, signature):
@@ -123,6 +128,7 @@ class Chain:
         is_signed = is_user and verify(self.publics[version.author], version.encode(), signature)
         demand(is_signed, "33 BadSignature")
         demand(version.prev == self.prev, f"34 WrongPrev {self.count}")
+        demand(version.form >= self.form, "44 OldFormat")
         carried = [group for group, _ in version.groups]
         is_next = set(carried) <= {0, 1} and version.vector == logs.raised(self.vector, len(self.publics), version.author, carried)
         demand(is_next, "35 WrongVector")
@@ -131,7 +137,7 @@ class Chain:
     def add(self, commit):
         """Adds a commit that may come next."""
         version, signature = commit_in(commit)
-        self.prev, self.vector = sha256(commit), version.vector
+        self.prev, self.vector, self.form = sha256(commit), version.vector, version.form
         self.count += 1
         self.last_leaf[version.author] = leaf_of(signature)
 
@@ -171,7 +177,7 @@ class View:
         """The change of the item that a commit names, and the version structure that it should have then."""
         try:
             change = change_in(item)
-            return change, self.maker.version(version.author, change)
+            return change, self.maker.version(version.author, change, version.form)
         except Refused as why:
             raise Refused(f"39 Change {why}") from None
 
@@ -195,6 +201,15 @@ def piece(log, at):
     length = int.from_bytes(log[at:at + 4], "big")
     demand(at + 4 <= len(log) and at + 4 + length <= len(log), f"1 Malformed {at}")
     return log[at + 4:at + 4 + length], at + 4 + length
+
+
+def pieces(log):
+    """The records of a log that isn't cut: pairs of a commit and an item."""
+    at, parts = 0, []
+    while at < len(log):
+        part, at = piece(log, at)
+        parts.append(part)
+    return list(zip(parts[::2], parts[1::2]))
 
 
 def audit(publics, log):

@@ -232,7 +232,7 @@ NO_REPLIES = {
     "an_unknown_tag": wire.frame(b"\x99"),
     "a_request": wire.frame(wire.GRANT),
     "a_byte_more": wire.frame(wire.GIVEN + b"\0"),
-    "an_unknown_refusal": wire.frame(b"\xff\x2c" + bytes(8)),
+    "an_unknown_refusal": wire.frame(b"\xff\x2d" + bytes(8)),
     "a_refusal_of_another_request": wire.frame(wire.refused("41 TooLong")),
     "a_refusal_with_an_argument": wire.frame(b"\xff\x20" + bytes(7) + b"\1"),
     "a_refusal_of_a_seat_that_is_none": wire.frame(b"\xff\x1f" + b"\xff" * 8),

@@ -46,7 +46,7 @@ def some_bytes(word):
 # the words behind each command
 FORMS = {
     b"mkdir": [a_path], b"create": [a_path], b"write": [a_path, a_number, some_bytes], b"truncate": [a_path, a_number],
-    b"link": [a_path, a_path], b"rename": [a_path, a_path], b"remove": [a_path], b"undo": [a_number], b"undo_last": [],
+    b"link": [a_path, a_path], b"rename": [a_path, a_path], b"remove": [a_path], b"tidy": [], b"undo": [a_number], b"undo_last": [],
     b"ls": [a_path], b"cat": [a_path, a_number, a_number], b"save": [a_path],
 }
 
@@ -206,7 +206,13 @@ def draft_remove(draft, path):
     draft.add("unlink", directory, name, file)
 
 
-CHANGES = ("mkdir", "create", "write", "truncate", "link", "rename", "remove")
+def draft_tidy(draft):
+    stale = [place for place in draft.tree[0] if place[0] == draft.user and desk_model.is_stale(draft.tree, place)]
+    for _, number in sorted(stale):
+        draft.add("drop", number)
+
+
+CHANGES = ("mkdir", "create", "write", "truncate", "link", "rename", "remove", "tidy")
 
 
 def plan(desk, user, word, arguments):
@@ -216,7 +222,7 @@ def plan(desk, user, word, arguments):
     draft = Draft(tree, user)
     globals()["draft_" + word](draft, *arguments)
     for operation in draft.operations:
-        tree, _, _ = desk_model.check(desk.roster, tree, user, operation)
+        tree, _, _ = desk_model.check(desk.roster, tree, user, desk.form, operation)
     return draft.operations
 
 
@@ -327,7 +333,7 @@ class Team:
         demand(self.leaves[user] > 0, "8 KeySpent")
         self.leaves[user] -= 1
         demand(number <= self.capacity, "37 BookFull")
-        self.desk.history.append((user, change))
+        self.desk.history.append((user, self.desk.form, change))
         return number
 
 
@@ -361,7 +367,7 @@ def may_be_replaced(file):
         return False
     with open(file, "rb") as old:
         front = old.read(8)
-    return front == b"" or len(front) == 8 and front[4:] == b"SV01"
+    return front == b"" or len(front) == 8 and front[4:] in audit_model.logs.FIRST_BYTES.values()
 
 
 class LinkFailed(Exception):
@@ -374,18 +380,20 @@ class LogRefused(Exception):
 
 # the refusals that fit a request (of an item that is put none: its size was looked at before)
 FITTING = {
-    "grant": (31,), "commit": (1, 32, 33, 34, 35, 36, 37), "give": (32,), "fetch": (), "put": (), "get": (5,),
+    "grant": (31,), "commit": (1, 32, 33, 34, 35, 36, 37, 44), "give": (32,), "fetch": (), "put": (), "get": (5,),
 }
 
 
 class LinkedView(View):
-    """A view whose items a server keeps."""
+    """A view whose items a server keeps. What was put there isn't asked for."""
 
     def __init__(self, publics, client):
         super().__init__(publics)
         self.client = client
 
     def item(self, digest):
+        if digest in self.items:
+            return self.items[digest]
         item = self.client.ask(wire.get(digest), "get", "item")
         demand(sha256(item) == digest, "6 WrongBlock")
         return item
@@ -395,6 +403,7 @@ class LinkedView(View):
         if self.client.ask(wire.put(item), "put", "put_done") != sha256(item):
             self.client.has_failed = True
             raise LinkFailed("7 SourceFailed")
+        self.items[sha256(item)] = item
 
     def own_last(self, user):
         own = [commit for commit, _ in self.maker.records if audit_model.commit_in(commit)[0].author == user]

@@ -4,15 +4,17 @@ for each answer replays what is live from the first tree on. With scripts by cha
 definitions mean what they were meant to.
 
 usage: desk_model.py FOLDER COUNT LINES    writes COUNT scripts of LINES lines each into FOLDER, as NAME, NAME.args, NAME.stdout;
-                                           each fourth also asks for all handles after each line
-       desk_model.py --run USERS           reads a script of good lines on standard input, and prints what it answers
+                                           each fourth also asks for all handles after each line, each third makes the older format
+       desk_model.py --run USERS [FORMAT]  reads a script of good lines on standard input, and prints what it answers
 """
 import hashlib
 import random
 import sys
 
 BLOCK = 4096
-LARGEST_FILE = 1048576
+NEWEST = 2  # of the formats, which are numbers
+LARGEST_FILE = {1: 1048576, 2: 16777216}  # in each format
+FIRST_FORMAT = {"drop": 2}  # of the changes that not all formats have
 LARGEST_WRITE = 65536
 MOST_LINKS = 255
 
@@ -89,10 +91,11 @@ def holds(a, *places):
         demand(place[0] == a, f"16 NotHolder {place[0]}")
 
 
-def check(roster, tree, a, op):
+def check(roster, tree, a, form, op):
     """Raises the first refusal; else answers the effect, the cells that are read besides, and those that are written."""
     demand(a in roster.users, f"12 NoUser {a}")
-    return globals()["check_" + op[0]](roster, tree, a, *op[1:])
+    limits = [LARGEST_FILE[form]] if op[0] in ("write", "truncate") else []
+    return globals()["check_" + op[0]](roster, tree, a, *op[1:], *limits)
 
 
 def names(tree, place):
@@ -164,14 +167,14 @@ def blocks(place, first, last):
     return {("inode", place, "block", n) for n in range(first // BLOCK, last // BLOCK + 1)}
 
 
-def check_write(roster, tree, a, file, off, data):
+def check_write(roster, tree, a, file, off, data, largest):
     demand(1 <= len(data) <= LARGEST_WRITE, "3 BadNumber")
     touch(roster, a, file)
     f = found(tree, file)
     demand(is_file(tree, f), f"15 WrongKind {text_of(file)}")
     holds(a, f)
     end = off + len(data)
-    demand(end <= LARGEST_FILE, "22 TooBig")
+    demand(end <= largest, "22 TooBig")
     home, links, content = tree[0][f]
     size = len(content)
     after = content.ljust(off, b"\0")
@@ -184,12 +187,12 @@ def check_write(roster, tree, a, file, off, data):
     return put(tree, f, (home, links, after)), reads, writes
 
 
-def check_truncate(roster, tree, a, file, size):
+def check_truncate(roster, tree, a, file, size, largest):
     touch(roster, a, file)
     f = found(tree, file)
     demand(is_file(tree, f), f"15 WrongKind {text_of(file)}")
     holds(a, f)
-    demand(size <= LARGEST_FILE, "22 TooBig")
+    demand(size <= largest, "22 TooBig")
     home, links, content = tree[0][f]
     old = len(content)
     writes = set()
@@ -263,6 +266,20 @@ def check_take(roster, tree, a, file, number):
     return after, reads, {("inode", new, "whole")} | pointer_cells(file)
 
 
+def is_stale(tree, place):
+    """Whether what stands there was made for a group file whose pointer leads elsewhere, or nowhere."""
+    home = tree[0][place][0]
+    return home[0] == "G" and tree[1].get(home[1:]) != place
+
+
+def check_drop(roster, tree, a, number):
+    old = (a, number)
+    demand(old in tree[0], f"14 NoFile {text_of(user_file(a, number))}")
+    demand(is_stale(tree, old), "17 Held")
+    writes = {("inode", old, "whole")}
+    return put(tree, old, None), writes | pointer_cells(tree[0][old][0]), writes
+
+
 def share(some, others):
     def same(x, y):
         whole = "whole" in (x[2:3] + y[2:3])
@@ -274,14 +291,18 @@ def share(some, others):
 # ---- the desk
 
 class Desk:
-    def __init__(self, users):
+    """Its history is triples of an author, a format and a change. The format in which changes are made, unless they come with one, is
+    `form`."""
+
+    def __init__(self, users, form=NEWEST):
         self.roster = Roster(users)
+        self.form = form
         self.history = []
         self.mark = None
 
     def live(self, history):
-        undone = {change[1] for _, change in history if change[0] == "undo"}
-        return [n for n, (_, change) in enumerate(history, 1) if change[0] != "undo" and n not in undone]
+        undone = {change[1] for _, _, change in history if change[0] == "undo"}
+        return [n for n, (_, _, change) in enumerate(history, 1) if change[0] != "undo" and n not in undone]
 
     def tree(self, history):
         tree = genesis()
@@ -299,23 +320,30 @@ class Desk:
         readers = [m for m in self.live(self.history) if m > n and share(self.cells(m)[0], writes)]
         return max(readers, default=None)
 
+    def check_form(self, form, change):
+        """No entry is of an older format than the one before it, and each format has its changes."""
+        before = self.history[-1][1] if self.history else 1
+        demand(form >= before and form >= FIRST_FORMAT.get(change[0], 1), "44 OldFormat")
+
     def check_undo(self, a, n):
         demand(a in self.roster.users, f"12 NoUser {a}")
         demand(1 <= n <= len(self.history), f"24 NoOperation {n}")
-        author, change = self.history[n - 1]
+        author, _, change = self.history[n - 1]
         demand(change[0] != "undo", f"25 NotOperation {n}")
-        for m, (_, other) in enumerate(self.history, 1):
+        for m, (_, _, other) in enumerate(self.history, 1):
             demand(other != ("undo", n), f"26 AlreadyUndone {n} {m}")
         demand(author == a, f"27 NotAuthor {author}")
         m = self.blocker(n)
         demand(m is None, f"28 Blocked {m}")
 
-    def apply(self, a, change):
+    def apply(self, a, change, form=None):
+        form = self.form if form is None else form
+        self.check_form(form, change)
         if change[0] == "undo":
             self.check_undo(a, change[1])
         else:
-            check(self.roster, self.tree(self.history), a, change)
-        self.history.append((a, change))
+            check(self.roster, self.tree(self.history), a, form, change)
+        self.history.append((a, form, change))
         return len(self.history)
 
     def undo_last(self, a):
@@ -324,7 +352,7 @@ class Desk:
 
     def versions(self):
         counts = {("U", u): 0 for u in self.roster.users} | {("G", g): 0 for g in self.roster.groups}
-        for n, (a, change) in enumerate(self.history, 1):
+        for n, (a, _, change) in enumerate(self.history, 1):
             _, writes = self.cells(change[1] if change[0] == "undo" else n)
             counts["U", a] += 1
             for g in {cell[1][0] for cell in writes if cell[0] == "pointer"}:
@@ -423,15 +451,19 @@ def change_of(word, rest):
     if word == "take":
         f, number = file_of(rest[0]), int(rest[1])
         return (word, f, number), [], [f], 1 <= number <= 1000000
+    if word == "drop":
+        number = int(rest[0])
+        return (word, number), [], [], 1 <= number <= 1000000
     return ("undo", int(rest[0])), [], [], True
 
 
 def carry_out_change(desk, a, words):
     last = words[0] == "undo_last"
     change, bad_names, files, numbers = (None, [], [], True) if last else change_of(words[0], words[1:])
-    demand(a > 63 or a in desk.roster.users, f"12 NoUser {a}")
-    demand(all(map(is_name, bad_names)), "2 BadName")
-    demand(a <= 63 and all(map(is_file_id, files)) and numbers, "3 BadNumber")
+    are_names, are_numbers = all(map(is_name, bad_names)), a <= 63 and all(map(is_file_id, files)) and numbers
+    if not (are_names and are_numbers):
+        demand(a > 63 or a in desk.roster.users, f"12 NoUser {a}")
+        raise Refused("3 BadNumber" if are_names else "2 BadName")
     return f"ok {desk.undo_last(a) if last else desk.apply(a, change)}"
 
 
@@ -477,12 +509,14 @@ def answer(desk, line):
 
 class Dice:
     """Lines by chance over few users, groups, files and names, so that they have to do with each other. Most are made to
-    fit the tree that there is, the others are anything."""
+    fit the tree that there is, the others are anything. Where files may get as large as can be, a script takes long."""
 
-    def __init__(self, seed, desk):
+    def __init__(self, seed, desk, largest_files=False):
         self.random = random.Random(seed)
         self.desk = desk
         self.users = len(desk.roster.users)
+        largest = LARGEST_FILE[desk.form]
+        self.odd_sizes = (1048575, 1048576, 1048577, 2 ** 32, largest + 1, *([largest - 1, largest] * 3 if largest_files else ()))
 
     def pick(self, *choices):
         return self.random.choice(choices)
@@ -509,7 +543,7 @@ class Dice:
 
     def size(self):
         usual = self.pick(0, 1, 2, 4095, 4096, 4097, 8192, 8193)
-        return self.rarely(self.pick(1048575, 1048576, 1048577, 2 ** 32), usual)
+        return self.rarely(self.pick(*self.odd_sizes), usual)
 
     def data(self):
         return bytes([self.random.randrange(256)] * self.pick(1, 2, 4096)).hex()
@@ -519,8 +553,8 @@ class Dice:
         change = self.pick(
             f"mkdir {d} {x} {f} {self.number()}", f"create {d} {x} {f}", f"write {f} {self.size()} {self.data()}",
             f"truncate {f} {self.size()}", f"link {d} {x} {f}", f"unlink {d} {x} {f}",
-            f"rename {d} {x} {self.file()} {self.name()} {f}", f"take {f} {self.number()}", f"undo {self.number()}",
-            "undo_last")
+            f"rename {d} {x} {self.file()} {self.name()} {f}", f"take {f} {self.number()}", f"drop {self.number()}",
+            f"undo {self.number()}", "undo_last")
         return change if "G" not in change or not change.startswith("create") else change + f" {self.number()}"
 
     # ---- what fits the tree, mostly
@@ -533,8 +567,9 @@ class Dice:
         files = [b for b in bodies if is_file(tree, b[1])]
         entries = [(d, place, x, f) for d, place in dirs for x, f in names(tree, place).items()]
         d, at = self.pick(*dirs)
-        kind = self.pick("new", "new", "write", "write", "truncate", "link", "unlink", "rename", "rename", "take", "undo",
-                         "undo", "undo_last")
+        stale = [place for place in tree[0] if is_stale(tree, place)]
+        kind = self.pick("new", "new", "write", "write", "truncate", "link", "unlink", "rename", "rename", "take", "take", "drop",
+                         "undo", "undo", "undo_last")
         if kind == "write" and files:
             f, place = self.pick(*files)
             return place[0], f"write {text_of(f)} {self.size()} {self.data()}"
@@ -554,6 +589,9 @@ class Dice:
         if kind == "take":
             shared = [home for home, _ in bodies if home[0] == "G"]
             return self.random.randrange(self.users), f"take {text_of(self.pick(*shared))} {self.random.randint(1, 40)}"
+        if kind == "drop" and stale:
+            user, number = self.pick(*stale)
+            return user, f"drop {number}"
         if kind == "undo" and self.desk.history:
             n = self.random.randint(1, len(self.desk.history))
             return self.desk.history[n - 1][0], f"undo {n}"
@@ -585,9 +623,9 @@ class Dice:
 
 def write_scripts(folder, count, lines):
     for seed in range(count):
-        users = 1 + seed % 3
-        desk = Desk(users)
-        dice = Dice(seed, desk)
+        users, form = 1 + seed % 3, NEWEST if seed // 3 % 3 else 1
+        desk = Desk(users, form)
+        dice = Dice(seed, desk, largest_files=seed % 20 == 13)
         script, printed = [], []
 
         def say(line):
@@ -606,14 +644,14 @@ def write_scripts(folder, count, lines):
         with open(name, "w") as file:
             file.write("".join(line + "\n" for line in script))
         with open(f"{name}.args", "w") as file:
-            file.write(f"desk\n--users\n{users}\n")
+            file.write(f"desk\n--users\n{users}\n" + (f"--format\n{form}\n" if form != NEWEST or seed % 2 else ""))
         with open(f"{name}.stdout", "w") as file:
             file.write("".join(text + "\n" for text in printed))
 
 
 if __name__ == "__main__":
     if sys.argv[1] == "--run":
-        desk = Desk(int(sys.argv[2]))
+        desk = Desk(*map(int, sys.argv[2:]))
         for line in sys.stdin.read().split("\n"):
             for text in answer(desk, line) if line else []:
                 print(text)

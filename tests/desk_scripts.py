@@ -1,7 +1,7 @@
 """Scripts of a desk with their answers: those of the folder desk/, and those that are too long, too odd or too many for a file.
 
-In a file `== NAME` begins a case, of two users unless ` of N` says how many there are; `> LINE` is a line of its script, and `< LINE`
-one that is printed of it. (A `<` alone is an empty line, as of a range of no bytes; a line of which nothing is printed has none.) The
+In a file `== NAME` begins a case, of two users unless ` of N` says how many there are, and in the newest format unless ` in N` says in
+which; `> LINE` is a line of its script, and `< LINE` one that is printed of it. (A `<` alone is an empty line, as of a range of no bytes; a line of which nothing is printed has none.) The
 other lines are empty, or begin with `#`. All lines of a case are one script.
 """
 import os
@@ -18,9 +18,10 @@ class Case:
     """A script and what is printed of it. Where the last line of that says that a line is bad, the script ends there with status 2, and
     it is told why: so, if the case says how."""
 
-    def __init__(self, script, printed, users=2, why=None):
+    def __init__(self, script, printed, users=2, why=None, form=None):
         self.script, self.printed = (it if isinstance(it, bytes) else it.encode() for it in (script, printed))
-        self.arguments = ["desk"] if users == 2 else ["desk", "--users", str(users)]
+        options = (("--users", None if users == 2 else users), ("--format", form))
+        self.arguments = ["desk", *(word for name, value in options if value for word in (name, str(value)))]
         self.why = why
 
     def is_so(self, printed, told, status):
@@ -42,12 +43,12 @@ def of_files():
 def of_file(topic, text):
     for part in text.split("\n== ")[1:]:
         head, *lines = part.split("\n")
-        name, _, users = head.partition(" of ")
+        name, users, form = re.fullmatch(r"(\S*)(?: of (\d+))?(?: in (\d+))?", head).groups()
         odd = [line for line in lines if line and not re.match(r"[><]( |$)|#", line)]
         if odd or not name.isidentifier():
             raise ValueError(f"{topic}: {name}: {odd}")
         said, printed = ("".join(line[2:] + "\n" for line in lines if line[:1] == mark) for mark in "><")
-        yield f"{topic}_{name}", Case(said, printed, int(users or 2))
+        yield f"{topic}_{name}", Case(said, printed, int(users or 2), form=form)
 
 
 # ---- lines that are no command

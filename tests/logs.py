@@ -48,6 +48,8 @@ def item_of(change):
         return b"\5\5" + file_bytes(source) + spelled_name(old) + file_bytes(target) + spelled_name(new) + file_bytes(file)
     if word == "take":
         return b"\5\7" + file_bytes(rest[0]) + u32(rest[1])
+    if word == "drop":
+        return b"\5\x08" + u32(rest[0])
     directory, name, file = rest
     return {"link": b"\5\4", "unlink": b"\5\6"}[word] + file_bytes(directory) + spelled_name(name) + file_bytes(file)
 
@@ -59,17 +61,20 @@ def roster_bytes(publics):
     return b"SR01" + u8(len(publics)) + users + u8(2) + u8(0) + members + u8(1) + u8(1) + u8(0)
 
 
-class Version:
-    """A version structure; `groups` is pairs of a group and its i-handle, `vector` the numbers."""
+FIRST_BYTES = {1: b"SV01", 2: b"SV02"}  # of a version structure, in each format
 
-    def __init__(self, author, prev, change, handle, groups, vector):
+
+class Version:
+    """A version structure; `groups` is pairs of a group and its i-handle, `vector` the numbers, `form` its format."""
+
+    def __init__(self, author, prev, change, handle, groups, vector, form=desk_model.NEWEST):
         self.author, self.prev, self.change, self.handle = author, prev, change, handle
-        self.groups, self.vector = groups, vector
+        self.groups, self.vector, self.form = groups, vector, form
 
     def encode(self):
         groups = b"".join(u8(group) + handle for group, handle in self.groups)
         numbers = b"".join(map(u64, self.vector))
-        fixed = b"SV01" + u8(self.author) + self.prev + self.change + self.handle
+        fixed = FIRST_BYTES[self.form] + u8(self.author) + self.prev + self.change + self.handle
         return fixed + u8(len(self.groups)) + groups + u8(len(self.vector)) + numbers
 
 
@@ -92,14 +97,14 @@ class Desk(desk_model.Desk):
     """The second desk, which keeps the tree of each history that it met: a replay that ends with an operation is the one before it
     and that operation."""
 
-    def __init__(self, users):
-        super().__init__(users)
+    def __init__(self, users, form=desk_model.NEWEST):
+        super().__init__(users, form)
         self.kept = {}
 
     def tree(self, history):
         key = tuple(history)
         if key not in self.kept:
-            if history and history[-1][1][0] != "undo":
+            if history and history[-1][2][0] != "undo":
                 self.kept[key] = desk_model.check(self.roster, self.tree(history[:-1]), *history[-1])[0]
             else:
                 self.kept[key] = super().tree(history)
@@ -117,12 +122,12 @@ class Handles:
 
 
 class Maker:
-    """Makes a list of commits. The users' keys sign with one leaf after the other."""
+    """Makes a list of commits, in a format unless a change comes with one. The users' keys sign with one leaf after the other."""
 
-    def __init__(self, keys):
+    def __init__(self, keys, form=desk_model.NEWEST):
         self.keys = keys
         self.publics = [key.public() for key in keys]
-        self.desk = Desk(len(keys))
+        self.desk = Desk(len(keys), form)
         self.prev = sha256(roster_bytes(self.publics))
         self.vector = [0] * (len(keys) + 2)
         self.leaves = [0] * len(keys)
@@ -139,16 +144,17 @@ class Maker:
     def log(self):
         return log_bytes(self.records)
 
-    def version(self, user, change):
+    def version(self, user, change, form=None):
         """The version structure of a change that comes next. Raises `Refused` where the desk refuses the change."""
-        n = self.desk.apply(user, change)
+        form = self.desk.form if form is None else form
+        n = self.desk.apply(user, change, form)
         _, writes = self.desk.cells(change[1] if change[0] == "undo" else n)
         carried = sorted({cell[1][0] for cell in writes if cell[0] == "pointer"})
         handles = Handles(self.desk)
         self.desk.history.pop()
         groups = [(group, handles.of("G", group)) for group in carried]
         vector = self.raised(user, carried)
-        return Version(user, self.prev, sha256(item_of(change)), handles.of("U", user), groups, vector)
+        return Version(user, self.prev, sha256(item_of(change)), handles.of("U", user), groups, vector, form)
 
     def raised(self, user, groups):
         return raised(self.vector, len(self.keys), user, groups)
@@ -159,15 +165,15 @@ class Maker:
         leaf = self.leaves[signer] if leaf is None else leaf
         return commit_of(version, self.keys[signer].sign(leaf, version.encode()))
 
-    def add(self, user, change):
+    def add(self, user, change, form=None):
         """Makes the commit of a change, and adds both."""
-        version = self.version(user, change)
+        version = self.version(user, change, form)
         commit = self.sign(version)
         self.take(user, change, version, commit)
         return commit
 
     def take(self, user, change, version, commit):
-        self.desk.history.append((user, change))
+        self.desk.history.append((user, version.form, change))
         self.prev, self.vector = sha256(commit), version.vector
         self.leaves[user] += 1
         self.records.append((commit, item_of(change)))
@@ -180,9 +186,9 @@ class Maker:
             word, rest = "undo", [live[-1] if live else 0]
         return int(user), desk_model.change_of(word, rest)[0]
 
-    def say(self, line):
+    def say(self, line, form=None):
         """Adds the commit of a line of a desk script."""
-        return self.add(*self.read(line))
+        return self.add(*self.read(line), form)
 
 
 def key_of(seed, height=5, width=8, **how):
@@ -190,7 +196,7 @@ def key_of(seed, height=5, width=8, **how):
     return lms.Key(random.Random(f"key {seed}").randbytes(48), height, width, **how)
 
 
-# Two users share a list. One takes the other's group over, and the first operation is undone below what came later.
+# Two users share a list, in the first format. One takes the other's group over, and the first operation is undone below what came later.
 STORY = """0 create G0:1 plan U0:2
 0 write U0:2 0 68656c6c6f
 1 take G0:1 1
@@ -202,7 +208,7 @@ STORY = """0 create G0:1 plan U0:2
 
 
 def write_example(folder):
-    maker = Maker([key_of("of the example, user 0"), key_of("of the example, user 1")])
+    maker = Maker([key_of("of the example, user 0"), key_of("of the example, user 1")], form=1)
     for line in STORY.splitlines():
         maker.say(line)
     for name, data in (("log", maker.log()), ("0.pub", maker.publics[0]), ("1.pub", maker.publics[1])):

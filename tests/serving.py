@@ -32,6 +32,7 @@ import logs
 import model_server
 import tally
 import wire
+from desk_model import sha256, user_file
 from keys import calls_in
 
 HERE = os.path.dirname(os.path.abspath(__file__))
@@ -206,9 +207,9 @@ class Room:
             client.write(script)
             return client.end()
 
-    def log(self, text):
-        """The log of these lines of a desk script, and its maker."""
-        maker = logs.Maker(self.keys)
+    def log(self, text, form=desk_model.NEWEST):
+        """The maker of a log of these lines of a desk script."""
+        maker = logs.Maker(self.keys, form)
         for line in text.split("; "):
             maker.say(line)
         return maker
@@ -229,19 +230,16 @@ def is_told(told, *parts):
     return len(told) == 1 and all(it.encode() in told[0] for it in ("sundr: ", *parts)) and told[0].startswith(b"sundr: ")
 
 
-def parts_of(log):
-    """The commits and items of a saved log, in turn."""
-    data, at, parts = read(log), 0, []
-    while at < len(data):
-        part, at = audit_model.piece(data, at)
-        parts.append(part)
-    return parts
-
-
 def history_of(log):
-    """The authors and changes of a log, as the second desk has them."""
-    parts = parts_of(log)
-    return [(audit_model.commit_in(commit)[0].author, audit_model.change_in(item)) for commit, item in zip(parts[::2], parts[1::2])]
+    """The authors, formats and changes of a log, as the second desk has them."""
+    records = [(audit_model.commit_in(commit)[0], item) for commit, item in audit_model.pieces(read(log))]
+    return [(version.author, version.form, audit_model.change_in(item)) for version, item in records]
+
+
+def changes_of(log):
+    """The authors and changes of a log whose commits are all of the newest format."""
+    history = history_of(log)
+    return [(author, change) for author, form, change in history if form == desk_model.NEWEST]
 
 
 def audit(room, log):
@@ -338,13 +336,14 @@ def operations(at):
         (1, ("take", folder, 3)), (1, ("create", "create", folder, b"g", other, 4)),
         (1, ("take", root, 5)), (1, ("unlink", folder, b"g", other)), (1, ("rename", root, b"f", folder, b"g", file)),
         (0, ("take", root, 5)), (0, ("link", root, b"h", file))]
-    history = history_of(saved)
-    yield f"operations_of_commands: {[it for it in zip(history, wanted) if it[0] != it[1]][:1]}", history == wanted
+    made = changes_of(saved)
+    yield f"operations_of_commands: {[it for it in zip(made, wanted) if it[0] != it[1]][:1]}", made == wanted
     yield from operations_of_names(at)
 
 
 def operations_of_names(at):
-    """Takes come first, and a name that is in use is made free before a file gets it."""
+    """Takes come first, and a name that is in use is made free before a file gets it. What takes leave behind is tidied away, by each
+    user his own."""
     root, file, other = (desk_model.group_file(0, number) for number in range(1, 4))
     cases = {
         "taken": (
@@ -359,6 +358,12 @@ def operations_of_names(at):
              (1, ("take", root, 1)), (1, ("take", other, 2)), (1, ("unlink", root, b"b", other)), (1, ("rename", root, b"a", root, b"b", file)),
              (1, ("take", file, 2)), (1, ("link", root, b"c", file)),
              (1, ("unlink", root, b"c", file)), (1, ("rename", root, b"b", root, b"c", file)), (1, ("unlink", root, b"c", file))]),
+        "tidied": (
+            ((0, b"tidy"), (1, b"mkdir /d"), (0, b"create /d/f"), (0, b"rename /d/f /f"), (1, b"tidy"), (0, b"tidy"), (0, b"tidy")),
+            [(1, ("take", root, 1)), (1, ("create", "mkdir", root, b"d", file, 2)),
+             (0, ("take", file, 2)), (0, ("create", "create", file, b"f", other, 3)),
+             (0, ("take", root, 4)), (0, ("rename", file, b"f", root, b"f", other)),
+             (1, ("drop", 1)), (1, ("drop", 2)), (0, ("drop", 1))]),
     }
     for name, (lines_, wanted) in cases.items():
         folder = f"{at}/{name}"
@@ -367,8 +372,8 @@ def operations_of_names(at):
         with Server(room) as server:
             for user, line in (*lines_, (0, b"save " + saved.encode())):
                 room.run(server.port, user, line)
-        history = history_of(saved)
-        yield f"operations_of_names_{name}: {[it for it in zip(history, wanted) if it[0] != it[1]][:1]}", history == wanted
+        made = changes_of(saved)
+        yield f"operations_of_names_{name}: {[it for it in zip(made, wanted) if it[0] != it[1]][:1]}", made == wanted
 
 
 # ---- users at once
@@ -452,7 +457,7 @@ LINES = (
     (0, "ls /g/x", "no 15 WrongKind G0:3"), (0, "cat /d 0 1", "no 15 WrongKind G0:2"), (0, "write / 0 41", "no 15 WrongKind G0:1"),
     (0, "write /d 0 41", "no 15 WrongKind G0:2"), (0, "truncate /d 1", "no 15 WrongKind G0:2"), (0, "link / /x", "no 15 WrongKind G0:1"),
     (0, "create /d", "no 19 Exists"), (0, "link /g /d/f", "no 19 Exists"), (0, "remove /d", "no 20 NotEmpty"),
-    (0, "rename /d /d/x", "no 21 DirMove"), (0, "rename /g /d", "no 20 NotEmpty"), (0, "truncate /g 1048577", "no 22 TooBig"),
+    (0, "rename /d /d/x", "no 21 DirMove"), (0, "rename /g /d", "no 20 NotEmpty"), (0, "truncate /g 16777217", "no 22 TooBig"),
     (0, "truncate /g 4294967295", "no 22 TooBig"), (0, "truncate /g 4294967296", "no 3 BadNumber"),
     (0, "write /g 18446744073709551615 41", "no 3 BadNumber"), (0, "write /g 4294967295 41", "no 22 TooBig"),
     (0, "write /g 0 " + "41" * 65537, "no 3 BadNumber"), (0, "undo 0", "no 39 Change 24 NoOperation 0"),
@@ -462,9 +467,13 @@ LINES = (
     (1, "undo 1", "no 39 Change 27 NotAuthor 0"), (1, "undo_last", "no 39 Change 27 NotAuthor 0"), (1, "write /g 0 42", "ok 11|ok 12"),
     (1, "write /g 0 43", "ok 13"), (0, "write /g 0 44", "ok 14|ok 15"), (1, "rename /g /d/f", "ok 16|ok 17|ok 18|ok 19|ok 20"),
     (1, "ls /d", "f G0:3"), (1, "ls /", "d G0:2"), (1, "cat /d/f 0 9", "4465"),
-    # the largest write, and names that could forge a line
-    (0, "write /d/f 0 " + "5a" * 65536, "ok 21|ok 22"), (0, "cat /d/f 65530 9", "5a" * 6),
-    (0, "create /d/\x01\\\x7f\t\u00e9", "ok 23|ok 24"), (0, "ls /d", "\\x01\\x5c\\x7f\\x09\u00e9 G0:4|f G0:3"),
+    # what takes left behind, of the root, of the directory, and twice of the file
+    (0, "tidy", "ok 21|ok 22|ok 23|ok 24"), (0, "tidy", ""), (0, "undo 21", "ok 25"), (0, "tidy", "ok 26"), (1, "undo 16", "no 39 Change 28 Blocked 26"),
+    # the largest write, the largest file, and names that could forge a line
+    (0, "write /d/f 0 " + "5a" * 65536, "ok 27|ok 28"), (0, "cat /d/f 65530 9", "5a" * 6), (0, "truncate /d/f 16777216", "ok 29"),
+    (0, "write /d/f 16777216 41", "no 22 TooBig"), (0, "write /d/f 16777215 41", "ok 30"), (0, "cat /d/f 16777214 9", "0041"),
+    (0, "undo_last", "ok 31"), (0, "undo_last", "ok 32"), (0, "cat /d/f 65535 9", "5a"),
+    (0, "create /d/\x01\\\x7f\t\u00e9", "ok 33|ok 34"), (0, "ls /d", "\\x01\\x5c\\x7f\\x09\u00e9 G0:4|f G0:3"),
 )
 
 MISTAKES = (
@@ -475,6 +484,8 @@ MISTAKES = (
     ("save", "too few words"),
     ("rename /a", "too few words"),
     ("undo_last 3", "too many words"),
+    ("tidy /a", "too many words"),
+    ("drop 1", "an unknown command"),
     ("undo /a", "word 2 is not a number of at most 20 digits that fits 64 bits"),
     ("write /a 4294967296 4", "word 4 is not bytes in hex, two digits each"),
 )
@@ -482,7 +493,7 @@ MISTAKES = (
 BAD_LINES = (
     "hello", "mkdir", "mkdir /a /b", " mkdir /a", "mkdir /a ", "mkdir  /a", "Mkdir /a", "0 mkdir /a", "ls", "cat /a", "cat /a 0",
     "cat /a x 1", "cat /a 0 18446744073709551616", "cat /a 0 000000000000000000001", "write /a 0", "write /a 0 4", "write /a 0 4x",
-    "write /a -1 41", "write /a 4294967296 4", "truncate /a", "truncate /a 1 1", "link /a", "rename /a", "remove", "undo", "undo x",
+    "write /a -1 41", "write /a 4294967296 4", "truncate /a", "truncate /a 1 1", "link /a", "rename /a", "remove", "drop 1", "tidy /", "tidy 1", "Tidy", "undo", "undo x",
     "undo -1", "undo_last 1", "save", "save a b", "stat /a", "versions", "undo 1\r", "write /a 0 " + "41" * 70000,
 )
 
@@ -811,7 +822,7 @@ def signatures(at):
             ended = room.run(server.port, 0, script)
         wanted = [*(b"ok %d" % n for n in range(1, 33)), b"no 8 KeySpent"]
         yield f"each_leaf_of_width_{width}_signs_once: {ended}", ended == (wanted, [], 0) and next_leaf(room.key_files[0]) == 32
-        signed = [audit_model.commit_in(commit) for commit in parts_of(saved)[::2]]
+        signed = [audit_model.commit_in(commit) for commit, _ in audit_model.pieces(read(saved))]
         wrong = [q for q, (version, signature) in enumerate(signed) if signature != room.keys[0].sign(q, version.encode())]
         yield f"signatures_of_width_{width}: {wrong}", wrong == [] and {len(it) for _, it in signed} == {length} and len(signed) == 32
 
@@ -1113,7 +1124,7 @@ def turns(at):
     with Server(room) as server, room.client(server.port, 0) as zero, room.client(server.port, 1) as one:
         for line in (
                 b"mkdir /a", b"create /a/f", b"ls /", b"ls x", b"ls /x", b"ls /a/f", b"cat /a/f 0 1", b"cat /a 0 1", b"mkdir /a", b"mkdir x",
-                b"remove /a", b"rename /a /a", b"undo 0", b"undo_last", b"undo 1", b"undo 9", b"write /a 0 41", f"save {at}/log".encode()):
+                b"remove /a", b"rename /a /a", b"tidy", b"undo 0", b"undo_last", b"undo 1", b"undo 9", b"write /a 0 41", f"save {at}/log".encode()):
             for user, client in enumerate((zero, one)):
                 client.say(line)
                 client.write(line + b"\ntruncate / 4294967296\n")
@@ -1213,7 +1224,7 @@ def lies(at):
     }
     for name, (ended, wanted) in cases.items():
         yield f"lie_{name}: {ended}", ended == (wanted, [], 0)
-    for name, (ended, wanted) in lying_vectors(room, show).items():
+    for name, (ended, wanted) in (*lying_vectors(room, show).items(), *lying_formats(room, show).items()):
         yield f"lie_{name}: {ended}", ended == (wanted, [], 0)
     yield from lying_items(publics, records, told)
     yield from lying_on_the_turn(publics, records, told)
@@ -1236,6 +1247,25 @@ def lying_vectors(room, show):
         "vectors_that_rise": (show(of_one, last={0: 2, 1: 5}), [b"a U0:2", b"b G0:2", b""]),
         "vectors_that_fall": (show(of_zero, last={0: 5, 1: 3}), [b"a U0:2", b"b G0:2", b"42"]),
         "a_vector_of_more_users": (show([*of_zero, with_two.records[0]], last={0: 5, 1: 6}), unordered),
+    }
+
+
+def lying_formats(room, show):
+    """A list whose format falls, and lists with what the first format doesn't have."""
+    new, old = (room.log("0 create G0:1 a U0:2; 1 take G0:1 1", form) for form in (2, 1))
+    falls, drops = logs.item_of(("truncate", ("U", 0, 2), 1)), logs.item_of(("drop", 1))
+    grows = logs.item_of(("truncate", ("U", 0, 2), 1048577))
+
+    def behind(maker, item):
+        """The list with a commit of the first format behind it, which has no right i-handle."""
+        version = logs.Version(0, maker.prev, sha256(item), bytes(32), [], maker.raised(0, []), 1)
+        return [*maker.records, (maker.sign(version), item)]
+
+    return {
+        "a_format_that_falls": (show(behind(new, falls)), [b"no 44 OldFormat"] * 2),
+        "a_format_that_falls_for_one_of_the_second": (show(behind(new, drops)), [b"no 44 OldFormat"] * 2),
+        "a_change_of_the_second_format_in_the_first": (show(behind(old, drops)), [b"no 39 Change 44 OldFormat"] * 2),
+        "a_size_of_the_second_format_in_the_first": (show(behind(old, grows)), [b"no 39 Change 22 TooBig"] * 2),
     }
 
 
@@ -1502,6 +1532,8 @@ ABC = "ba7816bf8f01cfea414140de5dae2223b00361a396177a9cb410ff61f20015ad"
 EXCHANGES = {
     "the_turn": (b"\0\0\0\1\1", b"\0\0\0\x0a\x81" + bytes(9)),
     "a_commit_whose_author_is_none": (b"\0\0\0\6\2SV01\x40", b"\0\0\0\x0a\xff\1" + bytes(7) + b"\4"),
+    "a_commit_of_the_second_format": (b"\0\0\0\6\2SV02\x40", b"\0\0\0\x0a\xff\1" + bytes(7) + b"\4"),
+    "a_commit_of_a_later_format": (b"\0\0\0\6\2SV03\x40", b"\0\0\0\x0a\xff\1" + bytes(8)),
     "a_record_that_isnt_there": (b"\0\0\0\x09\4" + bytes(7) + b"\1", b"\0\0\0\1\x85"),
     "an_item": (b"\0\0\0\4\5abc", b"\0\0\0\x21\x86" + bytes.fromhex(ABC)),
     "the_same_item_by_its_digest": (b"\0\0\0\x21\6" + bytes.fromhex(ABC), b"\0\0\0\4\x87abc"),
@@ -1611,6 +1643,55 @@ def stored_bytes(at):
         yield "and_saved_as_they_came", read(saved) == maker.log()
 
 
+# ---- formats
+
+def formats(at):
+    """A server takes commits of both formats, and none whose format falls; clients go on in the second format with a list of the
+    first."""
+    room, saved = Room(at), f"{at}/saved"
+    old = room.log("0 create G0:1 a U0:2; 1 take G0:1 1", form=1)
+    keys_ = [room.file(key.file(8)) for key in room.keys]
+    with Server(room) as server:
+        link = raw(server.port)
+        for commit, item in old.records:
+            told = [reply_to(link, request)[0] for request in (wire.put(item), wire.GRANT, wire.commit(commit))]
+            yield f"a_server_takes_the_first_format: {told}", told == ["put_done", "granted", "stored"]
+        ended = room.run(server.port, 0, b"tidy\nls /\nsave %b\n" % saved.encode(), key=keys_[0])
+        yield f"a_client_goes_on_in_the_second: {ended}", ended == ([b"ok 3", b"a U0:2"], [], 0)
+        forms = [form for _, form, _ in history_of(saved)]
+        yield f"and_saves_both: {forms}", forms == [1, 1, 2] and audit(room, saved) == ([b"ok 3"], [], 0)
+        for name, told, wanted in falling(room, link, read(saved)):
+            yield f"a_commit_whose_format_falls_{name}: {told}", told == wanted
+        link.close()
+        ended = room.run(server.port, 1, b"mkdir /d\nremove /d\nsave %b\n" % saved.encode(), "--log", room.file(old.log()), key=keys_[1])
+        yield f"a_log_of_the_first_format_is_gone_on_with: {ended}", ended == ([b"ok 5", b"ok 6"], [], 0)
+        ended = room.run(server.port, 0, b"truncate /a 16777216\n", "--log", saved, key=keys_[0])
+        yield f"and_one_of_both: {ended}", ended == ([b"ok 7"], [], 0)
+    yield "both_are_audited", audit(room, saved) == ([b"ok 6"], [], 0)
+
+
+def falling(room, link, log):
+    """What a server replies to a commit of the first format behind a log of the second, alone and beside other reasons, which come
+    before it or behind it; and to one of the second, which is right."""
+    view = audit_model.View(room.public_keys)
+    for commit, item in audit_model.pieces(log):
+        view.put(item)
+        view.accept(commit)
+    change = ("create", "create", desk_model.group_file(0, 1), b"z", user_file(1, 9), 9)
+    reply_to(link, wire.put(logs.item_of(change)))
+    reply_to(link, wire.GRANT)
+    for name, form, fields, signer, wanted in (
+            ("alone", 1, {}, 1, ("refused", "44 OldFormat")), ("unsigned", 1, {}, 0, ("refused", "33 BadSignature")),
+            ("elsewhere", 1, {"prev": bytes(32)}, 1, ("refused", "34 WrongPrev 3")),
+            ("with_another_vector", 1, {"vector": [0] * 4}, 1, ("refused", "44 OldFormat")), ("and_does_not", 2, {}, 1, ("stored", 4))):
+        version = view.maker.version(1, change)
+        version.form = form
+        for field, value in fields.items():
+            setattr(version, field, value)
+        commit = logs.commit_of(version, room.keys[signer].sign(5, version.encode()))
+        yield name, reply_to(link, wire.commit(commit)), wanted
+
+
 def is_ended(link):
     try:
         link.read(1)
@@ -1674,7 +1755,7 @@ class Dice:
         p, n = self.path(), self.random.randint(1, count + 2)
         usual = (
             "mkdir {0}", "create {0}", "create {0}", "write {0} {1} {2}", "write {0} {1} {2}", "truncate {0} {1}", "link {0} {3}",
-            "rename {0} {3}", "rename {0} {3}", "remove {0}", "mkdir {0}", "create {0}", "undo {4}", "undo {4}", "undo_last", "ls {0}",
+            "rename {0} {3}", "rename {0} {3}", "remove {0}", "mkdir {0}", "create {0}", "undo {4}", "undo {4}", "undo_last", "tidy", "ls {0}",
             "ls /", "cat {0} {1} 9")
         data = bytes([self.random.randrange(256)] * self.pick(1, 2, 4096)).hex()
         return self.pick(*usual).format(p, self.number(), data, self.path(), n).encode()
@@ -1717,7 +1798,7 @@ def same_log(seed, folder, room, client, team):
 PARTS = (
     walk, logs_taken_up, little_room, operations, at_once, many_users, at_a_keyboard, lines, stops, saves, streams, faults, keys, leaves_ahead, signatures, kills,
     kills_ahead, kills_at_calls, busy, silent, deaf, crowded, unanswered, turns, many_turns, lies, sessions, ended_sessions, asides, bytes_of_sessions,
-    stored_bytes, book, example, by_chance)
+    stored_bytes, formats, book, example, by_chance)
 
 
 def main():

@@ -13,7 +13,7 @@ GIVEN, NOTHING = b"\x83", b"\x85"
 # the refusals that travel, and which of them have an argument
 NAMES = {
     1: "Malformed", 5: "MissingBlock", 22: "TooBig", 30: "NoMemory", 31: "Busy", 32: "NotYourTurn", 33: "BadSignature",
-    34: "WrongPrev", 35: "WrongVector", 36: "KeyReuse", 37: "BookFull", 41: "TooLong", 42: "UnknownTag",
+    34: "WrongPrev", 35: "WrongVector", 36: "KeyReuse", 37: "BookFull", 41: "TooLong", 42: "UnknownTag", 44: "OldFormat",
 }
 WITH_ARGUMENT = (1, 31, 34)
 
