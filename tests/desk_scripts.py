@@ -57,7 +57,8 @@ NO_COMMANDS = (
     b"hello", b"ls  G0:1", b" ls G0:1", b"ls G0:1 ", b"ls G0:1\r", b"ls", b"0 mkdir G0:1 d", b"0 create G0:1 a G0:2",
     b"0 create G0:1 a U0:2 3 4", b"0 undo 000000000000000000001", b"0 undo 18446744073709551616", b"0 undo -1", b"0 undo_last 1",
     b"0 write U0:2 0 4", b"0 write U0:2 0 4g", b"0 write U0:2 0", b"versions U0", b"0 write U0:2 0 41 42", b"ls U0", b"ls U0:2:3",
-    b"ls u0:2", b"LS G0:1", b"ihandle U0:1", b"cat U0:2 0", b"0", b"\xff\xfe")
+    b"ls u0:2", b"LS G0:1", b"ihandle U0:1", b"cat U0:2 0", b"0", b"\xff\xfe",
+    b"0 drop", b"0 drop U0:2", b"0 drop 1 2", b"drop 1", b"0 tidy")
 
 MISTAKES = (
     ("hello", "an unknown command"),

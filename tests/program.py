@@ -44,6 +44,12 @@ CASES = {
     "two_users_without_a_word": (["desk"], "versions\n", "U0=0 U1=0 G0=0 G1=0\n", 0),
     "one_user": (["desk", "--users=1"], "versions", "U0=0 G0=0 G1=0\n", 0),
     "most_users": (["desk", "--users=64"], "63 take G0:1 1\n", "ok 1\n", 0),
+    "the_first_format": (["desk", "--format", "1"], "0 drop 1\n", "no 44 OldFormat\n", 0),
+    "the_second_format": (["desk", "--users", "3", "--format=2"], "2 drop 1\n", "no 14 NoFile U2:1\n", 0),
+    "the_second_format_without_a_word": (["desk"], "0 drop 1\n", "no 17 Held\n", 0),
+    "no_format": (["desk", "--format", "0"], "", "", 2),
+    "a_later_format": (["desk", "--format", "3"], "", "", 2),
+    "a_format_that_is_no_number": (["desk", "--format", "SV02"], "", "", 2),
     "a_bad_line": (["desk"], "ls G0:1\n\nhello\nls G0:1\n", "line 3: bad\n", 2),
     "no_command": ([], "", "", 2),
     "another_command": (["chair"], "", "", 2),
@@ -77,7 +83,7 @@ CASES = {
     "idle_minutes_and_no_such_key": (served("--idle-minutes", "1440"), "", "", 1),
     "a_cache_and_no_such_key": (served("--store", "store", "--cache", "1000000"), "", "", 1),
     "help": (["--help"], "", ("desk", "keygen", "audit", "serve", "client", "backup"), 0),
-    "help_of_the_desk": (["desk", "--help"], "", ("undo_last", "--users"), 0),
+    "help_of_the_desk": (["desk", "--help"], "", ("undo_last", "drop BODY", "--users", "--format"), 0),
     "help_of_keys": (["keygen", "--help"], "", ("--entropy <FILE>",), 0),
     "help_of_the_server": (["serve", "--help"], "", ("--port", "--workers", "--capacity", "--sessions", "--store", "--cache"), 0),
     "help_of_backups": (["backup", "--help"], "", ("--port", "--to", "ok N new M"), 0),
@@ -145,7 +151,7 @@ def help_texts(room):
     numbers = {int(number): name for name, number in re.findall(r"Refusal::(\w+)(?:\(\.\.\))? => (\d+),", source)}
     numbers |= {38: "WrongHandle", 39: "Change", 40: "OwnMissing"}  # refusals of a view alone
     listed, of_client = ({int(n): name for n, name in re.findall(r"(?m)^ {2,3}(\d+) (\w+)", texts[it])} for it in ("desk", "client"))
-    yield "help_lists_the_refusals", listed == {n: numbers[n] for n in [2, 3, *range(12, 29), 30]}
+    yield "help_lists_the_refusals", listed == {n: numbers[n] for n in [2, 3, *range(12, 29), 30, 44]}
     wrong = {n: name for n, name in of_client.items() if numbers.get(n) != name}
     missing = {8, 10, 18, 29, 31, 37, 39, 40, 43} - set(of_client)
     yield f"help_lists_the_refusals_of_a_client: {wrong} {missing}", not wrong and not missing
@@ -193,7 +199,7 @@ def at_a_keyboard(room):
 
 
 def by_chance(room):
-    """Scripts by chance, against the second desk."""
+    """Scripts by chance in both formats, against the second desk."""
     model = [sys.executable, "-B", f"{HERE}/desk_model.py", room, str(CHANCE_SCRIPTS), str(CHANCE_LINES)]
     subprocess.run(model, check=True)
     for n in range(CHANCE_SCRIPTS):
