@@ -516,7 +516,8 @@ class Dice:
         self.desk = desk
         self.users = len(desk.roster.users)
         largest = LARGEST_FILE[desk.form]
-        self.odd_sizes = (1048575, 1048576, 1048577, 2 ** 32, largest + 1, *([largest - 1, largest] * 3 if largest_files else ()))
+        self.sizes = (0, 1, 2, 4095, 4096, 4097, 8192, 8193, *((largest - 1, largest) if largest_files else ()))
+        self.odd_sizes = (1048575, 1048576, 1048577, largest + 1, 2 ** 32)
 
     def pick(self, *choices):
         return self.random.choice(choices)
@@ -542,8 +543,7 @@ class Dice:
         return self.rarely(self.pick("..", ".", "a/b", "n" * 255, "n" * 256), self.pick("a", "b", "c", "d"))
 
     def size(self):
-        usual = self.pick(0, 1, 2, 4095, 4096, 4097, 8192, 8193)
-        return self.rarely(self.pick(*self.odd_sizes), usual)
+        return self.rarely(self.pick(*self.odd_sizes), self.pick(*self.sizes))
 
     def data(self):
         return bytes([self.random.randrange(256)] * self.pick(1, 2, 4096)).hex()
