@@ -6,7 +6,8 @@ A relay (relay.py) holds each direction between clients and server back by so ma
 keys have 4 bits a coefficient and trees of height 10, and lie in memory (/dev/shm); the server keeps nothing on a disk. Through the relay
 and without it, it prints
 - operations a second of one client that has all its lines at once: creates, each a command of its own; and writes to files of another
-  user, of which each command makes two operations (it takes the file over, and writes);
+  user, of which each command makes two operations (it takes the file over, and writes); and drops of the bodies that these left with
+  the first user, all by one command (`tidy`);
 - seconds until the first answer of a client at an empty server, most of which go into making its leaves; of one without a log, at a
   server with so many commits, all of which it takes; and of one with a log of them, whose items it hands to the server.
 The commits are creates of files in one directory, of a thousand a user, made before without the relay.
@@ -30,7 +31,7 @@ import serving  # noqa: E402
 
 PROGRAM = serving.PROGRAM[0]
 HEIGHT, WIDTH = 10, 4
-CREATES, WRITES = 200, 50
+CREATES, WRITES = 200, 200
 COMMITS_A_USER = 1000  # of the 1,024 that a key signs
 MOST_USERS = 64
 serving.WAIT = 3600  # seconds that an answer is waited for at most
@@ -72,7 +73,8 @@ def server_at(keys):
 
 
 def carry_out(client, lines, first, each):
-    """Seconds by the clock for these lines, which come all at once; of each so many operations are made, from this number on."""
+    """Seconds by the clock for these lines, which come all at once; of each so many operations are made, from this number on. All that
+    is at the server was taken before."""
     client.say(b"ls /")
     started = time.monotonic()
     threading.Thread(target=client.write, args=(b"".join(line + b"\n" for line in lines),)).start()
@@ -82,7 +84,8 @@ def carry_out(client, lines, first, each):
 
 
 def rates(keys, far):
-    """Operations a second of one client: creates, and writes to files of another user. `far` gives a port at a distance from a port."""
+    """Operations a second of one client: creates, writes to files of another user, and drops in one command. `far` gives a port at a
+    distance from a port."""
     creates = [b"create /f%d" % n for n in range(CREATES)]
     writes = [b"write /f%d 0 61" % n for n in range(WRITES)]
     with server_at(keys) as server:
@@ -90,7 +93,9 @@ def rates(keys, far):
             made = carry_out(client, creates, 1, 1)
         with keys.client(far(server.port), 1) as client:
             written = carry_out(client, writes, CREATES + 1, 2)
-    return CREATES / made, 2 * WRITES / written
+        with keys.client(far(server.port), 0) as client:
+            dropped = carry_out(client, [b"tidy"], CREATES + 2 * WRITES + 1, WRITES)
+    return CREATES / made, 2 * WRITES / written, WRITES / dropped
 
 
 def first_answer(start, port, *more, wanted=b"61"):
@@ -156,7 +161,7 @@ def main():
     with tempfile.TemporaryDirectory(dir="/dev/shm") as room:
         keys = Keys(room, max(users + 1, 2))
         seconds = starts(keys, words.commits, f"{room}/log", (far, near))
-        heads = ("creates/s", "takes, writes/s", "start s", f"joining {words.commits} s", f"log of {words.commits} s")
+        heads = ("creates/s", "takes, writes/s", "drops of one/s", "start s", f"joining {words.commits} s", f"log of {words.commits} s")
         print(f"{'':26} " + " ".join(f"{it:>16}" for it in heads))
         for name, way, row in zip((f"{words.delay:g} ms each way", "without the relay"), (far, near), seconds):
             cells = [*rates(keys, way), *row]
