@@ -1,5 +1,5 @@
 -- Version structures are spelled part by part.
-use Rattle.std.proofs.Common.{◌≡◌, ◌<◌, ◌≤◌, ◌+◌, ◌^◌, ℕ, true, List, [], ◌∷◌, ◌++◌, length, get_or, refl, sym, ap}
+use Rattle.std.proofs.Common.{◌≡◌, ◌<◌, ◌≤◌, ◌+◌, ◌^◌, ℕ, true, List, [], ◌∷◌, ◌++◌, length, get_or, refl, sym, ap, arith}
 use Rattle.std.specs.List.{flat_map, AllByRecursion}
 use Rattle.su_bytes.specs.declared.formats.Format.{Format as CommitFormat}
 use Rattle.su_bytes.specs.declared.formats.Format.TheVariants.{V1, V2}
@@ -54,8 +54,8 @@ vector_of =
 -- the first bytes tell the format
 format_told : (f g : CommitFormat) (rest behind : List ℕ) → AnyFormat f → AnyFormat g → first_bytes f ++ rest ≡ first_bytes g ++ behind → (f ≡ g) × (rest ≡ behind)
 format_told V1 V1 rest behind _ _ e = (refl, cc)
-format_told V1 V2 rest behind _ _ e = absurd cc
-format_told V2 V1 rest behind _ _ e = absurd cc
+format_told V1 V2 rest behind _ _ e = let fourth : ◌≡◌ {A = ℕ} 49 50 = ap (λ l. get_or l 3 0) e in absurd (omega arith)
+format_told V2 V1 rest behind _ _ e = let fourth : ◌≡◌ {A = ℕ} 50 49 = ap (λ l. get_or l 3 0) e in absurd (omega arith)
 format_told V2 V2 rest behind _ _ e = (refl, cc)
 
 pub first_bytes_lawful : IsLawful (part AnyFormat first_bytes)
