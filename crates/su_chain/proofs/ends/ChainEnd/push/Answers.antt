@@ -24,5 +24,5 @@ returns c cs end next =
     end_further c.args.roster.now cs c.args.self.now end c.args.commit.now _ next user within
     (λ i. set c.args.self.now.users.items (author i) (record { key = (read i).key; leaf = Some (c.leaf.ensures i) }))
     refl c.requires.digest
-    (c.format.ensures ∙ ap (λ (v : Version). v.format) c.version-version.ensures.value)
+    (c.format-self.ensures ∙ ap (λ (v : Version). v.format) c.version-version.ensures.value)
     (c.set.ensures ∙ c.vector.ensures ∙ ap (λ (v : Version). v.vector) c.version-version.ensures.value)
