@@ -1661,7 +1661,7 @@ def formats(at):
         forms = [form for _, form, _ in history_of(saved)]
         yield f"and_saves_both: {forms}", forms == [1, 1, 2] and audit(room, saved) == ([b"ok 3"], [], 0)
         for name, told, wanted in falling(room, link, read(saved)):
-            yield f"a_commit_whose_format_falls_{name}: {told}", told == wanted
+            yield f"format_falls_{name}: {told}", told == wanted
         link.close()
         ended = room.run(server.port, 1, b"mkdir /d\nremove /d\nsave %b\n" % saved.encode(), "--log", room.file(old.log()), key=keys_[1])
         yield f"a_log_of_the_first_format_is_gone_on_with: {ended}", ended == ([b"ok 5", b"ok 6"], [], 0)
@@ -1671,25 +1671,33 @@ def formats(at):
 
 
 def falling(room, link, log):
-    """What a server replies to a commit of the first format behind a log of the second, alone and beside other reasons, which come
-    before it or behind it; and to one of the second, which is right."""
+    """What a server that holds this log replies to commits of user 1, who holds the root, and what it should: to one of the second format,
+    and then to some of the first, which have other reasons to be refused too, before the format in their order or behind it."""
     view = audit_model.View(room.public_keys)
     for commit, item in audit_model.pieces(log):
         view.put(item)
         view.accept(commit)
-    change = ("create", "create", desk_model.group_file(0, 1), b"z", user_file(1, 9), 9)
-    reply_to(link, wire.put(logs.item_of(change)))
+    number, leaf = view.chain.count, view.chain.last_leaf.get(1, -1) + 1
+    pointers = view.maker.desk.tree(view.maker.desk.history)[1]
+    file = desk_model.group_file(0, client_model.least_free(1, lambda n: (0, n) not in pointers))
+    made = ("create", "create", desk_model.group_file(0, 1), b"z", file, 9)
+    version, item = view.maker.version(1, made), logs.item_of(made)
+    commit = logs.commit_of(version, room.keys[1].sign(leaf, version.encode()))
+    told = [reply_to(link, request) for request in (wire.put(item), wire.GRANT, wire.commit(commit))]
+    yield "not", told[-1], ("stored", number + 1)
+    view.put(item)
+    view.accept(commit)
     reply_to(link, wire.GRANT)
-    for name, form, fields, signer, wanted in (
-            ("alone", 1, {}, 1, ("refused", "44 OldFormat")), ("unsigned", 1, {}, 0, ("refused", "33 BadSignature")),
-            ("elsewhere", 1, {"prev": bytes(32)}, 1, ("refused", "34 WrongPrev 3")),
-            ("with_another_vector", 1, {"vector": [0] * 4}, 1, ("refused", "44 OldFormat")), ("and_does_not", 2, {}, 1, ("stored", 4))):
-        version = view.maker.version(1, change)
-        version.form = form
-        for field, value in fields.items():
+    for name, fields, signer, leaf_, why in (
+            ("alone", {}, 1, leaf + 1, "44 OldFormat"), ("unsigned", {}, 0, leaf + 1, "33 BadSignature"),
+            ("elsewhere", {"prev": bytes(32)}, 1, leaf + 1, f"34 WrongPrev {number + 1}"),
+            ("with_another_vector", {"vector": [0] * 4}, 1, leaf + 1, "44 OldFormat"), ("with_a_leaf_again", {}, 1, leaf, "44 OldFormat")):
+        version = view.maker.version(1, ("undo", number + 1))
+        for field, value in {**fields, "form": 1}.items():
             setattr(version, field, value)
-        commit = logs.commit_of(version, room.keys[signer].sign(5, version.encode()))
-        yield name, reply_to(link, wire.commit(commit)), wanted
+        commit = logs.commit_of(version, room.keys[signer].sign(leaf_, version.encode()))
+        yield name, reply_to(link, wire.commit(commit)), ("refused", why)
+    yield "keeps_the_turn", reply_to(link, wire.GIVE), ("given", None)
 
 
 def is_ended(link):

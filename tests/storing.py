@@ -126,7 +126,7 @@ def asked_to_end(at):
             server.write(b"p\n")
             printed, told, status = server.end()
             yield f"ends_in_order: {told}", (printed, status) == ([], 0) and is_told(told, "2 commits stored")
-    count = read(f"{store}/{FILE}").count(b"SV01")
+    count = read(f"{store}/{FILE}").count(b"SV02")
     yield f"the_records_are_in_the_file: {count}", count >= 2
     with Keeping(room, store, sessions=1) as server:
         yield "nothing_is_missing", names_in(room.run(server.port, 1, b"ls /\n")[0]) == {b"f", b"g"}
@@ -686,6 +686,71 @@ def bad_folders(room, store):
 
 # ---- what is no store
 
+# What the last program wrote that knew the first format alone, and how: these lines, each by a client of its own, and the log that user 1
+# saved then. Its server was asked to end. (The users are those of `serving.Room`.)
+EARLIER = f"{os.path.dirname(os.path.abspath(__file__))}/earlier"
+EARLIER_LINES = (
+    (0, "mkdir /d"), (0, "create /d/f"), (0, "write /d/f 0 6561726c696572"), (1, "write /d/f 7 206f6e65"), (1, "create /g"), (0, "undo 3"),
+    (0, "truncate /d/f 1048576"), (0, "truncate /d/f 1048577"))
+EARLIER_COMMITS = 9
+# what is said there now: by whom, which line, and what it prints
+LATER_LINES = (
+    (0, "ls /", "d G0:2|g G0:4|z G0:5"), (1, "ls /d", "f G0:3"), (0, "cat /d/f 0 12", "6561726c696572206f6e6500"), (1, "undo 9", "no 39 Change 27 NotAuthor 0"),
+    (0, "tidy", "ok 11|ok 12"), (0, "truncate /d/f 16777216", "ok 13"), (0, "write /d/f 16777215 41", "ok 14"),
+    (0, "undo 9", "no 39 Change 28 Blocked 14"), (0, "undo_last", "ok 15"), (0, "undo_last", "ok 16"), (0, "undo 9", "ok 17"),
+    (1, "cat /d/f 0 12", "6561726c696572206f6e65"), (1, "undo 6", "no 39 Change 28 Blocked 11"), (1, "tidy", "ok 18"))
+
+
+def earlier(at):
+    """A store of the first format that an earlier program wrote, and its log: they are served on, and take commits of the second format, and
+    no more of the first; so does a copy of such a store."""
+    room, store, saved, copy = serving.Room(at), f"{at}/store", f"{at}/saved", f"{at}/copy"
+    shutil.copytree(f"{EARLIER}/store", store)
+    later_keys(room)
+    ended = serving.audit(room, f"{EARLIER}/log")
+    yield f"the_earlier_log_audits: {ended}", ended == ([b"ok %d" % EARLIER_COMMITS], [], 0)
+    with Keeping(room, store) as server:
+        yield f"is_opened: {server.said}", b" with %d records" % EARLIER_COMMITS in server.said
+        link = serving.raw(server.port)
+        for name, told, right in serving.falling(room, link, read(f"{EARLIER}/log")):
+            yield f"format_falls_{name}: {told}", told == right
+        link.close()
+        yield from later_lines(room, server.port)
+        yield f"is_copied: {copy}", copied(backup(room, server.port, copy)) == (18, 18)
+        server.write(b"stop\n")
+        ended = server.end()
+        yield f"ends_in_order: {ended}", (ended[0], ended[2]) == ([], 0)
+    for folder in (store, copy):
+        yield from still_there(room, folder, saved)
+
+
+def later_keys(room):
+    """Has the keys sign from a leaf on that isn't used yet."""
+    for path, key in zip(room.key_files, room.keys):
+        with open(path, "wb") as file:
+            file.write(key.file(8))
+
+
+def later_lines(room, port):
+    """What is said at a server of the earlier store by a client who has the earlier log, and one who hasn't."""
+    with room.client(port, 0, "--log", f"{EARLIER}/log") as zero, room.client(port, 1) as one:
+        for user, line, wanted in LATER_LINES:
+            said = (zero, one)[user].say(line.encode())
+            yield f"line_{line}: {said}", said == [it.encode() for it in wanted.split("|")]
+        ends_ = [it.end() for it in (zero, one)]
+        yield f"the_clients_end: {ends_}", ends_ == [([], [], 0)] * 2
+
+
+def still_there(room, folder, saved):
+    """A store of both formats is opened, and all of it is shown."""
+    with Keeping(room, folder) as server:
+        yield f"has_both_formats: {server.said}", b" with 18 records" in server.said
+        ended = room.run(server.port, 1, b"cat /d/f 0 12\nsave %b\n" % saved.encode(), "--log", f"{EARLIER}/log")
+        yield f"shows_both: {ended}", ended == ([b"6561726c696572206f6e65"], [], 0)
+    forms = [form for _, form, _ in serving.history_of(saved)]
+    yield f"are_both_saved: {forms}", forms == [1] * 9 + [2] * 9 and serving.audit(room, saved) == ([b"ok 18"], [], 0)
+
+
 def filled(at):
     """A store with three commits, and the room of its users."""
     room, store = Room(at), f"{at}/store"
@@ -729,7 +794,7 @@ def bad_files(at):
         os.remove(f"{store}/{name}")
     make_other(path)
     yield from refuses(room, store, "a_database_of_something_else", f"{path}: an SQLite file of something else")
-    place = good.rindex(b"SV01") + 50
+    place = good.rindex(b"SV02") + 50
     put(good[:place] + bytes([good[place] ^ 1]) + good[place + 1:])
     yield from refuses(room, store, "a_changed_byte", path)
     put(good)
@@ -927,7 +992,7 @@ def lacking_items(at, room, records, copy_of):
 
 PARTS = (
     ends, asked_to_end, two_servers, kills, damage, no_room, small_cache, room_of_items, items_of_sessions, tiny_items, strangers,
-    several_files, bad_files,
+    several_files, earlier, bad_files,
     backs_up, backup_kills, bad_backups, copies_of_lies)
 
 
