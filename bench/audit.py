@@ -64,7 +64,8 @@ class KeptTree:
 
 
 class LongMaker:
-    """Makes a long log of user 0, who creates files in the root directory and writes bytes into them."""
+    """Makes a long log of user 0, who creates files in the root directory and writes bytes into them. It is of the first format, so that
+    earlier programs read it too."""
 
     def __init__(self, key, file):
         self.key, self.file, self.count = key, file, 0
@@ -94,7 +95,7 @@ class LongMaker:
     def add(self, change):
         item, q = logs.item_of(change), self.count
         self.count += 1
-        version = logs.Version(0, self.prev, sha256(item), self.table.digest(), [], [self.count, 0, 0])
+        version = logs.Version(0, self.prev, sha256(item), self.table.digest(), [], [self.count, 0, 0], form=1)
         commit = logs.commit_of(version, self.key.sign(q, version.encode()))
         self.prev = sha256(commit)
         self.file.write(logs.log_bytes([(commit, item)]))
