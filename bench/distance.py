@@ -29,7 +29,6 @@ sys.path.insert(0, f"{TOP}/tests")
 import relay  # noqa: E402
 import serving  # noqa: E402
 
-PROGRAM = serving.PROGRAM[0]
 HEIGHT, WIDTH = 10, 4
 CREATES, WRITES = 200, 200
 COMMITS_A_USER = 1000  # of the 1,024 that a key signs
@@ -46,7 +45,7 @@ class Keys:
             with open(f"{at}/entropy", "wb") as entropy:
                 entropy.write(os.urandom(48))
             words = ["--entropy", f"{at}/entropy", "--out", file, "--height", str(HEIGHT), "--width", str(WIDTH)]
-            subprocess.run([PROGRAM, "keygen", *words], check=True, stdout=subprocess.DEVNULL)
+            subprocess.run([*serving.program, "keygen", *words], check=True, stdout=subprocess.DEVNULL)
         self.publics = [f"{file}.pub" for file in self.files]
 
     def reset(self):

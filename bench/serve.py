@@ -27,7 +27,6 @@ sys.path.insert(0, f"{TOP}/tests")
 import serving  # noqa: E402
 import wire  # noqa: E402
 
-PROGRAM = serving.PROGRAM[0]
 SIZE = 100
 HEIGHT = 10
 LEAVES = 2 ** HEIGHT
@@ -45,7 +44,7 @@ class Keys:
             with open(f"{at}/entropy", "wb") as entropy:
                 entropy.write(os.urandom(48))
             words = ["--entropy", f"{at}/entropy", "--out", file, "--height", str(HEIGHT), "--width", str(width)]
-            subprocess.run([PROGRAM, "keygen", *words], check=True, stdout=subprocess.DEVNULL)
+            subprocess.run([*serving.program, "keygen", *words], check=True, stdout=subprocess.DEVNULL)
         self.leaf = (os.times().children_user - before) / len(self.files) / LEAVES
         self.publics = [f"{file}.pub" for file in self.files]
 
@@ -128,7 +127,7 @@ def audit_time(keys, shared, files):
     cores = os.sched_getaffinity(0)
     os.sched_setaffinity(0, {max(cores)})
     started = time.monotonic()
-    ended = subprocess.run([PROGRAM, "audit", "--log", log, *keys.publics], stdout=subprocess.PIPE)
+    ended = subprocess.run([*serving.program, "audit", "--log", log, *keys.publics], stdout=subprocess.PIPE)
     os.sched_setaffinity(0, cores)
     expect(ended.stdout, b"ok %d\n" % (2 * files))
     return (time.monotonic() - started) / (2 * files)

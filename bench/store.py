@@ -31,7 +31,6 @@ import serving  # noqa: E402
 import storing  # noqa: E402
 import wire  # noqa: E402
 
-PROGRAM = serving.PROGRAM[0]
 OPERATIONS = 200  # of each writer
 APPENDS, COMMITS = 500, 100
 RECORD = 2700  # bytes of a commit and its item
@@ -40,14 +39,24 @@ RECORD = 2700  # bytes of a commit and its item
 class Users:
     """The keys of so many users, in a folder."""
 
-    def __init__(self, at, count):
-        self.at, self.files = at, [f"{at}/{user}" for user in range(count)]
+    def __init__(self, at, count, width=4):
+        self.name_files(at, count)
         for file in self.files:
             with open(f"{at}/entropy", "wb") as entropy:
                 entropy.write(os.urandom(48))
-            words = ["--entropy", f"{at}/entropy", "--out", file, "--height", "10", "--width", "4"]
-            subprocess.run([PROGRAM, "keygen", *words], check=True, stdout=subprocess.DEVNULL)
+            words = ["--entropy", f"{at}/entropy", "--out", file, "--height", "10", "--width", str(width)]
+            subprocess.run([*serving.program, "keygen", *words], check=True, stdout=subprocess.DEVNULL)
+
+    def name_files(self, at, count):
+        self.at, self.files = at, [f"{at}/{user}" for user in range(count)]
         self.publics = [f"{file}.pub" for file in self.files]
+
+    @classmethod
+    def of(cls, at, count):
+        """Those whose keys are in a folder already."""
+        users = cls.__new__(cls)
+        users.name_files(at, count)
+        return users
 
     def client(self, port, user):
         numbers = ("--port", port, "--user", user, "--key", self.files[user], "--tries", 1000000)
