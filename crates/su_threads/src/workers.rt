@@ -117,9 +117,9 @@ where
     if workers < 1 || MOST_WORKERS < workers {
         return Err(Refusal::BadNumber);
     }
-    let (hand, jobs) = bounded(alloc, MOST_WORKERS).map_err(|_| Refusal::NoMemory)?;
-    let (tell, reports) = unbounded(alloc).map_err(|_| Refusal::NoMemory)?;
-    let (home, back) = unbounded(alloc).map_err(|_| Refusal::NoMemory)?;
+    let (hand, jobs) = bounded(alloc, MOST_WORKERS)?;
+    let (tell, reports) = unbounded(alloc)?;
+    let (home, back) = unbounded(alloc)?;
     let count = thread::scope(
         thread::scope_env(),
         rt,
