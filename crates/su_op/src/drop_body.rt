@@ -84,8 +84,8 @@ impl AcceptedDrop<'_> {
 pub fn stale_home(forest: &Forest, place: Place) -> Option<GroupFile>
     ensures { result ≡ stale_home forest.now place }
 {
-    let home = group_home(forest, place)?;
-    if leads_here(forest, home, place) {
+    let home = group_home(forest, &place)?;
+    if leads_here(forest, &home, &place) {
         None
     } else {
         Some(home)
@@ -94,10 +94,10 @@ pub fn stale_home(forest: &Forest, place: Place) -> Option<GroupFile>
 
 /// Returns the group file that what stands at `place` was made for, if it was made for one.
 #[tactic(auto, unfolding(su_table::specs::Cell::val))]
-fn group_home(forest: &Forest, place: Place) -> Option<GroupFile>
-    ensures { result ≡ group_home (val forest.now (At place KindOf)) }
+fn group_home(forest: &Forest, place: &Place) -> Option<GroupFile>
+    ensures { result ≡ group_home (val forest.now (At place.now KindOf)) }
 {
-    let (user, number) = place;
+    let (user, number) = *place;
     let inode = forest.inode(user, number)?;
     match inode.home() {
         FileId::User(..) => None,
@@ -106,12 +106,12 @@ fn group_home(forest: &Forest, place: Place) -> Option<GroupFile>
 }
 
 /// Tells whether the pointer of a group file leads to `place`.
-fn leads_here(forest: &Forest, file: GroupFile, place: Place) -> bool
-    ensures { result ≡ leads_here (val forest.now (Pointer file)) place }
+fn leads_here(forest: &Forest, file: &GroupFile, place: &Place) -> bool
+    ensures { result ≡ leads_here (val forest.now (Pointer file.now)) place.now }
 {
-    let (group, number) = file;
+    let (group, number) = *file;
     match forest.body(FileId::Group(group, number)) {
-        Some(body) => body == place,
+        Some(body) => body == *place,
         None => false,
     }
 }
