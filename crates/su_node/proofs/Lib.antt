@@ -4,4 +4,5 @@ pub mod Names
 pub mod Contents
 pub mod Numbered
 pub mod Hashed
+pub mod Costs
 pub mod Public

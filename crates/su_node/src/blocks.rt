@@ -1,9 +1,9 @@
 // The bytes of a file, in blocks.
-ghost use Rattle.std.specs.Prelude.{◌≡◌, ◌+◌, ◌-◌, ◌*◌, ◌<◌, ◌≤◌, ◌^◌, [], IfOk, IsOk, OnOk, OnErr, length};
+ghost use Rattle.std.specs.Prelude.{◌≡◌, ◌+◌, ◌-◌, ◌*◌, ◌<◌, ◌≤◌, ◌^◌, ℕ, [], IfOk, IsOk, OnOk, OnErr, length};
 ghost use Rattle.su_node.specs.InodeChange.{with_size, with_bytes_at};
 ghost use Rattle.su_node.specs.Inode.{within};
 ghost use Rattle.su_node.specs.Digest.{block_count, block_digests};
-ghost use Rattle.su_node.specs.Cost.{IsSmall, blocks_grown, blocks_touched, few_blocks, hashes_of_blocks, hashes_of_write};
+ghost use Rattle.su_node.specs.Cost.{IsSmall, blocks_grown, blocks_touched, hashes_of_blocks, hashes_of_write};
 ghost use Rattle.su_node.specs.Stored.{AreZeroBlocks, with_padded};
 ghost use Rattle.su_tree.specs.Digest.{digest};
 ghost use Rattle.su_tree.specs.Number.{numbers};
@@ -103,8 +103,8 @@ impl Blocks {
         ensures succeeds { off + length bytes.now ≤ length self.old → IsOk result }
         ensures err { OnErr result (self.new ≡ self.old) }
         ensures hashes { IfOk result (λ made. let size = length self.old in
-            IsSmall size → IsSmall (off + length bytes.now)
-            → made ≤ hashes_of_write size off (length bytes.now)) }
+            (bits : ℕ) → IsSmall bits size → IsSmall bits (off + length bytes.now)
+            → made ≤ hashes_of_write bits size off (length bytes.now)) }
     {
         let end_ = off + bytes.len() as u32;
         let grown = if self.size < end_ {
@@ -151,8 +151,8 @@ impl Blocks {
         requires { length self.old ≤ size }
         ensures ok { OnOk result (self.new ≡ with_size size self.old) }
         ensures err { OnErr result (self.new ≡ self.old) }
-        ensures hashes { IfOk result (λ made. IsSmall size
-            → made ≤ hashes_of_blocks (blocks_grown (length self.old) size)) }
+        ensures hashes { IfOk result (λ made. (bits : ℕ) → IsSmall bits size
+            → made ≤ hashes_of_blocks bits (blocks_grown (length self.old) size)) }
     {
         let count = self.blocks.len();
         let added = zero_blocks(self.alloc, count, size as usize)?;
@@ -179,8 +179,8 @@ impl Blocks {
     fn overwrite(&mut self, off: usize, bytes: &[u8]) -> u64
         requires { off + length bytes.now ≤ length self.old }
         ensures value { self.new ≡ with_bytes_at off bytes.now self.old }
-        ensures hashes { IsSmall (length self.old)
-            → result ≤ hashes_of_blocks (blocks_touched off (length bytes.now)) }
+        ensures hashes { (bits : ℕ) → IsSmall bits (length self.old)
+            → result ≤ hashes_of_blocks bits (blocks_touched off (length bytes.now)) }
     {
         // names the size for the prover (docs/ARCHITECTURE.md, "Forms the kit wants")
         let _size = self.size;
@@ -229,8 +229,8 @@ fn pad(blocks: &mut HashedBlocks, count: usize, size: usize) -> Result<u64, Allo
     requires within { BLOCK_SIZE * (count - 1) ≤ size }
     ensures ok { OnOk result (blocks.new ≡ with_padded count size blocks.old) }
     ensures err { OnErr result (blocks.new ≡ blocks.old) }
-    ensures hashes { IfOk result (λ made.
-        length blocks.old ≤ few_blocks → made ≤ hashes_of_blocks 1) }
+    ensures hashes { IfOk result (λ made. (bits : ℕ) → length blocks.old ≤ 2 ^ bits
+        → made ≤ hashes_of_blocks bits 1) }
 {
     if 0 < count {
         let last = BLOCK_SIZE.min(size - (count - 1) * BLOCK_SIZE);

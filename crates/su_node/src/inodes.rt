@@ -1,5 +1,5 @@
 // What stands at a place of an i-table: a file or a directory.
-ghost use Rattle.std.specs.Prelude.{◌≡◌, ◌+◌, ◌<◌, ◌≤◌, ◌^◌, length, Some, None, IfOk, IsOk, IfErr, OnOk, OnErr, option_map};
+ghost use Rattle.std.specs.Prelude.{◌≡◌, ◌+◌, ◌<◌, ◌≤◌, ◌^◌, ℕ, length, Some, None, IfOk, IsOk, IfErr, OnOk, OnErr, option_map};
 ghost use Rattle.std.specs.FinMap.{get};
 ghost use Rattle.su_node.specs.Inode.{new_inode, kind_of, size_of, has_no_names, names_of, bytes_of, within};
 ghost use Rattle.su_node.specs.InodeChange.{InodeChange.Named, InodeChange.Linked, InodeChange.Written, InodeChange.Resized, inode_after};
@@ -220,8 +220,8 @@ impl Inode {
         ensures succeeds { off + length bytes.now ≤ size_of self.old.content → IsOk result }
         ensures err { OnErr result (self.new ≡ self.old) }
         ensures hashes { IfOk result (λ made. let size = size_of self.old.content in
-            IsSmall size → IsSmall (off + length bytes.now)
-            → made ≤ hashes_of_write size off (length bytes.now)) }
+            (bits : ℕ) → IsSmall bits size → IsSmall bits (off + length bytes.now)
+            → made ≤ hashes_of_write bits size off (length bytes.now)) }
     {
         match &mut self.content {
             Stored::Bytes(blocks) => Ok(blocks.write_at(off, bytes)?),

@@ -4,4 +4,5 @@ pub mod TakenBack
 pub mod TableEdits
 pub mod Fronts
 pub mod KeptTables
+pub mod ByteCosts
 pub mod Public

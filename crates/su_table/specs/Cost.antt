@@ -11,7 +11,9 @@ hashes_of_number = 33
 abbrev pub hashes_of_inode : ℕ
 hashes_of_inode = 1 + hashes_of_number
 
--- A write of one byte within a file makes at most 44 hashes: its block, nine of the path in the
--- tree of the file's blocks, the inode, and 33 of the path in its user's table.
-abbrev pub AByteMakesFewHashes : Type 0
-AByteMakesFewHashes = (size off : ℕ) → off < size → hashes_of_write size off 1 + hashes_of_inode ≡ 44
+-- A write of one byte within a file, the numbers of whose blocks have so many bits, makes at most so
+-- many hashes: its block, the path in the tree of the file's blocks, the inode, and 33 of the path
+-- in its user's table.
+abbrev pub AByteMakesFewHashes : ℕ → ℕ → Type 0
+AByteMakesFewHashes bits hashes =
+    (size off : ℕ) → off < size → hashes_of_write bits size off 1 + hashes_of_inode ≡ hashes

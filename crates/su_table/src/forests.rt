@@ -1,5 +1,5 @@
 // All i-tables together, what is asked of them, and how they change.
-ghost use Rattle.std.specs.Prelude.{◌≡◌, ◌⊎◌, ◌+◌, ◌<◌, ◌≤◌, ◌^◌, true, length, Some, None, Ok, Err, IsOk, IfOk, IfErr, OnOk, OnErr, option_copied};
+ghost use Rattle.std.specs.Prelude.{◌≡◌, ◌⊎◌, ◌+◌, ◌<◌, ◌≤◌, ◌^◌, ℕ, true, length, Some, None, Ok, Err, IsOk, IfOk, IfErr, OnOk, OnErr, option_copied};
 ghost use Rattle.std.specs.FinMap.{get, empty};
 ghost use Rattle.su_node.specs.Cost.{IsSmall, hashes_of_write};
 ghost use Rattle.su_node.specs.InodeChange.{InodeChange.Named, InodeChange.Linked, InodeChange.Written, InodeChange.Resized, InodeChange.Copied, InodeChange.Gone};
@@ -348,7 +348,8 @@ impl Forest {
 
     /// Writes bytes into the file at `place` from an offset on, and fills a gap before them with
     /// zeros. Does nothing where no file stands. Returns how many hashes it made: within a file of
-    /// at most 256 blocks a byte makes at most 44. Takes no memory where the file doesn't grow.
+    /// at most 256 blocks a byte makes at most 44, within one of at most 4,096 at most 48. Takes no
+    /// memory where the file doesn't grow.
     pub fn write_at(&mut self, place: Place, off: u32, bytes: &[u8]) -> Result<u64, Refusal>
         requires { off + length bytes.now < 2 ^ 32 }
         ensures ok { OnOk result
@@ -357,8 +358,8 @@ impl Forest {
         ensures succeeds { off + length bytes.now ≤ size_at self.old place → IsOk result }
         ensures err { OnErr result (self.new ≡ self.old) }
         ensures hashes { IfOk result (λ made. let size = size_at self.old place in
-            IsSmall size → IsSmall (off + length bytes.now)
-            → made ≤ hashes_of_write size off (length bytes.now) + hashes_of_inode) }
+            (bits : ℕ) → IsSmall bits size → IsSmall bits (off + length bytes.now)
+            → made ≤ hashes_of_write bits size off (length bytes.now) + hashes_of_inode) }
     {
         let (user, number) = place;
         let mut hashes: u64 = 0;

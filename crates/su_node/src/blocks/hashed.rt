@@ -5,7 +5,7 @@ ghost use Rattle.std.specs.FinMap.Entries.{find, put};
 ghost use Rattle.sha2.specs.Sha256.{sha256};
 ghost use Rattle.su_tree.specs.Digest.{digest};
 ghost use Rattle.su_tree.specs.Number.{numbers};
-ghost use Rattle.su_node.specs.Cost.{few_blocks, hashes_of_blocks};
+ghost use Rattle.su_node.specs.Cost.{hashes_of_blocks};
 ghost use Rattle.su_node.specs.Digest.{block_item};
 ghost use Rattle.su_node.specs.InodeChange.{with_size, with_bytes_at};
 ghost use Rattle.su_node.specs.Stored.{digests_of, AreBelow, HasNumber};
@@ -161,7 +161,8 @@ impl HashedBlocks {
         requires fits { start + length bytes.now ≤ length (slice_index_or self.old number []) }
         ensures value { let block = slice_index_or self.old number [] in
             self.new ≡ slice_set self.old number (with_bytes_at start bytes.now block) }
-        ensures hashes { length self.old ≤ few_blocks → result ≤ hashes_of_blocks 1 }
+        ensures hashes { (bits : ℕ) → length self.old ≤ 2 ^ bits
+            → result ≤ hashes_of_blocks bits 1 }
     {
         let written = &mut self.blocks[number];
         written.overwrite(start, bytes);
@@ -188,8 +189,8 @@ impl HashedBlocks {
         ensures ok { let block = slice_index_or self.old number [] in
             OnOk result (self.new ≡ slice_set self.old number (with_size size block)) }
         ensures err { OnErr result (self.new ≡ self.old) }
-        ensures hashes { IfOk result (λ made.
-            length self.old ≤ few_blocks → made ≤ hashes_of_blocks 1) }
+        ensures hashes { IfOk result (λ made. (bits : ℕ) → length self.old ≤ 2 ^ bits
+            → made ≤ hashes_of_blocks bits 1) }
     {
         if self.get(number).len() != size {
             let block = &mut self.blocks[number];
@@ -206,8 +207,8 @@ impl HashedBlocks {
         requires { length self.old < 2 ^ 32 }
         ensures ok { OnOk result (self.new ≡ self.old ++ block ∷ []) }
         ensures err { OnErr result (self.new ≡ self.old) }
-        ensures hashes { IfOk result (λ made.
-            length self.old < few_blocks → made ≤ hashes_of_blocks 1) }
+        ensures hashes { IfOk result (λ made. (bits : ℕ) → length self.old < 2 ^ bits
+            → made ≤ hashes_of_blocks bits 1) }
     {
         self.blocks.reserve(1)?;
         let made = put_digest(&mut self.digests, self.blocks.len() as u32, &block)?;
@@ -221,8 +222,9 @@ impl HashedBlocks {
         requires { length self.old + length added.items ≤ 2 ^ 32 }
         ensures ok { OnOk result (self.new ≡ self.old ++ added.items) }
         ensures err { OnErr result (self.new ≡ self.old) }
-        ensures hashes { IfOk result (λ made. length self.old + length added.items ≤ few_blocks
-            → made ≤ hashes_of_blocks (length added.items)) }
+        ensures hashes { IfOk result (λ made. (bits : ℕ) →
+            length self.old + length added.items ≤ 2 ^ bits
+            → made ≤ hashes_of_blocks bits (length added.items)) }
     {
         let count = self.len();
         let mut hashes: u64 = 0;
@@ -270,8 +272,8 @@ fn put_digest(
         OnOk result (digests.new.entries ≡ put nat_cmp number made digests.old.entries) }
     ensures absent { OnErr result (find nat_cmp number digests.old.entries ≡ None) }
     ensures err { OnErr result (digests.new ≡ digests.old) }
-    ensures hashes { (k : ℕ) → k ≤ 32 → number < 2 ^ k → AreBelow (2 ^ k) digests.old.entries
-        → digests.new.hashes ≤ digests.old.hashes + k + 1 }
+    ensures hashes { (bits : ℕ) → number < 2 ^ bits → AreBelow (2 ^ bits) digests.old.entries
+        → digests.new.hashes ≤ digests.old.hashes + bits + 1 }
     ensures counted { IfOk result (λ made.
         made ≡ digests.new.hashes - digests.old.hashes + 1) }
 {
@@ -287,8 +289,8 @@ fn refresh(digests: &mut HashTree<u32, Digest>, number: usize, block: &Block) ->
     requires small { number < 2 ^ 32 }
     ensures put { let made = sha256 (block_item block.now) in
         digests.new.entries ≡ put nat_cmp number made digests.old.entries }
-    ensures hashes { (k : ℕ) → k ≤ 32 → number < 2 ^ k → AreBelow (2 ^ k) digests.old.entries
-        → digests.new.hashes ≤ digests.old.hashes + k + 1 }
+    ensures hashes { (bits : ℕ) → number < 2 ^ bits → AreBelow (2 ^ bits) digests.old.entries
+        → digests.new.hashes ≤ digests.old.hashes + bits + 1 }
     ensures counted { result ≡ digests.new.hashes - digests.old.hashes + 1 }
 {
     match put_digest(digests, number as u32, block) {

@@ -2,8 +2,10 @@ use Rattle.std.proofs.Common.{◌≡◌, ◌∙◌, sym, ap, subst, ◌+◌, ◌
 use Rattle.std.specs.List.{concat}
 use Rattle.std.proofs.lemmas.List.{length-append}
 use Rattle.su_node.specs.InodeChange.{with_size}
+use Rattle.su_node.specs.Cost.{blocks_grown}
 use Rattle.su_node.specs.Stored.{AreBlocksOf, AreZeroBlocks, with_padded}
 use Rattle.su_node.proofs.Contents.{stored, concat_blocks, count_is, grown_blocks, length-with_size, padded_before}
+use Rattle.su_node.proofs.Costs.{cost_both}
 use Rattle.su_node.proofs.blocks.Blocks.grow.Goals as goal
 
 -- the blocks after others were put behind them and their last one was filled
@@ -37,10 +39,11 @@ returns-clause-ok c =
     c.self.view_is c.self.invariant.blocks_of c.requires c.len-count.ensures c.in_ok-added.ensures.count c.in_ok-added.ensures.zeros c.in_ok-appended.ensures.ok c.in-Ok.ensures.ok)
 
 pub returns-clause-hashes : goal.returns-clause-hashes
-returns-clause-hashes c = λ small.
+returns-clause-hashes c = λ bits small.
     let l = count_is c.self.inside.blocks c.args.self.now (subst (AreBlocksOf c.self.inside.blocks) c.self.view_is c.self.invariant.blocks_of) in
     let added = c.in_ok-added.ensures.count in
     let longer = ap length c.in_ok-appended.ensures.ok ∙ length-append c.self.inside.blocks c.in_ok-added.added.items in
-    let appended = c.in_ok-appended.ensures.hashes (omega (arith, l, added, c.len-count.ensures, c.requires, small)) in
-    let padded = c.in-Ok.ensures.hashes (omega (arith, l, added, longer, c.len-count.ensures, c.requires, small)) in
-    omega (arith, l, added, appended, padded, c.len-count.ensures, c.saturating_add.ensures)
+    let appended = c.in_ok-appended.ensures.hashes bits (omega (arith, l, added, c.len-count.ensures, c.requires, small)) in
+    let padded = c.in-Ok.ensures.hashes bits (omega (arith, l, added, longer, c.len-count.ensures, c.requires, small)) in
+    cost_both (bits + 2) (length c.in_ok-added.added.items) 1 (blocks_grown (length c.args.self.now) c.args.size) c.in_ok-appended.appended c.in-Ok.made c.saturating_add.result
+    (omega (arith, l, added, c.len-count.ensures)) appended padded (omega (arith, c.saturating_add.ensures))

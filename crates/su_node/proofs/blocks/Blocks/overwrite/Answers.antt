@@ -1,7 +1,9 @@
 use Rattle.std.proofs.Common.{◌≡◌, ◌∙◌, sym, refl, ap, subst, arith, ◌+◌, ◌-◌, ◌*◌, ◌/◌, ◌≤◌, ◌<◌, length, min, max, take, drop, get_or, set, [], List, ℕ}
 use Rattle.std.proofs.lemmas.List.{length-take, take_all}
 use Rattle.su_node.specs.InodeChange.{with_bytes_at}
+use Rattle.su_node.specs.Cost.{blocks_touched}
 use Rattle.su_node.specs.Stored.{AreBlocksOf}
+use Rattle.su_node.proofs.Costs.{cost_both, cost_less}
 use Rattle.su_node.proofs.Contents.{count_is, stored, reaches, concat_blocks, written_nothing, written_blocks, length-with_bytes_at, length-block}
 use Rattle.su_node.proofs.blocks.Blocks.overwrite.Goals as goal
 
@@ -37,7 +39,7 @@ written_there blocks new off n first last xs bs fits first_is last_is reached wi
 pub loop-number-init : goal.loop-number-init
 loop-number-init c =
     let none : min (length c.args.bytes.now) (4096 * (c.args.off / 4096) - c.args.off) ≡ 0 = omega arith in
-    (refl, subst (AreBlocksOf c.self.inside.blocks) (c.self.view_is ∙ written_nothing c.args.off c.args.self.now (omega (arith, c.requires)) ∙ ap (λ k. with_bytes_at c.args.off (take k c.args.bytes.now) c.args.self.now) (sym none)) c.self.invariant.blocks_of, λ small. omega arith)
+    (refl, subst (AreBlocksOf c.self.inside.blocks) (c.self.view_is ∙ written_nothing c.args.off c.args.self.now (omega (arith, c.requires)) ∙ ap (λ k. with_bytes_at c.args.off (take k c.args.bytes.now) c.args.self.now) (sym none)) c.self.invariant.blocks_of, λ bits small. omega arith)
 
 pub invariant_of-self : goal.invariant_of-self
 invariant_of-self c =
@@ -71,9 +73,15 @@ loop-number-preserved c =
       c.loop-number.invariant.0,
       written_there c.loop-number.self-inside.blocks c.overwrite-made.new.self c.args.off c.loop-number.number c.max-first.result c.min-last.result c.args.bytes.now c.args.self.now
           c.requires c.max-first.ensures c.min-last.ensures reached within c.loop-number.invariant.1 c.overwrite-made.ensures.value,
-      λ small.
+      λ bits small.
           let kept = length-kept c.args.off (min (length c.args.bytes.now) (4096 * c.loop-number.number - c.args.off)) c.args.bytes.now c.args.self.now c.requires in
           let count = count_is c.loop-number.self-inside.blocks _ c.loop-number.invariant.1 in
-          let made = c.overwrite-made.ensures.hashes (omega (arith, count, kept, small)) in
-          omega (arith, made, c.loop-number.invariant.2 small, c.saturating_add-hashes.ensures, c.loop-number.auto.number),
+          let made = c.overwrite-made.ensures.hashes bits (omega (arith, count, kept, small)) in
+          cost_both (bits + 2) (c.loop-number.number - c.args.off / 4096) 1 (c.loop-number.number + 1 - c.args.off / 4096) c.loop-number.hashes c.overwrite-made.result c.saturating_add-hashes.result
+          (omega (arith, c.loop-number.auto.number)) (c.loop-number.invariant.2 bits small) made (omega (arith, c.saturating_add-hashes.ensures)),
     )
+
+pub returns-clause-hashes : goal.returns-clause-hashes
+returns-clause-hashes c = λ bits small.
+    let touched : c.loop-number.number - c.args.off / 4096 ≤ blocks_touched c.args.off (length c.args.bytes.now) = omega (arith, c.loop-number.auto.number, c.loop-number-test.false, c.count_for-number-end.ensures) in
+    cost_less (bits + 2) _ _ c.loop-number.hashes touched (c.loop-number.invariant.2 bits small)

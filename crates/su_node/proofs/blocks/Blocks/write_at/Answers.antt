@@ -1,7 +1,8 @@
-use Rattle.std.proofs.Common.{◌≡◌, ◌*◌, ℕ, ◌∙◌, ap, arith, ◌+◌, length, ◌≤◌, ◌<◌}
+use Rattle.std.proofs.Common.{◌≡◌, ℕ, ◌∙◌, refl, ap, arith, ◌+◌, length, ◌≤◌, ◌<◌}
 use Rattle.std.proofs.lemmas.Bool.Decides.{nat_tests}
 use Rattle.su_node.specs.InodeChange.{with_bytes_at}
-use Rattle.su_node.specs.Cost.{blocks_grown, blocks_touched, hashes_of_write}
+use Rattle.su_node.specs.Cost.{blocks_grown, blocks_touched, hashes_of_blocks, hashes_of_write}
+use Rattle.su_node.proofs.Costs.{cost_both}
 use Rattle.su_node.proofs.Contents.{written_grown, length-with_size}
 use Rattle.su_node.proofs.blocks.Blocks.write_at.Goals.{then-self-end_+in_ok-grown, else-self-end_}
 use Rattle.su_node.proofs.blocks.Blocks.write_at.Goals as goal
@@ -27,23 +28,25 @@ returns-clause-ok c =
     ]
 
 -- what a write costs that makes the file longer
-cost_grown : (size off len : ℕ) → size < off + len → hashes_of_write size off len ≡ 10 * (blocks_grown size (off + len) + blocks_touched off len)
-cost_grown size off len h = grind (arith, nat_tests)
+cost_grown : (bits size off len : ℕ) → size < off + len → hashes_of_write bits size off len ≡ hashes_of_blocks bits (blocks_grown size (off + len) + blocks_touched off len)
+cost_grown bits size off len h = grind (arith, nat_tests)
 
 -- what a write costs within the file
-cost_within : (size off len : ℕ) → off + len ≤ size → hashes_of_write size off len ≡ 10 * blocks_touched off len
-cost_within size off len h = grind (arith, nat_tests)
+cost_within : (bits size off len : ℕ) → off + len ≤ size → hashes_of_write bits size off len ≡ hashes_of_blocks bits (blocks_touched off len)
+cost_within bits size off len h = grind (arith, nat_tests)
 
 pub returns-clause-hashes : goal.returns-clause-hashes
-returns-clause-hashes c = λ small still.
+returns-clause-hashes c = λ bits small still.
     let size = c.self.invariant.size_of ∙ ap length c.self.view_is in
     elim c.if-self-end_.branch [
       | then-self-end_+in_ok-grown w ↦
           let l = ap length (w.self-is ∙ w.in_ok-grown.ensures.ok) ∙ length-with_size (c.args.off + length c.args.bytes.now) c.args.self.now in
-          let cost = cost_grown (length c.args.self.now) c.args.off (length c.args.bytes.now) (omega (arith, size, w.if-self-end_.true)) in
-          omega (arith, cost, c.overwrite-written.ensures.hashes (omega (arith, l, still)), w.in_ok-grown.ensures.hashes still, w.grown-is, c.saturating_add.ensures)
+          let cost = cost_grown bits (length c.args.self.now) c.args.off (length c.args.bytes.now) (omega (arith, size, w.if-self-end_.true)) in
+          let both = cost_both (bits + 2) (blocks_grown (length c.args.self.now) (c.args.off + length c.args.bytes.now)) (blocks_touched c.args.off (length c.args.bytes.now)) _ w.in_ok-grown.grown c.overwrite-written.result c.saturating_add.result
+          refl (w.in_ok-grown.ensures.hashes bits still) (c.overwrite-written.ensures.hashes bits (omega (arith, l, still))) (omega (arith, w.grown-is, c.saturating_add.ensures)) in
+          omega (arith, cost, both)
       | else-self-end_ w ↦
           let l = ap length w.self-is in
-          let cost = cost_within (length c.args.self.now) c.args.off (length c.args.bytes.now) (omega (arith, size, w.if-self-end_.false)) in
-          omega (arith, cost, c.overwrite-written.ensures.hashes (omega (arith, l, small)), w.grown-is, c.saturating_add.ensures)
+          let cost = cost_within bits (length c.args.self.now) c.args.off (length c.args.bytes.now) (omega (arith, size, w.if-self-end_.false)) in
+          omega (arith, cost, c.overwrite-written.ensures.hashes bits (omega (arith, l, small)), w.grown-is, c.saturating_add.ensures)
     ]

@@ -57,11 +57,11 @@ invariant_of-self c =
     (kept_same inode_digest is_user c.self.inside.inodes.entries _ c.self.inside.digests _ c.self.invariant.0 (ap from_entries same) refl, c.self.invariant.1)
 
 pub returns-clause-hashes : goal.returns-clause-hashes
-returns-clause-hashes c = λ small still. elim c.match-get_mut.branch [
+returns-clause-hashes c = λ bits small still. elim c.match-get_mut.branch [
   | in-Some+in_ok-content w ↦
       let size : size_at c.args.self.now c.args.place ≡ size_of w.in-Some.inode.now.content = ap value_number (val-At c.self.inside.inodes.entries _ c.args.self.now c.self.view_is c.args.place SizeOf _ w.in-Some.ensures.value) in
-      let cost = ap (λ s. hashes_of_write s c.args.off (length c.args.bytes.now)) size in
-      let made = w.in_ok-content.ensures.hashes (omega (arith, size, small)) still in
+      let cost = ap (λ s. hashes_of_write bits s c.args.off (length c.args.bytes.now)) size in
+      let made = w.in_ok-content.ensures.hashes bits (omega (arith, size, small)) still in
       omega (arith, cost, made, w.set-path.ensures.hashes, w.saturating_add-hashes.ensures, w.hashes-is)
   | in_default w ↦ omega (arith, w.hashes-is)
 ]

@@ -1,4 +1,4 @@
-use Rattle.std.proofs.Common.{◌∙◌, ap, length, arith}
+use Rattle.std.proofs.Common.{◌^◌, ◌∙◌, ap, length, arith}
 use Rattle.std.proofs.lemmas.List.{length-set}
 use Rattle.su_node.proofs.Hashed.{hashed-below, hashed-set, hashed-there}
 use Rattle.su_node.proofs.blocks.hashed.HashedBlocks.overwrite.Goals as goal
@@ -15,8 +15,8 @@ invariant_of-self c =
     )
 
 pub returns-clause-hashes : goal.returns-clause-hashes
-returns-clause-hashes c = λ few.
+returns-clause-hashes c = λ bits few.
     let long = ap length c.self.view_is in
-    let below = hashed-below c.self.inside.blocks.items c.self.inside.digests.entries c.self.invariant.0 256 (omega (arith, long, few)) in
-    let path = c.refresh.ensures.hashes 8 (omega arith) (omega (arith, c.requires.there, few)) below in
+    let below = hashed-below c.self.inside.blocks.items c.self.inside.digests.entries c.self.invariant.0 (2 ^ bits) (omega (arith, long, few)) in
+    let path = c.refresh.ensures.hashes bits (omega (arith, c.requires.there, few)) below in
     omega (arith, path, c.refresh.ensures.counted)

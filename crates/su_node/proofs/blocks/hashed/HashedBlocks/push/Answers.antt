@@ -1,4 +1,4 @@
-use Rattle.std.proofs.Common.{◌≡◌, ◌++◌, ◌∷◌, [], ◌∙◌, ap, sym, length, arith}
+use Rattle.std.proofs.Common.{◌≡◌, ◌^◌, ◌++◌, ◌∷◌, [], ◌∙◌, ap, sym, length, arith}
 use Rattle.std.proofs.lemmas.List.{length_push}
 use Rattle.su_node.specs.Stored.{digests_of}
 use Rattle.su_node.proofs.Hashed.{hashed-below, hashed-push}
@@ -15,9 +15,9 @@ invariant_of-self-2 c =
     )
 
 pub returns-clause-hashes : goal.returns-clause-hashes
-returns-clause-hashes c = λ few.
+returns-clause-hashes c = λ bits few.
     let long = ap length c.self.view_is in
     let kept = ap length c.reserve.ensures.items in
-    let below = hashed-below c.self.inside.blocks.items c.self.inside.digests.entries c.self.invariant.0 256 (omega (arith, long, few)) in
-    let path = c.put_digest.ensures.hashes 8 (omega arith) (omega (arith, c.len.ensures, kept, long, few)) below in
+    let below = hashed-below c.self.inside.blocks.items c.self.inside.digests.entries c.self.invariant.0 (2 ^ bits) (omega (arith, long, few)) in
+    let path = c.put_digest.ensures.hashes bits (omega (arith, c.len.ensures, kept, long, few)) below in
     omega (arith, path, c.in_ok-made.ensures.counted)

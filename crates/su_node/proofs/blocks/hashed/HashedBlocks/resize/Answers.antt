@@ -1,4 +1,4 @@
-use Rattle.std.proofs.Common.{◌≡◌, ◌∙◌, ap, sym, length, set, get_or, [], arith}
+use Rattle.std.proofs.Common.{◌≡◌, ◌^◌, ◌∙◌, ap, sym, length, set, get_or, [], arith}
 use Rattle.std.proofs.lemmas.List.{length-set, set-get_or}
 use Rattle.su_node.specs.InodeChange.{with_size}
 use Rattle.su_node.proofs.Contents.{resized_same}
@@ -23,8 +23,8 @@ returns-else-get-size-clause-ok c =
     sym (set-get_or c.args.self.now c.args.number []) ∙ ap (set c.args.self.now c.args.number) same
 
 pub returns-in_ok-resize-clause-hashes : goal.returns-in_ok-resize-clause-hashes
-returns-in_ok-resize-clause-hashes c = λ few.
+returns-in_ok-resize-clause-hashes c = λ bits few.
     let long = ap length c.self.view_is in
-    let below = hashed-below c.self.inside.blocks.items c.self.inside.digests.entries c.self.invariant.0 256 (omega (arith, long, few)) in
-    let path = c.refresh.ensures.hashes 8 (omega arith) (omega (arith, c.requires, few)) below in
+    let below = hashed-below c.self.inside.blocks.items c.self.inside.digests.entries c.self.invariant.0 (2 ^ bits) (omega (arith, long, few)) in
+    let path = c.refresh.ensures.hashes bits (omega (arith, c.requires, few)) below in
     omega (arith, path, c.refresh.ensures.counted)
