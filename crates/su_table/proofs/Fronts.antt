@@ -8,13 +8,13 @@ use Rattle.std.proofs.lemmas.Bool.{eqb-true}
 use Rattle.std.proofs.lemmas.Bool.Decides.{nat_tests}
 use Rattle.std.proofs.lemmas.List.{get_or-set_same, get_or-set_other}
 use Rattle.std.proofs.lemmas.Nat.{div-add-mod'}
-use Rattle.su_table.specs.Free.{IsLeastFree, has_none, HasAll, AreFronts}
+use Rattle.su_table.specs.Free.{IsLeast, has_none, HasAll, AreFronts}
 use Rattle.su_table.specs.Table.{with_pair}
 
--- the least free number of two tests that agree
-pub least_alike : (f g : ℕ → Bool) (from : ℕ) → ((n : ℕ) → f n ≡ g n) → (found : Option ℕ) → IsLeastFree f from found → IsLeastFree g from found
-least_alike f g from same (Some n) (after, is, free, taken) = (after, is, sym (same n) ∙ free, λ m a b. sym (same m) ∙ taken m a b)
-least_alike f g from same None taken = λ m a b. sym (same m) ∙ taken m a b
+-- the least number that passes two tests that agree
+pub least_alike : (f g : ℕ → Bool) (from : ℕ) → ((n : ℕ) → f n ≡ g n) → (found : Option ℕ) → IsLeast f from found → IsLeast g from found
+least_alike f g from same (Some n) (after, is, passes, others) = (after, is, sym (same n) ∙ passes, λ m a b. sym (same m) ∙ others m a b)
+least_alike f g from same None none = λ m a b. sym (same m) ∙ none m a b
 
 -- what holds of each front that is kept, after one was set
 at_each : (P : ℕ → ℕ → Type 0) (fs : List ℕ) (b f c : ℕ) → b < length fs → P b f → (c ≢ b → P c (get_or fs c 0)) → P c (get_or (set fs b f) c 0)

@@ -4,5 +4,6 @@ pub mod TakenBack
 pub mod TableEdits
 pub mod Fronts
 pub mod KeptTables
+pub mod Nexts
 pub mod ByteCosts
 pub mod Public

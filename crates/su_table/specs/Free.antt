@@ -1,16 +1,24 @@
--- Free numbers of a principal's table. (This project's own: SUNDR leaves the choice of i-numbers to clients.)
+-- Free and taken numbers of a principal's table. (This project's own: SUNDR leaves the choice of i-numbers to clients.)
 use Rattle.std.specs.Prelude.{◌≡◌, ◌<◌, ◌≤◌, ◌+◌, ◌*◌, ℕ, Bool, true, false, not, List, is_some, IsTrue, Option, Some, None, get_or}
 use Rattle.std.specs.Ordering.{nat_cmp}
 use Rattle.std.specs.FinMap.Entries.{find}
 use Rattle.su_bytes.specs.FileId.{is_inum}
 use Rattle.su_table.specs.declared.table.TheConstants.{BLOCK}
 
+-- The least number from `from` on that passes a test; none where none from there to the last does.
+abbrev pub IsLeast : (ℕ → Bool) → ℕ → Option ℕ → Type 0
+IsLeast passes from (Some n) =
+    (from ≤ n) × IsTrue (is_inum n) × (passes n ≡ true)
+    × ((m : ℕ) → from ≤ m → m < n → passes m ≡ false)
+IsLeast passes from None = (m : ℕ) → from ≤ m → IsTrue (is_inum m) → passes m ≡ false
+
 -- The least free number from `from` on; none where each one from there to the last is taken.
 abbrev pub IsLeastFree : (ℕ → Bool) → ℕ → Option ℕ → Type 0
-IsLeastFree free from (Some n) =
-    (from ≤ n) × IsTrue (is_inum n) × (free n ≡ true)
-    × ((m : ℕ) → from ≤ m → m < n → free m ≡ false)
-IsLeastFree free from None = (m : ℕ) → from ≤ m → IsTrue (is_inum m) → free m ≡ false
+IsLeastFree free = IsLeast free
+
+-- The least taken number from `from` on; none where each one from there to the last is free.
+abbrev pub IsLeastTaken : (ℕ → Bool) → ℕ → Option ℕ → Type 0
+IsLeastTaken free = IsLeast (λ n. not (free n))
 
 -- the table has nothing at the number
 abbrev pub has_none : {V : Type 0} → List (ℕ × V) → ℕ → Bool

@@ -7,7 +7,7 @@ ghost use Rattle.su_table.specs.Tree.{genesis};
 ghost use Rattle.su_table.specs.Cell.{Cell.Pointer, val};
 ghost use Rattle.su_table.specs.Cost.{hashes_of_inode};
 ghost use Rattle.su_table.specs.Handle.{handle};
-ghost use Rattle.su_table.specs.Free.{IsLeastFree};
+ghost use Rattle.su_table.specs.Free.{IsLeastFree, IsLeastTaken};
 ghost use Rattle.su_table.specs.Edit.{Edit.Inodes, Edit.Pointers, edit};
 ghost use Rattle.su_table.specs.Query.{is_nothing, body, is_free_at, is_dir_at, is_file_at, links_at, is_bare_at, is_name_free_at, leads_to_at, is_pointer_free, size_at, standing, listing, contents, contents_within};
 ghost use Rattle.su_bytes.specs.declared.refusals.Refusal.TheVariants.{NoMemory};
@@ -211,6 +211,18 @@ impl Forest {
         ensures { IsLeastFree (λ k. is_pointer_free self.now (GroupFileId group k)) from_ result }
     {
         self.bodies.free_number(group.number(), from_)
+    }
+
+    /// Finds the least number from a number on at which the user has an inode; none where the user
+    /// has none from there to the last. It costs a look-up, and takes no memory.
+    pub fn next_inode(&self, user: User, from_: Inum) -> Option<Inum>
+        ensures { IsLeastTaken (λ i. is_free_at self.now (user, i)) from_ result }
+    {
+        let (place, _) = self.inodes.range((user, from_)..).next()?;
+        let (holder, number) = *place;
+        // names the number's range for the prover (docs/ARCHITECTURE.md, "Forms the kit wants")
+        let _number = number.number();
+        if holder == user { Some(number) } else { None }
     }
 
     /// Returns the inode of a file: `NoFile` where the file has no body, `WrongKind` where its
