@@ -7,7 +7,7 @@ use Rattle.su_node.specs.Field.{Field.KindOf, Value, Value.Nothing, Value.AKind,
 use Rattle.su_table.specs.Tree.{Tree}
 use Rattle.su_table.specs.Cell.{Cell.At, val}
 use Rattle.su_table.specs.Query.{is_nothing, is_free_at}
-use Rattle.su_table.specs.Free.{IsLeastFree}
+use Rattle.su_table.specs.Free.{IsLeastTaken}
 use Rattle.su_op.specs.DropBody.{group_home, unless_led}
 use Rattle.su_op.specs.declared.operations.Op.{Op}
 use Rattle.su_draft.specs.Number.{last_number}
@@ -55,7 +55,7 @@ free_unstale : (T : Tree) (a n : ℕ) → not (is_free_at T (a, n)) ≡ false �
 free_unstale T a n e = unstale T (a, n) (val T (At (a, n) KindOf)) e
 
 -- the stale bodies from a number on, by the next body that stands there
-pub stale_next : (T : Tree) (a from n : ℕ) → IsLeastFree (λ i. not (is_free_at T (a, i))) from (Some n)
+pub stale_next : (T : Tree) (a from n : ℕ) → IsLeastTaken (λ i. is_free_at T (a, i)) from (Some n)
     → stale_from T a from ≡ cond (is_stale T a n) (n ∷ stale_from T a (n + 1)) (stale_from T a (n + 1))
 unfolding stale_from
 stale_next T a from n least =
@@ -64,7 +64,7 @@ stale_next T a from n least =
     (λ m low high. free_unstale T a m (least.3 m low high))
 
 -- no body stands from there on
-pub stale_none : (T : Tree) (a from : ℕ) → 1 ≤ from → IsLeastFree (λ i. not (is_free_at T (a, i))) from None → stale_from T a from ≡ []
+pub stale_none : (T : Tree) (a from : ℕ) → 1 ≤ from → IsLeastTaken (λ i. is_free_at T (a, i)) from None → stale_from T a from ≡ []
 unfolding stale_from
 stale_none T a from one least =
     none_passes (is_stale T a) from (last_number + 1 - from)
@@ -77,20 +77,20 @@ pub drops_init : (T : Tree) (a : ℕ) → [] ++ map drop_of (stale_from T a 1) �
 unfolding tidy_draft
 drops_init T a = refl
 
-pub drops_more : (T : Tree) (a from n : ℕ) (drops : List Op) (all : List Op) → IsLeastFree (λ i. not (is_free_at T (a, i))) from (Some n) → is_stale T a n ≡ true
+pub drops_more : (T : Tree) (a from n : ℕ) (drops : List Op) (all : List Op) → IsLeastTaken (λ i. is_free_at T (a, i)) from (Some n) → is_stale T a n ≡ true
     → drops ++ map drop_of (stale_from T a from) ≡ all → (drops ++ drop_of n ∷ []) ++ map drop_of (stale_from T a (n + 1)) ≡ all
 drops_more T a from n drops all least stale so_far =
     append_assoc drops (drop_of n ∷ []) (map drop_of (stale_from T a (n + 1)))
     ∙ ap (λ ns. drops ++ map drop_of ns) (sym (stale_next T a from n least ∙ ap (λ b. cond b (n ∷ stale_from T a (n + 1)) (stale_from T a (n + 1))) stale))
     ∙ so_far
 
-pub drops_on : (T : Tree) (a from n : ℕ) (drops : List Op) (all : List Op) → IsLeastFree (λ i. not (is_free_at T (a, i))) from (Some n) → is_stale T a n ≡ false
+pub drops_on : (T : Tree) (a from n : ℕ) (drops : List Op) (all : List Op) → IsLeastTaken (λ i. is_free_at T (a, i)) from (Some n) → is_stale T a n ≡ false
     → drops ++ map drop_of (stale_from T a from) ≡ all → drops ++ map drop_of (stale_from T a (n + 1)) ≡ all
 drops_on T a from n drops all least stale so_far =
     ap (λ ns. drops ++ map drop_of ns) (sym (stale_next T a from n least ∙ ap (λ b. cond b (n ∷ stale_from T a (n + 1)) (stale_from T a (n + 1))) stale))
     ∙ so_far
 
-pub drops_end : (T : Tree) (a from : ℕ) (drops : List Op) → 1 ≤ from → IsLeastFree (λ i. not (is_free_at T (a, i))) from None
+pub drops_end : (T : Tree) (a from : ℕ) (drops : List Op) → 1 ≤ from → IsLeastTaken (λ i. is_free_at T (a, i)) from None
     → drops ++ map drop_of (stale_from T a from) ≡ tidy_draft T a → tidy_draft T a ≡ drops
 drops_end T a from drops one least so_far =
     sym so_far ∙ ap (λ ns. drops ++ map drop_of ns) (stale_none T a from one least) ∙ append_none drops

@@ -1,6 +1,6 @@
 // Bodies go that no file id leads to.
-ghost use Rattle.std.specs.Prelude.{◌≡◌, ◌≤◌, not, Ok};
-ghost use Rattle.su_table.specs.Free.{IsLeastFree};
+ghost use Rattle.std.specs.Prelude.{◌≡◌, ◌≤◌, Ok};
+ghost use Rattle.su_table.specs.Free.{IsLeastTaken};
 ghost use Rattle.su_table.specs.Query.{is_free_at};
 ghost use Rattle.su_draft.specs.Refusable.{Gives};
 ghost use Rattle.su_draft.specs.Tidy.{tidy_draft};
@@ -30,7 +30,7 @@ pub(crate) fn tidy(alloc: Global, forest: &Forest, author: User) -> Result<Vec<O
 /// the last number.
 fn next_body(forest: &Forest, user: User, from_: u32) -> Option<Inum>
     requires { 1 ≤ from_ }
-    ensures { IsLeastFree (λ n. not (is_free_at forest.now (user, n))) from_ result }
+    ensures { IsLeastTaken (λ n. is_free_at forest.now (user, n)) from_ result }
 {
     let start = Inum::new(u64::from(from_)).ok()?;
     forest.next_inode(user, start)
