@@ -1,5 +1,5 @@
 -- The stale bodies of a user, as they are found from number to number.
-use Rattle.std.proofs.Common.{◌≡◌, ◌∙◌, ℕ, zero, suc, ◌+◌, ◌-◌, ◌<◌, ◌≤◌, Bool, true, false, cond, not, List, [], ◌∷◌, ◌++◌, map, Option, Some, None, refl, sym, ap, subst, arith, append_assoc}
+use Rattle.std.proofs.Common.{◌≡◌, ◌∙◌, ℕ, zero, suc, ◌+◌, ◌-◌, ◌<◌, ◌≤◌, Bool, true, false, cond, not, List, [], ◌∷◌, ◌++◌, map, Some, None, refl, sym, ap, arith, append_assoc, append-nil}
 use Rattle.std.specs.Prelude.{filter, is_some}
 use Rattle.std.specs.List.{range_with_len}
 use Rattle.su_bytes.specs.Place.{Place}
@@ -16,13 +16,16 @@ use Rattle.su_draft.proofs.LeastFree.{inum_range, range_inum}
 
 -- ---- numbers that don't pass
 
-skipped : (p : ℕ → Bool) (k from len : ℕ) → ((m : ℕ) → from ≤ m → m < from + k → p m ≡ false) → filter p (range_with_len from (k + len)) ≡ filter p (range_with_len (from + k) len)
-skipped p zero from len none = ap (λ (n : ℕ). filter p (range_with_len n len)) (omega arith)
-skipped p (suc k) from len none =
-    let first : p from ≡ false = none from (omega arith) (omega arith) in
-    let rest = skipped p k (from + 1) len (λ m low high. none m (omega (arith, low)) (omega (arith, high))) in
-    ap (λ b. cond b (from ∷ filter p (range_with_len (from + 1) (k + len))) (filter p (range_with_len (from + 1) (k + len)))) first
-    ∙ rest ∙ ap (λ (n : ℕ). filter p (range_with_len n len)) (omega arith)
+skipped : (p : ℕ → Bool) (k from start len total : ℕ) → total ≡ k + len → start ≡ from + k → ((m : ℕ) → from ≤ m → m < start → p m ≡ false) → filter p (range_with_len from total) ≡ filter p (range_with_len start len)
+skipped p zero from start len total e s none =
+    let same : total ≡ len = omega (arith, e) in
+    let here : from ≡ start = omega (arith, s) in
+    ap (λ (n : ℕ). filter p (range_with_len from n)) same ∙ ap (λ (n : ℕ). filter p (range_with_len n len)) here
+skipped p (suc k) from start len zero e s none = absurd (omega (arith, e))
+skipped p (suc k) from start len (suc left) e s none =
+    let first : p from ≡ false = none from (omega arith) (omega (arith, s)) in
+    ap (λ b. cond b (from ∷ filter p (range_with_len (from + 1) left)) (filter p (range_with_len (from + 1) left))) first
+    ∙ skipped p k (from + 1) start len left (omega (arith, e)) (omega (arith, s)) (λ m low high. none m (omega (arith, low)) high)
 
 none_passes : (p : ℕ → Bool) (from len : ℕ) → ((m : ℕ) → from ≤ m → m < from + len → p m ≡ false) → filter p (range_with_len from len) ≡ []
 none_passes p from zero none = refl
@@ -34,11 +37,7 @@ none_passes p from (suc len) none =
 -- the first one that may pass
 next_passes : (p : ℕ → Bool) (from n len left : ℕ) → from ≤ n → len ≡ (n - from) + suc left → ((m : ℕ) → from ≤ m → m < n → p m ≡ false)
     → filter p (range_with_len from len) ≡ cond (p n) (n ∷ filter p (range_with_len (n + 1) left)) (filter p (range_with_len (n + 1) left))
-next_passes p from n len left low long none =
-    let at : from + (n - from) ≡ n = omega (arith, low) in
-    ap (λ (l : ℕ). filter p (range_with_len from l)) long
-    ∙ skipped p (n - from) from (suc left) (λ m above below. none m above (omega (arith, low, below)))
-    ∙ ap (λ (k : ℕ). filter p (range_with_len k (suc left))) at
+next_passes p from n len left low long none = skipped p (n - from) from n (suc left) len long (omega (arith, low)) none
 
 -- ---- bodies
 
@@ -73,28 +72,37 @@ stale_none T a from one least =
 -- ---- their drops
 
 -- those that are listed, and those of the bodies from a number on, are all
-pub drops_init : (T : Tree) (a : ℕ) → [] ++ map drop_of (stale_from T a 1) ≡ tidy_draft T a
+abbrev pub AreAll : Tree → ℕ → List Op → ℕ → Type 0
+AreAll T a drops from = drops ++ map drop_of (stale_from T a from) ≡ tidy_draft T a
+
+pub drops_init : (T : Tree) (a : ℕ) (drops : List Op) (from : ℕ) → drops ≡ [] → from ≡ 1 → AreAll T a drops from
 unfolding tidy_draft
-drops_init T a = refl
+drops_init T a drops from none one =
+    ap (λ ds. ds ++ map drop_of (stale_from T a from)) none ∙ ap (λ n. map drop_of (stale_from T a n)) one
 
-pub drops_more : (T : Tree) (a from n : ℕ) (drops : List Op) (all : List Op) → IsLeastTaken (λ i. is_free_at T (a, i)) from (Some n) → is_stale T a n ≡ true
-    → drops ++ map drop_of (stale_from T a from) ≡ all → (drops ++ drop_of n ∷ []) ++ map drop_of (stale_from T a (n + 1)) ≡ all
-drops_more T a from n drops all least stale so_far =
-    append_assoc drops (drop_of n ∷ []) (map drop_of (stale_from T a (n + 1)))
-    ∙ ap (λ ns. drops ++ map drop_of ns) (sym (stale_next T a from n least ∙ ap (λ b. cond b (n ∷ stale_from T a (n + 1)) (stale_from T a (n + 1))) stale))
-    ∙ so_far
+-- behind the next body, by whether it is stale
+next_is : (T : Tree) (a from n : ℕ) (stale : Bool) → IsLeastTaken (λ i. is_free_at T (a, i)) from (Some n) → is_stale T a n ≡ stale
+    → stale_from T a from ≡ cond stale (n ∷ stale_from T a (n + 1)) (stale_from T a (n + 1))
+next_is T a from n stale least is =
+    stale_next T a from n least ∙ ap (λ b. cond b (n ∷ stale_from T a (n + 1)) (stale_from T a (n + 1))) is
 
-pub drops_on : (T : Tree) (a from n : ℕ) (drops : List Op) (all : List Op) → IsLeastTaken (λ i. is_free_at T (a, i)) from (Some n) → is_stale T a n ≡ false
-    → drops ++ map drop_of (stale_from T a from) ≡ all → drops ++ map drop_of (stale_from T a (n + 1)) ≡ all
-drops_on T a from n drops all least stale so_far =
-    ap (λ ns. drops ++ map drop_of ns) (sym (stale_next T a from n least ∙ ap (λ b. cond b (n ∷ stale_from T a (n + 1)) (stale_from T a (n + 1))) stale))
-    ∙ so_far
+pub drops_more : (T : Tree) (a from n next : ℕ) (drops more : List Op) → IsLeastTaken (λ i. is_free_at T (a, i)) from (Some n) → is_stale T a n ≡ true
+    → more ≡ drops ++ drop_of n ∷ [] → next ≡ n → AreAll T a drops from → AreAll T a more (next + 1)
+drops_more T a from n next drops more least stale longer here all =
+    ap (λ ds. ds ++ map drop_of (stale_from T a (next + 1))) longer
+    ∙ ap (λ m. (drops ++ drop_of n ∷ []) ++ map drop_of (stale_from T a (m + 1))) here
+    ∙ append_assoc drops (drop_of n ∷ []) (map drop_of (stale_from T a (n + 1)))
+    ∙ ap (λ ns. drops ++ map drop_of ns) (sym (next_is T a from n true least stale))
+    ∙ all
 
-pub drops_end : (T : Tree) (a from : ℕ) (drops : List Op) → 1 ≤ from → IsLeastTaken (λ i. is_free_at T (a, i)) from None
-    → drops ++ map drop_of (stale_from T a from) ≡ tidy_draft T a → tidy_draft T a ≡ drops
-drops_end T a from drops one least so_far =
-    sym so_far ∙ ap (λ ns. drops ++ map drop_of ns) (stale_none T a from one least) ∙ append_none drops
-  where
-    append_none : (xs : List Op) → xs ++ [] ≡ xs
-    append_none [] = refl
-    append_none (x ∷ xs) = ap (λ ys. x ∷ ys) (append_none xs)
+pub drops_on : (T : Tree) (a from n next : ℕ) (drops more : List Op) → IsLeastTaken (λ i. is_free_at T (a, i)) from (Some n) → is_stale T a n ≡ false
+    → more ≡ drops → next ≡ n → AreAll T a drops from → AreAll T a more (next + 1)
+drops_on T a from n next drops more least stale same here all =
+    ap (λ ds. ds ++ map drop_of (stale_from T a (next + 1))) same
+    ∙ ap (λ m. drops ++ map drop_of (stale_from T a (m + 1))) here
+    ∙ ap (λ ns. drops ++ map drop_of ns) (sym (next_is T a from n false least stale))
+    ∙ all
+
+pub drops_end : (T : Tree) (a from : ℕ) (drops : List Op) → 1 ≤ from → IsLeastTaken (λ i. is_free_at T (a, i)) from None → AreAll T a drops from → tidy_draft T a ≡ drops
+drops_end T a from drops one least all =
+    sym all ∙ ap (λ ns. drops ++ map drop_of ns) (stale_none T a from one least) ∙ append-nil drops

@@ -6,7 +6,7 @@ ghost use Rattle.su_draft.specs.Refusable.{Gives};
 ghost use Rattle.su_draft.specs.Tidy.{tidy_draft};
 
 use std::alloc::Global;
-use su_bytes::{Inum, Refusal, User};
+use su_bytes::{FileId, Inum, Refusal, User};
 use su_op::{DropBody, Op, stale_home};
 use su_table::Forest;
 
@@ -32,6 +32,8 @@ fn next_body(forest: &Forest, user: User, from_: u32) -> Option<Inum>
     requires { 1 ≤ from_ }
     ensures { IsLeastTaken (λ n. is_free_at forest.now (user, n)) from_ result }
 {
+    // names the type for the prover (docs/ARCHITECTURE.md, "Forms the kit wants")
+    let _none: Option<FileId> = None;
     let start = Inum::new(u64::from(from_)).ok()?;
     forest.next_inode(user, start)
 }
