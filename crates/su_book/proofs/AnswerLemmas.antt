@@ -1,9 +1,11 @@
 -- The machine gives one answer.
-use Rattle.std.proofs.Common.{◌≡◌, ℕ, List, [], length, refl, sym, ap, ◌∙◌, subst, arith, inl, inr, append-nil}
+use Rattle.std.proofs.Common.{◌≡◌, ◌⊎◌, ℕ, List, [], length, Some, Result, Ok, Err, IsErrAnd, refl, sym, ap, ◌∙◌, subst, arith, inl, inr, append-nil}
+use Rattle.std.specs.Prelude.{IfErr}
+use Rattle.std.specs.Global.{Vec}
 use Rattle.su_bytes.specs.Order.{Passes, RefusedBy}
 use Rattle.su_bytes.proofs.Public.{EachOnce, once, never_both, one_refusal}
 use Rattle.su_bytes.specs.declared.refusals.Refusal.{Refusal}
-use Rattle.su_bytes.specs.declared.refusals.Refusal.TheVariants.{Malformed}
+use Rattle.su_bytes.specs.declared.refusals.Refusal.TheVariants.{Malformed, NoMemory}
 use Rattle.su_format.specs.Format.{whole}
 use Rattle.su_format.proofs.Public.{whole_lawful, spelling_told}
 use Rattle.su_version.specs.Commit.{Commit, IsCommit, commit_bytes, commit_format}
@@ -13,7 +15,7 @@ use Rattle.su_book.specs.declared.events.Event.{Event}
 use Rattle.su_book.specs.declared.events.Event.TheVariants as event
 use Rattle.su_book.specs.declared.steps.Act.{Act}
 use Rattle.su_book.specs.declared.steps.Act.TheVariants.{Granted, Stored, Given}
-use Rattle.su_book.specs.Machine.{BookState, storing_order, MayBeGranted, MayBeStored, MayAct, Asks, IsUnfit, IsRefused}
+use Rattle.su_book.specs.Machine.{BookState, storing_order, MayBeGranted, MayBeStored, MayAct, Asks, IsUnfit, IsRefused, holder_of}
 
 -- ---- what bytes spell
 
@@ -53,6 +55,13 @@ may_not_be_unfit b bytes seat n c e sc may (inr (d, id, sd, p)) =
 not_unfit : (b : BookState) (bytes : _) (seat n : ℕ) (c : Commit) (e : Refusal) → IsRefused b seat (event.Commit bytes) e → bytes.items ≡ commit_bytes c → MayBeStored b seat n c → ⊥
 not_unfit b bytes seat n c e (inl p) sc may = p.1 may.turn
 not_unfit b bytes seat n c e (inr p) sc may = may_not_be_unfit b bytes.items seat n c e sc may p.1
+
+-- the seat that has the turn is refused for what is wrong with the commit
+pub commit_refused : {X : Type 0} (b : BookState) (seat : ℕ) (bytes : Vec ℕ) (r : Result X Refusal) (x : Refusal) → IsErrAnd r (λ e. e ≡ x) → holder_of b.journal ≡ Some seat
+    → (x ≡ NoMemory) ⊎ IsUnfit b bytes.items x → IfErr r (λ e. IsRefused b seat (event.Commit bytes) e ⊎ (e ≡ NoMemory))
+commit_refused b seat bytes (Ok v) x is turn why = tt
+commit_refused b seat bytes (Err e) x is turn (inl none) = inr (is ∙ none)
+commit_refused b seat bytes (Err e) x is turn (inr unfit) = inl (inr (turn, subst (IsUnfit b bytes.items) (sym is) unfit))
 
 -- ---- what is asked for
 
