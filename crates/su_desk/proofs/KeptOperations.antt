@@ -25,8 +25,10 @@ use Rattle.su_desk.specs.declared.kept.KeptOperation.{KeptOperation}
 use Rattle.su_desk.specs.History.{NumberedAction, actions, entry_doing, undo_by, live, live_numbers, replay, tree, entry_at, last_number, last_live}
 use Rattle.su_desk.specs.Applied.{reads_where_applied, writes_where_applied, written_by}
 use Rattle.su_desk.specs.Blocker.{blocker}
-use Rattle.su_desk.specs.Answer.{undo_refusal}
+use Rattle.su_desk.specs.Answer.{format_refusal, undo_refusal}
 use Rattle.su_desk.specs.Keeping.{Fits, Leads, Keeps}
+use Rattle.su_desk.proofs.FormatLemmas.{by_change}
+use Rattle.su_op.specs.declared.operations.Change.TheVariants.{Do, Undo}
 use Rattle.su_desk.proofs.Operations.{live-do}
 use Rattle.su_desk.proofs.WhereApplied.{InReplay, AllInReplay, replay_reached, written_of}
 use Rattle.su_desk.proofs.LiveNumbers.{undo_accepted}
@@ -77,12 +79,12 @@ replayed_kept ro h ks T keeps = good_replayed ro h T keeps.good (tree_kept ro h 
 
 -- one operation more
 pub keeps_do : (ro : Membership) (h : List Entry) (ks : List KeptOperation) (T : Tree) (x : Action) (k : KeptOperation) → Keeps ro h ks T
-    → Fits ro T (record { number = length h + 1; action = x }) k → Keeps ro (h ++ entry_doing x ∷ []) (ks ++ k ∷ []) ((store ro).act T x)
-keeps_do ro h ks T x k keeps fits =
+    → format_refusal h x.format (Do x.op) ≡ None → Fits ro T (record { number = length h + 1; action = x }) k → Keeps ro (h ++ entry_doing x ∷ []) (ks ++ k ∷ []) ((store ro).act T x)
+keeps_do ro h ks T x k keeps has fits =
     let e : Entry = entry_doing x in
     let t : NumberedAction = record { number = length h + 1; action = x } in
     record {
-      good = good_further ro h e keeps.good (ap (λ o. why ro (unwrap_or o genesis) x) (tree_kept ro h ks T keeps) ∙ fits.accepted);
+      good = good_further ro h e keeps.good (by_change ro h e has ∙ ap (λ o. why ro (unwrap_or o genesis) x) (tree_kept ro h ks T keeps) ∙ fits.accepted);
       leads = subst (λ ts. Leads ro genesis ts (ks ++ k ∷ []) ((store ro).act T x)) (sym (live-do h x ((replayed_kept ro h ks T keeps).past (length h + 1) (omega arith)))) (led_further ro genesis T (live h) ks t k keeps.leads fits);
     }
 
@@ -215,9 +217,9 @@ module _ (ro : Membership) where
   take_out_kept h S T (u ∷ before) after t [] rest k sound a in_replay leads unread = absurd a
 
 -- an operation is undone that nothing blocks: T' is the tree where what is kept of it is put back
-pub keeps_undo : (ro : Membership) (h : List Entry) (front rest : List KeptOperation) (T T' : Tree) (a : ℕ) (f : Format) (n : ℕ) (k : KeptOperation) → Keeps ro h (front ++ k ∷ rest) T → k.number ≡ n → undo_refusal ro h a n ≡ None
+pub keeps_undo : (ro : Membership) (h : List Entry) (front rest : List KeptOperation) (T T' : Tree) (a : ℕ) (f : Format) (n : ℕ) (k : KeptOperation) → Keeps ro h (front ++ k ∷ rest) T → k.number ≡ n → format_refusal h f (Undo n) ≡ None → undo_refusal ro h a n ≡ None
     → ((B : Tree) → IsPutBack k.inverse T B → T' ≡ B) → Keeps ro (h ++ undo_by a f n ∷ []) (front ++ rest) T'
-keeps_undo ro h front rest T T' a f n k keeps number accepted put =
+keeps_undo ro h front rest T T' a f n k keeps number has accepted put =
     let e : Entry = undo_by a f n in
     let p = part ro h (live h) front k rest (applied ro h (front ++ k ∷ rest) T keeps) in
     let q = replayed_kept ro h (front ++ k ∷ rest) T keeps in
@@ -228,7 +230,7 @@ keeps_undo ro h front rest T T' a f n k keeps number accepted put =
     let left : live (h ++ e ∷ []) ≡ p.before ++ p.after
     = ap (λ m. live (h ++ undo_by a f m ∷ [])) named ∙ undone_out h p.before p.after p.operation a f p.whole in
     record {
-      good = good_further ro h e keeps.good accepted;
+      good = good_further ro h e keeps.good (by_change ro h e has ∙ accepted);
       leads = subst (λ ts. Leads ro genesis ts (front ++ rest) T') (sym left) (subst (λ B. Leads ro genesis (p.before ++ p.after) (front ++ rest) B) (sym (put r.state r.back)) r.leads);
     }
 

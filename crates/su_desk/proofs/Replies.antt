@@ -12,14 +12,14 @@ use Rattle.su_op.specs.Action.{Action}
 use Rattle.su_op.specs.declared.operations.Change.TheVariants.{Do, Undo}
 use Rattle.su_op.specs.Operation.{why}
 use Rattle.su_desk.specs.declared.entries.Entry.{Entry}
-use Rattle.su_desk.specs.History.{entry_doing, undo_by, tree, last_live}
+use Rattle.su_desk.specs.History.{entry_doing, undo_by, tree, last_live, format_after}
 use Rattle.su_desk.specs.declared.kept.KeptOperation.{KeptOperation}
 use Rattle.su_desk.specs.Desk.{DeskState, Answers}
 use Rattle.su_desk.specs.Applied.{written_by}
 use Rattle.su_desk.specs.Keeping.{Keeps, IsIndexOf}
 use Rattle.su_desk.proofs.KeptOperations.{keeps_undo, written_there, last_kept, none_kept}
 use Rattle.su_desk.proofs.KeptIndexes.{split_at}
-use Rattle.su_desk.proofs.FormatLemmas.{by_change}
+use Rattle.su_desk.proofs.FormatLemmas.{by_change, format_further}
 use Rattle.su_desk.specs.Answer.{format_refusal, undo_refusal, refusal_of, reply, answer}
 
 pub answer_done : (ro : Membership) (h : List Entry) (e : Entry) → refusal_of ro h e ≡ None → answer ro h e ≡ Ok (length h + 1)
@@ -67,6 +67,10 @@ pub is_empty : {A : Type 0} (xs : List A) → slice_get xs (length xs - 1) ≡ N
 is_empty [] e = refl
 is_empty (y ∷ ys) e = let there = slice_get-get_or (y ∷ ys) (length (y ∷ ys) - 1) y (omega arith) in absurd (let bad : None ≡ Some (get_or (y ∷ ys) (length (y ∷ ys) - 1) y) = sym e ∙ there in cc)
 
+-- the format of the last entry
+pub format_last : (h : List Entry) (e : Entry) → slice_get h (length h - 1) ≡ Some e → e.format ≡ format_after h
+format_last h e is = sym (ap format_after (ends_with h e is) ∙ format_further (take (length h - 1) h) e)
+
 -- ---- what is kept last
 
 pub last_number : (ro : Membership) (h : List Entry) (ks : List KeptOperation) (k : KeptOperation) (T : Tree) → Keeps ro h ks T → slice_get ks (length ks - 1) ≡ Some k → k.number ≡ last_live h
@@ -88,9 +92,9 @@ found ro h ks k i n T keeps index here = record {
   number = ap (λ (x : KeptOperation). x.number) (sym here) ∙ index.number k;
 }
 
-pub undone_there : (ro : Membership) (h : List Entry) (ks : List KeptOperation) (k : KeptOperation) (i : ℕ) (T T' : Tree) (a : ℕ) (f : Format) (n : ℕ) → Found ro h ks k i n T → undo_refusal ro h a n ≡ None
+pub undone_there : (ro : Membership) (h : List Entry) (ks : List KeptOperation) (k : KeptOperation) (i : ℕ) (T T' : Tree) (a : ℕ) (f : Format) (n : ℕ) → Found ro h ks k i n T → format_refusal h f (Undo n) ≡ None → undo_refusal ro h a n ≡ None
     → ((B : Tree) → IsPutBack k.inverse T B → T' ≡ B) → Keeps ro (h ++ undo_by a f n ∷ []) (take i ks ++ drop (i + 1) ks) T'
-undone_there ro h ks k i T T' a f n there accepted put = keeps_undo ro h (take i ks) (drop (i + 1) ks) T T' a f n k there.whole there.number accepted put
+undone_there ro h ks k i T T' a f n there has accepted put = keeps_undo ro h (take i ks) (drop (i + 1) ks) T T' a f n k there.whole there.number has accepted put
 
 pub undone_written : (ro : Membership) (h : List Entry) (ks : List KeptOperation) (k : KeptOperation) (i n : ℕ) (T : Tree) → Found ro h ks k i n T → k.footprint.writes.items ≡ written_by ro h n
 undone_written ro h ks k i n T there = written_there ro h (take i ks) (drop (i + 1) ks) T n k there.whole there.number

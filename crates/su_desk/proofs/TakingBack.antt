@@ -31,6 +31,7 @@ use Rattle.su_desk.specs.Blocker.{blocker}
 use Rattle.su_desk.specs.Answer.{undo_refusal, Good}
 use Rattle.su_desk.specs.Keeping.{Fits, Leads, Keeps}
 use Rattle.su_desk.specs.Tried.{IsKeptAt}
+use Rattle.su_desk.proofs.FormatLemmas.{change_accepted}
 use Rattle.su_desk.proofs.WhereApplied.{replay_reached, written_of}
 use Rattle.su_desk.proofs.LiveNumbers.{live_number, live_operation, undo_accepted}
 use Rattle.su_desk.proofs.StandingFiles.{files_alike}
@@ -260,7 +261,7 @@ module _ (ro : Membership) where
       let r = good_has_tree ro h both.0 in
       let ended : r.state ≡ tree_after ro h = left_by ro h r.state (tree_replayed ro h r.state r.replayed) in
       let x = at.operation.action in
-      let free : blocker ro h at.operation.number ≡ None = ap (blocker ro h) at.number ∙ (undo_accepted ro h a n both.1).free in
+      let free : blocker ro h at.operation.number ≡ None = ap (blocker ro h) at.number ∙ (undo_accepted ro h a n (change_accepted ro h (undo_by a f n) both.1)).free in
       let left : live (h ++ undo_by a f n ∷ []) ≡ at.before ++ at.after
       = ap (λ m. live (h ++ undo_by a f m ∷ [])) (sym at.number) ∙ undone_out h at.before at.after at.operation a f at.whole in
       let l = led_apart genesis T at.before at.after ks (subst (λ ts. Leads ro genesis ts ks T) left keeps.leads) in

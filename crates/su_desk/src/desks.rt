@@ -241,14 +241,16 @@ impl Desk {
         Ok(self.entries.len() as u64)
     }
 
-    /// Undoes an operation in that format, adds that to the history, and returns at which index
-    /// what was kept of the operation stood, and what that was. A refusal changes nothing.
+    /// Undoes an operation in that format, which may come next, adds that to the history, and
+    /// returns at which index what was kept of the operation stood, and what that was. A refusal
+    /// changes nothing.
     fn take_out(
         &mut self,
         format: Format,
         author: User,
         number: u64,
     ) -> Result<(usize, KeptOperation), Refusal>
+        requires { format_refusal self.old.history format (Undo number) ≡ None }
         ensures accepted { OnOk result
             (undo_refusal self.old.roster self.old.history author number ≡ None) }
         ensures done { OnOk result

@@ -22,6 +22,7 @@ use Rattle.su_desk.proofs.desks.Desk.operate.Goals as goal
 
 pub invariant_of-self-2 : goal.invariant_of-self-2
 invariant_of-self-2 c =
+    let fits = subst (λ d. format_refusal d.history c.args.format (Do c.args.op) ≡ None) (sym c.self.view_is) c.requires in
     let s = c.self.inside in
     let entries = c.push_reserved.ensures.items ∙ ap (λ h. h ++ entry_doing (action_by c.args.author c.args.format c.args.op) ∷ []) c.in_ok-reserve.ensures.items in
     let kept = c.push_reserved-2.ensures.items ∙ ap (λ ks. ks ++ record { number = c.len-number.result; footprint = c.in_ok-footprint.footprint; inverse = c.in_ok-inverse.inverse } ∷ []) c.in_ok-reserve-2.ensures.items in
@@ -34,6 +35,7 @@ invariant_of-self-2 c =
           (subst (λ ks. Keeps s.roster (s.entries.items ++ entry_doing (action_by c.args.author c.args.format c.args.op) ∷ []) ks c.perform.new.forest) (sym kept)
           (subst (λ T. Keeps s.roster (s.entries.items ++ entry_doing (action_by c.args.author c.args.format c.args.op) ∷ []) (s.kept.items ++ record { number = c.len-number.result; footprint = c.in_ok-footprint.footprint; inverse = c.in_ok-inverse.inverse } ∷ []) T) (sym (c.in_ok-perform.ensures.ok ∙ sym c.in-Ok.ensures.effect))
           (keeps_do s.roster s.entries.items s.kept.items s.forest (action_by c.args.author c.args.format c.args.op) (record { number = c.len-number.result; footprint = c.in_ok-footprint.footprint; inverse = c.in_ok-inverse.inverse }) c.self.invariant.0
+          fits
           (record {
             accepted = accepted;
             number = number;

@@ -1,10 +1,11 @@
-use Rattle.std.proofs.Common.{◌∙◌, ◌+◌, ◌++◌, ◌∷◌, [], List, sym, ap, subst, ◌≡◌, length, take, drop, arith, ℕ, ◌<◌, ◌^◌}
+use Rattle.std.proofs.Common.{◌∙◌, ◌+◌, ◌++◌, ◌∷◌, [], List, None, sym, ap, subst, ◌≡◌, length, take, drop, arith, ℕ, ◌<◌, ◌^◌}
 use Rattle.std.specs.List.{All}
 use Rattle.su_bytes.specs.declared.principals.Principal.{Principal}
 use Rattle.su_desk.specs.declared.entries.Entry.{Entry}
 use Rattle.su_desk.specs.declared.kept.KeptOperation.{KeptOperation}
 use Rattle.su_desk.specs.History.{undo_by}
-use Rattle.su_desk.specs.Answer.{undo_refusal}
+use Rattle.su_op.specs.declared.operations.Change.TheVariants.{Undo}
+use Rattle.su_desk.specs.Answer.{format_refusal, undo_refusal}
 use Rattle.su_desk.specs.Desk.{DeskState, with_entry}
 use Rattle.su_desk.specs.Keeping.{Keeps, IsIndexOf}
 use Rattle.su_desk.specs.Version.{cells_of, versions}
@@ -23,6 +24,7 @@ invariant_of-self-2 c =
     let s = c.self.inside in
     let e : Entry = undo_by c.args.author c.args.format c.args.number in
     let entries = c.push_reserved.ensures.items ∙ ap (λ h. h ++ undo_by c.args.author c.args.format c.args.number ∷ []) c.in_ok-reserve.ensures.items in
+    let fits = subst (λ d. format_refusal d.history c.args.format (Undo c.args.number) ≡ None) (sym c.self.view_is) c.requires in
     let accepted = ap (λ h. undo_refusal s.roster h c.args.author c.args.number) (sym c.deref.ensures.value) ∙ c.in_ok-index.ensures.accepted in
     let k = c.index.result.now in
     let i = c.in_ok-index.index in
@@ -32,7 +34,7 @@ invariant_of-self-2 c =
     = c.deref-3.ensures.value ∙ ap (λ (x : KeptOperation). x.footprint.writes.items) (same_there s.kept.items i c.remove-undone.result k (subst (λ ks. IsIndexOf c.args.number ks i) c.deref-2.ensures.value c.in_ok-index.ensures.found).within c.remove-undone.ensures.value (sym c.index.ensures)) ∙ undone_written s.roster s.entries.items s.kept.items k i c.args.number s.forest there in (
       subst (λ h. Keeps s.roster h c.remove-undone.new.self.items c.undo_on.new.forest) (sym entries)
           (subst (λ ks. Keeps s.roster (s.entries.items ++ e ∷ []) ks c.undo_on.new.forest) (sym c.remove-undone.ensures.by_index.2)
-          (undone_there s.roster s.entries.items s.kept.items k i s.forest c.undo_on.new.forest c.args.author c.args.format c.args.number there accepted c.in_ok-undo_on.ensures.ok)),
+          (undone_there s.roster s.entries.items s.kept.items k i s.forest c.undo_on.new.forest c.args.author c.args.format c.args.number there fits accepted c.in_ok-undo_on.ensures.ok)),
       subst (λ h. take s.counters.len (c.raise.new.versions ++ drop (length c.raise.new.versions) s.counters.items) ≡ versions s.roster h) (sym entries)
           (counters_next s.roster s.entries.items e c.deref-3.result.now s.counters.len s.counters.items c.deref_mut.result.now c.raise.new.versions _ written c.self.invariant.1 s.counters.ok.0 c.deref_mut.ensures.value c.raise.ensures),
     )
