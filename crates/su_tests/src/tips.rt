@@ -91,7 +91,13 @@ fn a_commit_follows_once(rt: HostRuntime) -> Result<(), Fail> {
     assert_eq!(rt; signed.author(), User::FIRST);
     let alloc = rt.alloc();
     assert_eq!(rt; signed.check(alloc, Format::V1, None), Ok(()));
-    assert_eq!(rt; signed.check(alloc, Format::V1, Some(0)), Err(Refusal::KeyReuse));
-    assert_eq!(rt; signed.check(alloc, Format::V2, None), Err(Refusal::OldFormat));
+    assert_eq!(rt;
+        signed.check(alloc, Format::V1, Some(0)),
+        Err(Refusal::KeyReuse)
+    );
+    assert_eq!(rt;
+        signed.check(alloc, Format::V2, None),
+        Err(Refusal::OldFormat)
+    );
     Ok(())
 }

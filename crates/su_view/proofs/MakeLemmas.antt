@@ -105,17 +105,17 @@ module _ (v : HoldingState) (change : Change) (leaf : ℕ) (c : Commit) (legal :
         (
           ap (λ (s : Version). is_as_new s.format (chain_format (commits_of v.held))) made.version ∙ newest (chain_format (commits_of v.held)),
           (
-          record {
-            groups = subst (λ (s : Version). AllByRecursion (λ (g : ℕ × List ℕ). has_number v.roster.groups g.0 ≡ true) s.groups) (sym made.version)
-                (groups_known v.roster (history v.held) (own_entry v change));
-            vector_is = ap (λ (s : Version). s.vector) made.version
-                ∙ ap (λ (s : Version). bump v.roster (vector_of v.roster v.held) s.author (map (λ g. g.0) s.groups)) (sym made.version);
-          },
-          (
-            subst (λ q. IsNewLeaf (last_leaf c.version.author (commits_of v.held)) q) (sym made.leaf_is)
-                (subst (λ (s : Version). IsNewLeaf (last_leaf s.author (commits_of v.held)) leaf) (sym made.version) new),
-            tt,
-          ),
+            record {
+              groups = subst (λ (s : Version). AllByRecursion (λ (g : ℕ × List ℕ). has_number v.roster.groups g.0 ≡ true) s.groups) (sym made.version)
+                  (groups_known v.roster (history v.held) (own_entry v change));
+              vector_is = ap (λ (s : Version). s.vector) made.version
+                  ∙ ap (λ (s : Version). bump v.roster (vector_of v.roster v.held) s.author (map (λ g. g.0) s.groups)) (sym made.version);
+            },
+            (
+              subst (λ q. IsNewLeaf (last_leaf c.version.author (commits_of v.held)) q) (sym made.leaf_is)
+                  (subst (λ (s : Version). IsNewLeaf (last_leaf s.author (commits_of v.held)) leaf) (sym made.version) new),
+              tt,
+            ),
           ),
         ),
       ),
@@ -198,9 +198,12 @@ module _ (k : Keeping) (kept : IsKeeping k) (change : Change) where
   item_refused e (inr (none, has)) r so = draft_refused e (inl none) r so
   item_refused e (inl (bad, lacks)) r (inl (none, is)) = inl is
   item_refused e (inl (bad, lacks)) r (inr (other, is)) =
-      inr (BadNumber, is ∙ ap ChangeRefused bad,
-          by_change w.roster (history w.held) (own_entry w change) (newest_fits (history w.held) change)
-          ∙ without_item w.roster (history w.held) (own_entry w change) change kept.member lacks)
+      inr (
+        BadNumber,
+        is ∙ ap ChangeRefused bad,
+        by_change w.roster (history w.held) (own_entry w change) (newest_fits (history w.held) change)
+            ∙ without_item w.roster (history w.held) (own_entry w change) change kept.member lacks,
+      )
 
 -- ---- the parts of its version structure are in their ranges
 
