@@ -5,6 +5,6 @@ use Rattle.su_desk_script.proofs.session.Session.keep_mark.Goals as goal
 pub returns-in-Ok : goal.returns-in-Ok
 returns-in-Ok c = inl (
   c.new.ensures.items,
-  ap (λ (m : List (List ℕ)). record { desk = c.self.inside.desk; mark = Some m }) c.in-Ok.ensures.value
-      ∙ ap (λ (s : SessionState). record { desk = s.desk; mark = Some (handles s.desk.roster (desk_tree s.desk)) }) c.self.view_is,
+  ap (λ (m : List (List ℕ)). record { desk = c.self.inside.desk; format = c.self.inside.format; mark = Some m }) c.in-Ok.ensures.value
+      ∙ ap (λ (s : SessionState). record { desk = s.desk; format = s.format; mark = Some (handles s.desk.roster (desk_tree s.desk)) }) c.self.view_is,
 )
