@@ -135,9 +135,8 @@ fn desk_command<'a>(alloc: Global, help: &'a str) -> Result<Command<'a>, AllocEr
     let users = option(alloc, "users", "N", help_of_users)
         .value_parser(clap::value_parser!(u8).range(1..65))
         .default_value("2");
-    let format = option(alloc, "format", "1|2", "Of the changes: 2 has all of them").default_value(
-        "2",
-    );
+    let help_of_format = "Of the changes: 2 has all of them";
+    let format = option(alloc, "format", "1|2", help_of_format).default_value("2");
     let command = Command::new(alloc, "desk")
         .about("Runs a script from standard input")
         .long_about(DESK_ABOUT)
