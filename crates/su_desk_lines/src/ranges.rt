@@ -86,12 +86,13 @@ fn stranger(roster: &Roster, values: &[Value<'_>]) -> Option<User>
 fn unlisted(roster: &Roster, number: u64) -> Option<User>
     ensures { result ≡ cond (is_stranger roster.now number) (Some number) None }
 {
-    let user = User::new(number).ok()?;
+    let Ok(user) = User::new(number) else {
+        return None;
+    };
     if roster.has_user(user) {
-        None
-    } else {
-        Some(user)
+        return None;
     }
+    Some(user)
 }
 
 /// Returns the first refusal of words that are refused so, of a stranger if there is one. Want of
