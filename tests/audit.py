@@ -1,7 +1,7 @@
 #!/usr/bin/env python3
 """Tries `sundr audit`: what it prints of good logs, of logs in which each field of a commit is another one, of logs that are cut at
 each byte, and of logs with each byte changed, against what is written here and against the second audit of audit_model.py; and its
-faults and statuses.
+faults and statuses. SUNDR names another program to try.
 
 Prints a line for each case that isn't as it should be, and last 'N passed, M failed'.
 """
@@ -25,7 +25,7 @@ from desk_model import sha256
 
 HERE = os.path.dirname(os.path.abspath(__file__))
 TOP = os.path.dirname(HERE)
-PROGRAM = f"{TOP}/crates/sundr/out/sundr"
+PROGRAM = os.environ.get("SUNDR", f"{TOP}/crates/sundr/out/sundr")
 CHANCE_LOGS, CHANCE_LINES = 24, 60
 RUNS_AT_ONCE = 4
 LITTLE_MEMORY = 2 ** 27  # the address space of a run that is given little, in bytes

@@ -3,7 +3,9 @@
 on keys that other implementations know, on the scripts of desk_scripts.py, on streams that fail, on the deepest directory with
 little stack, and on scripts by chance against the second desk of desk_model.py.
 
-Prints a line for each case that isn't as it should be, and last 'N passed, M failed'.
+usage: program.py [--chance COUNT]    with --chance so many scripts by chance are tried, and nothing else
+
+SUNDR names another program to try. Prints a line for each case that isn't as it should be, and last 'N passed, M failed'.
 """
 import os
 import pty
@@ -23,7 +25,7 @@ import tally
 
 HERE = os.path.dirname(os.path.abspath(__file__))
 TOP = os.path.dirname(HERE)
-PROGRAM = f"{TOP}/crates/sundr/out/sundr"
+PROGRAM = os.environ.get("SUNDR", f"{TOP}/crates/sundr/out/sundr")
 CHANCE_SCRIPTS, CHANCE_LINES = 60, 120
 
 
@@ -198,11 +200,11 @@ def at_a_keyboard(room):
     yield "why_a_line_is_bad", told == "sundr: line 2: an unknown command\n"
 
 
-def by_chance(room):
+def by_chance(room, count=CHANCE_SCRIPTS):
     """Scripts by chance in both formats, against the second desk."""
-    model = [sys.executable, "-B", f"{HERE}/desk_model.py", room, str(CHANCE_SCRIPTS), str(CHANCE_LINES)]
+    model = [sys.executable, "-B", f"{HERE}/desk_model.py", room, str(count), str(CHANCE_LINES)]
     subprocess.run(model, check=True)
-    for n in range(CHANCE_SCRIPTS):
+    for n in range(count):
         script, arguments, wanted = (open(f"{room}/chance_{n}{end}").read() for end in ("", ".args", ".stdout"))
         yield f"chance_{n}", run(arguments.split(), script) == (wanted, "", 0)
 
@@ -309,6 +311,8 @@ def main():
     if not tally.is_there("program", PROGRAM):
         return 1
     with tempfile.TemporaryDirectory() as room:
+        if sys.argv[1:2] == ["--chance"]:
+            return tally.told("program", dict(by_chance(room, int(sys.argv[2]))))
         results = dict(examples())
         for part in (cases, keys, help_texts, faults, scripts, failing_streams, at_a_keyboard, deep, by_chance):
             results.update(part(room))
