@@ -11,8 +11,7 @@ import audit_model
 import desk_model
 import wire
 from audit_model import View
-from desk_model import Refused, body, demand, group_file, is_dir, is_name, sha256, text_of, user_file
-from logs import Desk
+from desk_model import KeptDesk, Refused, body, demand, group_file, is_dir, is_name, sha256, text_of, user_file
 
 ROOT = group_file(0, 1)
 LAST_NUMBER = 1000000
@@ -318,7 +317,7 @@ class Team:
     """The desk, how many leaves the key of each user has left, and how many commits there may be."""
 
     def __init__(self, users, leaves=10 ** 9, capacity=10 ** 9):
-        self.desk = Desk(users)
+        self.desk = KeptDesk(users)
         self.leaves, self.capacity = [leaves] * users, capacity
 
     def member(self, user):

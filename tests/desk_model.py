@@ -7,6 +7,7 @@ usage: desk_model.py FOLDER COUNT LINES    writes COUNT scripts of LINES lines e
                                            each fourth also asks for all handles after each line, each third makes the older format
        desk_model.py --run USERS [FORMAT]  reads a script of good lines on standard input, and prints what it answers
 """
+import functools
 import hashlib
 import random
 import sys
@@ -360,6 +361,33 @@ class Desk:
         return " ".join(f"{p}{i}={count}" for (p, i), count in counts.items())
 
 
+class KeptDesk(Desk):
+    """The same, which keeps what came of each replay that it met: one is the replay of all operations but the last, and that one."""
+
+    def __init__(self, users, form=NEWEST):
+        super().__init__(users, form)
+        self.kept = {}
+
+    def operations(self, history):
+        return tuple(history[n - 1] for n in self.live(history))
+
+    def tree(self, history):
+        return self.replay(self.operations(history))
+
+    def cells(self, n):
+        _, reads, writes = self.carried_out((*self.operations(self.history[:n - 1]), self.history[n - 1]))
+        return reads | writes, writes
+
+    def replay(self, operations):
+        return self.carried_out(operations)[0] if operations else genesis()
+
+    def carried_out(self, operations):
+        """What came of the last one, behind the others."""
+        if operations not in self.kept:
+            self.kept[operations] = check(self.roster, self.replay(operations[:-1]), *operations[-1])
+        return self.kept[operations]
+
+
 # ---- digests of maps, inodes and i-tables
 
 def sha256(data):
@@ -390,16 +418,20 @@ def file_bytes(file):
     return bytes(["UG".index(file[0]), file[1]]) + file[2].to_bytes(4, "big")
 
 
+@functools.lru_cache(maxsize=16)  # a large file takes long
+def content_digest(content):
+    """The digest of a file's blocks."""
+    cut = [content[at:at + BLOCK] for at in range(0, len(content), BLOCK)]
+    return digest_of([(number_bits(n), n.to_bytes(4, "big"), sha256(b"\4" + b)) for n, b in enumerate(cut)])
+
+
 def inode_digest(inode):
     home, links, content = inode
     if isinstance(content, dict):
         parts = digest_of([(name_bits(x), x, file_bytes(f)) for x, f in content.items()])
         kind, size = 1, 0
     else:
-        count = (len(content) + BLOCK - 1) // BLOCK
-        cut = [content[n * BLOCK:(n + 1) * BLOCK] for n in range(count)]
-        parts = digest_of([(number_bits(n), n.to_bytes(4, "big"), sha256(b"\4" + b)) for n, b in enumerate(cut)])
-        kind, size = 0, len(content)
+        parts, kind, size = content_digest(content), 0, len(content)
     return sha256(b"\3" + file_bytes(home) + bytes([kind, links]) + size.to_bytes(4, "big") + parts)
 
 
@@ -509,15 +541,15 @@ def answer(desk, line):
 
 class Dice:
     """Lines by chance over few users, groups, files and names, so that they have to do with each other. Most are made to
-    fit the tree that there is, the others are anything. Where files may get as large as can be, a script takes long."""
+    fit the tree that there is, the others are anything. Files as large as can be take long, so there are few, where they are asked for."""
 
     def __init__(self, seed, desk, largest_files=False):
         self.random = random.Random(seed)
         self.desk = desk
         self.users = len(desk.roster.users)
         largest = LARGEST_FILE[desk.form]
-        self.sizes = (0, 1, 2, 4095, 4096, 4097, 8192, 8193, *((largest - 1, largest) if largest_files else ()))
         self.odd_sizes = (1048575, 1048576, 1048577, largest + 1, 2 ** 32)
+        self.large_sizes = [largest, largest - 1] if largest_files else []
 
     def pick(self, *choices):
         return self.random.choice(choices)
@@ -543,7 +575,7 @@ class Dice:
         return self.rarely(self.pick("..", ".", "a/b", "n" * 255, "n" * 256), self.pick("a", "b", "c", "d"))
 
     def size(self):
-        return self.rarely(self.pick(*self.odd_sizes), self.pick(*self.sizes))
+        return self.rarely(self.pick(*self.odd_sizes), self.pick(0, 1, 2, 4095, 4096, 4097, 8192, 8193))
 
     def data(self):
         return bytes([self.random.randrange(256)] * self.pick(1, 2, 4096)).hex()
@@ -559,6 +591,9 @@ class Dice:
 
     # ---- what fits the tree, mostly
 
+    def fitting_size(self):
+        return self.large_sizes.pop() if self.large_sizes and self.random.random() < 0.2 else self.size()
+
     def fitting_change(self):
         """A user, and a change that he can make but for a detail."""
         tree = self.desk.tree(self.desk.history)
@@ -572,10 +607,10 @@ class Dice:
                          "undo", "undo", "undo_last")
         if kind == "write" and files:
             f, place = self.pick(*files)
-            return place[0], f"write {text_of(f)} {self.size()} {self.data()}"
+            return place[0], f"write {text_of(f)} {self.fitting_size()} {self.data()}"
         if kind == "truncate" and files:
             f, place = self.pick(*files)
-            return place[0], f"truncate {text_of(f)} {self.size()}"
+            return place[0], f"truncate {text_of(f)} {self.fitting_size()}"
         if kind == "link" and files:
             f, place = self.pick(*files)
             return at[0], f"link {text_of(d)} {self.name()} {text_of(f)}"
@@ -624,7 +659,7 @@ class Dice:
 def write_scripts(folder, count, lines):
     for seed in range(count):
         users, form = 1 + seed % 3, NEWEST if seed // 3 % 3 else 1
-        desk = Desk(users, form)
+        desk = KeptDesk(users, form)
         dice = Dice(seed, desk, largest_files=seed % 20 == 13)
         script, printed = [], []
 

@@ -93,24 +93,6 @@ def log_bytes(records):
     return b"".join(u32(len(part)) + part for record in records for part in record)
 
 
-class Desk(desk_model.Desk):
-    """The second desk, which keeps the tree of each history that it met: a replay that ends with an operation is the one before it
-    and that operation."""
-
-    def __init__(self, users, form=desk_model.NEWEST):
-        super().__init__(users, form)
-        self.kept = {}
-
-    def tree(self, history):
-        key = tuple(history)
-        if key not in self.kept:
-            if history and history[-1][2][0] != "undo":
-                self.kept[key] = desk_model.check(self.roster, self.tree(history[:-1]), *history[-1])[0]
-            else:
-                self.kept[key] = super().tree(history)
-        return self.kept[key]
-
-
 class Handles:
     """I-handles of the tree of a desk, as bytes."""
 
@@ -127,7 +109,7 @@ class Maker:
     def __init__(self, keys, form=desk_model.NEWEST):
         self.keys = keys
         self.publics = [key.public() for key in keys]
-        self.desk = Desk(len(keys), form)
+        self.desk = desk_model.KeptDesk(len(keys), form)
         self.prev = sha256(roster_bytes(self.publics))
         self.vector = [0] * (len(keys) + 2)
         self.leaves = [0] * len(keys)
