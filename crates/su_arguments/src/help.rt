@@ -39,8 +39,8 @@ Refusals:
   14 NoFile FILE        there is no such file
   15 WrongKind FILE     it is a file and not a directory, or the other way round
   16 NotHolder U        user U holds it: take it over first
-  17 Held               the number is in use, or the user holds the file already;
-                        what is to be dropped is still some file's body
+  17 Held               the number is in use, or the user holds the file
+                        already; or what is to be dropped is a file's body
   18 NoName             the name is not there, or is that of another file
   19 Exists             the name is there already
   20 NotEmpty           the directory has names
