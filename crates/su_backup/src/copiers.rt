@@ -3,7 +3,7 @@ ghost use Rattle.std.specs.Prelude.{◌≡◌, [], ◌∷◌, true, false, All, 
 ghost use Rattle.su_client.specs.Link.{Exchanged, MayGive, kept_or_nothing};
 ghost use Rattle.su_message.specs.declared.requests.Request.TheVariants as request;
 ghost use Rattle.su_shared.specs.Entry.{IsShown, contents};
-ghost use Rattle.su_backup.specs.Copied.{OnlyItems, Keeps, StoresOne, CopiesOne, CopiesAll, CopiesSomeAndKeeps, IsLastOf, EndsAt};
+ghost use Rattle.su_backup.specs.Copied.{OnlyItems, Keeps, StillKnows, StoresOne, CopiesOne, CopiesAll, CopiesSomeAndKeeps, IsLastOf, EndsAt};
 
 use crate::faults::BackupFault;
 use std::alloc::Global;
@@ -169,9 +169,33 @@ impl<'a, N: BookName, K: Keeper, T: Wait> Copier<'a, N, K, T> {
             (record { commit = bytes.now; items = contents items.now.items }) self.old self.new) }
         ensures kept { OnErr result (Keeps self.old self.new) }
     {
+        self.take_turn(number)?;
+        self.hand_in(number, bytes, items)
+    }
+
+    /// Asks for the turn, in which a record of this number is to be stored.
+    fn take_turn(&mut self, number: u64) -> Result<(), BackupFault>
+        ensures stored { self.new.kept.stored ≡ self.old.kept.stored }
+        ensures known { StillKnows self.old self.new }
+    {
         if let Err(refusal) = self.book.grant(self.rt, self.alloc, &mut self.seat) {
             return Err(BackupFault::taking(number, refusal));
         }
+        Ok(())
+    }
+
+    /// Stores a record under this number, with these items, by a seat that has the turn. After a
+    /// fault it may have it still.
+    fn hand_in(
+        &mut self,
+        number: u64,
+        bytes: &[u8],
+        items: &Vec<Vec<u8>>,
+    ) -> Result<(), BackupFault>
+        ensures stored { OnOk result (StoresOne number
+            (record { commit = bytes.now; items = contents items.now.items }) self.old self.new) }
+        ensures kept { OnErr result (Keeps self.old self.new) }
+    {
         match self
             .book
             .commit(self.rt, self.alloc, &mut self.seat, bytes, items)
