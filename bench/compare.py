@@ -124,7 +124,7 @@ def at_a_distance(programs, seconds, commits, large):
     def near(port):
         return port
 
-    heads = ("creates/s", "takes, writes/s", "start s", "joining s", "with a log s")
+    heads = ("creates/s", "takes, writes/s", "drops of one/s", "start s", "joining s", "with a log s")
     print(f"\n{f'{1000 * seconds:g} ms each way':50} " + " ".join(f"{it:>15}" for it in heads), flush=True)
     for count, some in ((commits, programs), (large, programs[-1:] if large else ())):
         for name, program in some:

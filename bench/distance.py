@@ -82,9 +82,14 @@ def carry_out(client, lines, first, each):
     return time.monotonic() - started
 
 
+def has_tidy():
+    """Whether the program has the command; earlier ones haven't."""
+    return b"tidy" in subprocess.run([*serving.program, "client", "--help"], stdout=subprocess.PIPE, check=True).stdout
+
+
 def rates(keys, far):
-    """Operations a second of one client: creates, writes to files of another user, and drops in one command. `far` gives a port at a
-    distance from a port."""
+    """Operations a second of one client: creates, writes to files of another user, and drops in one command, if the program has such a
+    command. `far` gives a port at a distance from a port."""
     creates = [b"create /f%d" % n for n in range(CREATES)]
     writes = [b"write /f%d 0 61" % n for n in range(WRITES)]
     with server_at(keys) as server:
@@ -92,8 +97,10 @@ def rates(keys, far):
             made = carry_out(client, creates, 1, 1)
         with keys.client(far(server.port), 1) as client:
             written = carry_out(client, writes, CREATES + 1, 2)
-        with keys.client(far(server.port), 0) as client:
-            dropped = carry_out(client, [b"tidy"], CREATES + 2 * WRITES + 1, WRITES)
+        dropped = float("nan")
+        if has_tidy():
+            with keys.client(far(server.port), 0) as client:
+                dropped = carry_out(client, [b"tidy"], CREATES + 2 * WRITES + 1, WRITES)
     return CREATES / made, 2 * WRITES / written, WRITES / dropped
 
 
