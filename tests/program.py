@@ -21,6 +21,7 @@ import client_model
 import desk_model
 import desk_scripts
 import lms_known
+import serving
 import tally
 
 HERE = os.path.dirname(os.path.abspath(__file__))
@@ -188,13 +189,7 @@ def at_a_keyboard(room):
     started = subprocess.Popen([PROGRAM, "desk"], cwd=room, stdin=end, stdout=end, stderr=end)
     os.close(end)
     os.write(terminal, b"versions\n\x04")
-    seen = b""
-    try:
-        while more := os.read(terminal, 4096):
-            seen += more
-    except OSError:  # the program has closed its end
-        pass
-    os.close(terminal)
+    seen = serving.typed(terminal)
     yield "a_prompt_for_each_line", seen.count(b"> ") == 2 and b"U0=0 U1=0 G0=0 G1=0" in seen and started.wait() == 0
     told = run(["desk"], "versions\nhello\n")[1]
     yield "why_a_line_is_bad", told == "sundr: line 2: an unknown command\n"
