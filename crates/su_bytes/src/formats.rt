@@ -10,10 +10,12 @@ pub enum Format {
     V1,
     /// The second one: files are larger, and a body that no file id leads to can be dropped.
     V2,
+    /// The third one: a user can name the next key.
+    V3,
 }
 
 /// The format in which changes are made.
-pub const NEWEST_FORMAT: Format = Format::V2;
+pub const NEWEST_FORMAT: Format = Format::V3;
 
 impl Format {
     /// Its number, from 1 on. A newer format has a greater one.
@@ -23,6 +25,7 @@ impl Format {
         match self {
             Format::V1 => 1,
             Format::V2 => 2,
+            Format::V3 => 3,
         }
     }
 
