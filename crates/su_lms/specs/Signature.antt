@@ -1,5 +1,5 @@
 -- Public keys and signatures as bytes (RFC 8554, Sections 5.3 and 5.4), and which signatures are valid.
-use Rattle.std.specs.Prelude.{ℕ, ◌≡◌, ◌<◌, ◌+◌, ◌*◌, ◌^◌, List, take, drop, length}
+use Rattle.std.specs.Prelude.{ℕ, ◌≡◌, ◌<◌, ◌+◌, ◌*◌, ◌^◌, Bool, ◌&&◌, nat_eq, nat_le, List, take, drop, length}
 use Rattle.su_lms.specs.ParameterSets.{IsOneTimeType, IsTreeType, chain_count, height_of}
 use Rattle.su_lms.specs.Strings.{number_at, part_at}
 use Rattle.su_lms.specs.OneTime.{message_hash, with_checksum, end_from, one_time_key_from}
@@ -24,6 +24,12 @@ pub record IsPublicKey (key : List ℕ) : Type 0 where
   pub size : length key ≡ 56
   pub tree_type : IsTreeType (lms_of key)
   pub one_time_type : IsOneTimeType (ots_of key)
+
+-- the same, as a test
+abbrev pub is_public_key : List ℕ → Bool
+is_public_key key =
+    nat_eq (length key) 56 && (nat_le 5 (lms_of key) && nat_le (lms_of key) 9)
+    && (nat_le 1 (ots_of key) && nat_le (ots_of key) 4)
 
 -- The signature: u32str(q) || u32str(LM-OTS type) || C || y[0] || .. || y[p - 1] || u32str(LMS type) || path[0] || .. ||
 -- path[h - 1] (Sections 4.5 and 5.4)

@@ -1,9 +1,9 @@
 // Public keys, and the verification of signatures.
-ghost use Rattle.std.specs.Prelude.{◌≡◌, ◌≤◌, ◌<◌, ◌+◌, ◌^◌, ◌++◌, ◌↔◌, ℕ, List, IsTrue, IsOk, IfOk, IfErr, length, take, drop};
+ghost use Rattle.std.specs.Prelude.{◌≡◌, ◌≤◌, ◌<◌, ◌+◌, ◌^◌, ◌++◌, ◌↔◌, ℕ, List, IsTrue, IsOk, IfOk, IfErr, is_ok, ◌&&◌, nat_le, length, take, drop};
 ghost use Rattle.sha_lanes.specs.Run.{end_of, run_at};
 ghost use Rattle.su_lms.specs.ParameterSets.{IsOneTimeType, IsTreeType, chain_count, height_of};
 ghost use Rattle.su_lms.specs.Strings.{u32str};
-ghost use Rattle.su_lms.specs.Signature.{AreEnds, IsPublicKey, IsSigned, HasShape, id_of, ots_of, signature_size, leaf_of, root_from};
+ghost use Rattle.su_lms.specs.Signature.{AreEnds, IsPublicKey, is_public_key, IsSigned, HasShape, id_of, ots_of, signature_size, leaf_of, root_from};
 ghost use Rattle.su_bytes.specs.declared.refusals.Refusal.TheVariants.{BadKey};
 
 use crate::chains::{key_of_ends, set_signed_values};
@@ -40,15 +40,11 @@ impl PublicKey {
     /// 8554, Section 5.3).
     pub fn parse(bytes: &[u8]) -> Result<PublicKey, Refusal>
         ensures accepted { IsOk result ↔ IsPublicKey bytes.now }
+        ensures known { is_ok result ≡ is_public_key bytes.now }
         ensures value { IfOk result (λ key. key ≡ bytes.now) }
         ensures refused { IfErr result (λ e. e ≡ BadKey) }
     {
-        if bytes.len() != 56 {
-            return Err(Refusal::BadKey);
-        }
-        let lms = number_at(bytes, 0);
-        let ots = number_at(bytes, 4);
-        if lms < 5 || 9 < lms || ots < 1 || 4 < ots {
+        if !is_public_key(bytes) {
             return Err(Refusal::BadKey);
         }
         let mut key = [0u8; 56];
@@ -91,6 +87,28 @@ impl PublicKey {
         let count = usize::from(chain_count(number_at(key, 4)));
         ends_at_root(&mut runs[..count], key, message, signature)
     }
+}
+
+// Whether the bytes are a public key: 56, of listed types.
+fn is_public_key(bytes: &[u8]) -> bool
+    ensures value { result ≡ is_public_key bytes.now }
+    ensures key { IsTrue result ↔ IsPublicKey bytes.now }
+{
+    bytes.len() == 56 && is_tree_type(number_at(bytes, 0)) && is_one_time_type(number_at(bytes, 4))
+}
+
+fn is_tree_type(lms: u32) -> bool
+    ensures value { result ≡ (nat_le 5 lms && nat_le lms 9) }
+    ensures listed { IsTrue result ↔ IsTreeType lms }
+{
+    5 <= lms && lms <= 9
+}
+
+fn is_one_time_type(ots: u32) -> bool
+    ensures value { result ≡ (nat_le 1 ots && nat_le ots 4) }
+    ensures listed { IsTrue result ↔ IsOneTimeType ots }
+{
+    1 <= ots && ots <= 4
 }
 
 // Whether the signature of the message leads to the key's root, by its chains.
