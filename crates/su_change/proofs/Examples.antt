@@ -51,11 +51,11 @@ a_cut_create = record {
   place_is = refl;
 }
 
--- 9 is the number of no kind, and what is refused at byte 1
-an_unknown_kind : IsRefusedAt (whole item_format) (start (5 ∷ 9 ∷ [])) 1
+-- 10 is the number of no kind, and what is refused at byte 1
+an_unknown_kind : IsRefusedAt (whole item_format) (start (5 ∷ 10 ∷ [])) 1
 unfolding whole item_format making ◌>>=◌ part mark_part u8_part tagged_format no_kind
 an_unknown_kind = record {
-  behind = 9 ∷ [];
-  fails = inl (inr (first_byte, _, (refl, refl), inr (9, [], (omega arith, refl), refl)));
+  behind = 10 ∷ [];
+  fails = inl (inr (first_byte, _, (refl, refl), inr (10, [], (omega arith, refl), refl)));
   place_is = refl;
 }

@@ -5,8 +5,9 @@ use Rattle.std.specs.Prelude.{Result, Ok, Err}
 use Rattle.su_bytes.specs.declared.refusals.Refusal.{Refusal}
 use Rattle.su_bytes.specs.declared.refusals.Refusal.TheVariants.{NoMemory}
 use Rattle.su_op.specs.declared.operations.Op.TheVariants.{Create, Unlink, Write, Truncate, Take, Link, Rename, Drop}
+use Rattle.su_bytes.specs.declared.rosters.TheConstants.{KEY_LENGTH}
 use Rattle.su_op.specs.declared.operations.Change.{Change}
-use Rattle.su_op.specs.declared.operations.Change.TheVariants.{Do, Undo}
+use Rattle.su_op.specs.declared.operations.Change.TheVariants.{Do, Undo, Rekey}
 use Rattle.su_format.specs.Format.{Format, IsLawful, IsFormatOf, part, ◌>>=◌}
 use Rattle.su_format.specs.Part.{u8_part, u32_bytes, u64_bytes, kind_bytes, name_bytes}
 use Rattle.su_format.specs.Reading.{Decodes}
@@ -19,6 +20,7 @@ use Rattle.su_change.specs.Truncate.{IsTruncate, truncate_bytes, truncate_fields
 use Rattle.su_change.specs.Rename.{IsRename, rename_bytes, rename_fields}
 use Rattle.su_change.specs.Take.{IsTake, take_bytes, take_fields}
 use Rattle.su_change.specs.DropBody.{IsDrop, drop_bytes, drop_fields}
+use Rattle.su_change.specs.Rekey.{IsKey, rekey_fields}
 use Rattle.su_change.specs.Item.{HasItem, IsChange, tagged_bytes, first_byte, item_bytes, undo_fields, kinds, no_kind, fields_of, tagged_format, item_format}
 use Rattle.su_change.proofs.Sizes.{joined, six, one, name_size, file_name_file, file_number}
 
@@ -36,6 +38,14 @@ undo_kind = record {
   makes = last_of u64_of Undo;
   few = λ n is. omega arith;
   is = λ n is. (is, tt, refl);
+}
+
+pub rekey_kind : IsKind 9 rekey_fields Rekey IsKey (λ k. k)
+unfolding rekey_fields
+rekey_kind = record {
+  makes = last_of (bytes_of KEY_LENGTH) Rekey;
+  few = λ k is. omega (arith, is);
+  is = λ k is. (is, tt, refl);
 }
 
 -- ---- names
@@ -200,7 +210,7 @@ by_number : (n : ℕ) → Tells n (fields_of kinds n)
 by_number =
     fields_tell kinds (
       told undo_kind,
-      (told create_kind, (told write_kind, (told truncate_kind, (told link_kind, (told rename_kind, (told unlink_kind, (told take_kind, (told drop_kind, tt)))))))),
+      (told create_kind, (told write_kind, (told truncate_kind, (told link_kind, (told rename_kind, (told unlink_kind, (told take_kind, (told drop_kind, (told rekey_kind, tt))))))))),
     )
 
 -- ---- what a change tells
@@ -228,6 +238,7 @@ by_change (Do (Rename r)) is has = of_kind (omega arith) rename_kind r is
 by_change (Do (Unlink u)) is has = of_kind (omega arith) unlink_kind u is
 by_change (Do (Take t)) is has = of_kind (omega arith) take_kind t is
 by_change (Do (Drop d)) is has = of_kind (omega arith) drop_kind d is
+by_change (Rekey k) is has = of_kind (omega arith) rekey_kind k is
 
 tagged : Makes tagged_format (λ c. c) (λ c. IsChange c × HasItem c) tagged_bytes
 unfolding tagged_format ◌>>=◌ part u8_part

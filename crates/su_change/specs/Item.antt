@@ -4,7 +4,7 @@ use Rattle.std.specs.Prelude.{◌≡◌, ◌<◌, ◌^◌, ℕ, cond, nat_eq, Li
 use Rattle.sha2.specs.Sha256.{sha256}
 use Rattle.su_op.specs.declared.operations.Op.TheVariants.{Create, Write, Truncate, Link, Rename, Unlink, Take, Drop}
 use Rattle.su_op.specs.declared.operations.Change.{Change}
-use Rattle.su_op.specs.declared.operations.Change.TheVariants.{Do, Undo}
+use Rattle.su_op.specs.declared.operations.Change.TheVariants.{Do, Undo, Rekey}
 use Rattle.su_format.specs.Format.{Format, making, ◌>>=◌}
 use Rattle.su_format.specs.Part.{u64_bytes, u8_part, u64_part, mark_part}
 use Rattle.su_change.specs.NameAt.{IsNameAt, name_at_bytes, linked_name, unlinked_name, link_fields, unlink_fields}
@@ -14,8 +14,9 @@ use Rattle.su_change.specs.Truncate.{IsTruncate, truncate_bytes, truncate_fields
 use Rattle.su_change.specs.Rename.{IsRename, rename_bytes, rename_fields}
 use Rattle.su_change.specs.Take.{IsTake, take_bytes, take_fields}
 use Rattle.su_change.specs.DropBody.{IsDrop, drop_bytes, drop_fields}
+use Rattle.su_change.specs.Rekey.{IsKey, rekey_fields}
 
--- each number and name of a change is in its range, as the types of the code have it
+-- each number, name and key of a change is in its range, as the types of the code have it
 abbrev pub IsChange : Change → Type 0
 IsChange (Undo n) = n < 2 ^ 64
 IsChange (Do (Create c)) = IsCreate c
@@ -26,6 +27,7 @@ IsChange (Do (Rename r)) = IsRename r
 IsChange (Do (Unlink u)) = IsNameAt (unlinked_name u)
 IsChange (Do (Take t)) = IsTake t
 IsChange (Do (Drop d)) = IsDrop d
+IsChange (Rekey k) = IsKey k
 
 -- a change has an item where a write has 1 to 65,536 bytes; another has one in any case
 abbrev pub HasItem : Change → Type 0
@@ -34,7 +36,8 @@ HasItem _ = Unit {0}
 
 -- ---- its bytes
 
--- the number of its kind, and its fields; of an undo, the number of the operation
+-- the number of its kind, and its fields; of an undo, the number of the operation; of a rekey, the
+-- key
 abbrev pub tagged_bytes : Change → List ℕ
 tagged_bytes (Undo n) = 0 ∷ u64_bytes n
 tagged_bytes (Do (Create c)) = 1 ∷ create_bytes c
@@ -45,6 +48,7 @@ tagged_bytes (Do (Rename r)) = 5 ∷ rename_bytes r
 tagged_bytes (Do (Unlink u)) = 6 ∷ name_at_bytes (unlinked_name u)
 tagged_bytes (Do (Take t)) = 7 ∷ take_bytes t
 tagged_bytes (Do (Drop d)) = 8 ∷ drop_bytes d
+tagged_bytes (Rekey k) = 9 ∷ k
 
 -- the first byte of a change's item, which is that of no other item that is stored
 abbrev pub first_byte : List ℕ
@@ -76,6 +80,7 @@ kinds =
     ∷ (6, unlink_fields)
     ∷ (7, take_fields)
     ∷ (8, drop_fields)
+    ∷ (9, rekey_fields)
     ∷ []
 
 -- no change: what is refused is this number in front, which is no kind's

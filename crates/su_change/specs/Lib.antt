@@ -5,4 +5,5 @@ pub mod Truncate
 pub mod Rename
 pub mod Take
 pub mod DropBody
+pub mod Rekey
 pub mod Item

@@ -7,7 +7,7 @@ ghost use Rattle.su_change.specs.NameAt.{link_fields, unlink_fields};
 ghost use Rattle.su_change.specs.Item.{HasItem, IsChange, fields_of, item_bytes, item_format, kinds, tagged_format, undo_fields};
 
 use crate::name_at::NameAt;
-use crate::{create, drop_body, rename, take, truncate, write};
+use crate::{create, drop_body, rekey, rename, take, truncate, write};
 use std::alloc::Global;
 use su_bytes::{FileId, Refusal};
 use su_format::Reader;
@@ -73,6 +73,7 @@ fn read_fields(
         6 => read_unlink(alloc, reader),
         7 => take::read(reader),
         8 => drop_body::read(reader),
+        9 => rekey::read(reader),
         _ => Err(Refusal::Malformed(place)),
     }
 }

@@ -7,7 +7,7 @@ ghost use Rattle.su_change.specs.Item.{HasItem, IsChange, change_digest, item_by
 
 use crate::decoder::FIRST_BYTE;
 use crate::name_at::NameAt;
-use crate::{create, drop_body, rename, take, truncate, write};
+use crate::{create, drop_body, rekey, rename, take, truncate, write};
 use sha2::Sha256;
 use std::alloc::{AllocError, Global};
 use su_bytes::{Digest, FileId, Name, Refusal};
@@ -94,6 +94,7 @@ fn write_tagged(writer: &mut Writer, change: &Change) -> Result<(), AllocError>
         }
         Change::Do(Op::Take(take)) => take::write(writer, 7, take),
         Change::Do(Op::Drop(dropped)) => drop_body::write(writer, 8, dropped),
+        Change::Rekey(key) => rekey::write(writer, 9, key),
     }
 }
 

@@ -7,6 +7,7 @@ mod drop_body;
 mod encoder;
 mod laws;
 mod name_at;
+mod rekey;
 mod rename;
 mod take;
 mod truncate;

@@ -3,7 +3,7 @@ ghost use Rattle.std.specs.Prelude.{◌≡◌, ◌⊎◌, Some, None, IfOk, IfEr
 ghost use Rattle.su_table.specs.Tree.{Tree};
 ghost use Rattle.su_table.specs.Edit.{edits};
 ghost use Rattle.su_op.specs.Rule.{plan_reads, plan_writes};
-ghost use Rattle.su_op.specs.Action.{action_by, oldest_format, change_format};
+ghost use Rattle.su_op.specs.Action.{action_by, oldest_format, change_format, named_key};
 ghost use Rattle.su_op.specs.Operation.{why, effect, reads, writes, accepted_plan, StillFits};
 ghost use Rattle.su_bytes.specs.declared.refusals.Refusal.TheVariants.{NoMemory};
 
@@ -17,7 +17,7 @@ use crate::truncate::{AcceptedTruncate, Truncate};
 use crate::unlink::{AcceptedUnlink, Unlink};
 use crate::write::{AcceptedWrite, Write};
 use std::alloc::Global;
-use su_bytes::{Format, Refusal, Roster, User};
+use su_bytes::{Format, KEY_LENGTH, Refusal, Roster, User};
 use su_table::Forest;
 
 /// An operation on the tree.
@@ -47,11 +47,13 @@ pub enum Accepted<'a> {
     Drop(AcceptedDrop<'a>),
 }
 
-/// What an entry of the history does: an operation, or the undo of the operation with that number.
+/// What an entry of the history does: an operation, the undo of the operation with that number, or
+/// that its author signs with another key from the next entry on.
 #[derive(Clone, Debug, Drop)]
 pub enum Change {
     Do(Op),
     Undo(u64),
+    Rekey([u8; KEY_LENGTH]),
 }
 
 impl Op {
@@ -116,6 +118,17 @@ impl Change {
         match self {
             Change::Do(op) => op.oldest_format(),
             Change::Undo(_) => Format::V1,
+            Change::Rekey(_) => Format::V3,
+        }
+    }
+
+    /// Returns the key that the change names as its author's next one, if it names one.
+    pub fn named_key(&self) -> Option<[u8; KEY_LENGTH]>
+        ensures { result ≡ named_key self.now }
+    {
+        match self {
+            Change::Rekey(key) => Some(*key),
+            _ => None,
         }
     }
 }
