@@ -2,16 +2,18 @@
 use Rattle.std.specs.Prelude.{◌≡◌, ℕ, ◌+◌, Bool, ◌&&◌, cond, List, [], ◌∷◌, ◌++◌, length, Option, None, Some, Result, Ok, Err, nat_eq}
 use Rattle.std.specs.Option.{option_or}
 use Rattle.su_bytes.specs.Format.{is_as_new}
+use Rattle.su_bytes.specs.Keys.{is_among}
 use Rattle.su_bytes.specs.Membership.{Membership, has_user}
 use Rattle.su_bytes.specs.declared.formats.Format.{Format}
 use Rattle.su_bytes.specs.declared.refusals.Refusal.{Refusal}
-use Rattle.su_bytes.specs.declared.refusals.Refusal.TheVariants.{NoUser, NoOperation, NotOperation, AlreadyUndone, NotAuthor, Blocked, OldFormat}
+use Rattle.su_bytes.specs.declared.refusals.Refusal.TheVariants.{BadKey, NoUser, NoOperation, NotOperation, AlreadyUndone, NotAuthor, Blocked, KeyReuse, OldFormat}
+use Rattle.su_lms.specs.Signature.{is_public_key}
 use Rattle.su_op.specs.declared.operations.Change.{Change}
-use Rattle.su_op.specs.declared.operations.Change.TheVariants.{Do, Undo}
+use Rattle.su_op.specs.declared.operations.Change.TheVariants.{Do, Undo, Rekey}
 use Rattle.su_op.specs.Action.{change_format}
 use Rattle.su_op.specs.Operation.{why}
 use Rattle.su_desk.specs.declared.entries.Entry.{Entry}
-use Rattle.su_desk.specs.History.{action_of, entry_at, format_after, undoer}
+use Rattle.su_desk.specs.History.{action_of, entry_at, format_after, keys_after, undoer}
 use Rattle.su_desk.specs.Applied.{tree_after}
 use Rattle.su_desk.specs.Blocker.{blocker}
 
@@ -35,7 +37,7 @@ abbrev pub entry_refusal : List Entry → ℕ → Option Entry → Option Refusa
 entry_refusal h n None = Some (NoOperation n)
 entry_refusal h n (Some e) = change_refusal h n e.change
 
--- why n is no live operation: no such entry; an undo; undone already
+-- why n is no live operation: no such entry; an undo or a rekey; undone already
 abbrev pub live_refusal : List Entry → ℕ → Option Refusal
 live_refusal h n = entry_refusal h n (entry_at h n)
 
@@ -52,6 +54,13 @@ undo_refusal ro h a n =
     (option_or (author_refusal a (entry_at h n)) (blocked_refusal (blocker ro h n))))
     (Some (NoUser a))
 
+-- why user a may not name k as the next key: no such user; no key; one that a user has or had
+abbrev pub rekey_refusal : Membership → List Entry → ℕ → List ℕ → Option Refusal
+rekey_refusal ro h a k =
+    cond (has_user ro a)
+    (cond (is_public_key k) (cond (is_among (keys_after ro h) k) (Some KeyReuse) None) (Some BadKey))
+    (Some (NoUser a))
+
 -- a format fits a change after a history: it is as new as that of the last entry, and has the change
 abbrev pub has_format : List Entry → Format → Change → Bool
 has_format h f c = is_as_new f (format_after h) && is_as_new f (change_format c)
@@ -65,6 +74,7 @@ format_refusal h f c = cond (has_format h f c) None (Some OldFormat)
 abbrev pub refusal_by_change : Membership → List Entry → Entry → Change → Option Refusal
 refusal_by_change ro h e (Do op) = why ro (tree_after ro h) (action_of e op)
 refusal_by_change ro h e (Undo n) = undo_refusal ro h e.author n
+refusal_by_change ro h e (Rekey k) = rekey_refusal ro h e.author k
 
 -- why an entry is refused after a history: first of all for its format
 abbrev pub refusal_of : Membership → List Entry → Entry → Option Refusal

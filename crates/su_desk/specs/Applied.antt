@@ -29,7 +29,7 @@ reads_where_applied ro h t = reads ro (tree_before ro h t.number) t.action
 abbrev pub writes_where_applied : Membership → List Entry → NumberedAction → List Area
 writes_where_applied ro h t = writes ro (tree_before ro h t.number) t.action
 
--- what an entry, whose change is given, writes in T: an undo nothing of its own
+-- what an entry, whose change is given, writes in T: an undo nothing of its own, and a rekey nothing
 abbrev pub writes_by_change : Membership → Tree → Entry → Change → List Area
 writes_by_change ro T e (Do op) = writes ro T (action_of e op)
 writes_by_change ro T e _ = []

@@ -1,16 +1,17 @@
--- Histories: entries numbered from 1, the operations that are live after them, and the tree that
--- these make.
+-- Histories: entries numbered from 1, the operations that are live after them, the tree that these
+-- make, and the keys that users have or had.
 use Rattle.std.specs.Prelude.{ℕ, ◌+◌, ◌-◌, Bool, false, not, cond, List, [], ◌∷◌, ◌++◌, map, Option, None, Some, nat_eq, slice_get}
-use Rattle.std.specs.List.{filter, list_any}
-use Rattle.std.specs.Option.{option_or, unwrap_or}
+use Rattle.std.specs.List.{filter, flat_map, list_any}
+use Rattle.std.specs.Option.{option_or, option_to_list, unwrap_or}
+use Rattle.su_bytes.specs.Keys.{roster_keys}
 use Rattle.su_bytes.specs.Membership.{Membership}
 use Rattle.su_bytes.specs.declared.formats.Format.{Format}
 use Rattle.su_bytes.specs.declared.formats.Format.TheVariants.{V1}
 use Rattle.su_table.specs.Tree.{Tree, genesis}
 use Rattle.su_op.specs.declared.operations.Op.{Op}
 use Rattle.su_op.specs.declared.operations.Change.{Change}
-use Rattle.su_op.specs.declared.operations.Change.TheVariants.{Do, Undo}
-use Rattle.su_op.specs.Action.{Action, action_by}
+use Rattle.su_op.specs.declared.operations.Change.TheVariants.{Do, Undo, Rekey}
+use Rattle.su_op.specs.Action.{Action, action_by, named_key}
 use Rattle.su_op.specs.Store.{store}
 use Rattle.su_undo.specs.Replay.{replay as replay_actions}
 use Rattle.su_desk.specs.declared.entries.Entry.{Entry}
@@ -35,6 +36,10 @@ entry_doing x = entry_by x.author x.format (Do x.op)
 -- the entry of the undo of n by user a, made in format f
 abbrev pub undo_by : ℕ → Format → ℕ → Entry
 undo_by a f n = entry_by a f (Undo n)
+
+-- the entry by which user a names the next key k, made in format f
+abbrev pub rekey_by : ℕ → Format → List ℕ → Entry
+rekey_by a f k = entry_by a f (Rekey k)
 
 -- the action of an entry that does that operation
 abbrev pub action_of : Entry → Op → Action
@@ -114,3 +119,11 @@ last_live h = unwrap_or (last_number (live h)) 0
 abbrev pub undos : Format → List NumberedAction → List Entry
 undos f [] = []
 undos f (t ∷ ts) = undos f ts ++ undo_by t.action.author f t.number ∷ []
+
+-- the keys that these entries name, in order
+abbrev pub named_keys : List Entry → List (List ℕ)
+named_keys h = flat_map (λ e. option_to_list (named_key e.change)) h
+
+-- the keys that users have or had after a history: the roster's, and each that an entry names
+abbrev pub keys_after : Membership → List Entry → List (List ℕ)
+keys_after ro h = roster_keys ro ++ named_keys h

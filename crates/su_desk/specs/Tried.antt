@@ -1,14 +1,16 @@
 -- What takes the last entries of a desk back.
-use Rattle.std.specs.Prelude.{◌≡◌, ℕ, List, [], ◌∷◌, ◌++◌, length, Option, Some, None, ⊤}
+use Rattle.std.specs.Prelude.{◌≡◌, ℕ, List, [], ◌∷◌, ◌++◌, length, Some, ⊤}
 use Rattle.su_bytes.specs.Membership.{Membership}
 use Rattle.su_table.specs.Tree.{Tree, genesis}
 use Rattle.su_op.specs.declared.operations.Change.{Change}
-use Rattle.su_op.specs.declared.operations.Change.TheVariants.{Do, Undo}
+use Rattle.su_op.specs.declared.operations.Change.TheVariants.{Do, Undo, Rekey}
 use Rattle.su_inverse.specs.Kept.{IsPutBack}
 use Rattle.su_desk.specs.declared.entries.Entry.{Entry}
 use Rattle.su_desk.specs.declared.kept.KeptOperation.{KeptOperation}
 use Rattle.su_desk.specs.declared.prepared.Undone.{Undone}
 use Rattle.su_desk.specs.declared.prepared.Tried.{Tried}
+use Rattle.su_desk.specs.declared.prepared.Means.{Means}
+use Rattle.su_desk.specs.declared.prepared.Means.TheVariants.{Kept, Held, Named}
 use Rattle.su_desk.specs.History.{NumberedAction, live, replay}
 use Rattle.su_desk.specs.Version.{versions}
 use Rattle.su_desk.specs.Desk.{DeskState, with_entry}
@@ -35,17 +37,23 @@ pub record TakesUndoBack (d : DeskState) (e : Entry) (n : ℕ) (u : Undone) : Ty
   pub kept : IsKeptAt d.roster d.history n u.index u.operation
   pub back : IsPutBack u.held (tree_of (with_entry d e)) (tree_of d)
 
--- of an entry, whose change is given: what takes an operation back is kept with it
-abbrev pub TakesChangeBack : DeskState → Entry → Change → Option Undone → Type 0
-TakesChangeBack d e (Do op) None = ⊤
-TakesChangeBack d e (Undo n) (Some u) = TakesUndoBack d e n u
-TakesChangeBack d e (Do op) (Some u) = ⊥
-TakesChangeBack d e (Undo n) None = ⊥
+-- of an entry, whose change is given: what takes an operation back is kept with it; an undo goes by
+-- what it took out, and a rekey by the key that it named
+abbrev pub TakesChangeBack : DeskState → Entry → Change → Means → Type 0
+TakesChangeBack d e (Do op) Kept = ⊤
+TakesChangeBack d e (Undo n) (Held u) = TakesUndoBack d e n u
+TakesChangeBack d e (Rekey k) (Named key) = key ≡ k
+TakesChangeBack d e (Do op) (Held u) = ⊥
+TakesChangeBack d e (Do op) (Named key) = ⊥
+TakesChangeBack d e (Undo n) Kept = ⊥
+TakesChangeBack d e (Undo n) (Named key) = ⊥
+TakesChangeBack d e (Rekey k) Kept = ⊥
+TakesChangeBack d e (Rekey k) (Held u) = ⊥
 
 -- this takes an entry back, after which a desk is d again
 pub record TakesBack (d : DeskState) (e : Entry) (t : Tried) : Type 0 where
   pub versions : t.versions.items ≡ versions d.roster d.history
-  pub change : TakesChangeBack d e e.change t.undone
+  pub change : TakesChangeBack d e e.change t.means
 
 -- this takes the last entry of a desk back
 abbrev pub TakesLastBack : DeskState → Tried → Type 0

@@ -9,7 +9,7 @@ use Rattle.su_bytes.specs.declared.principals.Principal.TheVariants.{User, Group
 use Rattle.su_op.specs.declared.areas.Area.{Area}
 use Rattle.su_op.specs.declared.areas.Area.TheVariants.{Inode as InodeArea, Pointer as PointerArea}
 use Rattle.su_op.specs.declared.operations.Change.{Change}
-use Rattle.su_op.specs.declared.operations.Change.TheVariants.{Do, Undo}
+use Rattle.su_op.specs.declared.operations.Change.TheVariants.{Do, Undo, Rekey}
 use Rattle.su_op.specs.Operation.{writes}
 use Rattle.su_desk.specs.declared.entries.Entry.{Entry}
 use Rattle.su_desk.specs.History.{action_of}
@@ -29,10 +29,11 @@ abbrev pub carried_groups : Membership → List Area → List ℕ
 carried_groups ro w = filter (λ g. carries g w) (map (λ g. g.0) ro.groups)
 
 -- what the cells are of an entry after a history, whose change is given: those that the operation
--- writes, or those that the operation wrote that it undoes
+-- writes, or those that the operation wrote that it undoes; a rekey has none
 abbrev pub cells_by_change : Membership → List Entry → Entry → Change → List Area
 cells_by_change ro h e (Do op) = writes ro (tree_after ro h) (action_of e op)
 cells_by_change ro h e (Undo n) = written_by ro h n
+cells_by_change ro h e (Rekey k) = []
 
 -- what the cells are of an entry after a history
 abbrev pub cells_of : Membership → List Entry → Entry → List Area

@@ -3,10 +3,10 @@ ghost use Rattle.std.specs.Prelude.{◌≡◌, ◌⊎◌, [], map, option_copied
 ghost use Rattle.su_desk.specs.Version.{versions};
 ghost use Rattle.su_desk.specs.Headline.{Headline};
 ghost use Rattle.su_bytes.specs.declared.refusals.Refusal.TheVariants.{NoMemory};
-ghost use Rattle.su_op.specs.declared.operations.Change.TheVariants.{Do, Undo};
-ghost use Rattle.su_desk.specs.History.{entry_by, undo_by, tree, live_numbers, last_live, format_after, entry_at, undoer};
+ghost use Rattle.su_op.specs.declared.operations.Change.TheVariants.{Do, Undo, Rekey};
+ghost use Rattle.su_desk.specs.History.{entry_by, undo_by, rekey_by, tree, live_numbers, last_live, format_after, entry_at, undoer};
 ghost use Rattle.su_desk.specs.Blocker.{blocker};
-ghost use Rattle.su_desk.specs.Answer.{format_refusal, live_refusal, undo_refusal, Good};
+ghost use Rattle.su_desk.specs.Answer.{format_refusal, live_refusal, rekey_refusal, undo_refusal, Good};
 ghost use Rattle.su_desk.specs.Desk.{Answers, Runs, result_of, with_entry};
 ghost use Rattle.su_desk.specs.Tried.{IsKeptAt};
 
@@ -17,10 +17,12 @@ use crate::kept::{KeptOperation, blocker_at, live_index, undo_index};
 use crate::versions::{first_versions, raise};
 use std::alloc::Global;
 use std::marker::Model;
-use su_bytes::{Format, NEWEST_FORMAT, Principal, Refusal, Roster, User};
+use su_bytes::{Format, KEY_LENGTH, NEWEST_FORMAT, Principal, Refusal, Roster, User};
 use su_inverse::build;
+use su_lms::PublicKey;
 use su_op::{Change, Op};
 use su_table::Forest;
+use su_used_keys::UsedKeys;
 
 /// A history of changes, and the tree of its live operations. Its model is its roster and its
 /// history.
@@ -30,6 +32,7 @@ pub struct Desk {
     entries: Vec<Entry>,
     kept: Vec<KeptOperation>,
     counters: Vec<(Principal, u64)>,
+    used: UsedKeys,
     forest: Forest,
     alloc: Global,
 }
@@ -40,13 +43,16 @@ impl Model for Desk {
     ghost Value = { DeskState };
 
     ghost use Rattle.std.specs.Prelude.{◌≡◌};
+    ghost use Rattle.su_used_keys.specs.UsedKeys.{HasJust};
+    ghost use Rattle.su_desk.specs.History.{keys_after};
     ghost use Rattle.su_desk.specs.Keeping.{Keeps};
     ghost use Rattle.su_desk.specs.Version.{versions};
 
     ghost view = { λ d. record { roster = d.roster; history = d.entries.items } };
 
     ghost invariant = { λ d. Keeps d.roster d.entries.items d.kept.items d.forest
-        × (d.counters.items ≡ versions d.roster d.entries.items) };
+        × (d.counters.items ≡ versions d.roster d.entries.items)
+        × HasJust (keys_after d.roster d.entries.items) d.used };
 }
 
 impl Desk {
@@ -57,11 +63,13 @@ impl Desk {
     {
         let forest = Forest::genesis(alloc, &roster)?;
         let counters = first_versions(alloc, &roster)?;
+        let used = UsedKeys::of_roster(alloc, &roster)?;
         Ok(Desk {
             roster,
             entries: Vec::new(alloc),
             kept: Vec::new(alloc),
             counters,
+            used,
             forest,
             alloc,
         })
@@ -102,7 +110,8 @@ impl Desk {
 
     /// Returns what stands in the way of an undo of a live operation: the last live operation that
     /// came after it and read a cell that it wrote. Fails with `NoOperation` where there is no such
-    /// entry, with `NotOperation` where it is an undo, and with `AlreadyUndone`. Takes no memory.
+    /// entry, with `NotOperation` where it is an undo or a rekey, and with `AlreadyUndone`. Takes no
+    /// memory.
     pub fn blocker(&self, number: u64) -> Result<Option<u64>, Refusal>
         ensures value { IfOk result (λ m. m ≡ blocker self.now.roster self.now.history number) }
         ensures live { OnOk result (live_refusal self.now.history number ≡ None) }
@@ -132,6 +141,7 @@ impl Desk {
         match change {
             Change::Do(op) => self.operate(format, author, op),
             Change::Undo(number) => self.undo(format, author, number),
+            Change::Rekey(key) => self.rekey(format, author, key),
         }
     }
 
@@ -274,6 +284,43 @@ impl Desk {
             change,
         });
         Ok((index, undone))
+    }
+
+    /// Names the author's next key in that format, which has that, and adds it to the history.
+    fn rekey(&mut self, format: Format, author: User, key: [u8; KEY_LENGTH]) -> Result<u64, Refusal>
+        requires { format_refusal self.old.history format (Rekey key) ≡ None }
+        ensures { Answers self.old (rekey_by author format key) result self.new }
+    {
+        self.check_key(author, &key)?;
+        self.entries.reserve(1)?;
+        self.used.reserve()?;
+        self.used.add(key);
+        raise(&mut self.counters, author, &[]);
+        let change = Change::Rekey(key);
+        self.entries.push_reserved(Entry {
+            author,
+            format,
+            change,
+        });
+        Ok(self.entries.len() as u64)
+    }
+
+    /// Checks whether the author may name that key as the next one. The error is the first refusal.
+    /// Takes no memory.
+    fn check_key(&self, author: User, key: &[u8; KEY_LENGTH]) -> Result<(), Refusal>
+        ensures accepted { OnOk result
+            (rekey_refusal self.now.roster self.now.history author key.now ≡ None) }
+        ensures refused { IfErr result (λ e.
+            rekey_refusal self.now.roster self.now.history author key.now ≡ Some e) }
+    {
+        if !self.roster.has_user(author) {
+            return Err(Refusal::NoUser(author));
+        }
+        PublicKey::parse(key)?;
+        if self.used.has(key) {
+            return Err(Refusal::KeyReuse);
+        }
+        Ok(())
     }
 
     /// Makes one of several changes in the newest format, and returns the reply to it.

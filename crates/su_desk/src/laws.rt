@@ -13,7 +13,7 @@ ghost use Rattle.su_op.specs.Action.{Action};
 ghost use Rattle.su_op.specs.Store.{store};
 ghost use Rattle.su_undo.specs.Replay.{UndoIsSafe};
 ghost use Rattle.su_desk.specs.declared.entries.Entry.{Entry};
-ghost use Rattle.su_desk.specs.History.{NumberedAction, entry_doing, undo_by, live, live_numbers, last_live, tree};
+ghost use Rattle.su_desk.specs.History.{NumberedAction, entry_doing, undo_by, rekey_by, live, live_numbers, last_live, tree};
 ghost use Rattle.su_desk.specs.Blocker.{blocker, HaveCommonCell};
 ghost use Rattle.su_desk.specs.Answer.{refusal_of, Good};
 ghost use Rattle.su_desk.specs.Applied.{tree_after};
@@ -48,8 +48,9 @@ pub fn live_numbers_ascend()
 {}
 
 /// One entry more: an operation is live then, if it comes after a good history, and makes the tree
-/// that the history left what it does to it; and an undo takes out the operation that it names. The
-/// history is good if it was, and the entry is accepted after it.
+/// that the history left what it does to it; an undo takes out the operation that it names; and a
+/// rekey leaves the live ones as they were. The history is good if it was, and the entry is accepted
+/// after it.
 pub fn one_entry_more()
     ensures done { (ro : Membership) (h : List Entry) (x : Action) → Good ro h
         → live (h ++ entry_doing x ∷ [])
@@ -60,6 +61,8 @@ pub fn one_entry_more()
     ensures undone { (h : List Entry) (a : ℕ) (f : Format) (n : ℕ)
         → live (h ++ undo_by a f n ∷ [])
         ≡ filter (λ (t : NumberedAction). not (nat_eq t.number n)) (live h) }
+    ensures named { (h : List Entry) (a : ℕ) (f : Format) (k : List ℕ)
+        → live (h ++ rekey_by a f k ∷ []) ≡ live h }
     ensures good { (ro : Membership) (h : List Entry) (e : Entry)
         → Good ro (h ++ e ∷ []) ↔ (Good ro h × (refusal_of ro h e ≡ None)) }
 {}

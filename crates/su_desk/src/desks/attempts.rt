@@ -1,7 +1,7 @@
 // Changes that are made so that they can be taken back.
-ghost use Rattle.std.specs.Prelude.{◌≡◌, ◌⊎◌, ℕ, true, None, Some, Err, IfOk, IfErr, OnOk, OnErr};
+ghost use Rattle.std.specs.Prelude.{◌≡◌, ◌⊎◌, ℕ, List, true, None, Some, Err, IfOk, IfErr, OnOk, OnErr};
 ghost use Rattle.su_bytes.specs.declared.refusals.Refusal.TheVariants.{NoMemory};
-ghost use Rattle.su_op.specs.declared.operations.Change.TheVariants.{Undo};
+ghost use Rattle.su_op.specs.declared.operations.Change.TheVariants.{Undo, Rekey};
 ghost use Rattle.su_op.specs.Area.{has};
 ghost use Rattle.su_op.specs.Action.{Action};
 ghost use Rattle.su_table.specs.Cell.{Cell};
@@ -17,9 +17,9 @@ ghost use Rattle.su_desk.specs.Version.{cells_of, versions};
 
 use super::Desk;
 use crate::kept::undo_index;
-use crate::prepared::{Prepared, Tried, Undone};
+use crate::prepared::{Means, Prepared, Tried, Undone};
 use crate::versions::carried_handles;
-use su_bytes::{Format, Principal, Refusal, User};
+use su_bytes::{Format, KEY_LENGTH, Principal, Refusal, User};
 use su_inverse::{Inverse, build_whole};
 use su_op::{Area, Change};
 
@@ -51,7 +51,7 @@ impl Desk {
                 self.operate(format, author, op)?;
                 Ok(Tried {
                     versions,
-                    undone: None,
+                    means: Means::Kept,
                 })
             }
             Change::Undo(number) => {
@@ -64,7 +64,14 @@ impl Desk {
                 };
                 Ok(Tried {
                     versions,
-                    undone: Some(undone),
+                    means: Means::Held(undone),
+                })
+            }
+            Change::Rekey(key) => {
+                self.rekey(format, author, key)?;
+                Ok(Tried {
+                    versions,
+                    means: Means::Named(key),
                 })
             }
         }
@@ -105,18 +112,19 @@ impl Desk {
     }
 
     /// Returns the cells of the last entry: those that its operation wrote, or the one that it
-    /// undid.
+    /// undid; of a rekey none.
     fn last_written<'a>(&'a self, tried: &'a Tried) -> &'a [Area]
         requires { TakesLastBack self.now tried.now }
         ensures { (d : DeskState) (e : Entry) → self.now ≡ with_entry d e
             → TakesBack d e tried.now → result.now ≡ cells_of d.roster d.history e }
     {
-        match &tried.undone {
-            Some(undone) => undone.operation.footprint.writes.as_slice(),
-            None => match self.kept.last() {
+        match &tried.means {
+            Means::Held(undone) => undone.operation.footprint.writes.as_slice(),
+            Means::Kept => match self.kept.last() {
                 Some(operation) => operation.footprint.writes.as_slice(),
                 None => unreachable!(),
             },
+            Means::Named(_) => &[],
         }
     }
 
@@ -128,22 +136,26 @@ impl Desk {
         ensures tried { IfErr result (λ again. again ≡ tried) }
         ensures err { OnErr result (self.new ≡ self.old) }
     {
-        let Tried { versions, undone } = tried;
-        match undone {
-            None => match self.take_operation_back(versions.as_slice()) {
+        let Tried { versions, means } = tried;
+        match means {
+            Means::Kept => match self.take_operation_back(versions.as_slice()) {
                 Ok(()) => Ok(()),
                 Err(_) => Err(Tried {
                     versions,
-                    undone: None,
+                    means: Means::Kept,
                 }),
             },
-            Some(undone) => match self.take_undo_back(versions.as_slice(), undone) {
+            Means::Held(undone) => match self.take_undo_back(versions.as_slice(), undone) {
                 Ok(()) => Ok(()),
                 Err(undone) => Err(Tried {
                     versions,
-                    undone: Some(undone),
+                    means: Means::Held(undone),
                 }),
             },
+            Means::Named(key) => {
+                self.take_key_back(versions.as_slice(), &key);
+                Ok(())
+            }
         }
     }
 
@@ -184,5 +196,16 @@ impl Desk {
         self.counters.copy_from_slice(numbers);
         self.entries.pop();
         Ok(())
+    }
+
+    /// Takes the rekey of the last entry back, which named that key. Takes no memory.
+    fn take_key_back(&mut self, numbers: &[(Principal, u64)], key: &[u8; KEY_LENGTH])
+        requires { (d : DeskState) × (e : Entry) × (e.change ≡ Rekey key.now)
+            × (self.old ≡ with_entry d e) × (numbers.now ≡ versions d.roster d.history) }
+        ensures { self.new ≡ before_last self.old }
+    {
+        self.used.remove(key);
+        self.counters.copy_from_slice(numbers);
+        self.entries.pop();
     }
 }
