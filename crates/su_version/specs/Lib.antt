@@ -1,3 +1,4 @@
 pub mod Version
 pub mod Commit
 pub mod Chain
+pub mod Tip

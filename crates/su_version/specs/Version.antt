@@ -1,16 +1,17 @@
 -- Version structures and their bytes. (This project's own format; SUNDR's version structures, with
 -- the digest of the commit before.)
-use Rattle.std.specs.Prelude.{◌≡◌, ◌≤◌, ◌<◌, ◌+◌, ◌^◌, ℕ, true, List, ◌∷◌, ◌++◌, length, codes}
+use Rattle.std.specs.Prelude.{◌≡◌, ◌≤◌, ◌<◌, ◌+◌, ◌^◌, ℕ, Bool, true, false, Option, None, Some, List, [], ◌∷◌, ◌++◌, length, codes}
 use Rattle.std.specs.List.{flat_map, AllByRecursion}
 use Rattle.su_bytes.specs.declared.formats.Format.{Format as CommitFormat}
-use Rattle.su_bytes.specs.declared.formats.Format.TheVariants.{V1, V2}
+use Rattle.su_bytes.specs.declared.formats.Format.TheVariants.{V1, V2, V3}
+use Rattle.su_bytes.specs.declared.rosters.TheConstants.{KEY_LENGTH}
 use Rattle.su_bytes.specs.Principal.{is_user, is_group}
 use Rattle.su_format.specs.Format.{Format, part, making, ◌>>=◌, repeated, EachFrom}
-use Rattle.su_format.specs.Part.{u8_bytes, u64_bytes, u8_part, u64_part, user_part, digest_part}
+use Rattle.su_format.specs.Part.{u8_bytes, u64_bytes, u8_part, u64_part, bytes_part, user_part, digest_part}
 
 -- what a user signs: its format, whose it is, the digest of the commit before, the digest of the
--- change, the author's i-handle after it, the groups that it carries with their i-handles, and the
--- vector
+-- change, the author's i-handle after it, the groups that it carries with their i-handles, the
+-- vector, and the author's next key, if it names one
 pub record Version : Type 0 where
   pub format : CommitFormat
   pub author : ℕ
@@ -19,6 +20,7 @@ pub record Version : Type 0 where
   pub handle : List ℕ
   pub groups : List (ℕ × List ℕ)
   pub vector : List ℕ
+  pub next_key : Option (List ℕ)
 
 -- a group of at least this number, with a digest
 pub record IsCarried (least : ℕ) (g : ℕ × List ℕ) : Type 0 where
@@ -29,6 +31,13 @@ pub record IsCarried (least : ℕ) (g : ℕ × List ℕ) : Type 0 where
 -- groups with digests, in strictly ascending order
 abbrev pub AreCarried : List (ℕ × List ℕ) → Type 0
 AreCarried groups = EachFrom IsCarried (λ g. g.0 + 1) 0 groups
+
+-- the next key of a version structure in this format: in the first two there is none
+abbrev pub IsNextKey : CommitFormat → Option (List ℕ) → Type 0
+IsNextKey V1 key = key ≡ None
+IsNextKey V2 key = key ≡ None
+IsNextKey V3 None = Unit {0}
+IsNextKey V3 (Some key) = length key ≡ KEY_LENGTH
 
 -- a version structure that can be spelled
 pub record IsVersion (v : Version) : Type 0 where
@@ -41,6 +50,7 @@ pub record IsVersion (v : Version) : Type 0 where
   pub some_numbers : 2 ≤ length v.vector
   pub few_numbers : length v.vector ≤ 80
   pub numbers : AllByRecursion (λ n. n < 2 ^ 64) v.vector
+  pub next_key : IsNextKey v.format v.next_key
 
 -- ---- its bytes
 
@@ -51,14 +61,27 @@ group_bytes g = g.0 ∷ g.1
 abbrev pub first_bytes : CommitFormat → List ℕ
 first_bytes V1 = codes "SV01"
 first_bytes V2 = codes "SV02"
+first_bytes V3 = codes "SV03"
+
+-- whether something comes: 0 or 1
+abbrev pub flag_bytes : Bool → List ℕ
+flag_bytes false = 0 ∷ []
+flag_bytes true = 1 ∷ []
+
+-- the next key: nothing in the first two formats; in the third whether there is one, and this
+abbrev pub key_bytes : CommitFormat → Option (List ℕ) → List ℕ
+key_bytes V1 key = []
+key_bytes V2 key = []
+key_bytes V3 None = flag_bytes false
+key_bytes V3 (Some key) = flag_bytes true ++ key
 
 -- the rest: author, prev, change, i-handle; how many groups, and each with its i-handle; how many
--- numbers, and these
+-- numbers, and these; the next key
 unfoldable pub body_bytes : Version → List ℕ
 body_bytes v =
     v.author ∷ (v.prev ++ (v.change ++ (v.handle
     ++ (length v.groups ∷ (flat_map group_bytes v.groups
-    ++ (length v.vector ∷ flat_map u64_bytes v.vector))))))
+    ++ (length v.vector ∷ (flat_map u64_bytes v.vector ++ key_bytes v.format v.next_key)))))))
 
 -- the bytes that are signed
 unfoldable pub version_bytes : Version → List ℕ
@@ -99,6 +122,28 @@ vector_format = do
   size ← vector_size_part
   repeated number_format (λ _. 0) size 0
 
+abbrev pub AnyFlag : Bool → Type 0
+AnyFlag _ = Unit {0}
+
+-- whether a key comes
+unfoldable pub flag_part : Format Bool
+flag_part = part AnyFlag flag_bytes
+
+-- and then the key, if one comes
+unfoldable pub key_behind : Bool → Format (Option (List ℕ))
+key_behind false = making None
+key_behind true = do
+  key ← bytes_part KEY_LENGTH
+  making (Some key)
+
+-- the next key in that format
+unfoldable pub key_format : CommitFormat → Format (Option (List ℕ))
+key_format V1 = making None
+key_format V2 = making None
+key_format V3 = do
+  flag ← flag_part
+  key_behind flag
+
 -- what stands behind the first bytes of a version structure in that format
 unfoldable pub body_format : CommitFormat → Format Version
 body_format format = do
@@ -108,6 +153,7 @@ body_format format = do
   handle ← digest_part
   groups ← groups_format
   vector ← vector_format
+  next_key ← key_format format
   making (record {
     format = format;
     author = author;
@@ -116,6 +162,7 @@ body_format format = do
     handle = handle;
     groups = groups;
     vector = vector;
+    next_key = next_key;
   })
 
 -- the first bytes, and the rest

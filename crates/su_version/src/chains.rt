@@ -1,16 +1,18 @@
 // How commits follow one another.
-ghost use Rattle.std.specs.Prelude.{◌≡◌, ◌≤◌, ◌⊎◌, ◌↔◌, IsTrue, true, false, length, IfOk, IfErr, OnOk};
+ghost use Rattle.std.specs.Prelude.{◌≡◌, ◌≤◌, ◌⊎◌, ◌↔◌, ℕ, List, IsTrue, true, false, length, IfOk, IfErr, OnOk};
 ghost use Rattle.std.specs.List.{AllByRecursion, list_any};
 ghost use Rattle.su_bytes.specs.Order.{Passes, RefusedBy};
 ghost use Rattle.su_bytes.specs.Principal.{principals as principals_of};
-ghost use Rattle.su_version.specs.Chain.{IsSignedBy, next_order, CountsOn, IsNewLeaf, is_that_group};
+ghost use Rattle.su_version.specs.Chain.{IsSignedBy, next_order, CountsOn, IsNewLeaf, IsNewKey, IsGoodKey, is_that_group};
+ghost use Rattle.su_version.specs.Tip.{tip_with};
+ghost use Rattle.su_used_keys.specs.UsedKeys.{HasJust};
 ghost use Rattle.su_bytes.specs.declared.refusals.Refusal.TheVariants.{NoMemory};
 
 use crate::commits::Commit;
 use std::alloc::Global;
-use std::marker::Model;
-use su_bytes::{Digest, FileId, Format, Group, Principal, Refusal, Roster};
+use su_bytes::{Digest, FileId, Format, Group, KEY_LENGTH, Principal, Refusal, Roster};
 use su_lms::PublicKey;
+use su_used_keys::UsedKeys;
 use su_vector::{Vector, are_numbers_after};
 
 /// Whether a commit is signed under a key, if there is one: what a check of its signature told.
@@ -47,27 +49,14 @@ pub struct Tip<'a> {
     vector: &'a Vector,
     key: Option<PublicKey>,
     leaf: Option<u32>,
-}
-
-impl<'a> Model for Tip<'a> {
-    ghost use Rattle.su_version.specs.Chain.{Tip};
-
-    ghost Value = { Tip };
-
-    ghost view = { λ t. record {
-      number = t.number;
-      head = t.head;
-      format = t.format;
-      vector = t.vector.now;
-      key = t.key;
-      leaf = t.leaf;
-    } };
+    used: &'a UsedKeys,
 }
 
 impl<'a> Tip<'a> {
     /// The tip of a chain of so many commits, with the digest of the last one (at first that of the
     /// roster), its format (at first the oldest), its vector (at first zeros), the user's key, if
-    /// there is such a user, and the leaf by which the user signed the user's last commit.
+    /// there is such a user, the leaf by which the user signed last under that key, and the keys that
+    /// a user has or had.
     pub fn new(
         number: u64,
         head: Digest,
@@ -75,14 +64,16 @@ impl<'a> Tip<'a> {
         vector: &'a Vector,
         key: Option<PublicKey>,
         leaf: Option<u32>,
+        used: &'a UsedKeys,
     ) -> Tip<'a>
         ensures { result ≡ record {
           number = number;
           head = head;
           format = format;
-          vector = vector.now;
+          vector = vector;
           key = key;
           leaf = leaf;
+          used = used;
         } }
     {
         Tip {
@@ -92,6 +83,7 @@ impl<'a> Tip<'a> {
             vector,
             key,
             leaf,
+            used,
         }
     }
 
@@ -99,12 +91,14 @@ impl<'a> Tip<'a> {
     /// user, or the signature isn't under the user's key; `WrongPrev` with the number of commits
     /// where it names another one before it; `OldFormat` where its format is older than that one's;
     /// `WrongVector` where it carries a group that isn't in the roster, or its vector isn't the
-    /// next; `KeyReuse` where its leaf isn't above the last; `NoMemory`. It makes one check of a
-    /// signature.
+    /// next; `KeyReuse` where its leaf isn't above the last, or a user has or had the next key that
+    /// it names; `BadKey` where that is no key; `NoMemory`. It makes one check of a signature.
     pub fn check(&self, alloc: Global, roster: &Roster, commit: &Commit) -> Result<(), Refusal>
-        ensures follows { OnOk result (Passes (next_order roster.now self.now commit.now)) }
-        ensures refused { IfErr result (λ e.
-            (e ≡ NoMemory) ⊎ RefusedBy (next_order roster.now self.now commit.now) e) }
+        ensures follows { OnOk result ((used : List (List ℕ)) → HasJust used self.now.used.now
+            → Passes (next_order roster.now (tip_with self.now used) commit.now)) }
+        ensures refused { IfErr result (λ e. (e ≡ NoMemory)
+            ⊎ ((used : List (List ℕ)) → HasJust used self.now.used.now
+            → RefusedBy (next_order roster.now (tip_with self.now used) commit.now) e)) }
     {
         // names the type for the prover (docs/ARCHITECTURE.md, "Forms the kit wants")
         let _file: Option<FileId> = None;
@@ -122,9 +116,11 @@ impl<'a> Tip<'a> {
         commit: &Commit,
     ) -> Result<(), Refusal>
         requires { IsTrue verdict.is_signed ↔ IsSignedBy verdict.key commit.now }
-        ensures follows { OnOk result (Passes (next_order roster.now self.now commit.now)) }
-        ensures refused { IfErr result (λ e.
-            (e ≡ NoMemory) ⊎ RefusedBy (next_order roster.now self.now commit.now) e) }
+        ensures follows { OnOk result ((used : List (List ℕ)) → HasJust used self.now.used.now
+            → Passes (next_order roster.now (tip_with self.now used) commit.now)) }
+        ensures refused { IfErr result (λ e. (e ≡ NoMemory)
+            ⊎ ((used : List (List ℕ)) → HasJust used self.now.used.now
+            → RefusedBy (next_order roster.now (tip_with self.now used) commit.now) e)) }
     {
         if verdict.key != self.key {
             return self.check(alloc, roster, commit);
@@ -135,27 +131,33 @@ impl<'a> Tip<'a> {
     /// Checks as `check` does, where it is known whether the commit is signed.
     fn check_signed(&self, roster: &Roster, is_signed: bool, commit: &Commit) -> Result<(), Refusal>
         requires { IsTrue is_signed ↔ IsSignedBy self.now.key commit.now }
-        ensures follows { OnOk result (Passes (next_order roster.now self.now commit.now)) }
-        ensures refused { IfErr result (λ e.
-            (e ≡ NoMemory) ⊎ RefusedBy (next_order roster.now self.now commit.now) e) }
+        ensures follows { OnOk result ((used : List (List ℕ)) → HasJust used self.now.used.now
+            → Passes (next_order roster.now (tip_with self.now used) commit.now)) }
+        ensures refused { IfErr result (λ e. (e ≡ NoMemory)
+            ⊎ ((used : List (List ℕ)) → HasJust used self.now.used.now
+            → RefusedBy (next_order roster.now (tip_with self.now used) commit.now) e)) }
     {
         // names the type for the prover (docs/ARCHITECTURE.md, "Forms the kit wants")
         let _file: Option<FileId> = None;
         let principals = roster.principals()?;
+        let version = commit.version();
         if !is_signed {
             return Err(Refusal::BadSignature);
         }
-        if commit.version().prev() != self.head {
+        if version.prev() != self.head {
             return Err(Refusal::WrongPrev(self.number));
         }
-        if !commit.version().format().is_as_new(self.format) {
+        if !version.format().is_as_new(self.format) {
             return Err(Refusal::OldFormat);
         }
         if !counts_on(roster, principals.as_slice(), self.vector, commit) {
             return Err(Refusal::WrongVector);
         }
-        if !is_new_leaf(self.leaf, commit.leaf()) {
+        if !is_new_leaf(self.leaf, commit.leaf()) || !is_new_key(self.used, version.next_key()) {
             return Err(Refusal::KeyReuse);
+        }
+        if !is_good_key(version.next_key()) {
+            return Err(Refusal::BadKey);
         }
         Ok(())
     }
@@ -167,6 +169,26 @@ fn is_new_leaf(last: Option<u32>, leaf: u32) -> bool
     match last {
         None => true,
         Some(last) => last < leaf,
+    }
+}
+
+/// Whether a next key, if there is one, is none of those that a user has or had.
+fn is_new_key(used: &UsedKeys, next: Option<[u8; KEY_LENGTH]>) -> bool
+    ensures { (keys : List (List ℕ)) → HasJust keys used.now → IsTrue result ↔ IsNewKey keys next }
+{
+    match &next {
+        None => true,
+        Some(key) => !used.has(key),
+    }
+}
+
+/// Whether a next key, if there is one, is a public key.
+fn is_good_key(next: Option<[u8; KEY_LENGTH]>) -> bool
+    ensures { IsTrue result ↔ IsGoodKey next }
+{
+    match &next {
+        None => true,
+        Some(key) => PublicKey::parse(key).is_ok(),
     }
 }
 

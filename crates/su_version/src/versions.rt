@@ -1,15 +1,15 @@
 // Version structures.
-ghost use Rattle.std.specs.Prelude.{◌≡◌, ◌≤◌, ◌<◌, ◌↔◌, ◌⊎◌, IsTrue, ◌++◌, ◌∷◌, [], ℕ, length, true, Ok, Err, IfOk, IfErr, IfSome, IfNone, OnOk};
+ghost use Rattle.std.specs.Prelude.{◌≡◌, ◌≤◌, ◌<◌, ◌↔◌, ◌⊎◌, IsTrue, ◌++◌, ◌∷◌, [], ℕ, Bool, length, true, Ok, Err, IfOk, IfErr, IfSome, IfNone, OnOk};
 ghost use Rattle.std.specs.List.{flat_map};
 ghost use Rattle.su_format.specs.Reading.{Took, Refuses, Takes, Decodes};
 ghost use Rattle.su_format.specs.Part.{u8_bytes, u64_bytes};
-ghost use Rattle.su_version.specs.Version.{Version as VersionParts, IsVersion, first_bytes, body_bytes, version_bytes, format_part, group_bytes, group_above, carried_format, groups_format, vector_size_part, vector_format, body_format, version_format};
+ghost use Rattle.su_version.specs.Version.{Version as VersionParts, IsVersion, first_bytes, key_bytes, flag_bytes, body_bytes, version_bytes, format_part, group_bytes, group_above, carried_format, groups_format, vector_size_part, vector_format, flag_part, key_behind, key_format, body_format, version_format};
 ghost use Rattle.su_bytes.specs.declared.formats.Format.{Format as CommitFormat};
 ghost use Rattle.su_bytes.specs.declared.refusals.Refusal.TheVariants.{NoMemory};
 
 use std::alloc::{AllocError, Global};
 use std::marker::Model;
-use su_bytes::{Digest, FileId, Format, Group, Refusal, User};
+use su_bytes::{Digest, FileId, Format, Group, KEY_LENGTH, Refusal, User};
 use su_format::{Reader, Writer};
 use su_vector::{HasVector, Vector};
 
@@ -20,6 +20,7 @@ fn first_bytes(format: Format) -> &'static [u8]
     match format {
         Format::V1 => b"SV01",
         Format::V2 => b"SV02",
+        Format::V3 => b"SV03",
     }
 }
 
@@ -34,12 +35,15 @@ pub fn format_of(bytes: &[u8]) -> Option<Format>
     if bytes == first_bytes(Format::V2) {
         return Some(Format::V2);
     }
+    if bytes == first_bytes(Format::V3) {
+        return Some(Format::V3);
+    }
     None
 }
 
 /// What a user signs for a change: its format, whose it is, the digest of the commit before, the
 /// digest of the change, the author's i-handle after it, the groups whose tables it writes with
-/// their i-handles, and the version vector.
+/// their i-handles, the version vector, and the author's next key, if it names one.
 #[derive(Drop)]
 pub struct VersionStructure {
     format: Format,
@@ -49,6 +53,7 @@ pub struct VersionStructure {
     handle: Digest,
     groups: Vec<(Group, Digest)>,
     vector: Vector,
+    next_key: Option<[u8; KEY_LENGTH]>,
 }
 
 impl Model for VersionStructure {
@@ -64,6 +69,7 @@ impl Model for VersionStructure {
       handle = v.handle;
       groups = v.groups.items;
       vector = v.vector;
+      next_key = v.next_key;
     } };
 
     ghost invariant = { λ v. IsVersion (record {
@@ -74,11 +80,13 @@ impl Model for VersionStructure {
       handle = v.handle;
       groups = v.groups.items;
       vector = v.vector;
+      next_key = v.next_key;
     }) };
 }
 
 impl VersionStructure {
-    /// Makes a version structure of these parts. The groups ascend; the vector has 2 to 80 numbers.
+    /// Makes a version structure of these parts. The groups ascend; the vector has 2 to 80 numbers;
+    /// there is a next key in the third format alone.
     pub fn new(
         format: Format,
         author: User,
@@ -87,6 +95,7 @@ impl VersionStructure {
         handle: Digest,
         groups: Vec<(Group, Digest)>,
         vector: Vector,
+        next_key: Option<[u8; KEY_LENGTH]>,
     ) -> VersionStructure
         requires { IsVersion (record {
           format = format;
@@ -96,6 +105,7 @@ impl VersionStructure {
           handle = handle;
           groups = groups.items;
           vector = vector;
+          next_key = next_key;
         }) }
         ensures { result ≡ record {
           format = format;
@@ -105,6 +115,7 @@ impl VersionStructure {
           handle = handle;
           groups = groups.items;
           vector = vector;
+          next_key = next_key;
         } }
     {
         VersionStructure {
@@ -115,6 +126,7 @@ impl VersionStructure {
             handle,
             groups,
             vector,
+            next_key,
         }
     }
 
@@ -169,6 +181,13 @@ impl VersionStructure {
         &self.vector
     }
 
+    /// Returns the key under which the author signs from the next commit on, if it names one.
+    pub fn next_key(&self) -> Option<[u8; KEY_LENGTH]>
+        ensures { result ≡ self.now.next_key }
+    {
+        self.next_key
+    }
+
     /// Returns the bytes, over which the signature is made. Fails only with `NoMemory`.
     pub fn encode(&self, alloc: Global) -> Result<Vec<u8>, Refusal>
         ensures value { IfOk result (λ bytes. bytes.items ≡ version_bytes self.now) }
@@ -181,9 +200,10 @@ impl VersionStructure {
 
     // How many bytes it is spelled in.
     pub(crate) fn encoded_length(&self) -> usize
-        ensures { result ≤ 9158 }
+        ensures { result ≤ 9215 }
     {
-        103 + 33 * self.groups.len() + 8 * self.vector.numbers().len()
+        let parts = 103 + 33 * self.groups.len() + 8 * self.vector.numbers().len();
+        parts + key_size(self.format, &self.next_key)
     }
 
     /// Writes the bytes.
@@ -204,7 +224,8 @@ impl VersionStructure {
         writer.put_digest(&self.change)?;
         writer.put_digest(&self.handle)?;
         write_groups(writer, self.groups.as_slice())?;
-        write_vector(writer, self.vector.numbers())
+        write_vector(writer, self.vector.numbers())?;
+        write_key(writer, self.format, &self.next_key)
     }
 
     /// Returns the version structure that the bytes spell. `Malformed` where they are none's, with
@@ -251,6 +272,7 @@ impl VersionStructure {
         let handle = reader.take_digest()?;
         let groups = read_groups(alloc, reader)?;
         let vector = read_vector(alloc, reader)?;
+        let next_key = read_key(reader, format)?;
         Ok(VersionStructure {
             format,
             author,
@@ -259,6 +281,7 @@ impl VersionStructure {
             handle,
             groups,
             vector,
+            next_key,
         })
     }
 }
@@ -296,6 +319,35 @@ fn write_vector(writer: &mut Writer, numbers: &[u64]) -> Result<(), AllocError>
         writer.put_u64(*number)?;
     }
     Ok(())
+}
+
+// How many bytes a next key takes in that format.
+fn key_size(format: Format, key: &Option<[u8; KEY_LENGTH]>) -> usize
+    ensures { result ≤ 57 }
+{
+    match (format, key) {
+        (Format::V1 | Format::V2, _) => 0,
+        (Format::V3, None) => 1,
+        (Format::V3, Some(_)) => 1 + KEY_LENGTH,
+    }
+}
+
+// In the third format whether there is a next key, and this.
+fn write_key(
+    writer: &mut Writer,
+    format: Format,
+    key: &Option<[u8; KEY_LENGTH]>,
+) -> Result<(), AllocError>
+    ensures { OnOk result (writer.new ≡ writer.old ++ key_bytes format key.now) }
+{
+    match (format, key) {
+        (Format::V1 | Format::V2, _) => Ok(()),
+        (Format::V3, None) => writer.put_u8(0),
+        (Format::V3, Some(key)) => {
+            writer.put_u8(1)?;
+            writer.put_bytes(key)
+        }
+    }
 }
 
 // The format that the first bytes name.
@@ -388,4 +440,63 @@ fn read_vector(alloc: Global, reader: &mut Reader<'_>) -> Result<Vector, Refusal
         numbers.push(reader.take_u64()?)?;
     }
     Ok(Vector::new(numbers))
+}
+
+// The flag of that number, if there is one.
+fn flag_of(number: u8) -> Option<bool>
+    ensures found { IfSome result (λ flag. flag_bytes flag ≡ number ∷ []) }
+    ensures none { IfNone result ((flag : Bool) → flag_bytes flag ≡ number ∷ [] → ⊥) }
+{
+    match number {
+        0 => Some(false),
+        1 => Some(true),
+        _ => None,
+    }
+}
+
+// Whether a key comes: 0 or 1.
+fn read_flag(reader: &mut Reader<'_>) -> Result<bool, Refusal>
+    ensures { Takes flag_part reader.old result reader.new }
+{
+    let malformed = Refusal::Malformed(reader.place());
+    let Ok(number) = reader.take_u8() else {
+        return Err(malformed);
+    };
+    let Some(flag) = flag_of(number) else {
+        return Err(malformed);
+    };
+    Ok(flag)
+}
+
+// The key, if one comes.
+fn read_key_behind(
+    reader: &mut Reader<'_>,
+    flag: bool,
+) -> Result<Option<[u8; KEY_LENGTH]>, Refusal>
+    ensures { Takes (key_behind flag) reader.old result reader.new }
+{
+    // names the type for the prover (docs/ARCHITECTURE.md, "Forms the kit wants")
+    let _file: Option<FileId> = None;
+    if !flag {
+        return Ok(None);
+    }
+    let bytes = reader.take_bytes(KEY_LENGTH)?;
+    let mut key = [0u8; KEY_LENGTH];
+    key.copy_from_slice(bytes);
+    Ok(Some(key))
+}
+
+// The next key in that format.
+fn read_key(reader: &mut Reader<'_>, format: Format) -> Result<Option<[u8; KEY_LENGTH]>, Refusal>
+    ensures { Takes (key_format format) reader.old result reader.new }
+{
+    // names the type for the prover (docs/ARCHITECTURE.md, "Forms the kit wants")
+    let _file: Option<FileId> = None;
+    match format {
+        Format::V1 | Format::V2 => Ok(None),
+        Format::V3 => {
+            let flag = read_flag(reader)?;
+            read_key_behind(reader, flag)
+        }
+    }
 }
