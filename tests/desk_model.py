@@ -4,7 +4,7 @@ for each answer replays what is live from the first tree on. With scripts by cha
 definitions mean what they were meant to.
 
 usage: desk_model.py FOLDER COUNT LINES    writes COUNT scripts of LINES lines each into FOLDER, as NAME, NAME.args, NAME.stdout;
-                                           each fourth also asks for all handles after each line, each third makes the older format
+                                           each fourth also asks for all handles after each line; of nine, three each are in one format
        desk_model.py --run USERS [FORMAT]  reads a script of good lines on standard input, and prints what it answers
 """
 import functools
@@ -13,9 +13,10 @@ import random
 import sys
 
 BLOCK = 4096
-NEWEST = 2  # of the formats, which are numbers
-LARGEST_FILE = {1: 1048576, 2: 16777216}  # in each format
-FIRST_FORMAT = {"drop": 2}  # of the changes that not all formats have
+NEWEST = 3  # of the formats, which are numbers
+LARGEST_FILE = {1: 1048576, 2: 16777216, 3: 16777216}  # in each format
+FIRST_FORMAT = {"drop": 2, "rekey": 3}  # of the changes that not all formats have
+KEY_LENGTH = 56
 LARGEST_WRITE = 65536
 MOST_LINKS = 255
 
@@ -59,11 +60,12 @@ def is_file(tree, place):
 
 
 class Roster:
-    """Users 0 and on; group 0 has all of them, group 1 has user 0."""
+    """Users 0 and on, whose keys are zero bytes; group 0 has all of them, group 1 has user 0."""
 
     def __init__(self, users):
         self.users = range(users)
         self.groups = {0: set(self.users), 1: {0}}
+        self.keys = {bytes(KEY_LENGTH)}
 
     def may_touch(self, a, file):
         return file[0] == "U" or a in self.groups.get(file[1], ())
@@ -291,6 +293,11 @@ def share(some, others):
 
 # ---- the desk
 
+def is_key(key):
+    """Whether the bytes are a public key: of one of the five kinds of trees, and one of the four kinds of one-time keys."""
+    return len(key) == KEY_LENGTH and int.from_bytes(key[:4], "big") in range(5, 10) and int.from_bytes(key[4:8], "big") in range(1, 5)
+
+
 class Desk:
     """Its history is triples of an author, a format and a change. The format in which changes are made, unless they come with one, is
     `form`."""
@@ -303,7 +310,7 @@ class Desk:
 
     def live(self, history):
         undone = {change[1] for _, _, change in history if change[0] == "undo"}
-        return [n for n, (_, _, change) in enumerate(history, 1) if change[0] != "undo" and n not in undone]
+        return [n for n, (_, _, change) in enumerate(history, 1) if change[0] not in ("undo", "rekey") and n not in undone]
 
     def tree(self, history):
         tree = genesis()
@@ -330,18 +337,26 @@ class Desk:
         demand(a in self.roster.users, f"12 NoUser {a}")
         demand(1 <= n <= len(self.history), f"24 NoOperation {n}")
         author, _, change = self.history[n - 1]
-        demand(change[0] != "undo", f"25 NotOperation {n}")
+        demand(change[0] not in ("undo", "rekey"), f"25 NotOperation {n}")
         for m, (_, _, other) in enumerate(self.history, 1):
             demand(other != ("undo", n), f"26 AlreadyUndone {n} {m}")
         demand(author == a, f"27 NotAuthor {author}")
         m = self.blocker(n)
         demand(m is None, f"28 Blocked {m}")
 
+    def check_rekey(self, a, key):
+        demand(a in self.roster.users, f"12 NoUser {a}")
+        demand(is_key(key), "9 BadKey")
+        named = {change[1] for _, _, change in self.history if change[0] == "rekey"}
+        demand(key not in self.roster.keys | named, "36 KeyReuse")
+
     def apply(self, a, change, form=None):
         form = self.form if form is None else form
         self.check_form(form, change)
         if change[0] == "undo":
             self.check_undo(a, change[1])
+        elif change[0] == "rekey":
+            self.check_rekey(a, change[1])
         else:
             check(self.roster, self.tree(self.history), a, form, change)
         self.history.append((a, form, change))
@@ -354,8 +369,10 @@ class Desk:
     def versions(self):
         counts = {("U", u): 0 for u in self.roster.users} | {("G", g): 0 for g in self.roster.groups}
         for n, (a, _, change) in enumerate(self.history, 1):
-            _, writes = self.cells(change[1] if change[0] == "undo" else n)
             counts["U", a] += 1
+            if change[0] == "rekey":
+                continue
+            _, writes = self.cells(change[1] if change[0] == "undo" else n)
             for g in {cell[1][0] for cell in writes if cell[0] == "pointer"}:
                 counts["G", g] += 1
         return " ".join(f"{p}{i}={count}" for (p, i), count in counts.items())
@@ -486,6 +503,8 @@ def change_of(word, rest):
     if word == "drop":
         number = int(rest[0])
         return (word, number), [], [], 1 <= number <= 1000000
+    if word == "rekey":
+        return (word, bytes.fromhex(rest[0])), [], [], True
     return ("undo", int(rest[0])), [], [], True
 
 
@@ -580,13 +599,17 @@ class Dice:
     def data(self):
         return bytes([self.random.randrange(256)] * self.pick(1, 2, 4096)).hex()
 
+    def key(self):
+        kinds = self.rarely(self.pick("0000000000000000", "0000000a00000004", "0000000500000000"), self.pick("0000000500000004", "0000000900000001"))
+        return kinds + self.pick("00", "01", "fe", "FF") * (KEY_LENGTH - 8)
+
     def any_change(self):
         f, d, x = self.file(), self.file(), self.name()
         change = self.pick(
             f"mkdir {d} {x} {f} {self.number()}", f"create {d} {x} {f}", f"write {f} {self.size()} {self.data()}",
             f"truncate {f} {self.size()}", f"link {d} {x} {f}", f"unlink {d} {x} {f}",
             f"rename {d} {x} {self.file()} {self.name()} {f}", f"take {f} {self.number()}", f"drop {self.number()}",
-            f"undo {self.number()}", "undo_last")
+            f"undo {self.number()}", "undo_last", f"rekey {self.key()}")
         return change if "G" not in change or not change.startswith("create") else change + f" {self.number()}"
 
     # ---- what fits the tree, mostly
@@ -604,7 +627,9 @@ class Dice:
         d, at = self.pick(*dirs)
         stale = [place for place in tree[0] if is_stale(tree, place)]
         kind = self.pick("new", "new", "write", "write", "truncate", "link", "unlink", "rename", "rename", "take", "take", "drop",
-                         "undo", "undo", "undo_last")
+                         "undo", "undo", "undo_last", "rekey")
+        if kind == "rekey":
+            return self.random.randrange(self.users), f"rekey {self.key()}"
         if kind == "write" and files:
             f, place = self.pick(*files)
             return place[0], f"write {text_of(f)} {self.fitting_size()} {self.data()}"
@@ -658,7 +683,7 @@ class Dice:
 
 def write_scripts(folder, count, lines):
     for seed in range(count):
-        users, form = 1 + seed % 3, NEWEST if seed // 3 % 3 else 1
+        users, form = 1 + seed % 3, 1 + seed // 3 % NEWEST
         desk = KeptDesk(users, form)
         dice = Dice(seed, desk, largest_files=seed % 20 == 13)
         script, printed = [], []

@@ -58,7 +58,8 @@ NO_COMMANDS = (
     b"0 create G0:1 a U0:2 3 4", b"0 undo 000000000000000000001", b"0 undo 18446744073709551616", b"0 undo -1", b"0 undo_last 1",
     b"0 write U0:2 0 4", b"0 write U0:2 0 4g", b"0 write U0:2 0", b"versions U0", b"0 write U0:2 0 41 42", b"ls U0", b"ls U0:2:3",
     b"ls u0:2", b"LS G0:1", b"ihandle U0:1", b"cat U0:2 0", b"0", b"\xff\xfe",
-    b"0 drop", b"0 drop U0:2", b"0 drop 1 2", b"drop 1", b"0 tidy")
+    b"0 drop", b"0 drop U0:2", b"0 drop 1 2", b"drop 1", b"0 tidy", b"0 rekey", b"0 rekey " + b"00" * 55, b"0 rekey " + b"00" * 57,
+    b"0 rekey " + b"0" * 111, b"0 rekey " + b"0" * 111 + b"g", b"0 rekey " + b"00" * 56 + b" 1", b"rekey " + b"00" * 56)
 
 MISTAKES = (
     ("hello", "an unknown command"),
@@ -75,6 +76,7 @@ MISTAKES = (
     ("ls root", "word 2 is not a file id, as U0:2 or G0:1"),
     ("ihandle 0", "word 2 is not a user or a group, as U0 or G0"),
     ("0 write U0:2 0 4", "word 5 is not bytes in hex, two digits each"),
+    ("0 rekey " + "00" * 55, "word 3 is not a public key in 112 hex digits"),
     ("0 undo 18446744073709551616", "word 3 is not a number of at most 20 digits that fits 64 bits"),
     ("a" * (LONGEST_LINE + 1), f"more than {LONGEST_LINE} bytes"))
 

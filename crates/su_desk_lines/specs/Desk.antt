@@ -3,7 +3,7 @@ use Rattle.std.specs.Prelude.{ℕ, List, [], ◌∷◌, length, map, Option, Som
 use Rattle.std.specs.Option.{option_map}
 use Rattle.su_op.specs.declared.operations.Op.TheVariants.{Create, Unlink, Write, Truncate, Take, Link, Rename, Drop}
 use Rattle.su_op.specs.declared.operations.Change.{Change}
-use Rattle.su_op.specs.declared.operations.Change.TheVariants.{Do, Undo}
+use Rattle.su_op.specs.declared.operations.Change.TheVariants.{Do, Undo, Rekey}
 use Rattle.su_desk_lines.specs.declared.ranges.Command.{Command}
 use Rattle.su_desk_lines.specs.declared.ranges.Command.TheVariants as command
 use Rattle.su_desk_lines.specs.declared.ranges.Question.{Question}
@@ -16,7 +16,7 @@ use Rattle.su_desk_lines.specs.declared.verbs.ChangeVerb.{ChangeVerb}
 use Rattle.su_desk_lines.specs.declared.verbs.ChangeVerb.TheVariants as change
 use Rattle.su_desk_lines.specs.declared.verbs.QuestionVerb.{QuestionVerb}
 use Rattle.su_desk_lines.specs.declared.verbs.QuestionVerb.TheVariants as question
-use Rattle.su_desk_lines.specs.Form.{Row, Value, Value.User, Value.Number, Value.Size, Value.Body, Value.Name, Value.File, Value.Principal, Value.Bytes, form_of, read_values}
+use Rattle.su_desk_lines.specs.Form.{Row, Value, Value.User, Value.Number, Value.Size, Value.Body, Value.Name, Value.File, Value.Principal, Value.Bytes, Value.Key, form_of, read_values}
 use Rattle.su_desk_lines.specs.Script.{has_empty_word, longest_line, read_number, words_of}
 use Rattle.su_desk_lines.specs.Value.{value_of}
 
@@ -46,6 +46,7 @@ change_said (Do (Rename r)) =
     spoken change.Rename (File r.from_ ∷ Name r.old_ ∷ File r.to_ ∷ Name r.new_ ∷ File r.file ∷ [])
 change_said (Do (Drop d)) = spoken change.Drop (Body d.body ∷ [])
 change_said (Undo n) = spoken change.Undo (Number n ∷ [])
+change_said (Rekey k) = spoken change.Rekey (Key k ∷ [])
 
 abbrev pub question_said : Question → Spoken QuestionVerb
 question_said (Listing dir) = spoken question.List (File dir ∷ [])

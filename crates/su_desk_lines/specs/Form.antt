@@ -13,7 +13,7 @@ use Rattle.su_bytes.specs.Name.{is_name}
 use Rattle.su_bytes.specs.Principal.{is_principal, is_user}
 use Rattle.su_desk_lines.specs.declared.forms.WordKind.{WordKind}
 use Rattle.su_desk_lines.specs.declared.forms.WordKind.TheVariants as kind
-use Rattle.su_desk_lines.specs.Script.{given, is_word, read_bytes, read_file, read_number, read_principal}
+use Rattle.su_desk_lines.specs.Script.{given, is_word, read_bytes, read_file, read_key, read_number, read_principal}
 
 -- ---- forms
 
@@ -43,9 +43,11 @@ pub data Value : Type 0 where
   File : FileId → Value
   Principal : AnyPrincipal → Value
   Bytes : List ℕ → Value
+  -- the bytes of a public key
+  Key : List ℕ → Value
   Text : List ℕ → Value
 
--- what a word of a kind other than hex digits says
+-- what a word of a kind other than hex digits of any length says
 abbrev pub read_plain : WordKind → List ℕ → Option Value
 read_plain kind.Number word = option_map (λ n. Value.Number n) (read_number word)
 read_plain kind.Size word = option_map (λ n. Value.Size n) (read_number word)
@@ -57,6 +59,7 @@ read_plain kind.Principal word = option_map (λ p. Value.Principal p) (read_prin
 read_plain kind.Hex word = None
 read_plain kind.Path word = Some (Value.Text word)
 read_plain kind.FileName word = Some (Value.Text word)
+read_plain kind.Key word = option_map (λ key. Value.Key key) (read_key word)
 
 -- what a word of a kind says; nothing where it is no such word
 abbrev pub read_value : WordKind → List ℕ → Option Value

@@ -4,9 +4,10 @@ use Rattle.std.specs.List.{list_any, list_all, onto_first, slice_split, position
 use Rattle.std.specs.Option.{option_and_then, option_map}
 use Rattle.std.specs.Char.{is_ascii_digit}
 use Rattle.std.specs.Result.{result_ok}
-use Rattle.hex.specs.Hex.{decode_of}
+use Rattle.hex.specs.Hex.{decode_of, decode_sized}
 use Rattle.std.specs.Str.Parse.{digits_value}
 use Rattle.std.specs.Cmp.Lexicographic.{pointwise}
+use Rattle.su_bytes.specs.declared.rosters.TheConstants.{KEY_LENGTH}
 use Rattle.su_bytes.specs.declared.file_ids.FileId.{FileId}
 use Rattle.su_bytes.specs.declared.file_ids.FileId.TheVariants.{User, Group}
 use Rattle.su_bytes.specs.declared.principals.Principal.{Principal}
@@ -70,3 +71,7 @@ read_file word =
 -- the bytes that hex digits of either case write, two digits a byte
 unfoldable pub read_bytes : List ℕ → Option (List ℕ)
 read_bytes word = result_ok (decode_of word)
+
+-- the bytes of a public key that so many hex digits write
+unfoldable pub read_key : List ℕ → Option (List ℕ)
+read_key word = result_ok (decode_sized word KEY_LENGTH)

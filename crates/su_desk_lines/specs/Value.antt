@@ -17,6 +17,7 @@ value_of (held.Name name) = Value.Name name.now
 value_of (held.File f) = Value.File (file_of f)
 value_of (held.Principal p) = Value.Principal (principal_of p)
 value_of (held.Bytes bytes) = Value.Bytes bytes.items
+value_of (held.Key key) = Value.Key key
 value_of (held.Text text) = Value.Text text.now
 
 -- of a word in its range
@@ -29,6 +30,7 @@ said_by (word.Name name) = Value.Name name
 said_by (word.File f) = Value.File f
 said_by (word.Principal p) = Value.Principal p
 said_by (word.Bytes bytes) = Value.Bytes bytes.items
+said_by (word.Key key) = Value.Key key
 said_by (word.Text text) = Value.Text text.items
 
 -- of the words that are left

@@ -4,7 +4,7 @@ ghost use Rattle.su_desk_lines.specs.Form.{form_of, row_of};
 ghost use Rattle.su_desk_lines.specs.Script.{is_word};
 
 use crate::forms::WordKind::{
-    Body, File, FileName, Hex, Name, Number, OwnBody, Path, Principal, Size,
+    Body, File, FileName, Hex, Key, Name, Number, OwnBody, Path, Principal, Size,
 };
 use std::fmt;
 
@@ -27,6 +27,8 @@ pub enum WordKind {
     Principal,
     /// Bytes in hex digits.
     Hex,
+    /// The bytes of a public key in hex digits.
+    Key,
     /// A path, of which any word may be one.
     Path,
     /// The name of a file outside, which any word may be.
@@ -69,6 +71,7 @@ impl fmt::Display for WordKind {
             File => "a file id, as U0:2 or G0:1",
             Principal => "a user or a group, as U0 or G0",
             Hex => "bytes in hex, two digits each",
+            Key => "a public key in 112 hex digits",
             Path => "a path",
             FileName => "the name of a file",
         };

@@ -1,11 +1,11 @@
 // Why a line is no command, in words for whoever wrote it. What a script does never rests on it.
 // A script has tables of the forms of its commands, and tells its mistakes by them.
 use crate::forms::WordKind::{
-    Body, File, FileName, Hex, Name, Number, OwnBody, Path, Principal, Size,
+    Body, File, FileName, Hex, Key, Name, Number, OwnBody, Path, Principal, Size,
 };
 use crate::forms::{Form, WordKind, find_form};
 use crate::lines::LONGEST_LINE;
-use crate::parse::{has_empty_word, read_file, read_number, read_principal, split_words};
+use crate::parse::{has_empty_word, read_file, read_key, read_number, read_principal, split_words};
 use crate::verbs::{OTHER_FORMS, USER_FORMS};
 use std::alloc::{AllocError, Global};
 use std::fmt;
@@ -103,6 +103,7 @@ fn is_of_kind(word: &[u8], kind: WordKind) -> bool {
         Name | Path | FileName => true,
         File => read_file(word).is_some(),
         Principal => read_principal(word).is_some(),
+        Key => read_key(word).is_some(),
         Hex => word.len() % 2 == 0 && word.iter().all(|digit| digit.is_ascii_hexdigit()),
     }
 }

@@ -5,15 +5,16 @@ ghost use Rattle.std.specs.List.{list_any, position};
 ghost use Rattle.su_desk_lines.specs.Desk.{line_said, read_row, read_user, read_words, spoken_of};
 ghost use Rattle.su_desk_lines.specs.Form.{row_of};
 ghost use Rattle.su_desk_lines.specs.Raw.{file_of, principal_of, texts};
-ghost use Rattle.su_desk_lines.specs.Script.{read_bytes, read_file, read_number, read_principal, words_of};
+ghost use Rattle.su_desk_lines.specs.Script.{read_bytes, read_file, read_key, read_number, read_principal, words_of};
 
 use crate::forms::{Form, find_form};
 use crate::lines::LONGEST_LINE;
 use crate::values::{Value, read_values};
 use crate::verbs::{OTHER_FORMS, USER_FORMS, Verb};
-use hex::FromHexError;
+use hex::{FromHex, FromHexError};
 use memchr::memchr;
 use std::alloc::{AllocError, Global};
+use su_bytes::KEY_LENGTH;
 
 /// Digits of the longest number.
 const MOST_DIGITS: usize = 20;
@@ -185,4 +186,13 @@ pub fn read_bytes(alloc: Global, word: &[u8]) -> Result<Option<Vec<u8>>, AllocEr
         Err(FromHexError::OutOfMemory) => Err(AllocError),
         Err(_) => Ok(None),
     }
+}
+
+/// Reads the bytes of a public key from their 112 hex digits, of either case. `None` where the word
+/// is no such digits.
+#[tactic(auto, unfolding(crate::specs::Script::read_key))]
+pub(crate) fn read_key(word: &[u8]) -> Option<[u8; KEY_LENGTH]>
+    ensures { result ≡ read_key word.now }
+{
+    <[u8; KEY_LENGTH] as FromHex>::from_hex(word).ok()
 }

@@ -188,6 +188,7 @@ fn take_change(verb: ChangeVerb, words: &mut Words) -> Option<Change>
             Some(Change::Do(Op::Drop(DropBody { body })))
         }
         ChangeVerb::Undo => Some(Change::Undo(words.take_number()?)),
+        ChangeVerb::Rekey => Some(Change::Rekey(words.take_key()?)),
     }
 }
 

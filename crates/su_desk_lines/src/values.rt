@@ -6,8 +6,11 @@ ghost use Rattle.su_desk_lines.specs.Raw.{texts};
 ghost use Rattle.su_desk_lines.specs.Value.{value_of};
 
 use crate::forms::WordKind;
-use crate::parse::{RawFile, RawPrincipal, read_bytes, read_file, read_number, read_principal};
+use crate::parse::{
+    RawFile, RawPrincipal, read_bytes, read_file, read_key, read_number, read_principal,
+};
 use std::alloc::{AllocError, Global};
+use su_bytes::KEY_LENGTH;
 
 /// What a word of a command says.
 #[derive(Drop)]
@@ -23,6 +26,8 @@ pub enum Value<'a> {
     File(RawFile),
     Principal(RawPrincipal),
     Bytes(Vec<u8>),
+    /// The bytes of a public key.
+    Key([u8; KEY_LENGTH]),
     /// A word as it is written.
     Text(&'a [u8]),
 }
@@ -115,6 +120,7 @@ fn read_plain<'a>(kind: WordKind, word: &'a [u8]) -> Option<Value<'a>>
         WordKind::Principal => Some(Value::Principal(read_principal(word)?)),
         WordKind::Path => Some(Value::Text(word)),
         WordKind::FileName => Some(Value::Text(word)),
+        WordKind::Key => Some(Value::Key(read_key(word)?)),
         WordKind::Hex => None,
     }
 }

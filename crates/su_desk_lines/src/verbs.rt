@@ -1,6 +1,6 @@
 // The commands of a desk script, and the words after each.
 use crate::forms::Form;
-use crate::forms::WordKind::{Body, File, Hex, Name, Number, OwnBody, Principal, Size};
+use crate::forms::WordKind::{Body, File, Hex, Key, Name, Number, OwnBody, Principal, Size};
 use crate::forms_of;
 use su_bytes::Kind;
 
@@ -27,6 +27,7 @@ pub enum ChangeVerb {
     Rename,
     Drop,
     Undo,
+    Rekey,
 }
 
 /// Which question about the tree a line is.
@@ -109,6 +110,12 @@ macro_rules! desk_rows {
                     Verb::UndoLast,
                     [],
                     "U undo_last                    undo the last operation that stands"
+                ),
+                (
+                    "rekey",
+                    Verb::Change(ChangeVerb::Rekey),
+                    [Key],
+                    "U rekey HEX                    go on with another key, in 112 hex digits"
                 )
             ]
             [
@@ -186,7 +193,7 @@ of a user has its own number. PRINCIPAL is a user as U0 or a group as G0."
 }
 
 /// The commands of a user, which stand after the user's number, and the words after each.
-pub const USER_FORMS: [Form<Verb>; 11] = desk_rows!(user_forms);
+pub const USER_FORMS: [Form<Verb>; 12] = desk_rows!(user_forms);
 
 /// The commands that are no user's, and the words after each.
 pub const OTHER_FORMS: [Form<Verb>; 7] = desk_rows!(other_forms);

@@ -1,14 +1,14 @@
 // The words of a command, each within its range, to be taken one after the other.
 ghost use Rattle.std.specs.Prelude.{◌≡◌, ◌⊎◌, ◌∷◌, [], ◌↔◌, true, false, None, Some, IfOk, IfErr, IfSome, OnOk, IsTrue, is_some, map};
 ghost use Rattle.su_bytes.specs.declared.refusals.Refusal.TheVariants.{BadName, BadNumber, NoMemory};
-ghost use Rattle.su_desk_lines.specs.Form.{is_good_name, is_good_number, value_refusal, Value.User as SaysUser, Value.Number as SaysNumber, Value.Size as SaysSize, Value.Bytes as SaysBytes, Value.Text as SaysText, Value.Body as SaysBody, Value.Name as SaysName, Value.File as SaysFile, Value.Principal as SaysPrincipal};
+ghost use Rattle.su_desk_lines.specs.Form.{is_good_name, is_good_number, value_refusal, Value.User as SaysUser, Value.Number as SaysNumber, Value.Size as SaysSize, Value.Bytes as SaysBytes, Value.Key as SaysKey, Value.Text as SaysText, Value.Body as SaysBody, Value.Name as SaysName, Value.File as SaysFile, Value.Principal as SaysPrincipal};
 ghost use Rattle.su_desk_lines.specs.Value.{left_of, said_by, value_of};
 
 use crate::ranges::{file_id, principal_id};
 use crate::values::Value;
 use std::alloc::{AllocError, Global};
 use std::collections::VecDeque;
-use su_bytes::{FileId, Inum, Name, Principal, Refusal, User};
+use su_bytes::{FileId, Inum, KEY_LENGTH, Name, Principal, Refusal, User};
 
 /// What a word of a command says, which is within its range.
 #[derive(Drop)]
@@ -21,6 +21,7 @@ pub enum Word {
     File(FileId),
     Principal(Principal),
     Bytes(Vec<u8>),
+    Key([u8; KEY_LENGTH]),
     Text(Vec<u8>),
 }
 
@@ -86,6 +87,7 @@ fn check_value(alloc: Global, value: Value<'_>) -> Result<Option<Word>, Refusal>
             Err(_) => Ok(None),
         },
         Value::Bytes(bytes) => Ok(Some(Word::Bytes(bytes))),
+        Value::Key(key) => Ok(Some(Word::Key(key))),
         Value::Text(text) => Ok(Some(Word::Text(Vec::from_slice(alloc, text)?))),
     }
 }
@@ -135,6 +137,16 @@ impl Words {
     {
         match self.left.pop_front()? {
             Word::Bytes(bytes) => Some(bytes),
+            _ => None,
+        }
+    }
+
+    /// Takes a public key. `None` where another word comes next, or none.
+    pub fn take_key(&mut self) -> Option<[u8; KEY_LENGTH]>
+        ensures { IfSome result (λ key. left_of self.old ≡ SaysKey key ∷ left_of self.new) }
+    {
+        match self.left.pop_front()? {
+            Word::Key(key) => Some(key),
             _ => None,
         }
     }
