@@ -1,5 +1,5 @@
 -- Private keys, and the public keys and signatures that they make (RFC 8554, Sections 5.2 to 5.4 and Appendix A).
-use Rattle.std.specs.Prelude.{ℕ, ◌≡◌, ◌+◌, ◌-◌, ◌/◌, ◌^◌, List, [], ◌∷◌, ◌++◌, length}
+use Rattle.std.specs.Prelude.{ℕ, ◌≡◌, ◌+◌, ◌-◌, ◌/◌, ◌^◌, min, List, [], ◌∷◌, ◌++◌, length}
 use Rattle.sha2.specs.Sha256.{sha256}
 use Rattle.su_lms.specs.ParameterSets.{CanBeMade, chain_count, height_of}
 use Rattle.su_lms.specs.Strings.{u32str, joined}
@@ -22,6 +22,11 @@ pub record IsPrivateKey (key : PrivateKey) : Type 0 where
 -- how many leaves the key has (Section 5.3)
 abbrev pub leaf_count : PrivateKey → ℕ
 leaf_count key = 2 ^ height_of key.lms
+
+-- of so many leaves, how many are the last few: an eighth, and no more than 64. With these in sight a
+-- user is told, or goes on to the next key. (This project's own.)
+abbrev pub few_of : ℕ → ℕ
+few_of count = min 64 (count / 8)
 
 -- T[r] of the leaf with the node number r (Section 5.3)
 abbrev pub leaf_at : PrivateKey → ℕ → List ℕ

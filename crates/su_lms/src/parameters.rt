@@ -1,6 +1,7 @@
 // The parameter sets, by their type numbers.
 ghost use Rattle.std.specs.Prelude.{◌≡◌, ◌≤◌, ◌↔◌, ◌^◌, ◌-◌, ◌+◌, ◌*◌, IfOk, IsOk, IfErr};
 ghost use Rattle.su_lms.specs.ParameterSets.{IsOneTimeType, IsTreeType, width_of, chain_count, checksum_shift, height_of, CanBeMade};
+ghost use Rattle.su_lms.specs.PrivateKey.{few_of};
 ghost use Rattle.su_bytes.specs.declared.refusals.Refusal.TheVariants.{BadKey};
 
 use su_bytes::Refusal;
@@ -28,6 +29,20 @@ impl Params {
         } else {
             Err(Refusal::BadKey)
         }
+    }
+
+    /// How many leaves the tree has: 32 or 1,024.
+    pub fn leaf_count(self) -> u32
+        ensures { result ≡ 2 ^ height_of self.lms }
+    {
+        leaf_count(self.lms)
+    }
+
+    /// How many of its leaves are the last few: 4 of 32, 64 of 1,024.
+    pub fn last_few(self) -> u32
+        ensures { result ≡ few_of (2 ^ height_of self.lms) }
+    {
+        (self.leaf_count() / 8).min(64)
     }
 }
 
