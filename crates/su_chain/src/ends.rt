@@ -1,35 +1,69 @@
 // The end of a chain of commits.
-ghost use Rattle.std.specs.Prelude.{◌≡◌, ◌≤◌, ◌<◌, ◌+◌, ◌-◌, ◌^◌, ◌⊎◌, ◌↔◌, ◌++◌, ◌∷◌, ℕ, List, [], None, length, IsTrue, IfOk, IfErr, IfSome, OnOk};
+ghost use Rattle.std.specs.Prelude.{◌≡◌, ◌≢◌, ◌≤◌, ◌<◌, ◌+◌, ◌-◌, ◌^◌, ◌⊎◌, ◌↔◌, ◌++◌, ◌∷◌, ℕ, List, [], None, true, length, option_to_list, IsTrue, IfOk, IfErr, IfSome, OnOk};
 ghost use Rattle.su_bytes.specs.Membership.{Membership};
 ghost use Rattle.su_bytes.specs.Order.{RefusedBy};
+ghost use Rattle.su_bytes.specs.Principal.{is_user};
 ghost use Rattle.su_bytes.specs.RosterBytes.{user_key};
 ghost use Rattle.su_bytes.specs.declared.refusals.Refusal.TheVariants.{BadKey, NoMemory};
-ghost use Rattle.su_lms.specs.Signature.{IsPublicKey};
+ghost use Rattle.su_lms.specs.Signature.{IsPublicKey, leaf_of};
+ghost use Rattle.su_used_keys.specs.UsedKeys.{HasJust, HasRoom};
 ghost use Rattle.su_vector.specs.Vector.{zeros};
 ghost use Rattle.su_version.specs.Commit.{Commit as CommitParts, commit_digest};
-ghost use Rattle.su_version.specs.Chain.{IsSignedBy, MayBeNext, next_order, tip};
-ghost use Rattle.su_chain.specs.ChainEnd.{user_at, tip_at, AreKeysOf, IsEndOf, HasBadKey};
+ghost use Rattle.su_version.specs.Chain.{IsSignedBy, IsGoodKey, MayBeNext, chain_key, key_after, leaf_after, next_order, tip};
+ghost use Rattle.su_version.specs.Tip.{tip_with};
+ghost use Rattle.su_chain.specs.ChainEnd.{user_at, tip_at, HasAllUsers, IsEndOf, HasBadKey};
 
-use std::alloc::Global;
-use su_bytes::{Digest, FileId, Format, Refusal, Roster, User};
+use std::alloc::{AllocError, Global};
+use su_bytes::{Digest, FileId, Format, KEY_LENGTH, Refusal, Roster, User};
 use su_lms::PublicKey;
+use su_used_keys::UsedKeys;
 use su_vector::Vector;
 use su_version::{Commit, Tip, Verdict};
 
 /// How many users there can be.
 const USERS: usize = 64;
 
-/// What is known of a user: the key, if there is such a user, and the leaf that signed last.
+/// What is known of a user: the key, if there is such a user, and the leaf that signed last under
+/// it.
 #[derive(Clone, Copy, Debug)]
 struct UserKey {
     key: Option<PublicKey>,
     leaf: Option<u32>,
 }
 
+impl UserKey {
+    /// What is known of the user behind a commit of the user's: the next key, if it names one, of
+    /// which no leaf has signed; else the leaf by which it is signed. It takes no memory.
+    fn after(self, commit: &Commit) -> UserKey
+        requires user { self.key ≢ None }
+        requires good { IsGoodKey commit.now.version.next_key }
+        requires leaf { 4 ≤ length commit.now.signature }
+        ensures key { result.key ≡ key_after self.key commit.now.version.next_key }
+        ensures leaf { result.leaf
+            ≡ leaf_after commit.now.version.next_key (leaf_of commit.now.signature) }
+    {
+        match commit.version().next_key() {
+            None => UserKey {
+                key: self.key,
+                leaf: Some(commit.leaf()),
+            },
+            Some(next) => {
+                let Ok(key) = PublicKey::parse(&next) else {
+                    unreachable!()
+                };
+                UserKey {
+                    key: Some(key),
+                    leaf: None,
+                }
+            }
+        }
+    }
+}
+
 /// What a chain of commits comes to, so that the next one can be checked without those before it:
 /// their number, the digest of the last one (at first that of the roster), its format (at first the
-/// oldest), its vector (at first zeros), and of each user the key and the last leaf. It takes 64
-/// times 64 bytes and the vector.
+/// oldest), its vector (at first zeros), of each user the key and the last leaf, and the keys that
+/// users have or had. It takes 64 times 64 bytes, the vector, and 56 bytes for each of these keys.
 #[derive(Drop)]
 pub struct ChainEnd {
     users: Vec<UserKey>,
@@ -37,6 +71,7 @@ pub struct ChainEnd {
     head: Digest,
     format: Format,
     vector: Vector,
+    used: UsedKeys,
 }
 
 impl ChainEnd {
@@ -50,12 +85,14 @@ impl ChainEnd {
     {
         let users = keys_of(alloc, roster)?;
         let vector = zeros(alloc, roster)?;
+        let used = UsedKeys::of_roster(alloc, roster)?;
         Ok(ChainEnd {
             users,
             number: 0,
             head: roster.digest(),
             format: Format::V1,
             vector,
+            used,
         })
     }
 
@@ -74,21 +111,24 @@ impl ChainEnd {
         self.head
     }
 
-    /// Returns the key of a user of that roster, if there is such a user.
-    pub fn key(&self, _roster: &Roster, user: User) -> Option<PublicKey>
-        requires { AreKeysOf _roster.now self.now.users.items }
-        ensures { result ≡ user_key _roster.now user }
+    /// Returns the key under which a user signs next, if there is such a user.
+    pub fn key(&self, user: User) -> Option<PublicKey>
+        requires { HasAllUsers self.now }
+        ensures { (ro : Membership) (cs : List CommitParts) → IsEndOf ro cs self.now
+            → result ≡ chain_key ro user cs }
     {
         self.users[usize::from(user.number())].key
     }
 
     /// Checks whether a commit may come next. `BadSignature` where its author is no user of the
-    /// roster or didn't sign it; `WrongPrev` with the number of commits where it names another one
-    /// before it; `OldFormat` where its format is older than that one's; `WrongVector` where it
-    /// carries a group that isn't in the roster, or its vector isn't the next; `KeyReuse` where its
-    /// leaf isn't above the author's last; `NoMemory`. It makes one check of a signature.
+    /// roster or didn't sign it under the present key; `WrongPrev` with the number of commits where
+    /// it names another one before it; `OldFormat` where its format is older than that one's;
+    /// `WrongVector` where it carries a group that isn't in the roster, or its vector isn't the next;
+    /// `KeyReuse` where its leaf isn't above the author's last under that key, or a user has or had
+    /// the next key that it names; `BadKey` where that is no key; `NoMemory`. It makes one check of a
+    /// signature.
     pub fn check(&self, alloc: Global, roster: &Roster, commit: &Commit) -> Result<(), Refusal>
-        requires { AreKeysOf roster.now self.now.users.items }
+        requires { HasAllUsers self.now }
         ensures next { OnOk result ((cs : List CommitParts) → IsEndOf roster.now cs self.now
             → MayBeNext roster.now cs commit.now) }
         ensures refused { IfErr result (λ e. (e ≡ NoMemory)
@@ -109,7 +149,7 @@ impl ChainEnd {
         verdict: Verdict,
         commit: &Commit,
     ) -> Result<(), Refusal>
-        requires keys { AreKeysOf roster.now self.now.users.items }
+        requires users { HasAllUsers self.now }
         requires known { IsTrue verdict.is_signed ↔ IsSignedBy verdict.key commit.now }
         ensures next { OnOk result ((cs : List CommitParts) → IsEndOf roster.now cs self.now
             → MayBeNext roster.now cs commit.now) }
@@ -124,11 +164,13 @@ impl ChainEnd {
 
     /// What the next commit of that user is measured by.
     fn tip(&self, user: User) -> Tip<'_>
-        requires { length self.now.users.items ≡ USERS }
-        ensures { result ≡ tip_at self.now user }
+        requires { HasAllUsers self.now }
+        ensures tip { (used : List (List ℕ))
+            → tip_with result used ≡ tip_at self.now user used }
+        ensures used { result.used.now ≡ self.now.used }
     {
         let user = self.users[usize::from(user.number())];
-        let vector = &self.vector;
+        let (vector, used) = (&self.vector, &self.used);
         Tip::new(
             self.number,
             self.head,
@@ -136,12 +178,23 @@ impl ChainEnd {
             vector,
             user.key,
             user.leaf,
+            used,
         )
+    }
+
+    /// Makes room for a next key, so that a commit which names one can be added.
+    pub fn reserve(&mut self) -> Result<(), AllocError>
+        ensures kept { (ro : Membership) (cs : List CommitParts) → IsEndOf ro cs self.old
+            → IsEndOf ro cs self.new }
+        ensures room { OnOk result (HasRoom self.new.used) }
+    {
+        self.used.reserve()
     }
 
     /// Adds a commit that may come next, by its digest. It takes no memory.
     pub fn push(&mut self, roster: &Roster, commit: &Commit, digest: Digest)
         requires room { self.old.number < 2 ^ 64 - 1 }
+        requires key_room { HasRoom self.old.used }
         requires digest { digest ≡ commit_digest commit.now }
         requires next { (cs : List CommitParts) × IsEndOf roster.now cs self.old
             × MayBeNext roster.now cs commit.now }
@@ -150,7 +203,9 @@ impl ChainEnd {
             → IsEndOf roster.now (cs ++ commit.now ∷ []) self.new }
     {
         let version = commit.version();
-        self.users[usize::from(version.author().number())].leaf = Some(commit.leaf());
+        let author = usize::from(version.author().number());
+        self.users[author] = self.users[author].after(commit);
+        add_key(&mut self.used, version.next_key());
         self.number += 1;
         self.head = digest;
         self.format = version.format();
@@ -158,25 +213,22 @@ impl ChainEnd {
     }
 }
 
-/// Checks whether a commit is signed under its author's key in the roster, if there is such a user.
-/// `BadKey` where that key is none; else only `NoMemory`. It makes one check of a signature.
-pub fn verdict(alloc: Global, roster: &Roster, commit: &Commit) -> Result<Verdict, Refusal>
-    ensures key { IfOk result (λ verdict.
-        verdict.key ≡ user_key roster.now commit.now.version.author) }
-    ensures value { IfOk result (λ verdict.
-        IsTrue verdict.is_signed ↔ IsSignedBy verdict.key commit.now) }
-    ensures refused { IfErr result (λ e.
-        ((e ≡ BadKey) × HasBadKey roster.now) ⊎ (e ≡ NoMemory)) }
+/// Adds a next key, if there is one, to those that users have or had. It takes no memory.
+fn add_key(used: &mut UsedKeys, next: Option<[u8; KEY_LENGTH]>)
+    requires { HasRoom used.old }
+    ensures { (keys : List (List ℕ)) → HasJust keys used.old
+        → HasJust (keys ++ option_to_list next) used.new }
 {
-    // names the type for the prover (docs/ARCHITECTURE.md, "Forms the kit wants")
-    let _file: Option<FileId> = None;
-    let key = key_of(roster, commit.version().author())?;
-    Verdict::of(alloc, key, commit)
+    if let Some(key) = next {
+        used.add(key);
+    }
 }
 
 /// Reads the key of each user of the roster. `BadKey` where one is none; else only `NoMemory`.
 fn keys_of(alloc: Global, roster: &Roster) -> Result<Vec<UserKey>, Refusal>
-    ensures keys { IfOk result (λ users. AreKeysOf roster.now users.items) }
+    ensures long { IfOk result (λ users. length users.items ≡ USERS) }
+    ensures keys { IfOk result (λ users. (u : ℕ) → is_user u ≡ true
+        → (user_at users.items u).key ≡ user_key roster.now u) }
     ensures leaves { IfOk result (λ users. (u : ℕ)
         → (user_at users.items u).leaf ≡ None) }
     ensures good { OnOk result (¬ HasBadKey roster.now) }

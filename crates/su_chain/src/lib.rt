@@ -3,4 +3,4 @@
 
 mod ends;
 
-pub use ends::{ChainEnd, verdict};
+pub use ends::ChainEnd;
