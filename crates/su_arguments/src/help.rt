@@ -34,6 +34,7 @@ example `U0=2 U1=0 G0=0 G1=0`, mark nothing, and same `same`, `differs` or
 Refusals:
    2 BadName            a name is 1 to 255 bytes, with no /, and not . or ..
    3 BadNumber          a number is out of its range
+   9 BadKey             it is no public key
   12 NoUser U           there is no user U
   13 NotMember G        the user is not in group G
   14 NoFile FILE        there is no such file
@@ -48,27 +49,28 @@ Refusals:
   22 TooBig             a file has at most 16,777,216 bytes
   23 TooManyLinks       a file has at most 255 names
   24 NoOperation N      there is no entry N
-  25 NotOperation N     entry N is an undo
+  25 NotOperation N     entry N is an undo, or names a key
   26 AlreadyUndone N M  entry N was undone by entry M
   27 NotAuthor U        the entry is user U's, who alone can undo it
   28 Blocked N          operation N rests on it: undo that one first
   30 NoMemory           memory was refused
+  36 KeyReuse           a user has or had this key
   44 OldFormat          the format has no such change
-In format 1 files have at most 1,048,576 bytes, and nothing is dropped.";
+In format 1 files have at most 1,048,576 bytes, and nothing is dropped; in
+formats 1 and 2 no key is named.";
 
 pub const KEYGEN_ABOUT: &str = "Makes a key, and prints its public key in hex
 
-The 48 bytes of entropy are the key: who reads them can sign with it, and a
-second key that is made of them signs with leaves that the first one used. So
-let them stand in no file. In bash and zsh
+    sundr keygen --out key --height 10 --width 8
 
-    sundr keygen --entropy <(head -c 48 /dev/urandom) --out key \\
-        --height 10 --width 8
+makes a key of 48 random bytes of the system. The key goes to the file `key`,
+for its owner alone, and the public key to `key.pub`. Entropy of your own is
+given by --entropy: who reads it can sign with the key, and a second key that is
+made of it signs with leaves that the first one used.
 
-leaves none. The key goes to the file `key`, for its owner alone, and the public
-key to `key.pub`. Plain files that stood there are replaced, a pair by a pair,
-but for a key that has signed: it stays, as `key.old` beside `key.pub.old`, and
-where these are there already nothing is done. Anything else is left as it is.";
+Plain files that stood there are replaced, a pair by a pair, but for a key that
+has signed: it stays, as `key.old` beside `key.pub.old`, and where these are
+there already nothing is done. Anything else is left as it is.";
 
 pub const AUDIT_ABOUT: &str = "Audits a log of commits, as a client's view of user 0 takes them
 
@@ -93,15 +95,18 @@ Refusals:
                         or goes past its end, or of the commit the place of what
                         is wrong
    5 MissingBlock       the item of its change did not come yet
+   9 BadKey             the next key that it names is no public key
   22 TooBig             an item has 1 to 70,000 bytes
   30 NoMemory           memory was refused
   33 BadSignature       its author did not sign it
   34 WrongPrev N        it does not follow commit N, the one before
   35 WrongVector        its version numbers are not those that come next
-  36 KeyReuse           its author's key signed with this leaf, or a later one
+  36 KeyReuse           its author's key signed with this leaf, or a later one;
+                        or a user has or had the next key that it names
   38 WrongHandle P      it holds another i-handle of P than the tree has then
   39 Change NUMBER ..   its change is refused so, or its item spells none
-  44 OldFormat          its format is older than that of the one before";
+  44 OldFormat          its format is older than that of the one before
+  45 WrongKey           it names another next key than its change does";
 
 pub const SERVE_ABOUT: &str = "Serves a shared folder to the users with these public keys
 
@@ -168,9 +173,14 @@ of the users 0, 1 and so on; group 0 has all of them, group 1 has user 0. So
 
     sundr client --port 7000 --user 1 --key 1 0.pub 1.pub
 
-works as user 1, with the key that `sundr keygen --out 1` made. One process at a
-time can use a key. The server is on this machine, or is reached through a
-tunnel, such as ssh makes with `-L 7000:localhost:7000`.
+works as user 1, with the key that `sundr keygen --out 1` made. The server is on
+this machine, or is reached through a tunnel, such as ssh makes with
+`-L 7000:localhost:7000`.
+
+One process at a time can use a key, which signs 32 or 1,024 times: near its end
+standard error tells so. `rekey FILE` goes on to another key. With --next-key the
+client makes the next one by itself, as often as need be, and finds it when it
+is started again with the first one.
 
 A script has a command a line. Each is answered before the next line is read. A
 run knows no commits but those of its `--log`: without one any list that follows
@@ -197,7 +207,9 @@ Refusals:
    6 WrongBlock         the server gave another item than it was asked for
    7 SourceFailed       the link failed where an item was asked for
    8 KeySpent           each leaf of the key has signed
-  10 KeyFileFault       the key file could not be written
+   9 BadKey             the file is no key file, or a commit names a next key
+                        that is no public key
+  10 KeyFileFault       the key file could not be read or written
   11 NotOrdered I J     of the users' last commits that the server shows none of
                         these two comes after the other
   13 NotMember G        the user is not in group G
@@ -214,18 +226,20 @@ Refusals:
   31 Busy S             the client at seat S kept the turn; 65535: no worker of
                         the server is free
   33 BadSignature       a commit is not signed by its author, or the key is not
-                        that of the user
+                        that which the user has now
   34 WrongPrev N        a commit does not follow commit N, the last one
   35 WrongVector        its version numbers are not those that come next
-  36 KeyReuse           its author's key signed with this leaf, or a later one
+  36 KeyReuse           its author's key signed with this leaf, or a later one;
+                        or a user has or had the next key that it names
   37 BookFull           the server keeps no more commits
   38 WrongHandle P      it holds another i-handle of P than the tree has then
   39 Change NUMBER ..   a change is refused so, an undo for example by one of
          24 NoOperation N      there is no commit N
-         25 NotOperation N     commit N is an undo
+         25 NotOperation N     commit N is an undo, or names a key
          26 AlreadyUndone N M  commit N was undone by commit M
          27 NotAuthor U        the commit is user U's, who alone can undo it
          28 Blocked N          commit N rests on it: undo that one first
   40 OwnMissing         the server hides the user's own last commit
   43 LinkFailed         the link to the server failed
-  44 OldFormat          a commit's format is older than that of the one before";
+  44 OldFormat          a commit's format is older than that of the one before
+  45 WrongKey           a commit names another next key than its change does";

@@ -11,7 +11,7 @@ use crate::help::{
     ABOUT, AUDIT_ABOUT, AUDIT_ANSWERS, CLIENT_ANSWERS, DESK_ABOUT, DESK_ANSWERS, KEYGEN_ABOUT,
     LONG_VERSION,
 };
-use crate::options::{keys_of, needed, needed_keys, option, usage};
+use crate::options::{copy, keys_of, needed, needed_keys, option, usage};
 use crate::serving::{
     ClientArgs, ServeArgs, backup_command, backup_of, client_command, client_of, serve_command,
     serve_of,
@@ -30,9 +30,10 @@ pub enum Line {
         users: u8,
         format: Format,
     },
-    /// Makes a key of the entropy in a file, and keeps it in another.
+    /// Makes a key of the entropy in a file, or of the system's where there is none, and keeps it in
+    /// another file.
     Keygen {
-        entropy: String,
+        entropy: Option<String>,
         out: String,
         params: Params,
     },
@@ -135,8 +136,8 @@ fn desk_command<'a>(alloc: Global, help: &'a str) -> Result<Command<'a>, AllocEr
     let users = option(alloc, "users", "N", help_of_users)
         .value_parser(clap::value_parser!(u8).range(1..65))
         .default_value("2");
-    let help_of_format = "Of the changes: 2 has all of them";
-    let format = option(alloc, "format", "1|2", help_of_format).default_value("2");
+    let help_of_format = "Of the changes: 3 has all of them";
+    let format = option(alloc, "format", "1|2|3", help_of_format).default_value("3");
     let command = Command::new(alloc, "desk")
         .about("Runs a script from standard input")
         .long_about(DESK_ABOUT)
@@ -151,11 +152,12 @@ fn keygen_command<'a>(alloc: Global) -> Result<Command<'a>, AllocError> {
     let command = Command::new(alloc, "keygen")
         .about("Makes a key, and prints its public key in hex")
         .long_about(KEYGEN_ABOUT);
+    let entropy = "48 random bytes, read once; else the system's are taken";
     let out = "The key file; FILE.pub gets the public key";
     let height = "Of the tree: a key signs 32 or 1,024 times";
     let width = "Of a coefficient: 8 bits sign shorter and slower";
     Draft::of(command)
-        .arg(needed(alloc, "entropy", "FILE", "48 random bytes, read once"))
+        .arg(option(alloc, "entropy", "FILE", entropy))
         .arg(needed(alloc, "out", "FILE", out))
         .arg(one_of(needed(alloc, "height", "5|10", height), HEIGHTS.as_slice()))
         .arg(one_of(needed(alloc, "width", "4|8", width), WIDTHS.as_slice()))
@@ -178,7 +180,7 @@ fn audit_command<'a>(alloc: Global) -> Result<Command<'a>, AllocError> {
         .finish()
 }
 
-const FORMATS: [&str; 2] = ["1", "2"];
+const FORMATS: [&str; 3] = ["1", "2", "3"];
 
 const HEIGHTS: [&str; 2] = ["5", "10"];
 
@@ -198,7 +200,7 @@ fn shown(alloc: Global, error: &clap::Error) -> Result<Line, LineFault>
     }
 }
 
-/// `desk [--users N] [--format 1|2]`
+/// `desk [--users N] [--format 1|2|3]`
 fn desk(alloc: Global, values: &ArgMatches<'_>) -> Result<Line, LineFault>
     ensures { IfOk result HasGoodNumbers }
 {
@@ -207,7 +209,7 @@ fn desk(alloc: Global, values: &ArgMatches<'_>) -> Result<Line, LineFault>
         (Some(users), Some(format)) if (1..=64).contains(&users) => {
             Ok(Line::Desk { users, format })
         }
-        (_, None) => Err(usage(alloc, "error: the format is 1 or 2")),
+        (_, None) => Err(usage(alloc, "error: the format is 1, 2 or 3")),
         _ => Err(usage(alloc, "error: the number of users is 1 to 64")),
     }
 }
@@ -220,16 +222,16 @@ fn format_of(number: &str) -> Option<Format>
     match number {
         "1" => Some(Format::V1),
         "2" => Some(Format::V2),
+        "3" => Some(Format::V3),
         _ => None,
     }
 }
 
-/// `keygen --entropy FILE --out FILE --height 5|10 --width 4|8`
+/// `keygen [--entropy FILE] --out FILE --height 5|10 --width 4|8`
 fn keygen(alloc: Global, values: &ArgMatches<'_>) -> Result<Line, LineFault>
     ensures { IfOk result HasGoodNumbers }
 {
-    let (Some(entropy), Some(out), Some(height), Some(width)) = (
-        values.get_str("entropy"),
+    let (Some(out), Some(height), Some(width)) = (
         values.get_str("out"),
         values.get_str("height"),
         values.get_str("width"),
@@ -240,7 +242,7 @@ fn keygen(alloc: Global, values: &ArgMatches<'_>) -> Result<Line, LineFault>
         return Err(usage(alloc, "error: the height is 5 or 10, the width 4 or 8"));
     };
     Ok(Line::Keygen {
-        entropy: String::from_str(alloc, entropy)?,
+        entropy: copy(alloc, values.get_str("entropy"))?,
         out: String::from_str(alloc, out)?,
         params,
     })

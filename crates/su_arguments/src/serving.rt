@@ -37,7 +37,8 @@ pub struct ServeArgs {
 /// A client of a user, 0 to 63, with the key in a file, at the server on a port, 1 to 65535, of users
 /// with the public keys in these files, 1 to 64 of them. The commits of a log are taken first. So often,
 /// 1 to 1,000,000 times, a turn that another has is asked for. One write of the key file serves so many
-/// signatures, 1 to 16. The script ends at the first refusal, or goes on.
+/// signatures, 1 to 16. Near the end of a key the client makes the next one, in a file whose name begins
+/// so, if that is given. The script ends at the first refusal, or goes on.
 #[derive(Debug, Drop)]
 pub struct ClientArgs {
     pub port: u16,
@@ -46,6 +47,7 @@ pub struct ClientArgs {
     pub log: Option<String>,
     pub tries: u32,
     pub leaves_ahead: u32,
+    pub next_key: Option<String>,
     pub stop: bool,
     pub keys: Vec<String>,
 }
@@ -130,6 +132,7 @@ pub(crate) fn client_command<'a>(alloc: Global, help: &'a str) -> Result<Command
         .long_about(CLIENT_ABOUT)
         .after_help(help);
     let log = "A saved log, whose commits are taken first";
+    let next_key = "Near a key's end the next one is made, in a file PREFIX-..";
     let stop = "It ends at the first command that is refused, with status 1";
     Draft::of(command)
         .arg(needed_port(alloc, SERVER_PORT))
@@ -138,6 +141,7 @@ pub(crate) fn client_command<'a>(alloc: Global, help: &'a str) -> Result<Command
         .arg(option(alloc, "log", "FILE", log))
         .arg(tries(alloc))
         .arg(leaves_ahead(alloc))
+        .arg(option(alloc, "next-key", "PREFIX", next_key))
         .arg(flag(alloc, "stop", stop))
         .arg(needed_keys(alloc))
         .finish()
@@ -237,7 +241,8 @@ pub(crate) fn backup_of(alloc: Global, values: &ArgMatches<'_>) -> Result<Line, 
     })
 }
 
-/// `client --port P --user U --key FILE [--log FILE] [--tries T] [--leaves-ahead N] [--stop] PUB..`
+/// `client --port P --user U --key FILE [--log FILE] [--tries T] [--leaves-ahead N]
+/// [--next-key PREFIX] [--stop] PUB..`
 pub(crate) fn client_of(alloc: Global, values: &ArgMatches<'_>) -> Result<Line, LineFault>
     ensures { IfOk result HasGoodNumbers }
 {
@@ -261,6 +266,7 @@ pub(crate) fn client_of(alloc: Global, values: &ArgMatches<'_>) -> Result<Line, 
         log: copy(alloc, values.get_str("log"))?,
         tries,
         leaves_ahead,
+        next_key: copy(alloc, values.get_str("next-key"))?,
         stop: values.get_flag("stop"),
         keys,
     }))

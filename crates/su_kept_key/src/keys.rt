@@ -23,7 +23,7 @@ use std::io::{ErrorKind, Read};
 use std::marker::Model;
 use std::thread::Threads;
 use su_bytes::Refusal;
-use su_lms::{KeyFile, KeyStore, Params, Signer};
+use su_lms::{KeyFile, KeyStore, Signer};
 
 /// What a key file is to say, and the bytes that are written.
 struct NextFile {
@@ -72,7 +72,7 @@ impl<'a> Model for KeptKey<'a> {
 
 impl<'a> KeptKey<'a> {
     /// Opens the key file at a path, and locks the key. One write of the file is to serve `ahead`
-    /// signatures, and one where that is 0. Faults in order: `NoName`; `Unread` where nothing stands
+    /// signatures, and one where that is 0, or where the last few leaves sign. Faults in order: `NoName`; `Unread` where nothing stands
     /// there; `InTheWay`; `ManyNames`; `Lock`, as `lock_key` answers; `Unread`; `NoKey`; `Folder`.
     /// `NoMemory` can come at any time. Beside the file `PATH.lock` is made and stays.
     pub fn open(rt: &'a HostRuntime, path: &str, ahead: u32) -> Result<KeptKey<'a>, KeptKeyFault>
@@ -181,7 +181,8 @@ impl<'a> KeptKey<'a> {
         ensures untouched { IfOk result (λ stored. q ≤ self.now.stored
             → stored ≡ self.now.stored) }
     {
-        let leaves = leaf_count(self.file.params);
+        let params = self.file.params;
+        let leaves = params.leaf_count();
         if self.is_put_back.get() || q <= self.file.next || leaves < q {
             return Err(io::Error::new(ErrorKind::InvalidInput, "no later leaf of the key"));
         }
@@ -189,7 +190,8 @@ impl<'a> KeptKey<'a> {
             return Ok(self.stored);
         }
         let last = q.saturating_add(self.ahead - 1);
-        let file = self.write(last.min(leaves))?;
+        let most = q.max(leaves - params.last_few());
+        let file = self.write(last.min(most))?;
         Ok(file.next)
     }
 
@@ -218,7 +220,7 @@ impl<'a> KeptKey<'a> {
             seed,
             ..
         } = self.file;
-        if leaf_count(params) < leaf {
+        if params.leaf_count() < leaf {
             return Err(io::Error::new(ErrorKind::InvalidInput, "no leaf of the key"));
         }
         let file = KeyFile {
@@ -261,16 +263,6 @@ impl<'a> KeyStore for KeptKey<'a> {
 
     fn failures(&self) -> u64 {
         self.failures
-    }
-}
-
-/// Returns how many leaves the tree of a key has.
-fn leaf_count(params: Params) -> u32
-    ensures { result ≡ 2 ^ height_of params.lms }
-{
-    match params.lms {
-        5 => 32,
-        _ => 1_024,
     }
 }
 
