@@ -4,7 +4,7 @@ use Rattle.std.specs.Option.{option_or}
 use Rattle.su_bytes.specs.Format.{is_as_new}
 use Rattle.su_bytes.specs.Membership.{Membership}
 use Rattle.su_bytes.specs.declared.formats.Format.{Format}
-use Rattle.su_bytes.specs.declared.formats.Format.TheVariants.{V1, V2}
+use Rattle.su_bytes.specs.declared.formats.Format.TheVariants.{V1, V2, V3}
 use Rattle.su_bytes.specs.declared.formats.TheConstants.{NEWEST_FORMAT}
 use Rattle.su_bytes.specs.declared.refusals.Refusal.{Refusal}
 use Rattle.su_bytes.specs.declared.refusals.Refusal.TheVariants.{OldFormat}
@@ -28,10 +28,12 @@ format_further h e = last_format-append V1 h e
 as_new_itself : (f : Format) → is_as_new f f ≡ true
 as_new_itself V1 = refl
 as_new_itself V2 = refl
+as_new_itself V3 = refl
 
 as_new_as_oldest : (f : Format) → is_as_new f V1 ≡ true
 as_new_as_oldest V1 = refl
 as_new_as_oldest V2 = refl
+as_new_as_oldest V3 = refl
 
 -- ---- formats that fit
 

@@ -6,6 +6,7 @@ pub mod WhereApplied
 pub mod Blockers
 pub mod StandingFiles
 pub mod Replays
+pub mod NamedKeys
 pub mod GoodHistories
 pub mod KeptOperations
 pub mod KeptIndexes

@@ -9,7 +9,7 @@ use Rattle.su_bytes.specs.declared.refusals.Refusal.{Refusal}
 use Rattle.su_bytes.specs.declared.refusals.Refusal.TheVariants.{NoUser, NoOperation, NotOperation, AlreadyUndone, Blocked}
 use Rattle.su_op.specs.Action.{Action}
 use Rattle.su_op.specs.declared.operations.Change.{Change}
-use Rattle.su_op.specs.declared.operations.Change.TheVariants.{Do, Undo}
+use Rattle.su_op.specs.declared.operations.Change.TheVariants.{Do, Undo, Rekey}
 use Rattle.su_desk.specs.declared.entries.Entry.{Entry}
 use Rattle.su_desk.specs.History.{NumberedAction, entry_doing, action_of, operation_of, operations_from, undoes, is_undone, live, entry_at, undoer_from, undoer}
 use Rattle.su_desk.specs.Blocker.{blocker}
@@ -48,6 +48,7 @@ is_live h n e = go (entry_at h n) refl e
 
     change : (x : Entry) (c : Change) → entry_at h n ≡ Some (record x { change = c }) → change_refusal h n c ≡ None → IsLive h n
     change x (Undo m) is e = absurd (let bad : Some (NotOperation n) ≡ None = e in cc)
+    change x (Rekey k) is e = absurd (let bad : Some (NotOperation n) ≡ None = e in cc)
     change x (Do op) is e = record { action = action_of x op; entry = is; free = free (undoer h n) e }
 
     go : (o : Option Entry) → entry_at h n ≡ o → entry_refusal h n o ≡ None → IsLive h n

@@ -9,9 +9,9 @@ use Rattle.std.proofs.Math.Bool.{or-false}
 use Rattle.su_bytes.specs.declared.formats.Format.{Format}
 use Rattle.su_op.specs.Action.{Action}
 use Rattle.su_op.specs.declared.operations.Change.{Change}
-use Rattle.su_op.specs.declared.operations.Change.TheVariants.{Do, Undo}
+use Rattle.su_op.specs.declared.operations.Change.TheVariants.{Do, Undo, Rekey}
 use Rattle.su_desk.specs.declared.entries.Entry.{Entry}
-use Rattle.su_desk.specs.History.{NumberedAction, entry_doing, undo_by, operation_by_change, operation_of, operations_from, undoes, is_undone, live, live_numbers}
+use Rattle.su_desk.specs.History.{NumberedAction, entry_doing, undo_by, rekey_by, operation_by_change, operation_of, operations_from, undoes, is_undone, live, live_numbers}
 
 -- ---- lists
 
@@ -51,6 +51,7 @@ rising_operations low n (e ∷ es) l = go (rising_operations n (n + 1) es (omega
     go : Rising n (operations_from (n + 1) es) → Rising low (operations_from (n + 1) es) → (c : Change) → Rising low (operation_by_change n e c ++ operations_from (n + 1) es)
     go above rest (Do op) = (l, above)
     go above rest (Undo m) = rest
+    go above rest (Rekey k) = rest
 
 rising_filter : (p : NumberedAction → Bool) (low : ℕ) (ts : List NumberedAction) → Rising low ts → Rising low (filter p ts)
 rising_filter p low [] r = tt
@@ -125,6 +126,12 @@ live-undo h a f n =
     filter_same (λ t. not (is_undone (h ++ undo_by a f n ∷ []) t.number)) (λ t. not (is_undone h t.number) && not (nat_eq t.number n)) _ (λ t. ap not (is_undone-append h _ t.number) ∙ and_not (is_undone h t.number) (nat_eq t.number n))
     ∙ filter-and (λ t. not (is_undone h t.number)) (λ t. not (nat_eq t.number n)) (operations_from 1 (h ++ undo_by a f n ∷ []))
     ∙ ap (λ ts. filter (λ (t : NumberedAction). not (nat_eq t.number n)) (filter (λ (t : NumberedAction). not (is_undone h t.number)) ts)) (operations_from-append 1 h _ ∙ append-nil (operations_from 1 h))
+
+-- a rekey leaves them as they were
+pub live-rekey : (h : List Entry) (a : ℕ) (f : Format) (k : List ℕ) → live (h ++ rekey_by a f k ∷ []) ≡ live h
+live-rekey h a f k =
+    filter_same (λ t. not (is_undone (h ++ rekey_by a f k ∷ []) t.number)) (λ t. not (is_undone h t.number)) _ (λ t. ap not (is_undone-append h _ t.number ∙ or-false (is_undone h t.number)))
+    ∙ ap (filter (λ (t : NumberedAction). not (is_undone h t.number))) (operations_from-append 1 h _ ∙ append-nil (operations_from 1 h))
 
 -- ---- the numbers of live operations ascend
 

@@ -10,7 +10,7 @@ use Rattle.su_bytes.specs.declared.formats.Format.{Format}
 use Rattle.su_table.specs.Tree.{Tree, genesis}
 use Rattle.su_op.specs.declared.areas.Area.{Area}
 use Rattle.su_op.specs.declared.operations.Change.{Change}
-use Rattle.su_op.specs.declared.operations.Change.TheVariants.{Do, Undo}
+use Rattle.su_op.specs.declared.operations.Change.TheVariants.{Do, Undo, Rekey}
 use Rattle.su_op.specs.Area.{meet}
 use Rattle.su_op.specs.Operation.{why}
 use Rattle.su_op.specs.Soundness.{Sound}
@@ -20,12 +20,12 @@ use Rattle.su_op.proofs.Public.{store_lawful}
 use Rattle.su_undo.specs.Replay.{replay as replay_actions, NoneReads, CanBeTakenOut}
 use Rattle.su_undo.proofs.TakingOut.{AllBeside, led_to, agree_read, past_it, undo_is_safe}
 use Rattle.su_desk.specs.declared.entries.Entry.{Entry}
-use Rattle.su_desk.specs.History.{NumberedAction, actions, entry_doing, action_of, undo_by, is_undone, live, replay, tree}
+use Rattle.su_desk.specs.History.{NumberedAction, actions, entry_doing, action_of, undo_by, rekey_by, is_undone, live, replay, tree}
 use Rattle.su_desk.specs.Applied.{tree_after, GoesAsApplied}
 use Rattle.su_desk.specs.Blocker.{blocker}
 use Rattle.su_desk.proofs.FormatLemmas.{change_accepted}
 use Rattle.su_desk.specs.Answer.{refusal_by_change, refusal_of, live_refusal, Good, GoodAfter}
-use Rattle.su_desk.proofs.Operations.{Rising, rising_live, one_taken_out, is_undone-append, live-do, live-undo}
+use Rattle.su_desk.proofs.Operations.{Rising, rising_live, one_taken_out, is_undone-append, live-do, live-undo, live-rekey}
 use Rattle.su_desk.proofs.WhereApplied.{InReplay, AllInReplay, entry_within, replay_reached, goes_beside, all_further, all_added, in_replay_now, written_of}
 use Rattle.su_desk.proofs.LiveNumbers.{is_live, live_number, live_operation, undo_accepted}
 use Rattle.su_desk.proofs.Blockers.{UnreadBy, free_unread}
@@ -162,6 +162,14 @@ next_undo ro h T a f n r lives free =
       };
     }
 
+next_rekey : (ro : Membership) (h : List Entry) (T : Tree) (a : ℕ) (f : Format) (k : List ℕ) → Replayed ro h T → Replayed ro (h ++ rekey_by a f k ∷ []) T
+next_rekey ro h T a f k r =
+    let e : Entry = rekey_by a f k in
+    record {
+      in_replay = subst (λ ts. AllInReplay ro (h ++ e ∷ []) genesis ts T) (sym (live-rekey h a f k)) (all_further ro h e genesis T (live h) r.in_replay);
+      past = λ n l. is_undone-append h e n ∙ or-false (is_undone h n) ∙ r.past n (let more = length-append h (e ∷ []) in omega arith);
+    }
+
 next : (ro : Membership) (h : List Entry) (e : Entry) → HasTree ro h → refusal_of ro h e ≡ None → HasTree ro (h ++ e ∷ [])
 next ro h e r accepted = go e.change (change_accepted ro h e accepted)
   where
@@ -173,6 +181,7 @@ next ro h e r accepted = go e.change (change_accepted ro h e accepted)
           replayed = next_do ro h r.state x r.replayed (ap is_none (ap (λ o. why ro (unwrap_or o genesis) x) (sym (tree_replayed ro h r.state r.replayed)) ∙ accepted));
         }
     go (Undo n) accepted = let u = undo_accepted ro h e.author n accepted in next_undo ro h r.state e.author e.format n r.replayed u.stands u.free
+    go (Rekey k) accepted = record { state = r.state; replayed = next_rekey ro h r.state e.author e.format k r.replayed }
 
 -- ---- good histories
 

@@ -9,10 +9,10 @@ use Rattle.su_bytes.specs.declared.refusals.Refusal.TheVariants.{NoMemory}
 use Rattle.su_table.specs.Tree.{Tree, genesis}
 use Rattle.su_inverse.specs.Kept.{IsPutBack}
 use Rattle.su_op.specs.Action.{Action}
-use Rattle.su_op.specs.declared.operations.Change.TheVariants.{Do, Undo}
+use Rattle.su_op.specs.declared.operations.Change.TheVariants.{Do, Undo, Rekey}
 use Rattle.su_op.specs.Operation.{why}
 use Rattle.su_desk.specs.declared.entries.Entry.{Entry}
-use Rattle.su_desk.specs.History.{entry_doing, undo_by, tree, last_live, format_after}
+use Rattle.su_desk.specs.History.{entry_doing, undo_by, rekey_by, tree, last_live, format_after}
 use Rattle.su_desk.specs.declared.kept.KeptOperation.{KeptOperation}
 use Rattle.su_desk.specs.Desk.{DeskState, Answers}
 use Rattle.su_desk.specs.Applied.{written_by}
@@ -20,7 +20,7 @@ use Rattle.su_desk.specs.Keeping.{Keeps, IsIndexOf}
 use Rattle.su_desk.proofs.KeptOperations.{keeps_undo, written_there, last_kept, none_kept}
 use Rattle.su_desk.proofs.KeptIndexes.{split_at}
 use Rattle.su_desk.proofs.FormatLemmas.{by_change, format_further}
-use Rattle.su_desk.specs.Answer.{format_refusal, undo_refusal, refusal_of, reply, answer}
+use Rattle.su_desk.specs.Answer.{format_refusal, rekey_refusal, undo_refusal, refusal_of, reply, answer}
 
 pub answer_done : (ro : Membership) (h : List Entry) (e : Entry) → refusal_of ro h e ≡ None → answer ro h e ≡ Ok (length h + 1)
 unfolding answer
@@ -51,6 +51,10 @@ refusal_of-do ro h T x fits e = by_change ro h (entry_doing x) fits ∙ ap (λ o
 -- an undo in a format that fits is refused as undos are
 pub refusal_of-undo : (ro : Membership) (h : List Entry) (a : ℕ) (f : Format) (n : ℕ) → format_refusal h f (Undo n) ≡ None → refusal_of ro h (undo_by a f n) ≡ undo_refusal ro h a n
 refusal_of-undo ro h a f n fits = by_change ro h (undo_by a f n) fits
+
+-- and a rekey as rekeys are
+pub refusal_of-rekey : (ro : Membership) (h : List Entry) (a : ℕ) (f : Format) (k : List ℕ) → format_refusal h f (Rekey k) ≡ None → refusal_of ro h (rekey_by a f k) ≡ rekey_refusal ro h a k
+refusal_of-rekey ro h a f k fits = by_change ro h (rekey_by a f k) fits
 
 -- a list ends with its last element
 ends_at : {A : Type 0} (xs : List A) (n : ℕ) (x : A) → length xs ≡ suc n → slice_get xs n ≡ Some x → xs ≡ take n xs ++ x ∷ []

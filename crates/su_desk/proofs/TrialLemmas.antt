@@ -12,10 +12,11 @@ use Rattle.su_bytes.specs.declared.refusals.Refusal.{Refusal}
 use Rattle.su_table.specs.Tree.{Tree}
 use Rattle.su_op.specs.declared.areas.Area.{Area}
 use Rattle.su_op.specs.declared.operations.Change.{Change}
-use Rattle.su_op.specs.declared.operations.Change.TheVariants.{Do, Undo}
+use Rattle.su_op.specs.declared.operations.Change.TheVariants.{Do, Undo, Rekey}
 use Rattle.su_op.specs.Action.{Action}
 use Rattle.su_desk.specs.declared.entries.Entry.{Entry}
 use Rattle.su_desk.specs.declared.kept.KeptOperation.{KeptOperation}
+use Rattle.su_desk.specs.declared.prepared.Means.TheVariants.{Kept, Held, Named}
 use Rattle.su_desk.specs.declared.prepared.Undone.{Undone}
 use Rattle.su_desk.specs.History.{entry_doing, action_of}
 use Rattle.su_desk.specs.Answer.{Good}
@@ -78,41 +79,63 @@ good_before ro h ks T d e is keeps = ((good_exact d.roster d.history e).0 (keeps
 pub last_operation : (ro : Membership) (h : List Entry) (ks : List KeptOperation) (T : Tree) (d : DeskState) (x : Action) → record { roster = ro; history = h } ≡ with_entry d (entry_doing x) → Keeps ro h ks T → LastKept d.roster d.history x ks T
 last_operation ro h ks T d x e keeps = last_done d.roster d.history x ks T (keeps_seen ro h ks T (with_entry d (entry_doing x)) e keeps)
 
--- an entry that no undone operation takes back is of an action
-pub of_action : (d s : DeskState) (e : Entry) → s ≡ with_entry d e → TakesChangeBack d e e.change None → (x : Action) × (s ≡ with_entry d (entry_doing x))
+-- an entry that is taken back by what is kept with it is of an action
+pub of_action : (d s : DeskState) (e : Entry) → s ≡ with_entry d e → TakesChangeBack d e e.change Kept → (x : Action) × (s ≡ with_entry d (entry_doing x))
 of_action d s e = go e.change
   where
-    go : (c : Change) → s ≡ with_entry d (record e { change = c }) → TakesChangeBack d e c None → (x : Action) × (s ≡ with_entry d (entry_doing x))
+    go : (c : Change) → s ≡ with_entry d (record e { change = c }) → TakesChangeBack d e c Kept → (x : Action) × (s ≡ with_entry d (entry_doing x))
     go (Do op) is back = (action_of e op, is)
     go (Undo n) is back = absurd back
+    go (Rekey k) is back = absurd back
 
 -- something is kept of an operation
-pub some_kept : {P : Type 0} (ro : Membership) (h : List Entry) (ks : List KeptOperation) (T : Tree) (d : DeskState) (e : Entry) → record { roster = ro; history = h } ≡ with_entry d e → Keeps ro h ks T → TakesChangeBack d e e.change None
+pub some_kept : {P : Type 0} (ro : Membership) (h : List Entry) (ks : List KeptOperation) (T : Tree) (d : DeskState) (e : Entry) → record { roster = ro; history = h } ≡ with_entry d e → Keeps ro h ks T → TakesChangeBack d e e.change Kept
     → slice_get ks (length ks - 1) ≡ None → P
 some_kept {P} ro h ks T d e is keeps back none = go e.change is back
   where
-    go : (c : Change) → record { roster = ro; history = h } ≡ with_entry d (record e { change = c }) → TakesChangeBack d e c None → P
+    go : (c : Change) → record { roster = ro; history = h } ≡ with_entry d (record e { change = c }) → TakesChangeBack d e c Kept → P
     go (Do op) is back = let l = last_operation ro h ks T d (action_of e op) is keeps in none_last ks l.front l.kept l.whole none
     go (Undo n) is back = absurd back
+    go (Rekey k) is back = absurd back
 
 -- and last its cells
-pub last_cells : (ro : Membership) (h : List Entry) (ks : List KeptOperation) (T : Tree) (k : KeptOperation) (d : DeskState) (e : Entry) → record { roster = ro; history = h } ≡ with_entry d e → Keeps ro h ks T → TakesChangeBack d e e.change None
+pub last_cells : (ro : Membership) (h : List Entry) (ks : List KeptOperation) (T : Tree) (k : KeptOperation) (d : DeskState) (e : Entry) → record { roster = ro; history = h } ≡ with_entry d e → Keeps ro h ks T → TakesChangeBack d e e.change Kept
     → slice_get ks (length ks - 1) ≡ Some k → k.footprint.writes.items ≡ cells_of d.roster d.history e
 last_cells ro h ks T k d e is keeps back last = go e.change is back
   where
-    go : (c : Change) → record { roster = ro; history = h } ≡ with_entry d (record e { change = c }) → TakesChangeBack d e c None → k.footprint.writes.items ≡ cells_by_change d.roster d.history e c
+    go : (c : Change) → record { roster = ro; history = h } ≡ with_entry d (record e { change = c }) → TakesChangeBack d e c Kept → k.footprint.writes.items ≡ cells_by_change d.roster d.history e c
     go (Do op) is back =
         let l = last_operation ro h ks T d (action_of e op) is keeps in
         ap (λ (x : KeptOperation). x.footprint.writes.items) (last_is ks l.front k l.kept l.whole last) ∙ l.written
     go (Undo n) is back = absurd back
+    go (Rekey k) is back = absurd back
 
 -- the cells of an undo are those that were kept of the operation
-pub undone_cells : (d : DeskState) (e : Entry) (u : Undone) → Good d.roster d.history → TakesChangeBack d e e.change (Some u) → u.operation.footprint.writes.items ≡ cells_of d.roster d.history e
+pub undone_cells : (d : DeskState) (e : Entry) (u : Undone) → Good d.roster d.history → TakesChangeBack d e e.change (Held u) → u.operation.footprint.writes.items ≡ cells_of d.roster d.history e
 undone_cells d e u good = go e.change
   where
-    go : (c : Change) → TakesChangeBack d e c (Some u) → u.operation.footprint.writes.items ≡ cells_by_change d.roster d.history e c
+    go : (c : Change) → TakesChangeBack d e c (Held u) → u.operation.footprint.writes.items ≡ cells_by_change d.roster d.history e c
     go (Do op) back = absurd back
     go (Undo n) back = kept_writes d.roster d.history n u.index u.operation good back.kept
+    go (Rekey k) back = absurd back
+
+-- a rekey has none
+pub no_cells : (d : DeskState) (e : Entry) (key : List ℕ) → TakesChangeBack d e e.change (Named key) → [] ≡ cells_of d.roster d.history e
+no_cells d e key = go e.change
+  where
+    go : (c : Change) → TakesChangeBack d e c (Named key) → [] ≡ cells_by_change d.roster d.history e c
+    go (Do op) back = absurd back
+    go (Undo n) back = absurd back
+    go (Rekey k) back = refl
+
+-- and is taken back by its key
+pub of_rekey : (d : DeskState) (e : Entry) (key : List ℕ) → TakesChangeBack d e e.change (Named key) → e.change ≡ Rekey key
+of_rekey d e key = go e.change
+  where
+    go : (c : Change) → TakesChangeBack d e c (Named key) → c ≡ Rekey key
+    go (Do op) back = absurd back
+    go (Undo n) back = absurd back
+    go (Rekey k) back = ap Rekey (sym back)
 
 -- ---- a refusal that is passed on
 

@@ -1,7 +1,8 @@
 use Rattle.std.proofs.Common.{◌≡◌, ◌∙◌, ◌⊎◌, inl, inr, None, Some, Err, sym, ap, subst, ℕ}
 use Rattle.su_bytes.specs.declared.refusals.Refusal.{Refusal}
 use Rattle.su_bytes.specs.declared.refusals.Refusal.TheVariants.{NoMemory}
-use Rattle.su_op.specs.declared.operations.Change.TheVariants.{Undo}
+use Rattle.su_op.specs.declared.operations.Change.TheVariants.{Undo, Rekey}
+use Rattle.su_desk.specs.declared.prepared.Means.TheVariants.{Held}
 use Rattle.su_desk.specs.declared.prepared.Tried.{Tried}
 use Rattle.su_desk.proofs.FormatLemmas.{by_change, format_refused}
 use Rattle.su_desk.specs.Answer.{answer, format_refusal, refusal_by_change, refusal_of, undo_refusal, Good}
@@ -57,7 +58,7 @@ returns-in_ok-index-in-Undo-clause-tried c =
     let n = c.in-Undo.number in
     let out = c.in_ok-index-in-Undo.ensures in
     let good : Good d.roster d.history = subst (λ x. Good x.roster x.history) c.self.view_is c.self.invariant.0.good in
-    let t : Tried = record { versions = c.in_ok-versions.versions; undone = Some (record { index = c.in_ok-index-in-Undo.index; operation = c.in_ok-index-in-Undo.operation; held = c.in_ok-held-in-Undo.held }) } in
+    let t : Tried = record { versions = c.in_ok-versions.versions; means = Held (record { index = c.in_ok-index-in-Undo.index; operation = c.in_ok-index-in-Undo.operation; held = c.in_ok-held-in-Undo.held }) } in
     subst (λ ch. TakesBack d (entry_by c.args.author c.args.format ch) t) (sym c.in-Undo.is)
     (record {
       versions = c.in_ok-versions.ensures.items ∙ c.as_slice.ensures.value ∙ c.self.invariant.1 ∙ ap (λ x. versions x.roster x.history) c.self.view_is;

@@ -2,7 +2,7 @@ use Rattle.std.proofs.Common.{ℕ, ◌≡◌, ◌∙◌, ◌+◌, ◌++◌, ◌�
 use Rattle.su_op.specs.Action.{action_by}
 use Rattle.su_op.specs.Area.{has}
 use Rattle.su_desk.specs.declared.entries.Entry.{Entry}
-use Rattle.su_desk.specs.History.{entry_doing}
+use Rattle.su_desk.specs.History.{entry_doing, keys_after}
 use Rattle.su_op.specs.declared.operations.Change.TheVariants.{Do}
 use Rattle.su_desk.specs.Answer.{format_refusal, answer}
 use Rattle.su_desk.specs.Desk.{DeskState, with_entry}
@@ -13,7 +13,9 @@ use Rattle.su_op.specs.Operation.{writes}
 use Rattle.su_bytes.specs.declared.principals.Principal.{Principal}
 use Rattle.su_desk.specs.Version.{cells_of, versions}
 use Rattle.su_desk.proofs.VersionNumbers.{counters_next, versions_within}
+use Rattle.su_used_keys.specs.UsedKeys.{HasJust}
 use Rattle.su_desk.proofs.KeptOperations.{tree_kept, keeps_do}
+use Rattle.su_desk.proofs.NamedKeys.{same_keys}
 use Rattle.su_desk.proofs.Replies.{answer_done, answer_refused, refusal_of-do}
 use Rattle.std.specs.List.{All}
 use Rattle.su_inverse.specs.Kept.{CanKeep}
@@ -46,6 +48,7 @@ invariant_of-self-2 c =
           })))),
       subst (λ h. take s.counters.len (c.raise.new.versions ++ drop (length c.raise.new.versions) s.counters.items) ≡ versions s.roster h) (sym entries)
           (counters_next s.roster s.entries.items e c.as_slice-2.result.now s.counters.len s.counters.items c.deref_mut.result.now c.raise.new.versions _ written c.self.invariant.1 s.counters.ok.0 c.deref_mut.ensures.value c.raise.ensures),
+      subst (λ ks. HasJust ks s.used) (sym (ap (keys_after s.roster) entries ∙ same_keys s.roster s.entries.items e refl)) c.self.invariant.2,
     )
 
 pub returns : goal.returns

@@ -1,10 +1,12 @@
-use Rattle.std.proofs.Common.{◌≡◌, ◌∙◌, ◌-◌, Some, None, sym, ap, subst, length, take, slice_get}
+use Rattle.std.proofs.Common.{◌≡◌, ◌∙◌, ◌-◌, Some, None, refl, sym, ap, subst, length, take, slice_get}
 use Rattle.std.specs.Option.{option_copied}
 use Rattle.su_desk.specs.History.{entry_doing}
 use Rattle.su_inverse.specs.Kept.{IsPutBack}
 use Rattle.su_desk.specs.declared.kept.KeptOperation.{KeptOperation}
 use Rattle.su_desk.specs.Keeping.{Keeps}
 use Rattle.su_desk.specs.Version.{versions}
+use Rattle.su_used_keys.specs.UsedKeys.{HasJust}
+use Rattle.su_desk.proofs.NamedKeys.{keys_before}
 use Rattle.su_desk.proofs.TrialLemmas.{all_but_last, history_before, last_is, last_operation, some_kept}
 use Rattle.su_desk.proofs.desks.Desk.take_operation_back.Goals as goal
 
@@ -33,4 +35,5 @@ invariant_of-self-2 c =
           (subst (λ h. Keeps d.roster h c.pop.new.self.items c.undo_on.new.forest) (sym entries)
           (subst (λ ks. Keeps d.roster d.history ks c.undo_on.new.forest) (sym kept) (subst (Keeps d.roster d.history l.front) (sym forest) l.keeps))),
       c.copy_from_slice.ensures.items ∙ numbers ∙ ap (λ ro. versions ro d.history) (sym roster) ∙ ap (versions s.roster) (sym entries),
+      subst (λ ks. HasJust ks s.used) (keys_before s.roster s.entries.items c.pop-2.new.self.items d (entry_doing x) (c.self.view_is ∙ is) entries refl) c.self.invariant.2,
     )

@@ -1,9 +1,9 @@
-use Rattle.std.proofs.Common.{◌∙◌, ◌+◌, ◌++◌, ◌∷◌, [], List, None, sym, ap, subst, ◌≡◌, length, take, drop, arith, ℕ, ◌<◌, ◌^◌}
+use Rattle.std.proofs.Common.{◌∙◌, ◌+◌, ◌++◌, ◌∷◌, [], List, None, refl, sym, ap, subst, ◌≡◌, length, take, drop, arith, ℕ, ◌<◌, ◌^◌}
 use Rattle.std.specs.List.{All}
 use Rattle.su_bytes.specs.declared.principals.Principal.{Principal}
 use Rattle.su_desk.specs.declared.entries.Entry.{Entry}
 use Rattle.su_desk.specs.declared.kept.KeptOperation.{KeptOperation}
-use Rattle.su_desk.specs.History.{undo_by}
+use Rattle.su_desk.specs.History.{undo_by, keys_after}
 use Rattle.su_op.specs.declared.operations.Change.TheVariants.{Undo}
 use Rattle.su_desk.specs.Answer.{format_refusal, undo_refusal}
 use Rattle.su_desk.specs.Desk.{DeskState, with_entry}
@@ -11,6 +11,8 @@ use Rattle.su_desk.specs.Keeping.{Keeps, IsIndexOf}
 use Rattle.su_desk.specs.Version.{cells_of, versions}
 use Rattle.su_desk.proofs.VersionNumbers.{counters_next, versions_within}
 use Rattle.su_desk.proofs.KeptIndexes.{are_kept, same_there}
+use Rattle.su_used_keys.specs.UsedKeys.{HasJust}
+use Rattle.su_desk.proofs.NamedKeys.{same_keys}
 use Rattle.su_desk.proofs.Replies.{Found, found, undone_there, undone_written}
 use Rattle.su_desk.specs.Tried.{IsKeptAt}
 use Rattle.su_desk.proofs.TakingBack.{kept_at}
@@ -37,6 +39,7 @@ invariant_of-self-2 c =
           (undone_there s.roster s.entries.items s.kept.items k i s.forest c.undo_on.new.forest c.args.author c.args.format c.args.number there fits accepted c.in_ok-undo_on.ensures.ok)),
       subst (λ h. take s.counters.len (c.raise.new.versions ++ drop (length c.raise.new.versions) s.counters.items) ≡ versions s.roster h) (sym entries)
           (counters_next s.roster s.entries.items e c.deref-3.result.now s.counters.len s.counters.items c.deref_mut.result.now c.raise.new.versions _ written c.self.invariant.1 s.counters.ok.0 c.deref_mut.ensures.value c.raise.ensures),
+      subst (λ ks. HasJust ks s.used) (sym (ap (keys_after s.roster) entries ∙ same_keys s.roster s.entries.items e refl)) c.self.invariant.2,
     )
 
 pub returns-clause-done : goal.returns-clause-done

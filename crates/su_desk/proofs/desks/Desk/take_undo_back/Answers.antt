@@ -5,6 +5,9 @@ use Rattle.su_desk.specs.Desk.{with_entry}
 use Rattle.su_desk.specs.Keeping.{Keeps}
 use Rattle.su_desk.specs.Trial.{tree_of}
 use Rattle.su_desk.specs.Version.{versions}
+use Rattle.su_op.specs.Action.{named_key}
+use Rattle.su_used_keys.specs.UsedKeys.{HasJust}
+use Rattle.su_desk.proofs.NamedKeys.{keys_before}
 use Rattle.su_desk.proofs.TakingBack.{put_again}
 use Rattle.su_desk.proofs.TrialLemmas.{history_before, keeps_seen, forest_with, succeeded}
 use Rattle.su_desk.proofs.desks.Desk.take_undo_back.Goals as goal
@@ -36,4 +39,5 @@ invariant_of-self-2 c =
           (subst (λ h. Keeps d.roster h c.insert.new.self.items c.undo_on.new.forest) (sym entries)
           (subst (λ ks. Keeps d.roster d.history ks c.undo_on.new.forest) (sym kept) (subst (Keeps d.roster d.history (insert s.kept.items u.index u.operation)) (sym forest) p.keeps))),
       c.copy_from_slice.ensures.items ∙ numbers ∙ ap (λ ro. versions ro d.history) (sym roster) ∙ ap (versions s.roster) (sym entries),
+      subst (λ ks. HasJust ks s.used) (keys_before s.roster s.entries.items c.pop.new.self.items d e seen entries (ap named_key undo)) c.self.invariant.2,
     )
