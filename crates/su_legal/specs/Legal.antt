@@ -6,6 +6,7 @@ use Rattle.su_bytes.specs.declared.principals.Principal.TheVariants.{User}
 use Rattle.su_table.specs.Tree.{Tree}
 use Rattle.su_table.specs.Handle.{handle}
 use Rattle.su_op.specs.declared.operations.Change.{Change}
+use Rattle.su_op.specs.Action.{named_key}
 use Rattle.su_desk.specs.declared.entries.Entry.{Entry}
 use Rattle.su_desk.specs.History.{entry_by}
 use Rattle.su_desk.specs.Applied.{tree_after}
@@ -67,6 +68,8 @@ pub record ChangeFits (ro : Membership) (h : List Entry) (c : Commit) (change : 
   pub is_change : IsChange change
   pub has_item : HasItem change
   pub named : c.version.change ≡ change_digest change
+  -- it has the author's next key just where the change names one, and this is it
+  pub next_key_is : c.version.next_key ≡ named_key change
   -- the i-handles of the tree with it: the author's, and those of just the groups that it carries
   pub author_handle_is : c.version.handle ≡ author_handle ro h (entry_made c change)
   pub group_handles_are : c.version.groups ≡ group_handles ro h (entry_made c change)

@@ -1,7 +1,7 @@
 -- Why a commit that is shown doesn't join the list that a client holds, in this order.
 use Rattle.std.specs.Prelude.{◌≡◌, ◌≢◌, ◌<◌, ◌≤◌, ◌+◌, ◌⊎◌, ℕ, true, cond, List, [], ◌∷◌, Option, Some, None, nat_eq}
 use Rattle.sha2.specs.Sha256.{sha256}
-use Rattle.su_bytes.specs.Order.{Line, RefusedBy}
+use Rattle.su_bytes.specs.Order.{Line, demand, RefusedBy}
 use Rattle.su_bytes.specs.declared.refusals.Refusal.{Refusal}
 use Rattle.su_bytes.specs.declared.principals.Principal.{Principal}
 use Rattle.su_bytes.specs.declared.principals.Principal.TheVariants.{User, Group}
@@ -9,8 +9,9 @@ use Rattle.su_block.specs.Failure.{is_failure, one_more}
 use Rattle.su_block.specs.declared.failures.Failures.{Failures}
 use Rattle.su_format.specs.Format.{whole}
 use Rattle.su_format.specs.Reading.{IsRefusedAt, start}
-use Rattle.su_bytes.specs.declared.refusals.Refusal.TheVariants.{Malformed}
+use Rattle.su_bytes.specs.declared.refusals.Refusal.TheVariants.{Malformed, WrongKey}
 use Rattle.su_op.specs.declared.operations.Change.{Change}
+use Rattle.su_op.specs.Action.{named_key}
 use Rattle.su_change.specs.Item.{IsChange, HasItem, item_bytes, item_format}
 use Rattle.su_desk.specs.declared.entries.Entry.{Entry}
 use Rattle.su_desk.specs.Answer.{refusal_of}
@@ -89,10 +90,12 @@ HoldsHandles v c change =
     × (c.version.groups ≡ group_handles v.roster (history v.held) (entry_made c change))
 
 -- What a change has to meet to fit a commit that may be next, in this order: it is accepted; the
--- commit holds its i-handles.
+-- commit has the key that it names as the author's next one, if it names one; the commit holds its
+-- i-handles.
 abbrev pub fitting_order : HoldingState → Commit → Change → List (Line ViewRefusal)
 fitting_order v c change =
     accepting v (entry_made c change)
+    ∷ demand (c.version.next_key ≡ named_key change) (Plain WrongKey)
     ∷ record {
       holds = HoldsHandles v c change;
       refusal = λ e. (p : Principal) × (e ≡ WrongHandle p) × IsWrongHandle v c change p;

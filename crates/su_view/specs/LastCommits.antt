@@ -1,7 +1,7 @@
--- What a client asks of the last commits of the users, as a server shows them, before it takes any
--- other. (SUNDR, section 3.3: a client checks that its own last version structure is there, and that
--- all are ordered.)
-use Rattle.std.specs.Prelude.{◌≡◌, ◌≤◌, ◌<◌, ℕ, Bool, true, cond, List, [], ◌∷◌, length, map, Option, None, Some, option_map, nat_eq}
+-- What a client asks of the last commits of the users, as a server shows them, once it has taken
+-- the commits behind its list. (SUNDR, section 3.3: a client checks that its own last version
+-- structure is there, and that all are ordered.)
+use Rattle.std.specs.Prelude.{◌≡◌, ◌≤◌, ◌<◌, ◌⊎◌, ℕ, Bool, true, cond, List, [], ◌∷◌, length, map, Option, None, Some, option_map, nat_eq}
 use Rattle.std.specs.List.{AllByRecursion, list_any}
 use Rattle.std.specs.Option.{option_or}
 use Rattle.su_bytes.specs.Membership.{Membership}
@@ -10,9 +10,9 @@ use Rattle.su_bytes.specs.declared.refusals.Refusal.TheVariants.{BadSignature, N
 use Rattle.su_vector.specs.Vector.{number_of}
 use Rattle.su_vector.specs.Order.{AreComparable, IsFirstUnordered}
 use Rattle.su_version.specs.Commit.{Commit}
-use Rattle.su_version.specs.Chain.{IsSignedByAuthor}
-use Rattle.su_legal.specs.Legal.{Committed, author_of}
-use Rattle.su_view.specs.Holding.{HoldingState}
+use Rattle.su_version.specs.Chain.{IsSignedBy, chain_key}
+use Rattle.su_legal.specs.Legal.{Committed, author_of, commits_of}
+use Rattle.su_view.specs.Holding.{HoldingState, IsHeld}
 use Rattle.su_view.specs.declared.refusals.ViewRefusal.{ViewRefusal}
 use Rattle.su_view.specs.declared.refusals.ViewRefusal.TheVariants.{Plain, OwnMissing}
 
@@ -53,23 +53,35 @@ ShowsOwn ro u (Some last) shown = ShowsLast ro u last shown
 abbrev pub vectors_of : List Commit → List (List ℕ)
 vectors_of shown = map (λ c. c.version.vector) shown
 
-abbrev pub AreSigned : Membership → List Commit → Type 0
-AreSigned ro shown = AllByRecursion (IsSignedByAuthor ro) shown
+-- A client that holds v knows a commit that is shown to be signed: it is held, and was signed under
+-- the key that its author had at its place; or it is signed under the key that the author has now.
+abbrev pub IsShownSigned : HoldingState → Commit → Type 0
+IsShownSigned v c =
+    IsHeld v c ⊎ IsSignedBy (chain_key v.roster c.version.author (commits_of v.held)) c
+
+abbrev pub AreSigned : HoldingState → List Commit → Type 0
+AreSigned v shown = AllByRecursion (IsShownSigned v) shown
 
 -- of each two of these the vectors are comparable
 abbrev pub AreOrdered : List Commit → Type 0
 AreOrdered shown = (i j : ℕ) → i < j → j < length shown → AreComparable (vectors_of shown) i j
 
--- What the commits that are shown as the users' last ones have to meet, for a client of user u with
--- this last commit, in this order: each is signed by its author; the user's own is there; and all
--- are ordered.
-abbrev pub shown_order : Membership → ℕ → Option Commit → List Commit → List (Line ViewRefusal)
-shown_order ro u last shown =
-    demand (AreSigned ro shown) (Plain BadSignature)
-    ∷ demand (ShowsOwn ro u last shown) OwnMissing
+-- What the commits that are shown as the users' last ones have to meet beside their signatures, for
+-- a client of user u with this last commit, in this order: the user's own is there; and all are
+-- ordered.
+abbrev pub own_order : Membership → ℕ → Option Commit → List Commit → List (Line ViewRefusal)
+own_order ro u last shown =
+    demand (ShowsOwn ro u last shown) OwnMissing
     ∷ record {
       holds = AreOrdered shown;
       refusal = λ e. (i j : ℕ) × (e ≡ Plain (NotOrdered i j))
           × IsFirstUnordered (vectors_of shown) i j;
     }
     ∷ []
+
+-- What they have to meet for a client that holds v, in this order: each is known to be signed; and
+-- then these.
+abbrev pub shown_order : HoldingState → List Commit → List (Line ViewRefusal)
+shown_order v shown =
+    demand (AreSigned v shown) (Plain BadSignature)
+    ∷ own_order v.roster v.user (own_last v) shown

@@ -1,11 +1,11 @@
 -- What a client's user signs for a change of the user's own. (SUNDR, section 3.3.)
-use Rattle.std.specs.Prelude.{◌≡◌, ◌≤◌, ◌⊎◌, ℕ, length, List, ◌∷◌, [], ◌++◌, map, Some, None}
+use Rattle.std.specs.Prelude.{◌≡◌, ◌≤◌, ◌⊎◌, ℕ, length, List, ◌∷◌, [], ◌++◌, map, Option, Some, None}
 use Rattle.su_bytes.specs.Order.{Line, demand, Passes, RefusedBy}
 use Rattle.su_bytes.specs.declared.formats.TheConstants.{NEWEST_FORMAT}
 use Rattle.su_bytes.specs.declared.refusals.Refusal.TheVariants.{BadSignature, KeySpent, KeyFileFault}
 use Rattle.su_block.specs.declared.failures.Failures.{Failures}
-use Rattle.su_bytes.specs.RosterBytes.{user_key}
 use Rattle.su_op.specs.declared.operations.Change.{Change}
+use Rattle.su_op.specs.Action.{named_key}
 use Rattle.su_desk.specs.declared.entries.Entry.{Entry}
 use Rattle.su_desk.specs.Answer.{refusal_of}
 use Rattle.su_desk.specs.History.{entry_by}
@@ -14,9 +14,9 @@ use Rattle.su_lms.specs.Signature.{leaf_of}
 use Rattle.su_vector.specs.Vector.{bump}
 use Rattle.su_version.specs.Version.{Version}
 use Rattle.su_version.specs.Commit.{Commit}
-use Rattle.su_version.specs.Chain.{IsSignedBy}
+use Rattle.su_version.specs.Chain.{IsSignedBy, chain_key}
 use Rattle.su_change.specs.Item.{IsChange, HasItem, item_bytes, change_digest}
-use Rattle.su_legal.specs.Legal.{history, head_of, vector_of, author_handle, group_handles}
+use Rattle.su_legal.specs.Legal.{commits_of, history, head_of, vector_of, author_handle, group_handles}
 use Rattle.su_view.specs.Holding.{HoldingState}
 use Rattle.su_view.specs.Joining.{HasFailed, accepting}
 use Rattle.su_view.specs.declared.refusals.ViewRefusal.{ViewRefusal}
@@ -27,8 +27,8 @@ use Rattle.su_view.specs.declared.holdings.drafts.Draft.{Draft}
 abbrev pub own_entry : HoldingState → Change → Entry
 own_entry v change = entry_by v.user NEWEST_FORMAT change
 
--- the version structure of a change that comes next: it names the list's head and the change, and
--- has the i-handles and the numbers of the tree with it
+-- the version structure of a change that comes next: it names the list's head and the change, has
+-- the i-handles and the numbers of the tree with it, and the next key that the change names
 abbrev pub next_version : HoldingState → Change → Version
 next_version v change = record {
   format = NEWEST_FORMAT;
@@ -39,20 +39,25 @@ next_version v change = record {
   groups = group_handles v.roster (history v.held) (own_entry v change);
   vector = bump v.roster (vector_of v.roster v.held) v.user
       (map (λ g. g.0) (group_handles v.roster (history v.held) (own_entry v change)));
+  next_key = named_key change;
 }
+
+-- the key that the client's user has after the list: the next commit is signed under it
+abbrev pub own_key : HoldingState → Option (List ℕ)
+own_key v = chain_key v.roster v.user (commits_of v.held)
 
 -- This is a commit of that change, made by the client's user with this leaf.
 pub record IsMade (v : HoldingState) (change : Change) (leaf : ℕ) (c : Commit) : Type 0 where
   pub accepted : refusal_of v.roster (history v.held) (own_entry v change) ≡ None
   pub version : c.version ≡ next_version v change
-  pub signed : IsSignedBy (user_key v.roster v.user) c
+  pub signed : IsSignedBy (own_key v) c
   pub leaf_is : leaf_of c.signature ≡ leaf
 
--- What has to hold for a commit to be made of a change, in this order: the key is the user's; the
--- change is accepted.
+-- What has to hold for a commit to be made of a change, in this order: the key is the one that the
+-- user has then; the change is accepted.
 abbrev pub making_order : List ℕ → HoldingState → Change → List (Line ViewRefusal)
 making_order key v change =
-    demand (user_key v.roster v.user ≡ Some key) (Plain BadSignature)
+    demand (own_key v ≡ Some key) (Plain BadSignature)
     ∷ accepting v (own_entry v change)
     ∷ []
 
@@ -66,8 +71,8 @@ IsRefusedMaking before after key Spent v change e =
     ⊎ ((e ≡ Plain KeySpent) × Spent)
     ⊎ ((e ≡ Plain KeyFileFault) × ¬ Spent)))
 
--- What is at hand of a change before it is signed: it is accepted, and these are its item, and the
--- i-handles and numbers of the tree with it.
+-- What is at hand of a change before it is signed: it is accepted, and these are its item, the next
+-- key that it names, and the i-handles and numbers of the tree with it.
 pub record IsDraft (v : HoldingState) (change : Change) (d : Draft) : Type 0 where
   pub accepted : refusal_of v.roster (history v.held) (own_entry v change) ≡ None
   pub is_change : IsChange change
@@ -75,6 +80,7 @@ pub record IsDraft (v : HoldingState) (change : Change) (d : Draft) : Type 0 whe
   pub spelled : d.item.items ≡ item_bytes change
   pub some_bytes : 1 ≤ length d.item.items
   pub few_bytes : length d.item.items ≤ 70000
+  pub next_key : d.next_key ≡ named_key change
   pub handle : d.prepared.author_handle
       ≡ author_handle v.roster (history v.held) (own_entry v change)
   pub groups : d.prepared.groups.items

@@ -2,18 +2,17 @@
 ghost use Rattle.std.specs.Prelude.{◌≡◌, ◌≢◌, ◌⊎◌, ◌↔◌, ◌∷◌, ◌++◌, ℕ, [], true, length, None, Err, IsTrue, IfOk, IfErr, IfSome, OnOk, OnErr};
 ghost use Rattle.sha2.specs.Sha256.{sha256};
 ghost use Rattle.su_bytes.specs.Membership.{has_user};
-ghost use Rattle.su_bytes.specs.RosterBytes.{user_key};
 ghost use Rattle.su_bytes.specs.declared.refusals.Refusal.TheVariants.{BadKey, NoUser, NoMemory};
 ghost use Rattle.su_op.specs.declared.operations.Change.{Change};
 ghost use Rattle.su_desk.specs.Version.{versions};
 ghost use Rattle.su_change.specs.Item.{item_bytes};
 ghost use Rattle.su_version.specs.Commit.{commit_bytes, commit_digest};
-ghost use Rattle.su_version.specs.Chain.{IsSignedBy, MayBeNext, next_order, tip};
+ghost use Rattle.su_version.specs.Chain.{IsSignedBy, MayBeNext, chain_key, next_order, tip};
 ghost use Rattle.su_bytes.specs.Order.{Passes, RefusedBy};
 ghost use Rattle.su_chain.specs.ChainEnd.{HasBadKey};
 ghost use Rattle.su_legal.specs.Legal.{commits_of, head_of, history};
 ghost use Rattle.su_view.specs.Holding.{HoldingState, Took};
-ghost use Rattle.su_view.specs.LastCommits.{own_last, shown_order};
+ghost use Rattle.su_view.specs.LastCommits.{shown_order};
 ghost use Rattle.su_view.specs.Joining.{IsRefusedWith, IsOtherHandle, AscendFrom};
 ghost use Rattle.su_view.specs.declared.refusals.ViewRefusal.TheVariants.{Plain, Change as ChangeRefused};
 
@@ -88,11 +87,11 @@ impl Holding {
         self.keeping.records.len() as u64
     }
 
-    /// Returns the key of a user, if there is such a user.
+    /// Returns the key that a user has after these commits, if there is such a user.
     pub fn key(&self, user: User) -> Option<PublicKey>
-        ensures { result ≡ user_key self.now.roster user }
+        ensures { result ≡ chain_key self.now.roster user (commits_of self.now.held) }
     {
-        self.keeping.end.key(self.keeping.desk.roster(), user)
+        self.keeping.end.key(user)
     }
 
     /// Checks whether a commit may be the next, as `ChainEnd::check` does.
@@ -126,18 +125,17 @@ impl Holding {
 
     /// Checks what a server shows as the users' last commits, as `View::check_list` does.
     pub fn check_list(&self, shown: &[Commit]) -> Result<(), ViewRefusal>
-        ensures passes { OnOk result
-            (Passes (shown_order self.now.roster self.now.user (own_last self.now) shown.now)) }
+        ensures passes { OnOk result (Passes (shown_order self.now shown.now)) }
         ensures refused { IfErr result (λ e. (e ≡ Plain NoMemory)
-            ⊎ RefusedBy
-            (shown_order self.now.roster self.now.user (own_last self.now) shown.now) e) }
+            ⊎ RefusedBy (shown_order self.now shown.now) e) }
     {
         check_list(self.alloc, &self.keeping, shown)
     }
 
     /// Takes a commit that may be the next, with its bytes and the item of its change. `Change`
-    /// where the item is that of no change, or the change is refused; `WrongHandle` where the
-    /// commit holds another i-handle than the tree has then; `NoMemory`. A refusal changes nothing.
+    /// where the item is that of no change, or the change is refused; `WrongKey` where the commit
+    /// has another next key of its author than the change names; `WrongHandle` where it holds
+    /// another i-handle than the tree has then; `NoMemory`. A refusal changes nothing.
     pub fn join(&mut self, commit: Commit, bytes: Vec<u8>, item: Vec<u8>) -> Result<(), ViewRefusal>
         requires next { MayBeNext self.old.roster (commits_of self.old.held) commit }
         requires bytes { bytes.items ≡ commit_bytes commit }
@@ -153,6 +151,7 @@ impl Holding {
             Err(refusal) => return Err(within(refusal)),
         };
         let version = commit.version();
+        let named = change.named_key();
         let prepared = match self
             .keeping
             .desk
@@ -161,10 +160,13 @@ impl Holding {
             Ok(prepared) => prepared,
             Err(refusal) => return Err(within(refusal)),
         };
+        if version.next_key() != named {
+            return Err(ViewRefusal::Plain(Refusal::WrongKey));
+        }
         if let Some(principal) = wrong_handle(version, &prepared) {
             return Err(ViewRefusal::WrongHandle(principal));
         }
-        if self.keeping.records.reserve(1).is_err() {
+        if self.keeping.records.reserve(1).is_err() || self.keeping.end.reserve().is_err() {
             return Err(ViewRefusal::Plain(Refusal::NoMemory));
         }
         self.keeping.push(commit, bytes, item, prepared);

@@ -14,17 +14,19 @@ use su_lms::{KeyStore, PublicKey, Signer};
 use su_version::{Commit, VersionStructure};
 
 /// The key of a client's own user. It holds the signer, with which `View::make` signs and nothing
-/// else. Its model is the key, the leaf that signs next, the store that keeps that number, and all
-/// commits that were signed with it, of which nothing stays in memory. (`Log` is the kit's list that
-/// no memory holds; it has no crate of its own.)
+/// else; another can be put in its place. Its model is the key, the leaf that signs next, the store
+/// that keeps that number, the public keys that were replaced, and all commits that were signed, of
+/// which nothing stays in memory. (`Log` is the kit's list that no memory holds; it has no crate of
+/// its own.)
 #[derive(Drop)]
 pub struct OwnKey<K: KeyStore> {
     signer: Signer<K>,
+    former: Log<PublicKey, ()>,
     signed: Log<Commit, ()>,
 }
 
 impl<K: KeyStore> Model for OwnKey<K> {
-    ghost use Rattle.su_view.specs.OwnKey.{OwnKeyState, commits_in};
+    ghost use Rattle.su_view.specs.OwnKey.{OwnKeyState, commits_in, keys_in};
 
     ghost Value = { OwnKeyState K };
 
@@ -32,22 +34,39 @@ impl<K: KeyStore> Model for OwnKey<K> {
       key = k.signer.key;
       next = k.signer.next;
       store = k.signer.store;
+      former = keys_in k.former.items;
       signed = commits_in k.signed.items;
     } };
 }
 
 impl<K: KeyStore> OwnKey<K> {
-    /// Makes the key of a signer, which nothing else has from then on. No commit was signed with it.
+    /// Makes the key of a signer, which nothing else has from then on. No commit was signed with it,
+    /// and it is in no other's place.
     pub fn new(signer: Signer<K>) -> OwnKey<K>
         ensures key { result.key ≡ signer.key }
         ensures next { result.next ≡ signer.next }
         ensures store { result.store ≡ signer.store }
+        ensures former { result.former ≡ [] }
         ensures signed { result.signed ≡ [] }
     {
         OwnKey {
             signer,
+            former: Log::new(),
             signed: Log::new(),
         }
+    }
+
+    /// Puts another signer in the place of the one that it has: from then on that signs.
+    pub fn replace(&mut self, signer: Signer<K>)
+        ensures key { self.new.key ≡ signer.key }
+        ensures next { self.new.next ≡ signer.next }
+        ensures store { self.new.store ≡ signer.store }
+        ensures former { self.new.former ≡ self.old.former ++ key_of self.old.key ∷ [] }
+        ensures signed { self.new.signed ≡ self.old.signed }
+    {
+        let public = self.signer.public();
+        self.former = self.former.and(&public, &());
+        self.signer = signer;
     }
 
     /// Returns the public key.
@@ -91,6 +110,7 @@ impl<K: KeyStore> OwnKey<K> {
         ensures none_signed { OnErr result (self.new.signed ≡ self.old.signed) }
         ensures unused { OnErr result (self.new.next ≡ self.old.next) }
         ensures same_key { self.new.key ≡ self.old.key }
+        ensures same_former { self.new.former ≡ self.old.former }
         ensures refused { IfErr result (λ e. (e ≡ NoMemory)
             ⊎ ((e ≡ KeySpent) × (self.old.next ≡ leaf_count self.old.key))
             ⊎ ((e ≡ KeyFileFault) × (self.old.next ≢ leaf_count self.old.key))) }

@@ -1,13 +1,13 @@
 // The last commits of the users, as a server shows them.
-ghost use Rattle.std.specs.Prelude.{◌≡◌, ◌⊎◌, ◌↔◌, IsTrue, true, IfOk, IfErr, IfSome, OnOk, option_map};
+ghost use Rattle.std.specs.Prelude.{◌≡◌, ◌⊎◌, ◌↔◌, IsTrue, true, nat_eq, IfOk, IfErr, IfSome, OnOk, option_map};
 ghost use Rattle.std.specs.List.{AllByRecursion, list_any};
+ghost use Rattle.std.specs.Cmp.Lexicographic.{pointwise};
 ghost use Rattle.std.specs.Option.{option_copied};
 ghost use Rattle.su_bytes.specs.declared.refusals.Refusal.TheVariants.{NoMemory};
 ghost use Rattle.su_bytes.specs.Order.{Passes, RefusedBy};
-ghost use Rattle.su_version.specs.Chain.{IsSignedByAuthor};
 ghost use Rattle.su_view.specs.Keeping.{commit_in, holding_of, IsKeeping};
 ghost use Rattle.su_view.specs.Spelled.{IsSpelled};
-ghost use Rattle.su_view.specs.LastCommits.{own_last, AreSigned, is_by, IsNotBehind, ShowsLast, ShowsOwn, shown_order};
+ghost use Rattle.su_view.specs.LastCommits.{own_last, own_order, AreSigned, is_by, IsNotBehind, IsShownSigned, ShowsLast, ShowsOwn, shown_order};
 ghost use Rattle.su_view.specs.Holding.{IsHeld};
 ghost use Rattle.su_view.specs.declared.refusals.ViewRefusal.TheVariants.{Plain};
 
@@ -19,7 +19,7 @@ use su_vector::{Vector, first_unordered};
 use su_version::{Commit, Verdict};
 
 /// Checks what a server shows as the users' last commits, by what is kept. `BadSignature` where a
-/// commit isn't signed by its author; `OwnMissing` where the user has a commit that is held, and
+/// commit isn't held, nor signed under its author's present key; `OwnMissing` where the user has a commit that is held, and
 /// none of the user's is shown or one that is behind the last; `NotOrdered` with the first pair of
 /// positions whose vectors aren't comparable; `NoMemory`.
 pub(crate) fn check_list(
@@ -28,11 +28,9 @@ pub(crate) fn check_list(
     shown: &[Commit],
 ) -> Result<(), ViewRefusal>
     requires { IsKeeping keeping.now }
-    ensures passes { let v = holding_of keeping.now in
-        OnOk result (Passes (shown_order v.roster v.user (own_last v) shown.now)) }
-    ensures refused { let v = holding_of keeping.now in IfErr result (λ e.
-        (e ≡ Plain NoMemory) ⊎ RefusedBy
-        (shown_order v.roster v.user (own_last v) shown.now) e) }
+    ensures passes { OnOk result (Passes (shown_order (holding_of keeping.now) shown.now)) }
+    ensures refused { IfErr result (λ e. (e ≡ Plain NoMemory)
+        ⊎ RefusedBy (shown_order (holding_of keeping.now) shown.now) e) }
 {
     let signed = match are_signed(alloc, keeping, shown) {
         Ok(signed) => signed,
@@ -41,7 +39,7 @@ pub(crate) fn check_list(
     if !signed {
         return Err(ViewRefusal::Plain(Refusal::BadSignature));
     }
-    check_signed(
+    check_own(
         alloc,
         keeping.desk.roster(),
         keeping.user,
@@ -62,23 +60,20 @@ fn own_record(keeping: &Keeping) -> Option<&Record>
     }
 }
 
-/// Checks commits that are signed by their authors, and shown as the users' last ones, for a client
-/// of that user, by the user's last commit that the client holds, if there is one. `OwnMissing`
-/// where the user has a last commit, and none of the user's is shown or one that is behind it;
+/// Checks commits that are shown as the users' last ones, for a client of that user, by the user's
+/// last commit that the client holds, if there is one. `OwnMissing` where the user has a last commit, and none of the user's is shown or one that is behind it;
 /// `NotOrdered` with the first pair of positions whose vectors aren't comparable; `NoMemory`.
-fn check_signed(
+fn check_own(
     alloc: Global,
     roster: &Roster,
     user: User,
     last: Option<&Record>,
     shown: &[Commit],
 ) -> Result<(), ViewRefusal>
-    requires signed { AreSigned roster.now shown.now }
-    requires last { IfSome (option_copied last) IsSpelled }
-    ensures passes { OnOk result
-        (Passes (shown_order roster.now user
+    requires { IfSome (option_copied last) IsSpelled }
+    ensures passes { OnOk result (Passes (own_order roster.now user
         (option_map commit_in (option_copied last.entry)) shown.now)) }
-    ensures refused { IfErr result (λ e. (e ≡ Plain NoMemory) ⊎ RefusedBy (shown_order roster.now
+    ensures refused { IfErr result (λ e. (e ≡ Plain NoMemory) ⊎ RefusedBy (own_order roster.now
         user (option_map commit_in (option_copied last.entry)) shown.now) e) }
 {
     // names the type for the prover (docs/ARCHITECTURE.md, "Forms the kit wants")
@@ -96,11 +91,11 @@ fn check_signed(
     Ok(())
 }
 
-/// Whether each commit is signed by its author. Fails only with `NoMemory`.
+/// Whether each commit is held, or signed under its author's present key. Fails only with
+/// `NoMemory`.
 fn are_signed(alloc: Global, keeping: &Keeping, shown: &[Commit]) -> Result<bool, Refusal>
     requires { IsKeeping keeping.now }
-    ensures value { IfOk result (λ b.
-        IsTrue b ↔ AreSigned (holding_of keeping.now).roster shown.now) }
+    ensures value { IfOk result (λ b. IsTrue b ↔ AreSigned (holding_of keeping.now) shown.now) }
     ensures refused { IfErr result (λ e. e ≡ NoMemory) }
 {
     // names the type for the prover (docs/ARCHITECTURE.md, "Forms the kit wants")
@@ -114,12 +109,12 @@ fn are_signed(alloc: Global, keeping: &Keeping, shown: &[Commit]) -> Result<bool
     Ok(true)
 }
 
-/// Whether a commit is signed by its author. Of one that is held this is known, and no signature is
-/// checked. Fails only with `NoMemory`.
+/// Whether a commit is held, or signed under its author's present key. Of one that is held no
+/// signature is checked. Fails only with `NoMemory`.
 fn is_signed(alloc: Global, keeping: &Keeping, commit: &Commit) -> Result<bool, Refusal>
     requires { IsKeeping keeping.now }
     ensures value { IfOk result (λ b.
-        IsTrue b ↔ IsSignedByAuthor (holding_of keeping.now).roster commit.now) }
+        IsTrue b ↔ IsShownSigned (holding_of keeping.now) commit.now) }
     ensures refused { IfErr result (λ e. e ≡ NoMemory) }
 {
     // names the type for the prover (docs/ARCHITECTURE.md, "Forms the kit wants")
@@ -127,28 +122,44 @@ fn is_signed(alloc: Global, keeping: &Keeping, commit: &Commit) -> Result<bool, 
     if is_held(alloc, keeping, commit)? {
         return Ok(true);
     }
-    let roster = keeping.desk.roster();
-    let key = keeping.end.key(roster, commit.version().author());
+    let key = keeping.end.key(commit.version().author());
     let verdict = Verdict::of(alloc, key, commit)?;
     Ok(verdict.is_signed)
 }
 
-/// Whether a commit is held, as far as its vector tells where. Fails only with `NoMemory`.
+/// Whether a commit is held. It is looked for where its vector tells that it stands, and in all of
+/// the list only where it isn't there. Fails only with `NoMemory`.
 fn is_held(alloc: Global, keeping: &Keeping, commit: &Commit) -> Result<bool, Refusal>
     requires { IsKeeping keeping.now }
-    ensures held { IfOk result (λ b. b ≡ true → IsHeld (holding_of keeping.now) commit.now) }
+    ensures held { IfOk result (λ b. IsTrue b ↔ IsHeld (holding_of keeping.now) commit.now) }
     ensures refused { IfErr result (λ e. e ≡ NoMemory) }
 {
     let place = place_of(keeping.desk.roster(), commit.version().vector());
-    if keeping.records.len() <= place {
-        return Ok(false);
-    }
     let bytes = commit.encode(alloc)?;
-    Ok(bytes.as_slice() == keeping.records[place].bytes.as_slice())
+    let records = keeping.records.as_slice();
+    Ok(has_at(records, place, bytes.as_slice()) || has_bytes(records, bytes.as_slice()))
+}
+
+/// Whether the record at that place has these bytes.
+fn has_at(records: &[Record], place: usize, bytes: &[u8]) -> bool
+    ensures { result ≡ true → list_any (λ r. pointwise nat_eq r.bytes.items bytes.now) records.now
+        ≡ true }
+{
+    match records.get(place) {
+        Some(record) => record.bytes.as_slice() == bytes,
+        None => false,
+    }
+}
+
+/// Whether a record has these bytes.
+fn has_bytes(records: &[Record], bytes: &[u8]) -> bool
+    ensures { result ≡ list_any (λ r. pointwise nat_eq r.bytes.items bytes.now) records.now }
+{
+    records.iter().any(|record| record.bytes.as_slice() == bytes)
 }
 
 /// Where in a list, counted from 0, a commit of that vector stands: its numbers of the users count
-/// the commits up to it. (A wrong place costs a check, no more: no clause needs it.)
+/// the commits up to it. (A wrong place costs time, no more: no clause needs it.)
 fn place_of(roster: &Roster, vector: &Vector) -> usize {
     let mut count = 0_u64;
     for number in vector.numbers().iter().take(roster.user_count()) {

@@ -4,6 +4,7 @@ ghost use Rattle.su_op.specs.declared.operations.Change.{Change};
 ghost use Rattle.su_desk.specs.Trial.{IsReady};
 ghost use Rattle.su_version.specs.Commit.{commit_bytes};
 ghost use Rattle.su_change.specs.Item.{item_bytes};
+ghost use Rattle.su_used_keys.specs.UsedKeys.{HasRoom};
 ghost use Rattle.su_legal.specs.Legal.{MayJoin};
 ghost use Rattle.su_view.specs.Holding.{with_more};
 ghost use Rattle.su_view.specs.Keeping.{holding_of, IsKeeping, JoinsNext};
@@ -40,6 +41,7 @@ impl Keeping {
     pub fn push(&mut self, commit: Commit, bytes: Vec<u8>, item: Vec<u8>, prepared: Prepared)
         requires kept { IsKeeping self.old }
         requires room { length self.old.records.items < vec_capacity self.old.records }
+        requires key_room { HasRoom self.old.end.used }
         requires ready { IsReady self.old.desk prepared }
         requires joins { (change : Change)
             × JoinsNext self.old commit change bytes.items item.items }

@@ -2,7 +2,6 @@
 ghost use Rattle.std.specs.Prelude.{◌≡◌, ◌≢◌, ◌⊎◌, ◌∷◌, ◌++◌, ◌+◌, ◌-◌, ◌<◌, ◌^◌, ◌↔◌, ℕ, List, [], true, length, None, Ok, Err, IsTrue, IfOk, IfErr, OnOk, OnErr, MatchOption, option_map};
 ghost use Rattle.std.specs.Borrow.{Lends, sem};
 ghost use Rattle.su_bytes.specs.Membership.{has_user};
-ghost use Rattle.su_bytes.specs.RosterBytes.{user_key};
 ghost use Rattle.su_bytes.specs.declared.formats.TheConstants.{NEWEST_FORMAT};
 ghost use Rattle.su_bytes.specs.declared.refusals.Refusal.TheVariants.{BadKey, NoUser, NoMemory, KeyFileFault};
 ghost use Rattle.su_chain.specs.ChainEnd.{HasBadKey};
@@ -16,14 +15,14 @@ ghost use Rattle.su_desk.specs.Version.{versions};
 ghost use Rattle.su_lms.specs.PrivateKey.{key_of, leaf_count};
 ghost use Rattle.su_change.specs.Item.{item_bytes};
 ghost use Rattle.su_version.specs.Commit.{commit_bytes};
-ghost use Rattle.su_version.specs.Chain.{IsNewLeaf, IsSignedBy, MayBeNext, last_leaf};
+ghost use Rattle.su_version.specs.Chain.{IsNewLeaf, IsSignedBy, MayBeNext, chain_key, last_leaf};
 ghost use Rattle.su_bytes.specs.Order.{Passes, RefusedBy};
 ghost use Rattle.su_legal.specs.Legal.{Committed, commits_of, head_of, history, Legal, MayJoin};
 ghost use Rattle.su_view.specs.Holding.{Took, MaySign, tree_of_list};
 ghost use Rattle.su_view.specs.Entry.{committed_at, AreBytesAt};
 ghost use Rattle.su_view.specs.Making.{IsMade, IsRefusedMaking};
 ghost use Rattle.su_view.specs.Listing.{HasTaken, IsRefusedBytes, RefusesNext};
-ghost use Rattle.su_view.specs.LastCommits.{own_last, shown_order};
+ghost use Rattle.su_view.specs.LastCommits.{shown_order};
 ghost use Rattle.su_view.specs.Joining.{HasFailed, IsRefusedCommit};
 ghost use Rattle.su_view.specs.declared.refusals.ViewRefusal.TheVariants.{Plain};
 ghost use Rattle.su_view.specs.contracts.views.View.{the_row};
@@ -77,16 +76,15 @@ impl<S: BlockSource + Drop> View<S> {
         &mut self.source
     }
 
-    /// Checks what a server shows as the users' last commits, before any other is taken.
-    /// `BadSignature` where one isn't signed by its author; `OwnMissing` where the view's user has
+    /// Checks what a server shows as the users' last commits, once the commits behind the list are
+    /// taken. `BadSignature` where one isn't held, nor signed under its author's present key;
+    /// `OwnMissing` where the view's user has
     /// a commit in the list, and none of the user's is shown or one that is behind the last;
     /// `NotOrdered` with the first two positions whose vectors aren't comparable; `NoMemory`.
     pub fn check_list(&self, shown: &[Commit]) -> Result<(), ViewRefusal>
-        ensures passes { let v = self.now.holding in
-            OnOk result (Passes (shown_order v.roster v.user (own_last v) shown.now)) }
-        ensures refused { let v = self.now.holding in IfErr result (λ e.
-            (e ≡ Plain NoMemory) ⊎ RefusedBy
-            (shown_order v.roster v.user (own_last v) shown.now) e) }
+        ensures passes { OnOk result (Passes (shown_order self.now.holding shown.now)) }
+        ensures refused { IfErr result (λ e. (e ≡ Plain NoMemory)
+            ⊎ RefusedBy (shown_order self.now.holding shown.now) e) }
     {
         self.holding.check_list(shown)
     }
@@ -207,8 +205,8 @@ impl<S: BlockSource + Drop> View<S> {
     /// comes with the refusal: `Malformed` with the place of a number in the list that runs past
     /// its end, or with a place in the commit's own bytes; then what refuses the commit alone, as
     /// `ChainEnd::check` does; `Change` with what refuses the change, or where its item is that of
-    /// no change; `WrongHandle` where the commit holds another i-handle than the tree has then;
-    /// `MissingBlock`, `WrongBlock`, `SourceFailed` where the source fails to give the item;
+    /// no change; `WrongKey` where the commit has another next key of its author than the change
+    /// names; `WrongHandle` where it holds another i-handle than the tree has then; `MissingBlock`, `WrongBlock`, `SourceFailed` where the source fails to give the item;
     /// `NoMemory`.
     pub fn accept(&mut self, bytes: &[u8]) -> Result<u64, (u64, ViewRefusal)>
         requires checked { S.is_checked ≡ true }
@@ -242,7 +240,8 @@ impl<S: BlockSource + Drop> View<S> {
 
     /// Makes a commit of a change of the view's user, signed by the next leaf of the user's key, and
     /// puts the item of the change into the source. The view's list stays as it was: once the commit
-    /// is stored, `accept_own` takes it. `BadSignature` where the key isn't that of the user;
+    /// is stored, `accept_own` takes it. `BadSignature` where the key isn't the one that the user has
+    /// after the list;
     /// `Change` where the change is refused; `SourceFailed`; `NoMemory`; `KeySpent` where each leaf
     /// has signed; `KeyFileFault` where the key's store fails. It signs last: on a refusal nothing
     /// was signed, and no leaf was used.
@@ -270,6 +269,7 @@ impl<S: BlockSource + Drop> View<S> {
         ensures none_signed { OnErr result (key.new.signed ≡ key.old.signed) }
         ensures unused { OnErr result (key.new.next ≡ key.old.next) }
         ensures same_key { key.new.key ≡ key.old.key }
+        ensures same_former { key.new.former ≡ key.old.former }
         ensures follows { S.follows self.old.source self.new.source }
         ensures more { (item : List ℕ) → S.may_give self.new.source item
             → S.may_give self.old.source item ⊎ (item ≡ item_bytes change) }
@@ -338,9 +338,10 @@ impl<S: BlockSource + Drop> View<S> {
         self.holding.roster()
     }
 
-    /// Returns the key of a user, if there is such a user.
+    /// Returns the key that a user has after the list, if there is such a user.
     pub fn key(&self, user: User) -> Option<PublicKey>
-        ensures { result ≡ user_key self.now.holding.roster user }
+        ensures { let v = self.now.holding in
+            result ≡ chain_key v.roster user (commits_of v.held) }
     {
         self.holding.key(user)
     }

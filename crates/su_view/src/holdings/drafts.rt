@@ -4,7 +4,6 @@ ghost use Rattle.std.specs.List.{AllByRecursion};
 ghost use Rattle.su_bytes.specs.declared.refusals.Refusal.{Refusal as Refusal_};
 ghost use Rattle.su_bytes.specs.declared.refusals.Refusal.TheVariants.{NoMemory};
 ghost use Rattle.su_bytes.specs.Principal.{principals};
-ghost use Rattle.su_bytes.specs.RosterBytes.{user_key};
 ghost use Rattle.su_format.specs.Format.{EachFrom};
 ghost use Rattle.su_op.specs.declared.operations.Change.{Change as Change_};
 ghost use Rattle.su_desk.specs.Answer.{refusal_of};
@@ -13,13 +12,13 @@ ghost use Rattle.su_change.specs.Item.{change_digest};
 ghost use Rattle.su_legal.specs.Legal.{history, Legal};
 ghost use Rattle.su_bytes.specs.Membership.{has_user};
 ghost use Rattle.su_view.specs.Joining.{AscendFrom};
-ghost use Rattle.su_view.specs.Making.{own_entry, IsDraft, next_version};
+ghost use Rattle.su_view.specs.Making.{own_entry, own_key, IsDraft, next_version};
 ghost use Rattle.su_view.specs.declared.refusals.ViewRefusal.TheVariants.{Plain, Change as ChangeRefused};
 
 use crate::holdings::{Holding, within};
 use crate::refusals::ViewRefusal;
 use std::alloc::Global;
-use su_bytes::{Digest, FileId, Group, NEWEST_FORMAT, Principal, Refusal, Roster, User};
+use su_bytes::{Digest, FileId, Group, KEY_LENGTH, NEWEST_FORMAT, Principal, Refusal, Roster, User};
 use su_change::encode;
 use su_desk::{Prepared, TrialDesk};
 use su_lms::PublicKey;
@@ -27,18 +26,19 @@ use su_op::Change;
 use su_vector::Vector;
 use su_version::VersionStructure;
 
-/// A change of the user's own that stands ready: what is told of it, and its item.
+/// A change of the user's own that stands ready: what is told of it, its item, and the user's next
+/// key, if it names one.
 #[derive(Drop)]
 pub(crate) struct Draft {
     pub(crate) prepared: Prepared,
     pub(crate) item: Vec<u8>,
+    pub(crate) next_key: Option<[u8; KEY_LENGTH]>,
 }
 
 impl Holding {
-    /// Whether the key is that of the user.
+    /// Whether the key is the one that the user has after these commits.
     pub fn is_own_key(&self, key: PublicKey) -> bool
-        ensures value { IsTrue result
-            ↔ (user_key self.now.roster self.now.user ≡ Some key) }
+        ensures value { IsTrue result ↔ (own_key self.now ≡ Some key) }
         // What holds of all that a client holds.
         ensures member { has_user self.now.roster self.now.user ≡ true }
         ensures legal { Legal self.now.roster self.now.held }
@@ -60,11 +60,16 @@ impl Holding {
             Ok(item) => item,
             Err(refusal) => return Err(within(refusal)),
         };
+        let next_key = change.named_key();
         let prepared = match self.keeping.desk.prepare(self.keeping.user, change) {
             Ok(prepared) => prepared,
             Err(refusal) => return Err(within(refusal)),
         };
-        Ok(Draft { prepared, item })
+        Ok(Draft {
+            prepared,
+            item,
+            next_key,
+        })
     }
 
     /// Makes the version structure of a draft, by the digest of its item. Fails only with
@@ -94,6 +99,7 @@ impl Holding {
             draft.prepared.author_handle,
             draft.prepared.groups,
             vector,
+            draft.next_key,
         ))
     }
 }
