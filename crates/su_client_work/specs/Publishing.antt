@@ -1,11 +1,11 @@
 -- What a client commits.
-use Rattle.std.specs.Prelude.{◌≡◌, ◌⊎◌, ◌+◌, ◌++◌, ℕ, [], ◌∷◌, length, Result, OnErr}
+use Rattle.std.specs.Prelude.{◌≡◌, ◌⊎◌, ◌++◌, ℕ, List, [], ◌∷◌, length, Result, Ok, Err, OnErr}
 use Rattle.sha2.specs.Sha256.{sha256}
 use Rattle.su_message.specs.declared.requests.Request.TheVariants as request
 use Rattle.su_message.specs.declared.replies.Reply.TheVariants.{PutDone, Stored}
 use Rattle.su_client.specs.Link.{LinkState, Exchanged, Follows}
 use Rattle.su_op.specs.declared.operations.Change.{Change}
-use Rattle.su_op.specs.declared.operations.Change.TheVariants.{Undo}
+use Rattle.su_op.specs.declared.operations.Change.TheVariants.{Undo, Rekey}
 use Rattle.su_change.specs.Item.{item_bytes}
 use Rattle.su_version.specs.Commit.{Commit, commit_bytes}
 use Rattle.su_desk.specs.History.{last_live}
@@ -14,7 +14,7 @@ use Rattle.su_view.specs.Acting.{TakesSome}
 use Rattle.su_view.specs.Holding.{HoldingState, Took}
 use Rattle.su_view.specs.Making.{IsMade}
 use Rattle.su_view.specs.declared.refusals.ViewRefusal.{ViewRefusal}
-use Rattle.su_client_work.specs.Member.{MemberState, OnlyTakes}
+use Rattle.su_client_work.specs.Member.{MemberState, OnlyTakes, ReplacesKey, leaf_behind}
 use Rattle.su_client_work.specs.Turn.{GivesUp, TakesTurn}
 
 -- ---- what is signed
@@ -27,9 +27,9 @@ pub record SignsNone (s t : MemberState) : Type 0 where
 -- one commit was signed, by one leaf: this one, which a client that held v made of the change
 pub record SignsOne (v : HoldingState) (change : Change) (c : Commit) (s t : MemberState) : Type 0
   where
-    pub made : IsMade v change s.next c
+    pub made : IsMade v change s.next.leaf c
     pub signed : t.signed ≡ s.signed ++ c ∷ []
-    pub next : t.next ≡ s.next + 1
+    pub next : t.next ≡ leaf_behind s.next
 
 -- no more than one commit of this change was signed
 abbrev pub SignsAtMost : HoldingState → Change → MemberState → MemberState → Type 0
@@ -99,6 +99,29 @@ EndsTurn change s t = GivesUp s.link t.link ⊎ WasStored change s t
 pub record Publishes (MayConnect : LinkState → Type 0) (change_of : HoldingState → Change)
     (s t : MemberState) (n : ℕ) : Type 0 where
   pub turn : MemberState
-  pub takes_turn : TakesTurn MayConnect s.holding s.link turn.holding turn.link
+  pub takes_turn : TakesTurn MayConnect s.link turn.holding turn.link
   pub takes : OnlyTakes s turn
   pub published : IsPublished (change_of turn.holding) turn t n
+
+-- ---- another key
+
+-- Once this was answered, the key whose next leaf this is was put in the place of the client's own
+-- if the answer is a number, and nothing was done if it is a refusal.
+abbrev pub ReplacesOnOk : MemberState → Result ℕ ViewRefusal → ℕ → MemberState → Type 0
+ReplacesOnOk s (Ok n) leaf t = ReplacesKey s leaf t
+ReplacesOnOk s (Err e) leaf t = t ≡ s
+
+-- No more than one commit was signed, of the rekey that names this key; where it is stored and
+-- taken, the client signs with this key from then on, whose next leaf this is.
+pub record RekeysAtMost (key : List ℕ) (leaf : ℕ) (s : MemberState) (answer : Result ℕ ViewRefusal)
+    (t : MemberState) : Type 0 where
+  pub between : MemberState
+  pub commits : CommitsAtMost (always (Rekey key)) s answer between
+  pub replaces : ReplacesOnOk between answer leaf t
+
+-- The rekey that names this key is published, and then the client signs with the key.
+pub record Rekeys (MayConnect : LinkState → Type 0) (key : List ℕ) (leaf : ℕ) (s t : MemberState)
+    (n : ℕ) : Type 0 where
+  pub between : MemberState
+  pub publishes : Publishes MayConnect (always (Rekey key)) s between n
+  pub replaces : ReplacesKey between leaf t

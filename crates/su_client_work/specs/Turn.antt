@@ -1,4 +1,4 @@
--- How a client takes its turn at a server, and what it is shown before it looks at the tree. (The
+-- How a client takes its turn at a server, and what it is shown of the users' last commits. (The
 -- protocol is this project's own; what is checked is SUNDR's, section 3.3.)
 use Rattle.std.specs.Prelude.{◌≡◌, ◌≤◌, ◌⊎◌, ◌+◌, ◌++◌, ℕ, true, List, length, [], ◌∷◌, Option, option_map, option_to_list}
 use Rattle.su_bytes.specs.Order.{Passes}
@@ -11,7 +11,7 @@ use Rattle.su_version.specs.Commit.{Commit, commit_bytes}
 use Rattle.su_view.specs.Holding.{HoldingState}
 use Rattle.su_view.specs.declared.refusals.ViewRefusal.{ViewRefusal}
 use Rattle.su_view.specs.declared.refusals.ViewRefusal.TheVariants.{Plain}
-use Rattle.su_view.specs.LastCommits.{own_last, shown_order}
+use Rattle.su_view.specs.LastCommits.{shown_order}
 
 -- A link failed, and a new one, which may be made, was put in its place.
 pub record IsMadeAnew (MayConnect : LinkState → Type 0) (a b : LinkState) : Type 0 where
@@ -64,12 +64,13 @@ AreShown (user ∷ users) before a shown b =
     (more : List Commit) × (between : LinkState) × IsShown user.1 before a more between
     × AreShown users more between shown b
 
--- A client that holds v is shown these users' last commits, and they pass; then more is asked.
+-- A client is shown these users' last commits, and then asks for more; by what it holds then, v, they
+-- pass.
 pub record PassesShown (v : HoldingState) (last : List (ℕ × ℕ)) (a b : LinkState) : Type 0 where
   pub shown : List Commit
   pub checked : LinkState
   pub are_shown : AreShown last [] a shown checked
-  pub passes : Passes (shown_order v.roster v.user (own_last v) shown)
+  pub passes : Passes (shown_order v shown)
   pub follows : Follows checked b
 
 -- Between these calls over the link the server was asked for a commit, and said that it has nothing
@@ -90,22 +91,22 @@ IsCaughtUp count v a b = (count ≤ length v.held) ⊎ SaysNothing a b
 abbrev pub HasMore : HoldingState → LinkState → HoldingState → LinkState → Type 0
 HasMore v a w b = IsCaughtUp (length v.held + 1) w a b
 
--- A client that holds v takes its turn: it is granted, what the server shows as the users' last
--- commits passes, and then the client holds w, which has all commits of which the server told.
-pub record TakesTurn (MayConnect : LinkState → Type 0) (v : HoldingState) (a : LinkState)
-    (w : HoldingState) (b : LinkState) : Type 0 where
+-- A client takes its turn: it is granted; the client then holds v, which has all commits of which
+-- the server told; and by that what the server shows as the users' last commits passes.
+pub record TakesTurn (MayConnect : LinkState → Type 0) (a : LinkState) (v : HoldingState)
+    (b : LinkState) : Type 0 where
   pub count : ℕ
   pub last : List (ℕ × ℕ)
   pub turn : LinkState
   pub granted : IsGranted MayConnect a turn count last
+  pub caught_up : IsCaughtUp count v turn b
   pub passes : PassesShown v last turn b
-  pub caught_up : IsCaughtUp count w turn b
 
 -- and then it gives the turn back
-pub record Looks (MayConnect : LinkState → Type 0) (v : HoldingState) (a : LinkState)
-    (w : HoldingState) (b : LinkState) : Type 0 where
+pub record Looks (MayConnect : LinkState → Type 0) (a : LinkState) (v : HoldingState)
+    (b : LinkState) : Type 0 where
   pub between : LinkState
-  pub takes_turn : TakesTurn MayConnect v a w between
+  pub takes_turn : TakesTurn MayConnect a v between
   pub gives : Exchanged Give between b Given
 
 -- ---- what is refused

@@ -1,18 +1,24 @@
 -- What a client does from one state to another: acts that it may, one after the other, and each
--- commit that is signed with its key is one of them. (SUNDR, section 3.3; RFC 8554, section 9.2: a
+-- commit that is signed with its keys is one of them. (SUNDR, section 3.3; RFC 8554, section 9.2: a
 -- leaf signs once.)
-use Rattle.std.specs.Prelude.{◌≡◌, List, [], ◌∷◌, ◌+◌, ◌++◌, length, map}
+use Rattle.std.specs.Prelude.{◌≡◌, ◌≤◌, ℕ, List, [], ◌∷◌, ◌+◌, ◌++◌, length, map}
 use Rattle.su_legal.specs.Act.{Act, Act.Takes, Act.Signs}
 use Rattle.su_version.specs.Version.{Version}
 use Rattle.su_version.specs.Commit.{Commit}
 use Rattle.su_view.specs.Acting.{Does}
-use Rattle.su_client_work.specs.Member.{MemberState}
+use Rattle.su_client_work.specs.Member.{NextLeaf, MemberState}
 
 -- the version structures that these acts sign, in order
 abbrev pub signed_in : List Act → List Version
 signed_in [] = []
 signed_in (Takes more ∷ acts) = signed_in acts
 signed_in (Signs s ∷ acts) = s ∷ signed_in acts
+
+-- From one leaf to another so many have signed, if they are of one key; and no earlier key comes
+-- back.
+pub record LeavesUsed (before : NextLeaf) (count : ℕ) (after : NextLeaf) : Type 0 where
+  pub keys : before.keys ≤ after.keys
+  pub leaves : after.keys ≡ before.keys → after.leaf ≡ before.leaf + count
 
 -- It does these acts, and signs these commits: their version structures are those of the acts, and
 -- each uses one leaf.
@@ -22,4 +28,4 @@ pub record Works (s t : MemberState) : Type 0 where
   pub does : Does s.holding acts t.holding
   pub signed : t.signed ≡ s.signed ++ commits
   pub signs : signed_in acts ≡ map (λ c. c.version) commits
-  pub leaves : t.next ≡ s.next + length commits
+  pub leaves : LeavesUsed s.next (length commits) t.next

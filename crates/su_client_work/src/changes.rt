@@ -5,12 +5,13 @@ ghost use Rattle.su_client.specs.Link.{Follows, GoesAhead};
 ghost use Rattle.su_client.specs.Outbox.{contents, IsHandedIn};
 ghost use Rattle.su_desk.specs.History.{last_live};
 ghost use Rattle.su_legal.specs.Legal.{history};
+ghost use Rattle.su_lms.specs.PrivateKey.{key_of};
 ghost use Rattle.su_op.specs.declared.operations.Change.{Change as Change_};
 ghost use Rattle.su_plan.specs.Plan.{plan};
 ghost use Rattle.su_view.specs.Holding.{tree_of_list};
 ghost use Rattle.su_view.specs.Making.{IsMade};
 ghost use Rattle.su_client_work.specs.Member.{OnlyTakes, Stays};
-ghost use Rattle.su_client_work.specs.Publishing.{always, last_undo, CommitsAtMost, EndsTurn, HandsIn, IsPublished, Publishes, SignsAtMost, SignsNone, TakesOwn};
+ghost use Rattle.su_client_work.specs.Publishing.{always, last_undo, CommitsAtMost, EndsTurn, HandsIn, IsPublished, Publishes, Rekeys, RekeysAtMost, SignsAtMost, SignsNone, TakesOwn};
 ghost use Rattle.su_client_work.specs.Turn.{Comes, GivesUp, IsRefusedTurn, TakesTurn};
 ghost use Rattle.su_client_work.specs.Work.{Works};
 
@@ -21,7 +22,7 @@ use std::alloc::Global;
 use std::io::{Read, Write};
 use su_bytes::Refusal;
 use su_client::Outbox;
-use su_lms::KeyStore;
+use su_lms::{KeyStore, Signer};
 use su_message::{Bytes, Request};
 use su_op::{Change, Op};
 use su_plan::Command;
@@ -39,8 +40,8 @@ impl<R: Read + Drop, W: Write + Drop, K: KeyStore + Drop> Member<R, W, K> {
     ) -> Result<Vec<Op>, ViewRefusal>
         ensures takes { OnlyTakes self.old self.new }
         ensures link { Comes A.may_connect self.old.link self.new.link }
-        ensures turn { OnOk result (TakesTurn A.may_connect self.old.holding self.old.link
-            self.new.holding self.new.link) }
+        ensures turn { OnOk result (TakesTurn A.may_connect self.old.link self.new.holding
+            self.new.link) }
         ensures planned { let v = self.new.holding in IfOk result (λ operations.
             plan v.roster (tree_of_list v) v.user command.now ≡ Ok operations.items) }
         ensures refused { IfErr result
@@ -106,6 +107,27 @@ impl<R: Read + Drop, W: Write + Drop, K: KeyStore + Drop> Member<R, W, K> {
                 Err(ViewRefusal::Plain(refusal))
             }
         }
+    }
+
+    /// Commits a rekey to the key of this signer, once all commits are taken, and returns the number
+    /// of its commit, which the client's own key signs. From then on the client signs with this one;
+    /// where it is refused, with its own as before. The refusals are those of `change`: `Change` of
+    /// `KeyReuse` where a user has or had the key.
+    pub fn rekey<A: Surroundings<R, W>>(
+        &mut self,
+        around: &mut A,
+        signer: Signer<K>,
+    ) -> Result<u64, ViewRefusal>
+        ensures works { Works self.old self.new }
+        ensures signs { RekeysAtMost (key_of signer.key) signer.next self.old result self.new }
+        ensures link { Comes A.may_connect self.old.link self.new.link }
+        ensures published { IfOk result
+            (Rekeys A.may_connect (key_of signer.key) signer.next self.old self.new) }
+    {
+        let change = Change::Rekey(*signer.public().as_bytes());
+        let number = self.change(around, change, false)?;
+        self.replace_key(signer);
+        Ok(number)
     }
 
     /// Returns the number of the last operation that stands, 0 where there is none. Fails only with

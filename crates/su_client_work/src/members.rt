@@ -4,10 +4,8 @@ ghost use Rattle.su_bytes.specs.declared.refusals.Refusal.TheVariants.{LinkFaile
 ghost use Rattle.su_message.specs.declared.requests.Request.TheVariants.{Grant, Give, Fetch};
 ghost use Rattle.su_message.specs.declared.replies.Reply.TheVariants.{Granted, Given};
 ghost use Rattle.su_client.specs.Link.{IsFresh, Exchanged, Follows, GoesAhead, IsRefusal, kept_or_nothing};
-ghost use Rattle.su_version.specs.Chain.{IsSignedByAuthor};
-ghost use Rattle.su_view.specs.LastCommits.{AreSigned};
 ghost use Rattle.su_log.specs.Record.{IsExamined};
-ghost use Rattle.su_client_work.specs.Member.{OnlyTakes, Stays};
+ghost use Rattle.su_client_work.specs.Member.{OnlyTakes, ReplacesKey, Stays};
 ghost use Rattle.su_client_work.specs.Turn.{AreShown, Comes, GivesUp, HasMore, IsCaughtUp, IsGranted, IsGrantedOver, IsRefusedTurn, IsShown, IsUngranted, IsUngrantedOver, Looks, PassesShown, SaysNothing, TakesTurn, commit_or_nothing};
 
 use crate::early::Early;
@@ -25,7 +23,7 @@ use su_client::{Client, Outbox};
 use su_lms::{KeyStore, Signer};
 use su_log::Record;
 use su_message::{Bytes, LastNumbers, Request};
-use su_version::{Commit, Verdict};
+use su_version::Commit;
 use su_view::{OwnKey, View, ViewRefusal};
 
 /// How many milliseconds a client waits before it asks again for a turn that another has.
@@ -55,7 +53,7 @@ impl<R: Read, W: Write, K: KeyStore> Model for Member<R, W, K> {
       holding = s.view.holding;
       link = s.view.source.source.client.link;
       signed = s.key.signed;
-      next = s.key.next;
+      next = record { keys = length s.key.former; leaf = s.key.next };
     } };
 }
 
@@ -71,7 +69,7 @@ impl<R: Read + Drop, W: Write + Drop, K: KeyStore + Drop> Member<R, W, K> {
         ensures holding { result.holding ≡ view.holding }
         ensures link { result.link ≡ view.source.source.client.link }
         ensures signed { result.signed ≡ [] }
-        ensures next { result.next ≡ signer.next }
+        ensures next { result.next ≡ record { keys = 0; leaf = signer.next } }
     {
         Member {
             view,
@@ -95,23 +93,31 @@ impl<R: Read + Drop, W: Write + Drop, K: KeyStore + Drop> Member<R, W, K> {
             .has_failed()
     }
 
+    /// Puts another signer in the place of the client's own: what the client makes from then on is
+    /// signed by that.
+    pub(crate) fn replace_key(&mut self, signer: Signer<K>)
+        ensures { ReplacesKey self.old signer.next self.new }
+    {
+        self.key.replace(signer);
+    }
+
     /// Lends where the leaf that signs next is stored.
     pub fn store(&self) -> &K {
         self.key.store()
     }
 
-    /// Takes the turn, checks what the server shows as the users' last commits, and takes the
-    /// commits that the list lacks. Where the link has failed before the turn is granted, as that of
+    /// Takes the turn, takes the commits that the list lacks, and checks what the server shows as the
+    /// users' last commits. Where the link has failed before the turn is granted, as that of
     /// a session that was ended, it is made anew, once. `Busy` where another has the turn each time
-    /// that it is asked for, or no worker of the server is free; the refusals of `View::check_list`
-    /// and `View::accept`; `Malformed` with a place in the bytes of what is shown as a last commit;
+    /// that it is asked for, or no worker of the server is free; the refusals of `View::accept` and
+    /// `View::check_list`; `Malformed` with a place in the bytes of what is shown as a last commit;
     /// `LinkFailed`; `NoMemory`. Where it is refused, the turn is given back, and what was taken
     /// before stays.
     pub fn begin<A: Surroundings<R, W>>(&mut self, around: &mut A) -> Result<(), ViewRefusal>
         ensures takes { OnlyTakes self.old self.new }
         ensures link { Comes A.may_connect self.old.link self.new.link }
-        ensures turn { OnOk result (TakesTurn A.may_connect self.old.holding self.old.link
-            self.new.holding self.new.link) }
+        ensures turn { OnOk result (TakesTurn A.may_connect self.old.link self.new.holding
+            self.new.link) }
         ensures refused { IfErr result
             (IsRefusedTurn A.may_connect self.old.link self.new.link) }
     {
@@ -128,13 +134,13 @@ impl<R: Read + Drop, W: Write + Drop, K: KeyStore + Drop> Member<R, W, K> {
         }
     }
 
-    /// Takes the turn, checks and takes what the list lacks, and gives the turn back. The refusals
+    /// Takes the turn, takes what the list lacks, checks the last commits, and gives the turn back. The refusals
     /// are those of `begin`.
     pub fn look<A: Surroundings<R, W>>(&mut self, around: &mut A) -> Result<(), ViewRefusal>
         ensures takes { OnlyTakes self.old self.new }
         ensures link { Comes A.may_connect self.old.link self.new.link }
-        ensures looks { OnOk result (Looks A.may_connect self.old.holding self.old.link
-            self.new.holding self.new.link) }
+        ensures looks { OnOk result (Looks A.may_connect self.old.link self.new.holding
+            self.new.link) }
         ensures refused { IfErr result
             (IsRefusedTurn A.may_connect self.old.link self.new.link) }
     {
@@ -312,8 +318,8 @@ impl<R: Read + Drop, W: Write + Drop, K: KeyStore + Drop> Member<R, W, K> {
         self.early.send_turn(outbox.client_mut());
     }
 
-    /// Checks what the server shows as the last commits of these users, and takes what the list lacks
-    /// of so many.
+    /// Takes what the list lacks of so many commits, and checks what the server shows as the last
+    /// commits of these users, each of which is held then, if the server tells no lies.
     fn catch_up<A: Surroundings<R, W>>(
         &mut self,
         around: &mut A,
@@ -323,13 +329,13 @@ impl<R: Read + Drop, W: Write + Drop, K: KeyStore + Drop> Member<R, W, K> {
         ensures takes { OnlyTakes self.old self.new }
         ensures follows { Follows self.old.link self.new.link }
         ensures passes { OnOk result
-            (PassesShown self.old.holding last.now self.old.link self.new.link) }
+            (PassesShown self.new.holding last.now self.old.link self.new.link) }
         ensures caught_up { OnOk result
             (IsCaughtUp count self.new.holding self.old.link self.new.link) }
     {
         let shown = self.last_commits(last)?;
-        self.view.check_list(shown.commits())?;
-        self.take_up_to(around, count, &shown)
+        self.take_up_to(around, count, &shown)?;
+        self.view.check_list(shown.commits())
     }
 
     /// Fetches these last commits. What the server says that it hasn't is left out.
@@ -446,7 +452,6 @@ impl<R: Read + Drop, W: Write + Drop, K: KeyStore + Drop> Member<R, W, K> {
         count: u64,
         shown: &Shown,
     ) -> Result<(), ViewRefusal>
-        requires signed { AreSigned self.old.holding.roster shown.now.commits.items }
         ensures takes { OnlyTakes self.old self.new }
         ensures follows { Follows self.old.link self.new.link }
         ensures caught_up { OnOk result
@@ -469,15 +474,14 @@ impl<R: Read + Drop, W: Write + Drop, K: KeyStore + Drop> Member<R, W, K> {
         shown: &Shown,
         ready: &mut Ready,
     ) -> Result<(), ViewRefusal>
-        requires signed { AreSigned self.old.holding.roster shown.now.commits.items }
-        requires some { before < count }
+        requires { before < count }
         ensures takes { OnlyTakes self.old self.new }
         ensures follows { Follows self.old.link self.new.link }
         ensures more { OnOk result
             (HasMore self.old.holding self.old.link self.new.holding self.new.link) }
     {
         self.make_ready(around, before, count, shown, ready)?;
-        self.take_one(before + 1, shown, ready)
+        self.take_one(before + 1, ready)
     }
 
     /// Fetches more, where a list of so many commits has all that were fetched.
@@ -499,27 +503,22 @@ impl<R: Read + Drop, W: Write + Drop, K: KeyStore + Drop> Member<R, W, K> {
         Ok(())
     }
 
-    /// Takes the commit of that number: the one that is shown with it, or else what was fetched, or
-    /// is fetched then.
-    fn take_one(&mut self, number: u64, shown: &Shown, ready: &mut Ready) -> Result<(), ViewRefusal>
-        requires signed { AreSigned self.old.holding.roster shown.now.commits.items }
+    /// Takes the commit of that number: what was fetched, or is fetched then.
+    fn take_one(&mut self, number: u64, ready: &mut Ready) -> Result<(), ViewRefusal>
         ensures takes { OnlyTakes self.old self.new }
         ensures follows { Follows self.old.link self.new.link }
         ensures more { OnOk result
             (HasMore self.old.holding self.old.link self.new.holding self.new.link) }
     {
-        match shown.of(number) {
-            Some(commit) => self.take_signed(commit),
-            None => match ready.next() {
-                Some(found) => self.take_record(found),
-                None => self.take_fetched(number),
-            },
+        match ready.next() {
+            Some(found) => self.take_record(found),
+            None => self.take_fetched(number),
         }
     }
 
-    /// Fetches the commits behind so many, up to `count` or many, which aren't shown, and finds out
-    /// on all cores which of them are signed. The requests leave together, and behind them those for
-    /// the items of all.
+    /// Fetches the commits behind so many, up to `count` or many, but for those that are shown, and
+    /// finds out on all cores which of them all are signed. The requests leave together, and behind
+    /// them those for the items of all.
     fn fetch_ready<A: Surroundings<R, W>>(
         &mut self,
         around: &mut A,
@@ -566,8 +565,8 @@ impl<R: Read + Drop, W: Write + Drop, K: KeyStore + Drop> Member<R, W, K> {
         self.send_ahead(&Request::Fetch(number))
     }
 
-    /// Fetches the commit of that number, unless it is shown. Where all requests before are on their
-    /// way, that for its item is sent ahead.
+    /// Adds the commit of that number, as it is shown, or else fetched. Where all requests before are
+    /// on their way, that for its item is sent ahead.
     fn fetch_one(
         &mut self,
         number: u64,
@@ -583,7 +582,8 @@ impl<R: Read + Drop, W: Write + Drop, K: KeyStore + Drop> Member<R, W, K> {
         Ok(())
     }
 
-    /// Fetches the commit of that number, unless it is shown, and tells the digest of its item.
+    /// Adds the commit of that number, as it is shown, or else fetched, and tells the digest of its
+    /// item.
     fn named_by(
         &mut self,
         number: u64,
@@ -594,7 +594,8 @@ impl<R: Read + Drop, W: Write + Drop, K: KeyStore + Drop> Member<R, W, K> {
         ensures follows { Follows self.old.link self.new.link }
     {
         if let Some(commit) = shown.of(number) {
-            return Ok(Some(commit.version().change()));
+            let bytes = commit.encode(self.alloc)?;
+            return fetched.push(self.alloc, bytes);
         }
         match self.fetch(number)? {
             Some(bytes) => fetched.push(self.alloc, bytes.into_vec()),
@@ -623,26 +624,6 @@ impl<R: Read + Drop, W: Write + Drop, K: KeyStore + Drop> Member<R, W, K> {
             (HasMore self.old.holding self.old.link self.new.holding self.new.link) }
     {
         take_commit(&mut self.view, found)
-    }
-
-    /// Takes a commit that was found to be signed by its author, so that this isn't checked again.
-    fn take_signed(&mut self, commit: &Commit) -> Result<(), ViewRefusal>
-        requires signed { IsSignedByAuthor self.old.holding.roster commit.now }
-        ensures takes { OnlyTakes self.old self.new }
-        ensures follows { Follows self.old.link self.new.link }
-        ensures more { OnOk result
-            (HasMore self.old.holding self.old.link self.new.holding self.new.link) }
-    {
-        // its clause tells the prover that it is a commit (docs/ARCHITECTURE.md, "Forms the kit
-        // wants")
-        let _version = commit.version();
-        let bytes = commit.encode(self.alloc)?;
-        let copy = Commit::decode(self.alloc, bytes.as_slice())?;
-        let verdict = Verdict {
-            key: self.view.key(commit.version().author()),
-            is_signed: true,
-        };
-        self.view.accept_known(copy, bytes.as_slice(), verdict)
     }
 
     /// Fetches the commit of that number, and takes it. What was sent ahead is passed by.

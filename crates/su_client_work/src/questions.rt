@@ -24,8 +24,8 @@ impl<R: Read + Drop, W: Write + Drop, K: KeyStore + Drop> Member<R, W, K> {
     ) -> Result<Vec<(Name, FileId)>, ViewRefusal>
         ensures takes { OnlyTakes self.old self.new }
         ensures link { Comes A.may_connect self.old.link self.new.link }
-        ensures looks { OnOk result (Looks A.may_connect self.old.holding self.old.link
-            self.new.holding self.new.link) }
+        ensures looks { OnOk result (Looks A.may_connect self.old.link self.new.holding
+            self.new.link) }
         ensures lists { IfOk result (λ names. Lists self.new.holding path.now names.items) }
     {
         self.look(around)?;
@@ -45,8 +45,8 @@ impl<R: Read + Drop, W: Write + Drop, K: KeyStore + Drop> Member<R, W, K> {
     ) -> Result<Vec<u8>, ViewRefusal>
         ensures takes { OnlyTakes self.old self.new }
         ensures link { Comes A.may_connect self.old.link self.new.link }
-        ensures looks { OnOk result (Looks A.may_connect self.old.holding self.old.link
-            self.new.holding self.new.link) }
+        ensures looks { OnOk result (Looks A.may_connect self.old.link self.new.holding
+            self.new.link) }
         ensures shows { IfOk result (λ bytes.
             Shows self.new.holding path.now off len bytes.items) }
     {
@@ -60,8 +60,8 @@ impl<R: Read + Drop, W: Write + Drop, K: KeyStore + Drop> Member<R, W, K> {
     pub fn log<A: Surroundings<R, W>>(&mut self, around: &mut A) -> Result<Vec<u8>, ViewRefusal>
         ensures takes { OnlyTakes self.old self.new }
         ensures link { Comes A.may_connect self.old.link self.new.link }
-        ensures looks { OnOk result (Looks A.may_connect self.old.holding self.old.link
-            self.new.holding self.new.link) }
+        ensures looks { OnOk result (Looks A.may_connect self.old.link self.new.holding
+            self.new.link) }
         ensures log { IfOk result (λ log. log.items ≡ saved_log self.new.holding.held) }
     {
         self.look(around)?;

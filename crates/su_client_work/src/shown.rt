@@ -1,9 +1,5 @@
 // What a server shows as the users' last commits.
-ghost use Rattle.std.specs.Prelude.{◌≡◌, ◌∷◌, ◌++◌, [], IfSome, OnOk};
-ghost use Rattle.std.specs.Option.{option_copied};
-ghost use Rattle.su_bytes.specs.Membership.{Membership};
-ghost use Rattle.su_version.specs.Chain.{IsSignedByAuthor};
-ghost use Rattle.su_view.specs.LastCommits.{AreSigned};
+ghost use Rattle.std.specs.Prelude.{◌≡◌, ◌∷◌, ◌++◌, [], OnOk};
 
 use std::alloc::{AllocError, Global};
 use su_version::Commit;
@@ -43,10 +39,7 @@ impl Shown {
     }
 
     /// Lends the commit that is shown with that number, if one is.
-    pub fn of(&self, number: u64) -> Option<&Commit>
-        ensures signed { (ro : Membership) → AreSigned ro self.now.commits.items
-            → IfSome (option_copied result) (IsSignedByAuthor ro) }
-    {
+    pub fn of(&self, number: u64) -> Option<&Commit> {
         let place = self.numbers.iter().position(|it| *it == number)?;
         self.commits.get(place)
     }

@@ -1,14 +1,14 @@
 -- What the laws on forks suppose, of the commits that clients took, and of those that they are shown.
 -- Of all byte strings it couldn't be said, as SHA-256 has collisions, and under each key that was
 -- made every message has a signature.
-use Rattle.std.specs.Prelude.{◌≡◌, ℕ, true, List, [], ◌∷◌, Some}
+use Rattle.std.specs.Prelude.{◌≡◌, ◌⊎◌, ℕ, true, List, [], ◌∷◌, Some}
 use Rattle.std.specs.List.{flat_map, Contains}
 use Rattle.sha2.specs.Sha256.{sha256}
 use Rattle.su_bytes.specs.Membership.{Membership}
 use Rattle.su_bytes.specs.RosterBytes.{roster_bytes, user_key}
 use Rattle.su_lms.specs.Signature.{IsSigned}
 use Rattle.su_change.specs.Item.{item_bytes}
-use Rattle.su_version.specs.Version.{version_bytes}
+use Rattle.su_version.specs.Version.{Version, version_bytes}
 use Rattle.su_version.specs.Commit.{commit_bytes}
 use Rattle.su_legal.specs.Legal.{Committed, author_of}
 use Rattle.su_fork.specs.Events.{World, Event, versions_of}
@@ -30,10 +30,12 @@ pub record NoCollision (strings : List (List ℕ)) : Type 0 where
 
 -- ---- no forged signatures
 
--- The keys under which user u's own clients sign. (Today the roster's alone; a user who changes keys
--- will have each that the user signed as the next one.)
+-- The keys under which user u's own clients sign: the roster's, and each that one of them signed as
+-- the user's next one.
 abbrev pub IsOwnKey : World → List Event → ℕ → List ℕ → Type 0
-IsOwnKey w es u key = user_key w.roster u ≡ Some key
+IsOwnKey w es u key =
+    (user_key w.roster u ≡ Some key)
+    ⊎ ((v : Version) × Contains (versions_of w u es) v × (v.next_key ≡ Some key))
 
 -- What is among these commits as signed by an honest user, under a key of the user's own, a client of
 -- the user signed in these events.

@@ -1,4 +1,5 @@
 pub mod Lists
 pub mod LegalLists
 pub mod VectorCounts
+pub mod NextKeys
 pub mod Public

@@ -6,11 +6,12 @@ use Rattle.su_bytes.specs.Membership.{Membership}
 use Rattle.su_bytes.specs.Order.{RefusedBy}
 use Rattle.su_bytes.specs.declared.formats.Format.{Format}
 use Rattle.su_bytes.specs.declared.refusals.Refusal.{Refusal}
-use Rattle.su_bytes.specs.declared.refusals.Refusal.TheVariants.{NoMemory}
+use Rattle.su_bytes.specs.declared.refusals.Refusal.TheVariants.{NoMemory, WrongKey}
 use Rattle.su_bytes.specs.declared.principals.Principal.{Principal}
 use Rattle.su_bytes.specs.declared.principals.Principal.TheVariants.{User, Group}
 use Rattle.su_format.specs.Format.{EachFrom}
 use Rattle.su_op.specs.declared.operations.Change.{Change}
+use Rattle.su_op.specs.Action.{named_key}
 use Rattle.su_desk.specs.declared.entries.Entry.{Entry}
 use Rattle.su_desk.specs.declared.prepared.Prepared.{Prepared}
 use Rattle.su_desk.specs.Desk.{DeskState, with_entry}
@@ -95,30 +96,37 @@ module _ (v : HoldingState) (c : Commit) (change : Change) (item : List ℕ) (is
   other_than (User u) wrong (author, groups) = wrong.1 author
   other_than (Group g) wrong (author, groups) = wrong.1.other (ap (λ l. handle_in l g) groups)
 
+  -- the next key is another than the one that the change names
+  pub other_key : (n : ℕ) → answer v.roster (history v.held) (entry_made c change) ≡ Ok n
+      → (c.version.next_key ≡ named_key change → ⊥) → IsRefusedWith v c item (Plain WrongKey)
+  other_key n accepted other =
+      unfit (Plain WrongKey) (inr (accepted_answer v.roster (history v.held) (entry_made c change) n accepted, inl (refl, other)))
+
   -- a handle is another than the one that was told
   pub other_handle : (n : ℕ) (handle : List ℕ) (groups : List (ℕ × List ℕ)) (p : Principal)
       → answer v.roster (history v.held) (entry_made c change) ≡ Ok n
       → handle ≡ author_handle v.roster (history v.held) (entry_made c change)
       → groups ≡ group_handles v.roster (history v.held) (entry_made c change)
-      → IsOtherHandle c.version handle groups p → IsRefusedWith v c item (WrongHandle p)
-  other_handle n handle groups p accepted told_handle told_groups other =
+      → c.version.next_key ≡ named_key change → IsOtherHandle c.version handle groups p → IsRefusedWith v c item (WrongHandle p)
+  other_handle n handle groups p accepted told_handle told_groups key other =
       let wrong = subst (λ gs. IsOtherHandle c.version (author_handle v.roster (history v.held) (entry_made c change)) gs p) told_groups
       (subst (λ d. IsOtherHandle c.version d groups p) told_handle other) in
-      unfit (WrongHandle p) (inr (accepted_answer v.roster (history v.held) (entry_made c change) n accepted, inl ((p, refl, wrong), other_than p wrong)))
+      unfit (WrongHandle p) (inr (accepted_answer v.roster (history v.held) (entry_made c change) n accepted, inr (key, inl ((p, refl, wrong), other_than p wrong))))
 
   -- all handles are those that were told
   pub may_join : (n : ℕ) → MayBeNext v.roster (commits_of v.held) c → sha256 item ≡ c.version.change
-      → answer v.roster (history v.held) (entry_made c change) ≡ Ok n
+      → answer v.roster (history v.held) (entry_made c change) ≡ Ok n → c.version.next_key ≡ named_key change
       → c.version.handle ≡ author_handle v.roster (history v.held) (entry_made c change)
       → c.version.groups ≡ group_handles v.roster (history v.held) (entry_made c change)
       → MayJoin v.roster v.held (record { commit = c; change = change })
-  may_join n next named accepted handle groups = record {
+  may_join n next named accepted key handle groups = record {
     next = next;
     accepted = accepted_answer v.roster (history v.held) (entry_made c change) n accepted;
     fits = record {
       is_change = is_change;
       has_item = has_item;
       named = sym named ∙ ap sha256 spelled;
+      next_key_is = key;
       author_handle_is = handle;
       group_handles_are = groups;
     };
@@ -173,14 +181,14 @@ joins_with k c change l records settled ready bytes item bytes_are item_is joins
 module _ (k : Keeping) (kept : IsKeeping k) (e : Entry) (c : Commit) (change : Change) (made : e ≡ entry_made c change) (p : Prepared) (bytes item : List ℕ)
     (is_change : IsChange change) (has_item : HasItem change) (spelled : item ≡ item_bytes change) where
   pub joined_so : MayBeNext (holding_of k).roster (commits_of (holding_of k).held) c → sha256 item ≡ c.version.change
-      → answer k.desk.settled.roster k.desk.settled.history e ≡ Ok p.number → Tells k.desk.settled e p
+      → answer k.desk.settled.roster k.desk.settled.history e ≡ Ok p.number → Tells k.desk.settled e p → c.version.next_key ≡ named_key change
       → c.version.handle ≡ p.author_handle → c.version.groups ≡ p.groups.items → bytes ≡ commit_bytes c
       → (l : Keeping) → l.records.items ≡ k.records.items → l.desk ≡ ready_with k.desk.settled e → JoinsNext l c change bytes item
-  joined_so next named accepted told handle groups bytes_are l records ready =
+  joined_so next named accepted told key handle groups bytes_are l records ready =
       joins_with k c change l records (ap (λ (t : TrialState). t.settled) ready)
       (ap (λ (t : TrialState). t.ready) ready ∙ ap (λ x. x ∷ []) made) bytes item bytes_are spelled
       (may_join (holding_of k) c change item is_change has_item spelled p.number next named
-      (answered k kept e c change made (Ok p.number) accepted)
+      (answered k kept e c change made (Ok p.number) accepted) key
       (handle ∙ told_handle k kept e c change made p told)
       (groups ∙ told_groups k kept e c change made p told))
 

@@ -241,10 +241,10 @@ impl<S: BlockSource + Drop> View<S> {
     /// Makes a commit of a change of the view's user, signed by the next leaf of the user's key, and
     /// puts the item of the change into the source. The view's list stays as it was: once the commit
     /// is stored, `accept_own` takes it. `BadSignature` where the key isn't the one that the user has
-    /// after the list;
-    /// `Change` where the change is refused; `SourceFailed`; `NoMemory`; `KeySpent` where each leaf
-    /// has signed; `KeyFileFault` where the key's store fails. It signs last: on a refusal nothing
-    /// was signed, and no leaf was used.
+    /// after the list; `Change` where the change is refused; `SourceFailed`; `NoMemory`; `KeySpent`
+    /// where each leaf has signed; `KeyFileFault` where the key's store fails. It signs last: on a
+    /// refusal nothing was signed, and no leaf was used. From a commit that names the user's next key
+    /// on, the next ones are made with that.
     pub fn make<K: KeyStore>(
         &mut self,
         change: Change,

@@ -25,11 +25,14 @@ one_commit c d ic id e =
     sym (spelling_told commit_lawful commit_of c d [] [] ic id (append-nil (commit_bytes c) ∙ e ∙ sym (append-nil (commit_bytes d)))).0
 
 fitting_says : (v : HoldingState) (c : Commit) (change : Change) → EachSays IsOfTheChange (fitting_order v c change)
-fitting_says v c change = ((λ e refused. subst IsOfTheChange (sym refused.1) tt), ((λ e refused. subst IsOfTheChange (sym refused.1) tt), tt))
+fitting_says v c change = (
+  (λ e refused. subst IsOfTheChange (sym refused.1) tt),
+  ((λ e refused. subst IsOfTheChange (sym refused) (inr refl)), ((λ e refused. subst IsOfTheChange (sym refused.1) tt), tt)),
+)
 
 module _ (MayGive : List ℕ → Type 0) (failed now : Failures) (v : HoldingState) (c : Commit) (e : ViewRefusal) (next : MayBeNext v.roster (commits_of v.held) c) where
   pub taken : HasFailed failed now c.version.change e ⊎ IsRefusedCommit MayGive v c e → IsOfTheChange e
-  taken (inl f) = subst IsOfTheChange (sym f.refusal) f.failure
+  taken (inl f) = subst IsOfTheChange (sym f.refusal) (inl f.failure)
   taken (inr (inl n)) = absurd (never_both (next_order v.roster (tip v.roster (commits_of v.held) c.version.author) c) n.why next.follows n.not_next)
   taken (inr (inr (bytes, may, named, _, inl n))) = subst IsOfTheChange (sym n.refusal) tt
   taken (inr (inr (bytes, may, named, _, inr u))) = refused_says IsOfTheChange (fitting_order v c u.change) (fitting_says v c u.change) e u.unfit

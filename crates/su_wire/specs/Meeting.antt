@@ -1,5 +1,6 @@
 -- Where a book and a view meet: a record is shown to a view that holds those before it.
-use Rattle.std.specs.Prelude.{◌≡◌, true, List, ◌++◌, ◌∷◌}
+use Rattle.std.specs.Prelude.{◌≡◌, ◌⊎◌, true, List, ◌++◌, ◌∷◌}
+use Rattle.su_bytes.specs.declared.refusals.Refusal.TheVariants.{WrongKey}
 use Rattle.su_block.specs.Failure.{is_failure}
 use Rattle.su_version.specs.Commit.{Commit}
 use Rattle.su_book.specs.Machine.{BookState, records_of}
@@ -13,9 +14,10 @@ pub record IsBefore (b : BookState) (v : HoldingState) (c : Commit) (after : Lis
   pub roster : v.roster ≡ b.roster
   pub records : records_of b.journal ≡ commits_of v.held ++ c ∷ after
 
--- a refusal for the change of a commit, for an i-handle, or because the source fails
+-- a refusal for the change of a commit, for a next key that the change doesn't name, for an
+-- i-handle, or because the source fails
 abbrev pub IsOfTheChange : ViewRefusal → Type 0
 IsOfTheChange (Change why) = Unit {0}
 IsOfTheChange (WrongHandle p) = Unit {0}
-IsOfTheChange (Plain why) = is_failure why ≡ true
+IsOfTheChange (Plain why) = (is_failure why ≡ true) ⊎ (why ≡ WrongKey)
 IsOfTheChange OwnMissing = ⊥

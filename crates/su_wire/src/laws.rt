@@ -12,8 +12,9 @@ use su_block::BlockSource;
 use su_book::records_are_a_chain;
 
 /// A view that holds just the records before one of a book's refuses that one, by its bytes or as a
-/// commit, only for its change, for an i-handle, or because the source fails: its signature, what
-/// it follows, its vector and its leaf are those of the next commit.
+/// commit, only for its change, for a next key that the change doesn't name, for an i-handle, or
+/// because the source fails: its signature, what it follows, its vector, its leaf and its next key
+/// are those of a next commit.
 pub fn records_are_refused_for_their_changes<S: BlockSource>()
     ensures shown { (b : BookState) (v : HoldingState) (c : Commit) (after : List Commit)
         (source now : S) (e : ViewRefusal)
