@@ -5,16 +5,16 @@ use Rattle.std.specs.Prelude.{◌⊎◌}
 use Rattle.std.proofs.lemmas.Grind.{flat_map-append}
 use Rattle.std.proofs.lemmas.List.Elements.{Contains-append_left, Contains-append_right, Contains-append_cases}
 use Rattle.std.proofs.lemmas.Bool.{eq-eqb}
-use Rattle.su_version.specs.Version.{Version, version_bytes}
-use Rattle.su_lms.specs.Signature.{IsSigned}
+use Rattle.su_version.specs.Version.{Version}
 use Rattle.su_legal.specs.Legal.{Committed, author_of, LegalAfter, MayJoin}
 use Rattle.su_legal.specs.Act.{Act.Takes, Act.Signs}
 use Rattle.su_legal.proofs.Public.{only_in}
 use Rattle.su_view.specs.Holding.{MaySign}
 use Rattle.su_fork.specs.Events.{World, Event, taking, signing, taken, list_of, all_taken, signed_by, versions_of, Run}
-use Rattle.su_fork.specs.Premises.{IsOwnKey, NoForgery}
+use Rattle.su_fork.specs.Premises.{NoForgery}
 use Rattle.su_fork.specs.Calls.{holding_after, committing, CommitsIn}
-use Rattle.su_fork.proofs.Runs.{run_more, list_own}
+use Rattle.su_fork.proofs.Runs.{run_more, list_own, is_held, taken_held}
+use Rattle.su_fork.proofs.OwnKeys.{all_signed}
 
 pub none_forged : (w : World) → Run w [] × NoForgery w [] (all_taken [])
 none_forged w = (tt, record { signed = λ c key honest (i, l, e) own is. absurd (omega (arith, l)) })
@@ -62,16 +62,18 @@ module _ (w : World) (es : List Event) (k : ℕ) (c : Committed) where
     run = subst (Run w) both
         (run_more w (es ++ signing k v ∷ []) (taking k (c ∷ [])) (run_more w es (signing k v) r h may) h
         (subst (λ l. LegalAfter w.roster l (c ∷ [])) (sym held_so) (joins, tt)));
-    no_forgery = record { signed = λ d key honest there own is. go d key honest own is (Contains-append_cases (all_taken es) (c ∷ []) d (subst (λ l. Contains l d) taken_then there)) };
+    no_forgery = record { signed = λ d key honest there own is. go d honest (Contains-append_cases (all_taken es) (c ∷ []) d (subst (λ l. Contains l d) taken_then there)) };
     signed = signed_now;
     held = held_then;
   }
     where
-      go : (d : Committed) (key : List ℕ) → w.honest (author_of d) ≡ true → IsOwnKey w (es ++ committing k c) (author_of d) key
-          → IsSigned key (version_bytes d.commit.version) d.commit.signature → Contains (all_taken es) d ⊎ Contains (c ∷ []) d
+      go : (d : Committed) → w.honest (author_of d) ≡ true → Contains (all_taken es) d ⊎ Contains (c ∷ []) d
           → Contains (versions_of w (author_of d) (es ++ committing k c)) d.commit.version
-      go d key honest own is (inl before) = signed_before (author_of d) d.commit.version (none.signed d key honest before own is)
-      go d key honest own is (inr here) =
+      go d honest (inl before) =
+          let (j, held) = taken_held es d before in
+          signed_before (author_of d) d.commit.version
+          (all_signed w es (all_taken es) none (author_of d) (list_of j es) (is_held w es es [] j r (sym (append-nil es))) honest d held refl)
+      go d honest (inr here) =
           let same : d ≡ c = sym (only_in c d here) in
           subst (λ (x : Committed). Contains (versions_of w (author_of x) (es ++ committing k c)) x.commit.version) (sym same)
           (subst (λ u. Contains (versions_of w u (es ++ committing k c)) v) (sym may.0) signed_now)

@@ -1,13 +1,9 @@
 -- What is signed stands after the list that the signer held; so forks never join.
-use Rattle.std.proofs.Common.{◌≡◌, ℕ, ◌-◌, ◌<◌, ◌≤◌, ◌⊎◌, Bool, true, false, nat_le, List, [], ◌∷◌, ◌++◌, take, Some, None, Option, refl, sym, ap, ◌∙◌, subst, arith, inl, inr, append_assoc, append-nil}
+use Rattle.std.proofs.Common.{◌≡◌, ℕ, ◌-◌, ◌<◌, ◌≤◌, ◌⊎◌, Bool, true, false, nat_le, List, [], ◌∷◌, ◌++◌, take, Some, refl, sym, ap, ◌∙◌, subst, arith, inl, inr, append_assoc, append-nil}
 use Rattle.std.specs.List.{Contains}
 use Rattle.std.proofs.lemmas.Bool.{leb-true, leb-false}
-use Rattle.su_bytes.specs.RosterBytes.{user_key}
-use Rattle.su_lms.specs.Signature.{IsSigned}
-use Rattle.su_version.specs.Version.{Version, version_bytes}
-use Rattle.su_version.specs.Commit.{Commit}
-use Rattle.su_version.specs.Chain.{IsSignedBy}
-use Rattle.su_version.proofs.Public.{next_prev, next_signed}
+use Rattle.su_version.specs.Version.{Version}
+use Rattle.su_version.proofs.Public.{next_prev}
 use Rattle.su_legal.specs.Legal.{Committed, author_of}
 use Rattle.su_fork.specs.Numbered.{at}
 use Rattle.su_fork.specs.Events.{World, Event, signing, list_of, all_taken, versions_of, Run}
@@ -17,6 +13,7 @@ use Rattle.su_fork.proofs.Places.{at_contains, at_front, at_take, at_from_take, 
 use Rattle.su_fork.proofs.Heads.{placed, same_head}
 use Rattle.su_fork.proofs.Runs.{came, list-append, roster_within, IsSeen, within_seen, is_held, SignedIn, signed_in}
 use Rattle.su_fork.proofs.Agreeing.{front_within}
+use Rattle.su_fork.proofs.OwnKeys.{all_signed}
 
 pub le_or_lt : (m n : ℕ) → (m ≤ n) ⊎ (n < m)
 le_or_lt m n = go (nat_le m n) refl
@@ -24,11 +21,6 @@ le_or_lt m n = go (nat_le m n) refl
     go : (b : Bool) → nat_le m n ≡ b → (m ≤ n) ⊎ (n < m)
     go true is = inl (leb-true m n is)
     go false is = inr (leb-false m n is)
-
--- who has signed has a key
-own_key : (o : Option (List ℕ)) (c : Commit) → IsSignedBy o c → (key : List ℕ) × (o ≡ Some key) × IsSigned key (version_bytes c.version) c.signature
-own_key None c signed = absurd signed
-own_key (Some key) c signed = (key, refl, signed)
 
 module _ (w : World) (es : List Event) (run : Run w es) (cs : List Committed) (all : (c : Committed) → Contains (all_taken es) c → Contains cs c)
     (apart : NoCollision (hashed w.roster cs)) where
@@ -71,11 +63,7 @@ module _ (w : World) (es : List Event) (run : Run w es) (cs : List Committed) (a
   module _ (honestly : NoForgery w es cs) where
     -- what stands in a held list as an honest user's was signed by a client of that user
     pub was_signed : (u : ℕ) (ys : List Committed) → IsSeen w.roster cs ys → (n : ℕ) (c : Committed) → w.honest u ≡ true → at ys n ≡ Some c → author_of c ≡ u → SignedIn w es u c.commit.version
-    was_signed u ys hy n c h e by =
-        let b = placed w.roster ys n c hy.legal e in
-        let (key, is, signed) = own_key (user_key w.roster (author_of c)) c.commit (next_signed w.roster _ c.commit b.joins.next) in
-        let s = honestly.signed c key (ap w.honest by ∙ h) (hy.among c (at_contains ys n c e)) is signed in
-        signed_in w u es c.commit.version (subst (λ a. Contains (versions_of w a es) c.commit.version) by s)
+    was_signed u ys hy n c h e by = signed_in w u es c.commit.version (all_signed w es cs honestly u ys hy h c (at_contains ys n c e) by)
 
     pub as_made : (u : ℕ) (ys : List Committed) → IsSeen w.roster cs ys → w.honest u ≡ true → AsMade w es u ys
     as_made u ys hy h n c e by =

@@ -3,6 +3,7 @@ mod Spelling
 mod Heads
 mod Runs
 mod Agreeing
+mod OwnKeys
 mod Forking
 mod Relating
 mod Counts

@@ -141,6 +141,21 @@ held_taken k es c i =
     let f = found (taken_by k) es c i in
     subst (λ l. Contains (all_taken l) c) (sym f.whole) (in_joined (λ e. taken e.act) f.before f.after f.element c (taken_from k f.element c f.there))
 
+-- what was taken a client holds
+pub taken_held : (es : List Event) (c : Committed) → Contains (all_taken es) c → (k : ℕ) × Contains (list_of k es) c
+unfolding list_of
+taken_held es c i =
+    let f = found (λ (e : Event). taken e.act) es c i in
+    (
+      f.element.client,
+      subst (λ l. Contains (flat_map (taken_by f.element.client) l) c) (sym f.whole)
+          (in_joined (taken_by f.element.client) f.before f.after f.element c (by_itself (nat_eq f.element.client f.element.client) (taken f.element.act) c (eq-eqb f.element.client f.element.client refl) f.there)),
+    )
+  where
+    by_itself : (b : Bool) (xs : List Committed) (x : Committed) → b ≡ true → Contains xs x → Contains (cond b xs []) x
+    by_itself true xs x is there = there
+    by_itself false xs x is there = absurd (cc)
+
 -- the byte strings of a list of these commits are among those that are hashed of them
 pub within_hashed : (ro : Membership) (cs list : List Committed) → ((c : Committed) → Contains list c → Contains cs c) → Within (hashed ro cs) list
 unfolding hashed

@@ -1,5 +1,5 @@
 -- What a client's user makes of a change.
-use Rattle.std.proofs.Common.{◌≡◌, ◌≢◌, ℕ, ◌+◌, ◌<◌, ◌≤◌, ◌^◌, ◌⊎◌, Bool, true, false, ◌||◌, ◌&&◌, cond, List, [], ◌∷◌, ◌++◌, map, length, nat_eq, nat_le, if◌then◌else◌, Some, Result, Ok, Err, refl, sym, ap, ◌∙◌, subst, arith, inl, inr}
+use Rattle.std.proofs.Common.{◌≡◌, ◌≢◌, ℕ, ◌+◌, ◌<◌, ◌≤◌, ◌^◌, ◌⊎◌, Bool, true, false, ◌||◌, ◌&&◌, cond, List, [], ◌∷◌, ◌++◌, map, length, nat_eq, nat_le, if◌then◌else◌, Option, None, Some, Result, Ok, Err, refl, sym, ap, ◌∙◌, subst, arith, inl, inr}
 use Rattle.std.specs.List.{filter, AllByRecursion}
 use Rattle.std.proofs.lemmas.List.{length-map, map-append}
 use Rattle.std.proofs.lemmas.Bool.{eq-eqb}
@@ -9,35 +9,38 @@ use Rattle.su_bytes.specs.Membership.{Membership, has_number, has_user}
 use Rattle.su_bytes.specs.Principal.{principals}
 use Rattle.su_bytes.specs.declared.formats.TheConstants.{NEWEST_FORMAT}
 use Rattle.su_bytes.specs.declared.refusals.Refusal.{Refusal}
-use Rattle.su_bytes.specs.declared.refusals.Refusal.TheVariants.{BadNumber, NoMemory}
+use Rattle.su_bytes.specs.declared.refusals.Refusal.TheVariants.{BadKey, BadNumber, KeyReuse, NoMemory, NoUser}
 use Rattle.su_bytes.specs.declared.principals.Principal.{Principal}
 use Rattle.su_bytes.specs.declared.principals.Principal.TheVariants.{Group}
-use Rattle.su_bytes.specs.RosterBytes.{user_key}
+use Rattle.su_bytes.specs.Keys.{is_among}
 use Rattle.su_format.specs.Format.{EachFrom}
 use Rattle.su_op.specs.declared.operations.Op.TheVariants as op
 use Rattle.su_op.specs.declared.operations.Change.{Change}
-use Rattle.su_op.specs.declared.operations.Change.TheVariants.{Do}
+use Rattle.su_op.specs.declared.operations.Change.TheVariants.{Do, Undo, Rekey}
+use Rattle.su_op.specs.Action.{named_key}
 use Rattle.su_op.specs.Operation.{why}
 use Rattle.su_op.specs.Limits.{largest_write}
 use Rattle.su_op.specs.Rule.{Rule, Rule.Demand, refusal}
 use Rattle.su_op.specs.declared.areas.Area.{Area}
 use Rattle.su_table.specs.Handle.{handle}
 use Rattle.su_desk.specs.declared.entries.Entry.{Entry}
-use Rattle.su_desk.specs.Answer.{refusal_by_change, refusal_of, answer}
+use Rattle.su_desk.specs.Answer.{refusal_by_change, refusal_of, answer, rekey_refusal}
+use Rattle.su_desk.specs.History.{keys_after}
 use Rattle.su_desk.specs.Version.{cells_of, carried_groups, numbered, versions}
 use Rattle.su_desk.proofs.FormatLemmas.{by_change, newest_fits}
 use Rattle.su_desk.proofs.VersionNumbers.{carried_ascend as groups_ascend}
 use Rattle.su_desk.specs.Trial.{Tells}
 use Rattle.su_desk.specs.declared.prepared.Prepared.{Prepared}
 use Rattle.su_change.specs.Item.{IsChange, HasItem, item_bytes, change_digest}
-use Rattle.su_lms.specs.Signature.{IsSigned, ots_of}
+use Rattle.su_lms.specs.Signature.{IsSigned, IsPublicKey, is_public_key, ots_of}
+use Rattle.su_lms.proofs.Public.{public_key-is}
 use Rattle.su_lms.specs.ParameterSets.{chain_count}
 use Rattle.su_vector.specs.Vector.{bump}
-use Rattle.su_version.specs.Version.{Version, IsVersion, IsCarried}
+use Rattle.su_version.specs.Version.{Version, IsVersion, IsCarried, IsNextKey}
 use Rattle.su_version.specs.Commit.{Commit, IsCommit}
-use Rattle.su_version.specs.Chain.{ChainAfter, IsChain, IsNewLeaf, IsSignedBy, last_leaf, tip, MayBeNext, chain_format, chain_head}
+use Rattle.su_version.specs.Chain.{ChainAfter, IsChain, IsNewKey, IsGoodKey, IsNewLeaf, IsSignedBy, last_leaf, tip, MayBeNext, chain_format, chain_head, chain_key, chain_keys}
 use Rattle.su_legal.specs.Legal.{Committed, commits_of, entry_made, history, head_of, vector_of, tree_with, author_handle, group_handles, MayJoin, LegalAfter, Legal}
-use Rattle.su_legal.proofs.Public.{vector_counts, bump_counts, groups_listed}
+use Rattle.su_legal.proofs.Public.{vector_counts, bump_counts, groups_listed, keys_told}
 use Rattle.su_view.specs.Holding.{HoldingState}
 use Rattle.su_view.specs.Joining.{AscendFrom}
 use Rattle.su_view.specs.Keeping.{holding_of, IsKeeping}
@@ -90,16 +93,42 @@ listed p f all (g ∷ gs) within =
 pub groups_known : (ro : Membership) (h : List Entry) (e : Entry) → AllByRecursion (λ (g : ℕ × List ℕ). has_number ro.groups g.0 ≡ true) (group_handles ro h e)
 groups_known ro h e = listed _ (λ g. handle (tree_with ro h e) (Group g)) ro.groups ro.groups (λ x has. has)
 
+-- ---- the key that an accepted change names
+
+-- what an accepted rekey names is a key, and new
+rekey_good : (ro : Membership) (h : List Entry) (a : ℕ) (k : List ℕ) → rekey_refusal ro h a k ≡ None → (is_among (keys_after ro h) k ≡ false) × (is_public_key k ≡ true)
+rekey_good ro h a k is = go (has_user ro a) (is_public_key k) refl (is_among (keys_after ro h) k) refl is
+  where
+    go : (u p : Bool) → is_public_key k ≡ p → (m : Bool) → is_among (keys_after ro h) k ≡ m
+        → cond u (cond p (cond m (Some KeyReuse) None) (Some BadKey)) (Some (NoUser a)) ≡ None → (is_among (keys_after ro h) k ≡ false) × (is_public_key k ≡ true)
+    go false p e m f is = absurd (cc)
+    go true false e m f is = absurd (cc)
+    go true true e true f is = absurd (cc)
+    go true true e false f is = (f, e)
+
+pub named_good : (ro : Membership) (h : List Entry) (e : Entry) (change : Change) → refusal_by_change ro h e change ≡ None
+    → IsNewKey (keys_after ro h) (named_key change) × IsGoodKey (named_key change)
+named_good ro h e (Do op) accepted = (tt, tt)
+named_good ro h e (Undo n) accepted = (tt, tt)
+named_good ro h e (Rekey k) accepted = let good = rekey_good ro h e.author k accepted in (good.0, (public_key-is k).1 good.1)
+
 -- ---- a commit that is made joins the list
 
 module _ (v : HoldingState) (change : Change) (leaf : ℕ) (c : Commit) (legal : Legal v.roster v.held) (member : has_user v.roster v.user ≡ true)
     (is_commit : IsCommit c) (made : IsMade v change leaf c) where
+  made_key : IsNewKey (chain_keys v.roster (commits_of v.held)) c.version.next_key × IsGoodKey c.version.next_key
+  made_key =
+      let good = named_good v.roster (history v.held) (own_entry v change) change
+      (sym (by_change v.roster (history v.held) (own_entry v change) (newest_fits (history v.held) change)) ∙ made.accepted) in
+      subst (λ o. IsNewKey (chain_keys v.roster (commits_of v.held)) o × IsGoodKey o) (sym (ap (λ (s : Version). s.next_key) made.version))
+      (subst (λ keys. IsNewKey keys (named_key change)) (keys_told v.roster v.held legal) good.0, good.1)
+
   made_next : IsNewLeaf (last_leaf v.user (commits_of v.held)) leaf → MayBeNext v.roster (commits_of v.held) c
   unfolding tip
   made_next new = record {
     spelled = is_commit;
     follows = (
-      subst (λ (s : Version). IsSignedBy (user_key v.roster s.author) c) (sym made.version) made.signed,
+      subst (λ (s : Version). IsSignedBy (chain_key v.roster s.author (commits_of v.held)) c) (sym made.version) made.signed,
       (
         ap (λ (s : Version). s.prev) made.version,
         (
@@ -114,7 +143,7 @@ module _ (v : HoldingState) (change : Change) (leaf : ℕ) (c : Commit) (legal :
             (
               subst (λ q. IsNewLeaf (last_leaf c.version.author (commits_of v.held)) q) (sym made.leaf_is)
                   (subst (λ (s : Version). IsNewLeaf (last_leaf s.author (commits_of v.held)) leaf) (sym made.version) new),
-              tt,
+              (made_key.0, (made_key.1, tt)),
             ),
           ),
         ),
@@ -131,6 +160,7 @@ module _ (v : HoldingState) (change : Change) (leaf : ℕ) (c : Commit) (legal :
       is_change = is_change;
       has_item = has_item;
       named = ap (λ (s : Version). s.change) made.version;
+      next_key_is = ap (λ (s : Version). s.next_key) made.version;
       author_handle_is = ap (λ (s : Version). s.handle) made.version
           ∙ ap (λ (s : Version). author_handle v.roster (history v.held) (entry_made (record c { version = s }) change)) (sym made.version);
       group_handles_are = ap (λ (s : Version). s.groups) made.version
@@ -171,14 +201,15 @@ module _ (k : Keeping) (kept : IsKeeping k) (change : Change) where
 
   pub drafted_so : (p : Prepared) (item : List ℕ) (d : Draft) → d.prepared ≡ p → d.item.items ≡ item
       → answer k.desk.settled.roster settled (own_entry w change) ≡ Ok p.number → Tells k.desk.settled (own_entry w change) p
-      → IsChange change → HasItem change → item ≡ item_bytes change → 1 ≤ length item → length item ≤ 70000 → IsDraft w change d
-  drafted_so p item d prepared item_is accepted told is_change has_item spelled some few = record {
+      → IsChange change → HasItem change → item ≡ item_bytes change → 1 ≤ length item → length item ≤ 70000 → d.next_key ≡ named_key change → IsDraft w change d
+  drafted_so p item d prepared item_is accepted told is_change has_item spelled some few key = record {
     accepted = accepted_answer w.roster (history w.held) (own_entry w change) p.number (draft_answered (Ok p.number) accepted);
     is_change = is_change;
     has_item = has_item;
     spelled = item_is ∙ spelled;
     some_bytes = subst (λ l. 1 ≤ length l) (sym item_is) some;
     few_bytes = subst (λ l. length l ≤ 70000) (sym item_is) few;
+    next_key = key;
     handle = ap (λ (p : Prepared). p.author_handle) prepared ∙ told.author_handle ∙ (λ i. author_handle w.roster (sym kept.entries i) (own_entry w change));
     groups = ap (λ (p : Prepared). p.groups.items) prepared ∙ told.groups ∙ (λ i. group_handles w.roster (sym kept.entries i) (own_entry w change));
     numbers = ap (λ (p : Prepared). p.versions.items) prepared ∙ told.versions ∙ (λ i. versions w.roster (sym kept.entries i ++ own_entry w change ∷ []));
@@ -222,6 +253,11 @@ handles_ascend_so k kept change =
     w : List Area
     w = cells_of (holding_of k).roster (history (holding_of k).held) (own_entry (holding_of k) change)
 
+named_in_range : (change : Change) → IsChange change → IsNextKey NEWEST_FORMAT (named_key change)
+named_in_range (Do op) is = tt
+named_in_range (Undo n) is = tt
+named_in_range (Rekey k) is = is
+
 pub versions_long : (ro : Membership) (h : List Entry) → length (map (λ v. v.1) (versions ro h)) ≡ length (principals ro)
 versions_long ro h = length-map (versions ro h) (λ v. v.1) ∙ length-map (principals ro) (numbered ro h)
 
@@ -239,6 +275,7 @@ module _ (k : Keeping) (kept : IsKeeping k) (v : HoldingState) (is : holding_of 
     handle = d.prepared.author_handle;
     groups = groups;
     vector = vector;
+    next_key = d.next_key;
   }
 
   kept_draft : IsDraft (holding_of k) change d
@@ -260,6 +297,7 @@ module _ (k : Keeping) (kept : IsKeeping k) (v : HoldingState) (is : holding_of 
     some_numbers = omega (arith, long, some);
     few_numbers = omega (arith, long, most);
     numbers = range;
+    next_key = subst (IsNextKey NEWEST_FORMAT) (sym kept_draft.next_key) (named_in_range change kept_draft.is_change);
   }
     where
       ascend : AscendFrom 0 groups
@@ -289,6 +327,7 @@ module _ (k : Keeping) (kept : IsKeeping k) (v : HoldingState) (is : holding_of 
         handle = kept_draft.handle i;
         groups = kept_draft.groups i;
         vector = numbers_so i;
+        next_key = kept_draft.next_key i;
       }
 
 -- ---- a signature is short enough

@@ -1,14 +1,14 @@
 -- What is shown as a user's last commit, beside the one that is kept.
-use Rattle.std.proofs.Common.{◌≡◌, ℕ, zero, suc, Bool, true, nat_eq, List, [], ◌∷◌, ◌++◌, Option, Some, None, slice_get, refl, sym, ap, subst, ◌∙◌, arith}
+use Rattle.std.proofs.Common.{◌≡◌, ℕ, zero, suc, Bool, true, false, ◌||◌, nat_eq, List, [], ◌∷◌, ◌++◌, Option, Some, None, slice_get, refl, sym, ap, subst, ◌∙◌, arith}
 use Rattle.std.specs.Prelude.{option_map}
+use Rattle.std.specs.List.{list_any}
 use Rattle.std.proofs.lemmas.Option.{slice_get-map}
 use Rattle.std.specs.Cmp.Lexicographic.{pointwise, bytes_decides}
 use Rattle.su_bytes.specs.Membership.{Membership}
 use Rattle.su_format.proofs.Public.{spelling_told}
 use Rattle.su_vector.specs.Vector.{number_of}
 use Rattle.su_version.specs.Commit.{Commit, IsCommit, commit_bytes}
-use Rattle.su_version.proofs.Public.{commit_of, commit_lawful, next_signed}
-use Rattle.su_version.specs.Chain.{IsSignedByAuthor}
+use Rattle.su_version.proofs.Public.{commit_of, commit_lawful}
 use Rattle.su_legal.specs.Legal.{Committed, commits_of, LegalAfter}
 use Rattle.su_view.specs.Holding.{IsHeld}
 use Rattle.su_view.specs.Keeping.{commit_in, AreBytes, holding_of, IsKeeping}
@@ -39,16 +39,6 @@ compared ro u n m r c is is_commit has held same xs ys xs_are ys_are b e = (
       let is_kept : c ≡ commit_in r = so.same (held ∙ ap (λ k. Some k) (same ∙ number)) in
       e ∙ (bytes_decides xs ys).1 (xs_are ∙ ap commit_bytes is_kept ∙ sym is.bytes_are ∙ sym ys_are),
 )
-
--- ---- what is held is signed
-
-signed_at : (ro : Membership) (before cs : List Committed) → LegalAfter ro before cs → (i : ℕ) (c : Commit) → slice_get (commits_of cs) i ≡ Some c → IsSignedByAuthor ro c
-signed_at ro before [] legal i c at = absurd (cc)
-signed_at ro before (x ∷ cs) (may, legal) zero c at = let same : x.commit ≡ c = cc in subst (IsSignedByAuthor ro) same (next_signed ro (commits_of before) x.commit may.next)
-signed_at ro before (x ∷ cs) (may, legal) (suc i) c at = signed_at ro (before ++ x ∷ []) cs legal i c at
-
-pub held_signed : (k : Keeping) → IsKeeping k → (c : Commit) → IsHeld (holding_of k) c → IsSignedByAuthor k.desk.settled.roster c
-held_signed k kept c (i, at) = signed_at k.desk.settled.roster [] (holding_of k).held kept.legal i c at
 
 -- ---- the user's last commit, as it is kept
 
@@ -87,7 +77,48 @@ module _ (k : Keeping) (kept : IsKeeping k) (i : ℕ) (r : Record) (here : slice
   last_kept last = ap (option_map (λ c. c.commit)) (sym last) ∙ commit_at
 
   -- a commit with the bytes that are kept there stands in the list
-  pub held_so : (c : Commit) → IsCommit c → (xs ys : List ℕ) → xs ≡ commit_bytes c → ys ≡ r.bytes.items → (b : Bool) → b ≡ pointwise nat_eq xs ys → b ≡ true → IsHeld (holding_of k) c
-  held_so c is_commit xs ys xs_are ys_are b e same_all =
-      let same : c ≡ commit_in r = same_bytes r c spelled_kept is_commit (sym xs_are ∙ (bytes_decides xs ys).0 (sym e ∙ same_all) ∙ ys_are) in
+  pub held_so : (c : Commit) → IsCommit c → commit_bytes c ≡ r.bytes.items → IsHeld (holding_of k) c
+  held_so c is_commit same_all =
+      let same : c ≡ commit_in r = same_bytes r c spelled_kept is_commit same_all in
       (i, ap (λ cs. slice_get cs i) kept.commits ∙ slice_get-map commit_in k.records.items i ∙ ap (option_map commit_in) here ∙ ap (λ d. Some d) (sym same))
+
+-- ---- whether a commit is held
+
+any_at : {A : Type 0} (f : A → Bool) (xs : List A) → list_any f xs ≡ true → (i : ℕ) × (x : A) × (slice_get xs i ≡ Some x) × (f x ≡ true)
+any_at f [] some = absurd (cc)
+any_at f (x ∷ xs) some = go (any_at f xs) (f x) refl some
+  where
+    go : (list_any f xs ≡ true → (i : ℕ) × (y : _) × (slice_get xs i ≡ Some y) × (f y ≡ true)) → (b : Bool) → f x ≡ b → (b || list_any f xs) ≡ true
+        → (i : ℕ) × (y : _) × (slice_get (x ∷ xs) i ≡ Some y) × (f y ≡ true)
+    go later true is some = (0, x, refl, is)
+    go later false is some = let (i, y, there, so) = later some in (suc i, y, there, so)
+
+at_any : {A : Type 0} (f : A → Bool) (xs : List A) (i : ℕ) (x : A) → slice_get xs i ≡ Some x → f x ≡ true → list_any f xs ≡ true
+at_any f [] i x there so = absurd (cc)
+at_any f (y ∷ xs) zero x there so = let same : y ≡ x = cc in ap (λ b. b || list_any f xs) (ap f same ∙ so)
+at_any f (y ∷ xs) (suc i) x there so = or_true (f y) (list_any f xs) (at_any f xs i x there so)
+  where
+    or_true : (a b : Bool) → b ≡ true → (a || b) ≡ true
+    or_true true b is = refl
+    or_true false b is = is
+
+module _ (k : Keeping) (kept : IsKeeping k) (c : Commit) (is_commit : IsCommit c) (bytes : List ℕ) (spelled : bytes ≡ commit_bytes c) where
+  abbrev has : Record → Bool
+  has r = pointwise nat_eq r.bytes.items bytes
+
+  found_held : (i : ℕ) × (r : Record) × (slice_get k.records.items i ≡ Some r) × (has r ≡ true) → IsHeld (holding_of k) c
+  found_held (i, r, there, same) = held_so k kept i r there c is_commit (sym ((bytes_decides r.bytes.items bytes).0 same ∙ spelled))
+
+  -- a record has its bytes just where the commit is held
+  pub any_held : list_any has k.records.items ≡ true → IsHeld (holding_of k) c
+  any_held some = found_held (any_at has k.records.items some)
+
+  pub held_any : IsHeld (holding_of k) c → list_any has k.records.items ≡ true
+  held_any (i, there) = go (slice_get k.records.items i) refl (sym (ap (λ cs. slice_get cs i) kept.commits ∙ slice_get-map commit_in k.records.items i) ∙ there)
+    where
+      go : (o : Option Record) → slice_get k.records.items i ≡ o → option_map commit_in (slice_get k.records.items i) ≡ Some c → list_any has k.records.items ≡ true
+      go None is e = absurd (let clash : ◌≡◌ {A = Option Commit} None (Some c) = sym (ap (option_map commit_in) is) ∙ e in cc)
+      go (Some r) is e =
+          let same : commit_in r ≡ c = (let both : ◌≡◌ {A = Option Commit} (Some (commit_in r)) (Some c) = sym (ap (option_map commit_in) is) ∙ e in cc) in
+          let kept_r = spelled_kept k kept i r is in
+          at_any has k.records.items i r is ((bytes_decides r.bytes.items bytes).1 (kept_r.bytes_are ∙ ap commit_bytes same ∙ sym spelled))
