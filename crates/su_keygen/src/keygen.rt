@@ -50,20 +50,27 @@ struct NewKey {
     public: PublicKey,
 }
 
-/// Makes the key of a file of 48 bytes of entropy. Writes it to the file `out`, and its public key
-/// to `out.pub`, over plain files that stood there, unless another process uses the key. The faults
-/// of the entropy come first, and then nothing was written. Beside the key `out.lock` is made and
-/// stays.
+/// Where the system's entropy is read.
+const SYSTEM: &str = "/dev/urandom";
+
+/// Makes the key of a file of 48 bytes of entropy, or of 48 bytes of the system's where there is none.
+/// Writes it to the file `out`, and its public key to `out.pub`, over plain files that stood there,
+/// unless another process uses the key. The faults of the entropy come first, and then nothing was
+/// written. Beside the key `out.lock` is made and stays.
 pub fn make_key<T: Threads + Sync>(
     rt: &HostRuntime,
     host: &T,
-    entropy: &str,
+    entropy: Option<&str>,
     out: &str,
     params: Params,
 ) -> Result<PublicKey, KeygenFault>
     ensures { IfOk result (IsKeyOf params) }
 {
-    let made = new_key(host, rt.alloc(), params, read_entropy(rt, entropy)?)?;
+    let entropy = match entropy {
+        Some(path) => read_entropy(rt, path)?,
+        None => system_entropy(rt)?,
+    };
+    let made = new_key(host, rt.alloc(), params, entropy)?;
     keep_pair(rt, out, &made.file, made.public.as_bytes())?;
     Ok(made.public)
 }
@@ -85,16 +92,44 @@ fn new_key<T: Threads + Sync>(
     let Ok(signer) = Signer::generate_in_threads(host, alloc, params, id, seed, NoStore) else {
         return Err(AllocError);
     };
+    Ok(NewKey {
+        file: file_of(params, entropy),
+        public: signer.public(),
+    })
+}
+
+/// Spells the file of the key of that entropy, with its first leaf to sign next.
+pub(crate) fn file_of(params: Params, entropy: Entropy) -> [u8; 64]
+    ensures { result ≡ key_file_bytes (made_key params entropy.id entropy.seed) 0 }
+{
+    let Entropy { id, seed } = entropy;
     let file = KeyFile {
         params,
         id,
         seed,
         next: 0,
     };
-    Ok(NewKey {
-        file: file.encode(),
-        public: signer.public(),
-    })
+    file.encode()
+}
+
+/// Reads the entropy of a key from the system's source.
+pub(crate) fn system_entropy(rt: &HostRuntime) -> Result<Entropy, KeygenFault> {
+    let alloc = rt.alloc();
+    let bytes = match File::open(rt, SYSTEM).and_then(|file| first_bytes(
+        alloc,
+        file,
+        LENGTH as u64,
+    )) {
+        Ok(bytes) => bytes,
+        Err(reason) => return Err(KeygenFault::unread(alloc, SYSTEM, reason)),
+    };
+    match Entropy::of_bytes(bytes.as_slice()) {
+        Some(entropy) => Ok(entropy),
+        None => Err(KeygenFault::TooShort {
+            path: String::from_str(alloc, SYSTEM)?,
+            length: bytes.len(),
+        }),
+    }
 }
 
 /// Reads the entropy in a file. No more than 49 bytes are read, so a file may have no end.

@@ -33,7 +33,7 @@ use su_kept_key::lock_key;
 use su_lms::KeyFile;
 
 /// Only the owner may read or write.
-const PRIVATE: u32 = 0o600;
+pub(crate) const PRIVATE: u32 = 0o600;
 
 /// All may read, and the owner may write.
 const PUBLIC: u32 = 0o644;
@@ -165,7 +165,7 @@ fn move_if_there(rt: &HostRuntime, from: &str, to: &str) -> Result<(), KeygenFau
 }
 
 /// Splits a path before its last name. `None` where it ends in none.
-fn folder_and_name(path: &str) -> Option<(&str, &str)> {
+pub(crate) fn folder_and_name(path: &str) -> Option<(&str, &str)> {
     match path.rsplit_once('/') {
         _ if path.ends_with('/') || path.is_empty() => None,
         None => Some((".", path)),
@@ -267,7 +267,12 @@ fn behind<'a>(text: &'a [u8], front: &[u8]) -> Option<&'a [u8]>
 }
 
 /// Writes a file that isn't there yet, and waits until the disk has it.
-fn write_new(rt: &HostRuntime, path: &str, bytes: &[u8], mode: u32) -> Result<(), KeygenFault> {
+pub(crate) fn write_new(
+    rt: &HostRuntime,
+    path: &str,
+    bytes: &[u8],
+    mode: u32,
+) -> Result<(), KeygenFault> {
     let written = OpenOptions::new()
         .write(true)
         .create_new(true)
