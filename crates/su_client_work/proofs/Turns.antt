@@ -101,8 +101,8 @@ module _ (MayConnect : LinkState → Type 0) where
     then_follows = follows_on p.start b c p.then_follows q;
   })
 
-  pub turn_on : (v : HoldingState) (a : LinkState) (w : HoldingState) (b c : LinkState) → TakesTurn MayConnect v a w b → Follows b c → TakesTurn MayConnect v a w c
-  turn_on v a w b c p q = record {
+  pub turn_on : (a : LinkState) (v : HoldingState) (b c : LinkState) → TakesTurn MayConnect a v b → Follows b c → TakesTurn MayConnect a v c
+  turn_on a v b c p q = record {
     count = p.count;
     last = p.last;
     turn = p.turn;
@@ -114,7 +114,7 @@ module _ (MayConnect : LinkState → Type 0) where
       passes = p.passes.passes;
       follows = follows_on p.passes.checked b c p.passes.follows q;
     };
-    caught_up = caught_on p.count w p.turn b c p.caught_up q;
+    caught_up = caught_on p.count v p.turn b c p.caught_up q;
   }
 
 -- ---- what is shown
@@ -236,9 +236,9 @@ gives_up (Err e) a b given refused = record { before = a; follows = follows_itse
 pub gives_up_after : (a b c : LinkState) → Follows a b → GivesUp b c → GivesUp a c
 gives_up_after a b c p q = record { before = q.before; follows = follows_on a b q.before p q.follows; gives = q.gives }
 
-pub gives_turn_up : (MayConnect : LinkState → Type 0) (v : HoldingState) (a : LinkState) (w : HoldingState) (b c : LinkState) → TakesTurn MayConnect v a w b → GivesUp b c
+pub gives_turn_up : (MayConnect : LinkState → Type 0) (a : LinkState) (v : HoldingState) (b c : LinkState) → TakesTurn MayConnect a v b → GivesUp b c
     → GivesTurnUp MayConnect a c
-gives_turn_up MayConnect v a w b c t up = record {
+gives_turn_up MayConnect a v b c t up = record {
   count = t.count;
   last = t.last;
   turn = t.turn;

@@ -166,7 +166,7 @@ impl Holding {
         if let Some(principal) = wrong_handle(version, &prepared) {
             return Err(ViewRefusal::WrongHandle(principal));
         }
-        if self.keeping.records.reserve(1).is_err() || self.keeping.end.reserve().is_err() {
+        if self.keeping.reserve().is_err() {
             return Err(ViewRefusal::Plain(Refusal::NoMemory));
         }
         self.keeping.push(commit, bytes, item, prepared);

@@ -1,8 +1,10 @@
 // How the commits that are held are kept.
-ghost use Rattle.std.specs.Prelude.{◌≡◌, ◌<◌, ◌∷◌, [], Some, cond, length, vec_capacity};
+ghost use Rattle.std.specs.Prelude.{◌≡◌, ◌<◌, ◌∷◌, List, [], Some, cond, length, vec_capacity, OnOk};
 ghost use Rattle.su_op.specs.declared.operations.Change.{Change};
 ghost use Rattle.su_desk.specs.Trial.{IsReady};
-ghost use Rattle.su_version.specs.Commit.{commit_bytes};
+ghost use Rattle.su_bytes.specs.Membership.{Membership};
+ghost use Rattle.su_version.specs.Commit.{Commit as CommitParts, commit_bytes};
+ghost use Rattle.su_chain.specs.ChainEnd.{IsEndOf};
 ghost use Rattle.su_change.specs.Item.{item_bytes};
 ghost use Rattle.su_used_keys.specs.UsedKeys.{HasRoom};
 ghost use Rattle.su_legal.specs.Legal.{MayJoin};
@@ -10,6 +12,7 @@ ghost use Rattle.su_view.specs.Holding.{with_more};
 ghost use Rattle.su_view.specs.Keeping.{holding_of, IsKeeping, JoinsNext};
 
 use sha2::Sha256;
+use std::alloc::AllocError;
 use su_bytes::{Digest, User};
 use su_chain::ChainEnd;
 use su_desk::{Prepared, TrialDesk};
@@ -36,6 +39,21 @@ pub(crate) struct Keeping {
 }
 
 impl Keeping {
+    /// Makes room for one commit more. Fails only where memory is refused.
+    pub fn reserve(&mut self) -> Result<(), AllocError>
+        ensures same { self.new
+            ≡ record self.old { records = self.new.records; end = self.new.end } }
+        ensures records { self.new.records.items ≡ self.old.records.items }
+        ensures end { (ro : Membership) (cs : List CommitParts)
+            → IsEndOf ro cs self.old.end → IsEndOf ro cs self.new.end }
+        ensures room { OnOk result
+            (length self.new.records.items < vec_capacity self.new.records) }
+        ensures key_room { OnOk result (HasRoom self.new.end.used) }
+    {
+        self.records.reserve(1)?;
+        self.end.reserve()
+    }
+
     /// Adds a commit whose change stands ready, with its bytes and the item of its change. It takes
     /// no memory.
     pub fn push(&mut self, commit: Commit, bytes: Vec<u8>, item: Vec<u8>, prepared: Prepared)

@@ -13,12 +13,12 @@ returns-in-Err-clause-link g c = comes_on _ c.args.self.now.link c.begin.new.sel
 pub returns-in-Ok-clause-looks : goal.returns-in-Ok-clause-looks
 returns-in-Ok-clause-looks g c = record {
   between = c.begin.new.self.link;
-  takes_turn = subst (λ (v : HoldingState). TakesTurn g.A.Surroundings.may_connect c.args.self.now.holding c.args.self.now.link v c.begin.new.self.link)
+  takes_turn = subst (λ (v : HoldingState). TakesTurn g.A.Surroundings.may_connect c.args.self.now.link v c.begin.new.self.link)
       (sym c.give.ensures.stays.holding) c.in_ok-begin.ensures.turn;
   gives = c.in-Ok.ensures.given;
 }
 
 pub returns-in-Err-clause-refused : goal.returns-in-Err-clause-refused
 returns-in-Err-clause-refused g c =
-    inr (gives_turn_up _ c.args.self.now.holding c.args.self.now.link c.begin.new.self.holding c.begin.new.self.link c.give.new.self.link c.in_ok-begin.ensures.turn
+    inr (gives_turn_up _ c.args.self.now.link c.begin.new.self.holding c.begin.new.self.link c.give.new.self.link c.in_ok-begin.ensures.turn
     (gives_up c.give.result c.begin.new.self.link c.give.new.self.link c.give.ensures.given c.give.ensures.refused))

@@ -20,8 +20,8 @@ returns-in-Ok-clause-turn g c =
     let begun_holding = ap (λ (x : MemberState). x.holding) c.self.view_is in
     let stays = c.keep_turn.ensures.stays.holding in
     let held : c.begin.new.self.holding ≡ c.keep_turn.new.self.holding = cc in
-    subst (λ (v : HoldingState). TakesTurn g.A.Surroundings.may_connect c.args.self.now.holding c.args.self.now.link v c.keep_turn.new.self.link) held
-    (turn_on _ c.args.self.now.holding c.args.self.now.link c.begin.new.self.holding c.begin.new.self.link c.keep_turn.new.self.link c.in_ok-begin.ensures.turn
+    subst (λ (v : HoldingState). TakesTurn g.A.Surroundings.may_connect c.args.self.now.link v c.keep_turn.new.self.link) held
+    (turn_on _ c.args.self.now.link c.begin.new.self.holding c.begin.new.self.link c.keep_turn.new.self.link c.in_ok-begin.ensures.turn
     (subst (λ (l : LinkState). Follows l c.keep_turn.new.self.link) same c.keep_turn.ensures.follows))
 
 pub returns-in-Err-clause-link : goal.returns-in-Err-clause-link
@@ -35,5 +35,5 @@ pub returns-in-Err-clause-refused : goal.returns-in-Err-clause-refused
 returns-in-Err-clause-refused g c =
     let begun = ap (λ (x : MemberState). x.link) c.self.view_is in
     let same : c.plan.new.self.source.source.client.link ≡ c.begin.new.self.link = cc in
-    inr (gives_turn_up _ c.args.self.now.holding c.args.self.now.link c.begin.new.self.holding c.begin.new.self.link c.give_up.new.self.link c.in_ok-begin.ensures.turn
+    inr (gives_turn_up _ c.args.self.now.link c.begin.new.self.holding c.begin.new.self.link c.give_up.new.self.link c.in_ok-begin.ensures.turn
     (subst (λ (l : LinkState). GivesUp l c.give_up.new.self.link) same c.give_up.ensures.gives_up))

@@ -1,4 +1,4 @@
-use Rattle.std.proofs.Common.{◌≡◌, ◌∙◌, sym, ap, subst, inr, ℕ, List}
+use Rattle.std.proofs.Common.{◌≡◌, ◌∙◌, length, sym, ap, subst, inr, ℕ, List}
 use Rattle.std.specs.Global.{Vec}
 use Rattle.su_client.specs.Link.{LinkState, Follows}
 use Rattle.su_client.specs.Following.{follows_on}
@@ -11,7 +11,7 @@ use Rattle.su_client_work.proofs.members.Member.store_new.Goals as goal
 
 pub returns-clause-signs : goal.returns-clause-signs
 returns-clause-signs g c =
-    rw (sym c.self.view_is) (inr (c.in_ok-commit.commit, record { made = c.in_ok-commit.ensures.made; signed = c.in_ok-commit.ensures.signed; next = c.in_ok-commit.ensures.used }))
+    rw (sym c.self.view_is) (inr (c.in_ok-commit.commit, record { made = c.in_ok-commit.ensures.made; signed = c.in_ok-commit.ensures.signed; next = λ i. record { keys = length (c.in_ok-commit.ensures.same_former i); leaf = c.in_ok-commit.ensures.used i } }))
 
 pub returns-clause-follows : goal.returns-clause-follows
 returns-clause-follows g c =
@@ -39,7 +39,7 @@ returns-clause-stored g c =
     let second : c.source_mut-outbox.result.now ≡ c.make.new.self.source.source = cc in
     elim c.match-hand_over.branch [
       | in-Ok-hand_over w ↦ rw w.result-is (record {
-        signs = rw (sym c.self.view_is) (record { made = c.in_ok-commit.ensures.made; signed = c.in_ok-commit.ensures.signed; next = c.in_ok-commit.ensures.used });
+        signs = rw (sym c.self.view_is) (record { made = c.in_ok-commit.ensures.made; signed = c.in_ok-commit.ensures.signed; next = λ i. record { keys = length (c.in_ok-commit.ensures.same_former i); leaf = c.in_ok-commit.ensures.used i } });
         stored = is_stored c.args.change c.in_ok-commit.commit c.in-Ok.bytes.items (contents c.forget.new.self.waiting.items) (contents c.make.new.self.source.source.waiting.items) c.args.self.now.link
             c.make.new.self.source.source.client.link c.hand_over.new.outbox.client.link w.in-Ok-hand_over.field-0 (ap contents c.forget.ensures.waiting)
             (subst (λ (l : LinkState). WaitsToo (contents c.forget.new.self.waiting.items) (item_bytes c.args.change) l (contents c.make.new.self.source.source.waiting.items)
