@@ -12,7 +12,7 @@ use std::thread::Threads;
 use std::{fmt, io};
 use su_block::MemoryBlocks;
 use su_bytes::{Refusal, Roster, User};
-use su_log_ahead::Ahead;
+use su_log_ahead::{Ahead, PresumedKeys};
 use su_view::{View, ViewRefusal};
 
 /// How an audit ended.
@@ -85,7 +85,10 @@ pub fn run_audit<T: Threads + Sync, R: Read + Drop, W: Write, X: Watcher>(
         Ok(view) => view,
         Err(refusal) => return Ending::Failed(Fault::NoView(refusal)),
     };
-    let mut log = Ahead::new(alloc, reader);
+    let Ok(keys) = PresumedKeys::of_roster(alloc, view.roster()) else {
+        return Ending::Failed(Fault::NoMemory);
+    };
+    let mut log = Ahead::new(alloc, reader, keys);
     for number in 1..u64::MAX {
         match next_step(rt, alloc, &mut log, &mut items, &mut view) {
             Step::Took => {

@@ -54,7 +54,7 @@ pub(crate) fn next_step<T: Threads + Sync, R: Read + Drop>(
         → Steps place view.old.holding items.old.items input (IsLeft log.new)
         view.new.holding items.new.items result }
 {
-    match log.next(rt, alloc, view.roster()) {
+    match log.next(rt, alloc) {
         Ok(next) => match take(alloc, items, view, next) {
             Ok(()) => Step::Took,
             Err(refusal) => Step::Refused(refusal),

@@ -11,14 +11,14 @@ ghost use Rattle.su_log.specs.Record.{IsExamined, spelled};
 ghost use Rattle.su_client_work.specs.SavedLog.{saved_log, entry_bytes, saved_record};
 ghost use Rattle.su_client_work.specs.TakenLog.{TakesFront, TakesRecord, EndsSo};
 
-use std::alloc::Global;
+use std::alloc::{AllocError, Global};
 use std::io;
 use std::io::Read;
 use std::thread::Threads;
 use su_block::BlockSource;
 use su_bytes::Refusal;
 use su_log::{Record, Stop};
-use su_log_ahead::Ahead;
+use su_log_ahead::{Ahead, PresumedKeys};
 use su_view::{View, ViewRefusal};
 
 /// Why a log isn't taken whole.
@@ -48,9 +48,13 @@ pub fn take_log<T: Threads + Sync, I: Read + Drop, S: BlockSource + Drop>(
         → EndsSo (TakesFront S.follows S.puts view.old.holding view.old.source log
         view.new.holding view.new.source) log result }
 {
-    let mut log = Ahead::new(alloc, reader);
+    let keys = match presumed_keys(alloc, view) {
+        Ok(keys) => keys,
+        Err(error) => return Err(LogFault::Unread(error.into())),
+    };
+    let mut log = Ahead::new(alloc, reader, keys);
     for number in 1..u64::MAX {
-        match log.next(rt, alloc, view.roster()) {
+        match log.next(rt, alloc) {
             Ok(next) => {
                 if let Err(refusal) = take_record(alloc, view, next) {
                     return Err(LogFault::Refused { number, refusal });
@@ -65,6 +69,18 @@ pub fn take_log<T: Threads + Sync, I: Read + Drop, S: BlockSource + Drop>(
         }
     }
     Err(LogFault::Unread(io::Error::other("it has no end")))
+}
+
+/// Makes the table of the keys that users have after the list of a view.
+pub(crate) fn presumed_keys<S: BlockSource + Drop>(
+    alloc: Global,
+    view: &View<S>,
+) -> Result<PresumedKeys, AllocError> {
+    let mut keys = PresumedKeys::new(alloc)?;
+    for user in view.roster().users() {
+        keys.set(user.user, view.key(user.user));
+    }
+    Ok(keys)
 }
 
 /// Puts the item of a record into the view's source, and lets the view take its commit.

@@ -9,7 +9,7 @@ ghost use Rattle.su_client_work.specs.Member.{OnlyTakes, ReplacesKey, Stays};
 ghost use Rattle.su_client_work.specs.Turn.{AreShown, Comes, GivesUp, HasMore, IsCaughtUp, IsGranted, IsGrantedOver, IsRefusedTurn, IsShown, IsUngranted, IsUngrantedOver, Looks, PassesShown, SaysNothing, TakesTurn, commit_or_nothing};
 
 use crate::early::Early;
-use crate::logs::take_commit;
+use crate::logs::{presumed_keys, take_commit};
 use crate::ready::{Fetched, MOST_READY, Ready};
 use crate::shown::Shown;
 use crate::surroundings::Surroundings;
@@ -531,11 +531,12 @@ impl<R: Read + Drop, W: Write + Drop, K: KeyStore + Drop> Member<R, W, K> {
     {
         let end = count.min(held.saturating_add(MOST_READY));
         let mut leave = self.send_fetches(held, end, shown);
-        let mut fetched = Fetched::new(self.alloc);
+        let keys = presumed_keys(self.alloc, &self.view)?;
+        let mut fetched = Fetched::new(self.alloc, keys);
         for before in held..end {
             self.fetch_one(before + 1, shown, &mut fetched, &mut leave)?;
         }
-        Ok(fetched.examined(around.host(), self.alloc, self.view.roster(), end))
+        Ok(fetched.examined(around.host(), self.alloc, end))
     }
 
     /// Sends the requests for these commits ahead of their time, but for those that are shown, and

@@ -6,17 +6,19 @@ use std::alloc::Global;
 use std::collections::VecDeque;
 use std::marker::Model;
 use std::thread::Threads;
-use su_bytes::{Digest, Refusal, Roster};
+use su_bytes::{Digest, Refusal};
 use su_log::Record;
-use su_log_ahead::examine;
+use su_log_ahead::{PresumedKeys, examine};
 use su_version::Commit;
 
 /// How many commits are fetched before they are taken at most.
 pub(crate) const MOST_READY: u64 = 256;
 
-/// Commits that were fetched, in order. (They are records of a log with no items.)
+/// Commits that were fetched, in order, and the keys that users are presumed to have behind them.
+/// (They are records of a log with no items.)
 #[derive(Drop)]
 pub(crate) struct Fetched {
+    keys: PresumedKeys,
     records: Vec<Record>,
 }
 
@@ -55,9 +57,10 @@ impl Model for Ready {
 }
 
 impl Fetched {
-    /// Makes it of none.
-    pub fn new(alloc: Global) -> Fetched {
+    /// Makes it of none, where users are presumed to have these keys.
+    pub fn new(alloc: Global, keys: PresumedKeys) -> Fetched {
         Fetched {
+            keys,
             records: Vec::new(alloc),
         }
     }
@@ -72,6 +75,7 @@ impl Fetched {
         let found = Record {
             bytes,
             item: Vec::new(alloc),
+            key: self.keys.presume(&commit),
             commit,
             verdict: None,
         };
@@ -84,11 +88,13 @@ impl Fetched {
         self,
         rt: &T,
         alloc: Global,
-        roster: &Roster,
         end: u64,
     ) -> Ready {
-        let Fetched { mut records } = self;
-        examine(rt, alloc, roster, records.as_mut_slice());
+        let Fetched {
+            keys: _keys,
+            mut records,
+        } = self;
+        examine(rt, alloc, records.as_mut_slice());
         Ready {
             records: VecDeque::from_vec(records),
             end,

@@ -33,7 +33,6 @@ use Rattle.su_desk.specs.Trial.{Tells}
 use Rattle.su_desk.specs.declared.prepared.Prepared.{Prepared}
 use Rattle.su_change.specs.Item.{IsChange, HasItem, item_bytes, change_digest}
 use Rattle.su_lms.specs.Signature.{IsSigned, IsPublicKey, is_public_key, ots_of}
-use Rattle.su_lms.proofs.Public.{public_key-is}
 use Rattle.su_lms.specs.ParameterSets.{chain_count}
 use Rattle.su_vector.specs.Vector.{bump}
 use Rattle.su_version.specs.Version.{Version, IsVersion, IsCarried, IsNextKey}
@@ -95,6 +94,13 @@ groups_known ro h e = listed _ (λ g. handle (tree_with ro h e) (Group g)) ro.gr
 
 -- ---- the key that an accepted change names
 
+good_key : (k : List ℕ) → is_public_key k ≡ true → IsPublicKey k
+good_key k is = record {
+  size = grind (arith, is);
+  tree_type = (grind (arith, is), grind (arith, is));
+  one_time_type = (grind (arith, is), grind (arith, is));
+}
+
 -- what an accepted rekey names is a key, and new
 rekey_good : (ro : Membership) (h : List Entry) (a : ℕ) (k : List ℕ) → rekey_refusal ro h a k ≡ None → (is_among (keys_after ro h) k ≡ false) × (is_public_key k ≡ true)
 rekey_good ro h a k is = go (has_user ro a) (is_public_key k) refl (is_among (keys_after ro h) k) refl is
@@ -110,7 +116,7 @@ pub named_good : (ro : Membership) (h : List Entry) (e : Entry) (change : Change
     → IsNewKey (keys_after ro h) (named_key change) × IsGoodKey (named_key change)
 named_good ro h e (Do op) accepted = (tt, tt)
 named_good ro h e (Undo n) accepted = (tt, tt)
-named_good ro h e (Rekey k) accepted = let good = rekey_good ro h e.author k accepted in (good.0, (public_key-is k).1 good.1)
+named_good ro h e (Rekey k) accepted = let good = rekey_good ro h e.author k accepted in (good.0, good_key k good.1)
 
 -- ---- a commit that is made joins the list
 
