@@ -49,6 +49,7 @@ asked_of client.UndoLast = spoken verb.UndoLast []
 asked_of (client.List path) = spoken verb.List (Text path.items ∷ [])
 asked_of (client.Read path off len) =
     spoken verb.Read (Text path.items ∷ Number off ∷ Number len ∷ [])
+asked_of (client.Rekey file) = spoken verb.Rekey (Text file.items ∷ [])
 asked_of (client.Save file) = spoken verb.Save (Text file.items ∷ [])
 
 abbrev pub line_of : ClientLine → Said

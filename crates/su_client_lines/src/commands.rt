@@ -16,6 +16,8 @@ pub enum ClientCommand {
     List { path: Vec<u8> },
     /// Shows bytes of a file: those from an offset on, at most so many.
     Read { path: Vec<u8>, off: u64, len: u64 },
+    /// Goes on to the key in a key file, which signs from then on.
+    Rekey { file: Vec<u8> },
     /// Saves the log of all commits to a file.
     Save { file: Vec<u8> },
 }

@@ -106,6 +106,10 @@ fn take_command(verb: Verb, words: &mut Words) -> Option<ClientCommand>
             let len = words.take_number()?;
             Some(ClientCommand::Read { path, off, len })
         }
+        Verb::Rekey => {
+            let file = words.take_text()?;
+            Some(ClientCommand::Rekey { file })
+        }
         Verb::Save => {
             let file = words.take_text()?;
             Some(ClientCommand::Save { file })

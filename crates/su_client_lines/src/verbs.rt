@@ -10,6 +10,7 @@ pub enum Verb {
     UndoLast,
     List,
     Read,
+    Rekey,
     Save,
 }
 
@@ -103,6 +104,12 @@ macro_rules! client_rows {
                 "cat P OFF LEN    show bytes of a file, in hex digits"
             ),
             (
+                "rekey",
+                Verb::Rekey,
+                [FileName],
+                "rekey FILE       sign with the key in a key file from then on"
+            ),
+            (
                 "save",
                 Verb::Save,
                 [FileName],
@@ -126,7 +133,7 @@ and no FILE has a space in it."
 }
 
 /// The commands, and the words after each.
-pub const CLIENT_FORMS: [Form<Verb>; 13] = client_rows!(forms_of);
+pub const CLIENT_FORMS: [Form<Verb>; 14] = client_rows!(forms_of);
 
 /// The commands of a client's script, for a help text.
 pub const CLIENT_WORDS: &str = client_rows!(client_help);

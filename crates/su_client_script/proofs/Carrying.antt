@@ -13,7 +13,8 @@ use Rattle.su_client_lines.specs.Said as said
 use Rattle.su_client_lines.specs.declared.commands.ClientCommand.{ClientCommand}
 use Rattle.su_client_lines.specs.declared.commands.ClientCommand.TheVariants as command
 use Rattle.su_client_script.specs.Carrying.{Tells, Carries, CarriesChange, CarriesSome, CarriesSomeChange, CommitsSome, CommitsUntil}
-use Rattle.su_client_script.specs.Lines.{IsSaved, Prints, SaidIsDone}
+use Rattle.su_client_script.specs.Calls.{FileCalls, IsDone}
+use Rattle.su_client_script.specs.Lines.{Prints, SaidIsDone}
 use Rattle.su_client_script.specs.Text.{refusal_shown}
 
 pub on_ok_so : {R E : Type 0} (r : Result R E) (X Y : Type 0) → (X → Y) → OnOk r X → OnOk r Y
@@ -32,7 +33,7 @@ on_err (Err e) X holds = holds
 pub prints_so : (old new : Option (List ℕ)) (D E : List ℕ → Type 0) → ((text : List ℕ) → D text → E text) → Prints old new D → Prints old new E
 prints_so old new D E so (text, done, printed) = (text, so text done, printed)
 
-pub saved_so : {P : Type 0} (saves : P → List ℕ → List ℕ → P → Type 0) (before after : P) (f file l log : List ℕ) → f ≡ file → l ≡ log → saves before f l after → IsSaved saves file log
+pub saved_so : {P : Type 0} (saves : P → List ℕ → List ℕ → P → Type 0) (before after : P) (f file l log : List ℕ) → f ≡ file → l ≡ log → saves before f l after → IsDone saves file log
 saved_so saves before after f file l log same_file same_log is = (before, after, subst (λ x. saves before x log after) same_file (subst (λ x. saves before f x after) same_log is))
 
 -- ---- questions
@@ -60,13 +61,15 @@ change_some M it s t text (inr plan) = inr (record {
 })
 
 -- what is carried out is no more than that
-pub carries_some : (M : LinkState → Type 0) (Saves : List ℕ → List ℕ → Type 0) (it : ClientCommand) (s t : MemberState) (text : List ℕ) → Carries M Saves it s t text → CarriesSome M it s t
-carries_some M Saves (command.Change it) s t text done = change_some M it s t text done
-carries_some M Saves (command.Undo number) s t text (r, commits, is) = (r, commits)
-carries_some M Saves command.UndoLast s t text (r, commits, is) = (r, commits)
-carries_some M Saves (command.List path) s t text done = done.takes
-carries_some M Saves (command.Read path off len) s t text done = done.takes
-carries_some M Saves (command.Save file) s t text done = done.takes
+pub carries_some : (M : LinkState → Type 0) (Files : FileCalls) (it : ClientCommand) (s t : MemberState) (text : List ℕ) → Carries M Files it s t text → CarriesSome M it s t
+carries_some M Files (command.Change it) s t text (ready, moves, done) = (ready, moves, change_some M it ready t text done)
+carries_some M Files (command.Undo number) s t text (r, commits, is) = (r, commits)
+carries_some M Files command.UndoLast s t text (r, commits, is) = (r, commits)
+carries_some M Files (command.Rekey file) s t text (inl (same, refused)) = inl same
+carries_some M Files (command.Rekey file) s t text (inr (key, leaf, r, opens, rekeys, is)) = inr (key, leaf, r, rekeys)
+carries_some M Files (command.List path) s t text done = done.takes
+carries_some M Files (command.Read path off len) s t text done = done.takes
+carries_some M Files (command.Save file) s t text done = done.takes
 
 pub line_some : (M : LinkState → Type 0) (x : Said) (it : ClientCommand) (s t : MemberState) → x ≡ said.Said.Asks (asked_of it) → CarriesSome M it s t
     → SaidIsDone (λ it. CarriesSome M it s t) (λ shown. t ≡ s) x

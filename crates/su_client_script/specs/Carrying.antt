@@ -17,6 +17,8 @@ use Rattle.su_client_work.specs.Turn.{Looks, TakesTurn}
 use Rattle.su_client_lines.specs.declared.commands.ClientCommand.{ClientCommand}
 use Rattle.su_client_lines.specs.declared.commands.ClientCommand.TheVariants as command
 use Rattle.su_desk_script.specs.Answer.{answer_text, bytes_text}
+use Rattle.su_client_script.specs.Calls.{FileCalls}
+use Rattle.su_client_script.specs.KeyMoves.{MovesOnThen, RekeysTo}
 use Rattle.su_client_script.specs.Text.{IsRefusal, listing_shown, number_shown, refusal_shown}
 
 -- ---- commits
@@ -33,11 +35,13 @@ pub record CommitsNow (it : Change) (s t : MemberState) (r : Result ℕ ViewRefu
   pub signs : SignsAtMost s.holding it s t
   pub published : IfOk r (IsPublished it s t)
 
--- an operation is committed, in the turn that is held or one of its own
+-- an operation is committed, in the turn that is held or one of its own, before which the client may
+-- go on to another key
 abbrev pub CommitsIn : (LinkState → Type 0) → Bool → Op → MemberState → MemberState
     → Result ℕ ViewRefusal → Type 0
 CommitsIn MayConnect true op s t r = CommitsNow (change.Do op) s t r
-CommitsIn MayConnect false op s t r = Commits MayConnect (always (change.Do op)) s t r
+CommitsIn MayConnect false op s t r =
+    MovesOnThen MayConnect (λ ready. Commits MayConnect (always (change.Do op)) ready t r) s
 
 -- Operations are committed, one after the other, and of each its number is printed; for the first
 -- the turn may be held.
@@ -114,29 +118,52 @@ pub record Tells (MayConnect : LinkState → Type 0) (Answers : Type 0) (s t : M
   pub takes : OnlyTakes s t
   pub answers : IsRefusal text ⊎ (Looks MayConnect s.holding s.link t.holding t.link × Answers)
 
--- What a client does for a command, and what is printed.
-abbrev pub Carries : (LinkState → Type 0) → (List ℕ → List ℕ → Type 0) → ClientCommand
-    → MemberState → MemberState → List ℕ → Type 0
-Carries MayConnect Saves (command.Change it) s t text = CarriesChange MayConnect it s t text
-Carries MayConnect Saves (command.Undo number) s t text =
-    (r : Result ℕ ViewRefusal) × Commits MayConnect (always (change.Undo number)) s t r
+-- The client commits a change, before which it may go on to another key, and prints the number.
+abbrev pub CarriesUndo : (LinkState → Type 0) → (HoldingState → Change) → MemberState
+    → MemberState → List ℕ → Type 0
+CarriesUndo MayConnect change_of s t text =
+    (r : Result ℕ ViewRefusal)
+    × MovesOnThen MayConnect (λ ready. Commits MayConnect change_of ready t r) s
     × (text ≡ number_shown r)
-Carries MayConnect Saves command.UndoLast s t text =
-    (r : Result ℕ ViewRefusal) × Commits MayConnect last_undo s t r × (text ≡ number_shown r)
-Carries MayConnect Saves (command.List path) s t text =
+
+-- It goes on to the key in that file, or that is refused.
+abbrev pub CarriesRekey : (LinkState → Type 0) → FileCalls → List ℕ → MemberState → MemberState
+    → List ℕ → Type 0
+CarriesRekey MayConnect Files file s t text =
+    ((t ≡ s) × IsRefusal text)
+    ⊎ ((key : List ℕ) × (leaf : ℕ) × (r : Result ℕ ViewRefusal) × Files.opens file key
+    × RekeysTo MayConnect key leaf s t r × (text ≡ number_shown r))
+
+-- What a client does for a command, and what is printed.
+abbrev pub Carries : (LinkState → Type 0) → FileCalls → ClientCommand
+    → MemberState → MemberState → List ℕ → Type 0
+Carries MayConnect Files (command.Change it) s t text =
+    MovesOnThen MayConnect (λ ready. CarriesChange MayConnect it ready t text) s
+Carries MayConnect Files (command.Undo number) s t text =
+    CarriesUndo MayConnect (always (change.Undo number)) s t text
+Carries MayConnect Files command.UndoLast s t text = CarriesUndo MayConnect last_undo s t text
+Carries MayConnect Files (command.Rekey file) s t text =
+    CarriesRekey MayConnect Files file.items s t text
+Carries MayConnect Files (command.List path) s t text =
     Tells MayConnect ((names : List (Name × FileId)) × Lists t.holding path.items names
     × (text ≡ listing_shown names)) s t text
-Carries MayConnect Saves (command.Read path off len) s t text =
+Carries MayConnect Files (command.Read path off len) s t text =
     Tells MayConnect ((bytes : List ℕ) × Shows t.holding path.items off len bytes
     × (text ≡ bytes_text (Ok bytes))) s t text
-Carries MayConnect Saves (command.Save file) s t text =
-    Tells MayConnect (Saves file.items (saved_log t.holding.held) × (text ≡ [])) s t text
+Carries MayConnect Files (command.Save file) s t text =
+    Tells MayConnect (Files.saves file.items (saved_log t.holding.held) × (text ≡ [])) s t text
 
 -- What it does at most, where something else fails.
 abbrev pub CarriesSome : (LinkState → Type 0) → ClientCommand → MemberState → MemberState → Type 0
-CarriesSome MayConnect (command.Change it) s t = CarriesSomeChange MayConnect it s t
+CarriesSome MayConnect (command.Change it) s t =
+    MovesOnThen MayConnect (λ ready. CarriesSomeChange MayConnect it ready t) s
 CarriesSome MayConnect (command.Undo number) s t =
-    (r : Result ℕ ViewRefusal) × Commits MayConnect (always (change.Undo number)) s t r
+    (r : Result ℕ ViewRefusal) × MovesOnThen MayConnect
+    (λ ready. Commits MayConnect (always (change.Undo number)) ready t r) s
 CarriesSome MayConnect command.UndoLast s t =
-    (r : Result ℕ ViewRefusal) × Commits MayConnect last_undo s t r
+    (r : Result ℕ ViewRefusal) × MovesOnThen MayConnect
+    (λ ready. Commits MayConnect last_undo ready t r) s
+CarriesSome MayConnect (command.Rekey file) s t =
+    (t ≡ s) ⊎ ((key : List ℕ) × (leaf : ℕ) × (r : Result ℕ ViewRefusal)
+    × RekeysTo MayConnect key leaf s t r)
 CarriesSome MayConnect _ s t = OnlyTakes s t

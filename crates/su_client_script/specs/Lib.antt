@@ -1,3 +1,5 @@
+pub mod Calls
+pub mod KeyMoves
 pub mod Text
 pub mod Run
 pub mod Carrying

@@ -11,13 +11,10 @@ use Rattle.su_client_lines.specs.ClientScript.{line_said}
 use Rattle.su_client_lines.specs.declared.commands.ClientCommand.{ClientCommand}
 use Rattle.su_desk_script.specs.Answer.{bad_text}
 use Rattle.su_client_script.specs.Text.{refusal_shown}
+use Rattle.su_client_script.specs.Calls.{FileCalls}
 use Rattle.su_client_script.specs.Carrying.{Carries, CarriesSome}
 use Rattle.su_client_script.specs.declared.endings.Ending.{Ending}
 use Rattle.su_client_script.specs.declared.endings.Ending.TheVariants.{Finished, BadLine, Refused, Failed}
-
--- Some call of the program saves the log as that file.
-abbrev pub IsSaved : {P : Type 0} → (P → List ℕ → List ℕ → P → Type 0) → List ℕ → List ℕ → Type 0
-IsSaved {P} Saves file log = (before after : P) × Saves before file log after
 
 -- ---- a line that isn't empty
 
@@ -29,11 +26,11 @@ SaidIsDone Done OnlyPrints (OutOfRange e) = OnlyPrints (refusal_shown (Plain e))
 SaidIsDone Done OnlyPrints Bad = ⊥
 
 -- A line is carried out, and this is printed of it; or it is refused for want of memory.
-abbrev pub LineDoes : (LinkState → Type 0) → (List ℕ → List ℕ → Type 0) → List ℕ
+abbrev pub LineDoes : (LinkState → Type 0) → FileCalls → List ℕ
     → MemberState → MemberState → List ℕ → Type 0
-LineDoes MayConnect Saves line s t text =
+LineDoes MayConnect Files line s t text =
     ((t ≡ s) × (text ≡ refusal_shown (Plain NoMemory)))
-    ⊎ SaidIsDone (λ it. Carries MayConnect Saves it s t text)
+    ⊎ SaidIsDone (λ it. Carries MayConnect Files it s t text)
     (λ shown. (t ≡ s) × (text ≡ shown)) (line_said line)
 
 -- what is done for it at most, where something else fails
@@ -44,41 +41,41 @@ LineDoesSome MayConnect line s t =
 -- ---- lines
 
 -- Lines are carried out, one after the other; an empty one does nothing.
-abbrev pub LinesDo : (LinkState → Type 0) → (List ℕ → List ℕ → Type 0) → List (List ℕ)
+abbrev pub LinesDo : (LinkState → Type 0) → FileCalls → List (List ℕ)
     → MemberState → MemberState → List ℕ → Type 0
-LinesDo MayConnect Saves [] s t text = (t ≡ s) × (text ≡ [])
-LinesDo MayConnect Saves ([] ∷ lines) s t text = LinesDo MayConnect Saves lines s t text
-LinesDo MayConnect Saves ((b ∷ bs) ∷ lines) s t text =
+LinesDo MayConnect Files [] s t text = (t ≡ s) × (text ≡ [])
+LinesDo MayConnect Files ([] ∷ lines) s t text = LinesDo MayConnect Files lines s t text
+LinesDo MayConnect Files ((b ∷ bs) ∷ lines) s t text =
     (between : MemberState) × (first rest : List ℕ)
-    × LineDoes MayConnect Saves (b ∷ bs) s between first
-    × LinesDo MayConnect Saves lines between t rest × (text ≡ first ++ rest)
+    × LineDoes MayConnect Files (b ∷ bs) s between first
+    × LinesDo MayConnect Files lines between t rest × (text ≡ first ++ rest)
 
 -- The first lines are carried out; then a fault ends the run, in a line or before one.
-pub record LinesFail (MayConnect : LinkState → Type 0) (Saves : List ℕ → List ℕ → Type 0)
+pub record LinesFail (MayConnect : LinkState → Type 0) (Files : FileCalls)
     (lines : List (List ℕ)) (s t : MemberState) : Type 0 where
   pub done : List (List ℕ)
   pub others : List (List ℕ)
   pub all : lines ≡ done ++ others
   pub between : MemberState
   pub text : List ℕ
-  pub lines_do : LinesDo MayConnect Saves done s between text
+  pub lines_do : LinesDo MayConnect Files done s between text
   pub last : (t ≡ between)
       ⊎ ((line : List ℕ) × (after : List (List ℕ)) × (others ≡ line ∷ after)
       × LineDoesSome MayConnect line between t)
 
 -- How a run of these lines ends, and what it printed: all are carried out; or all before the one of
 -- that number, which is no command; or all up to the one of that number, which is refused.
-abbrev pub Runs : (LinkState → Type 0) → (List ℕ → List ℕ → Type 0) → List (List ℕ)
+abbrev pub Runs : (LinkState → Type 0) → FileCalls → List (List ℕ)
     → MemberState → MemberState → List ℕ → Ending → Type 0
-Runs MayConnect Saves lines s t text Finished = LinesDo MayConnect Saves lines s t text
-Runs MayConnect Saves lines s t text (BadLine number mistake) =
+Runs MayConnect Files lines s t text Finished = LinesDo MayConnect Files lines s t text
+Runs MayConnect Files lines s t text (BadLine number mistake) =
     (done others : List (List ℕ)) × (line first : List ℕ) × (lines ≡ done ++ line ∷ others)
-    × (number ≡ length done + 1) × LinesDo MayConnect Saves done s t first
+    × (number ≡ length done + 1) × LinesDo MayConnect Files done s t first
     × (line_said line ≡ Bad) × (text ≡ first ++ bad_text number)
-Runs MayConnect Saves lines s t text (Refused number) =
+Runs MayConnect Files lines s t text (Refused number) =
     (done others : List (List ℕ)) × (lines ≡ done ++ others) × (number ≡ length done)
-    × LinesDo MayConnect Saves done s t text
-Runs MayConnect Saves lines s t text (Failed fault) = LinesFail MayConnect Saves lines s t
+    × LinesDo MayConnect Files done s t text
+Runs MayConnect Files lines s t text (Failed fault) = LinesFail MayConnect Files lines s t
 
 -- ---- what is printed
 

@@ -3,6 +3,7 @@
 
 mod answers;
 mod endings;
+mod keys;
 mod programs;
 mod scripts;
 mod steps;

@@ -3,7 +3,8 @@ ghost use Rattle.std.specs.Prelude.{◌≡◌, ℕ, List, Some, IfSome, OnOk};
 ghost use Rattle.su_client_work.specs.Work.{Works};
 ghost use Rattle.su_desk_lines.specs.Script.{lines_of};
 ghost use Rattle.su_desk_lines.specs.Unread.{unread};
-ghost use Rattle.su_client_script.specs.Lines.{IsSaved, PrintsUnlessFault, Runs};
+ghost use Rattle.su_client_script.specs.Calls.{files_of};
+ghost use Rattle.su_client_script.specs.Lines.{PrintsUnlessFault, Runs};
 ghost use Rattle.su_client_script.specs.Run.{Adds, AddsUnlessFault, StopsIfAsked};
 ghost use Rattle.su_client_script.specs.Step.{EndsWith, Steps};
 
@@ -31,7 +32,7 @@ pub fn run_client<P, I, O, R, W, K>(
     stops: bool,
 ) -> Ending
 where
-    P: Program<R, W>,
+    P: Program<R, W, K>,
     I: Read + Drop,
     O: Write,
     R: Read + Drop,
@@ -43,7 +44,7 @@ where
     // What is done and printed for the lines, where it is known which they are.
     ensures runs { (script : List ℕ) → I.remaining input ≡ Some script
         → PrintsUnlessFault (O.contents output.old) (O.contents output.new)
-        (λ text. Runs P.may_connect (IsSaved P.saves) (lines_of script) member.old member.new
+        (λ text. Runs P.may_connect (files_of P.saves P.opens) (lines_of script) member.old member.new
         text result) result }
 {
     let mut lines = LineReader::new(alloc, input);
@@ -83,7 +84,7 @@ fn next_step<P, I, O, R, W, K>(
     number: u64,
 ) -> Result<Step, Fault>
 where
-    P: Program<R, W>,
+    P: Program<R, W, K>,
     I: Read + Drop,
     O: Write,
     R: Read + Drop,
@@ -92,7 +93,7 @@ where
     ensures works { Works member.old member.new }
     ensures adds { OnOk result (Adds (O.contents output.old) (O.contents output.new)) }
     ensures steps { (input : List ℕ) → unread I.remaining lines.old ≡ Some input
-        → Steps P.may_connect (IsSaved P.saves) number input member.old member.new
+        → Steps P.may_connect (files_of P.saves P.opens) number input member.old member.new
         (unread I.remaining lines.new) (O.contents output.old) (O.contents output.new) result }
 {
     match lines.next_line() {

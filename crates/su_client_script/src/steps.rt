@@ -8,13 +8,16 @@ ghost use Rattle.su_client_work.specs.Work.{Works};
 ghost use Rattle.su_client_lines.specs.declared.commands.ClientCommand.TheVariants as command_;
 ghost use Rattle.su_desk_script.specs.Answer.{bad_text};
 ghost use Rattle.su_client_script.specs.Carrying.{Carries, CarriesChange, CarriesSome, CarriesSomeChange, CommitsIn, CommitsSome, CommitsUntil};
-ghost use Rattle.su_client_script.specs.Lines.{IsSaved, LineDoesSome, Prints};
+ghost use Rattle.su_client_script.specs.Calls.{files_of};
+ghost use Rattle.su_client_script.specs.KeyMoves.{MovesOnThen};
+ghost use Rattle.su_client_script.specs.Lines.{LineDoesSome, Prints};
 ghost use Rattle.su_client_script.specs.Step.{IsOutcome, LineSteps, is_after_take, is_first};
 ghost use Rattle.su_client_script.specs.Text.{number_shown, refusal_shown};
 ghost use Rattle.su_client_script.specs.declared.steps.Step.TheVariants as step;
 
 use crate::answers::{Outcome, print_text, tell_bytes, tell_names, tell_number, tell_refusal};
 use crate::endings::Fault;
+use crate::keys::{change, move_on, rekey, undo_last};
 use crate::programs::{Cause, Program};
 use std::alloc::Global;
 use std::io::{Read, Write};
@@ -74,13 +77,13 @@ pub(crate) fn line_step<P, O, R, W, K>(
     number: u64,
 ) -> Result<Step, Fault>
 where
-    P: Program<R, W>,
+    P: Program<R, W, K>,
     O: Write,
     R: Read + Drop,
     W: Write + Drop,
     K: KeyStore + Drop,
     ensures works { Works member.old member.new }
-    ensures steps { IfOk result (LineSteps P.may_connect (IsSaved P.saves) number line.now
+    ensures steps { IfOk result (LineSteps P.may_connect (files_of P.saves P.opens) number line.now
         member.old member.new (O.contents output.old) (O.contents output.new)) }
     ensures some { OnErr result
         (LineDoesSome P.may_connect line.now member.old member.new) }
@@ -132,7 +135,7 @@ fn settle<P, R, W, K>(
     outcome: &Outcome,
 ) -> Result<Step, Fault>
 where
-    P: Program<R, W>,
+    P: Program<R, W, K>,
     R: Read + Drop,
     W: Write + Drop,
     K: KeyStore + Drop,
@@ -170,25 +173,25 @@ fn command_step<P, O, R, W, K>(
     command: ClientCommand,
 ) -> Result<Outcome, Fault>
 where
-    P: Program<R, W>,
+    P: Program<R, W, K>,
     O: Write,
     R: Read + Drop,
     W: Write + Drop,
     K: KeyStore + Drop,
     ensures works { Works member.old member.new }
     ensures carries { OnOk result (Prints (O.contents output.old) (O.contents output.new)
-        (Carries P.may_connect (IsSaved P.saves) command member.old member.new)) }
+        (Carries P.may_connect (files_of P.saves P.opens) command member.old member.new)) }
     ensures some { OnErr result
         (CarriesSome P.may_connect command member.old member.new) }
 {
     match command {
         ClientCommand::Change(command) => change_step(program, alloc, output, member, &command),
         ClientCommand::Undo(number) => {
-            let undone = member.change(program, Change::Undo(number), false);
+            let undone = change(program, member, Change::Undo(number), false);
             tell_number(alloc, output, undone, false)
         }
         ClientCommand::UndoLast => {
-            let undone = member.undo_last(program);
+            let undone = undo_last(program, member);
             tell_number(alloc, output, undone, false)
         }
         ClientCommand::List { path } => {
@@ -199,12 +202,12 @@ where
             let bytes = member.read(program, path.as_slice(), off, len);
             tell_bytes(alloc, output, bytes)
         }
+        ClientCommand::Rekey { file } => rekey_step(program, alloc, output, member, file),
         ClientCommand::Save { file } => save_step(program, alloc, output, member, file),
     }
 }
 
-/// Plans a command on paths, and commits its operations one after the other; the first refusal ends
-/// it, and what was committed before stays.
+/// Carries out a command on paths, before which the client may go on to the next key.
 fn change_step<P, O, R, W, K>(
     program: &mut P,
     alloc: Global,
@@ -213,7 +216,33 @@ fn change_step<P, O, R, W, K>(
     command: &Command,
 ) -> Result<Outcome, Fault>
 where
-    P: Program<R, W>,
+    P: Program<R, W, K>,
+    O: Write,
+    R: Read + Drop,
+    W: Write + Drop,
+    K: KeyStore + Drop,
+    ensures works { Works member.old member.new }
+    ensures carries { OnOk result (Prints (O.contents output.old) (O.contents output.new)
+        (λ text. MovesOnThen P.may_connect
+        (λ ready. CarriesChange P.may_connect command.now ready member.new text) member.old)) }
+    ensures some { OnErr result (MovesOnThen P.may_connect
+        (λ ready. CarriesSomeChange P.may_connect command.now ready member.new) member.old) }
+{
+    move_on(program, member);
+    plan_step(program, alloc, output, member, command)
+}
+
+/// Plans a command on paths, and commits its operations one after the other; the first refusal ends
+/// it, and what was committed before stays.
+fn plan_step<P, O, R, W, K>(
+    program: &mut P,
+    alloc: Global,
+    output: &mut O,
+    member: &mut Member<R, W, K>,
+    command: &Command,
+) -> Result<Outcome, Fault>
+where
+    P: Program<R, W, K>,
     O: Write,
     R: Read + Drop,
     W: Write + Drop,
@@ -239,7 +268,7 @@ fn commit_all<P, O, R, W, K>(
     operations: Vec<Op>,
 ) -> Result<Outcome, Fault>
 where
-    P: Program<R, W>,
+    P: Program<R, W, K>,
     O: Write,
     R: Read + Drop,
     W: Write + Drop,
@@ -277,7 +306,7 @@ fn commit_one<P, O, R, W, K>(
     ahead: bool,
 ) -> Result<Outcome, Fault>
 where
-    P: Program<R, W>,
+    P: Program<R, W, K>,
     O: Write,
     R: Read + Drop,
     W: Write + Drop,
@@ -301,7 +330,7 @@ fn commit<P, R, W, K>(
     ahead: bool,
 ) -> Result<u64, ViewRefusal>
 where
-    P: Program<R, W>,
+    P: Program<R, W, K>,
     R: Read + Drop,
     W: Write + Drop,
     K: KeyStore + Drop,
@@ -311,7 +340,37 @@ where
     if matches!(place, Place::First) {
         return member.publish(Change::Do(operation), ahead);
     }
-    member.change(program, Change::Do(operation), ahead)
+    change(program, member, Change::Do(operation), ahead)
+}
+
+/// Goes on to the key in a key file, and prints the number of the commit, or a refusal.
+fn rekey_step<P, O, R, W, K>(
+    program: &mut P,
+    alloc: Global,
+    output: &mut O,
+    member: &mut Member<R, W, K>,
+    file: Vec<u8>,
+) -> Result<Outcome, Fault>
+where
+    P: Program<R, W, K>,
+    O: Write,
+    R: Read + Drop,
+    W: Write + Drop,
+    K: KeyStore + Drop,
+    ensures works { Works member.old member.new }
+    ensures carries { OnOk result (Prints (O.contents output.old) (O.contents output.new)
+        (Carries P.may_connect (files_of P.saves P.opens) (command_.Rekey file) member.old
+        member.new)) }
+    ensures some { OnErr result
+        (CarriesSome P.may_connect (command_.Rekey file) member.old member.new) }
+{
+    match program.open_key(file.as_slice()) {
+        Ok(signer) => {
+            let rekeyed = rekey(program, member, signer);
+            tell_number(alloc, output, rekeyed, false)
+        }
+        Err(refusal) => tell_refusal(alloc, output, ViewRefusal::Plain(refusal), false),
+    }
 }
 
 /// Saves the log, and prints nothing but a refusal.
@@ -323,14 +382,14 @@ fn save_step<P, O, R, W, K>(
     file: Vec<u8>,
 ) -> Result<Outcome, Fault>
 where
-    P: Program<R, W>,
+    P: Program<R, W, K>,
     O: Write,
     R: Read + Drop,
     W: Write + Drop,
     K: KeyStore + Drop,
     ensures works { Works member.old member.new }
     ensures carries { OnOk result (Prints (O.contents output.old) (O.contents output.new)
-        (Carries P.may_connect (IsSaved P.saves) (command_.Save file) member.old member.new)) }
+        (Carries P.may_connect (files_of P.saves P.opens) (command_.Save file) member.old member.new)) }
     ensures takes { OnlyTakes member.old member.new }
 {
     match member.log(program) {

@@ -6,6 +6,7 @@ mod changes;
 mod early;
 mod logs;
 mod members;
+mod own_keys;
 mod questions;
 mod ready;
 mod shown;

@@ -95,7 +95,7 @@ impl<R: Read + Drop, W: Write + Drop, K: KeyStore + Drop> Member<R, W, K> {
 
     /// Puts another signer in the place of the client's own: what the client makes from then on is
     /// signed by that.
-    pub(crate) fn replace_key(&mut self, signer: Signer<K>)
+    pub fn replace_key(&mut self, signer: Signer<K>)
         ensures { ReplacesKey self.old signer.next self.new }
     {
         self.key.replace(signer);

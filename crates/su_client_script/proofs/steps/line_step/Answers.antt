@@ -1,6 +1,6 @@
 use Rattle.std.proofs.Common.{refl, inr, sym}
 use Rattle.su_client_lines.specs.ClientScript.{line_said}
-use Rattle.su_client_script.specs.Lines.{IsSaved}
+use Rattle.su_client_script.specs.Calls.{files_of}
 use Rattle.su_client_work.proofs.Public.{works_same}
 use Rattle.su_client_script.proofs.Carrying.{on_err, carries_some, line_some}
 use Rattle.su_client_script.proofs.steps.line_step.Goals as goal
@@ -18,4 +18,4 @@ pub returns-in_ok-outcome-in-Ok-Command-clause-some : goal.returns-in_ok-outcome
 returns-in_ok-outcome-in-Ok-Command-clause-some g c =
     let (text, carries, printed) = c.in_ok-outcome-in-Ok-Command.ensures.carries in
     on_err c.settle.result _ (rw c.settle.ensures.same (inr (line_some g.P.Surroundings.may_connect (line_said c.args.line.now) c.in-Ok-Command.command c.args.member.now c.command_step.new.member (sym (rw c.in-Ok-Command.field-0-is at c.in-Ok-Command.ensures))
-    (carries_some g.P.Surroundings.may_connect (IsSaved g.P.Program.saves) c.in-Ok-Command.command c.args.member.now c.command_step.new.member text carries))))
+    (carries_some g.P.Surroundings.may_connect (files_of g.P.Program.saves g.P.Program.opens) c.in-Ok-Command.command c.args.member.now c.command_step.new.member text carries))))

@@ -3,7 +3,7 @@ use Rattle.su_client_work.proofs.Public.{works_takes, works_then}
 use Rattle.su_client_script.specs.Carrying.{CarriesChange, CarriesSomeChange, CommitsUntil, CommitsSome}
 use Rattle.su_client_script.specs.Lines.{Prints}
 use Rattle.su_client_script.proofs.Carrying.{on_ok_so, on_err_so, prints_so}
-use Rattle.su_client_script.proofs.steps.change_step.Goals as goal
+use Rattle.su_client_script.proofs.steps.plan_step.Goals as goal
 
 pub returns-in-Ok-clause-works : goal.returns-in-Ok-clause-works
 returns-in-Ok-clause-works g c =

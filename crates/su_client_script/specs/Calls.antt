@@ -1,0 +1,16 @@
+-- What a script has the program do with files. (This project's own.)
+use Rattle.std.specs.Prelude.{ℕ, List}
+
+-- the log is saved as a file of that name; the file of that name has a key with this public key
+pub record FileCalls : Type 0 where
+  pub saves : List ℕ → List ℕ → Type 0
+  pub opens : List ℕ → List ℕ → Type 0
+
+-- Some call of the program did this.
+abbrev pub IsDone : {P : Type 0} → (P → List ℕ → List ℕ → P → Type 0) → List ℕ → List ℕ → Type 0
+IsDone {P} Did file bytes = (before after : P) × Did before file bytes after
+
+-- what the calls of the program do that save a log, and that open a key
+abbrev pub files_of : {P : Type 0} → (P → List ℕ → List ℕ → P → Type 0)
+    → (P → List ℕ → List ℕ → P → Type 0) → FileCalls
+files_of Saved Opened = record { saves = IsDone Saved; opens = IsDone Opened }
