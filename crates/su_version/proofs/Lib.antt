@@ -2,6 +2,7 @@ mod Spelling
 mod CommitSpelling
 mod Chaining
 mod Counting
+mod Keys
 mod Leaves
 mod Nexts
 pub mod Public

@@ -1,13 +1,14 @@
 -- Version structures are spelled part by part.
-use Rattle.std.proofs.Common.{◌≡◌, ◌<◌, ◌≤◌, ◌+◌, ◌^◌, ℕ, true, List, [], ◌∷◌, ◌++◌, length, get_or, refl, sym, ap, arith}
+use Rattle.std.proofs.Common.{◌≡◌, ◌<◌, ◌≤◌, ◌+◌, ◌^◌, ℕ, Bool, true, false, Option, Some, None, List, [], ◌∷◌, ◌++◌, length, get_or, refl, sym, ap, subst, arith}
 use Rattle.std.specs.List.{flat_map, AllByRecursion}
+use Rattle.std.specs.Option.{is_some, unwrap_or}
 use Rattle.su_bytes.specs.declared.formats.Format.{Format as CommitFormat}
-use Rattle.su_bytes.specs.declared.formats.Format.TheVariants.{V1, V2}
+use Rattle.su_bytes.specs.declared.formats.Format.TheVariants.{V1, V2, V3}
 use Rattle.su_bytes.specs.Principal.{is_group}
-use Rattle.su_format.specs.Format.{part, IsLawful, EachFrom, IsFormatOf}
+use Rattle.su_format.specs.Format.{part, making, IsLawful, EachFrom, IsFormatOf}
 use Rattle.su_format.specs.Part.{u8_bytes, u64_bytes}
-use Rattle.su_format.proofs.Public.{Makes, said_as, known_as, last_of, in_order_of, told_by, counted, format_of, part_makes, part_lawful, u8_of, u64_of, user_of, digest_of}
-use Rattle.su_version.specs.Version.{IsCarried, AreCarried, IsVersion, group_bytes, first_bytes, body_bytes, version_bytes, AnyFormat, format_part, group_above, carried_format, groups_format, vector_size_part, number_format, vector_format, body_format, version_format}
+use Rattle.su_format.proofs.Public.{Makes, said_as, known_as, last_of, in_order_of, told_by, counted, format_of, part_makes, part_lawful, making_lawful, u8_of, u64_of, bytes_of, user_of, digest_of}
+use Rattle.su_version.specs.Version.{IsCarried, AreCarried, IsVersion, group_bytes, first_bytes, body_bytes, version_bytes, AnyFormat, format_part, group_above, carried_format, groups_format, vector_size_part, number_format, vector_format, IsNextKey, AnyFlag, flag_bytes, key_bytes, flag_part, key_behind, key_format, body_format, version_format}
 
 -- ---- groups
 
@@ -49,6 +50,73 @@ unfolding vector_format
 vector_of =
     known_as (counted (λ _. 0) number_of 0 vector_size_of) (λ v is. (is.0, all_numbers 0 v is.1)) (λ v is. (is.0, each_number 0 v is.1))
 
+-- ---- next keys
+
+flag_told : (a b : Bool) (rest behind : List ℕ) → AnyFlag a → AnyFlag b → flag_bytes a ++ rest ≡ flag_bytes b ++ behind → (a ≡ b) × (rest ≡ behind)
+flag_told false false rest behind _ _ e = (refl, cc)
+flag_told false true rest behind _ _ e = let first : ◌≡◌ {A = ℕ} 0 1 = ap (λ l. get_or l 0 0) e in absurd (omega arith)
+flag_told true false rest behind _ _ e = let first : ◌≡◌ {A = ℕ} 1 0 = ap (λ l. get_or l 0 0) e in absurd (omega arith)
+flag_told true true rest behind _ _ e = (refl, cc)
+
+flag_of : Makes flag_part (λ f. f) AnyFlag flag_bytes
+unfolding flag_part
+flag_of = part_makes (part_lawful AnyFlag flag_bytes flag_told)
+
+-- no key, without bytes
+none_of : Makes (making None) (λ k. k) (λ k. k ≡ None) (λ (k : Option (List ℕ)). [])
+unfolding making
+none_of = record {
+  lawful = making_lawful None;
+  spelled = λ bytes b rest x. (b, refl, x.0, sym x.1);
+  begins = λ bytes a rest is e. (is, sym e);
+}
+
+-- what comes behind a flag
+abbrev IsBehind : Bool → Option (List ℕ) → Type 0
+IsBehind flag None = flag ≡ false
+IsBehind flag (Some key) = (flag ≡ true) × (length key ≡ 56)
+
+abbrev bytes_behind : Option (List ℕ) → List ℕ
+bytes_behind None = []
+bytes_behind (Some key) = key
+
+nothing_behind : (k : Option (List ℕ)) → IsBehind false k → (k ≡ None) × (k ≡ k) × ([] ≡ bytes_behind k)
+nothing_behind None is = (refl, refl, refl)
+nothing_behind (Some key) is = absurd (let bad : false ≡ true = is.0 in cc)
+
+key_there : (k : Option (List ℕ)) → IsBehind true k → (length (unwrap_or k []) ≡ 56) × (Some (unwrap_or k []) ≡ k) × (unwrap_or k [] ≡ bytes_behind k)
+key_there None is = absurd (let bad : true ≡ false = is in cc)
+key_there (Some key) is = (is.1, refl, refl)
+
+key_behind_of : (flag : Bool) → Makes (key_behind flag) (λ k. k) (IsBehind flag) bytes_behind
+unfolding key_behind
+key_behind_of false =
+    said_as none_of (λ k. k) (λ k. k)
+    (λ k is. (subst (IsBehind false) (sym is) refl, refl, ap bytes_behind is))
+    nothing_behind
+key_behind_of true =
+    said_as (last_of (bytes_of 56) Some) Some (λ k. unwrap_or k [])
+    (λ key is. ((refl, is), refl, refl))
+    key_there
+
+tells_flag : (flag : Bool) (k : Option (List ℕ)) → IsBehind flag k → is_some k ≡ flag
+tells_flag flag None is = sym is
+tells_flag flag (Some key) is = sym is.0
+
+is_next_key : (k : Option (List ℕ)) → AnyFlag (is_some k) × IsBehind (is_some k) k → IsNextKey V3 k × (k ≡ k) × (key_bytes V3 k ≡ flag_bytes (is_some k) ++ bytes_behind k)
+is_next_key None is = (tt, refl, refl)
+is_next_key (Some key) is = (is.1.1, refl, refl)
+
+next_key_is : (k : Option (List ℕ)) → IsNextKey V3 k → (AnyFlag (is_some k) × IsBehind (is_some k) k) × (k ≡ k) × (flag_bytes (is_some k) ++ bytes_behind k ≡ key_bytes V3 k)
+next_key_is None is = ((tt, refl), refl, refl)
+next_key_is (Some key) is = ((tt, (refl, is)), refl, refl)
+
+key_of : (f : CommitFormat) → Makes (key_format f) (λ k. k) (IsNextKey f) (key_bytes f)
+unfolding key_format
+key_of V1 = none_of
+key_of V2 = none_of
+key_of V3 = said_as (told_by is_some flag_of key_behind_of tells_flag) (λ k. k) (λ k. k) is_next_key next_key_is
+
 -- ---- version structures
 
 -- the first bytes tell the format
@@ -57,6 +125,11 @@ format_told V1 V1 rest behind _ _ e = (refl, cc)
 format_told V1 V2 rest behind _ _ e = let fourth : ◌≡◌ {A = ℕ} 49 50 = ap (λ l. get_or l 3 0) e in absurd (omega arith)
 format_told V2 V1 rest behind _ _ e = let fourth : ◌≡◌ {A = ℕ} 50 49 = ap (λ l. get_or l 3 0) e in absurd (omega arith)
 format_told V2 V2 rest behind _ _ e = (refl, cc)
+format_told V1 V3 rest behind _ _ e = let fourth : ◌≡◌ {A = ℕ} 49 51 = ap (λ l. get_or l 3 0) e in absurd (omega arith)
+format_told V3 V1 rest behind _ _ e = let fourth : ◌≡◌ {A = ℕ} 51 49 = ap (λ l. get_or l 3 0) e in absurd (omega arith)
+format_told V2 V3 rest behind _ _ e = let fourth : ◌≡◌ {A = ℕ} 50 51 = ap (λ l. get_or l 3 0) e in absurd (omega arith)
+format_told V3 V2 rest behind _ _ e = let fourth : ◌≡◌ {A = ℕ} 51 50 = ap (λ l. get_or l 3 0) e in absurd (omega arith)
+format_told V3 V3 rest behind _ _ e = (refl, cc)
 
 pub first_bytes_lawful : IsLawful (part AnyFormat first_bytes)
 first_bytes_lawful = part_lawful AnyFormat first_bytes format_told
@@ -65,11 +138,13 @@ first_bytes_lawful = part_lawful AnyFormat first_bytes format_told
 pub length-first_bytes : (f : CommitFormat) → length (first_bytes f) ≡ 4
 length-first_bytes V1 = refl
 length-first_bytes V2 = refl
+length-first_bytes V3 = refl
 
 -- the second isn't that of a roster
 pub second_byte : (f : CommitFormat) (body behind : List ℕ) → get_or ((first_bytes f ++ body) ++ behind) 1 0 ≡ 86
 second_byte V1 body behind = refl
 second_byte V2 body behind = refl
+second_byte V3 body behind = refl
 
 first_bytes_of : Makes format_part (λ f. f) AnyFormat first_bytes
 unfolding format_part
@@ -78,9 +153,9 @@ first_bytes_of = part_makes first_bytes_lawful
 pub body_of : (f : CommitFormat) → Makes (body_format f) (λ v. v) (λ v. (v.format ≡ f) × IsVersion v) body_bytes
 unfolding body_format body_bytes
 body_of f =
-    said_as (in_order_of user_of (λ author. in_order_of digest_of (λ prev. in_order_of digest_of (λ change. in_order_of digest_of (λ handle. in_order_of groups_of (λ groups. last_of vector_of _))))))
-    (λ p. record { format = f; author = p.0; prev = p.1.0; change = p.1.1.0; handle = p.1.1.1.0; groups = p.1.1.1.1.0; vector = p.1.1.1.1.1 })
-    (λ v. (v.author, (v.prev, (v.change, (v.handle, (v.groups, v.vector))))))
+    said_as (in_order_of user_of (λ author. in_order_of digest_of (λ prev. in_order_of digest_of (λ change. in_order_of digest_of (λ handle. in_order_of groups_of (λ groups. in_order_of vector_of (λ vector. last_of (key_of f) _)))))))
+    (λ p. record { format = f; author = p.0; prev = p.1.0; change = p.1.1.0; handle = p.1.1.1.0; groups = p.1.1.1.1.0; vector = p.1.1.1.1.1.0; next_key = p.1.1.1.1.1.1 })
+    (λ v. (v.author, (v.prev, (v.change, (v.handle, (v.groups, (v.vector, v.next_key)))))))
     (λ p is. (
       (
         refl,
@@ -91,18 +166,19 @@ body_of f =
           handle = is.1.1.1.0;
           group_count = is.1.1.1.1.0.0;
           groups = is.1.1.1.1.0.1;
-          some_numbers = is.1.1.1.1.1.0.0;
-          few_numbers = is.1.1.1.1.1.0.1;
-          numbers = is.1.1.1.1.1.1;
+          some_numbers = is.1.1.1.1.1.0.0.0;
+          few_numbers = is.1.1.1.1.1.0.0.1;
+          numbers = is.1.1.1.1.1.0.1;
+          next_key = is.1.1.1.1.1.1;
         },
       ),
       refl,
       refl,
     ))
     (λ v is. let of = is.1 in (
-      (of.author, (of.prev, (of.change, (of.handle, ((of.group_count, of.groups), ((of.some_numbers, of.few_numbers), of.numbers)))))),
+      (of.author, (of.prev, (of.change, (of.handle, ((of.group_count, of.groups), (((of.some_numbers, of.few_numbers), of.numbers), subst (λ g. IsNextKey g v.next_key) is.0 of.next_key)))))),
       ap (λ x. record v { format = x }) (sym is.0),
-      refl,
+      ap (λ g. v.author ∷ (v.prev ++ (v.change ++ (v.handle ++ (length v.groups ∷ (flat_map group_bytes v.groups ++ (length v.vector ∷ (flat_map u64_bytes v.vector ++ key_bytes g v.next_key)))))))) (sym is.0),
     ))
 
 pub version_makes : Makes version_format (λ v. v) IsVersion version_bytes

@@ -173,9 +173,9 @@ IsChain ro cs = ChainAfter ro [] cs
 -- The author of a commit signed an earlier one of these, under the same key: under the key that the
 -- author has after all of them.
 pub record SignedBefore (ro : Membership) (cs : List Commit) (author : ℕ) (d : Commit) : Type 0
-    where
-  pub before : List Commit
-  pub behind : List Commit
-  pub place : cs ≡ before ++ d ∷ behind
-  pub by : d.version.author ≡ author
-  pub key : chain_key ro author before ≡ chain_key ro author cs
+  where
+    pub before : List Commit
+    pub behind : List Commit
+    pub place : cs ≡ before ++ d ∷ behind
+    pub by : d.version.author ≡ author
+    pub key : chain_key ro author before ≡ chain_key ro author cs

@@ -55,8 +55,8 @@ pub struct Tip<'a> {
 impl<'a> Tip<'a> {
     /// The tip of a chain of so many commits, with the digest of the last one (at first that of the
     /// roster), its format (at first the oldest), its vector (at first zeros), the user's key, if
-    /// there is such a user, the leaf by which the user signed last under that key, and the keys that
-    /// a user has or had.
+    /// there is such a user, the leaf by which the user signed last under that key, and the keys
+    /// that a user has or had.
     pub fn new(
         number: u64,
         head: Digest,
@@ -66,15 +66,16 @@ impl<'a> Tip<'a> {
         leaf: Option<u32>,
         used: &'a UsedKeys,
     ) -> Tip<'a>
-        ensures { result ≡ record {
+        ensures tip { (keys : List (List ℕ)) → tip_with result keys ≡ record {
           number = number;
           head = head;
           format = format;
-          vector = vector;
+          vector = vector.now;
           key = key;
           leaf = leaf;
-          used = used;
+          used = keys;
         } }
+        ensures used { result.used.now ≡ used.now }
     {
         Tip {
             number,
@@ -174,7 +175,8 @@ fn is_new_leaf(last: Option<u32>, leaf: u32) -> bool
 
 /// Whether a next key, if there is one, is none of those that a user has or had.
 fn is_new_key(used: &UsedKeys, next: Option<[u8; KEY_LENGTH]>) -> bool
-    ensures { (keys : List (List ℕ)) → HasJust keys used.now → IsTrue result ↔ IsNewKey keys next }
+    ensures { (keys : List (List ℕ)) → HasJust keys used.now
+        → IsTrue result ↔ IsNewKey keys next }
 {
     match &next {
         None => true,

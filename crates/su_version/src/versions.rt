@@ -469,10 +469,7 @@ fn read_flag(reader: &mut Reader<'_>) -> Result<bool, Refusal>
 }
 
 // The key, if one comes.
-fn read_key_behind(
-    reader: &mut Reader<'_>,
-    flag: bool,
-) -> Result<Option<[u8; KEY_LENGTH]>, Refusal>
+fn read_key_behind(reader: &mut Reader<'_>, flag: bool) -> Result<Option<[u8; KEY_LENGTH]>, Refusal>
     ensures { Takes (key_behind flag) reader.old result reader.new }
 {
     // names the type for the prover (docs/ARCHITECTURE.md, "Forms the kit wants")

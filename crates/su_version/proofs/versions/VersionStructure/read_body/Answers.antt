@@ -53,16 +53,29 @@ returns-in_err-vector c =
     (then_refused _ _ c.in_ok-groups.ensures.found
     (first_refused _ _ c.in_err-vector.ensures))))))
 
+pub returns-in_err-next_key : goal.returns-in_err-next_key
+unfolding body_format
+returns-in_err-next_key c =
+    handed_on _ _ c.from_residual-in_err-next_key.ensures.1
+    (then_refused _ _ c.in_ok-author.ensures.takes
+    (then_refused _ _ c.in_ok-prev.ensures.takes
+    (then_refused _ _ c.in_ok-change.ensures.takes
+    (then_refused _ _ c.in_ok-handle.ensures.takes
+    (then_refused _ _ c.in_ok-groups.ensures.found
+    (then_refused _ _ c.in_ok-vector.ensures
+    (first_refused _ _ c.in_err-next_key.ensures)))))))
+
 pub invariant_of-result : goal.invariant_of-result
 unfolding body_format
 invariant_of-result c =
-    let took : Took (body_format c.args.format) c.args.reader.now _ c.read_vector.new.reader =
+    let took : Took (body_format c.args.format) c.args.reader.now _ c.read_key.new.reader =
     then_took _ _ c.in_ok-author.ensures.takes
     (then_took _ _ c.in_ok-prev.ensures.takes
     (then_took _ _ c.in_ok-change.ensures.takes
     (then_took _ _ c.in_ok-handle.ensures.takes
     (then_took _ _ c.in_ok-groups.ensures.found
-    (then_took _ _ c.in_ok-vector.ensures (made _ _)))))) in
+    (then_took _ _ c.in_ok-vector.ensures
+    (then_took _ _ c.in_ok-next_key.ensures (made _ _))))))) in
     ((format_of (body_of c.args.format)).spelled _ _ _ took.spelled).0.1
 
 pub returns : goal.returns
@@ -73,4 +86,5 @@ returns c =
     (then_took _ _ c.in_ok-change.ensures.takes
     (then_took _ _ c.in_ok-handle.ensures.takes
     (then_took _ _ c.in_ok-groups.ensures.found
-    (then_took _ _ c.in_ok-vector.ensures (made _ _))))))
+    (then_took _ _ c.in_ok-vector.ensures
+    (then_took _ _ c.in_ok-next_key.ensures (made _ _)))))))
