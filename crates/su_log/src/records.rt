@@ -8,8 +8,7 @@ use crate::parts::{Part, next_part};
 use std::alloc::Global;
 use std::io;
 use std::io::Read;
-use su_bytes::{FileId, Refusal, Roster};
-use su_chain::verdict;
+use su_bytes::{FileId, Refusal};
 use su_lms::PublicKey;
 use su_version::{Commit, Verdict};
 
@@ -22,30 +21,35 @@ pub struct Record {
     pub item: Vec<u8>,
     /// The commit that the bytes spell, or why there is none.
     pub commit: Result<Commit, Refusal>,
-    /// Whether the commit is signed under its author's key; none where that isn't known.
+    /// The key under which the commit is examined: the one that its author is presumed to have.
+    pub key: Option<PublicKey>,
+    /// Whether the commit is signed, under which key; none where that isn't known.
     pub verdict: Option<Verdict>,
 }
 
 impl Record {
-    /// Finds out whether the commit is signed under its author's key. Without memory for that, it
+    /// Finds out whether the commit is signed under the key that is set. Without memory for that, it
     /// isn't known.
-    pub fn examine(&mut self, alloc: Global, roster: &Roster)
+    pub fn examine(&mut self, alloc: Global)
         ensures verdict { IsVerdict self.new.commit self.new.verdict }
         ensures same { self.new ≡ record self.old { verdict = self.new.verdict } }
     {
-        self.verdict = verdict_on(alloc, roster, &self.commit);
+        self.verdict = verdict_on(alloc, self.key, &self.commit);
     }
 }
 
-/// Whether a commit is signed under its author's key; none where there is no commit, or no memory.
-fn verdict_on(alloc: Global, roster: &Roster, commit: &Result<Commit, Refusal>) -> Option<Verdict>
+/// Whether a commit is signed under that key; none where there is no commit, or no memory.
+fn verdict_on(
+    alloc: Global,
+    key: Option<PublicKey>,
+    commit: &Result<Commit, Refusal>,
+) -> Option<Verdict>
     ensures { IsVerdict commit.now result }
 {
-    // name the types for the prover (docs/ARCHITECTURE.md, "Forms the kit wants")
+    // names the type for the prover (docs/ARCHITECTURE.md, "Forms the kit wants")
     let _file: Option<FileId> = None;
-    let _key: Option<PublicKey> = None;
     match commit {
-        Ok(commit) => verdict(alloc, roster, commit).ok(),
+        Ok(commit) => Verdict::of(alloc, key, commit).ok(),
         Err(_) => None,
     }
 }
@@ -103,6 +107,7 @@ impl<R: Read + Drop> Log<R> {
             bytes,
             item,
             commit,
+            key: None,
             verdict: None,
         })
     }

@@ -5,13 +5,13 @@ ghost use Rattle.su_log.specs.Log.{record_bytes};
 ghost use Rattle.su_log.specs.Record.{IsRead, IsExamined, BeginsWithRecord, StopsSo, spelled};
 ghost use Rattle.su_log_ahead.specs.Ahead.{IsLeft, IsUsedUp, AreExaminedFrom};
 
+use crate::presumed::PresumedKeys;
 use std::alloc::{AllocError, Global};
 use std::collections::VecDeque;
 use std::io::Read;
 use std::marker::Model;
 use std::thread;
 use std::thread::Threads;
-use su_bytes::Roster;
 use su_log::{Log, Record, Stop};
 
 /// How many records are read ahead at most.
@@ -25,6 +25,8 @@ const MANY_BYTES: usize = 16_777_216;
 #[derive(Drop)]
 pub struct Ahead<R: Read> {
     log: Log<R>,
+    /// The key that each user is presumed to have behind what was read.
+    keys: PresumedKeys,
     /// What was read and not taken yet.
     records: VecDeque<Record>,
     /// What is behind these; none where that isn't read yet.
@@ -49,8 +51,9 @@ impl<R: Read> Model for Ahead<R> {
 }
 
 impl<R: Read + Drop> Ahead<R> {
-    /// Makes the log that this reader gives, of which nothing is read yet.
-    pub fn new(alloc: Global, reader: R) -> Ahead<R>
+    /// Makes the log that this reader gives, of which nothing is read yet. Its first commits are
+    /// examined under these keys, and those behind one that names a next key under that.
+    pub fn new(alloc: Global, reader: R, keys: PresumedKeys) -> Ahead<R>
         ensures { result ≡ record {
           records = [];
           stop = None;
@@ -60,6 +63,7 @@ impl<R: Read + Drop> Ahead<R> {
     {
         Ahead {
             log: Log::new(reader),
+            keys,
             records: VecDeque::new(alloc),
             stop: None,
         }
@@ -77,12 +81,7 @@ impl<R: Read + Drop> Ahead<R> {
     /// all cores which of their commits are signed. Fails where no record comes next: `End` at the
     /// end of the log; `Cut` with the place of a number of bytes that is cut or goes past the end;
     /// `Failed` where the log can't be read, or memory is refused.
-    pub fn next<T: Threads + Sync>(
-        &mut self,
-        rt: &T,
-        alloc: Global,
-        roster: &Roster,
-    ) -> Result<Record, Stop>
+    pub fn next<T: Threads + Sync>(&mut self, rt: &T, alloc: Global) -> Result<Record, Stop>
         ensures known { IfOk result IsExamined }
         ensures next { (place : ℕ) (input : List ℕ) → IsLeft self.old place input
             → MatchResult result (λ r. (rest : List ℕ) × BeginsWithRecord input (spelled r) rest
@@ -90,7 +89,7 @@ impl<R: Read + Drop> Ahead<R> {
             (λ stop. StopsSo stop place input) }
     {
         if self.is_used_up() {
-            self.read_ahead(rt, alloc, roster);
+            self.read_ahead(rt, alloc);
         }
         match self.records.pop_front() {
             Some(next) => Ok(next),
@@ -103,15 +102,15 @@ impl<R: Read + Drop> Ahead<R> {
 
     /// Reads ahead, where nothing is left of what was, and finds out on all cores which of the
     /// commits are signed.
-    fn read_ahead<T: Threads + Sync>(&mut self, rt: &T, alloc: Global, roster: &Roster)
+    fn read_ahead<T: Threads + Sync>(&mut self, rt: &T, alloc: Global)
         requires { IsUsedUp self.old }
         ensures some { ¬ IsUsedUp self.new }
         ensures left { (place : ℕ) (input : List ℕ) → IsLeft self.old place input
             → IsLeft self.new place input }
     {
-        match read_records(alloc, &mut self.log) {
+        match read_records(alloc, &mut self.log, &mut self.keys) {
             Ok((mut records, stop)) => {
-                examine(rt, alloc, roster, records.as_mut_slice());
+                examine(rt, alloc, records.as_mut_slice());
                 self.records = VecDeque::from_vec(records);
                 self.stop = stop;
             }
@@ -121,10 +120,11 @@ impl<R: Read + Drop> Ahead<R> {
 }
 
 /// Reads records until they are many, or have many bytes, or none comes next; and what is behind
-/// them, if that is read.
+/// them, if that is read. Of each commit it is presumed under which key it is signed.
 fn read_records<R: Read + Drop>(
     alloc: Global,
     log: &mut Log<R>,
+    keys: &mut PresumedKeys,
 ) -> Result<(Vec<Record>, Option<Stop>), AllocError>
     ensures read { IfOk result (λ b.
         AllByRecursion (λ r. IsRead r.bytes.items r.commit) b.0.items) }
@@ -141,7 +141,8 @@ fn read_records<R: Read + Drop>(
     let mut bytes = 0;
     while records.len() < MOST_RECORDS && bytes < MANY_BYTES {
         match log.next_record(alloc) {
-            Ok(next) => {
+            Ok(mut next) => {
+                next.key = keys.presume(&next.commit);
                 bytes = next
                     .item
                     .len()
@@ -155,14 +156,14 @@ fn read_records<R: Read + Drop>(
     Ok((records, None))
 }
 
-/// Finds out on all cores which of the commits are signed under their author's key. Of a record
-/// without a commit, or where memory is refused, it isn't known.
-pub fn examine<T: Threads + Sync>(rt: &T, alloc: Global, roster: &Roster, records: &mut [Record])
+/// Finds out on all cores which of the commits are signed, each under the key that its record has.
+/// Of a record without a commit, or where memory is refused, it isn't known.
+pub fn examine<T: Threads + Sync>(rt: &T, alloc: Global, records: &mut [Record])
     ensures { AreExaminedFrom records.old records.new }
 {
     let threads = match thread::available_parallelism(rt) {
         Ok(threads) => threads.get(),
         Err(_) => 1,
     };
-    thread::for_each_mut(rt, records, threads, &|_, next| next.examine(alloc, roster));
+    thread::for_each_mut(rt, records, threads, &|_, next| next.examine(alloc));
 }

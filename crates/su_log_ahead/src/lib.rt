@@ -3,5 +3,7 @@
 #![tactic(auto)]
 
 mod ahead;
+mod presumed;
 
 pub use ahead::{Ahead, examine};
+pub use presumed::PresumedKeys;
