@@ -143,6 +143,26 @@ module _ (k : Keeping) (c : Commit) (change : Change) (r : Record) (kept : IsKee
       all : (holding_of l).held ≡ held ++ x ∷ []
       all = (λ i. held_in (records i) (settled i).history) ∙ held_more
 
+-- ---- with more room, or another entry that stands ready
+
+pub keeping_still : (k l : Keeping) → IsKeeping k → l.user ≡ k.user → l.own ≡ k.own → l.records.items ≡ k.records.items → l.desk.settled ≡ k.desk.settled
+    → ((ro : Membership) (cs : List Commit) → IsEndOf ro cs k.end → IsEndOf ro cs l.end) → IsKeeping l
+keeping_still k l kept user own records settled end = record {
+  roster = subst (λ (d : DeskState). IsRoster d.roster) (sym settled) kept.roster;
+  commits = ap commits_of held ∙ kept.commits ∙ sym (ap (map commit_in) records);
+  entries = ap history held ∙ kept.entries ∙ sym (ap (λ (d : DeskState). d.history) settled);
+  bytes = subst (AreBytes l.records.items) (sym held) (subst (λ rs. AreBytes rs (holding_of k).held) (sym records) kept.bytes);
+  legal = subst (λ (d : DeskState). Legal d.roster (holding_of l).held) (sym settled) (subst (Legal k.desk.settled.roster) (sym held) kept.legal);
+  end_is = subst (λ (d : DeskState). IsEndOf d.roster (map commit_in l.records.items) l.end) (sym settled)
+      (subst (λ rs. IsEndOf k.desk.settled.roster (map commit_in rs) l.end) (sym records) (end k.desk.settled.roster (map commit_in k.records.items) kept.end_is));
+  member = subst (λ (d : DeskState). has_user d.roster l.user ≡ true) (sym settled) (ap (has_user k.desk.settled.roster) user ∙ kept.member);
+  last_own = subst (IsLastIndex l.user (holding_of l).held) (sym own)
+      (subst (λ u. IsLastIndex u (holding_of l).held k.own) (sym user) (subst (λ cs. IsLastIndex k.user cs k.own) (sym held) kept.last_own));
+}
+  where
+    held : (holding_of l).held ≡ (holding_of k).held
+    held = λ i. held_in (records i) (settled i).history
+
 pub length-held : (k : Keeping) → IsKeeping k → length (holding_of k).held ≡ length k.records.items
 length-held k kept = sym (length-map (holding_of k).held (λ c. c.commit)) ∙ ap length kept.commits ∙ length-map k.records.items commit_in
 
