@@ -8,7 +8,7 @@ use Rattle.su_client_work.specs.Member.{MemberState}
 use Rattle.su_client_work.specs.Work.{signed_in}
 
 -- The run goes on with acts of client k, which then holds what they leave. What they sign are just
--- the version structures of the commits that the client's key signed meanwhile.
+-- the version structures of the commits that were signed with the client's keys meanwhile.
 pub record GoesOn (w : World) (es : List Event) (k : ℕ) (s t : MemberState) : Type 0 where
   pub acts : List Act
   pub commits : List Commit

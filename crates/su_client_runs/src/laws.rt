@@ -9,9 +9,9 @@ ghost use Rattle.su_client_runs.specs.Runs.{GoesOn};
 use su_fork::acts_make_runs;
 
 /// What an honest user's client did, as the clause `works` of a member's calls and of the run of a
-/// script says it, makes a run of what came before; and the commits that its key signed since are
-/// just what it signs there. So what the laws on forks say of runs holds of what a script's run does
-/// with the key (`run_client`).
+/// script says it, makes a run of what came before; and the commits that were signed with its keys
+/// since are just what it signs there. So what the laws on forks say of runs holds of what a script's
+/// run does with the keys (`run_client`).
 pub fn clients_make_runs()
     ensures { (w : World) (es : List Event) (k : ℕ) (s t : MemberState)
         → Run w es → w.honest (w.user k) ≡ true → s.holding ≡ holding_after w es k

@@ -84,12 +84,7 @@ impl Fetched {
     }
 
     /// Finds out on all cores which of them are signed. With them the list would have so many.
-    pub fn examined<T: Threads + Sync>(
-        self,
-        rt: &T,
-        alloc: Global,
-        end: u64,
-    ) -> Ready {
+    pub fn examined<T: Threads + Sync>(self, rt: &T, alloc: Global, end: u64) -> Ready {
         let Fetched {
             keys: _keys,
             mut records,

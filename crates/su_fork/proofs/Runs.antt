@@ -145,8 +145,7 @@ held_taken k es c i =
 pub taken_held : (es : List Event) (c : Committed) → Contains (all_taken es) c → (k : ℕ) × Contains (list_of k es) c
 unfolding list_of
 taken_held es c i =
-    let f = found (λ (e : Event). taken e.act) es c i in
-    (
+    let f = found (λ (e : Event). taken e.act) es c i in (
       f.element.client,
       subst (λ l. Contains (flat_map (taken_by f.element.client) l) c) (sym f.whole)
           (in_joined (taken_by f.element.client) f.before f.after f.element c (by_itself (nat_eq f.element.client f.element.client) (taken f.element.act) c (eq-eqb f.element.client f.element.client refl) f.there)),

@@ -155,7 +155,9 @@ fn has_at(records: &[Record], place: usize, bytes: &[u8]) -> bool
 fn has_bytes(records: &[Record], bytes: &[u8]) -> bool
     ensures { result ≡ list_any (λ r. pointwise nat_eq r.bytes.items bytes.now) records.now }
 {
-    records.iter().any(|record| record.bytes.as_slice() == bytes)
+    records
+        .iter()
+        .any(|record| record.bytes.as_slice() == bytes)
 }
 
 /// Where in a list, counted from 0, a commit of that vector stands: its numbers of the users count

@@ -18,7 +18,9 @@ ghost use Rattle.su_view.specs.declared.refusals.ViewRefusal.TheVariants.{Plain,
 use crate::holdings::{Holding, within};
 use crate::refusals::ViewRefusal;
 use std::alloc::Global;
-use su_bytes::{Digest, FileId, Group, KEY_LENGTH, NEWEST_FORMAT, Principal, Refusal, Roster, User};
+use su_bytes::{
+    Digest, FileId, Group, KEY_LENGTH, NEWEST_FORMAT, Principal, Refusal, Roster, User,
+};
 use su_change::encode;
 use su_desk::{Prepared, TrialDesk};
 use su_lms::PublicKey;
