@@ -1,6 +1,7 @@
 -- An honest user's commits in a legal list are signed under keys of the user's own, so the user's clients signed them.
 use Rattle.std.proofs.Common.{◌≡◌, ℕ, Bool, true, false, cond, nat_eq, List, [], ◌∷◌, ◌++◌, ◌⊎◌, Option, Some, None, refl, sym, ap, ◌∙◌, subst, inl, inr, append_assoc, append-nil}
 use Rattle.std.specs.List.{Contains}
+use Rattle.std.proofs.lemmas.List.{map-append}
 use Rattle.std.proofs.lemmas.List.Elements.{Contains-append_cases, Contains-append_left}
 use Rattle.std.proofs.lemmas.Bool.{eqb-true}
 use Rattle.su_bytes.specs.Membership.{Membership}
@@ -8,8 +9,8 @@ use Rattle.su_bytes.specs.RosterBytes.{user_key}
 use Rattle.su_lms.specs.Signature.{IsSigned}
 use Rattle.su_version.specs.Version.{version_bytes}
 use Rattle.su_version.specs.Commit.{Commit}
-use Rattle.su_version.specs.Chain.{IsSignedBy, key_after, later_key, chain_key}
-use Rattle.su_version.proofs.Public.{next_signed}
+use Rattle.su_version.specs.Chain.{IsSignedBy, key_after, chain_key}
+use Rattle.su_version.proofs.Public.{key_further, key_at_first, next_signed}
 use Rattle.su_legal.specs.Legal.{Committed, commits_of, author_of, Legal}
 use Rattle.su_legal.proofs.Public.{from_the_end, is_in_middle, none_in_empty, only_in, legal_next}
 use Rattle.su_fork.specs.Events.{World, Event, versions_of}
@@ -23,15 +24,9 @@ signing_key (Some key) c signed = (key, refl, signed)
 
 -- ---- the key behind one commit more
 
-later_key-append : (u : ℕ) (key : Option (List ℕ)) (xs : List Committed) (c : Committed) → later_key u key (commits_of (xs ++ c ∷ []))
-    ≡ cond (nat_eq (author_of c) u) (key_after (later_key u key (commits_of xs)) c.commit.version.next_key) (later_key u key (commits_of xs))
-later_key-append u key [] c = refl
-later_key-append u key (x ∷ xs) c = later_key-append u (cond (nat_eq (author_of x) u) (key_after key x.commit.version.next_key) key) xs c
-
 key_next : (ro : Membership) (u : ℕ) (xs : List Committed) (c : Committed) → chain_key ro u (commits_of (xs ++ c ∷ []))
     ≡ cond (nat_eq (author_of c) u) (key_after (chain_key ro u (commits_of xs)) c.commit.version.next_key) (chain_key ro u (commits_of xs))
-unfolding chain_key
-key_next ro u xs c = later_key-append u (user_key ro u) xs c
+key_next ro u xs c = ap (chain_key ro u) (map-append (λ (x : Committed). x.commit) xs (c ∷ [])) ∙ key_further ro u (commits_of xs) c.commit
 
 module _ (w : World) (es : List Event) where
   -- clients of user u signed all of the user's commits among these
@@ -43,8 +38,8 @@ module _ (w : World) (es : List Event) where
 
   -- then the key that the user has behind them is one of the user's own
   own_key : (u : ℕ) (xs : List Committed) → AllSigned u xs → (key : List ℕ) → chain_key w.roster u (commits_of xs) ≡ Some key → IsOwnKey w es u key
-  unfolding AllSigned OwnKey chain_key
-  own_key u = from_the_end (OwnKey u) (λ all key is. inl is) step
+  unfolding AllSigned OwnKey
+  own_key u = from_the_end (OwnKey u) (λ all key is. inl (sym (key_at_first w.roster u) ∙ is)) step
     where
       step : (xs : List Committed) (c : Committed) → OwnKey u xs → OwnKey u (xs ++ c ∷ [])
       step xs c ih all key is = go (nat_eq (author_of c) u) refl (chain_key w.roster u (commits_of xs)) refl c.commit.version.next_key refl (sym (key_next w.roster u xs c) ∙ is)
