@@ -138,6 +138,13 @@ impl<'a> KeptKey<'a> {
         })
     }
 
+    /// Returns the path of its file.
+    pub fn path(&self) -> &str
+        ensures { result.now ≡ self.now.path }
+    {
+        self.path.as_str()
+    }
+
     /// Returns the parameter set, I, SEED and the leaf that signs next.
     pub fn file(&self) -> &KeyFile
         ensures key { private_key_of result.now ≡ self.now.key }

@@ -12,10 +12,19 @@ use thiserror::Error;
 pub(crate) enum ClientFault {
     /// There is no public key for the user.
     #[error("there is no public key of user {user}")]
-    NoUser { user: u8 },
+    NoUser {
+        user: u8,
+    },
     /// The user's key can't be used.
     #[error("{0}")]
     Key(KeptKeyFault),
+    /// The key is no longer that of the user, who has this one now.
+    #[error("{path} is no longer the key of user {user}, who has this one now: {present}")]
+    OldKey {
+        path: String,
+        user: u8,
+        present: String,
+    },
     /// A public key can't be read.
     #[error("{0}")]
     PublicKey(KeyFault),
@@ -24,13 +33,22 @@ pub(crate) enum ClientFault {
     Refused(Refusal),
     /// The log can't be read.
     #[error("reading {path}: {reason}")]
-    UnreadLog { path: String, reason: io::Error },
+    UnreadLog {
+        path: String,
+        reason: io::Error,
+    },
     /// The commit of that number of the log, from 1, is refused.
     #[error("commit {number} of the log is refused: {refusal}")]
-    RefusedLog { number: u64, refusal: ViewRefusal },
+    RefusedLog {
+        number: u64,
+        refusal: ViewRefusal,
+    },
     /// There is no server on the port.
     #[error("connecting to port {port}: {reason}")]
-    Unlinked { port: u16, reason: io::Error },
+    Unlinked {
+        port: u16,
+        reason: io::Error,
+    },
     /// The link failed before the script began.
     #[error("the link to the server failed")]
     LinkFailed,

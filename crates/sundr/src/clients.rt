@@ -1,10 +1,12 @@
 // A client at work on a script.
 ghost use Rattle.std.specs.Prelude.{◌≡◌, ℕ, List, Some, true, length};
 ghost use Rattle.su_arguments.specs.Ranges.{IsUserCount};
+ghost use Rattle.su_client_work.specs.Work.{Works};
 ghost use Rattle.sundr.specs.Run.{AddsUnlessFault};
 
 use crate::client_faults::ClientFault;
 use crate::faults::tell_fault;
+use crate::key_files::{open_present, open_signer};
 use crate::programs::ClientProgram;
 use crate::rosters::read_roster;
 use crate::sentences::WITHOUT_LOG;
@@ -23,8 +25,8 @@ use su_client_script::{Ending, Fault, run_client};
 use su_client_work::{LogFault, Member, take_log};
 use su_desk_script::Status;
 use su_host::{Link, connect};
-use su_kept_key::{KeptKey, signer_of};
-use su_lms::Signer;
+use su_kept_key::KeptKey;
+use su_lms::{PublicKey, Signer};
 use su_view::View;
 
 /// Runs a script at a server, for a user with a key, as the command line asks for it. Where there is
@@ -55,11 +57,11 @@ where
 }
 
 /// Runs the script.
-fn work<T, R: Read + Drop, W: Write>(
-    rt: &HostRuntime,
-    host: &T,
-    args: &ClientArgs,
-    mut member: Member<BufReader<TcpStream>, TcpStream, KeptKey<'_>>,
+fn work<'a, T, R: Read + Drop, W: Write>(
+    rt: &'a HostRuntime,
+    host: &'a T,
+    args: &'a ClientArgs,
+    mut member: Member<BufReader<TcpStream>, TcpStream, KeptKey<'a>>,
     reader: R,
     writer: &mut W,
 ) -> Status
@@ -71,17 +73,21 @@ where
     if args.log.is_none() {
         let _ = eprintln!(rt; "sundr: {WITHOUT_LOG}");
     }
-    let mut program = ClientProgram::new(rt, host, args.port);
+    let mut program = ClientProgram::new(rt, host, args);
     let alloc = rt.alloc();
+    if let Err(fault) = take_present_key(rt, host, args, &mut program, &mut member) {
+        return tell_fault(rt, fault);
+    }
     let ending = run_client(&mut program, alloc, reader, writer, &mut member, args.stop);
-    put_leaf_back(rt, args.key.as_str(), member.store());
+    put_leaf_back(rt, member.store());
     tell_ending(rt, &ending);
     ending.status()
 }
 
 /// Puts the leaf that signs next back in the key file, unless a leaf couldn't be stored before.
 /// Standard error tells which of the two failed, and why.
-fn put_leaf_back(rt: &HostRuntime, path: &str, key: &KeptKey<'_>) {
+fn put_leaf_back(rt: &HostRuntime, key: &KeptKey<'_>) {
+    let path = key.path();
     match key.fault() {
         Some(reason) => {
             tell_fault(rt, format_args!("writing {path}: {reason}"));
@@ -107,9 +113,44 @@ where
     let user = user_of(args)?;
     let signer = open_signer(rt, host, args.key.as_str(), args.leaves_ahead)?;
     match view_at(rt, host, args, user) {
-        Ok(view) => Ok(Member::new(rt.alloc(), view, signer, args.tries)),
+        Ok(view) => member_with(rt, host, args, view, signer),
         Err(fault) => Err(fault),
     }
+}
+
+/// Makes the client of a view, with the key of the command line or, where the log says that the user
+/// has another one by now, with that. `OldKey` where no file of that is known.
+fn member_with<'a, T>(
+    rt: &'a HostRuntime,
+    host: &T,
+    args: &ClientArgs,
+    view: View<Checked<Items>>,
+    signer: Signer<KeptKey<'a>>,
+) -> Result<Member<BufReader<TcpStream>, TcpStream, KeptKey<'a>>, ClientFault>
+where
+    T: Net<Listener = TcpListener, Stream = TcpStream> + Threads + Sync,
+{
+    match changed_key(&view, &signer.public()) {
+        None => Ok(Member::new(rt.alloc(), view, signer, args.tries)),
+        Some(present) => match open_present(rt, host, args, &present) {
+            Ok(signer) => Ok(Member::new(rt.alloc(), view, signer, args.tries)),
+            Err(fault) => Err(fault),
+        },
+    }
+}
+
+/// Returns the key that the user of a view has, where it isn't the one of the roster any more, nor this
+/// one.
+fn changed_key<S: BlockSource + Drop>(view: &View<S>, key: &PublicKey) -> Option<PublicKey> {
+    let present = view.key(view.user())?;
+    let is_first = match view.roster().key(view.user()) {
+        Some(first) => present.as_bytes() == first,
+        None => true,
+    };
+    if is_first || present == *key {
+        return None;
+    }
+    Some(present)
 }
 
 /// Makes the view of a user at the server, whose list are the commits of the log.
@@ -145,15 +186,31 @@ fn user_of(args: &ClientArgs) -> Result<User, ClientFault> {
     }
 }
 
-/// Opens the key file, one write of which serves so many signatures, and makes the signer of its key.
-fn open_signer<'a, T: Threads + Sync>(
+/// Where a client makes next keys, asks the server for the commits that came since, and goes on with
+/// the key that its user has by them: a run that was killed may have named it after the log was saved.
+/// What the server refuses now, it refuses at the script's first command too.
+fn take_present_key<'a, T>(
     rt: &'a HostRuntime,
     host: &T,
-    key: &str,
-    leaves_ahead: u32,
-) -> Result<Signer<KeptKey<'a>>, ClientFault> {
-    let kept = KeptKey::open(rt, key, leaves_ahead)?;
-    Ok(signer_of(host, rt.alloc(), kept)?)
+    args: &ClientArgs,
+    program: &mut ClientProgram<'a, T>,
+    member: &mut Member<BufReader<TcpStream>, TcpStream, KeptKey<'a>>,
+) -> Result<(), ClientFault>
+where
+    T: Net<Listener = TcpListener, Stream = TcpStream> + Threads + Sync,
+    ensures { Works member.old member.new }
+{
+    if args.next_key.is_none() || member.look(program).is_err() {
+        return Ok(());
+    }
+    let present = member.present_key();
+    match present {
+        Some(key) if key != member.public_key() => {
+            member.replace_key(open_present(rt, host, args, &key)?);
+            Ok(())
+        }
+        _ => Ok(()),
+    }
 }
 
 /// The items of a view, as a server gives them and is given them.

@@ -17,6 +17,7 @@ mod backups;
 mod client_faults;
 mod clients;
 mod faults;
+mod key_files;
 mod printing;
 mod programs;
 mod rosters;
@@ -92,7 +93,14 @@ where
             entropy,
             out,
             params,
-        } => new_key(rt, host, entropy.as_str(), out.as_str(), params, writer),
+        } => new_key(
+            rt,
+            host,
+            entropy.as_ref().map(|path| path.as_str()),
+            out.as_str(),
+            params,
+            writer,
+        ),
         Line::Audit { log, keys } => audit(rt, host, log.as_str(), keys.as_slice(), writer),
         Line::Serve(args) => serve(rt, host, &args),
         Line::Client(args) => client(rt, host, &args, reader, writer),
@@ -144,7 +152,7 @@ fn tell_ending(rt: &HostRuntime, ending: &Ending) {
 fn new_key<T: Threads + Sync, W: Write>(
     rt: &HostRuntime,
     host: &T,
-    entropy: &str,
+    entropy: Option<&str>,
     out: &str,
     params: Params,
     writer: &mut W,
@@ -162,7 +170,7 @@ fn new_key<T: Threads + Sync, W: Write>(
 fn public_line<T: Threads + Sync>(
     rt: &HostRuntime,
     host: &T,
-    entropy: &str,
+    entropy: Option<&str>,
     out: &str,
     params: Params,
 ) -> Result<String, KeygenFault>

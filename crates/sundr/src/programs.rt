@@ -1,4 +1,5 @@
 // The program around a client's script.
+use crate::key_files::KeyFiles;
 use crate::savers::save_log;
 use crate::sentences::sentence_of;
 use std::io::BufReader;
@@ -6,30 +7,39 @@ use std::net::{Net, TcpListener, TcpStream};
 use std::thread::Threads;
 use std::time::Duration;
 use std::{io, thread};
+use su_arguments::ClientArgs;
 use su_bytes::Refusal;
 use su_client_script::{Cause, Program};
 use su_client_work::Surroundings;
 use su_host::{Link, connect};
+use su_kept_key::KeptKey;
+use su_lms::Signer;
 use su_view::ViewRefusal;
 
 /// The program around a client's script: it makes links to the server on a port anew, saves logs to
-/// files, and tells on standard error what refusals may come from.
+/// files, opens and makes keys, and tells on standard error what refusals may come from.
 #[derive(Drop)]
 pub(crate) struct ClientProgram<'a, T> {
     rt: &'a HostRuntime,
     host: &'a T,
     port: u16,
     is_unlinked: bool,
+    keys: KeyFiles<'a>,
 }
 
 impl<'a, T> ClientProgram<'a, T> {
-    /// Makes the program of a client at the server on that port.
-    pub(crate) fn new(rt: &'a HostRuntime, host: &'a T, port: u16) -> ClientProgram<'a, T> {
+    /// Makes the program of a client with these arguments.
+    pub(crate) fn new(
+        rt: &'a HostRuntime,
+        host: &'a T,
+        args: &'a ClientArgs,
+    ) -> ClientProgram<'a, T> {
         ClientProgram {
             rt,
             host,
-            port,
+            port: args.port,
             is_unlinked: false,
+            keys: KeyFiles::new(rt, args),
         }
     }
 }
@@ -71,15 +81,29 @@ where
     }
 }
 
-impl<T> Program<BufReader<TcpStream>, TcpStream> for ClientProgram<'_, T>
+impl<'a, T> Program<BufReader<TcpStream>, TcpStream, KeptKey<'a>> for ClientProgram<'a, T>
 where
     T: Net<Listener = TcpListener, Stream = TcpStream> + Threads + Sync,
 {
     // Of what a file holds no contract can speak.
     ghost saves = { λ _ _ _ _. Unit {0} };
 
+    ghost opens = { λ _ _ _ _. Unit {0} };
+
     fn save(&mut self, file: &[u8], log: &[u8]) -> io::Result<()> {
         save_log(self.rt, file, log)
+    }
+
+    fn open_key(&mut self, file: &[u8]) -> Result<Signer<KeptKey<'a>>, Refusal> {
+        self.keys.open(self.host, file)
+    }
+
+    fn next_key(&mut self, left: u32, store: &KeptKey<'a>) -> Option<Signer<KeptKey<'a>>> {
+        self.keys.next(self.host, left, store.file().params)
+    }
+
+    fn tell_rekey(&mut self, rekeyed: &Result<u64, ViewRefusal>) {
+        self.keys.tell(rekeyed);
     }
 
     /// Tells a sentence on standard error, where the refusal has several everyday causes. Where no

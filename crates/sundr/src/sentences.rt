@@ -52,7 +52,7 @@ operation behind it: the same line again may go through";
 
 const NOT_SIGNED: &str =
     "the public keys are in another order than the server's, the key is another \
-user's, or the server shows another folder";
+user's or was changed, or the server shows another folder";
 
 const OTHER_KEYS: &str = "the server has another list of public keys, or has it in another order";
 
