@@ -86,16 +86,28 @@ where
     }
 }
 
-impl<R> Program<TcpStream, TcpStream> for Runner<'_, R>
+impl<R> Program<TcpStream, TcpStream, NoStore> for Runner<'_, R>
 where
     R: Net<Listener = TcpListener, Stream = TcpStream> + Clock + Threads + Sync,
 {
     ghost saves = { λ _ _ log after. after.saved.items ≡ log };
+    // No file has a key here.
+    ghost opens = { λ _ _ _ _. ⊥ };
 
     fn save(&mut self, _file: &[u8], log: &[u8]) -> io::Result<()> {
         self.saved = Vec::from_slice(self.alloc, log)?;
         Ok(())
     }
+
+    fn open_key(&mut self, _file: &[u8]) -> Result<Signer<NoStore>, Refusal> {
+        Err(Refusal::KeyFileFault)
+    }
+
+    fn next_key(&mut self, _left: u32, _store: &NoStore) -> Option<Signer<NoStore>> {
+        None
+    }
+
+    fn tell_rekey(&mut self, _rekeyed: &Result<u64, ViewRefusal>) {}
 
     fn explain(&mut self, _cause: &Cause) {}
 }

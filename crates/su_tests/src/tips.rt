@@ -5,6 +5,7 @@ use std::alloc::{AllocError, Global};
 use std::test::Fail;
 use su_bytes::{Digest, FileId, Format, KEY_LENGTH, Refusal, Roster, User};
 use su_lms::PublicKey;
+use su_used_keys::UsedKeys;
 use su_vector::Vector;
 use su_version::{Commit, Tip};
 
@@ -80,7 +81,8 @@ impl Signed {
         let _file: Option<FileId> = None;
         let key = key_of(&self.roster, self.commit.version().author())?;
         let zeros = Vector::new(vec![in alloc; 0; 4]?);
-        let tip = Tip::new(0, Digest::new(HEAD), format, &zeros, key, leaf);
+        let used = UsedKeys::of_roster(alloc, &self.roster)?;
+        let tip = Tip::new(0, Digest::new(HEAD), format, &zeros, key, leaf, &used);
         tip.check(alloc, &self.roster, &self.commit)
     }
 }
