@@ -355,7 +355,7 @@ UNFIT = {
 WRITE, TAKE = "0502" + "010000000002" + "00000000", "0507" + "010000000001"
 LINK = "0504" + "010000000001"
 NO_ITEMS = {
-    "00": 0, "06": 0, "05": 1, "0509": 1, "05ff": 1, "0508": 2, "0508000000": 2, "050800000000": 2, "0508000f4241": 2, "05080000000100": 6,
+    "00": 0, "06": 0, "05": 1, "050a": 1, "05ff": 1, "0509": 2, "0509" + "00" * 55: 2, "0509" + "00" * 57: 58, "0508": 2, "0508000000": 2, "050800000000": 2, "0508000f4241": 2, "05080000000100": 6,
     "0500" + "00" * 7: 2, "0500" + "00" * 9: 10, "0503": 2,
     "0507" + "020000000001": 2, "0507" + "004000000001": 2, "0507" + "011000000001": 2, "0507" + "010000000000": 2,
     "0507" + "0100000f4241": 2, "0507" + "0100000000": 2, TAKE + "00000000": 8, TAKE + "000f4241": 8, TAKE + "000000": 8,
@@ -410,11 +410,15 @@ def spellings(room, next_):
         yield f"commit_of_{length}", refused(commit[:length], f"1 Malformed {place}")
     yield "commit_of_a_byte_more", refused(commit + b"\0", f"1 Malformed {len(commit)}")
     for name, at, part in (
-            ("later_format", 0, b"SV03"), ("no_format", 0, b"SV00"), ("author_out_of_range", 4, b"\x40"), ("group_out_of_range", 102, b"\x10"),
+            ("later_format", 0, b"SV04"), ("no_format", 0, b"SV00"), ("author_out_of_range", 4, b"\x40"), ("group_out_of_range", 102, b"\x10"),
             ("one_number", 135, b"\1"), ("too_many_numbers", 135, b"\x51"), ("no_signature", start, bytes(4)),
             ("too_long_a_signature", start, (9325).to_bytes(4, "big"))):
         yield name, refused(commit[:at] + part + commit[at + len(part):], f"1 Malformed {at}")
-    yield "format_that_is_not_signed", refused(b"SV01" + commit[4:], "33 BadSignature")
+    # there a signature of 9 bytes stands behind the numbers, and what is left over begins behind that
+    yield "an_older_format_has_no_place_for_a_key", refused(b"SV01" + commit[4:], f"1 Malformed {start + 12}")
+    yield "neither_no_key_nor_one", refused(commit[:start - 1] + b"\2" + commit[start:], f"1 Malformed {start - 1}")
+    yield "a_key_that_is_cut", refused(commit[:start - 1] + b"\1" + bytes(55), f"1 Malformed {start}")
+    yield "a_key_that_is_not_signed", refused(commit[:start - 1] + b"\1" + bytes(56) + commit[start:], "33 BadSignature")
     for groups in ((0, 0), (1, 0), (0, 5, 5)):
         version.groups = [(group, bytes(32)) for group in groups]
         place = 102 + 33 * (len(groups) - 1)
@@ -423,7 +427,7 @@ def spellings(room, next_):
 
 def parts_of(version, commit):
     """The first place of each part of a commit, and the place behind it."""
-    lengths = [4, 1, 32, 32, 32, 1] + [1, 32] * len(version.groups) + [1] + [8] * len(version.vector) + [4, len(commit)]
+    lengths = [4, 1, 32, 32, 32, 1] + [1, 32] * len(version.groups) + [1] + [8] * len(version.vector) + [1, 4, len(commit)]
     at = 0
     for length in lengths:
         yield at, at + length
@@ -463,6 +467,9 @@ def formats(room):
     publics, old = mixed.publics, mixed.old
     yield "three_of_the_first_format", is_so(room, publics, old.log(), 3)
     yield "one_of_the_second_behind_them", is_so(room, publics, mixed.maker.log(), 4)
+    commit, item = mixed.maker.records[-1]
+    log = old.log() + logs.log_bytes([(b"SV01" + commit[4:], item)])
+    yield "format_that_is_not_signed", is_so(room, publics, log, (4, "33 BadSignature"))
     for name, changes, wanted in (
             ("falls", (), "44 OldFormat"), ("falls_unsigned", (other_signer,), "33 BadSignature"), ("falls_elsewhere", (PREV,), "34 WrongPrev 4"),
             ("falls_and_vector", (VECTOR,), "44 OldFormat"), ("falls_and_leaf", (old_leaf,), "44 OldFormat"),
@@ -483,6 +490,101 @@ def formats(room):
 
 
 # ---- bytes of a log, and commits in another order
+
+# ---- keys that users go on to
+
+class Rekeyed:
+    """A log of two users: user 0 signs with the first key, goes on to the second with the second commit, and signs with that."""
+
+    def __init__(self):
+        self.first, self.other = (logs.key_of(n, width=4) for n in range(2))
+        self.second, self.third = (logs.key_of(f"audit, key {n}", width=4) for n in (2, 3))
+        self.begun = script(logs.Maker([self.first, self.other]), "0 create G0:1 a U0:2")
+        self.publics = self.begun.publics
+        self.maker = self.begun.copy()
+        self.maker.rekey(0, self.second)
+
+    def next(self, line="0 create G0:1 b U0:3", change=None, **how):
+        """The log with the commit of a line behind it, or of a change of user 0, whose version structure and item may be others."""
+        maker = self.maker.copy()
+        user, read = maker.read(line)
+        change, signing = change or read, {key: how.pop(key) for key in ("signer", "leaf") if key in how}
+        try:
+            version = maker.version(user, change)
+        except desk_model.Refused:
+            named = change[1] if change[0] == "rekey" else None
+            version = logs.Version(user, maker.prev, sha256(logs.item_of(change)), bytes(32), [], maker.raised(user, []), next_key=named)
+        for field, value in how.items():
+            setattr(version, field, value)
+        if isinstance(signing.get("signer"), lms.Key):
+            commit = logs.commit_of(version, signing["signer"].sign(signing["leaf"], version.encode()))
+        else:
+            commit = maker.sign(version, **signing)
+        return maker.log() + logs.log_bytes([(commit, logs.item_of(change))])
+
+
+def rekeys(room):
+    """A commit is signed by the key that its author has then; a next key is one that nobody has or had, and is the change's."""
+    it = Rekeyed()
+    publics, third, unknown = it.publics, it.third.public(), bytes(56)
+    yield "lengths_of_version_structures", [len(logs.Version(0, *[bytes(32)] * 3, [], [0] * 80, form, key).encode())
+                                            for form, key in ((1, None), (2, None), (3, None), (3, third))] == [743, 743, 744, 800]
+    yield "two_with_a_rekey", is_so(room, publics, it.maker.log(), 2)
+    named = dict(change=("rekey", third))
+    for name, log, wanted in (
+            ("the_first_key_signs_no_more", it.next(signer=it.first, leaf=2), "33 BadSignature"),
+            ("nor_by_a_later_leaf", it.next(signer=it.first, leaf=31), "33 BadSignature"),
+            ("the_second_key_signs_from_its_first_leaf_on", it.next(leaf=0), None),
+            ("the_second_key_signs_from_any_leaf_on", it.next(leaf=31), None),
+            ("a_further_rekey", it.next(**named), None),
+            ("back_to_the_first_key", it.next(change=("rekey", it.first.public())), "36 KeyReuse"),
+            ("to_the_present_key", it.next(change=("rekey", it.second.public())), "36 KeyReuse"),
+            ("to_the_key_of_another_user", it.next(change=("rekey", it.other.public())), "36 KeyReuse"),
+            ("to_no_key", it.next(change=("rekey", unknown)), "9 BadKey"),
+            ("of_another_user_to_a_key_that_was_had", it.next("1 undo 1", change=("rekey", it.first.public())), "36 KeyReuse"),
+            ("that_names_another_key", it.next(change=("rekey", third), next_key=logs.key_of("audit, key 4", width=4).public()), "45 WrongKey"),
+            ("that_names_none", it.next(next_key=None, **named), "45 WrongKey"),
+            ("a_key_without_a_rekey", it.next(next_key=third), "45 WrongKey"),
+            ("vector_before_the_key", it.next(change=("rekey", it.first.public()), vector=[7, 0, 0, 0]), "35 WrongVector"),
+            ("had_before_no_key", it.next(next_key=it.first.public()), "36 KeyReuse"),
+            ("no_key_before_the_change", it.next("0 undo 9", next_key=unknown), "9 BadKey"),
+            ("change_before_the_key", it.next("0 undo 9", next_key=third), "39 Change 24 NoOperation 9"),
+            ("key_before_the_handle", it.next(next_key=third, handle=bytes(32)), "45 WrongKey"),
+            ("with_another_handle", it.next(handle=bytes(32), **named), "38 WrongHandle U0"),
+            ("which_is_no_operation", it.next("0 undo 2"), "39 Change 25 NotOperation 2")):
+        yield f"rekey_{name}", is_so(room, publics, log, 3 if wanted is None else (3, wanted))
+    yield from rekeys_within_many(room, it)
+    yield from rekeys_of_formats(room)
+
+
+def rekeys_of_formats(room):
+    """A log of all formats; a rekey that its format doesn't have."""
+    maker = Mixed().maker
+    maker.desk.form = 3
+    maker.rekey(1, logs.key_of("audit, key 5", width=4))
+    script(maker, "1 truncate U1:2 1; 1 undo_last")
+    yield "a_log_of_three_formats", is_so(room, maker.publics, maker.log(), 7)
+    old = script(logs.Maker([logs.key_of(0, width=4)], form=2), "0 create G0:1 a U0:2")
+    user, change = 0, ("rekey", logs.key_of(1, width=4).public())
+    version = logs.Version(user, old.prev, sha256(logs.item_of(change)), bytes(32), [], old.raised(user, []), 2)
+    log = old.log() + logs.log_bytes([(old.sign(version), logs.item_of(change))])
+    yield "a_rekey_in_the_second_format", is_so(room, old.publics, log, (2, "39 Change 44 OldFormat"))
+
+
+def rekeys_within_many(room, it):
+    """Among records that are read ahead keys change several times, and what is signed by an old one is refused where it stands."""
+    maker, keys = it.maker.copy(), [logs.key_of(f"audit, many {n}", width=4) for n in range(12)]
+    for n, key in enumerate(keys):
+        script(maker, "; ".join(f"0 write U0:2 0 {m:02x}" for m in range(24)))
+        maker.rekey(0, key)
+        maker.rekey(1, logs.key_of(f"audit, others {n}", width=4))
+    count = len(maker.records)
+    yield f"{count}_with_{2 * len(keys) + 1}_rekeys", is_so(room, it.publics, maker.log(), count)
+    user, change = maker.read("0 write U0:2 0 41")
+    version, item = maker.version(user, change), logs.item_of(change)
+    commit = logs.commit_of(version, keys[-2].sign(30, version.encode()))
+    yield "and_one_by_an_old_key", is_so(room, it.publics, maker.log() + logs.log_bytes([(commit, item)]), (count + 1, "33 BadSignature"))
+
 
 def short():
     """A log of two commits, of which the second carries a group: where each of its lengths stands, and where its records end."""
@@ -670,7 +772,7 @@ def main():
     results = {}
     if not tally.is_there("audit", PROGRAM):
         return 1
-    for part in (keys, signatures, many_keys, good, by_chance, fields, formats, each_byte, orders, ahead, faults, example):
+    for part in (keys, signatures, many_keys, good, by_chance, fields, formats, rekeys, each_byte, orders, ahead, faults, example):
         with tempfile.TemporaryDirectory() as at:
             results.update(part(Room(at)))
     return tally.told("audit", results)

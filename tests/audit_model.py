@@ -52,7 +52,7 @@ def change_in(item):
     """The change of an item."""
     reader = Reader(item)
     reader.part(1, lambda part: part == b"\5")
-    words = ("undo", "create", "write", "truncate", "link", "rename", "unlink", "take", "drop")
+    words = ("undo", "create", "write", "truncate", "link", "rename", "unlink", "take", "drop", "rekey")
     word = words[reader.number(1, 0, len(words) - 1)]
     change = globals().get(word + "_in", link_in)(word, reader)
     reader.end()
@@ -95,6 +95,10 @@ def drop_in(word, reader):
     return word, reader.number(4, 1, 1000000)
 
 
+def rekey_in(word, reader):
+    return word, reader.part(desk_model.KEY_LENGTH)
+
+
 def commit_in(data):
     """The version structure of a commit, and its signature."""
     reader = Reader(data)
@@ -108,16 +112,19 @@ def commit_in(data):
         groups.append((group, reader.part(32)))
         least = group + 1
     vector = [reader.number(8) for _ in range(reader.number(1, 2, MOST_NUMBERS))]
+    names_key = form >= 3 and reader.number(1, 0, 1)
+    next_key = reader.part(desk_model.KEY_LENGTH) if names_key else None
     signature = reader.part(reader.number(4, 1, LONGEST_SIGNATURE))
     reader.end()
-    return logs.Version(author, prev, change, handle, groups, vector, form), signature
+    return logs.Version(author, prev, change, handle, groups, vector, form, next_key), signature
 
 
 class Chain:
     """The end of a list of commits, which tells the commit that may come next."""
 
     def __init__(self, publics):
-        self.publics = publics
+        self.publics = list(publics)  # of each user the key of the moment
+        self.used = set(publics)
         self.prev = sha256(logs.roster_bytes(publics))
         self.vector = [0] * (len(publics) + 2)
         self.count, self.form = 0, 1
@@ -133,6 +140,8 @@ class Chain:
         is_next = set(carried) <= {0, 1} and version.vector == logs.raised(self.vector, len(self.publics), version.author, carried)
         demand(is_next, "35 WrongVector")
         demand(leaf_of(signature) > self.last_leaf.get(version.author, -1), "36 KeyReuse")
+        demand(version.next_key not in self.used, "36 KeyReuse")
+        demand(version.next_key is None or lms.is_key(version.next_key), "9 BadKey")
 
     def add(self, commit):
         """Adds a commit that may come next."""
@@ -140,6 +149,10 @@ class Chain:
         self.prev, self.vector, self.form = sha256(commit), version.vector, version.form
         self.count += 1
         self.last_leaf[version.author] = leaf_of(signature)
+        if version.next_key is not None:
+            self.publics[version.author] = version.next_key
+            self.used.add(version.next_key)
+            self.last_leaf[version.author] = -1
 
 
 def leaf_of(signature):
@@ -168,6 +181,7 @@ class View:
         version, signature = commit_in(commit)
         self.chain.check_next(version, signature)
         change, wanted = self.within(version, self.item(version.change))
+        demand(version.next_key == wanted.next_key, "45 WrongKey")
         demand(version.handle == wanted.handle, f"38 WrongHandle U{version.author}")
         self.check_groups(dict(version.groups), dict(wanted.groups))
         self.maker.take(version.author, change, version, commit)

@@ -3,12 +3,14 @@ script say, which operations a command on paths becomes, and what is printed. It
 over a link to a server (`Client`), which it doesn't trust.
 """
 import errno
+import functools
 import os
 import re
 import time
 
 import audit_model
 import desk_model
+import lms
 import wire
 from audit_model import View
 from desk_model import KeptDesk, Refused, body, demand, group_file, is_dir, is_name, sha256, text_of, user_file
@@ -46,7 +48,7 @@ def some_bytes(word):
 FORMS = {
     b"mkdir": [a_path], b"create": [a_path], b"write": [a_path, a_number, some_bytes], b"truncate": [a_path, a_number],
     b"link": [a_path, a_path], b"rename": [a_path, a_path], b"remove": [a_path], b"tidy": [], b"undo": [a_number], b"undo_last": [],
-    b"ls": [a_path], b"cat": [a_path, a_number, a_number], b"save": [a_path],
+    b"ls": [a_path], b"cat": [a_path, a_number, a_number], b"rekey": [a_path], b"save": [a_path],
 }
 
 
@@ -277,6 +279,39 @@ def answer_undo_last(member):
     yield b"ok %d" % member.publish(("undo", live[-1] if live else 0))
 
 
+def answer_rekey(member, file):
+    kept = member.open_key(os.fsdecode(file))
+    try:
+        member.begin()
+        number = member.publish(("rekey", kept.key.public()))
+    except Refused:
+        kept.close()
+        raise
+    member.go_on(kept)
+    yield b"ok %d" % number
+
+
+def key_in(data):
+    """The key of a key file, and the leaf that signs next."""
+    kinds = [int.from_bytes(data[at:at + 4], "big") for at in (4, 8, 60)]
+    is_key = len(data) == 64 and data[:4] == b"SK01" and kinds[0] in (5, 6) and kinds[1] in (3, 4)
+    demand(is_key and kinds[2] <= 2 ** lms.HEIGHTS[kinds[0]], "9 BadKey")
+    return made_key(data[12:60], lms.HEIGHTS[kinds[0]], lms.OTS[kinds[1]][0]), kinds[2]
+
+
+made_key = functools.lru_cache(lms.Key)
+
+
+def key_at(file):
+    """The same of the file of a name."""
+    try:
+        with open(file, "rb") as opened:
+            data = opened.read()
+    except (OSError, ValueError):
+        raise Refused("10 KeyFileFault") from None
+    return key_in(data)
+
+
 def answer_ls(member, path):
     for name, file in sorted(content_at(member.look(), path, dict).items()):
         yield shown(name) + b" " + text_of(file).encode()
@@ -314,10 +349,13 @@ class Member:
 # ---- on a desk that users share
 
 class Team:
-    """The desk, how many leaves the key of each user has left, and how many commits there may be."""
+    """The desk, how many leaves the key of each user has left, and how many commits there may be; of each user the public key, if they
+    are given, and the key file to which the user has gone on."""
 
-    def __init__(self, users, leaves=10 ** 9, capacity=10 ** 9):
+    def __init__(self, users, leaves=10 ** 9, capacity=10 ** 9, publics=()):
         self.desk = KeptDesk(users)
+        self.desk.roster.keys = set(publics)
+        self.files = [None] * users
         self.leaves, self.capacity = [leaves] * users, capacity
 
     def member(self, user):
@@ -336,6 +374,16 @@ class Team:
         return number
 
 
+class OpenKey:
+    """The key in a file, and the leaf that signs next."""
+
+    def __init__(self, file, key, leaf):
+        self.file, self.key, self.next = file, key, leaf
+
+    def close(self):
+        pass
+
+
 class TeamMember(Member):
     def __init__(self, team, user):
         self.team, self.user = team, user
@@ -351,6 +399,13 @@ class TeamMember(Member):
 
     def save(self, file):
         pass
+
+    def open_key(self, file):
+        demand(file not in self.team.files, "10 KeyFileFault")
+        return OpenKey(file, *key_at(file))
+
+    def go_on(self, kept):
+        self.team.files[self.user], self.team.leaves[self.user] = kept.file, kept.key.leaves - kept.next
 
     def publish(self, change):
         return self.team.apply(self.user, change)
@@ -379,7 +434,7 @@ class LogRefused(Exception):
 
 # the refusals that fit a request (of an item that is put none: its size was looked at before)
 FITTING = {
-    "grant": (31,), "commit": (1, 32, 33, 34, 35, 36, 37, 44), "give": (32,), "fetch": (), "put": (), "get": (5,),
+    "grant": (31,), "commit": (1, 9, 32, 33, 34, 35, 36, 37, 44), "give": (32,), "fetch": (), "put": (), "get": (5,),
 }
 
 
@@ -409,12 +464,15 @@ class LinkedView(View):
         return own[-1] if own else None
 
     def check_list(self, user, commits):
-        """Checks what is shown as the users' last commits."""
+        """Checks what is shown as the users' last commits: those that are held are signed, and any other is to be under the key that its
+        author has now."""
         publics, versions = self.chain.publics, []
+        held = {data for data, _ in self.maker.records}
         for data in commits:
             version, signature = audit_model.commit_in(data)
             is_user = version.author < len(publics)
-            demand(is_user and audit_model.verify(publics[version.author], version.encode(), signature), "33 BadSignature")
+            is_signed = data in held or is_user and audit_model.verify(publics[version.author], version.encode(), signature)
+            demand(is_signed, "33 BadSignature")
             versions.append(version)
         last = self.own_last(user)
         if last is not None:
@@ -436,9 +494,9 @@ class Client(Member):
     """A client of a server at a link. `store` keeps the number of the leaf that signs next, before one signs; `connect` makes a link to
     the same server anew."""
 
-    def __init__(self, link, publics, user, key, leaf=0, tries=1000, store=lambda leaf: None, connect=None):
+    def __init__(self, link, publics, user, key, leaf=0, tries=1000, store=lambda leaf: None, connect=None, held=None, open_key=None):
         self.link, self.user, self.key, self.leaf, self.tries, self.store = link, user, key, leaf, tries, store
-        self.has_failed, self.connect = False, connect
+        self.has_failed, self.connect, self.held, self.open_key = False, connect, held, open_key
         self.view = LinkedView(publics, self)
 
     def desk(self):
@@ -466,12 +524,12 @@ class Client(Member):
     def begin(self):
         count, last = self.granted()
         try:
-            commits = [self.fetch(n) for _, n in sorted(last.items())]
-            self.view.check_list(self.user, [it for it in commits if it is not None])
             for n in range(self.view.chain.count + 1, count + 1):
                 commit = self.fetch(n)
                 if commit is not None:
                     self.view.accept(commit)
+            commits = [self.fetch(n) for _, n in sorted(last.items())]
+            self.view.check_list(self.user, [it for it in commits if it is not None])
         except Refused:
             self.give()
             raise
@@ -532,6 +590,11 @@ class Client(Member):
         leaf, self.leaf = self.leaf, self.leaf + 1
         self.store(self.leaf)
         return audit_model.logs.commit_of(version, self.key.sign(leaf, version.encode()))
+
+    def go_on(self, kept):
+        """Signs with this key from then on, in the place of the one that it held."""
+        self.held.close()
+        self.held, self.key, self.leaf, self.store = kept, kept.key, kept.next, kept.store
 
     def log(self):
         return self.view.maker.log()

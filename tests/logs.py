@@ -50,6 +50,8 @@ def item_of(change):
         return b"\5\7" + file_bytes(rest[0]) + u32(rest[1])
     if word == "drop":
         return b"\5\x08" + u32(rest[0])
+    if word == "rekey":
+        return b"\5\x09" + rest[0]
     directory, name, file = rest
     return {"link": b"\5\4", "unlink": b"\5\6"}[word] + file_bytes(directory) + spelled_name(name) + file_bytes(file)
 
@@ -61,21 +63,27 @@ def roster_bytes(publics):
     return b"SR01" + u8(len(publics)) + users + u8(2) + u8(0) + members + u8(1) + u8(1) + u8(0)
 
 
-FIRST_BYTES = {1: b"SV01", 2: b"SV02"}  # of a version structure, in each format
+FIRST_BYTES = {1: b"SV01", 2: b"SV02", 3: b"SV03"}  # of a version structure, in each format
 
 
 class Version:
-    """A version structure; `groups` is pairs of a group and its i-handle, `vector` the numbers, `form` its format."""
+    """A version structure; `groups` is pairs of a group and its i-handle, `vector` the numbers, `form` its format, `next_key` the key that
+    it names, if it names one."""
 
-    def __init__(self, author, prev, change, handle, groups, vector, form=desk_model.NEWEST):
+    def __init__(self, author, prev, change, handle, groups, vector, form=desk_model.NEWEST, next_key=None):
         self.author, self.prev, self.change, self.handle = author, prev, change, handle
-        self.groups, self.vector, self.form = groups, vector, form
+        self.groups, self.vector, self.form, self.next_key = groups, vector, form, next_key
 
     def encode(self):
         groups = b"".join(u8(group) + handle for group, handle in self.groups)
         numbers = b"".join(map(u64, self.vector))
         fixed = FIRST_BYTES[self.form] + u8(self.author) + self.prev + self.change + self.handle
-        return fixed + u8(len(self.groups)) + groups + u8(len(self.vector)) + numbers
+        return fixed + u8(len(self.groups)) + groups + u8(len(self.vector)) + numbers + self.encoded_key()
+
+    def encoded_key(self):
+        if self.form < 3:
+            return b""
+        return u8(0) if self.next_key is None else u8(1) + self.next_key
 
 
 def raised(vector, users, user, groups):
@@ -104,12 +112,15 @@ class Handles:
 
 
 class Maker:
-    """Makes a list of commits, in a format unless a change comes with one. The users' keys sign with one leaf after the other."""
+    """Makes a list of commits, in a format unless a change comes with one. The users' keys sign with one leaf after the other; a user who
+    names a key of the ring signs with that from the next commit on."""
 
     def __init__(self, keys, form=desk_model.NEWEST):
         self.keys = keys
         self.publics = [key.public() for key in keys]
         self.desk = desk_model.KeptDesk(len(keys), form)
+        self.desk.roster.keys = set(self.publics)
+        self.ring = {}
         self.prev = sha256(roster_bytes(self.publics))
         self.vector = [0] * (len(keys) + 2)
         self.leaves = [0] * len(keys)
@@ -121,6 +132,7 @@ class Maker:
         other.desk = copy.copy(self.desk)
         other.desk.history = list(self.desk.history)
         other.vector, other.leaves, other.records = list(self.vector), list(self.leaves), list(self.records)
+        other.keys, other.ring = list(self.keys), dict(self.ring)
         return other
 
     def log(self):
@@ -130,13 +142,14 @@ class Maker:
         """The version structure of a change that comes next. Raises `Refused` where the desk refuses the change."""
         form = self.desk.form if form is None else form
         n = self.desk.apply(user, change, form)
-        _, writes = self.desk.cells(change[1] if change[0] == "undo" else n)
+        writes = () if change[0] == "rekey" else self.desk.cells(change[1] if change[0] == "undo" else n)[1]
         carried = sorted({cell[1][0] for cell in writes if cell[0] == "pointer"})
         handles = Handles(self.desk)
         self.desk.history.pop()
         groups = [(group, handles.of("G", group)) for group in carried]
         vector = self.raised(user, carried)
-        return Version(user, self.prev, sha256(item_of(change)), handles.of("U", user), groups, vector, form)
+        next_key = change[1] if change[0] == "rekey" else None
+        return Version(user, self.prev, sha256(item_of(change)), handles.of("U", user), groups, vector, form, next_key)
 
     def raised(self, user, groups):
         return raised(self.vector, len(self.keys), user, groups)
@@ -159,6 +172,13 @@ class Maker:
         self.prev, self.vector = sha256(commit), version.vector
         self.leaves[user] += 1
         self.records.append((commit, item_of(change)))
+        if version.next_key is not None:
+            self.keys[user], self.leaves[user] = self.ring.get(version.next_key), 0
+
+    def rekey(self, user, key):
+        """Adds the commit by which a user goes on to a key."""
+        self.ring[key.public()] = key
+        return self.add(user, ("rekey", key.public()))
 
     def read(self, line):
         """The user and the change of a line of a desk script."""

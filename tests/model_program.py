@@ -121,7 +121,8 @@ class KeptKey:
 
     def store(self, leaf):
         if leaf > self.stored:
-            stored = min(leaf + self.ahead - 1, self.key.leaves)
+            last_part = self.key.leaves - min(64, self.key.leaves // 8)  # these are stored one by one
+            stored = min(leaf + self.ahead - 1, max(leaf, last_part))
             try:
                 self.write(stored)
             except OSError:
@@ -129,6 +130,9 @@ class KeptKey:
                 raise Refused("10 KeyFileFault") from None
             self.stored = stored
         self.next = leaf
+
+    def close(self):
+        os.close(self.lock)
 
     def put_back(self):
         """Has the file say the leaf that signs next, once the last one has signed."""
@@ -157,7 +161,8 @@ def client(words):
         check_alone(publics, log)
         raise Fault(f"port {words.port}: {why.strerror}") from None
     member = client_model.Client(
-        link, publics, words.user, kept.key, kept.next, words.tries, kept.store, lambda: wire.connect(words.port))
+        link, publics, words.user, kept.key, kept.next, words.tries, kept.store, lambda: wire.connect(words.port),
+        kept, lambda path: other_key(path, words.leaves_ahead))
     try:
         member.take_log(log)
         return run(member, words.stop)
@@ -167,8 +172,16 @@ def client(words):
     except client_model.LinkFailed:
         raise Fault("the link to the server failed") from None
     finally:
-        kept.put_back()
+        member.held.put_back()
         member.link.close()
+
+
+def other_key(path, ahead):
+    """The key in another file. Raises `Refused` where it can't be used."""
+    try:
+        return KeptKey(path, ahead)
+    except Fault as why:
+        raise Refused("9 BadKey" if str(why).endswith("9 BadKey") else "10 KeyFileFault") from None
 
 
 def check_alone(publics, log):

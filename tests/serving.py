@@ -50,7 +50,10 @@ ASIDES = {
                    rb"--log FILE goes on from there",
     "anew": rb"the session had ended, and the client connected anew",
     "not_anew": rb"the session had ended, and connecting anew failed: .+",
-    "not_signed": rb"the public keys are in another order than the server's, the key is another user's, or the server shows another folder",
+    "not_signed": rb"the public keys are in another order than the server's, the key is another user's or was "
+                  rb"changed, or the server shows another folder",
+    "few_left": rb"the key can sign [0-9]+ times more: `rekey FILE` goes on to another key, and with --next-key the client does so by itself",
+    "rekeyed": rb"commit [0-9]+: from now on the key is .+",
     "other_keys": rb"the server has another list of public keys, or has it in another order",
     "other_list": rb"the server shows another list than before: it hides or exchanges commits, or was set back",
     "lacks": rb"the server lacks commit [0-9]+, which is yours: it was set back to an older copy, or shows another folder",
@@ -771,7 +774,7 @@ def leaves_ahead(at):
     for ahead, begun, wanted in (
             (1, 0, [n + 1 for n in range(plain)]), (2, 0, [2 * (n // 2) + 2 for n in range(plain)]),
             (5, 3, [3 + 5 * (n // 5) + 5 for n in range(plain)]), (None, 0, [16] * plain), (16, 10, [26] * plain),
-            (None, 18, [32] * plain), (16, 30, [32, 32])):
+            (None, 18, [28] * 10 + [29, 30]), (16, 30, [31, 32]), (5, 26, [28, 28, 29, 30, 31, 32])):
         with open(key, "wb") as file:
             file.write(fresh[:60] + begun.to_bytes(4, "big"))
         more = [] if ahead is None else ["--leaves-ahead", ahead]
@@ -1740,13 +1743,95 @@ def example(at):
     yield f"example_share: {ended}", (ended.stdout, told, ended.returncode) == (open(wanted).read(), [], 0)
 
 
+# ---- keys that users go on to
+
+def rekeys(at):
+    """A user goes on to another key in the middle; the other user goes on, and the log audits. What is no key, or was one's, is refused."""
+    room, saved = Room(at), f"{at}/saved"
+    second, third = (logs.key_of(f"serving, key {n}") for n in (2, 3))
+    path, other = room.file(second.file(3)), room.file(third.file())
+    again, theirs, no_key = room.file(room.keys[0].file(9)), room.file(room.keys[1].file(9)), room.file(b"SK01")
+    with Server(room) as server:
+        with room.client(server.port, 0) as zero, room.client(server.port, 1) as one:
+            for name, client, line, wanted in (
+                    ("begins", zero, b"mkdir /d", [b"ok 1"]),
+                    ("has_no_such_file", zero, b"rekey /nowhere/x", [b"no 10 KeyFileFault"]),
+                    ("has_no_key_file", zero, b"rekey " + no_key.encode(), [b"no 9 BadKey"]),
+                    ("uses_it_already", zero, b"rekey " + room.key_files[0].encode(), [b"no 10 KeyFileFault"]),
+                    ("had_it_first", zero, b"rekey " + again.encode(), [b"no 39 Change 36 KeyReuse"]),
+                    ("is_another_users", zero, b"rekey " + theirs.encode(), [b"no 39 Change 36 KeyReuse"]),
+                    ("goes_on", zero, b"rekey " + path.encode(), [b"ok 2"]),
+                    ("signs_with_it", zero, b"mkdir /e", [b"ok 3"]),
+                    ("sees_both", one, b"ls /", [b"d G0:2", b"e G0:3"]),
+                    ("cannot_undo_it", zero, b"undo 2", [b"no 39 Change 25 NotOperation 2"]),
+                    ("works_too", one, b"mkdir /f", [b"ok 4", b"ok 5"]),
+                    ("cannot_undo_below_a_take", zero, b"undo 3", [b"no 39 Change 28 Blocked 4"]),
+                    ("goes_on_again", zero, b"rekey " + other.encode(), [b"ok 6"]),
+                    ("cannot_go_back", zero, b"rekey " + path.encode(), [b"no 39 Change 36 KeyReuse"]),
+                    ("saves", one, b"save " + saved.encode(), [])):
+                said = client.say(line)
+                yield f"rekey_{name}: {said}", said == wanted
+        yield "leaves_of_the_second_key", next_leaf(path) == 3 + 16
+        yield "the_log_audits", audit(room, saved) == ([b"ok 6"], [], 0)
+        yield "by_the_second_audit_too", audit_model.audit(room.public_keys, read(saved)) == ("ok 6\n", 0)
+        yield from old_keys(room, server, saved, path, other)
+
+
+def old_keys(room, server, saved, path, other):
+    """A key that the log says is no longer the user's is refused at once; without a log, where it signs."""
+    for name, key in (("first", room.key_files[0]), ("second", path)):
+        ended = room.run(server.port, 0, b"ls /\n", "--log", saved, key=key)
+        is_told_so = program == MODEL or is_told(ended[1], f"{key} is no longer the key of user 0")
+        yield f"the_{name}_key_is_refused: {ended}", program == MODEL or (ended[0], is_told_so, ended[2]) == ([], True, 1)
+        ended = room.run(server.port, 0, b"mkdir /x\nls /\n", key=key)
+        wanted = [b"no 33 BadSignature", b"d G0:2", b"e G0:3", b"f G0:4"]
+        yield f"the_{name}_key_does_not_sign: {ended}", ended == (wanted, [], 0)
+    ended = room.run(server.port, 0, b"mkdir /x\n", "--log", saved, key=other)
+    yield f"the_third_key_signs: {ended}", ended == ([b"ok 7", b"ok 8"], [], 0)
+
+
+def next_keys(at):
+    """Near the end of a key standard error tells so once; with --next-key the client makes the next one, as often as need be, and finds
+    it when it is started again, with an old log or none."""
+    room, saved, prefix = Room(at, users=1), f"{at}/saved", f"{at}/next"
+    key = room.key_files[0]
+    if program == MODEL:
+        return
+    with Server(room) as server:
+        with Running(room.words(server.port, 0)) as client:
+            client.write(b"".join(b"mkdir /%d\n" % n for n in range(31)))
+            ended = client.end()
+            wanted = [b"ok %d" % (n + 1) for n in range(31)]
+            yield f"tells_once_that_few_are_left: {client.asides}", (ended, client.asides.count("few_left")) == ((wanted, [], 0), 1)
+        more, first = ["--next-key", prefix], next_leaf(key)
+        with Running(room.words(server.port, 0, *more)) as client:
+            client.write(b"save %b\n" % saved.encode() + b"".join(b"mkdir /n%d\n" % n for n in range(70)))
+            ended = client.end()
+            yield f"goes_on_by_itself: {client.asides}", ended[2] == 0 and ended[1] == [] and len(ended[0]) == 70 and client.asides.count("rekeyed") == 3
+            yield f"and_does_not_tell_of_few: {first}", "few_left" not in client.asides and ended[0][0] == b"ok 33" and ended[0][-1] == b"ok 104"
+        made = sorted(name for name in os.listdir(at) if re.fullmatch("next-[0-9a-f]{32}", name))
+        yield f"made_keys: {made}", len(made) == 3 and all(os.stat(f"{at}/{name}").st_mode & 0o777 == 0o600 for name in made)
+        for name, log in (("without_a_log", ()), ("with_an_old_log", ("--log", saved))):
+            ended = room.run(server.port, 0, b"mkdir /%b\n" % name.encode(), *more, *log)
+            yield f"finds_the_key_{name}: {ended}", (len(ended[0]), ended[1], ended[2]) == (1, [], 0) and ended[0][0].startswith(b"ok ")
+        room.run(server.port, 0, b"save %b\n" % saved.encode(), *more)
+        ended = room.run(server.port, 0, b"mkdir /z\n", "--log", saved)
+        yield f"without_the_option_the_old_key_is_refused: {ended}", (ended[0], ended[2]) == ([], 1) and is_told(ended[1], "no longer the key of user 0")
+        last = max((f"{at}/{name}" for name in made), key=os.path.getmtime)
+        os.rename(last, f"{at}/aside")
+        ended = room.run(server.port, 0, b"mkdir /z\n", *more, "--log", saved)
+        yield f"a_lost_key_is_named: {ended}", (ended[0], ended[2]) == ([], 1) and any(last.encode() in line for line in ended[1])
+        ended = room.run(server.port, 0, b"mkdir /z\n", "--log", saved, key=f"{at}/aside")
+        yield f"its_file_may_have_another_name: {ended}", ended[1:] == ([], 0) and ended[0][0].startswith(b"ok ")
+
+
 # ---- scripts by chance
 
 class Dice:
-    """Lines by chance over few names, so that they have to do with each other."""
+    """Lines by chance over few names, so that they have to do with each other. There are these files of keys."""
 
-    def __init__(self, seed):
-        self.random = random.Random(f"serving {seed}")
+    def __init__(self, seed, files):
+        self.random, self.files = random.Random(f"serving {seed}"), files
 
     def pick(self, *choices):
         return self.random.choice(choices)
@@ -1762,11 +1847,11 @@ class Dice:
     def line(self, count):
         p, n = self.path(), self.random.randint(1, count + 2)
         usual = (
-            "mkdir {0}", "create {0}", "create {0}", "write {0} {1} {2}", "write {0} {1} {2}", "truncate {0} {1}", "link {0} {3}",
+            "rekey {5}", "mkdir {0}", "create {0}", "create {0}", "write {0} {1} {2}", "write {0} {1} {2}", "truncate {0} {1}", "link {0} {3}",
             "rename {0} {3}", "rename {0} {3}", "remove {0}", "mkdir {0}", "create {0}", "undo {4}", "undo {4}", "undo_last", "tidy", "ls {0}",
             "ls /", "cat {0} {1} 9")
         data = bytes([self.random.randrange(256)] * self.pick(1, 2, 4096)).hex()
-        return self.pick(*usual).format(p, self.number(), data, self.path(), n).encode()
+        return self.pick(*usual).format(p, self.number(), data, self.path(), n, self.pick(*self.files)).encode()
 
 
 def by_chance(at):
@@ -1775,10 +1860,12 @@ def by_chance(at):
     for seed in range(CHANCE_SCRIPTS):
         folder = f"{at}/{seed}"
         os.mkdir(folder)
-        room, dice = Room(folder), Dice(seed)
+        room = Room(folder)
+        others = [logs.key_of(f"serving, another {n}") for n in range(3)]
+        dice = Dice(seed, [room.file(it) for it in (others[0].file(), others[1].file(30), others[2].file(5), b"no key")] + [f"{folder}/none"])
         capacity, left = (8 if seed % 5 == 0 else 1000), (5 if seed % 5 == 1 else 32)
         keys = [room.file(key.file(32 - left)) for key in room.keys]
-        team = client_model.Team(2, left, capacity)
+        team = client_model.Team(2, left, capacity, room.public_keys)
         script = []
         with Server(room, capacity=capacity) as server:
             with room.client(server.port, 0, key=keys[0]) as zero, room.client(server.port, 1, key=keys[1]) as one:
@@ -1806,7 +1893,7 @@ def same_log(seed, folder, room, client, team):
 PARTS = (
     walk, logs_taken_up, little_room, operations, at_once, many_users, at_a_keyboard, lines, stops, saves, streams, faults, keys, leaves_ahead, signatures, kills,
     kills_ahead, kills_at_calls, busy, silent, deaf, crowded, unanswered, turns, many_turns, lies, sessions, ended_sessions, asides, bytes_of_sessions,
-    stored_bytes, formats, book, example, by_chance)
+    stored_bytes, formats, book, rekeys, next_keys, example, by_chance)
 
 
 def main():
