@@ -1,6 +1,6 @@
 // Keys that users are presumed to have.
 use std::alloc::{AllocError, Global};
-use su_bytes::{Refusal, Roster, User};
+use su_bytes::{FileId, Refusal, Roster, User};
 use su_lms::PublicKey;
 use su_version::Commit;
 
@@ -27,6 +27,8 @@ impl PresumedKeys {
 
     /// Makes the table of the keys of a roster's users, without those that are none.
     pub fn of_roster(alloc: Global, roster: &Roster) -> Result<PresumedKeys, AllocError> {
+        // names the type for the prover (docs/ARCHITECTURE.md, "Forms the kit wants")
+        let _file: Option<FileId> = None;
         let mut keys = PresumedKeys::new(alloc)?;
         for user in roster.users() {
             keys.set(user.user, PublicKey::parse(&user.key).ok());
