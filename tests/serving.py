@@ -1732,15 +1732,23 @@ def book(at):
 # ---- the example
 
 def example(at):
-    """The example's script prints what it should."""
-    run, wanted = f"{TOP}/examples/share", f"{TOP}/examples/share.out"
+    """The examples' scripts print what they should."""
+    yield from printed_by(at, "share")
+    if program != MODEL:
+        yield from printed_by(at, "rekey", b" is no longer the key of user 0")
+
+
+def printed_by(at, name, *more):
+    """Whether an example prints what it should, and tells nothing but lines with these texts."""
+    run, wanted = f"{TOP}/examples/{name}", f"{TOP}/examples/{name}.out"
     script = f"{at}/sundr"
     with open(script, "w") as file:
         file.write("#!/bin/sh\nexec " + " ".join(program) + ' "$@"\n')
     os.chmod(script, 0o755)
     ended = subprocess.run([run, script], capture_output=True, text=True, timeout=4 * WAIT)
-    told = [line for line in ended.stderr.splitlines() if not aside_in(line.encode())]
-    yield f"example_share: {ended}", (ended.stdout, told, ended.returncode) == (open(wanted).read(), [], 0)
+    told = [line.encode() for line in ended.stderr.splitlines() if not aside_in(line.encode())]
+    is_right = len(told) == len(more) and all(text in line for text, line in zip(more, told))
+    yield f"example_{name}: {ended}", (ended.stdout, is_right, ended.returncode) == (open(wanted).read(), True, 0)
 
 
 # ---- keys that users go on to
