@@ -1,7 +1,7 @@
 use Rattle.std.proofs.Common.{◌≡◌, ◌∙◌, ◌⊎◌, inl, inr, None, Some, Err, sym, ap, subst, ℕ}
 use Rattle.su_bytes.specs.declared.refusals.Refusal.{Refusal}
 use Rattle.su_bytes.specs.declared.refusals.Refusal.TheVariants.{NoMemory}
-use Rattle.su_op.specs.declared.operations.Change.TheVariants.{Undo, Rekey}
+use Rattle.su_op.specs.declared.operations.Change.TheVariants.{Undo}
 use Rattle.su_desk.specs.declared.prepared.Means.TheVariants.{Held}
 use Rattle.su_desk.specs.declared.prepared.Tried.{Tried}
 use Rattle.su_desk.proofs.FormatLemmas.{by_change, format_refused}
@@ -39,6 +39,11 @@ pub returns-in_ok-operate-in-Do-clause-accepted : goal.returns-in_ok-operate-in-
 returns-in_ok-operate-in-Do-clause-accepted c =
     let d = c.args.self.now in
     ap (λ ch. refusal_of d.roster d.history (entry_by c.args.author c.args.format ch)) c.in-Do.is ∙ answer_accepted _ _ _ _ c.in_ok-operate-in-Do.ensures.0
+
+pub returns-in_ok-rekey-in-Rekey-clause-accepted : goal.returns-in_ok-rekey-in-Rekey-clause-accepted
+returns-in_ok-rekey-in-Rekey-clause-accepted c =
+    let d = c.args.self.now in
+    ap (λ ch. refusal_of d.roster d.history (entry_by c.args.author c.args.format ch)) c.in-Rekey.is ∙ answer_accepted _ _ _ _ c.in_ok-rekey-in-Rekey.ensures.0
 
 pub returns-in_ok-index-in-Undo-clause-accepted : goal.returns-in_ok-index-in-Undo-clause-accepted
 returns-in_ok-index-in-Undo-clause-accepted c =

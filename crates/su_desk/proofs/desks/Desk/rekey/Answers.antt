@@ -26,7 +26,7 @@ invariant_of-self-2 c =
           (keeps_rekey s.roster s.entries.items s.kept.items s.forest c.args.author c.args.format k c.self.invariant.0 fits accepted),
       subst (λ h. take s.counters.len (c.raise.new.versions ++ drop (length c.raise.new.versions) s.counters.items) ≡ versions s.roster h) (sym entries)
           (counters_next s.roster s.entries.items e [] s.counters.len s.counters.items c.deref_mut.result.now c.raise.new.versions _ refl c.self.invariant.1 s.counters.ok.0 c.deref_mut.ensures.value c.raise.ensures),
-      subst (λ ks. HasJust ks c.add.new.used) (sym (ap (keys_after s.roster) entries ∙ one_key_more s.roster s.entries.items e k refl))
+      subst (λ ks. HasJust ks c.add.new.self) (sym (ap (keys_after s.roster) entries ∙ one_key_more s.roster s.entries.items e k refl))
           (c.add.ensures (keys_after s.roster s.entries.items) (c.in_ok-reserve-2.ensures.kept (keys_after s.roster s.entries.items) c.self.invariant.2)),
     )
 
@@ -39,7 +39,7 @@ returns c =
     let number : length s.entries.items + 1 ≡ c.len.result = omega (arith, c.len.ensures, c.push_reserved.new.self.ok.0, ap length entries, length-append s.entries.items (e ∷ [])) in
     let seen : List Entry → DeskState = λ h. record { roster = s.roster; history = h } in
     let accepted = c.in_ok-check_key.ensures.accepted in (
-      answer_done _ _ e (refusal_of-rekey _ _ c.args.author c.args.format c.args.key c.requires ∙ accepted) ∙ ap Ok (sym (ap (λ (d : DeskState). length d.history + 1) (sym c.self.view_is)) ∙ number),
+      answer_done c.args.self.now.roster c.args.self.now.history e (refusal_of-rekey c.args.self.now.roster c.args.self.now.history c.args.author c.args.format c.args.key c.requires ∙ accepted) ∙ ap Ok (ap (λ (d : DeskState). length d.history + 1) (sym c.self.view_is) ∙ number),
       ap seen entries ∙ ap (λ d. with_entry d e) c.self.view_is,
     )
 
@@ -51,6 +51,6 @@ raise-requires c =
 pub returns-in_err-check_key : goal.returns-in_err-check_key
 returns-in_err-check_key c =
     let d = c.args.self.now in
-    let x = c.in_err-check_key.field-0 in
+    let x = c.in_err-check_key.field-0.0 in
     passed_on d (rekey_by c.args.author c.args.format c.args.key) c.from_residual.result x c.from_residual.ensures.1
     (inr (answer_refused d.roster d.history (rekey_by c.args.author c.args.format c.args.key) x (refusal_of-rekey d.roster d.history c.args.author c.args.format c.args.key c.requires ∙ c.in_err-check_key.ensures.refused)))

@@ -8,8 +8,8 @@ use Rattle.su_desk.proofs.NamedKeys.{one_key_more, key_taken_back}
 use Rattle.su_desk.proofs.TrialLemmas.{history_before, keeps_seen}
 use Rattle.su_desk.proofs.desks.Desk.take_key_back.Goals as goal
 
-pub invariant_of-self-2 : goal.invariant_of-self-2
-invariant_of-self-2 c =
+pub invariant_of-self : goal.invariant_of-self
+invariant_of-self c =
     let s = c.self.inside in
     let (d, e, named, is, numbers) = c.requires in
     let k = c.args.key.now in
@@ -23,7 +23,7 @@ invariant_of-self-2 c =
       subst (λ ro. Keeps ro c.pop.new.self.items s.kept.items s.forest) (sym roster)
           (subst (λ h. Keeps d.roster h s.kept.items s.forest) (sym entries) p.keeps),
       c.copy_from_slice.ensures.items ∙ numbers ∙ ap (λ ro. versions ro d.history) (sym roster) ∙ ap (versions s.roster) (sym entries),
-      subst (λ ro. HasJust (keys_after ro c.pop.new.self.items) c.remove.new.used) (sym roster)
-          (subst (λ h. HasJust (keys_after d.roster h) c.remove.new.used) (sym entries)
+      subst (λ ro. HasJust (keys_after ro c.pop.new.self.items) c.remove.new.self) (sym roster)
+          (subst (λ h. HasJust (keys_after d.roster h) c.remove.new.self) (sym entries)
           (c.remove.ensures (keys_after d.roster d.history) p.unused (subst (λ ks. HasJust ks s.used) keys c.self.invariant.2))),
     )
