@@ -1,7 +1,7 @@
 -- Which refusals fit a request, and how a reply tells of them. (This project's own protocol.)
 use Rattle.std.specs.Prelude.{ℕ, Bool, true, false, ◌==◌, nat_lt, if◌then◌else◌, Option, Some, None}
 use Rattle.su_bytes.specs.declared.refusals.Refusal.{Refusal}
-use Rattle.su_bytes.specs.declared.refusals.Refusal.TheVariants.{Malformed, MissingBlock, TooBig, NoMemory, Busy, NotYourTurn, BadSignature, WrongPrev, WrongVector, KeyReuse, BookFull, OldFormat}
+use Rattle.su_bytes.specs.declared.refusals.Refusal.TheVariants.{Malformed, MissingBlock, BadKey, TooBig, NoMemory, Busy, NotYourTurn, BadSignature, WrongPrev, WrongVector, KeyReuse, BookFull, OldFormat}
 use Rattle.su_message.specs.declared.requests.Request.{Request}
 use Rattle.su_message.specs.declared.requests.Request.TheVariants.{Grant, Commit, Give, Fetch, Put, Get}
 use Rattle.su_message.specs.declared.replies.Reply.{Reply}
@@ -10,6 +10,7 @@ use Rattle.su_message.specs.declared.replies.Reply.TheVariants.{Refused}
 -- what a commit may be refused for
 abbrev pub refuses_commit : Refusal → Bool
 refuses_commit (Malformed _) = true
+refuses_commit BadKey = true
 refuses_commit NotYourTurn = true
 refuses_commit BadSignature = true
 refuses_commit (WrongPrev _) = true
@@ -60,6 +61,7 @@ may_refuse (Get _) e = refuses_get e
 abbrev pub told_alone : ℕ → Option Refusal
 told_alone number =
     if number == 5 then Some MissingBlock
+    else if number == 9 then Some BadKey
     else if number == 22 then Some TooBig
     else if number == 30 then Some NoMemory
     else if number == 32 then Some NotYourTurn

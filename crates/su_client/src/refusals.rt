@@ -41,6 +41,7 @@ fn told_alone(number: u8) -> Option<Refusal>
 {
     match number {
         5 => Some(Refusal::MissingBlock),
+        9 => Some(Refusal::BadKey),
         22 => Some(Refusal::TooBig),
         30 => Some(Refusal::NoMemory),
         32 => Some(Refusal::NotYourTurn),
@@ -62,6 +63,7 @@ pub(crate) fn may_refuse(request: &Request, refusal: &Refusal) -> bool
         (Request::Grant, Refusal::Busy(_)) => true,
         (Request::Commit(_), Refusal::Malformed(_)) => true,
         (Request::Commit(_), Refusal::NotYourTurn) => true,
+        (Request::Commit(_), Refusal::BadKey) => true,
         (Request::Commit(_), Refusal::BadSignature) => true,
         (Request::Commit(_), Refusal::WrongPrev(_)) => true,
         (Request::Commit(_), Refusal::WrongVector) => true,
