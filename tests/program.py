@@ -30,6 +30,9 @@ PROGRAM = os.environ.get("SUNDR", f"{TOP}/crates/sundr/out/sundr")
 CHANCE_SCRIPTS, CHANCE_LINES = 60, 120
 
 
+NEXT_KEY = "0000000500000004" + 96 * "0"
+
+
 def keygen(height, width, entropy="entropy", out="key"):
     return ["keygen", "--entropy", entropy, "--out", out, "--height", str(height), "--width", str(width)]
 
@@ -50,8 +53,10 @@ CASES = {
     "the_first_format": (["desk", "--format", "1"], "0 drop 1\n", "no 44 OldFormat\n", 0),
     "the_second_format": (["desk", "--users", "3", "--format=2"], "2 drop 1\n", "no 14 NoFile U2:1\n", 0),
     "the_second_format_without_a_word": (["desk"], "0 drop 1\n", "no 17 Held\n", 0),
+    "the_third_format": (["desk", "--format", "3"], f"1 rekey {NEXT_KEY}\nversions\n", "ok 1\nU0=0 U1=1 G0=0 G1=0\n", 0),
+    "the_third_format_without_a_word": (["desk"], f"0 rekey {NEXT_KEY}\n1 rekey {NEXT_KEY}\n", "ok 1\nno 36 KeyReuse\n", 0),
     "no_format": (["desk", "--format", "0"], "", "", 2),
-    "a_later_format": (["desk", "--format", "3"], "", "", 2),
+    "a_later_format": (["desk", "--format", "4"], "", "", 2),
     "a_format_that_is_no_number": (["desk", "--format", "SV02"], "", "", 2),
     "a_bad_line": (["desk"], "ls G0:1\n\nhello\nls G0:1\n", "line 3: bad\n", 2),
     "no_command": ([], "", "", 2),
@@ -86,11 +91,11 @@ CASES = {
     "idle_minutes_and_no_such_key": (served("--idle-minutes", "1440"), "", "", 1),
     "a_cache_and_no_such_key": (served("--store", "store", "--cache", "1000000"), "", "", 1),
     "help": (["--help"], "", ("desk", "keygen", "audit", "serve", "client", "backup"), 0),
-    "help_of_the_desk": (["desk", "--help"], "", ("undo_last", "drop BODY", "--users", "--format"), 0),
+    "help_of_the_desk": (["desk", "--help"], "", ("undo_last", "drop BODY", "rekey", "--users", "--format"), 0),
     "help_of_keys": (["keygen", "--help"], "", ("--entropy <FILE>",), 0),
     "help_of_the_server": (["serve", "--help"], "", ("--port", "--workers", "--capacity", "--sessions", "--store", "--cache"), 0),
     "help_of_backups": (["backup", "--help"], "", ("--port", "--to", "ok N new M"), 0),
-    "help_of_the_client": (["client", "--help"], "", ("undo_last", "save FILE", "--user", "--key", "--log", "--tries", "--leaves-ahead", "--stop"), 0),
+    "help_of_the_client": (["client", "--help"], "", ("undo_last", "save FILE", "--user", "--key", "--log", "--tries", "--leaves-ahead", "--next-key", "rekey FILE", "--stop"), 0),
     "version": (["-V"], "", "sundr 0.1.0\n", 0),
 }
 
@@ -139,6 +144,9 @@ def keys(room):
         known = lms_known.KNOWN[f"W{width}_H{height}_KEY"].hex()
         yield f"a_key_of_{height}_{width}", run(keygen(height, width), folder=room) == (known + "\n", "", 0)
         yield f"its_public_key_of_{height}_{width}", open(f"{room}/key.pub", "rb").read().hex() == known
+    made = [run(["keygen", "--out", "other", "--height", "5", "--width", "4"], folder=room) for _ in range(2)]
+    is_line = all(re.fullmatch("0000000500000003[0-9a-f]{96}\n", printed) and status == 0 for printed, told, status in made)
+    yield f"keys_of_the_systems_entropy: {made}", is_line and made[0][0] != made[1][0]
     run(keygen(5, 4), folder=room)
     yield "the_key_file_is_whole", open(f"{room}/key", "rb").read() == KEY_FILE
 
@@ -154,9 +162,9 @@ def help_texts(room):
     numbers = {int(number): name for name, number in re.findall(r"Refusal::(\w+)(?:\(\.\.\))? => (\d+),", source)}
     numbers |= {38: "WrongHandle", 39: "Change", 40: "OwnMissing"}  # refusals of a view alone
     listed, of_client = ({int(n): name for n, name in re.findall(r"(?m)^ {2,3}(\d+) (\w+)", texts[it])} for it in ("desk", "client"))
-    yield "help_lists_the_refusals", listed == {n: numbers[n] for n in [2, 3, *range(12, 29), 30, 44]}
+    yield "help_lists_the_refusals", listed == {n: numbers[n] for n in [2, 3, 9, *range(12, 29), 30, 36, 44]}
     wrong = {n: name for n, name in of_client.items() if numbers.get(n) != name}
-    missing = {8, 10, 18, 29, 31, 37, 39, 40, 43} - set(of_client)
+    missing = {8, 9, 10, 18, 29, 31, 37, 36, 39, 40, 43, 45} - set(of_client)
     yield f"help_lists_the_refusals_of_a_client: {wrong} {missing}", not wrong and not missing
     for command in client_model.FORMS:
         yield f"help_has_{command.decode()}", re.search(rf"(?m)^ +{command.decode()}\b", texts["client"]) is not None
@@ -196,7 +204,7 @@ def at_a_keyboard(room):
 
 
 def by_chance(room, count=CHANCE_SCRIPTS):
-    """Scripts by chance in both formats, against the second desk."""
+    """Scripts by chance in all formats, against the second desk."""
     model = [sys.executable, "-B", f"{HERE}/desk_model.py", room, str(count), str(CHANCE_LINES)]
     subprocess.run(model, check=True)
     for n in range(count):
