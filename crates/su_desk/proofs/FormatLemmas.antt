@@ -1,5 +1,5 @@
 -- Formats of entries.
-use Rattle.std.proofs.Common.{◌≡◌, ℕ, Bool, true, ◌&&◌, cond, List, [], ◌∷◌, ◌++◌, Option, None, Some, refl, sym, ap, ◌∙◌, append_assoc, append-nil}
+use Rattle.std.proofs.Common.{◌≡◌, ℕ, true, ◌&&◌, cond, List, [], ◌∷◌, ◌++◌, Option, None, Some, refl, sym, ap, ◌∙◌, append_assoc, append-nil}
 use Rattle.std.specs.Option.{option_or}
 use Rattle.su_bytes.specs.Format.{is_as_new}
 use Rattle.su_bytes.specs.Membership.{Membership}
@@ -14,7 +14,7 @@ use Rattle.su_op.specs.declared.operations.Change.TheVariants.{Undo}
 use Rattle.su_op.specs.Action.{change_format}
 use Rattle.su_desk.specs.declared.entries.Entry.{Entry}
 use Rattle.su_desk.specs.History.{NumberedAction, last_format, format_after, undo_by, undos}
-use Rattle.su_desk.specs.Answer.{has_format, format_refusal, refusal_by_change, refusal_of}
+use Rattle.su_desk.specs.Answer.{format_refusal, refusal_by_change, refusal_of}
 
 -- ---- the format of the last entry
 

@@ -5,7 +5,7 @@ use Rattle.su_op.specs.declared.operations.Change.TheVariants.{Rekey}
 use Rattle.su_used_keys.specs.UsedKeys.{HasJust}
 use Rattle.su_desk.specs.declared.entries.Entry.{Entry}
 use Rattle.su_desk.specs.History.{rekey_by, keys_after}
-use Rattle.su_desk.specs.Answer.{format_refusal, rekey_refusal, answer}
+use Rattle.su_desk.specs.Answer.{format_refusal, rekey_refusal}
 use Rattle.su_desk.specs.Desk.{DeskState, with_entry}
 use Rattle.su_desk.specs.Keeping.{Keeps}
 use Rattle.su_desk.specs.Version.{versions}
