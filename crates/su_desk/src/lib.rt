@@ -1,4 +1,4 @@
-//! A desk: a history of operations and undos, and the tree that its live operations make.
+//! A desk: a history of operations, undos and rekeys, and the tree that its live operations make.
 #![tactic(auto)]
 
 mod desks;
