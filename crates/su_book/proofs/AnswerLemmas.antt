@@ -1,21 +1,22 @@
 -- The machine gives one answer.
-use Rattle.std.proofs.Common.{◌≡◌, ◌⊎◌, ℕ, List, [], length, Some, Result, Ok, Err, IsErrAnd, refl, sym, ap, ◌∙◌, subst, arith, inl, inr, append-nil}
+use Rattle.std.proofs.Common.{◌≡◌, ◌⊎◌, ◌<◌, ℕ, List, [], ◌∷◌, length, Some, Result, Ok, Err, IsErrAnd, refl, sym, ap, ◌∙◌, subst, arith, inl, inr, append-nil}
 use Rattle.std.specs.Prelude.{IfErr}
 use Rattle.std.specs.Global.{Vec}
-use Rattle.su_bytes.specs.Order.{Passes, RefusedBy}
-use Rattle.su_bytes.proofs.Public.{EachOnce, once, never_both, one_refusal}
+use Rattle.su_bytes.specs.Order.{demand, Passes, RefusedBy}
+use Rattle.su_bytes.proofs.Public.{EachOnce, once, never_both, one_refusal, refused_first}
 use Rattle.su_bytes.specs.declared.refusals.Refusal.{Refusal}
-use Rattle.su_bytes.specs.declared.refusals.Refusal.TheVariants.{Malformed, NoMemory}
+use Rattle.su_bytes.specs.declared.refusals.Refusal.TheVariants.{BookFull, Malformed, NoMemory}
 use Rattle.su_format.specs.Format.{whole}
 use Rattle.su_format.proofs.Public.{whole_lawful, spelling_told}
 use Rattle.su_version.specs.Commit.{Commit, IsCommit, commit_bytes, commit_format}
+use Rattle.su_version.specs.Chain.{next_order, tip}
 use Rattle.su_version.proofs.Public.{commit_of, commit_lawful}
 use Rattle.su_book.specs.Malformed.{IsMalformed}
 use Rattle.su_book.specs.declared.events.Event.{Event}
 use Rattle.su_book.specs.declared.events.Event.TheVariants as event
 use Rattle.su_book.specs.declared.steps.Act.{Act}
 use Rattle.su_book.specs.declared.steps.Act.TheVariants.{Granted, Stored, Given}
-use Rattle.su_book.specs.Machine.{BookState, storing_order, MayBeGranted, MayBeStored, MayAct, Asks, IsUnfit, IsRefused, holder_of}
+use Rattle.su_book.specs.Machine.{BookState, storing_order, MayBeGranted, MayBeStored, MayAct, Asks, IsUnfit, IsRefused, holder_of, records_of, count_of}
 
 -- ---- what bytes spell
 
@@ -37,7 +38,7 @@ one_place bytes x y (p, is_p, refused_p) (q, is_q, refused_q) =
 -- ---- a commit that isn't stored
 
 storing_once : (b : BookState) (c : Commit) → EachOnce (storing_order b c)
-storing_once b c = (once, (once, (once, (once, (once, (once, tt))))))
+storing_once b c = (once, (once, (once, (once, (once, (once, (once, (once, tt))))))))
 
 one_unfit : (b : BookState) (bytes : List ℕ) (x y : Refusal) → IsUnfit b bytes x → IsUnfit b bytes y → x ≡ y
 one_unfit b bytes x y (inl p) (inl q) = one_place bytes x y p q
@@ -55,6 +56,20 @@ may_not_be_unfit b bytes seat n c e sc may (inr (d, id, sd, p)) =
 not_unfit : (b : BookState) (bytes : _) (seat n : ℕ) (c : Commit) (e : Refusal) → IsRefused b seat (event.Commit bytes) e → bytes.items ≡ commit_bytes c → MayBeStored b seat n c → ⊥
 not_unfit b bytes seat n c e (inl p) sc may = p.1 may.turn
 not_unfit b bytes seat n c e (inr p) sc may = may_not_be_unfit b bytes.items seat n c e sc may p.1
+
+-- what refuses the next commit refuses one that is to be stored
+pub next_unfit : {X : Type 0} (b : BookState) (bytes : List ℕ) (c : Commit) (r : Result X Refusal) (x : Refusal) → IsErrAnd r (λ e. e ≡ x) → IsCommit c → bytes ≡ commit_bytes c
+    → (x ≡ NoMemory) ⊎ RefusedBy (next_order b.roster (tip b.roster (records_of b.journal) c.version.author) c) x → IfErr r (λ e. (e ≡ NoMemory) ⊎ IsUnfit b bytes e)
+next_unfit b bytes c (Ok v) x is spelled same why = tt
+next_unfit b bytes c (Err e) x is spelled same (inl none) = inl (is ∙ none)
+next_unfit b bytes c (Err e) x is spelled same (inr why) =
+    inr (inr (
+      c,
+      spelled,
+      same,
+      subst (RefusedBy (storing_order b c)) (sym is)
+          (refused_first (next_order b.roster (tip b.roster (records_of b.journal) c.version.author) c) (demand (count_of b.journal < b.capacity) BookFull ∷ []) x why),
+    ))
 
 -- the seat that has the turn is refused for what is wrong with the commit
 pub commit_refused : {X : Type 0} (b : BookState) (seat : ℕ) (bytes : Vec ℕ) (r : Result X Refusal) (x : Refusal) → IsErrAnd r (λ e. e ≡ x) → holder_of b.journal ≡ Some seat

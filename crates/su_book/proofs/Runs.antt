@@ -60,6 +60,12 @@ stores_next b seat (Granted n) may = tt
 stores_next b seat (Stored n c) may = (stored_next b seat n c may, may.number)
 stores_next b seat Given may = tt
 
+-- an act that leaves the turn with its seat stores nothing
+pub stores_nothing : (seat : ℕ) (act : Act) → (turn_after seat act ≡ None → ⊥) → stored_by act ≡ []
+stores_nothing seat (Granted n) some = refl
+stores_nothing seat (Stored n c) some = absurd (some refl)
+stores_nothing seat Given some = absurd (some refl)
+
 -- the records with what is stored are within the capacity
 pub within_further : (b : BookState) (seat : ℕ) (act : Act) → MayAct b seat act → count_of b.journal ≤ b.capacity
     → length (records_of b.journal ++ stored_by act) ≤ b.capacity

@@ -4,6 +4,7 @@ use Rattle.su_bytes.specs.Principal.{is_user}
 use Rattle.su_bytes.specs.Membership.{Membership}
 use Rattle.su_version.specs.Commit.{Commit}
 use Rattle.su_version.specs.Chain.{MayBeNext}
+use Rattle.su_used_keys.specs.UsedKeys.{HasRoom}
 use Rattle.su_chain.specs.ChainEnd.{IsEndOf}
 use Rattle.su_book.specs.declared.steps.Act.{Act}
 use Rattle.su_book.specs.declared.steps.Act.TheVariants.{Granted, Stored, Given}
@@ -25,7 +26,7 @@ abbrev pub book_of : Keeping → BookState
 book_of k = record { capacity = k.capacity; roster = k.roster; journal = k.journal }
 
 -- The steps are a run, and what else is kept is what they come to. While a seat has the turn the
--- step that ends it can be counted.
+-- step that ends it can be counted, and the next key that its commit may name can be kept.
 pub record IsKeeping (k : Keeping) : Type 0 where
   pub limit : IsCapacity k.capacity
   pub run : IsRun (book_of k)
@@ -34,6 +35,7 @@ pub record IsKeeping (k : Keeping) : Type 0 where
   pub within : count_of k.journal ≤ k.capacity
   pub last_is : AreLast (records_of k.journal) k.last.items
   pub room : k.holder ≢ None → length k.journal + 1 < 2 ^ 64
+  pub key_room : k.holder ≢ None → HasRoom k.end.used
 
 -- what the act stores may be the next after these records, and has its number
 abbrev pub StoresNext : Membership → List Commit → Act → Type 0

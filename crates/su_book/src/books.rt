@@ -1,18 +1,20 @@
 // A book.
 ghost use Rattle.std.specs.Prelude.{◌≡◌, ◌≢◌, ◌⊎◌, ℕ, [], length, IfOk, IfErr, OnOk, OnErr};
 ghost use Rattle.su_bytes.specs.declared.refusals.Refusal.TheVariants.{BadNumber, BadKey, NoMemory};
+ghost use Rattle.su_version.specs.Chain.{chain_key};
 ghost use Rattle.su_chain.specs.ChainEnd.{HasBadKey};
 ghost use Rattle.su_book.specs.declared.events.Event.TheVariants.{Grant, Commit, Give};
 ghost use Rattle.su_book.specs.declared.steps.Act.TheVariants.{Granted};
 ghost use Rattle.su_book.specs.Machine.{IsCapacity, IsRun, Asks, MayFollow, IsRefused, Tells, Stepped, with_step, records_of, count_of};
 
 use crate::events::{BookReply, Event};
-use crate::keeping::{Keeping, find_room, last_numbers};
+use crate::keeping::{Keeping, last_numbers};
 use crate::offers::Offer;
 use crate::steps::{Act, Step};
 use std::alloc::{AllocError, Global};
 use std::marker::Model;
-use su_bytes::{Refusal, Roster};
+use su_bytes::{Refusal, Roster, User};
+use su_lms::PublicKey;
 
 /// The most commits that a book may be for.
 pub const MOST_RECORDS: u64 = 1_000_000;
@@ -69,14 +71,22 @@ impl Book {
         self.keeping.journal.len()
     }
 
+    /// Returns the key under which a user signs next, if there is such a user.
+    pub fn key(&self, user: User) -> Option<PublicKey>
+        ensures { result ≡ chain_key self.now.roster user (records_of self.now.journal) }
+    {
+        self.keeping.key(user)
+    }
+
     /// Finds the step that a seat may make next, as it asks. `Busy` with the seat that has the
     /// turn, where the turn is asked for and another has it. `NotYourTurn` where a commit is handed
     /// in, or the turn given back, by a seat that hasn't the turn. Of a commit then: `Malformed`
     /// where the bytes are none's, with the place of the first part that isn't there;
-    /// `BadSignature`, `WrongPrev` with the number of records, `OldFormat`, `WrongVector`, `KeyReuse`
-    /// where it isn't the next, as `ChainEnd::check` says; `BookFull`; and `NoMemory`. It takes what
-    /// was found out of the commit before, which the offer then has no longer; else it makes one
-    /// check of a signature. It takes no longer where there are more steps.
+    /// `BadSignature`, `WrongPrev` with the number of records, `OldFormat`, `WrongVector`, `KeyReuse`,
+    /// `BadKey` where it isn't the next, as `ChainEnd::check` says; `BookFull`; and `NoMemory`. It
+    /// takes what was found out of the commit before, which the offer then has no longer; where that
+    /// isn't under the author's key, it makes one check of a signature. It takes no longer where there
+    /// are more steps.
     pub fn answer(&self, seat: u16, event: &mut Event) -> Result<Step, Refusal>
         ensures same { event.new ≡ event.old }
         ensures seat { IfOk result (λ step. step.seat ≡ seat) }
@@ -152,14 +162,15 @@ impl Book {
         }
     }
 
-    /// Adds a step that may follow. It takes no memory. Only a grant can fail, where neither it nor
-    /// the step that ends the turn can be counted any more; that changes nothing.
+    /// Adds a step that may follow. Only a grant takes memory, for the next key that the commit of
+    /// that turn may name. Only a grant can fail: for want of it, or where neither the grant nor the
+    /// step that ends the turn can be counted any more; that changes nothing.
     pub fn apply(&mut self, step: Step) -> Result<(), AllocError>
         requires follows { MayFollow self.old step }
         ensures added { OnOk result (self.new ≡ with_step self.old step) }
         ensures err { OnErr result ((self.new ≡ self.old) × (n : ℕ) × (step.act ≡ Granted n)) }
     {
-        find_room(&self.keeping.journal, &step.act)?;
+        self.keeping.make_room(&step.act)?;
         self.keeping.push(step);
         Ok(())
     }

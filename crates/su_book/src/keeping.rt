@@ -4,7 +4,8 @@ ghost use Rattle.su_bytes.specs.Membership.{Membership};
 ghost use Rattle.su_bytes.specs.Order.{Passes, RefusedBy};
 ghost use Rattle.su_bytes.specs.declared.refusals.Refusal.TheVariants.{BadKey, NoMemory};
 ghost use Rattle.su_version.specs.Commit.{Commit as CommitParts, IsCommit, commit_bytes};
-ghost use Rattle.su_version.specs.Chain.{MayBeNext, next_order, tip};
+ghost use Rattle.su_version.specs.Chain.{MayBeNext, chain_key, next_order, tip};
+ghost use Rattle.su_used_keys.specs.UsedKeys.{HasRoom};
 ghost use Rattle.su_chain.specs.ChainEnd.{IsEndOf, HasBadKey};
 ghost use Rattle.su_book.specs.declared.steps.Act.TheVariants.{Granted, Stored, Given};
 ghost use Rattle.su_book.specs.Machine.{IsCapacity, MayFollow, IsUnfit, storing_order, stored_by, turn_after, with_step, holder_of, records_of, count_of, last_numbers, paired};
@@ -18,6 +19,7 @@ use crate::steps::{Act, Step};
 use std::alloc::{AllocError, Global};
 use su_bytes::{Refusal, Roster, User};
 use su_chain::ChainEnd;
+use su_lms::PublicKey;
 use su_version::{Commit, Verdict};
 
 /// How many users there can be.
@@ -88,6 +90,14 @@ impl Keeping {
         self.holder.filter(|holder| *holder != seat)
     }
 
+    /// Returns the key under which a user signs next, if there is such a user.
+    pub fn key(&self, user: User) -> Option<PublicKey>
+        requires kept { IsKeeping self.now }
+        ensures { result ≡ chain_key self.now.roster user (records_of self.now.journal) }
+    {
+        self.end.key(user)
+    }
+
     /// Checks whether the commit of these bytes may be stored, but for the turn. It takes what was
     /// found out of them before, and checks the signature where there is no verdict on it under the
     /// author's key.
@@ -131,6 +141,23 @@ impl Keeping {
         }
     }
 
+    /// Makes room for a step: sees that a grant can be counted, and the step that ends the turn, and
+    /// that a next key can be kept then. Only a grant can fail.
+    pub fn make_room(&mut self, act: &Act) -> Result<(), AllocError>
+        requires kept { IsKeeping self.old }
+        ensures kept { IsKeeping self.new }
+        ensures same { book_of self.new ≡ book_of self.old }
+        ensures room { OnOk result ((n : ℕ) → act.now ≡ Granted n
+            → (length self.new.journal + 2 < 2 ^ 64) × HasRoom self.new.end.used) }
+        ensures only { OnErr result ((n : ℕ) × (act.now ≡ Granted n)) }
+    {
+        find_room(&self.journal, act)?;
+        match act {
+            Act::Granted(_) if self.holder.is_none() => self.end.reserve(),
+            _ => Ok(()),
+        }
+    }
+
     /// Adds a step that may follow. It takes no memory.
     pub fn push(&mut self, step: Step)
         requires kept { IsKeeping self.old }
@@ -138,6 +165,7 @@ impl Keeping {
         requires room { length self.old.journal + 1 < 2 ^ 64 }
         requires more { turn_after step.seat step.act ≢ None
             → length self.old.journal + 2 < 2 ^ 64 }
+        requires key_room { turn_after step.seat step.act ≢ None → HasRoom self.old.end.used }
         ensures kept { IsKeeping self.new }
         ensures pushed { book_of self.new ≡ with_step (book_of self.old) step }
     {
@@ -173,10 +201,12 @@ fn turn_after(seat: u16, act: &Act) -> Option<u16>
 /// Adds what was stored to the end of the chain of records. It takes no memory.
 fn add_record(end: &mut ChainEnd, roster: &Roster, act: &Act)
     requires room { end.old.number < 2 ^ 64 - 1 }
+    requires key_room { HasRoom end.old.used }
     requires next { (cs : List CommitParts) × IsEndOf roster.now cs end.old
         × StoresNext roster.now cs act.now }
-    ensures { (cs : List CommitParts) → IsEndOf roster.now cs end.old → StoresNext roster.now cs act.now
+    ensures end { (cs : List CommitParts) → IsEndOf roster.now cs end.old → StoresNext roster.now cs act.now
         → IsEndOf roster.now (cs ++ stored_by act.now) end.new }
+    ensures same { stored_by act.now ≡ [] → end.new ≡ end.old }
 {
     match act {
         Act::Stored(_, commit) => end.push(roster, commit.commit(), commit.digest()),
@@ -199,7 +229,7 @@ fn set_last(last: &mut Vec<Option<u64>>, act: &Act)
 }
 
 /// Sees that a grant can be counted, and the step that ends the turn.
-pub(crate) fn find_room(journal: &Journal, act: &Act) -> Result<(), AllocError>
+fn find_room(journal: &Journal, act: &Act) -> Result<(), AllocError>
     ensures room { OnOk result ((n : ℕ) → act.now ≡ Granted n → length journal.now + 2 < 2 ^ 64) }
     ensures only { OnErr result ((n : ℕ) × (act.now ≡ Granted n)) }
 {

@@ -15,5 +15,5 @@ pub use books::{Book, MOST_RECORDS};
 pub use commits::HashedCommit;
 pub use events::{BookReply, Event};
 pub use laws::{one_answer, one_seat_has_the_turn, records_are_a_chain, records_only_grow};
-pub use offers::{Keys, Offer};
+pub use offers::Offer;
 pub use steps::{Act, Step};

@@ -1,42 +1,13 @@
 // Commits that are offered, and examined before their turn.
 ghost use Rattle.std.specs.Prelude.{◌≡◌};
-ghost use Rattle.su_book.specs.Offer.{IsFoundIn};
+ghost use Rattle.su_book.specs.Offer.{IsFoundIn, IsVerdict};
 
 use crate::commits::HashedCommit;
-use std::alloc::{AllocError, Global};
+use std::alloc::Global;
 use std::marker::Model;
-use su_bytes::{Refusal, Roster, User};
+use su_bytes::{FileId, Refusal, User};
 use su_lms::PublicKey;
 use su_version::Verdict;
-
-/// The keys of a roster's users, by which commits are examined.
-#[derive(Drop)]
-pub struct Keys {
-    keys: Vec<(User, PublicKey)>,
-}
-
-impl Keys {
-    /// Reads the keys of a roster's users, without those that are none. Fails only with `NoMemory`.
-    pub fn of(alloc: Global, roster: &Roster) -> Result<Keys, AllocError> {
-        let mut keys = Vec::new(alloc);
-        for user in roster.users() {
-            if let Ok(key) = PublicKey::parse(&user.key) {
-                keys.push((user.user, key))?;
-            }
-        }
-        Ok(Keys { keys })
-    }
-
-    /// Returns the key of a user, if there is one.
-    fn key(&self, user: User) -> Option<PublicKey> {
-        for (owner, key) in &self.keys {
-            if *owner == user {
-                return Some(*key);
-            }
-        }
-        None
-    }
-}
 
 /// The commit that bytes spell, and whether it is signed, under which key; no verdict where that
 /// isn't known.
@@ -75,12 +46,26 @@ impl Offer {
         Offer { bytes, found: None }
     }
 
-    /// Finds out which commit the bytes spell, and whether it is signed under its author's key among
-    /// these, or why there is none. It makes one check of a signature.
-    pub fn examine(&mut self, alloc: Global, keys: &Keys)
+    /// Finds out which commit the bytes spell, or why there is none. Returns its author, if there is
+    /// one.
+    pub fn read(&mut self, alloc: Global) -> Option<User>
         ensures { self.new ≡ self.old }
     {
-        self.found = Some(find(alloc, keys, self.bytes.as_slice()));
+        let found = read(alloc, self.bytes.as_slice());
+        let author = author_of(&found);
+        self.found = Some(found);
+        author
+    }
+
+    /// Finds out whether the commit that was read is signed under a key. Without memory for the
+    /// check that isn't known. It makes one check of a signature.
+    pub fn examine(&mut self, alloc: Global, key: Option<PublicKey>)
+        ensures { self.new ≡ self.old }
+    {
+        self.found = match self.found.take() {
+            Some(Ok(found)) => Some(Ok(examined(alloc, key, found))),
+            other => other,
+        };
     }
 
     /// Lends the bytes.
@@ -122,13 +107,24 @@ fn read(alloc: Global, bytes: &[u8]) -> Result<Found, Refusal>
     })
 }
 
-/// Finds out which commit the bytes spell, and whether it is signed under its author's key among
-/// these, or why there is none. Without memory for the check there is no verdict.
-fn find(alloc: Global, keys: &Keys, bytes: &[u8]) -> Result<Found, Refusal>
-    ensures { IsFoundIn bytes.now result }
+/// Returns the author of what was found to be a commit.
+fn author_of(found: &Result<Found, Refusal>) -> Option<User> {
+    match found {
+        Ok(found) => Some(found.commit.author()),
+        Err(_) => None,
+    }
+}
+
+/// Finds out whether a commit is signed under a key. Without memory for the check there is no verdict.
+fn examined(alloc: Global, key: Option<PublicKey>, found: Found) -> Found
+    ensures commit { result.commit ≡ found.commit }
+    ensures verdict { IsVerdict result.commit result.verdict }
 {
-    let commit = HashedCommit::decode(alloc, bytes)?;
-    let key = keys.key(commit.author());
-    let verdict = Verdict::of(alloc, key, commit.commit()).ok();
-    Ok(Found { commit, verdict })
+    // names the type for the prover (docs/ARCHITECTURE.md, "Forms the kit wants")
+    let _file: Option<FileId> = None;
+    let verdict = Verdict::of(alloc, key, found.commit.commit()).ok();
+    Found {
+        commit: found.commit,
+        verdict,
+    }
 }

@@ -87,7 +87,7 @@ impl<R: Read + Drop, W: Write + Drop> Client<R, W> {
 
     /// Hands in a commit by its bytes. Returns the number of its record. The refusals are those of
     /// the server's book: `NotYourTurn`, `Malformed`, `BadSignature`, `WrongPrev`, `OldFormat`,
-    /// `WrongVector`, `KeyReuse`, `BookFull`.
+    /// `WrongVector`, `KeyReuse`, `BadKey`, `BookFull`.
     pub fn commit(&mut self, bytes: Vec<u8>) -> Result<u64, Refusal>
         ensures stored { IfOk result (λ n.
             Exchanged (request.Commit bytes.items) self.old.link self.new.link (reply.Stored n)) }

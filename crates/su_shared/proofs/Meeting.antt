@@ -34,16 +34,8 @@ apart other e is = subst NotOfTheTurn (sym is) other
 
 storing_says : (b : BookState) (c : Commit) → EachSays NotOfTheTurn (storing_order b c)
 unfolding NotOfTheTurn
-storing_says b c = (
-  apart ((λ n is. absurd cc), (λ is. absurd cc)),
-  (
-    apart ((λ n is. absurd cc), (λ is. absurd cc)),
-    (
-      apart ((λ n is. absurd cc), (λ is. absurd cc)),
-      (apart ((λ n is. absurd cc), (λ is. absurd cc)), (apart ((λ n is. absurd cc), (λ is. absurd cc)), (apart ((λ n is. absurd cc), (λ is. absurd cc)), tt))),
-    ),
-  ),
-)
+storing_says b c =
+    (apart ((λ n is. absurd cc), (λ is. absurd cc)), (apart ((λ n is. absurd cc), (λ is. absurd cc)), (apart ((λ n is. absurd cc), (λ is. absurd cc)), (apart ((λ n is. absurd cc), (λ is. absurd cc)), (apart ((λ n is. absurd cc), (λ is. absurd cc)), (apart ((λ n is. absurd cc), (λ is. absurd cc)), (apart ((λ n is. absurd cc), (λ is. absurd cc)), (apart ((λ n is. absurd cc), (λ is. absurd cc)), tt))))))))
 
 unfit_says : (b : BookState) (bytes : List ℕ) (e : Refusal) → IsUnfit b bytes e → NotOfTheTurn e
 unfolding NotOfTheTurn

@@ -3,9 +3,10 @@ ghost use Rattle.std.specs.Prelude.{◌≡◌, ◌≢◌, ◌-◌, ◌+◌, ◌�
 ghost use Rattle.std.specs.List.Sorted.{IsNonDecreasingBy};
 ghost use Rattle.su_bytes.specs.declared.refusals.Refusal.TheVariants.{NoMemory, BookFull, BadNumber, SourceFailed};
 ghost use Rattle.su_version.specs.Commit.{Commit, commit_bytes};
+ghost use Rattle.su_version.specs.Chain.{chain_key};
 ghost use Rattle.su_book.specs.declared.events.Event.TheVariants.{Grant, Give};
 ghost use Rattle.su_book.specs.declared.steps.Act.TheVariants.{Stored};
-ghost use Rattle.su_book.specs.Machine.{Asks, IsRun, Stepped, TellsRecords, count_of, stored_by};
+ghost use Rattle.su_book.specs.Machine.{Asks, IsRun, Stepped, TellsRecords, count_of, records_of, stored_by};
 ghost use Rattle.su_keeper.specs.Kept.{KeptRecord};
 ghost use Rattle.su_shared.specs.Entry.{contents};
 ghost use Rattle.su_shared.specs.Seats.{Learns};
@@ -18,8 +19,9 @@ use std::alloc::Global;
 use std::marker::Model;
 use std::sync::ledger::{Blank, Book as Tally, Share};
 use su_book::{Act, Book, BookReply, Event};
-use su_bytes::Refusal;
+use su_bytes::{Refusal, User};
 use su_keeper::Keeper;
+use su_lms::PublicKey;
 
 /// What lies under the lock, beside the keeper: the book, a receipt for each of its records, what
 /// each seat was told, and the ledger of the seats' steps. Its model is the book, the number of
@@ -161,6 +163,13 @@ impl<N: BookName, K: Keeper> Held<N, K> {
             seat.notes.learn(receipt);
         }
         Ok((reply, receipt))
+    }
+
+    /// Returns the key under which a user signs next, if there is such a user.
+    pub(crate) fn key(&self, user: User) -> Option<PublicKey>
+        ensures { result ≡ chain_key self.now.book.roster user (records_of self.now.book.journal) }
+    {
+        self.book.key(user)
     }
 
     /// Makes a receipt for the record of this number, if there is one.

@@ -24,17 +24,16 @@ use std::alloc::Global;
 use std::marker::Model;
 use std::sync::ledger::Blank;
 use std::sync::{Mutex, Wait};
-use su_book::{Book, BookReply, Event, Keys, Offer};
-use su_bytes::{Digest, Refusal, Roster};
+use su_book::{Book, BookReply, Event, Offer};
+use su_bytes::{Digest, Refusal, Roster, User};
 use su_keeper::Keeper;
+use su_lms::PublicKey;
 
 /// A book that threads share. Its steps are made under one lock, and its records are read without
 /// it; each is kept before it can be read.
 #[derive(Drop)]
 pub struct SharedBook<N: BookName, K: Keeper> {
     cells: Cells<K>,
-    // by which a commit is examined before the lock is taken
-    keys: Keys,
     locked: Mutex<Locked<N, K>>,
     ghost named: { cells ≡ N.cells },
 }
@@ -57,10 +56,9 @@ impl<N: BookName, K: Keeper> SharedBook<N, K> {
         ensures refused { IfErr result (λ e. ((e ≡ BadNumber) × ¬ IsCapacity (length cells))
             ⊎ ((e ≡ BadKey) × IsCapacity (length cells) × HasBadKey roster) ⊎ (e ≡ NoMemory)) }
     {
-        let keys = Keys::of(alloc, &roster)?;
         let book = Book::new(alloc, cells.len() as u64, roster)?;
         let held = Held::new(alloc, book, blank);
-        Ok(SharedBook::share(cells, keys, Opening { held, keeper }))
+        Ok(SharedBook::share(cells, Opening { held, keeper }))
     }
 
     /// Makes a book and its first seat, and takes up each record that the keeper found, as a commit
@@ -86,29 +84,23 @@ impl<N: BookName, K: Keeper> SharedBook<N, K> {
             ⊎ (f ≡ Refused NoMemory)
             ⊎ ((n : ℕ) × (0 < n) × IsRecordFault K.may_fail 0 n f)) }
     {
-        let keys = Keys::of(alloc, &roster)?;
         let book = Book::new(alloc, cells.len() as u64, roster)?;
         let notes = Notes::new(alloc, &cells)?;
         let mut held = Held::new(alloc, book, blank);
         let mut seat = held.seat(notes)?;
         let mut opening = Opening { held, keeper };
         let count = opening.take_up(alloc, &cells, &mut seat)?;
-        Ok((SharedBook::share(cells, keys, opening), seat, count))
+        Ok((SharedBook::share(cells, opening), seat, count))
     }
 
     /// Shares a book, when all that its keeper found is taken up.
-    fn share(cells: Cells<K>, keys: Keys, opening: Opening<N, K>) -> SharedBook<N, K>
+    fn share(cells: Cells<K>, opening: Opening<N, K>) -> SharedBook<N, K>
         requires cells { cells ≡ N.cells }
         requires end { K.is_at_end opening.keeper }
     {
         let Opening { held, keeper } = opening;
         let locked = Locked { held, keeper };
-        Unshared {
-            cells,
-            keys,
-            locked,
-        }
-        .share()
+        Unshared { cells, locked }.share()
     }
 
     /// Makes the next seat, which was told nothing and knows nothing. `BadNumber` after 256 seats;
@@ -155,7 +147,7 @@ impl<N: BookName, K: Keeper> SharedBook<N, K> {
     }
 
     /// Stores a commit by its bytes, which is kept with the items that it needs, and gives the turn
-    /// back. The commit is examined before the lock is taken, so that no seat waits while its
+    /// back. The commit is examined while the lock isn't held, so that no seat waits while its
     /// signature is checked. The number is greater than all that the seat was told before; the
     /// receipt is that of these bytes and items. The refusals are those of `Held::step`. A refusal
     /// leaves the seat as it was.
@@ -186,7 +178,7 @@ impl<N: BookName, K: Keeper> SharedBook<N, K> {
             IsCommitRefusal K.may_fail seat.old.number bytes.now e) }
         ensures err { OnErr result (seat.new ≡ seat.old) }
     {
-        let offer = self.offer(alloc, seat.kept().turn, bytes)?;
+        let offer = self.offer(rt, alloc, seat.kept().turn, bytes)?;
         let locked = &mut *self.locked.lock(rt);
         let keeper = &mut locked.keeper;
         let commit = Event::Commit(offer);
@@ -202,9 +194,16 @@ impl<N: BookName, K: Keeper> SharedBook<N, K> {
         Ok((number, receipt))
     }
 
-    /// Makes the offer of a copy of these bytes. It is examined where the seat has the turn; else the
-    /// book refuses the commit unread.
-    fn offer(&self, alloc: Global, has_turn: bool, bytes: &[u8]) -> Result<Offer, Refusal>
+    /// Makes the offer of a copy of these bytes. Where the seat has the turn, it is examined under the
+    /// key that its author has then, for which the book is asked under the lock; else the book
+    /// refuses the commit unread.
+    fn offer(
+        &self,
+        rt: &impl Wait,
+        alloc: Global,
+        has_turn: bool,
+        bytes: &[u8],
+    ) -> Result<Offer, Refusal>
         ensures value { IfOk result (λ offer. offer.items ≡ bytes.now) }
         ensures refused { IfErr result (λ e. e ≡ NoMemory) }
     {
@@ -213,9 +212,17 @@ impl<N: BookName, K: Keeper> SharedBook<N, K> {
         };
         let mut offer = Offer::new(bytes);
         if has_turn {
-            offer.examine(alloc, &self.keys);
+            if let Some(author) = offer.read(alloc) {
+                let key = self.key(rt, author);
+                offer.examine(alloc, key);
+            }
         }
         Ok(offer)
+    }
+
+    /// Asks the book, under the lock, for the key under which a user signs next.
+    fn key(&self, rt: &impl Wait, user: User) -> Option<PublicKey> {
+        self.locked.lock(rt).held.key(user)
     }
 
     /// Gives the turn back. The refusals are `NotYourTurn`, and `BookFull` where what the seat was
@@ -309,11 +316,7 @@ impl<N: BookName, K: Keeper> SharedBook<N, K> {
         ensures err { IfErr result (λ r. IsPermutation seats.items r.1.items
             × IsNonDecreasingBy (λ s. s.number) r.1.items × ¬ AreAll r.1.items r.0) }
     {
-        let SharedBook {
-            cells,
-            keys,
-            locked,
-        } = self;
+        let SharedBook { cells, locked } = self;
         let Locked { held, keeper } = locked.into_inner();
         held.orders();
         match held.close(seats) {
@@ -325,11 +328,7 @@ impl<N: BookName, K: Keeper> SharedBook<N, K> {
             }),
             Err((held, seats)) => {
                 let locked = Locked { held, keeper };
-                let unshared = Unshared {
-                    cells,
-                    keys,
-                    locked,
-                };
+                let unshared = Unshared { cells, locked };
                 Err((unshared, seats))
             }
         }
@@ -341,7 +340,6 @@ impl<N: BookName, K: Keeper> SharedBook<N, K> {
 #[derive(Drop)]
 pub struct Unshared<N: BookName, K: Keeper> {
     cells: Cells<K>,
-    keys: Keys,
     locked: Locked<N, K>,
 }
 
@@ -359,17 +357,9 @@ impl<N: BookName, K: Keeper> Model for Unshared<N, K> {
 impl<N: BookName, K: Keeper> Unshared<N, K> {
     /// Shares the book.
     pub fn share(self) -> SharedBook<N, K> {
-        let Unshared {
-            cells,
-            keys,
-            locked,
-        } = self;
+        let Unshared { cells, locked } = self;
         let locked = Mutex::new(locked);
-        SharedBook {
-            cells,
-            keys,
-            locked,
-        }
+        SharedBook { cells, locked }
     }
 }
 
