@@ -68,7 +68,6 @@ pub(crate) fn may_refuse(request: &Request, refusal: &Refusal) -> bool
         (Request::Commit(_), Refusal::WrongPrev(_)) => true,
         (Request::Commit(_), Refusal::WrongVector) => true,
         (Request::Commit(_), Refusal::KeyReuse) => true,
-        (Request::Commit(_), Refusal::BadKey) => true,
         (Request::Commit(_), Refusal::BookFull) => true,
         (Request::Commit(_), Refusal::OldFormat) => true,
         (Request::Give, Refusal::NotYourTurn) => true,
