@@ -9,6 +9,8 @@ second on both, and the peak of memory in megabytes.
   of the 1,000 is the time of the whole log less that of the first 10,000, so it wants an idle machine. With signatures of 4 and of
   8 bits a coefficient.
 - 100,000 commits that each write a byte into one of 1,000 files.
+- 10,000 creates as above with signatures of 4 bits a coefficient, in the third format, and the same with a rekey behind each 1,000: how much
+  these cost.
 
 The author's key has a tree of height 20, of which only the leaves that sign are computed (`leaves` of tests/lms.py): a verifier can't
 tell, but its signatures have a path of 20 hashes, where keys of `sundr keygen` have 5 or 10.
@@ -21,7 +23,7 @@ import time
 
 HERE = os.path.dirname(os.path.abspath(__file__))
 TOP = os.path.dirname(HERE)
-PROGRAM = f"{TOP}/crates/sundr/out/sundr"
+PROGRAM = os.environ.get("SUNDR", f"{TOP}/crates/sundr/out/sundr")
 sys.path.insert(0, f"{TOP}/tests")
 
 import desk_model  # noqa: E402
@@ -65,10 +67,10 @@ class KeptTree:
 
 class LongMaker:
     """Makes a long log of user 0, who creates files in the root directory and writes bytes into them. It is of the first format, so that
-    earlier programs read it too."""
+    earlier programs read it too, unless there are further keys or another one is asked for."""
 
-    def __init__(self, key, file):
-        self.key, self.file, self.count = key, file, 0
+    def __init__(self, key, file, form=1):
+        self.key, self.file, self.count, self.form, self.leaf = key, file, 0, form, 0
         self.prev = sha256(logs.roster_bytes([key.public()]))
         self.table, self.names = KeptTree(), KeptTree()
         self.put_inode(1, self.root_digest())
@@ -93,12 +95,17 @@ class LongMaker:
         self.add(("write", file, 0, byte))
 
     def add(self, change):
-        item, q = logs.item_of(change), self.count
+        item = logs.item_of(change)
         self.count += 1
-        version = logs.Version(0, self.prev, sha256(item), self.table.digest(), [], [self.count, 0, 0], form=1)
-        commit = logs.commit_of(version, self.key.sign(q, version.encode()))
-        self.prev = sha256(commit)
+        named = change[1] if change[0] == "rekey" else None
+        version = logs.Version(0, self.prev, sha256(item), self.table.digest(), [], [self.count, 0, 0], self.form, named)
+        commit = logs.commit_of(version, self.key.sign(self.leaf, version.encode()))
+        self.prev, self.leaf = sha256(commit), self.leaf + 1
         self.file.write(logs.log_bytes([(commit, item)]))
+
+    def rekey(self, key):
+        self.add(("rekey", key.public()))
+        self.key, self.leaf = key, 0
 
 
 def make(folder, name, width, files, writes):
@@ -117,6 +124,26 @@ def make(folder, name, width, files, writes):
             maker.write(n * 7919 % files + 2, bytes([n % 256]))
     with open(f"{path}.pub", "wb") as file:
         file.write(key.public())
+    return path
+
+
+def make_rekeyed(folder, name, files, every):
+    """Makes a log of creates in the third format with 4 bits a coefficient, with a rekey behind each so many, if any."""
+    path = f"{folder}/{name}"
+    if os.path.exists(f"{path}.pub"):
+        return path
+    count = files // every if every else 1
+    with multiprocessing.Pool() as pool:
+        keys = [lms.Key(b"%s %d" % (name.encode(), n) + bytes(48), 20, 4, files // count + 1, lambda leaf, all_: pool.imap(leaf, all_, 64))
+                for n in range(count)]
+    with open(path, "wb") as file:
+        maker = LongMaker(keys[0], file, form=3)
+        for n in range(files):
+            maker.create(n + 2)
+            if every and (n + 1) % every == 0 and n + 1 < files:
+                maker.rekey(keys[(n + 1) // every])
+    with open(f"{path}.pub", "wb") as file:
+        file.write(keys[0].public())
     return path
 
 
@@ -179,6 +206,9 @@ def main():
             show(f"writes behind them, width {width}", 1000, writes[0], writes[1], whole[2], writes[3])
         log = make(folder, "writes_4", 4, 1000, 99000)
         show("creates and writes, width 4", 100000, *measure(f"{log}.pub", log, 100000))
+        for name, every, count in (("creates, format 3, width 4", 0, 10000), ("and a rekey behind each 1,000", 1000, 10009)):
+            log = make_rekeyed(folder, f"rekeys_{every}", 10000, every)
+            show(name, count, *measure(f"{log}.pub", log, count))
 
 
 if __name__ == "__main__":
