@@ -2,7 +2,8 @@
 -- under the lock, and through the cells, runs out of steps.)
 use denote.RattleType.{RattleType}
 use denote.Param.Send.{IsSend, IsSync, sendable, view_send, struct_send, recorded_send}
-use Rattle.std.proofs.Crossing.{crosses}
+use Rattle.std.proofs.Crossing.{crosses, frees, send}
+use Rattle.std.proofs.MapsCrossingOver as over
 use Rattle.std.specs.declared.sync.ledger.Ledger as ledger
 use Rattle.std.proofs.sync.ledger.Share.TheSendSync as Share
 use Rattle.std.proofs.sync.ledger.Book.TheSendSync as Tally
@@ -10,6 +11,8 @@ use Rattle.http_server.proofs.log.Log.TheSendSync as Log
 use Rattle.once_cell.specs.contracts.race.once_box.OnceBox as OnceBox
 use Rattle.once_cell.proofs.race.once_box.OnceBox.TheSendSync as Cell
 use Rattle.once_cell.proofs.race.note.Note.TheSendSync as Note
+use Rattle.su_used_keys.specs.contracts.used.UsedKeys as UsedKeys
+use Rattle.su_chain.specs.contracts.ends.ChainEnd as ChainEnd
 use Rattle.su_book.specs.contracts.books.Book as Book
 use Rattle.su_keeper.specs.declared.keepers.Keeper as keeper
 use Rattle.su_shared.specs.declared.cells.BookName as name
@@ -21,8 +24,15 @@ use Rattle.su_shared.specs.contracts.held.Held as Held
 use Rattle.su_shared.specs.contracts.locked.Locked as Locked
 use Rattle.su_shared.specs.contracts.shared.SharedBook as SharedBook
 
+-- as fields of others
+used_send : IsSend UsedKeys.the_field.row
+used_send = search (over.HashSet-send, frees, send, crosses, sendable) depth 40 fits 30000
+
+end_send : IsSend ChainEnd.the_field.row
+end_send = search (used_send, crosses, sendable) depth 40 fits 30000
+
 book_send : IsSend Book.the_row
-book_send = search (Log.the_send, crosses, sendable) depth 60 fits 30000
+book_send = search (end_send, Log.the_send, crosses, sendable) depth 60 fits 30000
 
 module _ (K : RattleType) (k : keeper.Ghosts K.Denot) where
   record_send : IsSend (Record.the_row K k)
