@@ -1,21 +1,27 @@
 -- What is shown as a user's last commit, beside the one that is kept.
-use Rattle.std.proofs.Common.{◌≡◌, ℕ, zero, suc, Bool, true, false, ◌||◌, nat_eq, List, [], ◌∷◌, ◌++◌, Option, Some, None, slice_get, refl, sym, ap, subst, ◌∙◌, arith}
-use Rattle.std.specs.Prelude.{option_map}
+use Rattle.std.proofs.Common.{◌≡◌, ℕ, zero, suc, Bool, true, false, ◌||◌, nat_eq, List, [], ◌∷◌, ◌++◌, Option, Some, None, map, slice_get, refl, sym, ap, subst, ◌∙◌, arith, inl, inr}
+use Rattle.std.specs.Prelude.{option_map, IsTrue, ◌↔◌, ◌⊎◌, Result, Ok, Err, OnOk, IfErr}
 use Rattle.std.specs.List.{list_any}
 use Rattle.std.proofs.lemmas.Option.{slice_get-map}
 use Rattle.std.specs.Cmp.Lexicographic.{pointwise, bytes_decides}
 use Rattle.su_bytes.specs.Membership.{Membership}
+use Rattle.su_bytes.specs.Order.{Passes, RefusedBy}
+use Rattle.su_bytes.specs.declared.refusals.Refusal.TheVariants.{NoMemory}
 use Rattle.su_format.proofs.Public.{spelling_told}
 use Rattle.su_vector.specs.Vector.{number_of}
 use Rattle.su_version.specs.Commit.{Commit, IsCommit, commit_bytes}
+use Rattle.su_version.specs.Chain.{IsSignedBy, chain_key}
 use Rattle.su_version.proofs.Public.{commit_of, commit_lawful}
+use Rattle.su_chain.specs.ChainEnd.{IsEndOf}
 use Rattle.su_legal.specs.Legal.{Committed, commits_of, LegalAfter}
-use Rattle.su_view.specs.Holding.{IsHeld}
+use Rattle.su_view.specs.Holding.{HoldingState, IsHeld}
 use Rattle.su_view.specs.Keeping.{commit_in, AreBytes, holding_of, IsKeeping}
 use Rattle.su_view.specs.Spelled.{IsSpelled}
-use Rattle.su_view.specs.LastCommits.{last_by, own_last, IsNotBehind}
+use Rattle.su_view.specs.LastCommits.{last_by, own_last, own_order, shown_order, AreSigned, IsNotBehind, IsShownSigned}
 use Rattle.su_view.specs.declared.records.Record.{Record}
 use Rattle.su_view.specs.declared.records.Keeping.{Keeping}
+use Rattle.su_view.specs.declared.refusals.ViewRefusal.{ViewRefusal}
+use Rattle.su_view.specs.declared.refusals.ViewRefusal.TheVariants.{Plain}
 
 -- a commit with the bytes that are kept is the one that is kept
 pub same_bytes : (r : Record) (c : Commit) → IsSpelled r → IsCommit c → commit_bytes c ≡ r.bytes.items → c ≡ commit_in r
@@ -122,3 +128,43 @@ module _ (k : Keeping) (kept : IsKeeping k) (c : Commit) (is_commit : IsCommit c
           let same : commit_in r ≡ c = (let both : ◌≡◌ {A = Option Commit} (Some (commit_in r)) (Some c) = sym (ap (option_map commit_in) is) ∙ e in cc) in
           let kept_r = spelled_kept k kept i r is in
           at_any has k.records.items i r is ((bytes_decides r.bytes.items bytes).1 (kept_r.bytes_are ∙ ap commit_bytes same ∙ sym spelled))
+
+-- ---- whether a commit is known to be signed
+
+-- of one that isn't held: by its author's key
+pub shown_signed : (k : Keeping) → IsKeeping k → (c : Commit) → (IsHeld (holding_of k) c → ⊥) → (a : ℕ) → a ≡ c.version.author → (key found : Option (List ℕ))
+    → ((ro : Membership) (cs : List Commit) → IsEndOf ro cs k.end → key ≡ chain_key ro a cs) → found ≡ key → (b : Bool) → IsTrue b ↔ IsSignedBy found c → IsTrue b ↔ IsShownSigned (holding_of k) c
+shown_signed k kept c other a by key found key_is same b so = (λ yes. inr (subst (λ o. IsSignedBy o c) is (so.0 yes)), back)
+  where
+    is : found ≡ chain_key k.desk.settled.roster c.version.author (commits_of (holding_of k).held)
+    is = same ∙ key_is k.desk.settled.roster (map commit_in k.records.items) kept.end_is
+        ∙ (λ i. chain_key k.desk.settled.roster (by i) (sym kept.commits i))
+
+    back : IsShownSigned (holding_of k) c → IsTrue b
+    back (inl held) = absurd (other held)
+    back (inr signed) = so.1 (subst (λ o. IsSignedBy o c) (sym is) signed)
+
+-- ---- the whole order, by its first line and the others
+
+module _ (r : Result (Unit {0}) ViewRefusal) (v : HoldingState) (shown : List Commit) (signed : AreSigned v shown)
+    (ro : Membership) (ro_is : ro ≡ v.roster) (last : Option Commit) (last_is : last ≡ own_last v) where
+  pub order_passes : OnOk r (Passes (own_order ro v.user last shown)) → OnOk r (Passes (shown_order v shown))
+  order_passes passes = go r (subst (λ l. OnOk r (Passes (own_order v.roster v.user l shown))) last_is (subst (λ x. OnOk r (Passes (own_order x v.user last shown))) ro_is passes))
+    where
+      go : (q : Result (Unit {0}) ViewRefusal) → OnOk q (Passes (own_order v.roster v.user (own_last v) shown)) → OnOk q (Passes (shown_order v shown))
+      go (Ok x) rest = (signed, rest)
+      go (Err e) rest = tt
+
+  pub order_refuses : IfErr r (λ e. (e ≡ Plain NoMemory) ⊎ RefusedBy (own_order ro v.user last shown) e) → IfErr r (λ e. (e ≡ Plain NoMemory) ⊎ RefusedBy (shown_order v shown) e)
+  order_refuses refused =
+      go r (subst (λ l. IfErr r (λ e. (e ≡ Plain NoMemory) ⊎ RefusedBy (own_order v.roster v.user l shown) e)) last_is
+      (subst (λ x. IfErr r (λ e. (e ≡ Plain NoMemory) ⊎ RefusedBy (own_order x v.user last shown) e)) ro_is refused))
+    where
+      either : (e : ViewRefusal) → (e ≡ Plain NoMemory) ⊎ RefusedBy (own_order v.roster v.user (own_last v) shown) e → (e ≡ Plain NoMemory) ⊎ RefusedBy (shown_order v shown) e
+      either e (inl none) = inl none
+      either e (inr why) = inr (inr (signed, why))
+
+      go : (q : Result (Unit {0}) ViewRefusal) → IfErr q (λ e. (e ≡ Plain NoMemory) ⊎ RefusedBy (own_order v.roster v.user (own_last v) shown) e)
+          → IfErr q (λ e. (e ≡ Plain NoMemory) ⊎ RefusedBy (shown_order v shown) e)
+      go (Ok x) rest = tt
+      go (Err e) rest = either e rest

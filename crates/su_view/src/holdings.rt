@@ -26,7 +26,7 @@ use crate::refusals::ViewRefusal;
 pub(crate) use drafts::Draft;
 use std::alloc::Global;
 use std::marker::Model;
-use su_bytes::{Digest, FileId, Principal, Refusal, Roster, User};
+use su_bytes::{Digest, FileId, KEY_LENGTH, Principal, Refusal, Roster, User};
 use su_chain::ChainEnd;
 use su_change::decode;
 use su_desk::{Prepared, TrialDesk};
@@ -160,7 +160,7 @@ impl Holding {
             Ok(prepared) => prepared,
             Err(refusal) => return Err(within(refusal)),
         };
-        if version.next_key() != named {
+        if !is_same_key(version.next_key(), named) {
             return Err(ViewRefusal::Plain(Refusal::WrongKey));
         }
         if let Some(principal) = wrong_handle(version, &prepared) {
@@ -183,6 +183,13 @@ pub(crate) fn within(refusal: Refusal) -> ViewRefusal
         Refusal::NoMemory => ViewRefusal::Plain(refusal),
         _ => ViewRefusal::Change(refusal),
     }
+}
+
+/// Whether both are none, or the same key.
+fn is_same_key(one: Option<[u8; KEY_LENGTH]>, other: Option<[u8; KEY_LENGTH]>) -> bool
+    ensures { IsTrue result ↔ (one ≡ other) }
+{
+    one == other
 }
 
 /// Finds the first i-handle of a version structure that isn't the one after the change.

@@ -137,7 +137,10 @@ fn is_held(alloc: Global, keeping: &Keeping, commit: &Commit) -> Result<bool, Re
     let place = place_of(keeping.desk.roster(), commit.version().vector());
     let bytes = commit.encode(alloc)?;
     let records = keeping.records.as_slice();
-    Ok(has_at(records, place, bytes.as_slice()) || has_bytes(records, bytes.as_slice()))
+    if has_at(records, place, bytes.as_slice()) {
+        return Ok(true);
+    }
+    Ok(has_bytes(records, bytes.as_slice()))
 }
 
 /// Whether the record at that place has these bytes.

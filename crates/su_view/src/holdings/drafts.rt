@@ -83,7 +83,12 @@ impl Holding {
             → digest ≡ change_digest change → version ≡ next_version self.now change) }
         ensures refused { IfErr result (λ e. e ≡ NoMemory) }
     {
-        let vector = vector_of(self.alloc, draft.prepared.versions.as_slice())?;
+        let Draft {
+            prepared,
+            item: _item,
+            next_key,
+        } = draft;
+        let vector = vector_of(self.alloc, prepared.versions.as_slice())?;
         let head = self.keeping.end.head();
         // their clauses tell the prover what is in range (docs/ARCHITECTURE.md, "Forms the kit
         // wants")
@@ -91,17 +96,17 @@ impl Holding {
         let _count = self.keeping.desk.roster().principal_count();
         has_digest_length(&head);
         has_digest_length(&digest);
-        has_digest_length(&draft.prepared.author_handle);
-        are_carried(draft.prepared.groups.as_slice());
+        has_digest_length(&prepared.author_handle);
+        are_carried(prepared.groups.as_slice());
         Ok(VersionStructure::new(
             NEWEST_FORMAT,
             self.keeping.user,
             head,
             digest,
-            draft.prepared.author_handle,
-            draft.prepared.groups,
+            prepared.author_handle,
+            prepared.groups,
             vector,
-            draft.next_key,
+            next_key,
         ))
     }
 }

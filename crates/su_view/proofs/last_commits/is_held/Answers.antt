@@ -1,13 +1,21 @@
-use Rattle.std.proofs.Common.{◌<◌, length, refl, ◌∙◌, arith}
-use Rattle.std.proofs.lemmas.Option.{slice_get_read}
-use Rattle.su_view.proofs.ShownLemmas.{held_so}
+use Rattle.std.proofs.Common.{◌≡◌, true, nat_eq, refl, sym, ap, ◌∙◌, subst}
+use Rattle.std.specs.List.{list_any}
+use Rattle.std.specs.Cmp.Lexicographic.{pointwise}
+use Rattle.su_view.specs.declared.records.Record.{Record}
+use Rattle.su_view.proofs.ShownLemmas.{any_held, held_any}
 use Rattle.su_view.proofs.last_commits.is_held.Goals as goal
+
+pub returns-then-has_at-clause-held : goal.returns-then-has_at-clause-held
+returns-then-has_at-clause-held c = (
+  λ _. any_held c.args.keeping.now c.requires c.args.commit.now c.version.ensures.commit c.as_slice.result.now (c.as_slice.ensures.value ∙ c.in_ok-bytes.ensures.value)
+      (subst (λ rs. list_any (λ (r : Record). pointwise nat_eq r.bytes.items c.as_slice.result.now) rs ≡ true) c.as_slice-records.ensures.value (c.has_at.ensures c.if-has_at.true)),
+  λ _. refl,
+)
 
 pub returns-clause-held : goal.returns-clause-held
 returns-clause-held c =
-    let k = c.args.keeping.now in
-    let within : c.place_of-place.result < length k.records.items = grind (arith, c.if-len-place.false) in
-    held_so k c.requires c.place_of-place.result c.index.result.now
-    (slice_get_read k.records.items (length k.records.items) c.place_of-place.result c.index.result.now refl within c.index.ensures)
-    c.args.commit.now c.version.ensures.commit
-    c.as_slice.result.now c.as_slice-2.result.now (c.as_slice.ensures.value ∙ c.in_ok-bytes.ensures.value) c.as_slice-2.ensures.value c.eq.result c.eq.ensures
+    let spelled = c.as_slice-2.ensures.value ∙ c.in_ok-bytes.ensures.value in
+    let some = c.has_bytes.ensures ∙ ap (λ rs. list_any (λ (r : Record). pointwise nat_eq r.bytes.items c.as_slice-2.result.now) rs) c.as_slice-records.ensures.value in (
+      λ yes. any_held c.args.keeping.now c.requires c.args.commit.now c.version.ensures.commit c.as_slice-2.result.now spelled (sym some ∙ yes),
+      λ held. some ∙ held_any c.args.keeping.now c.requires c.args.commit.now c.version.ensures.commit c.as_slice-2.result.now spelled held,
+    )

@@ -3,14 +3,13 @@ use Rattle.std.specs.Prelude.{OnOk, IfErr}
 use Rattle.su_bytes.specs.Order.{Passes, RefusedBy}
 use Rattle.su_bytes.specs.declared.refusals.Refusal.TheVariants.{NoMemory}
 use Rattle.su_view.specs.Holding.{HoldingState}
-use Rattle.su_view.specs.LastCommits.{own_last, shown_order}
+use Rattle.su_view.specs.LastCommits.{shown_order}
 use Rattle.su_view.specs.declared.refusals.ViewRefusal.TheVariants.{Plain}
 use Rattle.su_view.proofs.holdings.Holding.check_list.Goals as goal
 
 pub returns-clause-passes : goal.returns-clause-passes
-returns-clause-passes c =
-    subst (λ (v : HoldingState). OnOk c.check_list.result (Passes (shown_order v.roster v.user (own_last v) c.args.shown.now))) c.self.view_is c.check_list.ensures.passes
+returns-clause-passes c = subst (λ (v : HoldingState). OnOk c.check_list.result (Passes (shown_order v c.args.shown.now))) c.self.view_is c.check_list.ensures.passes
 
 pub returns-clause-refused : goal.returns-clause-refused
 returns-clause-refused c =
-    subst (λ (v : HoldingState). IfErr c.check_list.result (λ e. (e ≡ Plain NoMemory) ⊎ RefusedBy (shown_order v.roster v.user (own_last v) c.args.shown.now) e)) c.self.view_is c.check_list.ensures.refused
+    subst (λ (v : HoldingState). IfErr c.check_list.result (λ e. (e ≡ Plain NoMemory) ⊎ RefusedBy (shown_order v c.args.shown.now) e)) c.self.view_is c.check_list.ensures.refused

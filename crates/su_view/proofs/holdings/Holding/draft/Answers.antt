@@ -30,7 +30,7 @@ returns-in-Err-prepare-clause-refused c =
 
 pub returns-clause-drafted : goal.returns-clause-drafted
 returns-clause-drafted c =
-    let d : Draft = record { prepared = c.in-Ok-prepare.prepared; item = c.in-Ok.item } in
+    let d : Draft = record { prepared = c.in-Ok-prepare.prepared; item = c.in-Ok.item; next_key = c.named_key-next_key.result } in
     subst (λ v. IsDraft v c.args.change d) c.self.view_is
     (drafted_so c.self.inside.keeping c.self.invariant c.args.change c.in-Ok-prepare.prepared c.in-Ok.item.items d refl refl c.in-Ok-prepare.ensures.accepted c.in-Ok-prepare.ensures.told
-    c.in-Ok.ensures.value.0 c.in-Ok.ensures.value.1 c.in-Ok.ensures.value.2 c.in-Ok.ensures.size.0 c.in-Ok.ensures.size.1)
+    c.in-Ok.ensures.value.0 c.in-Ok.ensures.value.1 c.in-Ok.ensures.value.2 c.in-Ok.ensures.size.0 c.in-Ok.ensures.size.1 c.named_key-next_key.ensures)
