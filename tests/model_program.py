@@ -111,13 +111,12 @@ class KeptKey:
             fcntl.flock(self.lock, fcntl.LOCK_EX | fcntl.LOCK_NB)
         except OSError:
             raise Fault(f"{path}: another process uses the key") from None
-        kinds = [int.from_bytes(data[at:at + 4], "big") for at in (4, 8, 60)]
-        if len(data) != 64 or data[:4] != b"SK01" or kinds[0] not in (5, 6) or kinds[1] not in (3, 4):
-            raise Fault(f"{path} is no key file: 9 BadKey")
-        self.next = self.stored = kinds[2]
-        self.key = lms.Key(data[12:60], lms.HEIGHTS[kinds[0]], lms.OTS[kinds[1]][0])
-        if self.next > self.key.leaves:
-            raise Fault(f"{path} is no key file: 9 BadKey")
+        try:
+            self.key, self.next = client_model.key_in(data)
+        except Refused:
+            self.close()
+            raise Fault(f"{path} is no key file: 9 BadKey") from None
+        self.stored = self.next
 
     def store(self, leaf):
         if leaf > self.stored:

@@ -1219,7 +1219,7 @@ def lies(at):
         "more_than_there_are": (show(records, 6, count=9), whole),
         "fewer_than_there_are": (show(records, count=4, last={0: 2, 1: 4}), [b"a U0:2", b"b U1:2", b"41"]),
         "own_last_left_out": (show(records, 6, last={1: 6}), missing),
-        "no_last_to_who_has_none": (show(records, last={}), whole[:2] + missing[:1]),
+        "no_last_to_who_has_none": (show(records, last={}), missing),
         "an_older_last": (show(records, 6, last={0: 2, 1: 6}), missing),
         "the_last_of_another": (show(records, 6, last={0: 6, 1: 5}), whole),
         "a_last_that_is_not_there": (show(records, 6, last={0: 99, 1: 6}), missing),
@@ -1246,10 +1246,11 @@ def lying_vectors(room, show):
     with_two.say("1 take G0:1 1")
     unordered = [b"no 11 NotOrdered 0 1"] * 2
     return {
-        "vectors_of_two_lists": (show([*of_zero, of_one[3]], last={0: 5, 1: 6}), unordered),
+        "vectors_of_two_lists": (show([*of_zero, of_one[3]], count=5, last={0: 5, 1: 6}), unordered),
+        "records_of_two_lists": (show([*of_zero, of_one[3]], last={0: 5, 1: 6}), [b"no 34 WrongPrev 5"] * 2),
         "vectors_that_rise": (show(of_one, last={0: 2, 1: 5}), [b"a U0:2", b"b G0:2", b""]),
         "vectors_that_fall": (show(of_zero, last={0: 5, 1: 3}), [b"a U0:2", b"b G0:2", b"42"]),
-        "a_vector_of_more_users": (show([*of_zero, with_two.records[0]], last={0: 5, 1: 6}), unordered),
+        "a_vector_of_more_users": (show([*of_zero, with_two.records[0]], count=5, last={0: 5, 1: 6}), unordered),
     }
 
 
@@ -1291,10 +1292,10 @@ def forks(room):
             said = client.say(line)
             yield f"forked_{line.decode()}: {said}", said == wanted
         service.are_exchanged = True
-        for client, line in ((zero, b"ls /\n"), (one, b"mkdir /d\n")):
+        for client, line, wanted in ((zero, b"ls /\n", b"no 34 WrongPrev 2"), (one, b"mkdir /d\n", b"no 40 OwnMissing")):
             client.write(line)
             said = client.printed.next()
-            yield f"forked_and_shown_the_other: {said}", said == b"no 40 OwnMissing"
+            yield f"forked_and_shown_the_other: {said}", said == wanted
 
 
 def lying_items(publics, records, told):
