@@ -25,7 +25,8 @@ where
     ensures moves { MovesOn P.may_connect member.old member.new }
 {
     let left = member.leaves_left();
-    if let Some(signer) = program.next_key(left, member.store()) {
+    let next = program.next_key(left, member.store());
+    if let Some(signer) = next {
         let _ = rekey(program, member, signer);
     }
 }
