@@ -1,7 +1,22 @@
+#!/usr/bin/env python3
 """A server that misbehaves, in each of the ways that a client has to notice: it shows other records than it has, or sends what is
 no reply. Each lie is a `Service` of model_server.py.
+
+usage: bad_server.py PORT PUBLIC..    serves users with these public keys on a port, and takes its orders from standard input:
+
+    list NAME      shows this list from now on, and stores there; a new one begins as the first list is then
+    roll_back N    leaves out the last N commits of that list
+    drop N         says that it has no commit N
+    swap M N       exchanges two commits
+    forge N        changes one bit of the signature of commit N
+    item N         gives other bytes for the change of commit N
+    mute           ends each session without an answer
+    honest         lies no more
+
+It prints `ready` once it listens, and `done` once an order is carried out.
 """
 import copy
+import sys
 import threading
 
 import audit_model
@@ -239,3 +254,74 @@ NO_REPLIES = {
     "users_that_descend": wire.frame(b"\x81" + bytes(8) + b"\2" + b"\1" + bytes(8) + b"\0" + bytes(8)),
     "another_reply": wire.frame(wire.put_done(bytes(32))),
 }
+
+
+# ---- a server that takes orders
+
+class Mute(Show):
+    """Ends each session at its first request."""
+
+    def answer(self, _, __):
+        raise Instead(b"")
+
+
+class ToldItem(Show):
+    """Gives other bytes for one item."""
+
+    def __init__(self, publics, records, number):
+        super().__init__(publics, records)
+        self.other = sha256(records[number - 1][1])
+
+    def get(self, seat, digest):
+        item = super().get(seat, digest)
+        return flipped(item, -1) if digest == self.other else item
+
+
+class Attacker:
+    """Has several lists, each with a service of its own, and shows one of them, or what it makes of that."""
+
+    def __init__(self, publics):
+        self.publics, self.lists = publics, {"first": model_server.Service(publics)}
+        self.true = self.shown = self.lists["first"]
+
+    def answer(self, seat, message):
+        return self.shown.answer(seat, message)
+
+    def put_back(self, seat):
+        self.shown.put_back(seat)
+
+    def records(self):
+        commits = self.true.book.records
+        return [(commit, self.true.items[audit_model.commit_in(commit)[0].change]) for commit in commits]
+
+    def obey(self, order, *words):
+        if order == "list":
+            self.true = self.lists.get(words[0]) or self.lists.setdefault(words[0], self.copy())
+        numbers = [int(word) for word in words if word.isdigit()]
+        self.shown = {
+            "list": lambda: self.true, "honest": lambda: self.true, "mute": lambda: Mute(self.publics, self.records()),
+            "item": lambda: ToldItem(self.publics, self.records(), *numbers),
+        }.get(order, lambda: Show(self.publics, globals()[order](self.records(), *numbers)))()
+
+    def copy(self):
+        """A list that is the first one, as it is now."""
+        other, first = model_server.Service(self.publics), self.lists["first"]
+        other.book, other.items = copy.deepcopy(first.book), dict(first.items)
+        return other
+
+
+def main():
+    publics = []
+    for path in sys.argv[2:]:
+        with open(path, "rb") as file:
+            publics.append(file.read())
+    attacker = Attacker(publics)
+    with Server(attacker, port=int(sys.argv[1])):
+        print("ready", flush=True)
+        for line in sys.stdin:
+            attacker.obey(*line.split())
+            print("done", flush=True)
+
+
+if __name__ == "__main__":
+    main()
