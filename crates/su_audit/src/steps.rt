@@ -90,6 +90,7 @@ fn take(
         bytes,
         item,
         commit,
+        key: _key,
         verdict,
     } = next;
     let digest = match items.put(alloc, item.as_slice()) {

@@ -28,7 +28,9 @@ use Rattle.su_client_work.specs.Publishing.{IsStored}
 use Rattle.su_client.specs.Following.{follows_itself, follows_on}
 use Rattle.su_view.specs.Holding.{HoldingState}
 use Rattle.su_client_work.specs.Member.{MemberState, OnlyTakes, Stays}
-use Rattle.su_client_work.specs.Turn.{Comes, HasMore, IsCaughtUp, SaysNothing, IsShown, AreShown, TakesTurn, GivesUp, GivesTurnUp, IsGrantedOver, IsUngranted, IsUngrantedOver, commit_or_nothing}
+use Rattle.su_bytes.specs.Order.{Passes}
+use Rattle.su_view.specs.LastCommits.{shown_order}
+use Rattle.su_client_work.specs.Turn.{Comes, HasMore, IsCaughtUp, PassesShown, SaysNothing, IsShown, AreShown, TakesTurn, GivesUp, GivesTurnUp, IsGrantedOver, IsUngranted, IsUngrantedOver, commit_or_nothing}
 use Rattle.su_client_work.proofs.Taking.{takes_then}
 
 -- ---- what stays, and what is only taken
@@ -211,6 +213,19 @@ is_stored change c bytes waiting waiting' a b d n none w spelled h =
       stored = subst (λ (l : LinkState). Exchanged (request.Commit (commit_bytes c)) l d (Stored n)) last
           (subst (λ (s : List ℕ). Exchanged (request.Commit s) h.between d (Stored n)) spelled h.stored);
     }
+
+-- ---- what passes
+
+-- what was shown passes by what is held in the end
+pub passes_shown : {R E : Type 0} (r : Result R E) (v : HoldingState) (last : List (ℕ × ℕ)) (shown : List Commit) (a m b : LinkState) → AreShown last [] a shown m → Follows m b
+    → OnOk r (Passes (shown_order v shown)) → OnOk r (PassesShown v last a b)
+passes_shown (Ok x) v last shown a m b are follows passes = record { shown = shown; checked = m; are_shown = are; passes = passes; follows = follows }
+passes_shown (Err e) v last shown a m b are follows passes = tt
+
+pub caught_so : {R E : Type 0} (r : Result R E) (count : ℕ) (v : HoldingState) (a b c : LinkState) → Follows a b → IsCaughtUp count v b c → OnOk r (IsCaughtUp count v a c)
+caught_so (Ok x) count v a b c p (inl all) = inl all
+caught_so (Ok x) count v a b c p (inr nothing) = inr (nothing_after a b c p nothing)
+caught_so (Err e) count v a b c p q = tt
 
 -- ---- a turn that is given up
 

@@ -117,6 +117,7 @@ pub(crate) fn take_commit<S: BlockSource + Drop>(
         bytes,
         item: _item,
         commit,
+        key: _key,
         verdict,
     } = next;
     match (commit, verdict) {

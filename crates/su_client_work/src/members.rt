@@ -45,6 +45,7 @@ pub struct Member<R: Read, W: Write, K: KeyStore> {
 }
 
 impl<R: Read, W: Write, K: KeyStore> Model for Member<R, W, K> {
+    ghost use Rattle.std.specs.Prelude.{length};
     ghost use Rattle.su_client_work.specs.Member.{MemberState};
 
     ghost Value = { MemberState };

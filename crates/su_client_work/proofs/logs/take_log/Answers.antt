@@ -31,14 +31,21 @@ loop-number-preserved g c =
       follows = g.met.S.BlockSource.follows_on c.args.view.now.source c.loop-number.view.source c.take_record.new.view.source c.loop-number.invariant.follows c.in_default.ensures.follows;
       front = λ log is.
           read_on g.S.BlockSource.follows g.S.BlockSource.puts c.args.view.now.holding c.args.view.now.source log c.loop-number.view.holding c.take_record.new.view.holding
-          c.loop-number.view.source c.take_record.new.view.source c.loop-number.number c.loop-number.log c.next.new.self c.in-Ok.next
-          c.loop-number.auto.number (c.loop-number.invariant.front log is) c.in-Ok.ensures.next took;
+          c.loop-number.view.source c.take_record.new.view.source c.loop-number.number c.loop-number.log c.next.new.self c.in-Ok-next.next
+          c.loop-number.auto.number (c.loop-number.invariant.front log is) c.in-Ok-next.ensures.next took;
     }
 
 pub returns-in-Err-clause-log : goal.returns-in-Err-clause-log
-returns-in-Err-clause-log g c = λ log is.
+returns-in-Err-clause-log g c = λ log is. (
+  0,
+  log,
+  none_taken g.S.BlockSource.follows g.S.BlockSource.puts c.args.view.now.holding c.args.view.now.source log (g.met.S.BlockSource.follows_itself c.args.view.now.source),
+)
+
+pub returns-in-Err-take_record-clause-log : goal.returns-in-Err-take_record-clause-log
+returns-in-Err-take_record-clause-log g c = λ log is.
     let f = c.loop-number.invariant.front log is in
-    let (others, begins, left) = c.in-Ok.ensures.next f.place f.rest f.left in (
+    let (others, begins, left) = c.in-Ok-next.ensures.next f.place f.rest f.left in (
       c.loop-number.number - 1,
       f.place,
       f.rest,
@@ -46,8 +53,8 @@ returns-in-Err-clause-log g c = λ log is.
       f.place_is,
       front_then g.S.BlockSource.follows g.S.BlockSource.puts c.args.view.now.holding c.args.view.now.source log g.met.S.BlockSource.follows_on
           c.loop-number.view.holding c.take_record.new.view.holding c.loop-number.view.source c.take_record.new.view.source (c.loop-number.number - 1) f.rest
-          f.front c.in-Err.ensures.err c.in-Err.ensures.follows,
-      inr (spelled c.in-Ok.next, others, begins),
+          f.front c.in-Err-take_record.ensures.err c.in-Err-take_record.ensures.follows,
+      inr (spelled c.in-Ok-next.next, others, begins),
     )
 
 pub returns-in-Err-End-clause-log : goal.returns-in-Err-End-clause-log

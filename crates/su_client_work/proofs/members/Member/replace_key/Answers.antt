@@ -1,6 +1,13 @@
-use Rattle.std.proofs.Common.{ap, length, length-append, ◌∙◌, [], ◌∷◌, refl}
+use Rattle.std.proofs.Common.{◌+◌, length, length-append, [], ◌∷◌, ap, ◌∙◌}
 use Rattle.su_client_work.specs.Member.{MemberState}
 use Rattle.su_client_work.proofs.members.Member.replace_key.Goals as goal
 
 pub returns : goal.returns
-returns g c = ?
+returns g c =
+    let keys = ap length c.replace.ensures.former ∙ length-append c.self.inside.key.former (_ ∷ []) ∙ ap (λ (x : MemberState). x.next.keys + 1) c.self.view_is in
+    record {
+      holding = ap (λ (x : MemberState). x.holding) c.self.view_is;
+      link = ap (λ (x : MemberState). x.link) c.self.view_is;
+      signed = c.replace.ensures.signed ∙ ap (λ (x : MemberState). x.signed) c.self.view_is;
+      next = λ i. record { keys = keys i; leaf = c.replace.ensures.next i };
+    }
