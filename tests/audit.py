@@ -529,6 +529,9 @@ def rekeys(room):
     publics, third, unknown = it.publics, it.third.public(), bytes(56)
     yield "lengths_of_version_structures", [len(logs.Version(0, *[bytes(32)] * 3, [], [0] * 80, form, key).encode())
                                             for form, key in ((1, None), (2, None), (3, None), (3, third))] == [743, 743, 744, 800]
+    signature = logs.key_of(0, 5, 8).sign(0, b"")
+    yield "lengths_of_commits_of_two_users", [len(logs.commit_of(logs.Version(0, *[bytes(32)] * 3, [], [0] * 4, form, key), signature))
+                                              for form, key in ((1, None), (2, None), (3, None), (3, third))] == [1431, 1431, 1432, 1488]
     yield "two_with_a_rekey", is_so(room, publics, it.maker.log(), 2)
     named = dict(change=("rekey", third))
     for name, log, wanted in (
