@@ -46,6 +46,10 @@ used_then p q r m n first second =
 used_other : (q r : NextLeaf) (leaf : ℕ) → r ≡ record { keys = q.keys + 1; leaf = leaf } → LeavesUsed q 0 r
 used_other q r leaf is = subst (LeavesUsed q 0) (sym is) (record { keys = omega arith; leaves = λ one. absurd (omega (arith, one)) })
 
+-- another key came before
+pub one_key_more : (keys : List (List ℕ)) (key : List ℕ) (more : List (List ℕ)) → more ≡ keys ++ key ∷ [] → (n : ℕ) → length keys ≡ n → length more ≡ n + 1
+one_key_more keys key more is n count = ap length is ∙ length-append keys (key ∷ []) ∙ ap (λ m. m + 1) count
+
 -- ---- acts
 
 -- nothing was signed or taken

@@ -1,4 +1,4 @@
-use Rattle.std.proofs.Common.{ap, sym, subst, List}
+use Rattle.std.proofs.Common.{ap}
 use Rattle.su_client.specs.Following.{follows_on}
 use Rattle.su_client.proofs.Public.{ahead_follows}
 use Rattle.su_client_work.proofs.Turns.{handed_after}

@@ -1,4 +1,4 @@
-use Rattle.std.proofs.Common.{sym, subst}
+use Rattle.std.proofs.Common.{sym}
 use Rattle.su_client.proofs.Public.{ahead_itself, ahead_on}
 use Rattle.su_client_work.proofs.changes.send_all.Goals as goal
 

@@ -1,10 +1,11 @@
-use Rattle.std.proofs.Common.{◌+◌, length, length-append, [], ◌∷◌, ap, ◌∙◌}
+use Rattle.std.proofs.Common.{ap, ◌∙◌}
 use Rattle.su_client_work.specs.Member.{MemberState}
+use Rattle.su_client_work.proofs.Working.{one_key_more}
 use Rattle.su_client_work.proofs.members.Member.replace_key.Goals as goal
 
 pub returns : goal.returns
 returns g c =
-    let keys = ap length c.replace.ensures.former ∙ length-append c.self.inside.key.former (_ ∷ []) ∙ ap (λ (x : MemberState). x.next.keys + 1) c.self.view_is in
+    let keys = one_key_more _ _ _ c.replace.ensures.former _ (ap (λ (x : MemberState). x.next.keys) c.self.view_is) in
     record {
       holding = ap (λ (x : MemberState). x.holding) c.self.view_is;
       link = ap (λ (x : MemberState). x.link) c.self.view_is;

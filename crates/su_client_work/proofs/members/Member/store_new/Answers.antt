@@ -1,5 +1,4 @@
-use Rattle.std.proofs.Common.{◌≡◌, ◌∙◌, length, sym, ap, subst, inr, ℕ, List}
-use Rattle.std.specs.Global.{Vec}
+use Rattle.std.proofs.Common.{◌≡◌, length, sym, ap, subst, inr}
 use Rattle.su_client.specs.Link.{LinkState, Follows}
 use Rattle.su_client.specs.Following.{follows_on}
 use Rattle.su_client.specs.Outbox.{contents, IsHandedIn, WaitsToo}

@@ -1,8 +1,8 @@
-use Rattle.std.proofs.Common.{◌∙◌, ap, subst, inr, ℕ, List, Option}
+use Rattle.std.proofs.Common.{◌∙◌, ap, subst, inr, Option}
 use Rattle.su_client.specs.Link.{LinkState, Follows}
 use Rattle.su_client_work.specs.Turn.{SaysNothing}
 use Rattle.std.specs.Prelude.{IfNone}
-use Rattle.su_client.specs.Following.{follows_itself, follows_on}
+use Rattle.su_client.specs.Following.{follows_on}
 use Rattle.su_view.specs.Acting.{TakesSome}
 use Rattle.su_view.specs.Holding.{HoldingState}
 use Rattle.su_client_work.specs.Member.{MemberState}

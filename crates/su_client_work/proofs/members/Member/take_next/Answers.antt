@@ -1,4 +1,4 @@
-use Rattle.std.proofs.Common.{◌∙◌, ap, sym, subst}
+use Rattle.std.proofs.Common.{◌∙◌, subst}
 use Rattle.su_client.specs.Following.{follows_on}
 use Rattle.su_view.specs.Holding.{HoldingState}
 use Rattle.su_view.specs.Acting.{TakesSome}
