@@ -1234,6 +1234,7 @@ def lies(at):
     yield from lying_replies(publics, records, told)
     yield f"who_is_lied_to_keeps_no_turn: {turns_kept}", turns_kept == []
     yield from forks(room)
+    yield from steps(at)
 
 
 def lying_vectors(room, show):
@@ -1296,6 +1297,53 @@ def forks(room):
             client.write(line)
             said = client.printed.next()
             yield f"forked_and_shown_the_other: {said}", said == wanted
+
+
+def steps(at):
+    """Two clients that hold a fork of one list, one lie after another, and the truth behind each: what they hold is as before."""
+    os.mkdir(f"{at}/steps")
+    room = Room(f"{at}/steps", users=3)
+    begun = room.log("0 create G0:1 a U0:2")
+    ours, theirs = begun.copy(), begun.copy()
+    ours.say("2 take G0:1 1")
+    theirs.say("2 take G0:1 2")
+    mine = ours.copy()
+    mine.say("0 write U0:2 0 41")
+    theirs.say("1 take G0:1 1")
+
+    def lied_to(name, user, held, lies):
+        """What a client of the user prints while it holds these records and is told these lies, each before the truth."""
+        attacker = bad_server.Attacker(room.public_keys)
+        key, log = room.file(room.keys[user].file(9)), room.file(logs.log_bytes(held))
+        attacker.shown = bad_server.Show(room.public_keys, held)
+        with bad_server.Server(attacker) as server, room.client(server.port, user, "--log", log, key=key) as client:
+            before = client.say(b"ls /")
+            for lie, (service, wanted) in lies.items():
+                attacker.shown = service
+                client.write(b"ls /\n")
+                said = client.printed.next()
+                attacker.shown = bad_server.Show(room.public_keys, held)
+                again = client.say(b"ls /")
+                yield f"{name}_{lie}: {said} {again}", (said, again) == (wanted, before) and before == [b"a U0:2"]
+
+    def show(records):
+        return bad_server.Show(room.public_keys, records)
+
+    longer, held = mine.records, ours.records
+    yield from lied_to("who_holds_two", 0, held, {
+        "is_shown_the_third_of_a_fork": (show([*held, theirs.records[2]]), b"no 34 WrongPrev 2"),
+        "is_shown_the_fork": (show(bad_server.fork(longer, 2, theirs.records)), b"no 34 WrongPrev 2"),
+        "is_shown_the_second_again": (show([*held, held[1]]), b"no 34 WrongPrev 2"),
+        "is_shown_a_forged_third": (show(bad_server.forge(longer, 3)), b"no 33 BadSignature"),
+        "is_given_another_item": (bad_server.ToldItem(room.public_keys, longer, 3), b"no 6 WrongBlock"),
+        "is_set_back": (show([]), b"no 40 OwnMissing")})
+    yield from lied_to("who_holds_three", 1, theirs.records, {
+        "is_shown_the_third_of_a_fork": (show([*theirs.records, longer[2]]), b"no 34 WrongPrev 3"),
+        "is_set_back": (show(bad_server.roll_back(theirs.records, 2)), b"no 40 OwnMissing")})
+    yield from lied_to("who_holds_one", 0, begun.records, {
+        "is_shown_two_exchanged": (show(bad_server.swap(longer, 2, 3)), b"no 34 WrongPrev 1"),
+        "is_shown_none_and_the_third": (show(bad_server.drop(longer, 2)), b"no 34 WrongPrev 1"),
+        "is_shown_a_forged_second": (show(bad_server.forge(longer, 2)), b"no 33 BadSignature")})
 
 
 def lying_items(publics, records, told):
