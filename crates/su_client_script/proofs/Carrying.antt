@@ -39,7 +39,7 @@ saved_so saves before after f file l log same_file same_log is = (before, after,
 -- ---- questions
 
 pub asks_so : {A : Type 0} (r : Result A ViewRefusal) (M : LinkState → Type 0) (s t : MemberState) (old new : Option (List ℕ)) (Answers : List ℕ → Type 0) (shown : A → List ℕ) (Holds : A → Type 0)
-    → OnlyTakes s t → OnOk r (Looks M s.holding s.link t.holding t.link) → IfOk r Holds → ((x : A) → Holds x → Answers (shown x))
+    → OnlyTakes s t → OnOk r (Looks M s.link t.holding t.link) → IfOk r Holds → ((x : A) → Holds x → Answers (shown x))
     → MatchResult r (λ x. Appends old new (shown x)) (λ e. Appends old new (refusal_shown e)) → Prints old new (λ text. Tells M (Answers text) s t text)
 asks_so (Ok x) M s t old new Answers shown Holds takes looks holds so printed = (shown x, record { takes = takes; answers = inr (looks, so x holds) }, printed)
 asks_so (Err e) M s t old new Answers shown Holds takes looks holds so printed = (refusal_shown e, record { takes = takes; answers = inl (e, refl) }, printed)

@@ -2,7 +2,7 @@
 use Rattle.std.specs.Prelude.{ℕ, List}
 
 -- the log is saved as a file of that name; the file of that name has a key with this public key
-pub record FileCalls : Type 0 where
+pub record FileCalls : Type 1 where
   pub saves : List ℕ → List ℕ → Type 0
   pub opens : List ℕ → List ℕ → Type 0
 

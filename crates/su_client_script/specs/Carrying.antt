@@ -92,7 +92,7 @@ pub record CarriesPlan (MayConnect : LinkState → Type 0) (it : Command)
   pub turn : MemberState
   pub operations : List Op
   pub takes : OnlyTakes s turn
-  pub takes_turn : TakesTurn MayConnect s.holding s.link turn.holding turn.link
+  pub takes_turn : TakesTurn MayConnect s.link turn.holding turn.link
   pub planned : let v = turn.holding in
       plan v.roster (tree_of_list v) v.user it ≡ Ok operations
   pub committed : Committed operations turn t
@@ -116,7 +116,7 @@ CarriesSomeChange MayConnect it s t =
 pub record Tells (MayConnect : LinkState → Type 0) (Answers : Type 0) (s t : MemberState)
     (text : List ℕ) : Type 0 where
   pub takes : OnlyTakes s t
-  pub answers : IsRefusal text ⊎ (Looks MayConnect s.holding s.link t.holding t.link × Answers)
+  pub answers : IsRefusal text ⊎ (Looks MayConnect s.link t.holding t.link × Answers)
 
 -- The client commits a change, before which it may go on to another key, and prints the number.
 abbrev pub CarriesUndo : (LinkState → Type 0) → (HoldingState → Change) → MemberState

@@ -4,8 +4,9 @@ use crate::clients::{key, roster};
 use std::alloc::Global;
 use std::process::Abort;
 use std::test::Fail;
-use su_book::{Book, BookReply, Event, Keys, Offer};
-use su_bytes::{Refusal, Roster};
+use su_book::{Book, BookReply, Event, Offer};
+use su_bytes::{FileId, Refusal, Roster};
+use su_lms::PublicKey;
 
 // The roster of three users, of whom the users 1 and 2 have each other's keys.
 fn exchanged(alloc: Global) -> Result<Roster, Refusal> {
@@ -21,9 +22,17 @@ fn stored(
     bytes: &[u8],
     examined: &Roster,
 ) -> Result<BookReply, Refusal> {
+    // names the type for the prover (docs/ARCHITECTURE.md, "Forms the kit wants")
+    let _file: Option<FileId> = None;
     let _ = book.step(0, &mut Event::Grant)?;
     let mut offer = Offer::new(Vec::from_slice(alloc, bytes)?);
-    offer.examine(alloc, &Keys::of(alloc, examined)?);
+    if let Some(author) = offer.read(alloc) {
+        let key = match examined.key(author) {
+            Some(bytes) => PublicKey::parse(bytes).ok(),
+            None => None,
+        };
+        offer.examine(alloc, key);
+    }
     book.step(0, &mut Event::Commit(offer))
 }
 
