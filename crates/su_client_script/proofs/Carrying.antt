@@ -13,7 +13,7 @@ use Rattle.su_client_lines.specs.Said as said
 use Rattle.su_client_lines.specs.declared.commands.ClientCommand.{ClientCommand}
 use Rattle.su_client_lines.specs.declared.commands.ClientCommand.TheVariants as command
 use Rattle.su_client_script.specs.Carrying.{Tells, Carries, CarriesChange, CarriesSome, CarriesSomeChange, CommitsSome, CommitsUntil}
-use Rattle.su_client_script.specs.Calls.{FileCalls, IsDone}
+use Rattle.su_client_script.specs.Calls.{FileCalls, IsSaved}
 use Rattle.su_client_script.specs.Lines.{Prints, SaidIsDone}
 use Rattle.su_client_script.specs.Text.{refusal_shown}
 
@@ -33,7 +33,7 @@ on_err (Err e) X holds = holds
 pub prints_so : (old new : Option (List ℕ)) (D E : List ℕ → Type 0) → ((text : List ℕ) → D text → E text) → Prints old new D → Prints old new E
 prints_so old new D E so (text, done, printed) = (text, so text done, printed)
 
-pub saved_so : {P : Type 0} (saves : P → List ℕ → List ℕ → P → Type 0) (before after : P) (f file l log : List ℕ) → f ≡ file → l ≡ log → saves before f l after → IsDone saves file log
+pub saved_so : {P : Type 0} (saves : P → List ℕ → List ℕ → P → Type 0) (before after : P) (f file l log : List ℕ) → f ≡ file → l ≡ log → saves before f l after → IsSaved saves file log
 saved_so saves before after f file l log same_file same_log is = (before, after, subst (λ x. saves before x log after) same_file (subst (λ x. saves before f x after) same_log is))
 
 -- ---- questions

@@ -14,7 +14,7 @@ use su_lms::{KeyStore, Signer};
 use su_op::Change;
 use su_view::ViewRefusal;
 
-/// Goes on to the next key, where the program brings one. What came of it the program is told.
+/// Goes on to the next key, where the program names a file of one. What came of it the program is told.
 pub(crate) fn move_on<P, R, W, K>(program: &mut P, member: &mut Member<R, W, K>)
 where
     P: Program<R, W, K>,
@@ -26,16 +26,23 @@ where
 {
     let left = member.leaves_left();
     let next = program.next_key(left, member.store());
-    if let Some(signer) = next {
-        let _ = rekey(program, member, signer);
+    if let Some(file) = next {
+        let file = file.as_slice();
+        match program.open_key(program.host(), file) {
+            Ok(signer) => {
+                let _ = rekey(program, member, file, signer);
+            }
+            Err(refusal) => program.tell_rekey(file, &Err(ViewRefusal::Plain(refusal))),
+        }
     }
 }
 
 /// Commits a rekey to the key of this signer, which signs from then on, and tells the program what
-/// came of it. The refusals are those of `Member::rekey`.
+/// came of it for the file of that name. The refusals are those of `Member::rekey`.
 pub(crate) fn rekey<P, R, W, K>(
     program: &mut P,
     member: &mut Member<R, W, K>,
+    file: &[u8],
     signer: Signer<K>,
 ) -> Result<u64, ViewRefusal>
 where
@@ -48,7 +55,7 @@ where
         result }
 {
     let rekeyed = member.rekey(program, signer);
-    program.tell_rekey(&rekeyed);
+    program.tell_rekey(file, &rekeyed);
     rekeyed
 }
 

@@ -364,9 +364,9 @@ where
     ensures some { OnErr result
         (CarriesSome P.may_connect (command_.Rekey file) member.old member.new) }
 {
-    match program.open_key(file.as_slice()) {
+    match program.open_key(program.host(), file.as_slice()) {
         Ok(signer) => {
-            let rekeyed = rekey(program, member, signer);
+            let rekeyed = rekey(program, member, file.as_slice(), signer);
             tell_number(alloc, output, rekeyed, false)
         }
         Err(refusal) => tell_refusal(alloc, output, ViewRefusal::Plain(refusal), false),

@@ -13,7 +13,7 @@ use su_client::{Client, Outbox};
 use su_client_script::{Cause, Ending, Program, run_client};
 use su_client_work::{Member, Surroundings, take_log};
 use su_lms::{NoStore, Params, Signer};
-use su_view::View;
+use su_view::{View, ViewRefusal};
 
 /// How often a client asks for the turn.
 const TRIES: u32 = 1_000;
@@ -92,22 +92,26 @@ where
 {
     ghost saves = { λ _ _ log after. after.saved.items ≡ log };
     // No file has a key here.
-    ghost opens = { λ _ _ _ _. ⊥ };
+    ghost opens = { λ _ _ _. ⊥ };
 
     fn save(&mut self, _file: &[u8], log: &[u8]) -> io::Result<()> {
         self.saved = Vec::from_slice(self.alloc, log)?;
         Ok(())
     }
 
-    fn open_key(&mut self, _file: &[u8]) -> Result<Signer<NoStore>, Refusal> {
+    fn open_key<T: Threads + Sync>(
+        &self,
+        _host: &T,
+        _file: &[u8],
+    ) -> Result<Signer<NoStore>, Refusal> {
         Err(Refusal::KeyFileFault)
     }
 
-    fn next_key(&mut self, _left: u32, _store: &NoStore) -> Option<Signer<NoStore>> {
+    fn next_key(&mut self, _left: u32, _store: &NoStore) -> Option<Vec<u8>> {
         None
     }
 
-    fn tell_rekey(&mut self, _rekeyed: &Result<u64, ViewRefusal>) {}
+    fn tell_rekey(&mut self, _file: &[u8], _rekeyed: &Result<u64, ViewRefusal>) {}
 
     fn explain(&mut self, _cause: &Cause) {}
 }

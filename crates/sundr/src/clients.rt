@@ -1,7 +1,6 @@
 // A client at work on a script.
 ghost use Rattle.std.specs.Prelude.{◌≡◌, ℕ, List, Some, true, length};
 ghost use Rattle.su_arguments.specs.Ranges.{IsUserCount};
-ghost use Rattle.su_client_work.specs.Work.{Works};
 ghost use Rattle.sundr.specs.Run.{AddsUnlessFault};
 
 use crate::client_faults::ClientFault;
@@ -198,7 +197,6 @@ fn take_present_key<'a, T>(
 ) -> Result<(), ClientFault>
 where
     T: Net<Listener = TcpListener, Stream = TcpStream> + Threads + Sync,
-    ensures { Works member.old member.new }
 {
     if args.next_key.is_none() || member.look(program).is_err() {
         return Ok(());

@@ -1,4 +1,7 @@
 // The key files of a client: that of the key with which it signs, and those of the next ones.
+ghost use Rattle.std.specs.Prelude.{IfErr};
+ghost use Rattle.sundr.specs.Key.{IsOfKeyFile};
+
 use crate::client_faults::ClientFault;
 use crate::faults::tell_fault;
 use std::alloc::{AllocError, Global};
@@ -69,11 +72,9 @@ fn id_of(key: &PublicKey) -> [u8; 16] {
 
 /// Returns that the key of the command line is no longer the user's, which that one is now.
 fn old_key(alloc: Global, args: &ClientArgs, present: &PublicKey) -> ClientFault {
-    let parts = (
-        String::from_str(alloc, args.key.as_str()),
-        hex::encode(alloc, present.as_bytes()),
-    );
-    match parts {
+    let path: Result<_, _> = String::from_str(alloc, args.key.as_str());
+    let digits: Result<_, _> = hex::encode(alloc, present.as_bytes());
+    match (path, digits) {
         (Ok(path), Ok(present)) => ClientFault::OldKey {
             path,
             user: args.user,
@@ -90,11 +91,10 @@ pub(crate) struct KeyFiles<'a> {
     rt: &'a HostRuntime,
     leaves_ahead: u32,
     prefix: Option<&'a str>,
-    /// The file that was opened last, whose key the client is to go on to.
-    opened: Option<String>,
     /// The file of a key that was made, and that the client hasn't gone on to.
     made: Option<String>,
-    /// Whether it was told that few leaves are left, or that no next key can be made.
+    /// Whether no next key is to be made any more: it was told that few leaves are left, or that no
+    /// next key can be made or opened.
     has_told: bool,
 }
 
@@ -105,7 +105,6 @@ impl<'a> KeyFiles<'a> {
             rt,
             leaves_ahead: args.leaves_ahead,
             prefix: args.next_key.as_ref().map(|prefix| prefix.as_str()),
-            opened: None,
             made: None,
             has_told: false,
         }
@@ -113,23 +112,15 @@ impl<'a> KeyFiles<'a> {
 
     /// Opens the key file of that name, and tells on standard error why it can't be used.
     pub(crate) fn open<T: Threads + Sync>(
-        &mut self,
+        &self,
         host: &T,
         file: &[u8],
-    ) -> Result<Signer<KeptKey<'a>>, Refusal> {
+    ) -> Result<Signer<KeptKey<'a>>, Refusal>
+        ensures { IfErr result IsOfKeyFile }
+    {
         let Ok(path) = str::from_utf8(file) else {
             return Err(Refusal::KeyFileFault);
         };
-        self.opened = Some(String::from_str(self.rt.alloc(), path)?);
-        self.open_file(host, path)
-    }
-
-    /// Opens the key file at a path, and tells on standard error why it can't be used.
-    fn open_file<T: Threads + Sync>(
-        &self,
-        host: &T,
-        path: &str,
-    ) -> Result<Signer<KeptKey<'a>>, Refusal> {
         match KeptKey::open(self.rt, path, self.leaves_ahead) {
             Ok(kept) => signer_of(host, self.rt.alloc(), kept),
             Err(fault) => {
@@ -140,15 +131,10 @@ impl<'a> KeyFiles<'a> {
         }
     }
 
-    /// Brings the signer of the next key, where few leaves of the present one are left, and next keys
-    /// are made: of one of the same kind as the present one. Tells how many leaves are left where none
-    /// are made.
-    pub(crate) fn next<T: Threads + Sync>(
-        &mut self,
-        host: &T,
-        left: u32,
-        params: Params,
-    ) -> Option<Signer<KeptKey<'a>>> {
+    /// Names the file of the next key, where few leaves of the present one are left, and next keys are
+    /// made: of one of the same kind as the present one. Tells how many leaves are left where none are
+    /// made.
+    pub(crate) fn next(&mut self, left: u32, params: Params) -> Option<Vec<u8>> {
         if left == 0 || params.last_few() < left || self.has_told {
             return None;
         }
@@ -156,14 +142,7 @@ impl<'a> KeyFiles<'a> {
             self.tell_left(left);
             return None;
         };
-        let path = self.made_path(prefix, params)?;
-        match self.open(host, path.as_str().as_bytes()) {
-            Ok(signer) => Some(signer),
-            Err(_) => {
-                self.has_told = true;
-                None
-            }
-        }
+        Some(self.made_path(prefix, params)?.into_bytes())
     }
 
     /// Tells how many leaves are left, once.
@@ -179,11 +158,13 @@ impl<'a> KeyFiles<'a> {
     fn made_path(&mut self, prefix: &str, params: Params) -> Option<String> {
         let alloc = self.rt.alloc();
         if let Some(path) = &self.made {
-            return String::from_str(alloc, path.as_str()).ok();
+            let path: Result<_, _> = String::from_str(alloc, path.as_str());
+            return path.ok();
         }
         match make_next_key(self.rt, prefix, params) {
             Ok(path) => {
-                self.made = String::from_str(alloc, path.as_str()).ok();
+                let kept: Result<_, _> = String::from_str(alloc, path.as_str());
+                self.made = kept.ok();
                 Some(path)
             }
             Err(fault) => {
@@ -194,24 +175,37 @@ impl<'a> KeyFiles<'a> {
         }
     }
 
-    /// Tells what came of going on to the key that was opened last.
-    pub(crate) fn tell(&mut self, rekeyed: &Result<u64, ViewRefusal>) {
-        let Some(path) = self.opened.take() else {
-            return;
-        };
-        let path = path.as_str();
+    /// Tells what came of going on to the key in the file of that name. Where the file can't be used,
+    /// no next key is made any more.
+    pub(crate) fn tell(&mut self, file: &[u8], rekeyed: &Result<u64, ViewRefusal>) {
+        let path = str::from_utf8(file).unwrap_or("?");
         let _ = match rekeyed {
             Ok(number) => {
                 self.made = None;
                 eprintln!(self.rt; "sundr: commit {number}: from now on the key is {path}")
             }
-            Err(refusal) => eprintln!(self.rt; "sundr: going on to the key {path}: {refusal}"),
+            Err(refusal) => {
+                if is_of_key_file(refusal) {
+                    self.has_told = true;
+                }
+                eprintln!(self.rt; "sundr: going on to the key {path}: {refusal}")
+            }
         };
     }
 }
 
+/// Whether the file of a key is why it was refused.
+fn is_of_key_file(refusal: &ViewRefusal) -> bool {
+    matches!(
+        refusal,
+        ViewRefusal::Plain(Refusal::KeyFileFault) | ViewRefusal::Plain(Refusal::BadKey)
+    )
+}
+
 /// Returns the refusal of a key file that can't be used.
-fn refusal_of(fault: &KeptKeyFault) -> Refusal {
+fn refusal_of(fault: &KeptKeyFault) -> Refusal
+    ensures { IsOfKeyFile result }
+{
     match fault {
         KeptKeyFault::NoKey { .. } => Refusal::BadKey,
         KeptKeyFault::NoMemory => Refusal::NoMemory,

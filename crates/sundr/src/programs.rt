@@ -88,22 +88,26 @@ where
     // Of what a file holds no contract can speak.
     ghost saves = { λ _ _ _ _. Unit {0} };
 
-    ghost opens = { λ _ _ _ _. Unit {0} };
+    ghost opens = { λ _ _ _. Unit {0} };
 
     fn save(&mut self, file: &[u8], log: &[u8]) -> io::Result<()> {
         save_log(self.rt, file, log)
     }
 
-    fn open_key(&mut self, file: &[u8]) -> Result<Signer<KeptKey<'a>>, Refusal> {
-        self.keys.open(self.host, file)
+    fn open_key<H: Threads + Sync>(
+        &self,
+        host: &H,
+        file: &[u8],
+    ) -> Result<Signer<KeptKey<'a>>, Refusal> {
+        self.keys.open(host, file)
     }
 
-    fn next_key(&mut self, left: u32, store: &KeptKey<'a>) -> Option<Signer<KeptKey<'a>>> {
-        self.keys.next(self.host, left, store.file().params)
+    fn next_key(&mut self, left: u32, store: &KeptKey<'a>) -> Option<Vec<u8>> {
+        self.keys.next(left, store.file().params)
     }
 
-    fn tell_rekey(&mut self, rekeyed: &Result<u64, ViewRefusal>) {
-        self.keys.tell(rekeyed);
+    fn tell_rekey(&mut self, file: &[u8], rekeyed: &Result<u64, ViewRefusal>) {
+        self.keys.tell(file, rekeyed);
     }
 
     /// Tells a sentence on standard error, where the refusal has several everyday causes. Where no
