@@ -6,6 +6,7 @@ faults and statuses. SUNDR names another program to try.
 Prints a line for each case that isn't as it should be, and last 'N passed, M failed'.
 """
 import concurrent.futures
+import functools
 import hashlib
 import os
 import random
@@ -182,7 +183,8 @@ def by_chance(room):
     for seed in range(CHANCE_LOGS):
         users = 1 + seed % 3
         maker = logs.Maker([logs.key_of(n, 20, 4, leaves=CHANCE_LINES) for n in range(users)])
-        dice = desk_model.Dice(f"audit {seed}", maker.desk)
+        dice = SigningDice(f"audit {seed}", maker.desk)
+        maker.ring = {key.public(): key for key in next_keys()}
         for n in range(CHANCE_LINES):
             maker.desk.form = 1 if seed % 4 == 1 or seed % 4 == 2 and n < CHANCE_LINES // 2 else desk_model.NEWEST
             line = dice.line()
@@ -192,6 +194,21 @@ def by_chance(room):
     for number, (line, publics, log, place, why) in refused.items():
         yield f"chance_refused_{number}: {line}", is_so(room, publics, log, (place, f"39 Change {why}"))
     yield f"chance_meets_most_refusals: {sorted(refused)}", len(refused) >= 10
+
+
+class SigningDice(desk_model.Dice):
+    """Dice whose rekeys name keys that can sign, some of them twice, or bytes that are no key."""
+
+    def key(self):
+        text = super().key()
+        if desk_model.is_key(bytes.fromhex(text)):
+            return self.pick(*next_keys()).public().hex()
+        return text
+
+
+@functools.cache
+def next_keys():
+    return [logs.key_of(f"next {n}", 10, 4, leaves=CHANCE_LINES) for n in range(8)]
 
 
 def is_spelled(user, change, users):

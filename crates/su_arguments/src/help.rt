@@ -178,9 +178,9 @@ this machine, or is reached through a tunnel, such as ssh makes with
 `-L 7000:localhost:7000`.
 
 One process at a time can use a key, which signs 32 or 1,024 times: near its end
-standard error tells so. `rekey FILE` goes on to another key. With --next-key the
-client makes the next one by itself, as often as need be, and finds it when it
-is started again with the first one.
+standard error tells so. `rekey FILE` goes on to another key. With --next-key
+the client makes the next one by itself, as often as need be, and finds it when
+it is started again with the first one.
 
 A script has a command a line. Each is answered before the next line is read. A
 run knows no commits but those of its `--log`: without one any list that follows
