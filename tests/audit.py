@@ -767,7 +767,7 @@ def streams(room, publics, log):
     yield "a_log_without_end", run(["audit", "--log", "/dev/zero", *words[3:]]) == ("at 1\nno 22 TooBig\n", "", 1)
     little = {"preexec_fn": lambda: resource.setrlimit(resource.RLIMIT_AS, (LITTLE_MEMORY, LITTLE_MEMORY))}
     yield "little_memory", run(words, **little) == ("ok 2\n", "", 0)
-    behind = 4 + 1_431  # the first commit with its number
+    behind = 4 + int.from_bytes(log[:4], "big")  # the first commit with its number
     for name, other_, wanted in (
             ("a_commit_past_the_end", GONE, "at 1\nno 1 Malformed 0\n"),
             ("more_past_the_end", GONE + log, "at 1\nno 1 Malformed 0\n"),

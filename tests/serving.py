@@ -1585,7 +1585,8 @@ EXCHANGES = {
     "the_turn": (b"\0\0\0\1\1", b"\0\0\0\x0a\x81" + bytes(9)),
     "a_commit_whose_author_is_none": (b"\0\0\0\6\2SV01\x40", b"\0\0\0\x0a\xff\1" + bytes(7) + b"\4"),
     "a_commit_of_the_second_format": (b"\0\0\0\6\2SV02\x40", b"\0\0\0\x0a\xff\1" + bytes(7) + b"\4"),
-    "a_commit_of_a_later_format": (b"\0\0\0\6\2SV03\x40", b"\0\0\0\x0a\xff\1" + bytes(8)),
+    "a_commit_of_the_third_format": (b"\0\0\0\6\2SV03\x40", b"\0\0\0\x0a\xff\1" + bytes(7) + b"\4"),
+    "a_commit_of_a_later_format": (b"\0\0\0\6\2SV04\x40", b"\0\0\0\x0a\xff\1" + bytes(8)),
     "a_record_that_isnt_there": (b"\0\0\0\x09\4" + bytes(7) + b"\1", b"\0\0\0\1\x85"),
     "an_item": (b"\0\0\0\4\5abc", b"\0\0\0\x21\x86" + bytes.fromhex(ABC)),
     "the_same_item_by_its_digest": (b"\0\0\0\x21\6" + bytes.fromhex(ABC), b"\0\0\0\4\x87abc"),
@@ -1698,7 +1699,7 @@ def stored_bytes(at):
 # ---- formats
 
 def formats(at):
-    """A server takes commits of both formats, and none whose format falls; clients go on in the second format with a list of the
+    """A server takes commits of each format, and none whose format falls; clients go on in the newest format with a list of the
     first."""
     room, saved = Room(at), f"{at}/saved"
     old = room.log("0 create G0:1 a U0:2; 1 take G0:1 1", form=1)
@@ -1709,9 +1710,9 @@ def formats(at):
             told = [reply_to(link, request)[0] for request in (wire.put(item), wire.GRANT, wire.commit(commit))]
             yield f"a_server_takes_the_first_format: {told}", told == ["put_done", "granted", "stored"]
         ended = room.run(server.port, 0, b"tidy\nls /\nsave %b\n" % saved.encode(), key=keys_[0])
-        yield f"a_client_goes_on_in_the_second: {ended}", ended == ([b"ok 3", b"a U0:2"], [], 0)
+        yield f"a_client_goes_on_in_the_newest: {ended}", ended == ([b"ok 3", b"a U0:2"], [], 0)
         forms = [form for _, form, _ in history_of(saved)]
-        yield f"and_saves_both: {forms}", forms == [1, 1, 2] and audit(room, saved) == ([b"ok 3"], [], 0)
+        yield f"and_saves_both: {forms}", forms == [1, 1, 3] and audit(room, saved) == ([b"ok 3"], [], 0)
         for name, told, wanted in falling(room, link, read(saved)):
             yield f"format_falls_{name}: {told}", told == wanted
         link.close()
