@@ -1786,6 +1786,7 @@ def example(at):
     yield from printed_by(at, "share")
     if program != MODEL:
         yield from printed_by(at, "rekey", b" is no longer the key of user 0")
+        yield from printed_by(at, "attack")
 
 
 def printed_by(at, name, *more):
