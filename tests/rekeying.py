@@ -23,6 +23,7 @@ from serving import Running, Server, is_told, read
 
 OPERATIONS = 3000  # that are acknowledged, of both users
 KILLS = 50  # of clients
+FOLDERS = 20  # of each user
 LONG_SCRIPT = 5000  # commands
 MOST_SECONDS = 240
 
@@ -49,11 +50,20 @@ class Person:
         if self.acknowledged < count:
             self.faults.append(f"{self.acknowledged} of {count}")
 
+    def make_folders(self, port):
+        """Makes the user's folders, while the other one does nothing: a number that a command of two operations was given before its
+        second turn may be taken by then, and the operation is refused."""
+        self.run(port, [b"mkdir /u%d_%d" % (self.user, n) for n in range(FOLDERS)], False)
+
     def run_one(self, port, lines, is_killed):
         self.started += 1
-        names = [b"%d_%d_%d" % (self.user, self.started, n) for n in range(lines)]
+        folder = b"/u%d_%d" % (self.user, self.started % FOLDERS)
+        self.acknowledged += self.run(port, [b"create %b/%d_%d" % (folder, self.started, n) for n in range(lines)], is_killed)
+
+    def run(self, port, lines, is_killed):
+        """Runs a script, and returns how many operations were acknowledged."""
         with Running(self.words(port)) as client:
-            client.write(b"mkdir /u%d_%d\n" % (self.user, self.started) + b"".join(b"create /u%d_%d/%b\n" % (self.user, self.started, name) for name in names[1:]))
+            client.write(b"".join(line + b"\n" for line in lines))
             client.close_input()
             if is_killed:
                 self.kills -= 1
@@ -64,10 +74,10 @@ class Person:
             told = client.told.rest()
         numbers = [int(line[3:]) for line in printed if line.startswith(b"ok ")]
         self.names += numbers
-        self.acknowledged += len(numbers)
         strange = [line for line in printed if not line.startswith(b"ok ")]
         if strange or not is_killed and status != 0:
             self.faults.append(f"{strange[:3]} {status} {told[-3:]}")
+        return len(numbers)
 
 
 def leaves_of(records, publics):
@@ -85,6 +95,8 @@ def kills(at):
     room, saved = serving.Room(at), f"{at}/saved"
     with Server(room, capacity=100000, sessions=100000) as server:
         persons = [Person(room, user, KILLS // 2) for user in range(2)]
+        for person in persons:
+            person.make_folders(server.port)
         threads = [threading.Thread(target=person.work, args=(server.port, OPERATIONS // 2)) for person in persons]
         started = time.monotonic()
         for thread in threads:
