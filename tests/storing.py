@@ -126,7 +126,7 @@ def asked_to_end(at):
             server.write(b"p\n")
             printed, told, status = server.end()
             yield f"ends_in_order: {told}", (printed, status) == ([], 0) and is_told(told, "2 commits stored")
-    count = read(f"{store}/{FILE}").count(b"SV02")
+    count = read(f"{store}/{FILE}").count(b"SV03")
     yield f"the_records_are_in_the_file: {count}", count >= 2
     with Keeping(room, store, sessions=1) as server:
         yield "nothing_is_missing", names_in(room.run(server.port, 1, b"ls /\n")[0]) == {b"f", b"g"}
@@ -794,7 +794,7 @@ def bad_files(at):
         os.remove(f"{store}/{name}")
     make_other(path)
     yield from refuses(room, store, "a_database_of_something_else", f"{path}: an SQLite file of something else")
-    place = good.rindex(b"SV02") + 50
+    place = good.rindex(b"SV03") + 50
     put(good[:place] + bytes([good[place] ^ 1]) + good[place + 1:])
     yield from refuses(room, store, "a_changed_byte", path)
     put(good)
