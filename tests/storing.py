@@ -702,7 +702,7 @@ LATER_LINES = (
 
 
 def earlier(at):
-    """A store of the first format that an earlier program wrote, and its log: they are served on, and take commits of the second format, and
+    """A store of the first format that an earlier program wrote, and its log: they are served on, and take commits of the newest format, and
     no more of the first; so does a copy of such a store."""
     room, store, saved, copy = serving.Room(at), f"{at}/store", f"{at}/saved", f"{at}/copy"
     shutil.copytree(f"{EARLIER}/store", store)
@@ -748,7 +748,7 @@ def still_there(room, folder, saved):
         ended = room.run(server.port, 1, b"cat /d/f 0 12\nsave %b\n" % saved.encode(), "--log", f"{EARLIER}/log")
         yield f"shows_both: {ended}", ended == ([b"6561726c696572206f6e65"], [], 0)
     forms = [form for _, form, _ in serving.history_of(saved)]
-    yield f"are_both_saved: {forms}", forms == [1] * 9 + [2] * 9 and serving.audit(room, saved) == ([b"ok 18"], [], 0)
+    yield f"are_both_saved: {forms}", forms == [1] * 9 + [3] * 9 and serving.audit(room, saved) == ([b"ok 18"], [], 0)
 
 
 def filled(at):
