@@ -18,6 +18,7 @@ from desk_model import KeptDesk, Refused, body, demand, group_file, is_dir, is_n
 ROOT = group_file(0, 1)
 LAST_NUMBER = 1000000
 LONGEST_LINE = 140000
+MOST_READY = 256  # commits that are asked for before any is taken
 PAUSE = 0.001  # seconds between two tries at a turn that another has
 NO_WORKER = "31 Busy 65535"  # what a server without a free worker refuses by, which ends the link
 
@@ -525,6 +526,8 @@ class Client(Member):
         count, last = self.granted()
         try:
             for n in range(self.view.chain.count + 1, count + 1):
+                if n > self.view.chain.count + MOST_READY:
+                    break
                 commit = self.fetch(n)
                 if commit is not None:
                     self.view.accept(commit)

@@ -1216,7 +1216,7 @@ def lies(at):
         "the_first_dropped": (show(bad_server.drop(records, 1)), misses(0)),
         "a_forged_signature": (show(bad_server.forge(records, 2)), unsigned),
         "a_forged_last_commit": (show(bad_server.forge(records, 6)), unsigned),
-        "more_than_there_are": (show(records, 6, count=9), whole),
+        "more_than_there_are": (show(records, 6, count=9), whole), "endless_records": (show(records, 3, count=2 ** 64 - 1), whole),
         "fewer_than_there_are": (show(records, count=4, last={0: 2, 1: 4}), [b"a U0:2", b"b U1:2", b"41"]),
         "own_last_left_out": (show(records, 6, last={1: 6}), missing),
         "no_last_to_who_has_none": (show(records, last={}), missing),

@@ -1,5 +1,6 @@
 // A client that works with a server, and how it begins what it does.
-ghost use Rattle.std.specs.Prelude.{◌≡◌, ◌<◌, ℕ, [], Some, length, slice_get, IfOk, IfErr, IfNone, OnOk, OnErr};
+ghost use Rattle.std.specs.Prelude.{◌≡◌, ◌<◌, ◌+◌, ℕ, [], Some, length, nat_le, slice_get, IfOk, IfErr, IfNone, OnOk, OnErr};
+ghost use Rattle.su_client_work.specs.declared.ready.TheConstants.{MOST_READY};
 ghost use Rattle.su_bytes.specs.declared.refusals.Refusal.TheVariants.{LinkFailed};
 ghost use Rattle.su_message.specs.declared.requests.Request.TheVariants.{Grant, Give, Fetch};
 ghost use Rattle.su_message.specs.declared.replies.Reply.TheVariants.{Granted, Given};
@@ -446,7 +447,8 @@ impl<R: Read + Drop, W: Write + Drop, K: KeyStore + Drop> Member<R, W, K> {
     }
 
     /// Takes the commits that the list lacks of the first `count`, many at a time. What the server
-    /// says that it hasn't is left out, so that the one after it is refused.
+    /// says that it hasn't is left out, so that the one after it is refused. Once the list lacks as
+    /// many as are fetched at once, no more are asked for: no number holds a client up.
     fn take_up_to<A: Surroundings<R, W>>(
         &mut self,
         around: &mut A,
@@ -461,9 +463,20 @@ impl<R: Read + Drop, W: Write + Drop, K: KeyStore + Drop> Member<R, W, K> {
         let (held, _) = self.view.head();
         let mut ready = Ready::new(self.alloc);
         for before in held..count {
+            if self.lacks_many(before) {
+                return Ok(());
+            }
             self.take_next(around, before, count, shown, &mut ready)?;
         }
         Ok(())
+    }
+
+    /// Tells whether the list lacks as many of the first `count` commits as are fetched at once.
+    fn lacks_many(&self, count: u64) -> bool
+        ensures { result ≡ nat_le (length self.now.holding.held + MOST_READY) count }
+    {
+        let (held, _) = self.view.head();
+        count.saturating_sub(held) >= MOST_READY
     }
 
     /// Takes the commit behind so many, of which there are `count`, once it is fetched with others.

@@ -14,6 +14,8 @@ mod keepers;
 #[cfg(test)]
 mod offers;
 #[cfg(test)]
+mod rosters;
+#[cfg(test)]
 mod shared_books;
 #[cfg(test)]
 mod sources;

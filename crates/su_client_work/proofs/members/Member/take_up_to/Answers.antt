@@ -29,3 +29,6 @@ loop-before-preserved g c = record {
   caught_up = caught_one c.loop-before.before c.loop-before.self.holding c.take_next.new.self.holding c.args.self.now.link c.loop-before.self.link c.take_next.new.self.link
       c.loop-before.invariant.follows c.take_next.ensures.follows c.loop-before.invariant.caught_up c.in_ok-take_next.ensures.more;
 }
+
+pub returns-then-lacks_many-clause-caught_up : goal.returns-then-lacks_many-clause-caught_up
+returns-then-lacks_many-clause-caught_up g c = lacking_nothing c.loop-before.invariant.caught_up
