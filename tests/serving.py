@@ -746,6 +746,9 @@ def spent(room, server):
     yield f"a_key_is_spent: {ended}", ended == (wanted, [], 0) and next_leaf(last) == 32
     ended = room.run(server.port, 1, b"undo 4\n", key=last)
     yield f"a_spent_key: {ended}", ended == ([b"no 8 KeySpent"], [], 0)
+    with room.client(server.port, 1, key=last) as client:
+        said = client.say(b"create /z")
+        yield f"a_spent_key_keeps_no_turn: {said}", said == [b"no 8 KeySpent"] and is_free(server.port)
     over = room.file(room.keys[1].file(33))
     printed, told, status = room.run(server.port, 1, b"", key=over)
     yield f"a_key_past_its_last_leaf: {told}", (printed, status) == ([], 1) and is_told(told, over)
@@ -758,6 +761,7 @@ def unkept(room, server):
         os.mkdir(f"{path}.next")
         said = client.say(b"create /u")
         yield f"a_key_that_cannot_be_kept: {said}", said[-1:] == [b"no 10 KeyFileFault"] and next_leaf(path) == 5
+        yield "a_key_that_cannot_be_kept_keeps_no_turn", is_free(server.port)
         os.rmdir(f"{path}.next")
         said = client.say(b"ls /u")
         yield f"nothing_was_signed: {said}", said == [b"no 18 NoName"]
@@ -1774,7 +1778,7 @@ def book(at):
                 ("is_full_for_an_undo", one, b"undo 2", [b"no 37 BookFull"]), ("can_be_read", zero, b"ls /", [b"a G0:2"]),
                 ("has_its_turn_back", one, b"ls /", [b"a G0:2"]), ("is_full_again", one, b"undo_last", [b"no 37 BookFull"])):
             said = client.say(line)
-            yield f"book_{name}: {said}", said == wanted
+            yield f"book_{name}: {said}", said == wanted and is_free(server.port)
         yield "its_clients_end", [it.end() for it in (zero, one)] == [([], [], 0)] * 2
     yield "a_leaf_of_each_commit_is_gone", [next_leaf(it) for it in room.key_files] == [1, 4]
 

@@ -34,8 +34,8 @@ const PAUSE: u64 = 1;
 const NO_SEAT: u16 = u16::MAX;
 
 /// A client at work: its view, with a server that need not be trusted as the source of items, and
-/// the key of its user. A server's lies can refuse it, and nothing more: its list stays legal, and it
-/// signs nothing that it may not.
+/// the key of its user. A server's lies can refuse it, and nothing more: its list stays legal, and
+/// it signs nothing that it may not.
 #[derive(Drop)]
 pub struct Member<R: Read, W: Write, K: KeyStore> {
     pub(crate) view: View<Checked<Outbox<R, W>>>,
@@ -108,9 +108,9 @@ impl<R: Read + Drop, W: Write + Drop, K: KeyStore + Drop> Member<R, W, K> {
         self.key.store()
     }
 
-    /// Takes the turn, takes the commits that the list lacks, and checks what the server shows as the
-    /// users' last commits. Where the link has failed before the turn is granted, as that of
-    /// a session that was ended, it is made anew, once. `Busy` where another has the turn each time
+    /// Takes the turn, takes the commits that the list lacks, and checks what the server shows as
+    /// the users' last commits. Where the link has failed before the turn is granted, as that of a
+    /// session that was ended, it is made anew, once. `Busy` where another has the turn each time
     /// that it is asked for, or no worker of the server is free; the refusals of `View::accept` and
     /// `View::check_list`; `Malformed` with a place in the bytes of what is shown as a last commit;
     /// `LinkFailed`; `NoMemory`. Where it is refused, the turn is given back, and what was taken
@@ -136,8 +136,8 @@ impl<R: Read + Drop, W: Write + Drop, K: KeyStore + Drop> Member<R, W, K> {
         }
     }
 
-    /// Takes the turn, takes what the list lacks, checks the last commits, and gives the turn back. The refusals
-    /// are those of `begin`.
+    /// Takes the turn, takes what the list lacks, checks the last commits, and gives the turn back.
+    /// The refusals are those of `begin`.
     pub fn look<A: Surroundings<R, W>>(&mut self, around: &mut A) -> Result<(), ViewRefusal>
         ensures takes { OnlyTakes self.old self.new }
         ensures link { Comes A.may_connect self.old.link self.new.link }
@@ -209,8 +209,8 @@ impl<R: Read + Drop, W: Write + Drop, K: KeyStore + Drop> Member<R, W, K> {
     }
 
     /// Takes the turn. Where the link has failed, as that of a session that was ended, nothing has
-    /// happened yet, so a new link is made, once, and the turn is asked for over it. The refusals are
-    /// those of `await_turn`, and `LinkFailed` where no link can be made.
+    /// happened yet, so a new link is made, once, and the turn is asked for over it. The refusals
+    /// are those of `await_turn`, and `LinkFailed` where no link can be made.
     fn take_turn<A: Surroundings<R, W>>(
         &mut self,
         around: &mut A,
@@ -580,8 +580,8 @@ impl<R: Read + Drop, W: Write + Drop, K: KeyStore + Drop> Member<R, W, K> {
         self.send_ahead(&Request::Fetch(number))
     }
 
-    /// Adds the commit of that number, as it is shown, or else fetched. Where all requests before are
-    /// on their way, that for its item is sent ahead.
+    /// Adds the commit of that number, as it is shown, or else fetched. Where all requests before
+    /// are on their way, that for its item is sent ahead.
     fn fetch_one(
         &mut self,
         number: u64,

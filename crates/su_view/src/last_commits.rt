@@ -19,9 +19,9 @@ use su_vector::{Vector, first_unordered};
 use su_version::{Commit, Verdict};
 
 /// Checks what a server shows as the users' last commits, by what is kept. `BadSignature` where a
-/// commit isn't held, nor signed under its author's present key; `OwnMissing` where the user has a commit that is held, and
-/// none of the user's is shown or one that is behind the last; `NotOrdered` with the first pair of
-/// positions whose vectors aren't comparable; `NoMemory`.
+/// commit isn't held, nor signed under its author's present key; `OwnMissing` where the user has a
+/// commit that is held, and none of the user's is shown or one that is behind the last;
+/// `NotOrdered` with the first pair of positions whose vectors aren't comparable; `NoMemory`.
 pub(crate) fn check_list(
     alloc: Global,
     keeping: &Keeping,
@@ -61,8 +61,9 @@ fn own_record(keeping: &Keeping) -> Option<&Record>
 }
 
 /// Checks commits that are shown as the users' last ones, for a client of that user, by the user's
-/// last commit that the client holds, if there is one. `OwnMissing` where the user has a last commit, and none of the user's is shown or one that is behind it;
-/// `NotOrdered` with the first pair of positions whose vectors aren't comparable; `NoMemory`.
+/// last commit that the client holds, if there is one. `OwnMissing` where the user has a last
+/// commit, and none of the user's is shown or one that is behind it; `NotOrdered` with the first
+/// pair of positions whose vectors aren't comparable; `NoMemory`.
 fn check_own(
     alloc: Global,
     roster: &Roster,

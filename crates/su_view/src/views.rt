@@ -206,8 +206,8 @@ impl<S: BlockSource + Drop> View<S> {
     /// its end, or with a place in the commit's own bytes; then what refuses the commit alone, as
     /// `ChainEnd::check` does; `Change` with what refuses the change, or where its item is that of
     /// no change; `WrongKey` where the commit has another next key of its author than the change
-    /// names; `WrongHandle` where it holds another i-handle than the tree has then; `MissingBlock`, `WrongBlock`, `SourceFailed` where the source fails to give the item;
-    /// `NoMemory`.
+    /// names; `WrongHandle` where it holds another i-handle than the tree has then; `MissingBlock`,
+    /// `WrongBlock`, `SourceFailed` where the source fails to give the item; `NoMemory`.
     pub fn accept(&mut self, bytes: &[u8]) -> Result<u64, (u64, ViewRefusal)>
         requires checked { S.is_checked ≡ true }
         ensures took { IfOk result (λ n.
@@ -238,13 +238,13 @@ impl<S: BlockSource + Drop> View<S> {
         Ok(count)
     }
 
-    /// Makes a commit of a change of the view's user, signed by the next leaf of the user's key, and
-    /// puts the item of the change into the source. The view's list stays as it was: once the commit
-    /// is stored, `accept_own` takes it. `BadSignature` where the key isn't the one that the user has
-    /// after the list; `Change` where the change is refused; `SourceFailed`; `NoMemory`; `KeySpent`
-    /// where each leaf has signed; `KeyFileFault` where the key's store fails. It signs last: on a
-    /// refusal nothing was signed, and no leaf was used. From a commit that names the user's next key
-    /// on, the next ones are made with that.
+    /// Makes a commit of a change of the view's user, signed by the next leaf of the user's key,
+    /// and puts the item of the change into the source. The view's list stays as it was: once the
+    /// commit is stored, `accept_own` takes it. `BadSignature` where the key isn't the one that the
+    /// user has after the list; `Change` where the change is refused; `SourceFailed`; `NoMemory`;
+    /// `KeySpent` where each leaf has signed; `KeyFileFault` where the key's store fails. It signs
+    /// last: on a refusal nothing was signed, and no leaf was used. From a commit that names the
+    /// user's next key on, the next ones are made with that.
     pub fn make<K: KeyStore>(
         &mut self,
         change: Change,

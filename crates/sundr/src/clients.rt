@@ -197,6 +197,7 @@ fn take_present_key<'a, T>(
 ) -> Result<(), ClientFault>
 where
     T: Net<Listener = TcpListener, Stream = TcpStream> + Threads + Sync,
+    ensures { Works member.old member.new }
 {
     if args.next_key.is_none() || member.look(program).is_err() {
         return Ok(());
