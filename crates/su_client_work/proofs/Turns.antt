@@ -1,5 +1,5 @@
 -- A link over which more is asked, and a turn.
-use Rattle.std.proofs.Common.{◌≡◌, ◌+◌, ◌<◌, ℕ, suc, length, Option, None, Some, Result, Ok, Err, OnOk, take, get_or, arith, List, [], ◌∷◌, ◌++◌, inl, inr, sym, ◌∙◌, ap, subst, refl, true, false, IfErr}
+use Rattle.std.proofs.Common.{◌≡◌, ◌+◌, ◌<◌, ◌≤◌, ℕ, nat_le, suc, length, Option, None, Some, Result, Ok, Err, OnOk, take, get_or, arith, List, [], ◌∷◌, ◌++◌, inl, inr, sym, ◌∙◌, ap, subst, refl, true, false, IfErr}
 use Rattle.std.proofs.Math.Seq.{take-suc}
 use Rattle.su_bytes.specs.declared.refusals.Refusal.{Refusal}
 use Rattle.su_bytes.specs.declared.refusals.Refusal.TheVariants.{LinkFailed}
@@ -27,6 +27,7 @@ use Rattle.su_client.proofs.Public.{exchanged_ahead}
 use Rattle.su_client_work.specs.Publishing.{IsStored}
 use Rattle.su_client.specs.Following.{follows_itself, follows_on}
 use Rattle.su_view.specs.Holding.{HoldingState}
+use Rattle.su_client_work.specs.declared.ready.TheConstants.{MOST_READY}
 use Rattle.su_client_work.specs.Member.{MemberState, OnlyTakes, Stays}
 use Rattle.su_bytes.specs.Order.{Passes}
 use Rattle.su_view.specs.LastCommits.{shown_order}
@@ -87,6 +88,14 @@ pub caught_one : (n : ℕ) (v w : HoldingState) (a b c : LinkState) → Follows 
 caught_one n v w a b c p q (inl all) (inl more) = inl (omega (arith, all, more))
 caught_one n v w a b c p q (inl all) (inr nothing) = inr (nothing_after a b c p nothing)
 caught_one n v w a b c p q (inr nothing) more = inr (nothing_on a b c nothing q)
+
+-- where many of those that were asked for are lacking, the server said of one that it has nothing
+pub lacks_many : (count before : ℕ) (v : HoldingState) (a b : LinkState) → nat_le (length v.held + MOST_READY) before ≡ true → IsCaughtUp before v a b → IsCaughtUp count v a b
+lacks_many count before v a b lacks (inr nothing) = inr nothing
+lacks_many count before v a b lacks (inl all) =
+    let many : MOST_READY ≡ 256 = refl in
+    let most : length v.held + MOST_READY ≤ before = grind arith in
+    absurd (omega (arith, all, most, many))
 
 -- ---- a link
 

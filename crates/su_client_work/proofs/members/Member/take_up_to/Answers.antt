@@ -1,8 +1,8 @@
-use Rattle.std.proofs.Common.{ap, arith, inl, length, refl}
+use Rattle.std.proofs.Common.{◌∙◌, ap, arith, inl, length, refl, sym}
 use Rattle.su_client.specs.Following.{follows_itself, follows_on}
 use Rattle.su_client_work.specs.Member.{MemberState}
 use Rattle.su_client_work.proofs.Taking.{takes_none}
-use Rattle.su_client_work.proofs.Turns.{only_then, caught_one}
+use Rattle.su_client_work.proofs.Turns.{only_then, caught_one, lacks_many}
 use Rattle.su_client_work.proofs.members.Member.take_up_to.Goals as goal
 
 pub loop-before-init : goal.loop-before-init
@@ -31,4 +31,6 @@ loop-before-preserved g c = record {
 }
 
 pub returns-then-lacks_many-clause-caught_up : goal.returns-then-lacks_many-clause-caught_up
-returns-then-lacks_many-clause-caught_up g c = lacking_nothing c.loop-before.invariant.caught_up
+returns-then-lacks_many-clause-caught_up g c =
+    lacks_many c.args.count c.loop-before.before c.loop-before.self.holding c.args.self.now.link c.loop-before.self.link (sym c.lacks_many.ensures ∙ c.if-lacks_many.true)
+    c.loop-before.invariant.caught_up
