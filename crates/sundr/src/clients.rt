@@ -1,6 +1,7 @@
 // A client at work on a script.
 ghost use Rattle.std.specs.Prelude.{◌≡◌, ℕ, List, Some, true, length};
 ghost use Rattle.su_arguments.specs.Ranges.{IsUserCount};
+ghost use Rattle.su_client_work.specs.Work.{Works};
 ghost use Rattle.sundr.specs.Run.{AddsUnlessFault};
 
 use crate::client_faults::ClientFault;
@@ -199,11 +200,13 @@ where
     T: Net<Listener = TcpListener, Stream = TcpStream> + Threads + Sync,
     ensures { Works member.old member.new }
 {
-    if args.next_key.is_none() || member.look(program).is_err() {
+    if args.next_key.is_none() {
         return Ok(());
     }
-    let present = member.present_key();
-    match present {
+    if member.look(program).is_err() {
+        return Ok(());
+    }
+    match member.present_key() {
         Some(key) if key != member.public_key() => {
             member.replace_key(open_present(rt, host, args, &key)?);
             Ok(())
