@@ -1,7 +1,7 @@
 // What makes no roster.
 use std::alloc::Global;
 use std::test::Fail;
-use su_bytes::{Group, KEY_LENGTH, Refusal, Roster, RosterGroup, RosterUser, User};
+use su_bytes::{FileId, Group, KEY_LENGTH, Refusal, Roster, RosterGroup, RosterUser, User};
 
 // Users of these numbers, with keys of zeros.
 fn users(alloc: Global, numbers: &[u64]) -> Result<Vec<RosterUser>, Refusal> {
@@ -40,6 +40,8 @@ fn is_roster(alloc: Global, numbers: &[u64], members: &[u64]) -> Result<bool, Re
 
 #[test]
 fn what_makes_no_roster(rt: HostRuntime) -> Result<(), Fail> {
+    // names the type for the prover (docs/ARCHITECTURE.md, "Forms the kit wants")
+    let _file: Option<FileId> = None;
     let alloc = rt.alloc();
     assert!(rt; is_roster(alloc, &[0, 1], &[0, 1])?);
     // without user 0; with a user twice; with a group that has nobody
