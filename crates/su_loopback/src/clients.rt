@@ -10,7 +10,7 @@ use std::{io, thread};
 use su_block::Checked;
 use su_bytes::{KEY_LENGTH, Refusal, Roster, User};
 use su_client::{Client, Outbox};
-use su_client_script::{Cause, Ending, Program, run_client};
+use su_client_script::{Cause, Ending, Fault, Program, run_client};
 use su_client_work::{Member, Surroundings, take_log};
 use su_lms::{NoStore, Params, Signer};
 use su_view::{View, ViewRefusal};
@@ -125,9 +125,9 @@ fn key(alloc: Global, user: u8) -> Result<[u8; KEY_LENGTH], Refusal> {
     Ok(*signer(alloc, user)?.public().as_bytes())
 }
 
-/// Makes the roster of the users 0 and 1, who are both in group 0.
+/// Makes the roster of the users 0 to 2, who are all in group 0.
 pub(crate) fn roster(alloc: Global) -> Result<Roster, Refusal> {
-    let keys = [key(alloc, 0)?, key(alloc, 1)?];
+    let keys = [key(alloc, 0)?, key(alloc, 1)?, key(alloc, 2)?];
     Roster::of_keys(alloc, &keys)
 }
 
@@ -189,7 +189,7 @@ where
 }
 
 impl Person {
-    /// Carries out a script to its end, and returns what was printed.
+    /// Carries out a script, to its end or until the link fails, and returns what was printed.
     pub(crate) fn run<R>(&mut self, rt: &R, alloc: Global, script: &[u8]) -> Option<Vec<u8>>
     where
         R: Net<Listener = TcpListener, Stream = TcpStream> + Clock + Threads + Sync,
@@ -211,7 +211,7 @@ impl Person {
         );
         self.saved = runner.into_saved();
         match ending {
-            Ending::Finished => Some(printed),
+            Ending::Finished | Ending::Failed(Fault::Link) => Some(printed),
             _ => None,
         }
     }

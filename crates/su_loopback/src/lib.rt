@@ -9,6 +9,12 @@ mod gates;
 #[cfg(test)]
 mod items;
 #[cfg(test)]
+mod liars;
+#[cfg(test)]
+mod lies;
+#[cfg(test)]
+mod logs;
+#[cfg(test)]
 mod servers;
 #[cfg(test)]
 mod sessions;

@@ -1,9 +1,9 @@
 // A server at a port of the loopback.
 use crate::clients::roster;
 use std::alloc::Global;
+use std::io;
 use std::net::{Ipv4Addr, Net, SocketAddr, TcpListener, TcpStream};
 use std::sync::Wait;
-use std::test::Fail;
 use std::thread::Threads;
 use std::time::Clock;
 use su_keeper::Forgetful;
@@ -18,12 +18,12 @@ const WORKERS: usize = 2;
 const CAPACITY: u64 = 16;
 
 /// Listens at a port of the loopback that the system picks.
-pub(crate) fn listen<R>(rt: &R) -> Result<TcpListener, Fail>
+pub(crate) fn listen<R>(rt: &R) -> io::Result<TcpListener>
 where
     R: Net<Listener = TcpListener, Stream = TcpStream>,
 {
     let any = SocketAddr::from((Ipv4Addr::LOCALHOST, 0));
-    Ok(TcpListener::bind(rt, any)?)
+    TcpListener::bind(rt, any)
 }
 
 /// Serves so many connections of a listener, over a new book.

@@ -86,7 +86,13 @@ where
 }
 
 // A script of a user prints this, and ends.
-fn prints<R>(rt: &R, alloc: Global, user: &mut Person, script: &[u8], text: &[u8]) -> Option<()>
+pub(crate) fn prints<R>(
+    rt: &R,
+    alloc: Global,
+    user: &mut Person,
+    script: &[u8],
+    text: &[u8],
+) -> Option<()>
 where
     R: Net<Listener = TcpListener, Stream = TcpStream> + Threads + Abort + Clock + Sync,
 {
