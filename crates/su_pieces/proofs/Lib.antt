@@ -1,2 +1,7 @@
+mod Carrying
 mod Fronts
+mod Operations
 mod PieceLemmas
+mod PutLemmas
+mod Standing
+mod Walks

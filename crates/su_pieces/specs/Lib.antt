@@ -1,1 +1,3 @@
 pub mod Piece
+pub mod Put
+pub mod CarriedOut

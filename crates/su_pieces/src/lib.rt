@@ -1,7 +1,11 @@
-//! Pieces: what a file's new contents have that the old ones lack.
+//! Pieces: what of a file is written where its contents change, and the commands for it.
 #![tactic(auto)]
 
 mod blocks;
+mod laws;
 mod pieces;
+mod put;
 
+pub use laws::puts_are_carried_out;
 pub use pieces::{Piece, differing};
+pub use put::put_commands;
