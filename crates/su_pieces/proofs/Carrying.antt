@@ -139,12 +139,14 @@ record Left (T T' : Tree) (path : List ℕ) (f : FileId) (bs : List ℕ) : Type 
   sound : Sound T'
   there : LeadsTo T' path f bs
   others : (g : FileId) → (g ≡ f → ⊥) → contents T' g ≡ contents T g
+  keeps : KeepsEntries T T'
 
 left_then : (T U V : Tree) (path : List ℕ) (f : FileId) (bs cs : List ℕ) → Left T U path f bs → Left U V path f cs → Left T V path f cs
 left_then T U V path f bs cs one two = record {
   sound = two.sound;
   there = two.there;
   others = λ g other. two.others g other ∙ one.others g other;
+  keeps = λ g y h e. two.keeps g y h (one.keeps g y h e);
 }
 
 -- another inode with bytes stands for the file
@@ -154,6 +156,7 @@ left_by T U T' path f i j bs cs sound there same stands is changed content = rec
   sound = sound;
   there = record { found = found_kept T T' path f keeps there.found; contents = contents_is T' f j cs changed.here content };
   others = λ g other. contents_same T T' g (changed.others g other ∙ same g);
+  keeps = keeps;
 }
   where
     keeps : KeepsEntries T T'
@@ -300,6 +303,7 @@ create_done ro a T path ops sound drafted none =
         contents = contents_is after c.make.file (new_inode c.make.file File) [] (made.file ∙ ap (λ k. Ok (new_inode c.make.file k)) c.kind) refl;
       };
       others = λ g other. made.others g other ∙ contents_same T r.tree g (r.same g);
+      keeps = λ g y h e. made.keeps g y h (same_entries T r.tree r.same g y h e);
     } in
     (c.make.file, subst (λ V. Left T V path c.make.file []) (sym (ap (tree_after ro a T) c.operations ∙ r.after)) left)
 
@@ -355,7 +359,7 @@ module _ (ro : Membership) (a : ℕ) (path new : List ℕ) (f : FileId) (T' : Tr
   writes_done [] rest T bs commands sound there steps carried = record {
     tree = T;
     commands = commands;
-    left = record { sound = sound; there = there; others = λ g other. refl };
+    left = record { sound = sound; there = there; others = λ g other. refl; keeps = λ g y h e. e };
     steps = steps;
     carried = carried;
   }
@@ -381,7 +385,7 @@ module _ (ro : Membership) (a : ℕ) (path new : List ℕ) (f : FileId) (T' : Tr
   cut_done : (T : Tree) (bs : List ℕ) (b : Bool) (size : ℕ) (commands : List Command) → Sound T → LeadsTo T path f bs
       → AllZip (Does path) (cond b (Cuts size ∷ []) []) commands → carried_out ro a T commands ≡ Ok T' → Left T T' path f (cond b (with_size size bs) bs)
   cut_done T bs false size commands sound there steps carried =
-      subst (λ V. Left T V path f bs) (none_left T commands steps carried) (record { sound = sound; there = there; others = λ g other. refl })
+      subst (λ V. Left T V path f bs) (none_left T commands steps carried) (record { sound = sound; there = there; others = λ g other. refl; keeps = λ g y h e. e })
   cut_done T bs true size [] sound there steps carried = absurd steps
   cut_done T bs true size (command ∷ commands) sound there (does, steps) carried =
       let (ops, plan, more) = bind_is (plan ro T a command) (λ ops. carried_out ro a (tree_after ro a T ops) commands) T' carried in
@@ -390,7 +394,7 @@ module _ (ro : Membership) (a : ℕ) (path new : List ℕ) (f : FileId) (T' : Tr
       (truncate_done ro a T sound path f bs there size ops (cutting path size T a command ops does drafted) none)
 
   puts_there : (T : Tree) (bs : List ℕ) → bs ≡ new → Left T T' path f bs → PutsThere T T' path new
-  puts_there T bs same left = record { file = f; there = subst (LeadsTo T' path f) same left.there; others = left.others }
+  puts_there T bs same left = record { file = f; there = subst (LeadsTo T' path f) same left.there; others = left.others; paths = λ q g e. found_kept T T' q g left.keeps e }
 
 -- where a file stands at the path
 put_over_file : (ro : Membership) (a : ℕ) (T T' : Tree) (path old new : List ℕ) (commands : List Command) (f : FileId) → Sound T → LeadsTo T path f old

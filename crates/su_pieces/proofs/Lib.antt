@@ -1,5 +1,6 @@
 mod Carrying
 mod Fronts
+mod OnePieces
 mod Operations
 mod PieceLemmas
 mod PutLemmas

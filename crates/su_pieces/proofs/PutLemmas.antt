@@ -1,10 +1,11 @@
 -- Commands that do steps, one for each.
-use Rattle.std.proofs.Common.{ℕ, ◌+◌, ◌<◌, ◌≤◌, cond, List, [], ◌∷◌, ◌++◌, map, take, length, get_or, sym, subst}
+use Rattle.std.proofs.Common.{◌≡◌, refl, ℕ, ◌+◌, ◌<◌, ◌≤◌, cond, List, [], ◌∷◌, ◌++◌, map, take, length, get_or, sym, subst, Option, Some, arith}
 use Rattle.std.specs.List.{AllZip}
 use Rattle.std.proofs.lemmas.List.{append-nil, map_more}
 use Rattle.std.proofs.lemmas.Bool.{lt-ltb, le-ltb}
 use Rattle.su_draft.specs.declared.commands.Command.{Command}
-use Rattle.su_pieces.specs.Put.{Does, Step, Step.Cuts, cut_of}
+use Rattle.su_pieces.specs.Put.{Does, Put, Step, Step.Cuts, cut_of, write_of}
+use Rattle.su_pieces.proofs.PieceLemmas.{none_of_same}
 
 -- one more of each
 pub zip_push : {A B : Type 0} (R : A → B → Type 0) (xs : List A) (ys : List B) (x : A) (y : B) → AllZip R xs ys → R x y → AllZip R (xs ++ x ∷ []) (ys ++ y ∷ [])
@@ -31,3 +32,15 @@ pub zip_uncut : (path old new : List ℕ) (steps : List Step) (commands : List C
 zip_uncut path old new steps commands le all =
     subst (λ b. AllZip (Does path) (steps ++ cond b (Cuts (length new) ∷ []) []) commands) (sym (le-ltb (length new) (length old) le))
     (subst (λ ss. AllZip (Does path) ss commands) (sym (append-nil steps)) all)
+
+-- of the contents that stand there already nothing is put
+pub put_nothing : (path new : List ℕ) (commands : List Command) → Put path (Some new) new commands → commands ≡ []
+put_nothing path new [] put = refl
+put_nothing path new (command ∷ commands) put =
+    let none : put.pieces ≡ [] = none_of_same new put.pieces put.differing.each in
+    let steps : AllZip (Does path) (cut_of new new) (command ∷ commands) =
+    subst (λ ps. AllZip (Does path) (map (write_of new) ps ++ cut_of new new) (command ∷ commands)) none put.steps in
+    absurd (subst (λ b. AllZip (Does path) (cond b (Cuts (length new) ∷ []) []) (command ∷ commands)) (le-ltb (length new) (length new) (omega arith)) steps)
+
+pub put_same : (path : List ℕ) (old : Option (List ℕ)) (new : List ℕ) (commands : List Command) → Put path old new commands → old ≡ Some new → commands ≡ []
+put_same path old new commands put same = put_nothing path new commands (subst (λ o. Put path o new commands) same put)

@@ -16,13 +16,13 @@ use Rattle.su_draft.specs.Walk.{found}
 use Rattle.su_plan.specs.Plan.{plan}
 use Rattle.su_pieces.specs.Put.{Put}
 
--- the tree after operations of user a that are accepted, made one after another in the newest format
+-- the tree after operations of user a, each accepted in its turn, in the newest format
 abbrev pub tree_after : Membership → ℕ → Tree → List Op → Tree
 tree_after ro a T [] = T
 tree_after ro a T (op ∷ ops) = tree_after ro a (effect ro T (action_by a NEWEST_FORMAT op)) ops
 
--- Commands of user a, carried out one after another, each by its plan for the tree that those before
--- it left: the tree that they leave, or the first refusal.
+-- Commands of user a, carried out one after another, each by its plan for the tree that those
+-- before it left: the tree that they leave, or the first refusal.
 abbrev pub carried_out : Membership → ℕ → Tree → List Command → Result Tree Refusal
 carried_out ro a T [] = Ok T
 carried_out ro a T (command ∷ commands) = do
@@ -39,14 +39,16 @@ abbrev pub StandsAt : Tree → List ℕ → Option (List ℕ) → Type 0
 StandsAt T path None = ⊤
 StandsAt T path (Some old) = (file : FileId) × LeadsTo T path file old
 
--- afterwards the path leads to a file with the new contents, and every other file is as before
+-- T is the tree before, and T' that afterwards: the path leads to a file with the new contents,
+-- every other file has the contents that it had, and each path that led to a file leads to it.
 pub record PutsThere (T T' : Tree) (path new : List ℕ) : Type 0 where
   pub file : FileId
   pub there : LeadsTo T' path file new
   pub others : (g : FileId) → g ≢ file → contents T' g ≡ contents T g
+  pub paths : (other : List ℕ) (g : FileId) → found T other ≡ Ok g → found T' other ≡ Ok g
 
--- The commands of a put, carried out one after another, put the new contents there, and nothing
--- else.
+-- Where each command of a put is planned and accepted in its turn, they put the new contents there
+-- and change no other file.
 abbrev pub PutsAreCarriedOut : Type 0
 PutsAreCarriedOut = (ro : Membership) (a : ℕ) (T T' : Tree) (path : List ℕ)
     (old : Option (List ℕ)) (new : List ℕ) (commands : List Command)

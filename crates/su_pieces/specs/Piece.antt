@@ -11,7 +11,8 @@ use Rattle.su_pieces.specs.declared.pieces.Piece.{Piece}
 
 -- ---- which blocks differ
 
--- Block n of the new contents isn't what stands in its place in the old ones: other bytes, or fewer.
+-- Block n of the new contents isn't what stands in its place in the old ones, which are other bytes
+-- or fewer.
 unfoldable pub differs : List ℕ → List ℕ → ℕ → Bool
 differs old new n =
     not (pointwise nat_eq (within (BLOCK_SIZE * n) (length (block n new)) old) (block n new))
@@ -26,8 +27,8 @@ HasByte i p = (p.off ≤ i) × (i < p.off + p.len)
 
 -- ---- which pieces there are
 
--- A run of whole blocks of the new contents, of which the last one may be short: all of them differ,
--- and so does the one behind the run only where the run has as many bytes as a write can have.
+-- A run of whole blocks of the new contents, of which the last one may be short: all of them
+-- differ, and the one behind them does only where they have as many bytes as a write can have.
 pub record IsPiece (old new : List ℕ) (p : Piece) : Type 0 where
   pub some : 1 ≤ p.len
   pub most : p.len ≤ largest_write

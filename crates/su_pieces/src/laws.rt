@@ -1,8 +1,18 @@
-// What commands of a put do to a tree.
+// What holds of pieces and puts, by their definitions.
+ghost use Rattle.std.specs.Prelude.{◌≡◌, ℕ, List};
+ghost use Rattle.su_pieces.specs.declared.pieces.Piece.{Piece};
+ghost use Rattle.su_pieces.specs.Piece.{ArePieces};
 ghost use Rattle.su_pieces.specs.CarriedOut.{PutsAreCarriedOut};
 
-/// The commands of a put, carried out one after another, leave a tree in which the path leads to a
-/// file with the new contents, and every other file has the contents that it had.
+/// Old contents and new ones have pieces in one way.
+pub fn pieces_are_one()
+    ensures { (old new : List ℕ) (ps qs : List Piece)
+        → ArePieces old new ps → ArePieces old new qs → ps ≡ qs }
+{}
+
+/// Where each command of a put is planned and accepted in its turn, the path leads to a file with
+/// the new contents afterwards, every other file has the contents that it had, and each path that
+/// led to a file still leads to it.
 pub fn puts_are_carried_out()
     ensures { PutsAreCarriedOut }
 {}

@@ -1,5 +1,5 @@
 // The commands that put a file's new contents at a path.
-ghost use Rattle.std.specs.Prelude.{◌≡◌, ◌+◌, ◌<◌, ◌≤◌, ◌^◌, ◌++◌, map, length, None, Some, IfOk};
+ghost use Rattle.std.specs.Prelude.{◌≡◌, ◌+◌, ◌<◌, ◌≤◌, ◌^◌, ◌++◌, [], map, length, None, Some, IfOk};
 ghost use Rattle.std.specs.List.{All, AllZip};
 ghost use Rattle.std.specs.Option.{option_copied};
 ghost use Rattle.su_bytes.specs.declared.formats.TheConstants.{NEWEST_FORMAT};
@@ -21,8 +21,10 @@ pub fn put_commands(
     new: &[u8],
 ) -> Result<Vec<Command>, AllocError>
     requires { length new.now ≤ largest_file NEWEST_FORMAT }
-    ensures { IfOk result (λ commands.
+    ensures puts { IfOk result (λ commands.
         Put path.now (option_copied old.entry) new.now commands.items) }
+    ensures none { IfOk result (λ commands.
+        option_copied old.entry ≡ Some new.now → commands.items ≡ []) }
 {
     match old {
         None => created(alloc, path, new),
