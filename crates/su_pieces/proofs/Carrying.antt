@@ -39,7 +39,7 @@ use Rattle.su_plan.specs.Plan.{plan, unless_refused}
 use Rattle.su_pieces.specs.declared.pieces.Piece.{Piece}
 use Rattle.su_pieces.specs.Piece.{with_pieces, put_over}
 use Rattle.su_pieces.specs.Put.{Does, Put, Step, Step.Makes, Step.Writes, Step.Cuts, cut_of, write_of}
-use Rattle.su_pieces.specs.CarriedOut.{tree_after, carried_out, LeadsTo, PutsThere, PutsAreCarriedOut}
+use Rattle.su_pieces.specs.CarriedOut.{effects, carried_out, LeadsTo, PutsThere, PutsAreCarriedOut}
 use Rattle.su_pieces.proofs.PieceLemmas.{put_over_is}
 use Rattle.su_pieces.proofs.Standing.{Changed}
 use Rattle.su_pieces.proofs.Walks.{KeepsEntries, bind_is, contents_is, contents_same, contents_stand, entry_in, entry_is, entry_of, found_kept, walk_kept, walk_last}
@@ -86,7 +86,7 @@ record Ready (ro : Membership) (a : ℕ) (T : Tree) (ops : List Op) (last : Op) 
   sound : Sound tree
   same : (g : FileId) → standing tree g ≡ standing T g
   accepted : why ro tree (action_by a NEWEST_FORMAT last) ≡ None
-  after : tree_after ro a T ops ≡ effect ro tree (action_by a NEWEST_FORMAT last)
+  after : effects ro a T ops ≡ effect ro tree (action_by a NEWEST_FORMAT last)
 
 module _ (ro : Membership) (a : ℕ) (T : Tree) (sound : Sound T) where
   at_once : (last : Op) → first_refusal ro T a NEWEST_FORMAT (last ∷ []) ≡ None → Ready ro a T (last ∷ []) last
@@ -192,7 +192,7 @@ module _ (ro : Membership) (a : ℕ) (T : Tree) (sound : Sound T) (path : List �
   last_done : (ops : List Op) (last : Op) (cs : List ℕ) → Ready ro a T ops last
       → ((U : Tree) (i : Inode) → Sound U → standing U f ≡ Ok i → i.content ≡ Bytes bs → why ro U (action_by a NEWEST_FORMAT last) ≡ None
       → Changed U (effect ro U (action_by a NEWEST_FORMAT last)) f (record i { content = Bytes cs }))
-      → Left T (tree_after ro a T ops) path f cs
+      → Left T (effects ro a T ops) path f cs
   last_done ops last cs ready changes =
       let (i, stands, is) = contents_stand T f bs there.contents in
       subst (λ V. Left T V path f cs) (sym ready.after)
@@ -201,27 +201,27 @@ module _ (ro : Membership) (a : ℕ) (T : Tree) (sound : Sound T) (path : List �
       (changes ready.tree i ready.sound (ready.same f ∙ stands) is ready.accepted) refl)
 
   write_done : (off : ℕ) (xs : List ℕ) (ops : List Op) → write_draft T a path off xs ≡ Ok ops → first_refusal ro T a NEWEST_FORMAT ops ≡ None
-      → Left T (tree_after ro a T ops) path f (with_bytes_at off xs bs)
+      → Left T (effects ro a T ops) path f (with_bytes_at off xs bs)
   write_done off xs ops drafted none =
       let (g, d, found, take, is) = write_drafted T a path off xs ops drafted in
       let same : g ≡ f = ok_same (sym found ∙ there.found) in
       let w : Writing = record { file = f; off = off; bytes = xs } in
       let is_f : ops ≡ d.operations ++ op.Write w ∷ [] = is ∙ ap (λ (h : FileId). d.operations ++ op.Write (record { file = h; off = off; bytes = xs }) ∷ []) same in
       let take_f : with_take T (empty_draft a) f ≡ Ok d = ap (with_take T (empty_draft a)) (sym same) ∙ take in
-      subst (λ os. Left T (tree_after ro a T os) path f (with_bytes_at off xs bs)) (sym is_f)
+      subst (λ os. Left T (effects ro a T os) path f (with_bytes_at off xs bs)) (sym is_f)
       (last_done (d.operations ++ op.Write w ∷ []) (op.Write w) (with_bytes_at off xs bs)
       (ready ro a T sound f d (op.Write w) take_f (ap (first_refusal ro T a NEWEST_FORMAT) (sym is_f) ∙ none))
       (λ U i sound_u stands content why_none. write_changes ro U a NEWEST_FORMAT sound_u w i bs stands content why_none))
 
   truncate_done : (size : ℕ) (ops : List Op) → truncate_draft T a path size ≡ Ok ops → first_refusal ro T a NEWEST_FORMAT ops ≡ None
-      → Left T (tree_after ro a T ops) path f (with_size size bs)
+      → Left T (effects ro a T ops) path f (with_size size bs)
   truncate_done size ops drafted none =
       let (g, d, found, take, is) = truncate_drafted T a path size ops drafted in
       let same : g ≡ f = ok_same (sym found ∙ there.found) in
       let t : TruncateOp = record { file = f; size = size } in
       let is_f : ops ≡ d.operations ++ op.Truncate t ∷ [] = is ∙ ap (λ (h : FileId). d.operations ++ op.Truncate (record { file = h; size = size }) ∷ []) same in
       let take_f : with_take T (empty_draft a) f ≡ Ok d = ap (with_take T (empty_draft a)) (sym same) ∙ take in
-      subst (λ os. Left T (tree_after ro a T os) path f (with_size size bs)) (sym is_f)
+      subst (λ os. Left T (effects ro a T os) path f (with_size size bs)) (sym is_f)
       (last_done (d.operations ++ op.Truncate t ∷ []) (op.Truncate t) (with_size size bs)
       (ready ro a T sound f d (op.Truncate t) take_f (ap (first_refusal ro T a NEWEST_FORMAT) (sym is_f) ∙ none))
       (λ U i sound_u stands content why_none. truncate_changes ro U a NEWEST_FORMAT sound_u t i bs stands content why_none))
@@ -285,7 +285,7 @@ found_by T path x names f read walked = ap (λ r. r >>= (λ names. walk T root n
 
 -- the path then leads to a new file without contents
 create_done : (ro : Membership) (a : ℕ) (T : Tree) (path : List ℕ) (ops : List Op) → Sound T → make_draft T a File path ≡ Ok ops → first_refusal ro T a NEWEST_FORMAT ops ≡ None
-    → (f : FileId) × Left T (tree_after ro a T ops) path f []
+    → (f : FileId) × Left T (effects ro a T ops) path f []
 create_done ro a T path ops sound drafted none =
     let c = create_drafted T a path ops drafted in
     let r : Ready ro a T (c.draft.operations ++ op.Create c.make ∷ []) (op.Create c.make) =
@@ -305,7 +305,7 @@ create_done ro a T path ops sound drafted none =
       others = λ g other. made.others g other ∙ contents_same T r.tree g (r.same g);
       keeps = λ g y h e. made.keeps g y h (same_entries T r.tree r.same g y h e);
     } in
-    (c.make.file, subst (λ V. Left T V path c.make.file []) (sym (ap (tree_after ro a T) c.operations ∙ r.after)) left)
+    (c.make.file, subst (λ V. Left T V path c.make.file []) (sym (ap (effects ro a T) c.operations ∙ r.after)) left)
 
 -- ---- what a command is that does a step
 
@@ -365,15 +365,15 @@ module _ (ro : Membership) (a : ℕ) (path new : List ℕ) (f : FileId) (T' : Tr
   }
   writes_done (p ∷ ps) rest T bs [] sound there steps carried = absurd steps
   writes_done (p ∷ ps) rest T bs (command ∷ commands) sound there (does, steps) carried =
-      let (ops, plan, more) = bind_is (plan ro T a command) (λ ops. carried_out ro a (tree_after ro a T ops) commands) T' carried in
+      let (ops, plan, more) = bind_is (plan ro T a command) (λ ops. carried_out ro a (effects ro a T ops) commands) T' carried in
       let (drafted, none) = planned ro T a command ops plan in
       let xs = within p.off p.len new in
       let one = write_done ro a T sound path f bs there p.off xs ops (writing path p.off xs ro T a command ops does drafted) none in
-      let w = writes_done ps rest (tree_after ro a T ops) (with_bytes_at p.off xs bs) commands one.sound one.there steps more in
+      let w = writes_done ps rest (effects ro a T ops) (with_bytes_at p.off xs bs) commands one.sound one.there steps more in
       record {
         tree = w.tree;
         commands = w.commands;
-        left = left_then T (tree_after ro a T ops) w.tree path f (with_bytes_at p.off xs bs) (with_pieces new ps (with_bytes_at p.off xs bs)) one w.left;
+        left = left_then T (effects ro a T ops) w.tree path f (with_bytes_at p.off xs bs) (with_pieces new ps (with_bytes_at p.off xs bs)) one w.left;
         steps = w.steps;
         carried = w.carried;
       }
@@ -388,9 +388,9 @@ module _ (ro : Membership) (a : ℕ) (path new : List ℕ) (f : FileId) (T' : Tr
       subst (λ V. Left T V path f bs) (none_left T commands steps carried) (record { sound = sound; there = there; others = λ g other. refl; keeps = λ g y h e. e })
   cut_done T bs true size [] sound there steps carried = absurd steps
   cut_done T bs true size (command ∷ commands) sound there (does, steps) carried =
-      let (ops, plan, more) = bind_is (plan ro T a command) (λ ops. carried_out ro a (tree_after ro a T ops) commands) T' carried in
+      let (ops, plan, more) = bind_is (plan ro T a command) (λ ops. carried_out ro a (effects ro a T ops) commands) T' carried in
       let (drafted, none) = planned ro T a command ops plan in
-      subst (λ V. Left T V path f (with_size size bs)) (none_left (tree_after ro a T ops) commands steps more)
+      subst (λ V. Left T V path f (with_size size bs)) (none_left (effects ro a T ops) commands steps more)
       (truncate_done ro a T sound path f bs there size ops (cutting path size T a command ops does drafted) none)
 
   puts_there : (T : Tree) (bs : List ℕ) → bs ≡ new → Left T T' path f bs → PutsThere T T' path new
@@ -412,17 +412,17 @@ put_new_file : (ro : Membership) (a : ℕ) (T T' : Tree) (path new : List ℕ) (
 put_new_file ro a T T' path new [] sound put carried = absurd put.steps
 put_new_file ro a T T' path new (command ∷ commands) sound put carried =
     let (does, steps) = put.steps in
-    let (ops, plan, more) = bind_is (plan ro T a command) (λ ops. carried_out ro a (tree_after ro a T ops) commands) T' carried in
+    let (ops, plan, more) = bind_is (plan ro T a command) (λ ops. carried_out ro a (effects ro a T ops) commands) T' carried in
     let (drafted, none) = planned ro T a command ops plan in
     let (f, made) = create_done ro a T path ops sound (making path T a command ops does drafted) none in
     let all = subst (λ ss. AllZip (Does path) ss commands) (sym (append-nil (map (write_of new) put.pieces))) steps in
-    let w = writes_done ro a path new f T' put.pieces [] (tree_after ro a T ops) [] commands made.sound made.there all more in
+    let w = writes_done ro a path new f T' put.pieces [] (effects ro a T ops) [] commands made.sound made.there all more in
     let bs = with_pieces new put.pieces [] in
     let whole : bs ≡ new =
     sym (cond-false (nat_lt (length new) 0) (with_size (length new) bs) bs (le-ltb (length new) 0 (omega arith))) ∙ put_over_is [] new put.pieces put.differing in
     puts_there ro a path new f T' T bs whole
     (subst (λ V. Left T V path f bs) (none_left ro a path new f T' w.tree w.commands w.steps w.carried)
-    (left_then T (tree_after ro a T ops) w.tree path f [] bs made w.left))
+    (left_then T (effects ro a T ops) w.tree path f [] bs made w.left))
 
 pub puts_are_carried_out : PutsAreCarriedOut
 puts_are_carried_out ro a T T' path None new commands sound stands put carried = put_new_file ro a T T' path new commands sound put carried

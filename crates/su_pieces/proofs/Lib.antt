@@ -4,5 +4,6 @@ mod OnePieces
 mod Operations
 mod PieceLemmas
 mod PutLemmas
+mod SoundTrees
 mod Standing
 mod Walks

@@ -17,9 +17,9 @@ use Rattle.su_plan.specs.Plan.{plan}
 use Rattle.su_pieces.specs.Put.{Put}
 
 -- the tree after operations of user a, each accepted in its turn, in the newest format
-abbrev pub tree_after : Membership → ℕ → Tree → List Op → Tree
-tree_after ro a T [] = T
-tree_after ro a T (op ∷ ops) = tree_after ro a (effect ro T (action_by a NEWEST_FORMAT op)) ops
+abbrev pub effects : Membership → ℕ → Tree → List Op → Tree
+effects ro a T [] = T
+effects ro a T (op ∷ ops) = effects ro a (effect ro T (action_by a NEWEST_FORMAT op)) ops
 
 -- Commands of user a, carried out one after another, each by its plan for the tree that those
 -- before it left: the tree that they leave, or the first refusal.
@@ -27,7 +27,7 @@ abbrev pub carried_out : Membership → ℕ → Tree → List Command → Result
 carried_out ro a T [] = Ok T
 carried_out ro a T (command ∷ commands) = do
   ops ← plan ro T a command
-  carried_out ro a (tree_after ro a T ops) commands
+  carried_out ro a (effects ro a T ops) commands
 
 -- the path leads to that file, whose contents are these
 pub record LeadsTo (T : Tree) (path : List ℕ) (file : FileId) (bytes : List ℕ) : Type 0 where
