@@ -1,4 +1,5 @@
 mod Carrying
+mod Examples
 mod Fronts
 mod OnePieces
 mod Operations
