@@ -39,7 +39,7 @@ use Rattle.su_plan.specs.Plan.{plan, unless_refused}
 use Rattle.su_pieces.specs.declared.pieces.Piece.{Piece}
 use Rattle.su_pieces.specs.Piece.{with_pieces, put_over}
 use Rattle.su_pieces.specs.Put.{Does, Put, Step, Step.Makes, Step.Writes, Step.Cuts, cut_of, write_of}
-use Rattle.su_pieces.specs.CarriedOut.{effects, carried_out, LeadsTo, PutsThere, PutsAreCarriedOut}
+use Rattle.su_pieces.specs.CarriedOut.{effects, carried_out, LeadsTo, Leaves, PutsAreCarriedOut}
 use Rattle.su_pieces.proofs.PieceLemmas.{put_over_is}
 use Rattle.su_pieces.proofs.Standing.{Changed}
 use Rattle.su_pieces.proofs.Walks.{KeepsEntries, bind_is, contents_is, contents_same, contents_stand, entry_in, entry_is, entry_of, found_kept, walk_kept, walk_last}
@@ -164,6 +164,12 @@ left_by T U T' path f i j bs cs sound there same stands is changed content = rec
         (λ here. absurd (no_entry (sym (entry_is T f y ∙ ap (entry_of f y) stands ∙ ap (entry_in f y) is) ∙ ap (λ k. entry T k y) (sym here) ∙ e)))
         (λ other. entry_is T' g y ∙ ap (entry_of g y) (changed.others g other ∙ same g) ∙ sym (entry_is T g y) ∙ e)
         (file_cases g f)
+
+leaves : (T T' : Tree) (path : List ℕ) (f : FileId) (bs : List ℕ) → Left T T' path f bs → Leaves T T' path f bs
+leaves T T' path f bs left = record { there = left.there; others = left.others; paths = λ q g e. found_kept T T' q g left.keeps e }
+
+leaves_file : (T T' : Tree) (path : List ℕ) (f : FileId) (bs cs : List ℕ) → bs ≡ cs → Left T T' path f bs → (file : FileId) × Leaves T T' path file cs
+leaves_file T T' path f bs cs same left = (f, subst (Leaves T T' path f) same (leaves T T' path f bs left))
 
 -- ---- a write
 
@@ -393,22 +399,19 @@ module _ (ro : Membership) (a : ℕ) (path new : List ℕ) (f : FileId) (T' : Tr
       subst (λ V. Left T V path f (with_size size bs)) (none_left (effects ro a T ops) commands steps more)
       (truncate_done ro a T sound path f bs there size ops (cutting path size T a command ops does drafted) none)
 
-  puts_there : (T : Tree) (bs : List ℕ) → bs ≡ new → Left T T' path f bs → PutsThere T T' path new
-  puts_there T bs same left = record { file = f; there = subst (LeadsTo T' path f) same left.there; others = left.others; paths = λ q g e. found_kept T T' q g left.keeps e }
-
 -- where a file stands at the path
 put_over_file : (ro : Membership) (a : ℕ) (T T' : Tree) (path old new : List ℕ) (commands : List Command) (f : FileId) → Sound T → LeadsTo T path f old
-    → Put path (Some old) new commands → carried_out ro a T commands ≡ Ok T' → PutsThere T T' path new
+    → Put path (Some old) new commands → carried_out ro a T commands ≡ Ok T' → (file : FileId) × Leaves T T' path file new
 put_over_file ro a T T' path old new commands f sound there put carried =
     let w = writes_done ro a path new f T' put.pieces (cut_of old new) T old commands sound there put.steps carried in
     let bs = with_pieces new put.pieces old in
     let cut = cut_done ro a path new f T' w.tree bs (nat_lt (length new) (length old)) (length new) w.commands w.left.sound w.left.there w.steps w.carried in
-    puts_there ro a path new f T' T (put_over old new put.pieces) (put_over_is old new put.pieces put.differing)
+    leaves_file T T' path f (put_over old new put.pieces) new (put_over_is old new put.pieces put.differing)
     (left_then T w.tree T' path f bs (put_over old new put.pieces) w.left cut)
 
 -- where none does
 put_new_file : (ro : Membership) (a : ℕ) (T T' : Tree) (path new : List ℕ) (commands : List Command) → Sound T
-    → Put path None new commands → carried_out ro a T commands ≡ Ok T' → PutsThere T T' path new
+    → Put path None new commands → carried_out ro a T commands ≡ Ok T' → (file : FileId) × Leaves T T' path file new
 put_new_file ro a T T' path new [] sound put carried = absurd put.steps
 put_new_file ro a T T' path new (command ∷ commands) sound put carried =
     let (does, steps) = put.steps in
@@ -420,10 +423,33 @@ put_new_file ro a T T' path new (command ∷ commands) sound put carried =
     let bs = with_pieces new put.pieces [] in
     let whole : bs ≡ new =
     sym (cond-false (nat_lt (length new) 0) (with_size (length new) bs) bs (le-ltb (length new) 0 (omega arith))) ∙ put_over_is [] new put.pieces put.differing in
-    puts_there ro a path new f T' T bs whole
+    leaves_file T T' path f bs new whole
     (subst (λ V. Left T V path f bs) (none_left ro a path new f T' w.tree w.commands w.steps w.carried)
     (left_then T (effects ro a T ops) w.tree path f [] bs made w.left))
 
 pub puts_are_carried_out : PutsAreCarriedOut
 puts_are_carried_out ro a T T' path None new commands sound stands put carried = put_new_file ro a T T' path new commands sound put carried
 puts_are_carried_out ro a T T' path (Some old) new commands sound (f, there) put carried = put_over_file ro a T T' path old new commands f sound there put carried
+
+-- ---- each command alone
+
+pub make_carried_out : (ro : Membership) (a : ℕ) (T : Tree) (path : List ℕ) (command : Command) (ops : List Op) → Sound T → Does path Makes command
+    → plan ro T a command ≡ Ok ops → (file : FileId) × Leaves T (effects ro a T ops) path file []
+make_carried_out ro a T path command ops sound does e =
+    let (drafted, none) = planned ro T a command ops e in
+    let (f, left) = create_done ro a T path ops sound (making path T a command ops does drafted) none in
+    (f, leaves T (effects ro a T ops) path f [] left)
+
+pub write_carried_out : (ro : Membership) (a : ℕ) (T : Tree) (path : List ℕ) (file : FileId) (old : List ℕ) (off : ℕ) (bytes : List ℕ) (command : Command) (ops : List Op)
+    → Sound T → LeadsTo T path file old → Does path (Writes off bytes) command → plan ro T a command ≡ Ok ops → Leaves T (effects ro a T ops) path file (with_bytes_at off bytes old)
+write_carried_out ro a T path file old off bytes command ops sound there does e =
+    let (drafted, none) = planned ro T a command ops e in
+    leaves T (effects ro a T ops) path file (with_bytes_at off bytes old)
+    (write_done ro a T sound path file old there off bytes ops (writing path off bytes ro T a command ops does drafted) none)
+
+pub cut_carried_out : (ro : Membership) (a : ℕ) (T : Tree) (path : List ℕ) (file : FileId) (old : List ℕ) (size : ℕ) (command : Command) (ops : List Op)
+    → Sound T → LeadsTo T path file old → Does path (Cuts size) command → plan ro T a command ≡ Ok ops → Leaves T (effects ro a T ops) path file (with_size size old)
+cut_carried_out ro a T path file old size command ops sound there does e =
+    let (drafted, none) = planned ro T a command ops e in
+    leaves T (effects ro a T ops) path file (with_size size old)
+    (truncate_done ro a T sound path file old there size ops (cutting path size T a command ops does drafted) none)

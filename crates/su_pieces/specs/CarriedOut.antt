@@ -34,18 +34,19 @@ pub record LeadsTo (T : Tree) (path : List ℕ) (file : FileId) (bytes : List �
   pub found : found T path ≡ Ok file
   pub contents : contents T file ≡ Ok bytes
 
+-- T is the tree before, and T' that afterwards: the path leads to that file with these contents,
+-- every other file has the contents that it had, and each path that led to a file leads to it.
+pub record Leaves (T T' : Tree) (path : List ℕ) (file : FileId) (bytes : List ℕ) : Type 0 where
+  pub there : LeadsTo T' path file bytes
+  pub others : (g : FileId) → g ≢ file → contents T' g ≡ contents T g
+  pub paths : (other : List ℕ) (g : FileId) → found T other ≡ Ok g → found T' other ≡ Ok g
+
+-- ---- a put
+
 -- a file with the old contents stands at the path, where there are old ones
 abbrev pub StandsAt : Tree → List ℕ → Option (List ℕ) → Type 0
 StandsAt T path None = ⊤
 StandsAt T path (Some old) = (file : FileId) × LeadsTo T path file old
-
--- T is the tree before, and T' that afterwards: the path leads to a file with the new contents,
--- every other file has the contents that it had, and each path that led to a file leads to it.
-pub record PutsThere (T T' : Tree) (path new : List ℕ) : Type 0 where
-  pub file : FileId
-  pub there : LeadsTo T' path file new
-  pub others : (g : FileId) → g ≢ file → contents T' g ≡ contents T g
-  pub paths : (other : List ℕ) (g : FileId) → found T other ≡ Ok g → found T' other ≡ Ok g
 
 -- Where each command of a put is planned and accepted in its turn, they put the new contents there
 -- and change no other file.
@@ -53,4 +54,4 @@ abbrev pub PutsAreCarriedOut : Type 0
 PutsAreCarriedOut = (ro : Membership) (a : ℕ) (T T' : Tree) (path : List ℕ)
     (old : Option (List ℕ)) (new : List ℕ) (commands : List Command)
     → Sound T → StandsAt T path old → Put path old new commands
-    → carried_out ro a T commands ≡ Ok T' → PutsThere T T' path new
+    → carried_out ro a T commands ≡ Ok T' → (file : FileId) × Leaves T T' path file new

@@ -6,6 +6,8 @@ mod laws;
 mod pieces;
 mod put;
 
-pub use laws::{histories_leave_sound_trees, pieces_are_one, puts_are_carried_out};
+pub use laws::{
+    histories_leave_sound_trees, pieces_are_one, puts_are_carried_out, steps_are_carried_out,
+};
 pub use pieces::{Piece, differing};
 pub use put::put_commands;
