@@ -1,0 +1,4 @@
+mod Characters
+mod Examples
+mod HighBytes
+mod ShownLaws
