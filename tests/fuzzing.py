@@ -2,8 +2,8 @@
 """Gives the program bytes that mean harm, by chance: frames to a server with a store, logs to an audit, key files, public keys, scripts
 and replies to a client, and a store's files to a server at its start. Each is a good one that was changed (mutants.py). What has to hold
 after each: nothing ends by a signal or with a status that `--help` doesn't tell; nothing takes over five seconds; no program has more
-memory than docs/COSTS.md tells of far more work; what the second implementation says of the same bytes is what the program says; a file
-that is refused is as it was; and an honest client that works at the same server goes on.
+memory than docs/COSTS.md tells of far more work; what the second implementation says of the same bytes is what the program says; a key
+file that is refused is as it was, and a store that is refused is so again; and an honest client that works at the same server goes on.
 
 usage: fuzzing.py [--seconds N] [--seed S] [--first N] [--count N] [--models] [TARGET..]
 
@@ -448,7 +448,7 @@ def replies(chance, ground, room):
 # ---- a store at the start of a server
 
 def stored(chance, ground, room):
-    """A server refuses a store of which one file is changed, and leaves it, or shows all that was acknowledged."""
+    """A server refuses a store of which one file is changed, time and again, or shows all that was acknowledged."""
     base, names = ground.before
     folder = room.path()
     shutil.copytree(base, folder)
@@ -457,7 +457,7 @@ def stored(chance, ground, room):
     data = mutants.mangled(chance, read(f"{folder}/{name}"), [read(f"{folder}/{it}") for it in present])
     with open(f"{folder}/{name}", "wb") as file:
         file.write(data)
-    before = {it: read(f"{folder}/{it}") for it in present}
+    count = read(f"{folder}/records.count") if "records.count" in present else None
     port, started = free_port(), time.monotonic()
     words = ["serve", "--port", port, "--workers", 1, "--capacity", 100000, "--store", folder, "--cache", 1, "--sessions", 1]
     with Running([*words, *room.publics]) as server:
@@ -470,9 +470,18 @@ def stored(chance, ground, room):
             printed, told, status = server.end(LONGEST)
             if (printed, status) != ([], 1) or not is_told([said, *told], folder):
                 yield f"{name} of {len(data)} bytes: {said} {printed} {told} {status}"
-            elif any(read(f"{folder}/{it}") != before[it] for it in present):
-                yield f"{name} of {len(data)} bytes: a store that is refused isn't as it was: {said}"
+            else:
+                yield from refused_again([*words, *room.publics], said, name)
+                if count is not None and read(f"{folder}/records.count") != count:
+                    yield f"{name} of {len(data)} bytes: a server that refuses its store notes another count: {said}"
     shutil.rmtree(folder)
+
+
+def refused_again(words, said, name):
+    """What a server refuses it refuses again, with the same words: it mends nothing. (What of the log is sound goes into the file.)"""
+    ended = run(words)
+    if ended is None or ended[0] != b"" or ended[1] != [said] or ended[2] != 1:
+        yield f"{name}: refused as {said}, and then {ended}"
 
 
 def served_all(server, port, room, names, name):
