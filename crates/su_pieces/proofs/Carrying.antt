@@ -1,5 +1,5 @@
 -- Commands of a put, carried out one after another.
-use Rattle.std.proofs.Common.{◌≡◌, ℕ, ◌⊎◌, inl, inr, ⊎_elim, Bool, true, false, cond, nat_lt, List, [], ◌∷◌, ◌++◌, map, length, Option, Some, None, Result, Ok, Err, refl, sym, ap, subst, ◌∙◌, arith}
+use Rattle.std.proofs.Common.{◌≡◌, ℕ, ◌⊎◌, inl, inr, ⊎_elim, Bool, true, false, cond, nat_lt, List, [], ◌∷◌, ◌++◌, map, length, Option, Some, None, Ok, Err, refl, sym, ap, subst, ◌∙◌, arith}
 use Rattle.std.specs.List.{AllZip}
 use Rattle.std.specs.Option.{is_none, option_or}
 use Rattle.std.proofs.lemmas.List.{append-nil}
@@ -42,11 +42,8 @@ use Rattle.su_pieces.specs.Put.{Does, Put, Step, Step.Makes, Step.Writes, Step.C
 use Rattle.su_pieces.specs.CarriedOut.{effects, carried_out, LeadsTo, Leaves, PutsAreCarriedOut}
 use Rattle.su_pieces.proofs.PieceLemmas.{put_over_is}
 use Rattle.su_pieces.proofs.Standing.{Changed}
-use Rattle.su_pieces.proofs.Walks.{KeepsEntries, bind_is, contents_is, contents_same, contents_stand, entry_in, entry_is, entry_of, found_kept, walk_kept, walk_last}
+use Rattle.su_pieces.proofs.Walks.{KeepsEntries, found_before, ok_same, bind_is, contents_is, contents_same, contents_stand, entry_in, entry_is, entry_of, found_kept, walk_kept, walk_last}
 use Rattle.su_pieces.proofs.Operations.{MakesFile, create_makes, file_cases, no_entry, take_keeps, truncate_changes, write_changes}
-
-ok_same : {X : Type 0} {x y : X} → ◌≡◌ {A = Result X Refusal} (Ok x) (Ok y) → x ≡ y
-ok_same e = cc
 
 -- ---- plans
 
@@ -140,6 +137,7 @@ record Left (T T' : Tree) (path : List ℕ) (f : FileId) (bs : List ℕ) : Type 
   there : LeadsTo T' path f bs
   others : (g : FileId) → (g ≡ f → ⊥) → contents T' g ≡ contents T g
   keeps : KeepsEntries T T'
+  no_more : (path : List ℕ) (g : FileId) → (g ≡ f → ⊥) → found T' path ≡ Ok g → found T path ≡ Ok g
 
 left_then : (T U V : Tree) (path : List ℕ) (f : FileId) (bs cs : List ℕ) → Left T U path f bs → Left U V path f cs → Left T V path f cs
 left_then T U V path f bs cs one two = record {
@@ -147,6 +145,7 @@ left_then T U V path f bs cs one two = record {
   there = two.there;
   others = λ g other. two.others g other ∙ one.others g other;
   keeps = λ g y h e. two.keeps g y h (one.keeps g y h e);
+  no_more = λ q g other e. one.no_more q g other (two.no_more q g other e);
 }
 
 -- another inode with bytes stands for the file
@@ -157,8 +156,15 @@ left_by T U T' path f i j bs cs sound there same stands is changed content = rec
   there = record { found = found_kept T T' path f keeps there.found; contents = contents_is T' f j cs changed.here content };
   others = λ g other. contents_same T T' g (changed.others g other ∙ same g);
   keeps = keeps;
+  no_more = λ q g other e. found_kept T' T q g back e;
 }
   where
+    back : KeepsEntries T' T
+    back g y h e = ⊎_elim
+        (λ here. absurd (no_entry (sym (entry_is T' f y ∙ ap (entry_of f y) changed.here ∙ ap (entry_in f y) content) ∙ ap (λ k. entry T' k y) (sym here) ∙ e)))
+        (λ other. entry_is T g y ∙ ap (entry_of g y) (sym (changed.others g other ∙ same g)) ∙ sym (entry_is T' g y) ∙ e)
+        (file_cases g f)
+
     keeps : KeepsEntries T T'
     keeps g y h e = ⊎_elim
         (λ here. absurd (no_entry (sym (entry_is T f y ∙ ap (entry_of f y) stands ∙ ap (entry_in f y) is) ∙ ap (λ k. entry T k y) (sym here) ∙ e)))
@@ -166,7 +172,7 @@ left_by T U T' path f i j bs cs sound there same stands is changed content = rec
         (file_cases g f)
 
 leaves : (T T' : Tree) (path : List ℕ) (f : FileId) (bs : List ℕ) → Left T T' path f bs → Leaves T T' path f bs
-leaves T T' path f bs left = record { there = left.there; others = left.others; paths = λ q g e. found_kept T T' q g left.keeps e }
+leaves T T' path f bs left = record { there = left.there; others = left.others; paths = λ q g e. found_kept T T' q g left.keeps e; no_more = left.no_more }
 
 leaves_file : (T T' : Tree) (path : List ℕ) (f : FileId) (bs cs : List ℕ) → bs ≡ cs → Left T T' path f bs → (file : FileId) × Leaves T T' path file cs
 leaves_file T T' path f bs cs same left = (f, subst (Leaves T T' path f) same (leaves T T' path f bs left))
@@ -297,7 +303,7 @@ create_done ro a T path ops sound drafted none =
     let r : Ready ro a T (c.draft.operations ++ op.Create c.make ∷ []) (op.Create c.make) =
     ready ro a T sound c.make.dir c.draft (op.Create c.make) c.take (ap (first_refusal ro T a NEWEST_FORMAT) (sym c.operations) ∙ none) in
     let after = effect ro r.tree (action_by a NEWEST_FORMAT (op.Create c.make)) in
-    let made : MakesFile r.tree after c.make = create_makes ro r.tree a NEWEST_FORMAT r.sound c.make r.accepted in
+    let made : MakesFile r.tree after c.make = create_makes ro r.tree a NEWEST_FORMAT r.sound c.make c.kind r.accepted in
     let walked : walk after root (last_named c.first c.names).directory ≡ Ok c.make.dir =
     walk_kept r.tree after made.keeps root (last_named c.first c.names).directory c.make.dir
     (walk_kept T r.tree (same_entries T r.tree r.same) root (last_named c.first c.names).directory c.make.dir c.walked) in
@@ -310,6 +316,7 @@ create_done ro a T path ops sound drafted none =
       };
       others = λ g other. made.others g other ∙ contents_same T r.tree g (r.same g);
       keeps = λ g y h e. made.keeps g y h (same_entries T r.tree r.same g y h e);
+      no_more = λ q g other e. found_kept r.tree T q g (same_entries r.tree T (λ k. sym (r.same k))) (found_before r.tree after c.make.file q g made.new other e);
     } in
     (c.make.file, subst (λ V. Left T V path c.make.file []) (sym (ap (effects ro a T) c.operations ∙ r.after)) left)
 
@@ -365,7 +372,7 @@ module _ (ro : Membership) (a : ℕ) (path new : List ℕ) (f : FileId) (T' : Tr
   writes_done [] rest T bs commands sound there steps carried = record {
     tree = T;
     commands = commands;
-    left = record { sound = sound; there = there; others = λ g other. refl; keeps = λ g y h e. e };
+    left = record { sound = sound; there = there; others = λ g other. refl; keeps = λ g y h e. e; no_more = λ q g other e. e };
     steps = steps;
     carried = carried;
   }
@@ -391,7 +398,7 @@ module _ (ro : Membership) (a : ℕ) (path new : List ℕ) (f : FileId) (T' : Tr
   cut_done : (T : Tree) (bs : List ℕ) (b : Bool) (size : ℕ) (commands : List Command) → Sound T → LeadsTo T path f bs
       → AllZip (Does path) (cond b (Cuts size ∷ []) []) commands → carried_out ro a T commands ≡ Ok T' → Left T T' path f (cond b (with_size size bs) bs)
   cut_done T bs false size commands sound there steps carried =
-      subst (λ V. Left T V path f bs) (none_left T commands steps carried) (record { sound = sound; there = there; others = λ g other. refl; keeps = λ g y h e. e })
+      subst (λ V. Left T V path f bs) (none_left T commands steps carried) (record { sound = sound; there = there; others = λ g other. refl; keeps = λ g y h e. e; no_more = λ q g other e. e })
   cut_done T bs true size [] sound there steps carried = absurd steps
   cut_done T bs true size (command ∷ commands) sound there (does, steps) carried =
       let (ops, plan, more) = bind_is (plan ro T a command) (λ ops. carried_out ro a (effects ro a T ops) commands) T' carried in

@@ -1,9 +1,9 @@
 -- Worked examples of the definitions.
 use Rattle.std.proofs.Common.{◌≡◌, ℕ, true, false, List, [], ◌∷◌, ◌++◌, Some, None, replicate, refl}
 use Rattle.su_node.specs.Field.{block}
-use Rattle.su_node.specs.InodeChange.{with_bytes_at, with_size}
+use Rattle.su_node.specs.InodeChange.{with_size}
 use Rattle.su_pieces.specs.declared.pieces.Piece.{Piece}
-use Rattle.su_pieces.specs.Piece.{differs, with_pieces, put_over}
+use Rattle.su_pieces.specs.Piece.{differs, put_over}
 use Rattle.su_pieces.specs.Put.{Step.Makes, Step.Writes, Step.Cuts, put_steps}
 
 -- two blocks, the second of which is short

@@ -6,6 +6,7 @@ use Rattle.std.specs.FinMap.{FinMap, get}
 use Rattle.su_bytes.specs.declared.file_ids.FileId.{FileId}
 use Rattle.su_bytes.specs.declared.file_ids.FileId.TheVariants.{User, Group}
 use Rattle.su_bytes.specs.declared.file_ids.Kind.{Kind}
+use Rattle.su_bytes.specs.declared.file_ids.Kind.TheVariants.{File}
 use Rattle.su_bytes.specs.declared.formats.Format.{Format}
 use Rattle.su_bytes.specs.declared.refusals.Refusal.{Refusal}
 use Rattle.su_bytes.specs.declared.refusals.Refusal.TheVariants.{NoName, NoFile, WrongKind}
@@ -33,7 +34,7 @@ use Rattle.su_op.specs.Soundness.{Sound}
 use Rattle.su_op.proofs.Public.{gives_of, get-set_name, name_eq-itself, name_eq-same}
 use Rattle.su_draft.specs.Walk.{entry}
 use Rattle.su_pieces.proofs.Standing.{Changed, added, altered, altered_body, altered_free, body_home, body_taken, file_eq-itself, file_eq-same}
-use Rattle.su_pieces.proofs.Walks.{KeepsEntries, contents_same, entry_in, entry_is, entry_of}
+use Rattle.su_pieces.proofs.Walks.{KeepsEntries, NewEntries, ok_same, contents_same, entry_in, entry_is, entry_of}
 
 -- ---- which file it is
 
@@ -183,9 +184,10 @@ pub record MakesFile (T T' : Tree) (c : Create) : Type 0 where
   pub file : standing T' c.file ≡ Ok (new_inode c.file c.kind)
   pub named : entry T' c.dir c.name ≡ Ok c.file
   pub keeps : KeepsEntries T T'
+  pub new : NewEntries T T' c.file
   pub others : (g : FileId) → (g ≡ c.file → ⊥) → contents T' g ≡ contents T g
 
-module _ (ro : Membership) (T : Tree) (a : ℕ) (format : Format) (sound : Sound T) (c : Create) where
+module _ (ro : Membership) (T : Tree) (a : ℕ) (format : Format) (sound : Sound T) (c : Create) (kind : c.kind ≡ File) where
   -- by the plan: the directory, its inode, and what was free
   module _ (d : Place) (i : Inode) (m : Entries) (at : body T c.dir ≡ Some d) (stands : get T.inodes d ≡ Some i) (is : i.content ≡ Names m)
       (own : is_own_number a c.body c.file ≡ true) (pointer : is_pointer_free T c.file ≡ true) (free : is_free_at T (a, c.body) ≡ true) (name : get m c.name ≡ None) where
@@ -263,6 +265,27 @@ module _ (ro : Membership) (T : Tree) (a : ℕ) (format : Format) (sound : Sound
         go (inr other) (inl new) = absurd (no_directory y h (ap (λ k. entry T k y) (sym new) ∙ e))
         go (inr other) (inr new) = entry_is After g y ∙ ap (entry_of g y) (elsewhere g other new) ∙ sym (entry_is T g y) ∙ e
 
+    no_more_in_directory : (y : Name) (h : FileId) → entry After c.dir y ≡ Ok h → (entry T c.dir y ≡ Ok h) ⊎ (h ≡ c.file)
+    no_more_in_directory y h e = go (name_eq y c.name)
+        (ap (λ o. ok_or o NoName) (sym (get-set_name m c.name (Some c.file) y)) ∙ sym (entry_is After c.dir y ∙ ap (entry_of c.dir y) directory_after) ∙ e)
+      where
+        go : (b : Bool) → ok_or (cond b (Some c.file) (get m y)) NoName ≡ Ok h → (entry T c.dir y ≡ Ok h) ⊎ (h ≡ c.file)
+        go true is_new = inr (sym (ok_same is_new))
+        go false was = inl (entry_is T c.dir y ∙ ap (entry_of c.dir y) directory_before ∙ ap (entry_in c.dir y) is ∙ was)
+
+    no_entry_after : (y : Name) (h : FileId) → entry After c.file y ≡ Ok h → ⊥
+    no_entry_after y h e =
+        no_entry (sym (entry_is After c.file y ∙ ap (entry_of c.file y) (second.here ∙ ap (λ k. Ok (new_inode c.file k)) kind)) ∙ e)
+
+    entries_before : (g : FileId) (y : Name) (h : FileId) → entry After g y ≡ Ok h → (entry T g y ≡ Ok h) ⊎ (h ≡ c.file)
+    entries_before g y h e = go (file_cases g c.dir) (file_cases g c.file)
+      where
+        go : (g ≡ c.dir) ⊎ (g ≡ c.dir → ⊥) → (g ≡ c.file) ⊎ (g ≡ c.file → ⊥) → (entry T g y ≡ Ok h) ⊎ (h ≡ c.file)
+        go (inl same) new =
+            subst (λ k. (entry T k y ≡ Ok h) ⊎ (h ≡ c.file)) (sym same) (no_more_in_directory y h (ap (λ k. entry After k y) (sym same) ∙ e))
+        go (inr other) (inl new) = absurd (no_entry_after y h (ap (λ k. entry After k y) (sym new) ∙ e))
+        go (inr other) (inr new) = inl (entry_is T g y ∙ ap (entry_of g y) (sym (elsewhere g other new)) ∙ sym (entry_is After g y) ∙ e)
+
     contents_kept : (g : FileId) → (g ≡ c.file → ⊥) → contents After g ≡ contents T g
     contents_kept g new = go (file_cases g c.dir)
       where
@@ -273,7 +296,7 @@ module _ (ro : Membership) (T : Tree) (a : ℕ) (format : Format) (sound : Sound
         go (inr other) = contents_same T After g (elsewhere g other new)
 
     made_all : MakesFile T After c
-    made_all = record { file = second.here; named = named_after; keeps = entries_kept; others = contents_kept }
+    made_all = record { file = second.here; named = named_after; keeps = entries_kept; new = record { before = entries_before; ends = no_entry_after }; others = contents_kept }
 
   pub create_makes : why ro T (action_by a format (op.Create c)) ≡ None → MakesFile T (effect ro T (action_by a format (op.Create c))) c
   unfolding why effect

@@ -1,5 +1,5 @@
 -- What a path leads to, by the inodes that stand for files.
-use Rattle.std.proofs.Common.{◌≡◌, ℕ, Bool, true, false, cond, List, [], ◌∷◌, Option, Some, None, Result, Ok, Err, refl, ap, ◌∙◌}
+use Rattle.std.proofs.Common.{◌≡◌, ℕ, Bool, true, false, cond, List, [], ◌∷◌, Option, Some, None, Result, Ok, Err, refl, ap, ◌∙◌, ◌⊎◌, ⊎_elim, sym}
 use Rattle.std.specs.Option.{ok_or}
 use Rattle.std.specs.FinMap.{get}
 use Rattle.su_bytes.specs.declared.file_ids.FileId.{FileId}
@@ -21,6 +21,9 @@ use Rattle.su_draft.specs.Walk.{root, file_held, led_to, directory_at, directory
 pub bind_is : {A B : Type 0} (r : Result A Refusal) (k : A → Result B Refusal) (y : B) → (r >>= k) ≡ Ok y → (x : A) × (r ≡ Ok x) × (k x ≡ Ok y)
 bind_is (Ok x) k y e = (x, refl, e)
 bind_is (Err r) k y e = absurd cc
+
+pub ok_same : {X : Type 0} {x y : X} → ◌≡◌ {A = Result X Refusal} (Ok x) (Ok y) → x ≡ y
+ok_same e = cc
 
 -- ---- a step from a directory
 
@@ -78,6 +81,32 @@ unfolding found at
 found_kept T T' path h keeps e =
     let (names, is, rest) = bind_is (path_names path) (λ names. walk T root names) h e in
     ap (λ r. r >>= (λ names. walk T' root names)) is ∙ walk_kept T T' keeps root names h rest
+
+-- each step that can be made could be made before, or leads to the file, from which there is none
+pub record NewEntries (T T' : Tree) (f : FileId) : Type 0 where
+  pub before : (g : FileId) (y : Name) (h : FileId) → entry T' g y ≡ Ok h → (entry T g y ≡ Ok h) ⊎ (h ≡ f)
+  pub ends : (y : Name) (h : FileId) → entry T' f y ≡ Ok h → ⊥
+
+no_walk : (T T' : Tree) (f : FileId) → NewEntries T T' f → (names : List Name) (h : FileId) → (h ≡ f → ⊥) → walk T' f names ≡ Ok h → ⊥
+no_walk T T' f new [] h other e = other (ok_same (sym e))
+no_walk T T' f new (x ∷ names) h other e =
+    let (next, first, rest) = bind_is (entry T' f x) (λ g. walk T' g names) h e in
+    new.ends x next first
+
+walk_before : (T T' : Tree) (f : FileId) → NewEntries T T' f → (g : FileId) (names : List Name) (h : FileId) → (h ≡ f → ⊥) → walk T' g names ≡ Ok h → walk T g names ≡ Ok h
+walk_before T T' f new g [] h other e = e
+walk_before T T' f new g (x ∷ names) h other e =
+    let (next, first, rest) = bind_is (entry T' g x) (λ k. walk T' k names) h e in
+    let later = walk_before T T' f new next names h other rest in
+    ⊎_elim (λ was. ap (λ r. r >>= (λ k. walk T k names)) was ∙ later)
+    (λ same. absurd (no_walk T T' f new names h other (ap (λ k. walk T' k names) (sym same) ∙ rest)))
+    (new.before g x next first)
+
+pub found_before : (T T' : Tree) (f : FileId) (path : List ℕ) (h : FileId) → NewEntries T T' f → (h ≡ f → ⊥) → found T' path ≡ Ok h → found T path ≡ Ok h
+unfolding found at
+found_before T T' f path h new other e =
+    let (names, is, rest) = bind_is (path_names path) (λ names. walk T' root names) h e in
+    ap (λ r. r >>= (λ names. walk T root names)) is ∙ walk_before T T' f new root names h other rest
 
 -- the last step of a walk
 pub walk_last : (T : Tree) (f : FileId) (x : Name) (names : List Name) (d h : FileId) → walk T f (last_named x names).directory ≡ Ok d

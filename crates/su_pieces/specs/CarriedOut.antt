@@ -35,11 +35,14 @@ pub record LeadsTo (T : Tree) (path : List ℕ) (file : FileId) (bytes : List �
   pub contents : contents T file ≡ Ok bytes
 
 -- T is the tree before, and T' that afterwards: the path leads to that file with these contents,
--- every other file has the contents that it had, and each path that led to a file leads to it.
+-- every other file has the contents that it had, each path that led to a file leads to it, and each
+-- that leads to another file led to it before.
 pub record Leaves (T T' : Tree) (path : List ℕ) (file : FileId) (bytes : List ℕ) : Type 0 where
   pub there : LeadsTo T' path file bytes
   pub others : (g : FileId) → g ≢ file → contents T' g ≡ contents T g
   pub paths : (other : List ℕ) (g : FileId) → found T other ≡ Ok g → found T' other ≡ Ok g
+  pub no_more : (other : List ℕ) (g : FileId)
+      → g ≢ file → found T' other ≡ Ok g → found T other ≡ Ok g
 
 -- ---- a put
 

@@ -23,7 +23,7 @@ pub fn pieces_are_one()
 
 /// A command that is planned and accepted does its step and nothing else: it makes an empty file at
 /// the path, writes to the file that the path leads to, or cuts it. Every other file has the
-/// contents that it had, and each path that led to a file still leads to it.
+/// contents that it had, and the paths that lead to it are those that led there.
 pub fn steps_are_carried_out()
     ensures makes { (ro : Membership) (a : ℕ) (T : Tree) (path : List ℕ) (command : Command)
         (ops : List Op) → Sound T → Does path Makes command → plan ro T a command ≡ Ok ops
@@ -41,8 +41,8 @@ pub fn steps_are_carried_out()
 {}
 
 /// Where each command of a put is planned and accepted in its turn, the path leads to a file with
-/// the new contents afterwards, every other file has the contents that it had, and each path that
-/// led to a file still leads to it.
+/// the new contents afterwards, every other file has the contents that it had, and the paths that
+/// lead to it are those that led there.
 pub fn puts_are_carried_out()
     ensures { PutsAreCarriedOut }
 {}
