@@ -1,0 +1,8 @@
+mod Digits
+mod Examples
+mod GroupLemmas
+mod KeptTimes
+mod NextUsers
+mod TeamUserLemmas
+mod UserLines
+mod WholeTexts

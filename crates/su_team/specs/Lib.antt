@@ -1,0 +1,5 @@
+pub mod Group
+pub mod Team
+pub mod TeamUsers
+pub mod Time
+pub mod WrongLine
