@@ -31,7 +31,7 @@ from serving import is_told, read
 RUNS_AT_ONCE = 4
 LONG = 200  # bytes, from which on only some places are tried
 SOME = 40  # places of those
-MISSING = 600  # records that aren't there; no client asks for so many in one turn
+MISSING = 1000  # records that aren't there: no client asks for so many in one turn (256 ahead, then each by itself, then 256 ahead)
 EACH = 255  # other bytes that there are
 ROOT = "G0:1"
 

@@ -351,7 +351,9 @@ def public_keys(chance, ground, room):
     publics = [path if n == user else it for n, it in enumerate(room.publics)]
     is_key = lms.is_key(data)
     ended = [run(["audit", "--log", log, *publics]), run([*room.words(ground.port, GUEST)[:-3], *publics], b"ls /\n")]
-    printed = [b"ok 0\n", b"" if data == room.public_keys[user] else b"no 34 WrongPrev 0\n"]
+    # (the first commit is the member's, so that with another key of that user it isn't signed)
+    refused = b"no 33 BadSignature\n" if user == MEMBER else b"no 34 WrongPrev 0\n"
+    printed = [b"ok 0\n", b"" if data == room.public_keys[user] else refused]
     for it, wanted in zip(ended, printed):
         is_refused = it is not None and (it[0], it[2]) == (b"", 1) and is_told(it[1], path, "9 BadKey")
         if not is_key and not is_refused or is_key and it != (wanted, [], 0) and not is_listing(it, data, room):
