@@ -2,3 +2,4 @@ mod Characters
 mod Examples
 mod HighBytes
 mod ShownLaws
+pub mod Public
