@@ -1,2 +1,3 @@
 pub mod LiveEntries
 pub mod Ways
+pub mod Public

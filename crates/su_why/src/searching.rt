@@ -1,0 +1,71 @@
+// What has to be undone before an operation of a list can be.
+ghost use Rattle.std.specs.Prelude.{◌≡◌, ◌⊎◌, Some, map, IfOk, IfErr};
+ghost use Rattle.su_bytes.specs.declared.refusals.Refusal.TheVariants.{NoMemory};
+ghost use Rattle.su_desk.specs.Answer.{Good, live_refusal};
+ghost use Rattle.su_legal.specs.Legal.{history};
+ghost use Rattle.su_reasons.specs.Reasons.{AreReasons};
+
+use crate::entries::entries_of;
+use std::alloc::{AllocError, Global};
+use su_block::BlockSource;
+use su_bytes::{FileId, Refusal, Roster, User};
+use su_desk::{Desk, Entry};
+use su_reasons::reasons;
+use su_view::View;
+
+/// Finds the operations of a view's list that have to be undone before that one can be, in an order
+/// in which they can be: `su_reasons::reasons` of the history that the list tells, which is gone
+/// through once more on a desk of its own. `roster` is the view's. `NoOperation`, `NotOperation`,
+/// `AlreadyUndone` where the number isn't that of a live operation; else only `NoMemory`.
+pub fn reasons_in<S: BlockSource + Drop>(
+    alloc: Global,
+    roster: Roster,
+    view: &View<S>,
+    number: u64,
+) -> Result<Vec<u64>, Refusal>
+    requires { roster ≡ view.now.holding.roster }
+    ensures reasons { let v = view.now.holding in IfOk result (λ numbers.
+        AreReasons v.roster (history v.held) number numbers.items) }
+    ensures refused { IfErr result (λ e. (e ≡ NoMemory)
+        ⊎ (live_refusal (history view.now.holding.held) number ≡ Some e)) }
+{
+    // names the type for the prover (docs/ARCHITECTURE.md, "Forms the kit wants")
+    let _file: Option<FileId> = None;
+    let _head = view.head();
+    let entries = entries_of(alloc, view)?;
+    let authors = authors_of(alloc, entries.as_slice())?;
+    let mut desk = desk_after(alloc, roster, entries)?;
+    reasons(alloc, &mut desk, authors.as_slice(), number)
+}
+
+/// Returns the authors of entries.
+fn authors_of(alloc: Global, entries: &[Entry]) -> Result<Vec<User>, AllocError>
+    ensures { IfOk result (λ authors. authors.items ≡ map (λ e. e.author) entries.now) }
+{
+    let mut authors = Vec::new(alloc);
+    for entry in entries {
+        authors.push(entry.author)?;
+    }
+    Ok(authors)
+}
+
+/// Makes the desk of a good history. Fails only with `NoMemory`.
+fn desk_after(alloc: Global, roster: Roster, entries: Vec<Entry>) -> Result<Desk, Refusal>
+    requires { Good roster entries.items }
+    ensures value { IfOk result (λ desk.
+        desk ≡ record { roster = roster; history = entries.items }) }
+    ensures refused { IfErr result (λ e. e ≡ NoMemory) }
+{
+    // names the type for the prover (docs/ARCHITECTURE.md, "Forms the kit wants")
+    let _file: Option<FileId> = None;
+    let mut desk = Desk::new(alloc, roster)?;
+    for entry in entries {
+        let Entry {
+            author,
+            format,
+            change,
+        } = entry;
+        desk.apply_as(format, author, change)?;
+    }
+    Ok(desk)
+}
