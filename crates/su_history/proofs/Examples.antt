@@ -1,0 +1,68 @@
+-- Worked examples of the definitions.
+use Rattle.std.proofs.Common.{◌≡◌, ℕ, List, [], ◌∷◌, refl}
+use Rattle.su_bytes.specs.declared.formats.Format.TheVariants.{V3}
+use Rattle.su_bytes.specs.declared.file_ids.FileId.{FileId}
+use Rattle.su_bytes.specs.declared.file_ids.FileId.TheVariants.{Group}
+use Rattle.su_bytes.specs.declared.file_ids.Kind.TheVariants.{File}
+use Rattle.su_bytes.specs.Place.{place_eq}
+use Rattle.su_op.specs.declared.create.Create as creates
+use Rattle.su_op.specs.declared.operations.Op.TheVariants.{Create, Write, Truncate}
+use Rattle.su_op.specs.declared.operations.Change.TheVariants.{Do}
+use Rattle.su_desk.specs.declared.entries.Entry.{Entry}
+use Rattle.su_desk.specs.History.{entry_by, undo_by, rekey_by}
+use Rattle.su_history.specs.declared.line.Line.{Line}
+use Rattle.su_history.specs.declared.line.Deed.{Deed}
+use Rattle.su_history.specs.declared.line.Deed.TheVariants.{Made, Put, Wrote, Cut, Undid, NamedKey}
+use Rattle.su_history.specs.declared.line.Fate.{Fate}
+use Rattle.su_history.specs.declared.line.Fate.TheVariants.{Live, Undone, Lasting}
+use Rattle.su_history.specs.Line.{lines}
+
+-- number 7 of group 0
+abbrev plan : FileId
+plan = Group 0 7
+
+-- its making, under the name a in the root directory
+abbrev making : creates.Create
+making = record { dir = Group 0 1; name = 97 ∷ []; file = plan; body = 3; kind = File }
+
+abbrev creates_it : ℕ → Entry
+creates_it a = entry_by a V3 (Do (Create making))
+
+-- a write of these bytes at its beginning
+abbrev writes_it : ℕ → List ℕ → Entry
+writes_it a bytes = entry_by a V3 (Do (Write (record { file = plan; off = 0; bytes = bytes })))
+
+abbrev cuts_it : ℕ → ℕ → Entry
+cuts_it a size = entry_by a V3 (Do (Truncate (record { file = plan; size = size })))
+
+abbrev line : ℕ → ℕ → ℕ → Deed → Fate → Line
+line first last author deed fate = record { first = first; last = last; author = author; deed = deed; fate = fate }
+
+-- user 1 puts a file by two writes; user 2 writes to it, and undoes that
+a_put_and_an_undo : lines (creates_it 1 ∷ writes_it 1 (7 ∷ 8 ∷ []) ∷ writes_it 1 (9 ∷ []) ∷ writes_it 2 (5 ∷ []) ∷ undo_by 2 V3 4 ∷ [])
+    ≡ line 1 3 1 (Put making 3) Live ∷ line 4 4 2 (Wrote plan 1) (Undone 5) ∷ line 5 5 2 (Undid 4) Lasting ∷ []
+unfolding place_eq
+a_put_and_an_undo = refl
+
+-- of two writes by one user the second is undone: they are two lines
+half_undone : lines (writes_it 1 (7 ∷ 8 ∷ []) ∷ writes_it 1 (9 ∷ []) ∷ undo_by 1 V3 2 ∷ [])
+    ≡ line 1 1 1 (Wrote plan 2) Live ∷ line 2 2 1 (Wrote plan 1) (Undone 3) ∷ line 3 3 1 (Undid 2) Lasting ∷ []
+unfolding place_eq
+half_undone = refl
+
+-- both are undone: they are one, undone by the undo of the last
+all_undone : lines (writes_it 1 (7 ∷ 8 ∷ []) ∷ writes_it 1 (9 ∷ []) ∷ undo_by 1 V3 2 ∷ undo_by 1 V3 1 ∷ [])
+    ≡ line 1 2 1 (Wrote plan 3) (Undone 3) ∷ line 3 3 1 (Undid 2) Lasting ∷ line 4 4 1 (Undid 1) Lasting ∷ []
+unfolding place_eq
+all_undone = refl
+
+-- shorter contents: a write and a cut; then a cut by another, and another key
+a_shorter_put : lines (writes_it 1 (7 ∷ []) ∷ cuts_it 1 1 ∷ cuts_it 2 0 ∷ rekey_by 2 V3 [] ∷ [])
+    ≡ line 1 2 1 (Wrote plan 1) Live ∷ line 3 3 2 (Cut (record { file = plan; size = 0 })) Live ∷ line 4 4 2 NamedKey Lasting ∷ []
+unfolding place_eq
+a_shorter_put = refl
+
+-- an empty file, and what is made after another one's write begins a line
+made_alone : lines (creates_it 1 ∷ writes_it 2 (7 ∷ []) ∷ []) ≡ line 1 1 1 (Made making) Live ∷ line 2 2 2 (Wrote plan 1) Live ∷ []
+unfolding place_eq
+made_alone = refl

@@ -1,0 +1,6 @@
+mod Examples
+mod LawLemmas
+mod LineLemmas
+mod NumberedEntries
+mod RunLemmas
+mod UndoerLemmas

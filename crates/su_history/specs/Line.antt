@@ -1,0 +1,163 @@
+-- What a history is for people, line by line: entries that belong together are one line.
+use Rattle.std.specs.Prelude.{◌≡◌, ℕ, ◌+◌, ◌-◌, ◌<◌, Bool, false, ◌&&◌, List, [], ◌∷◌, map, length, get_or, Option, None, Some, nat_eq, if◌then◌else◌}
+use Rattle.std.specs.List.{range_with_len, sum_by}
+use Rattle.std.proofs.Math.Bool.{beq}
+use Rattle.std.specs.Option.{is_some}
+use Rattle.su_bytes.specs.declared.file_ids.FileId.{FileId}
+use Rattle.su_bytes.specs.declared.file_ids.Kind.{Kind}
+use Rattle.su_bytes.specs.declared.file_ids.Kind.TheVariants.{File, Dir}
+use Rattle.su_bytes.specs.Place.{file_eq}
+use Rattle.su_op.specs.declared.operations.Op.{Op}
+use Rattle.su_op.specs.declared.operations.Op.TheVariants.{Create, Unlink, Write, Truncate, Take, Link, Rename, Drop}
+use Rattle.su_op.specs.declared.operations.Change.{Change}
+use Rattle.su_op.specs.declared.operations.Change.TheVariants.{Do, Undo, Rekey}
+use Rattle.su_desk.specs.declared.entries.Entry.{Entry}
+use Rattle.su_desk.specs.History.{undoer}
+use Rattle.su_history.specs.declared.line.Line.{Line}
+use Rattle.su_history.specs.declared.line.Deed.{Deed}
+use Rattle.su_history.specs.declared.line.Deed.TheVariants.{Made, Put, Wrote, Cut, Linked, Renamed, Removed, TookOver, Dropped, Undid, NamedKey}
+use Rattle.su_history.specs.declared.line.Fate.{Fate}
+use Rattle.su_history.specs.declared.line.Fate.TheVariants.{Live, Undone, Lasting}
+
+-- ---- the entries of a history
+
+-- an entry with its number, and with that of the entry that undid it
+pub record NumberedEntry : Type 0 where
+  pub number : ℕ
+  pub entry : Entry
+  pub undoer : Option ℕ
+
+-- those entries of history h, of which the first has number n
+abbrev pub numbered_from : List Entry → ℕ → List Entry → List NumberedEntry
+numbered_from h n [] = []
+numbered_from h n (e ∷ es) =
+    record { number = n; entry = e; undoer = undoer h n } ∷ numbered_from h (n + 1) es
+
+abbrev pub numbered : List Entry → List NumberedEntry
+numbered h = numbered_from h 1 h
+
+-- ---- which of them are one line
+
+-- the file that a change writes to or cuts
+abbrev pub edited : Change → Option FileId
+edited (Do (Write w)) = Some w.file
+edited (Do (Truncate t)) = Some t.file
+edited _ = None
+
+-- the file of a create, if it makes one
+abbrev pub made : Kind → FileId → Option FileId
+made File f = Some f
+made Dir f = None
+
+-- the file that a change makes, writes to or cuts
+abbrev pub filled : Change → Option FileId
+filled (Do (Create c)) = made c.kind c.file
+filled c = edited c
+
+-- both are files, and the same one
+abbrev pub are_one : Option FileId → Option FileId → Bool
+are_one (Some f) (Some g) = file_eq f g
+are_one _ _ = false
+
+-- the second change writes to or cuts the file that the first makes, writes to or cuts
+abbrev pub is_same_file : Change → Change → Bool
+is_same_file c next = are_one (filled c) (edited next)
+
+-- An entry goes on with e, the one before it: its author is the same, it writes to or cuts the file
+-- that e makes, writes to or cuts, and both are undone or neither is.
+abbrev pub goes_on : NumberedEntry → NumberedEntry → Bool
+goes_on e next = nat_eq e.entry.author next.entry.author
+    && is_same_file e.entry.change next.entry.change
+    && beq (is_some e.undoer) (is_some next.undoer)
+
+-- entries in a row: the first one, and the others
+pub record Run : Type 0 where
+  pub first : NumberedEntry
+  pub others : List NumberedEntry
+
+-- the runs with an entry before them: in the first run where that one goes on with it, else alone
+abbrev pub with_first : NumberedEntry → List Run → List Run
+with_first e [] = record { first = e; others = [] } ∷ []
+with_first e (r ∷ rs) =
+    if goes_on e r.first then record { first = e; others = r.first ∷ r.others } ∷ rs
+    else record { first = e; others = [] } ∷ r ∷ rs
+
+-- the longest runs of entries in which each other one goes on with the one before it
+abbrev pub runs : List NumberedEntry → List Run
+runs [] = []
+runs (e ∷ es) = with_first e (runs es)
+
+-- ---- what a line says
+
+-- the last one of e and those behind it
+abbrev pub last_of : NumberedEntry → List NumberedEntry → NumberedEntry
+last_of e [] = e
+last_of e (next ∷ es) = last_of next es
+
+-- how many bytes a change writes
+abbrev pub written : Change → ℕ
+written (Do (Write w)) = length w.bytes
+written _ = 0
+
+-- how many bytes a run writes in all
+abbrev pub bytes_of : Run → ℕ
+bytes_of r = sum_by (λ (e : NumberedEntry). written e.entry.change) (r.first ∷ r.others)
+
+-- what an operation did
+abbrev pub deed_of_op : Op → Deed
+deed_of_op (Create c) = Made c
+deed_of_op (Unlink u) = Removed u
+deed_of_op (Write w) = Wrote w.file (length w.bytes)
+deed_of_op (Truncate t) = Cut t
+deed_of_op (Take t) = TookOver t
+deed_of_op (Link l) = Linked l
+deed_of_op (Rename r) = Renamed r
+deed_of_op (Drop d) = Dropped d
+
+-- what a change did
+abbrev pub deed_of : Change → Deed
+deed_of (Do op) = deed_of_op op
+deed_of (Undo n) = Undid n
+deed_of (Rekey k) = NamedKey
+
+-- What the changes of a run did, from the first to the last, that write so many bytes in all: those
+-- behind the making of a file put its bytes there, others wrote to a file; where no bytes are
+-- written, the file was made, or cut to the last size.
+abbrev pub deed_of_run : Change → Change → ℕ → Deed
+deed_of_run (Do (Create c)) last n = if nat_eq n 0 then Made c else Put c n
+deed_of_run (Do (Write w)) last n = Wrote w.file n
+deed_of_run (Do (Truncate t)) last n = if nat_eq n 0 then deed_of last else Wrote t.file n
+deed_of_run first last n = deed_of first
+
+-- what became of a change that this entry undid, if one did
+abbrev pub fate_of : Change → Option ℕ → Fate
+fate_of (Do op) None = Live
+fate_of (Do op) (Some n) = Undone n
+fate_of _ _ = Lasting
+
+-- the line of a run
+abbrev pub line_of : Run → Line
+line_of r =
+    let last = last_of r.first r.others in
+    record {
+      first = r.first.number;
+      last = last.number;
+      author = r.first.entry.author;
+      deed = deed_of_run r.first.entry.change last.entry.change (bytes_of r);
+      fate = fate_of last.entry.change last.undoer;
+    }
+
+-- The lines of a history.
+abbrev pub lines : List Entry → List Line
+lines h = map line_of (runs (numbered h))
+
+-- ---- beside them
+
+-- the numbers of the entries of a line
+abbrev pub numbers : Line → List ℕ
+numbers l = range_with_len l.first (l.last + 1 - l.first)
+
+-- of each entry, in order, the number of the one that undid it
+pub record AreUndoers (h : List Entry) (undoers : List (Option ℕ)) : Type 0 where
+  pub as_many : length undoers ≡ length h
+  pub each : (i : ℕ) → i < length h → get_or undoers i None ≡ undoer h (i + 1)
