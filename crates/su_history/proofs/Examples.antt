@@ -1,5 +1,6 @@
 -- Worked examples of the definitions.
 use Rattle.std.proofs.Common.{◌≡◌, ℕ, List, [], ◌∷◌, refl}
+use Rattle.std.specs.List.{filter}
 use Rattle.su_bytes.specs.declared.formats.Format.TheVariants.{V3}
 use Rattle.su_bytes.specs.declared.file_ids.FileId.{FileId}
 use Rattle.su_bytes.specs.declared.file_ids.FileId.TheVariants.{Group}
@@ -15,7 +16,7 @@ use Rattle.su_history.specs.declared.line.Deed.{Deed}
 use Rattle.su_history.specs.declared.line.Deed.TheVariants.{Made, Put, Wrote, Cut, Undid, NamedKey}
 use Rattle.su_history.specs.declared.line.Fate.{Fate}
 use Rattle.su_history.specs.declared.line.Fate.TheVariants.{Live, Undone, Lasting}
-use Rattle.su_history.specs.Line.{lines}
+use Rattle.su_history.specs.Line.{lines, names}
 
 -- number 7 of group 0
 abbrev plan : FileId
@@ -62,7 +63,24 @@ a_shorter_put : lines (writes_it 1 (7 ∷ []) ∷ cuts_it 1 1 ∷ cuts_it 2 0 �
 unfolding place_eq
 a_shorter_put = refl
 
--- an empty file, and what is made after another one's write begins a line
+-- a file that one user makes and another writes to
 made_alone : lines (creates_it 1 ∷ writes_it 2 (7 ∷ []) ∷ []) ≡ line 1 1 1 (Made making) Live ∷ line 2 2 2 (Wrote plan 1) Live ∷ []
 unfolding place_eq
 made_alone = refl
+
+-- of the lines of that history those of the file, and the two newest ones
+abbrev history : List Entry
+history = creates_it 1 ∷ writes_it 1 (7 ∷ []) ∷ rekey_by 1 V3 [] ∷ cuts_it 2 0 ∷ []
+
+those_of_the_file : filter (names plan) (lines history) ≡ line 1 2 1 (Put making 1) Live ∷ line 4 4 2 (Cut (record { file = plan; size = 0 })) Live ∷ []
+unfolding place_eq
+those_of_the_file = refl
+
+those_of_another : filter (names (Group 0 8)) (lines history) ≡ []
+unfolding place_eq
+those_of_another = refl
+
+-- its directory is named where it is made
+those_of_its_directory : filter (names (Group 0 1)) (lines history) ≡ line 1 2 1 (Put making 1) Live ∷ []
+unfolding place_eq
+those_of_its_directory = refl

@@ -1,6 +1,6 @@
 -- What a history is for people, line by line: entries that belong together are one line.
 use Rattle.std.specs.Prelude.{◌≡◌, ℕ, ◌+◌, ◌-◌, ◌<◌, Bool, false, ◌&&◌, List, [], ◌∷◌, map, length, get_or, Option, None, Some, nat_eq, if◌then◌else◌}
-use Rattle.std.specs.List.{range_with_len, sum_by}
+use Rattle.std.specs.List.{list_any, range_with_len, sum_by}
 use Rattle.std.proofs.Math.Bool.{beq}
 use Rattle.std.specs.Option.{is_some}
 use Rattle.su_bytes.specs.declared.file_ids.FileId.{FileId}
@@ -150,6 +150,24 @@ line_of r =
 -- The lines of a history.
 abbrev pub lines : List Entry → List Line
 lines h = map line_of (runs (numbered h))
+
+-- ---- those of a file
+
+-- the files and directories that a deed names
+abbrev pub files_of : Deed → List FileId
+files_of (Made c) = c.dir ∷ c.file ∷ []
+files_of (Put c n) = c.dir ∷ c.file ∷ []
+files_of (Wrote f n) = f ∷ []
+files_of (Cut t) = t.file ∷ []
+files_of (Linked l) = l.dir ∷ l.file ∷ []
+files_of (Renamed r) = r.from_ ∷ r.to_ ∷ r.file ∷ []
+files_of (Removed u) = u.dir ∷ u.file ∷ []
+files_of (TookOver t) = t.file ∷ []
+files_of _ = []
+
+-- a line names that file
+abbrev pub names : FileId → Line → Bool
+names f l = list_any (file_eq f) (files_of l.deed)
 
 -- ---- beside them
 

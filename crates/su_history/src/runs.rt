@@ -1,6 +1,7 @@
 // Which entries are one line, and what they did.
 ghost use Rattle.std.specs.Prelude.{◌≡◌, ◌+◌, ◌-◌, ◌^◌, ◌<◌, ◌≤◌, ◌⊎◌, ℕ, true, false, length, get_or, slice_range, IfOk, MatchOption};
 ghost use Rattle.std.specs.List.{sum_by};
+ghost use Rattle.su_bytes.specs.Place.{file_eq};
 ghost use Rattle.su_history.specs.Line.{AreUndoers, NumberedEntry, deed_of, deed_of_op, deed_of_run, edited, fate_of, filled, goes_on, is_same_file, numbered, written};
 
 use crate::line::{Deed, Fate};
@@ -30,12 +31,19 @@ fn edited(change: &Change) -> Option<FileId>
     }
 }
 
+/// Tells whether both are the same file.
+pub(crate) fn is_same(file: FileId, other: FileId) -> bool
+    ensures { result ≡ file_eq file other }
+{
+    file == other
+}
+
 /// Tells whether a change writes to or cuts the file that the one before it made, wrote to or cut.
 fn is_same_file(before: &Change, change: &Change) -> bool
     ensures { result ≡ is_same_file before.now change.now }
 {
     match (filled(before), edited(change)) {
-        (Some(file), Some(other)) => file == other,
+        (Some(file), Some(other)) => is_same(file, other),
         _ => false,
     }
 }
