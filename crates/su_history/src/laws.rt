@@ -1,5 +1,5 @@
 // What holds of the lines of a history, by their definition.
-ghost use Rattle.std.specs.Prelude.{◌≡◌, ◌↔◌, ◌≤◌, ◌+◌, ◌-◌, ℕ, List, All, Contains, length};
+ghost use Rattle.std.specs.Prelude.{◌≡◌, ◌↔◌, ◌≤◌, ℕ, List, All, Contains, length};
 ghost use Rattle.std.specs.List.{flat_map, range_with_len};
 ghost use Rattle.su_desk.specs.declared.entries.Entry.{Entry};
 ghost use Rattle.su_desk.specs.History.{live_numbers};

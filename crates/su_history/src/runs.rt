@@ -1,5 +1,5 @@
 // Which entries are one line, and what they did.
-ghost use Rattle.std.specs.Prelude.{◌≡◌, ◌+◌, ◌-◌, ◌^◌, ◌<◌, ◌≤◌, ◌⊎◌, ℕ, true, false, length, get_or, slice_range, IfOk, MatchOption};
+ghost use Rattle.std.specs.Prelude.{◌≡◌, ◌-◌, ◌^◌, ◌<◌, ◌≤◌, ◌⊎◌, ℕ, true, false, length, get_or, IfOk, MatchOption};
 ghost use Rattle.std.specs.List.{sum_by};
 ghost use Rattle.su_bytes.specs.Place.{file_eq};
 ghost use Rattle.su_history.specs.Line.{AreUndoers, NumberedEntry, deed_of, deed_of_op, deed_of_run, edited, fate_of, filled, goes_on, is_same_file, numbered, written};

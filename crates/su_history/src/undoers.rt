@@ -1,5 +1,5 @@
 // Which entries are undone, and by which.
-ghost use Rattle.std.specs.Prelude.{◌≡◌, ◌-◌, IfOk, None, Some, length, set, cond, nat_eq};
+ghost use Rattle.std.specs.Prelude.{◌≡◌, ◌-◌, IfOk, Some, set, cond, nat_eq};
 ghost use Rattle.su_history.specs.Line.{AreUndoers};
 
 use std::alloc::{AllocError, Global};
