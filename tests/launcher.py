@@ -150,14 +150,20 @@ def words(tree):
 
 
 def stops(tree):
+    """A build is stopped once its log is there, and while a crate is proved."""
     room = f"{tree.top} logs"
     os.makedirs(room)
-    started = tree.start("desk", RT_SLEEPS="3", TMPDIR=room, start_new_session=True)
-    while not os.listdir(room):
-        time.sleep(0.05)
-    os.killpg(started.pid, signal.SIGINT)
-    started.communicate("", timeout=60)
-    yield f"a_build_that_is_stopped_leaves_no_log: {os.listdir(room)}", os.listdir(room) == []
+    for seconds in (0, 2):
+        started = tree.start("desk", RT_SLEEPS="5", TMPDIR=room, start_new_session=True)
+        for _ in range(400):
+            if os.listdir(room):
+                break
+            time.sleep(0.05)
+        time.sleep(seconds)
+        os.killpg(started.pid, signal.SIGINT)
+        started.communicate("", timeout=60)
+        ended = os.listdir(room), started.returncode
+        yield f"a_build_that_is_stopped_after_{seconds}_s_leaves_no_log: {ended}", ended == ([], 130)
     yield "and_is_gone_on_with", tree.run("desk")[0] == "first: desk\n"
 
 
