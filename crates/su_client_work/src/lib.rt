@@ -12,6 +12,6 @@ mod ready;
 mod shown;
 mod surroundings;
 
-pub use logs::{LogFault, saved_logs_are_logs, take_log};
+pub use logs::{LogFault, log_behind, saved_logs_are_logs, take_log};
 pub use members::Member;
 pub use surroundings::Surroundings;

@@ -1,5 +1,5 @@
 // Logs of commits, with the items of their changes: how one is made of a list, and taken in a view.
-ghost use Rattle.std.specs.Prelude.{◌≡◌, ◌∷◌, ◌++◌, ℕ, List, [], map, true, Some, IfOk, IfErr, OnOk, OnErr};
+ghost use Rattle.std.specs.Prelude.{◌≡◌, ◌∷◌, ◌++◌, ℕ, List, [], drop, map, true, Some, IfOk, IfErr, OnOk, OnErr};
 ghost use Rattle.su_version.specs.Commit.{commit_bytes};
 ghost use Rattle.su_legal.specs.Legal.{Committed};
 ghost use Rattle.su_view.specs.Acting.{TakesSome};
@@ -126,17 +126,18 @@ pub(crate) fn take_commit<S: BlockSource + Drop>(
     }
 }
 
-/// Returns the log of a view's list: of each commit its bytes and the item of its change, each with
-/// its length before it. Only `NoMemory` can come.
-pub(crate) fn log_of<S: BlockSource + Drop>(
+/// Returns the log of a view's list behind its first `from_` commits: of each commit its bytes and the
+/// item of its change, each with its length before it. Only `NoMemory` can come.
+pub fn log_behind<S: BlockSource + Drop>(
     alloc: Global,
     view: &View<S>,
+    from_: u64,
 ) -> Result<Vec<u8>, Refusal>
-    ensures { IfOk result (λ log. log.items ≡ saved_log view.now.holding.held) }
+    ensures { IfOk result (λ log. log.items ≡ saved_log (drop from_ view.now.holding.held)) }
 {
     let (count, _) = view.head();
     let mut log = Vec::new(alloc);
-    for before in 0..count {
+    for before in from_..count {
         put_entry(&mut log, view, before + 1)?;
     }
     Ok(log)

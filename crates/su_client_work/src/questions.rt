@@ -1,17 +1,25 @@
-// What a client asks of the tree of its list, and its list as a log.
-ghost use Rattle.std.specs.Prelude.{◌≡◌, IfOk, OnOk};
+// What a client asks of the tree of its list, and its list as a log: once it has caught up with the
+// server, or of the list as it is held.
+ghost use Rattle.std.specs.Prelude.{◌≡◌, ◌⊎◌, Ok, Err, IfErr, IfOk, OnOk};
+ghost use Rattle.su_bytes.specs.declared.refusals.Refusal.TheVariants.{NoMemory};
+ghost use Rattle.su_draft.specs.Walk.{found};
+ghost use Rattle.su_table.specs.Query.{contents_within, listing};
+ghost use Rattle.su_view.specs.Holding.{tree_of_list};
+ghost use Rattle.su_view.specs.Stat.{stat_in};
 ghost use Rattle.su_client_work.specs.Member.{Lists, OnlyTakes, Shows};
 ghost use Rattle.su_client_work.specs.Turn.{Comes, Looks};
 ghost use Rattle.su_client_work.specs.SavedLog.{saved_log};
 
-use crate::logs::log_of;
+use crate::logs::log_behind;
 use crate::members::Member;
 use crate::surroundings::Surroundings;
 use std::io::{Read, Write};
-use su_bytes::{FileId, Name};
+use su_block::Checked;
+use su_bytes::{FileId, Name, Refusal};
+use su_client::Outbox;
 use su_lms::KeyStore;
 use su_version::Commit;
-use su_view::ViewRefusal;
+use su_view::{Stat, View, ViewRefusal};
 
 impl<R: Read + Drop, W: Write + Drop, K: KeyStore + Drop> Member<R, W, K> {
     /// Lists the names of the directory that a path leads to, with the files that they lead to,
@@ -65,7 +73,62 @@ impl<R: Read + Drop, W: Write + Drop, K: KeyStore + Drop> Member<R, W, K> {
         ensures log { IfOk result (λ log. log.items ≡ saved_log self.new.holding.held) }
     {
         self.look(around)?;
-        Ok(log_of(self.alloc, &self.view)?)
+        Ok(log_behind(self.alloc, &self.view, 0)?)
+    }
+
+    /// Lends what it holds.
+    pub fn view(&self) -> &View<Checked<Outbox<R, W>>>
+        ensures { result.now.holding ≡ self.now.holding }
+    {
+        &self.view
+    }
+
+    /// Finds the file that a path leads to in the tree of the list that is held. The server isn't
+    /// asked. The refusals of `View::find`.
+    pub fn find_held(&mut self, path: &[u8]) -> Result<FileId, Refusal>
+        ensures found { IfOk result (λ file.
+            found (tree_of_list self.old.holding) path.now ≡ Ok file) }
+        ensures refused { IfErr result (λ e. (e ≡ NoMemory)
+            ⊎ (found (tree_of_list self.old.holding) path.now ≡ Err e)) }
+        ensures same { self.new ≡ self.old }
+    {
+        self.view.find(path)
+    }
+
+    /// Tells what a file is in the tree of the list that is held. The server isn't asked. The refusals
+    /// of `View::stat`.
+    pub fn stat_held(&mut self, file: FileId) -> Result<Stat, Refusal>
+        ensures ok { IfOk result (λ stat.
+            stat_in (tree_of_list self.old.holding) file ≡ Ok stat) }
+        ensures refused { IfErr result (λ e. (e ≡ NoMemory)
+            ⊎ (stat_in (tree_of_list self.old.holding) file ≡ Err e)) }
+        ensures same { self.new ≡ self.old }
+    {
+        self.view.stat(file)
+    }
+
+    /// Lists the names of a directory in the tree of the list that is held. The server isn't asked.
+    /// The refusals of `View::list`.
+    pub fn list_held(&mut self, file: FileId) -> Result<Vec<(Name, FileId)>, Refusal>
+        ensures ok { IfOk result (λ names.
+            listing (tree_of_list self.old.holding) file ≡ Ok names.items) }
+        ensures refused { IfErr result (λ e. (e ≡ NoMemory)
+            ⊎ (listing (tree_of_list self.old.holding) file ≡ Err e)) }
+        ensures same { self.new ≡ self.old }
+    {
+        self.view.list(file)
+    }
+
+    /// Reads the bytes of a file within a range, in the tree of the list that is held. The server
+    /// isn't asked. The refusals of `View::read_at`.
+    pub fn read_held(&mut self, file: FileId, off: u64, len: u64) -> Result<Vec<u8>, Refusal>
+        ensures ok { IfOk result (λ bytes.
+            contents_within (tree_of_list self.old.holding) file off len ≡ Ok bytes.items) }
+        ensures refused { IfErr result (λ e. (e ≡ NoMemory)
+            ⊎ (contents_within (tree_of_list self.old.holding) file off len ≡ Err e)) }
+        ensures same { self.new ≡ self.old }
+    {
+        self.view.read_at(file, off, len)
     }
 
     /// Finds the number of the user's own last commit in the list; none where there is none. It is

@@ -82,6 +82,13 @@ impl Desk {
         &self.roster
     }
 
+    /// Lends the history: its entries, in order.
+    pub fn history(&self) -> &[Entry]
+        ensures { result.now ≡ self.now.history }
+    {
+        self.entries.as_slice()
+    }
+
     /// Returns the tree of the live operations. Of it, the history and the version numbers all
     /// holds that the desk is for.
     pub fn forest(&self) -> &Forest

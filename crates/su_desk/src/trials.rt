@@ -11,6 +11,7 @@ ghost use Rattle.su_desk.specs.Version.{versions};
 mod rehearsals;
 
 use crate::desks::Desk;
+use crate::entries::Entry;
 use crate::prepared::{Prepared, Tried};
 use std::alloc::Global;
 use std::marker::Model;
@@ -61,6 +62,15 @@ impl TrialDesk {
         ensures { result.now ≡ self.now.settled.roster }
     {
         self.desk.roster()
+    }
+
+    /// Lends the history of what is settled, also where something stands ready.
+    pub fn history(&self) -> &[Entry]
+        ensures { result.now ≡ self.now.settled.history }
+    {
+        let entries = self.desk.history();
+        let settled = entries.len().saturating_sub(self.tried.len());
+        &entries[..settled]
     }
 
     /// Returns the version numbers of what is settled, of the users of the roster, and then of its

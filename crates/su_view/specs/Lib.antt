@@ -3,6 +3,7 @@ pub mod Acting
 pub mod Keeping
 pub mod Spelled
 pub mod Entry
+pub mod Stat
 pub mod OwnKey
 pub mod Making
 pub mod Joining

@@ -9,8 +9,10 @@ mod last_commits;
 mod lists;
 mod records;
 mod refusals;
+mod stats;
 mod views;
 
 pub use keys::OwnKey;
 pub use refusals::ViewRefusal;
+pub use stats::Stat;
 pub use views::View;

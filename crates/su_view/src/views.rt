@@ -20,6 +20,7 @@ ghost use Rattle.su_bytes.specs.Order.{Passes, RefusedBy};
 ghost use Rattle.su_legal.specs.Legal.{Committed, commits_of, head_of, history, Legal, MayJoin};
 ghost use Rattle.su_view.specs.Holding.{Took, MaySign, tree_of_list};
 ghost use Rattle.su_view.specs.Entry.{committed_at, AreBytesAt};
+ghost use Rattle.su_view.specs.Stat.{stat_in};
 ghost use Rattle.su_view.specs.Making.{IsMade, IsRefusedMaking};
 ghost use Rattle.su_view.specs.Listing.{HasTaken, IsRefusedBytes, RefusesNext};
 ghost use Rattle.su_view.specs.LastCommits.{shown_order};
@@ -31,9 +32,11 @@ use crate::holdings::Holding;
 use crate::keys::OwnKey;
 use crate::lists::first_record;
 use crate::refusals::ViewRefusal;
+use crate::stats::Stat;
 use std::alloc::Global;
 use su_block::BlockSource;
 use su_bytes::{Digest, FileId, Name, Principal, Refusal, Roster, User};
+use su_desk::Entry;
 use su_lms::{KeyStore, PublicKey};
 use su_op::{Change, Op};
 use su_plan::Command;
@@ -74,6 +77,19 @@ impl<S: BlockSource + Drop> View<S> {
             (λ source. record self.old { source = source })) }
     {
         &mut self.source
+    }
+
+    /// Puts another source in the place of the view's own, and changes nothing else.
+    pub fn with_source<T: BlockSource + Drop>(self, source: T) -> View<T>
+        ensures holding { result.holding ≡ self.holding }
+        ensures source { result.source ≡ source }
+    {
+        let View { holding, alloc, .. } = self;
+        View {
+            holding,
+            source,
+            alloc,
+        }
     }
 
     /// Checks what a server shows as the users' last commits, once the commits behind the list are
@@ -389,6 +405,25 @@ impl<S: BlockSource + Drop> View<S> {
         ensures same { self.new ≡ self.old }
     {
         self.holding.live()
+    }
+
+    /// Lends the history that the list tells: of each commit who made which change, in which format.
+    pub fn history(&self) -> &[Entry]
+        ensures { result.now ≡ history self.now.holding.held }
+    {
+        self.holding.history()
+    }
+
+    /// Tells what a file is: who holds it, its kind, its size and its names. `NoFile` where it has no
+    /// body; `NoMemory`.
+    pub fn stat(&mut self, file: FileId) -> Result<Stat, Refusal>
+        ensures ok { IfOk result (λ stat.
+            stat_in (tree_of_list self.old.holding) file ≡ Ok stat) }
+        ensures refused { IfErr result (λ e. (e ≡ NoMemory)
+            ⊎ (stat_in (tree_of_list self.old.holding) file ≡ Err e)) }
+        ensures same { self.new ≡ self.old }
+    {
+        self.holding.stat(file)
     }
 
     /// Lists the names of a directory with the files that they lead to, ascending. `NoFile` where

@@ -11,9 +11,12 @@ ghost use Rattle.su_legal.specs.Legal.{head_of, history, Legal};
 ghost use Rattle.su_table.specs.Query.{listing, contents_within};
 ghost use Rattle.su_view.specs.Holding.{tree_of_list};
 ghost use Rattle.su_view.specs.Entry.{committed_at, AreBytesAt};
+ghost use Rattle.su_view.specs.Stat.{stat_in};
 
 use crate::holdings::Holding;
+use crate::stats::{Stat, stat_in};
 use su_bytes::{Digest, FileId, Name, Principal, Refusal, Roster, User};
+use su_desk::Entry;
 use su_op::Op;
 use su_plan::{Command, find, plan};
 
@@ -57,6 +60,13 @@ impl Holding {
         Some((record.bytes.as_slice(), record.item.as_slice()))
     }
 
+    /// Lends the history that the list tells.
+    pub fn history(&self) -> &[Entry]
+        ensures { result.now ≡ history self.now.held }
+    {
+        self.keeping.desk.history()
+    }
+
     /// Returns the version numbers of the users of the roster, and then of its groups.
     pub fn versions(&self) -> &[(Principal, u64)]
         ensures { result.now ≡ versions self.now.roster (history self.now.held) }
@@ -73,6 +83,17 @@ impl Holding {
     {
         self.keeping.desk.take_back()?;
         self.keeping.desk.live()
+    }
+
+    /// Tells what a file is, as `stat_of` does.
+    pub fn stat(&mut self, file: FileId) -> Result<Stat, Refusal>
+        ensures ok { IfOk result (λ stat. stat_in (tree_of_list self.old) file ≡ Ok stat) }
+        ensures refused { IfErr result (λ e.
+            (e ≡ NoMemory) ⊎ (stat_in (tree_of_list self.old) file ≡ Err e)) }
+        ensures same { self.new ≡ self.old }
+    {
+        self.keeping.desk.take_back()?;
+        stat_in(self.keeping.desk.forest(), file)
     }
 
     /// Lists the names of a directory, as `Forest::list` does.
