@@ -1,5 +1,5 @@
 use Rattle.std.proofs.Common.{ℕ, List, ◌++◌, ◌∙◌, ap, sym, arith, take}
-use Rattle.std.proofs.lemmas.List.{++-assoc}
+use Rattle.std.proofs.lemmas.List.{append_assoc}
 use Rattle.su_client_work.specs.SavedLog.{saved_log, entry_bytes}
 use Rattle.su_client_work.proofs.SavedLogs.{saved_more}
 use Rattle.su_client_work.proofs.logs.log_behind.Goals as goal
@@ -12,4 +12,4 @@ loop-before-preserved g c =
     let test = c.loop-before-test.true in
     saved_more held c.loop-before.before (left_out ++ c.loop-before.log.items) (left_out ++ c.put_entry.new.log.items)
     (omega (arith, count, test)) c.loop-before.invariant
-    (λ d there. ap (λ (l : List ℕ). left_out ++ l) (c.in_ok-put_entry.ensures d there) ∙ sym (++-assoc left_out c.loop-before.log.items (entry_bytes d)))
+    (λ d there. ap (λ (l : List ℕ). left_out ++ l) (c.in_ok-put_entry.ensures d there) ∙ sym (append_assoc left_out c.loop-before.log.items (entry_bytes d)))
