@@ -163,8 +163,9 @@ impl<R: Read + Drop, W: Write + Drop, K: KeyStore + Drop> Member<R, W, K> {
         self.view.source_mut().source_mut().client_mut().give()
     }
 
-    /// Gives the turn back after a refusal, which is what is told.
-    pub(crate) fn give_up(&mut self)
+    /// Gives the turn back that `begin` took. Where that is refused, the server ends it with the
+    /// session.
+    pub fn give_up(&mut self)
         ensures stays { Stays self.old self.new }
         ensures follows { Follows self.old.link self.new.link }
         ensures gives_up { GivesUp self.old.link self.new.link }

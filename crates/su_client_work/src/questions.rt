@@ -3,7 +3,8 @@
 ghost use Rattle.std.specs.Prelude.{◌≡◌, ◌⊎◌, Ok, Err, IfErr, IfOk, OnOk};
 ghost use Rattle.su_bytes.specs.declared.refusals.Refusal.TheVariants.{NoMemory};
 ghost use Rattle.su_draft.specs.Walk.{found};
-ghost use Rattle.su_table.specs.Query.{contents_within, listing};
+ghost use Rattle.su_plan.specs.Plan.{plan};
+ghost use Rattle.su_table.specs.Query.{contents, listing};
 ghost use Rattle.su_view.specs.Holding.{tree_of_list};
 ghost use Rattle.su_view.specs.Stat.{stat_in};
 ghost use Rattle.su_client_work.specs.Member.{Lists, OnlyTakes, Shows};
@@ -18,6 +19,8 @@ use su_block::Checked;
 use su_bytes::{FileId, Name, Refusal};
 use su_client::Outbox;
 use su_lms::KeyStore;
+use su_op::Op;
+use su_plan::Command;
 use su_version::Commit;
 use su_view::{Stat, View, ViewRefusal};
 
@@ -119,16 +122,28 @@ impl<R: Read + Drop, W: Write + Drop, K: KeyStore + Drop> Member<R, W, K> {
         self.view.list(file)
     }
 
-    /// Reads the bytes of a file within a range, in the tree of the list that is held. The server
-    /// isn't asked. The refusals of `View::read_at`.
-    pub fn read_held(&mut self, file: FileId, off: u64, len: u64) -> Result<Vec<u8>, Refusal>
+    /// Reads all bytes of a file in the tree of the list that is held. The server isn't asked. The
+    /// refusals of `View::contents`.
+    pub fn contents_held(&mut self, file: FileId) -> Result<Vec<u8>, Refusal>
         ensures ok { IfOk result (λ bytes.
-            contents_within (tree_of_list self.old.holding) file off len ≡ Ok bytes.items) }
+            contents (tree_of_list self.old.holding) file ≡ Ok bytes.items) }
         ensures refused { IfErr result (λ e. (e ≡ NoMemory)
-            ⊎ (contents_within (tree_of_list self.old.holding) file off len ≡ Err e)) }
+            ⊎ (contents (tree_of_list self.old.holding) file ≡ Err e)) }
         ensures same { self.new ≡ self.old }
     {
-        self.view.read_at(file, off, len)
+        self.view.contents(file)
+    }
+
+    /// Plans a command on paths on the tree of the list that is held. The server isn't asked. The
+    /// refusals of `View::plan`.
+    pub fn plan_held(&mut self, command: &Command) -> Result<Vec<Op>, Refusal>
+        ensures planned { let v = self.old.holding in IfOk result (λ operations.
+            plan v.roster (tree_of_list v) v.user command.now ≡ Ok operations.items) }
+        ensures refused { let v = self.old.holding in IfErr result (λ e. (e ≡ NoMemory)
+            ⊎ (plan v.roster (tree_of_list v) v.user command.now ≡ Err e)) }
+        ensures same { self.new ≡ self.old }
+    {
+        self.view.plan(command)
     }
 
     /// Finds the number of the user's own last commit in the list; none where there is none. It is

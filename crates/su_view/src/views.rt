@@ -6,7 +6,7 @@ ghost use Rattle.su_bytes.specs.declared.formats.TheConstants.{NEWEST_FORMAT};
 ghost use Rattle.su_bytes.specs.declared.refusals.Refusal.TheVariants.{BadKey, NoUser, NoMemory, KeyFileFault};
 ghost use Rattle.su_chain.specs.ChainEnd.{HasBadKey};
 ghost use Rattle.su_op.specs.declared.operations.Change.{Change as Change_};
-ghost use Rattle.su_table.specs.Query.{listing, contents_within};
+ghost use Rattle.su_table.specs.Query.{contents, contents_within, listing};
 ghost use Rattle.su_desk.specs.History.{live_numbers};
 ghost use Rattle.su_desk.specs.Rehearsal.{first_refusal};
 ghost use Rattle.su_draft.specs.Walk.{found};
@@ -436,6 +436,18 @@ impl<S: BlockSource + Drop> View<S> {
         ensures same { self.new ≡ self.old }
     {
         self.holding.list(file)
+    }
+
+    /// Reads all bytes of a file. `NoFile` where the file has no body, `WrongKind` where its body is a
+    /// directory; `NoMemory`.
+    pub fn contents(&mut self, file: FileId) -> Result<Vec<u8>, Refusal>
+        ensures ok { IfOk result (λ bytes.
+            contents (tree_of_list self.old.holding) file ≡ Ok bytes.items) }
+        ensures refused { IfErr result (λ e. (e ≡ NoMemory)
+            ⊎ (contents (tree_of_list self.old.holding) file ≡ Err e)) }
+        ensures same { self.new ≡ self.old }
+    {
+        self.holding.contents(file)
     }
 
     /// Reads the bytes of a file within a range, which may reach past its end. `NoFile` where the

@@ -8,7 +8,7 @@ ghost use Rattle.su_desk.specs.Version.{versions};
 ghost use Rattle.su_draft.specs.Walk.{found};
 ghost use Rattle.su_plan.specs.Plan.{plan};
 ghost use Rattle.su_legal.specs.Legal.{head_of, history, Legal};
-ghost use Rattle.su_table.specs.Query.{listing, contents_within};
+ghost use Rattle.su_table.specs.Query.{contents, contents_within, listing};
 ghost use Rattle.su_view.specs.Holding.{tree_of_list};
 ghost use Rattle.su_view.specs.Entry.{committed_at, AreBytesAt};
 ghost use Rattle.su_view.specs.Stat.{stat_in};
@@ -105,6 +105,17 @@ impl Holding {
     {
         self.keeping.desk.take_back()?;
         self.keeping.desk.forest().list(file)
+    }
+
+    /// Reads the bytes of a file, as `Forest::read` does.
+    pub fn contents(&mut self, file: FileId) -> Result<Vec<u8>, Refusal>
+        ensures ok { IfOk result (λ bytes. contents (tree_of_list self.old) file ≡ Ok bytes.items) }
+        ensures refused { IfErr result (λ e.
+            (e ≡ NoMemory) ⊎ (contents (tree_of_list self.old) file ≡ Err e)) }
+        ensures same { self.new ≡ self.old }
+    {
+        self.keeping.desk.take_back()?;
+        self.keeping.desk.forest().read(file)
     }
 
     /// Reads the bytes of a file within a range, as `Forest::read_at` does.
