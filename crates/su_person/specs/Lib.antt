@@ -1,0 +1,4 @@
+pub mod Carrying
+pub mod LastChange
+pub mod Putting
+pub mod Undoing

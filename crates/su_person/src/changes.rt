@@ -1,0 +1,68 @@
+// Which entry of a history changed the bytes of a file last.
+ghost use Rattle.std.specs.Prelude.{◌≡◌, option_copied};
+ghost use Rattle.su_desk.specs.History.{entry_at};
+ghost use Rattle.su_person.specs.LastChange.{changes_bytes, does_change, last_change, touches};
+
+use su_bytes::FileId;
+use su_desk::Entry;
+use su_op::{Change, Op};
+
+/// Returns the number of the last entry of a history that changed the bytes of a file, if one did: it
+/// made the file, wrote to it or cut it, or undid an entry that had.
+pub fn last_change(entries: &[Entry], file: FileId) -> Option<u64>
+    ensures { result ≡ last_change entries.now file }
+{
+    let mut last = None;
+    for (index, entry) in entries.iter().enumerate() {
+        if touches(entries, &entry.change, file) {
+            last = Some(index as u64 + 1);
+        }
+    }
+    last
+}
+
+/// Tells whether a change of a history changes the bytes of a file, or undoes one that did.
+fn touches(entries: &[Entry], change: &Change, file: FileId) -> bool
+    ensures { result ≡ touches entries.now file change.now }
+{
+    match change {
+        Change::Undo(number) => match entry_of(entries, *number) {
+            Some(entry) => does_change(&entry.change, file),
+            None => false,
+        },
+        change => does_change(change, file),
+    }
+}
+
+/// Returns the entry of a number, if there is one.
+fn entry_of(entries: &[Entry], number: u64) -> Option<&Entry>
+    ensures { option_copied result ≡ entry_at entries.now number }
+{
+    if number == 0 {
+        return None;
+    }
+    let index = usize::try_from(number - 1).ok()?;
+    entries.get(index)
+}
+
+/// Tells whether a change is an operation that changes the bytes of a file.
+fn does_change(change: &Change, file: FileId) -> bool
+    ensures { result ≡ does_change file change.now }
+{
+    match change {
+        Change::Do(op) => changes_bytes(op, file),
+        _ => false,
+    }
+}
+
+/// Tells whether an operation makes a file, writes to it or cuts it.
+fn changes_bytes(op: &Op, file: FileId) -> bool
+    ensures { result ≡ changes_bytes file op.now }
+{
+    match op {
+        Op::Create(create) => create.file == file,
+        Op::Write(write) => write.file == file,
+        Op::Truncate(truncate) => truncate.file == file,
+        _ => false,
+    }
+}

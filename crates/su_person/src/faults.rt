@@ -1,0 +1,27 @@
+// Why what a person asked for isn't done.
+use su_bytes::{Refusal, User};
+use su_view::ViewRefusal;
+
+/// Why what a person asked for isn't done, or not to its end. What was committed before stays.
+#[derive(Clone, Copy, Debug)]
+pub enum Fault {
+    /// The client, the tree or the server refuses it.
+    Refused(ViewRefusal),
+    /// Another user changed the file's bytes with the commit of that number, which the person hasn't
+    /// seen yet.
+    Changed { number: u64, author: User },
+    /// The commits that the client holds couldn't be kept, which the program has told.
+    Unkept,
+}
+
+impl From<ViewRefusal> for Fault {
+    fn from(refusal: ViewRefusal) -> Fault {
+        Fault::Refused(refusal)
+    }
+}
+
+impl From<Refusal> for Fault {
+    fn from(refusal: Refusal) -> Fault {
+        Fault::Refused(ViewRefusal::Plain(refusal))
+    }
+}

@@ -1,0 +1,21 @@
+//! What a person does with a folder of a store, over a client at work: commands that are planned
+//! anew for each of their commits, contents that are put at a path, and operations that are taken
+//! back.
+#![tactic(auto)]
+
+mod carrying;
+mod changes;
+mod faults;
+mod keys;
+mod persons;
+mod putting;
+mod steps;
+mod undoing;
+
+pub use carrying::carry_out;
+pub use changes::last_change;
+pub use faults::Fault;
+pub use keys::move_on;
+pub use persons::Person;
+pub use putting::{NewContents, put};
+pub use undoing::undo;

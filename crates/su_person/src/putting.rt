@@ -1,0 +1,207 @@
+// How new contents are put at a path.
+ghost use Rattle.std.specs.Prelude.{◌≡◌, ◌≤◌, ◌⊎◌, ℕ, true, length, IfErr, IfOk, IsTrue, OnFalse, OnOk};
+ghost use Rattle.su_bytes.specs.declared.formats.TheConstants.{NEWEST_FORMAT};
+ghost use Rattle.su_op.specs.Limits.{largest_file};
+ghost use Rattle.su_client_work.specs.Work.{Works};
+ghost use Rattle.su_person.specs.declared.faults.Fault.TheVariants.{Changed};
+ghost use Rattle.su_person.specs.LastChange.{last_change};
+ghost use Rattle.su_person.specs.Putting.{HasBytes, HasThere, IsBy, IsStanding, KnowsBytes, MayWrite, Rounds};
+
+use crate::carrying::{Others, carry};
+use crate::changes::last_change;
+use crate::faults::Fault;
+use crate::keys::move_on;
+use crate::persons::Person;
+use std::alloc::Global;
+use std::io::{Read, Write};
+use su_bytes::{FileId, NEWEST_FORMAT, Refusal, User};
+use su_client_work::Member;
+use su_desk::Entry;
+use su_lms::KeyStore;
+use su_op::largest_file;
+use su_pieces::put_commands;
+use su_plan::Command;
+
+/// How often what differs is looked for again, as others write to the file or take it over.
+const MOST_ROUNDS: u32 = 64;
+
+/// The seat that is told where others come in between again and again.
+const ANY_SEAT: u16 = 0;
+
+/// New contents of a file, and what their author knows of the old ones.
+#[derive(Clone, Copy, Debug)]
+pub struct NewContents<'a> {
+    pub path: &'a [u8],
+    pub bytes: &'a [u8],
+    /// The number of the commit up to which the author has seen the file, if so.
+    pub seen: Option<u64>,
+    /// Whether they are to be written over what the author hasn't seen.
+    pub over: bool,
+}
+
+/// What stands at a path.
+#[derive(Debug, Drop)]
+enum Standing {
+    Nothing,
+    File { file: FileId, bytes: Vec<u8> },
+}
+
+/// Puts new contents at a path, and appends the numbers of the commits to `numbers`. A file that is there
+/// stays the same file, and only the blocks that differ are written; where it has the contents already,
+/// nothing is committed. `Changed` where another user changed the file's bytes last, which the author
+/// hasn't seen, unless they are to be written over. `TooBig` where they have more bytes than a file can
+/// have; `WrongKind` of a directory; the refusals of `carry_out`. What is committed before stays, and the
+/// same call again goes on from there.
+pub fn put<P, R, W, K>(
+    person: &mut P,
+    alloc: Global,
+    member: &mut Member<R, W, K>,
+    new: &NewContents<'_>,
+    numbers: &mut Vec<u64>,
+) -> Result<(), Fault>
+where
+    P: Person<R, W, K>,
+    R: Read + Drop,
+    W: Write + Drop,
+    K: KeyStore + Drop,
+    ensures works { Works member.old member.new }
+    ensures there { OnOk result (HasThere member.new.holding new.path.now new.bytes.now) }
+    // It writes only where the author may by what the client holds.
+    ensures rounds { (k : ℕ) × Rounds new.now.seen new.now.over new.path.now k
+        member.old member.new }
+{
+    if is_too_big(new.bytes) {
+        return Err(Fault::from(Refusal::TooBig));
+    }
+    for _ in 0..MOST_ROUNDS {
+        let standing = standing_at(member, new.path)?;
+        if standing.has(new.bytes) {
+            return Ok(());
+        }
+        let commands = commands_for(alloc, member, new, &standing)?;
+        write_all(person, member, &commands, numbers)?;
+    }
+    Err(Fault::from(Refusal::Busy(ANY_SEAT)))
+}
+
+/// Tells whether so many bytes are more than a file can have.
+fn is_too_big(bytes: &[u8]) -> bool
+    ensures { OnFalse result (length bytes.now ≤ largest_file NEWEST_FORMAT) }
+{
+    (largest_file(NEWEST_FORMAT) as usize) < bytes.len()
+}
+
+impl Standing {
+    /// Tells whether it is a file with these bytes.
+    fn has(&self, bytes: &[u8]) -> bool
+        ensures { IsTrue result → HasBytes self.now bytes.now }
+    {
+        match self {
+            Standing::Nothing => false,
+            Standing::File { bytes: held, .. } => held.as_slice() == bytes,
+        }
+    }
+}
+
+/// Finds what stands at a path in the tree of the list that is held. The refusals of `View::find` and
+/// `View::contents`, but `NoName`.
+fn standing_at<R, W, K>(member: &mut Member<R, W, K>, path: &[u8]) -> Result<Standing, Refusal>
+where
+    R: Read + Drop,
+    W: Write + Drop,
+    K: KeyStore + Drop,
+    ensures same { member.new ≡ member.old }
+    ensures standing { IfOk result (IsStanding member.old.holding path.now) }
+{
+    match member.find_held(path) {
+        Ok(file) => {
+            let bytes = member.contents_held(file)?;
+            Ok(Standing::File { file, bytes })
+        }
+        Err(Refusal::NoName) => Ok(Standing::Nothing),
+        Err(refusal) => Err(refusal),
+    }
+}
+
+/// Returns the commands that put the new contents in the place of what stands there. `Changed` as `put`
+/// says; else only `NoMemory`.
+fn commands_for<R, W, K>(
+    alloc: Global,
+    member: &Member<R, W, K>,
+    new: &NewContents<'_>,
+    standing: &Standing,
+) -> Result<Vec<Command>, Fault>
+where
+    R: Read + Drop,
+    W: Write + Drop,
+    K: KeyStore + Drop,
+    requires { length new.bytes.now ≤ largest_file NEWEST_FORMAT }
+    requires { IsStanding member.now.holding new.path.now standing.now }
+    ensures { OnOk result (MayWrite new.now.seen new.now.over new.path.now member.now.holding) }
+{
+    let commands = match standing {
+        Standing::Nothing => put_commands(alloc, new.path, None, new.bytes),
+        Standing::File { file, bytes } => {
+            check_seen(member.view().history(), member.view().user(), *file, new)?;
+            put_commands(alloc, new.path, Some(bytes.as_slice()), new.bytes)
+        }
+    };
+    match commands {
+        Ok(commands) => Ok(commands),
+        Err(_) => Err(Fault::from(Refusal::NoMemory)),
+    }
+}
+
+/// Checks that the user knows the bytes of a file, or that they are to be written over all the same.
+/// `Changed` with the number and the author of the change that the user doesn't know.
+fn check_seen(
+    entries: &[Entry],
+    user: User,
+    file: FileId,
+    new: &NewContents<'_>,
+) -> Result<(), Fault>
+    ensures knows { OnOk result ((new.now.over ≡ true)
+        ⊎ KnowsBytes user new.now.seen entries.now file) }
+    ensures changed { IfErr result (λ e. (n author : ℕ) × (e ≡ Changed n author)
+        × (last_change entries.now file ≡ Some n) × IsBy author entries.now n) }
+{
+    if new.over {
+        return Ok(());
+    }
+    let Some(number) = last_change(entries, file) else {
+        return Ok(());
+    };
+    let author = entries[(number - 1) as usize].author;
+    let is_seen = match new.seen {
+        Some(seen) => number <= seen,
+        None => false,
+    };
+    if author == user || is_seen {
+        return Ok(());
+    }
+    Err(Fault::Changed { number, author })
+}
+
+/// Carries out commands one after another, before each of which the client may go on to another key; up
+/// to where others committed something in between. The refusals of `carry_out`.
+fn write_all<P, R, W, K>(
+    person: &mut P,
+    member: &mut Member<R, W, K>,
+    commands: &[Command],
+    numbers: &mut Vec<u64>,
+) -> Result<(), Fault>
+where
+    P: Person<R, W, K>,
+    R: Read + Drop,
+    W: Write + Drop,
+    K: KeyStore + Drop,
+    ensures { Works member.old member.new }
+{
+    for command in commands {
+        move_on(person, member);
+        if !carry(person, member, command, Others::Unwelcome, numbers)? {
+            return Ok(());
+        }
+    }
+    Ok(())
+}

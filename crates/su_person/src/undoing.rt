@@ -1,0 +1,40 @@
+// How a person takes operations back.
+ghost use Rattle.std.specs.Prelude.{◌≡◌, ◌++◌, ◌∷◌, [], ℕ, OnOk};
+ghost use Rattle.su_client_work.specs.Work.{Works};
+ghost use Rattle.su_person.specs.Undoing.{TakesBack};
+
+use crate::carrying::kept;
+use crate::faults::Fault;
+use crate::keys::move_on;
+use crate::persons::Person;
+use std::io::{Read, Write};
+use su_bytes::Refusal;
+use su_client_work::Member;
+use su_lms::KeyStore;
+use su_op::Change;
+
+/// Undoes the operation of that number, before which the client may go on to another key, and appends
+/// the number of the commit to `numbers`. The refusals are those of `Member::change`, and `Unkept`.
+pub fn undo<P, R, W, K>(
+    person: &mut P,
+    member: &mut Member<R, W, K>,
+    number: u64,
+    numbers: &mut Vec<u64>,
+) -> Result<(), Fault>
+where
+    P: Person<R, W, K>,
+    R: Read + Drop,
+    W: Write + Drop,
+    K: KeyStore + Drop,
+    ensures works { Works member.old member.new }
+    ensures undone { OnOk result ((n : ℕ) × (numbers.new.items ≡ numbers.old.items ++ n ∷ [])
+        × TakesBack P.may_connect number member.old member.new n) }
+{
+    if numbers.reserve(1).is_err() {
+        return Err(Fault::from(Refusal::NoMemory));
+    }
+    move_on(person, member);
+    let commit = member.change(person, Change::Undo(number), false)?;
+    numbers.push_reserved(commit);
+    kept(person, member)
+}
