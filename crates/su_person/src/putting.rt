@@ -135,8 +135,8 @@ where
     R: Read + Drop,
     W: Write + Drop,
     K: KeyStore + Drop,
-    requires { length new.bytes.now ≤ largest_file NEWEST_FORMAT }
-    requires { IsStanding member.now.holding new.path.now standing.now }
+    requires length { length new.bytes.now ≤ largest_file NEWEST_FORMAT }
+    requires standing { IsStanding member.now.holding new.path.now standing.now }
     ensures { OnOk result (MayWrite new.now.seen new.now.over new.path.now member.now.holding) }
 {
     let commands = match standing {

@@ -19,15 +19,15 @@ pub struct Stat {
 
 /// Tells what a file of a forest is. `NoFile` where it has no body, `WrongKind` where a group's pointer
 /// points at nothing.
-pub(crate) fn stat_in(forest: &Forest, file: FileId) -> Result<Stat, Refusal>
-    ensures { result ≡ stat_in forest.now file }
+pub(crate) fn stat_in(forest: &Forest, file: &FileId) -> Result<Stat, Refusal>
+    ensures { result ≡ stat_in forest.now file.now }
 {
-    let Some(place) = forest.body(file) else {
-        return Err(Refusal::NoFile(file));
+    let Some(place) = forest.body(*file) else {
+        return Err(Refusal::NoFile(*file));
     };
     let (holder, number) = place;
     let Some(inode) = forest.inode(holder, number) else {
-        return Err(Refusal::WrongKind(file));
+        return Err(Refusal::WrongKind(*file));
     };
     Ok(Stat {
         holder,

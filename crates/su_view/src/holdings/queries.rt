@@ -93,7 +93,7 @@ impl Holding {
         ensures same { self.new ≡ self.old }
     {
         self.keeping.desk.take_back()?;
-        stat_in(self.keeping.desk.forest(), file)
+        stat_in(self.keeping.desk.forest(), &file)
     }
 
     /// Lists the names of a directory, as `Forest::list` does.
