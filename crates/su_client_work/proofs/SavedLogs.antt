@@ -1,9 +1,10 @@
 -- The log of one commit more.
-use Rattle.std.proofs.Common.{◌≡◌, ℕ, suc, ◌+◌, ◌-◌, ◌<◌, ◌≤◌, ◌⊎◌, inl, inr, cond, Bool, false, List, [], ◌∷◌, ◌++◌, length, take, get_or, nat_eq, Some, None, sym, ap, ◌∙◌, subst, arith}
+use Rattle.std.proofs.Common.{◌≡◌, ℕ, suc, ◌+◌, ◌-◌, ◌<◌, ◌≤◌, ◌⊎◌, inl, inr, cond, Bool, false, List, [], ◌∷◌, ◌++◌, length, take, drop, get_or, nat_eq, Some, None, sym, ap, ◌∙◌, subst, arith}
 use Rattle.std.specs.Prelude.{slice_get}
 use Rattle.std.proofs.Math.Seq.{take-suc}
 use Rattle.std.proofs.Math.Dec.{eqb-suc-zero}
-use Rattle.std.proofs.lemmas.List.{flat_map_more}
+use Rattle.std.proofs.lemmas.Grind.{flat_map-append}
+use Rattle.std.proofs.lemmas.List.{flat_map_more, append_cancel_left, take-append-drop, take_all}
 use Rattle.std.proofs.lemmas.Option.{slice_get_cases}
 use Rattle.su_legal.specs.Legal.{Committed}
 use Rattle.su_view.specs.Entry.{committed_at}
@@ -28,3 +29,9 @@ saved_more cs n before after within is more = at (slice_get_cases cs n).1
         ∙ flat_map_more entry_bytes [] (take n cs) c
         ∙ ap saved_log (sym (subst (λ (m : ℕ). take m cs ≡ take n cs ++ c ∷ []) one (take-suc cs n c inside ∙ ap (λ (d : Committed). take n cs ++ d ∷ []) same)))
     at (inr (past, none)) = absurd (omega (arith, within, past))
+
+-- what comes behind the log of the commits that are left out, once all are saved
+pub saved_rest : (cs : List Committed) (from n : ℕ) (log : List ℕ) → length cs ≤ n → saved_log (take from cs) ++ log ≡ saved_log (take n cs) → log ≡ saved_log (drop from cs)
+saved_rest cs from n log all is =
+    append_cancel_left (saved_log (take from cs)) log (saved_log (drop from cs))
+    (is ∙ ap saved_log (take_all n cs all) ∙ ap saved_log (sym (take-append-drop from cs)) ∙ flat_map-append entry_bytes (take from cs) (drop from cs))

@@ -1,7 +1,7 @@
 use Rattle.std.proofs.Common.{ℕ, List, ◌++◌, ◌∙◌, ap, sym, arith, take}
 use Rattle.std.proofs.lemmas.List.{append_assoc}
 use Rattle.su_client_work.specs.SavedLog.{saved_log, entry_bytes}
-use Rattle.su_client_work.proofs.SavedLogs.{saved_more}
+use Rattle.su_client_work.proofs.SavedLogs.{saved_more, saved_rest}
 use Rattle.su_client_work.proofs.logs.log_behind.Goals as goal
 
 pub loop-before-preserved : goal.loop-before-preserved
@@ -13,3 +13,10 @@ loop-before-preserved g c =
     saved_more held c.loop-before.before (left_out ++ c.loop-before.log.items) (left_out ++ c.put_entry.new.log.items)
     (omega (arith, count, test)) c.loop-before.invariant
     (λ d there. ap (λ (l : List ℕ). left_out ++ l) (c.in_ok-put_entry.ensures d there) ∙ sym (append_assoc left_out c.loop-before.log.items (entry_bytes d)))
+
+pub returns : goal.returns
+returns g c =
+    let held = c.args.view.now.holding.held in
+    let count = ap (λ (head : ℕ × List ℕ). head.0) c.head-count.ensures.value in
+    let test = c.loop-before-test.false in
+    saved_rest held c.args.from_ c.loop-before.before c.loop-before.log.items (omega (arith, count, test)) c.loop-before.invariant
