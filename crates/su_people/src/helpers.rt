@@ -1,0 +1,173 @@
+// What stands around the client of people.
+use crate::links::{Link, connect};
+use crate::sentences::tell;
+use crate::troubles::Trouble;
+use std::io::BufReader;
+use std::net::{Net, TcpListener, TcpStream};
+use std::thread::Threads;
+use std::time::Duration;
+use std::{io, thread};
+use su_block::Checked;
+use su_client::Outbox;
+use su_client_work::{Surroundings, log_behind};
+use su_folder::StateFolder;
+use su_keygen::make_next_key;
+use su_kept_key::{KeptKey, signer_of};
+use su_lms::{Params, Signer};
+use su_person::Person;
+use su_view::{View, ViewRefusal};
+
+/// How many leaves a write of the key file is ahead at most.
+pub(crate) const LEAVES_AHEAD: u32 = 16;
+
+/// What stands around the client of people: its state folder, in which it keeps what is taken, and how
+/// it connects and goes on to next keys. It tells on standard error what becomes of that.
+#[derive(Drop)]
+pub(crate) struct Helper<'a, T> {
+    pub(crate) rt: &'a HostRuntime,
+    pub(crate) host: &'a T,
+    pub(crate) folder: StateFolder<'a>,
+    /// How many commits the log of the state folder has.
+    pub(crate) kept: u64,
+    /// Whether no next key is made any more, as that has failed.
+    has_failed: bool,
+}
+
+impl<'a, T> Helper<'a, T> {
+    /// Makes it of a state folder, whose log has so many commits.
+    pub(crate) fn new(
+        rt: &'a HostRuntime,
+        host: &'a T,
+        folder: StateFolder<'a>,
+        kept: u64,
+    ) -> Helper<'a, T> {
+        Helper {
+            rt,
+            host,
+            folder,
+            kept,
+            has_failed: false,
+        }
+    }
+
+    /// Tells a line on standard error.
+    pub(crate) fn warn(&self, text: &str) {
+        let _ = eprintln!(self.rt; "sundr: {text}");
+    }
+
+    /// Tells on standard error why something isn't done.
+    pub(crate) fn tell(&self, trouble: &Trouble) {
+        tell(self.rt, Some(self.folder.team()), trouble);
+    }
+
+    /// Syncs the state folder at the end of a command that only looks. What of it fails is told.
+    pub(crate) fn end(&mut self) {
+        if let Err(fault) = self.folder.sync() {
+            let _ = eprintln!(self.rt; "sundr: {fault}");
+        }
+    }
+
+    /// Appends what a view holds behind the log of the state folder to that.
+    fn append(&mut self, view: &View<Checked<Outbox<BufReader<TcpStream>, TcpStream>>>) -> Result<(), Trouble> {
+        let (count, _) = view.head();
+        if count <= self.kept {
+            return Ok(());
+        }
+        let log = match log_behind(self.rt.alloc(), view, self.kept) {
+            Ok(log) => log,
+            Err(refusal) => return Err(Trouble::from(refusal)),
+        };
+        self.folder.append(log.as_slice(), count - self.kept)?;
+        self.kept = count;
+        Ok(())
+    }
+}
+
+impl<'a, T> Helper<'a, T>
+where
+    T: Threads + Sync,
+{
+    /// Makes a key of the same kind in the state folder, and its signer.
+    pub(crate) fn made_key(&self, params: Params) -> Result<Signer<KeptKey<'a>>, Trouble> {
+        let alloc = self.rt.alloc();
+        let directory = self.folder.directory();
+        let prefix = format!(in alloc; "{directory}/.sundr/key")?;
+        let path = match make_next_key(self.rt, prefix.as_str(), params) {
+            Ok(path) => path,
+            Err(fault) => return Err(Trouble::NextKey(fault)),
+        };
+        let kept = KeptKey::open(self.rt, path.as_str(), LEAVES_AHEAD)?;
+        match signer_of(self.host, alloc, kept) {
+            Ok(signer) => Ok(signer),
+            Err(refusal) => Err(Trouble::from(refusal)),
+        }
+    }
+}
+
+impl<T> Surroundings<BufReader<TcpStream>, TcpStream> for Helper<'_, T>
+where
+    T: Net<Listener = TcpListener, Stream = TcpStream> + Threads + Sync,
+{
+    // Of what a connection brings no contract can speak.
+    ghost may_connect = { λ _. Unit {0} };
+
+    type Host = T;
+
+    fn host(&self) -> &T {
+        self.host
+    }
+
+    fn pause(&mut self, time: Duration) {
+        thread::sleep(self.rt, time);
+    }
+
+    fn connect(&mut self) -> io::Result<Link> {
+        let server = self.folder.server();
+        connect(self.rt.alloc(), self.host, server.host.as_str(), server.port)
+    }
+}
+
+impl<'a, T> Person<BufReader<TcpStream>, TcpStream, KeptKey<'a>> for Helper<'a, T>
+where
+    T: Net<Listener = TcpListener, Stream = TcpStream> + Threads + Sync,
+{
+    fn keep(&mut self, view: &View<Checked<Outbox<BufReader<TcpStream>, TcpStream>>>) -> bool {
+        match self.append(view) {
+            Ok(()) => true,
+            Err(trouble) => {
+                let _ = eprintln!(self.rt; "sundr: {trouble}");
+                false
+            }
+        }
+    }
+
+    fn next_key(&mut self, left: u32, store: &KeptKey<'a>) -> Option<Signer<KeptKey<'a>>> {
+        let params = store.file().params;
+        if left == 0 || params.last_few() < left || self.has_failed {
+            return None;
+        }
+        match self.made_key(params) {
+            Ok(signer) => Some(signer),
+            Err(trouble) => {
+                self.has_failed = true;
+                let _ = eprintln!(self.rt; "sundr: {left} leaves of your key are left: {trouble}");
+                None
+            }
+        }
+    }
+
+    fn tell_rekey(&mut self, rekeyed: &Result<u64, ViewRefusal>) {
+        match rekeyed {
+            Ok(number) => {
+                let _ = eprintln!(self.rt;
+                    "sundr: your key had few leaves left: commit {number} goes on to another one, \
+which is in .sundr"
+                );
+            }
+            Err(refusal) => {
+                self.has_failed = true;
+                let _ = eprintln!(self.rt; "sundr: going on to another key: {refusal}");
+            }
+        }
+    }
+}

@@ -1,0 +1,44 @@
+// How a command of people ends.
+ghost use Rattle.std.specs.Prelude.{◌≡◌};
+ghost use Rattle.su_people.specs.Outcome.{code_of};
+
+/// How a command of people ends.
+#[derive(Clone, Copy, Debug, PartialEq, Eq)]
+pub enum Outcome {
+    /// It is done.
+    Done,
+    /// It is refused, or a file, the network or memory failed it. What was committed before stays.
+    Refused,
+    /// The server showed what it may not. Nothing of that was taken.
+    Lied,
+}
+
+/// What a command answers, and whether some of it wasn't done, which was told.
+#[derive(Debug, Drop)]
+pub(crate) struct Answer {
+    pub(crate) text: String,
+    pub(crate) is_partly: bool,
+}
+
+impl Answer {
+    /// Returns an answer of a command that is done.
+    pub(crate) fn whole(text: String) -> Answer {
+        Answer {
+            text,
+            is_partly: false,
+        }
+    }
+}
+
+impl Outcome {
+    /// Returns the exit status: 0, 1 or 3. (2 is that of a wrong command line.)
+    pub fn code(self) -> u8
+        ensures { result ≡ code_of self }
+    {
+        match self {
+            Outcome::Done => 0,
+            Outcome::Refused => 1,
+            Outcome::Lied => 3,
+        }
+    }
+}
