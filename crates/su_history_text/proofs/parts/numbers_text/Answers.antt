@@ -8,7 +8,7 @@ use Rattle.su_history_text.proofs.parts.numbers_text.Goals as goal
 
 pub returns-then-first-last-clause-line : goal.returns-then-first-last-clause-line
 returns-then-first-last-clause-line c =
-    stays-told string_bytes c.format-then-first-last.result (decimal c.args.first) c.format-then-first-last.ensures.ok (stays-decimal c.args.first)
+    stays-told string_bytes c.format.result (decimal c.args.first) c.format.ensures.ok (stays-decimal c.args.first)
 
 pub returns-else-first-last-clause-value : goal.returns-else-first-last-clause-value
 returns-else-first-last-clause-value c =

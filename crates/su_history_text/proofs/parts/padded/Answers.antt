@@ -8,7 +8,7 @@ pub loop-place-preserved : goal.loop-place-preserved
 loop-place-preserved c =
     let low = c.loop-place.auto._place in
     let there = c.loop-place-test.true in
-    let start = ap length c.as_str-place.ensures in
+    let start = ap length c.as_str-place.ensures.value in
     let more = one_space_more (string_bytes c.args.text) (string_bytes c.loop-place.text) (string_bytes c.push_str.new.self) (min c.loop-place._place c.args.width - length (string_bytes c.args.text)) c.loop-place.invariant c.in_ok-push_str.ensures.bytes in
     more ∙ ap (λ n. string_bytes c.args.text ++ replicate n 32) (omega (arith, low, there, start))
 
