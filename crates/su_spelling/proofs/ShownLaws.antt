@@ -137,3 +137,6 @@ stays-shown_from zero (b ∷ bs) high bytes =
           let stands = stands_for b bs n is in
           let first : stays b ≡ true = grind (arith, nat_tests, stands.plain) in
           simp unary_clauses (rw first (behind n (high_behind b bs n stands.character)))
+
+pub stays-shown : (name : List ℕ) → AreBytes name → list_all stays (shown name) ≡ true
+stays-shown name bytes = stays-shown_from 0 name tt bytes

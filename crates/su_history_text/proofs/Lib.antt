@@ -1,0 +1,5 @@
+mod NameLemmas
+mod Padding
+mod Pieces
+mod Staying
+mod TeamNames

@@ -1,0 +1,10 @@
+//! The lines of a history as text for people, and as JSON.
+#![tactic(auto)]
+
+mod deeds;
+mod file_names;
+mod lines;
+mod parts;
+
+pub use file_names::FileNames;
+pub use lines::{history_text, line_text};
