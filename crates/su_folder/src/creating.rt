@@ -39,11 +39,7 @@ struct Texts {
 /// one is shown as; `Unwritten`, where the directory can't be made; `Exists`, where there is a state
 /// folder already; `Unwritten`. `NoMemory` can come at any time. After a fault, what was made is
 /// removed again, as far as the system allows it.
-pub fn create(
-    rt: &HostRuntime,
-    directory: &str,
-    new: &NewFolder<'_>,
-) -> Result<(), FolderFault> {
+pub fn create(rt: &HostRuntime, directory: &str, new: &NewFolder<'_>) -> Result<(), FolderFault> {
     let folder = folder_path(rt.alloc(), directory)?;
     let texts = spelled(rt.alloc(), folder.as_str(), new)?;
     let is_new = make_directory(rt, directory)?;
@@ -114,8 +110,9 @@ fn make_folder(
         Err(reason) => return Err(FolderFault::unwritten(alloc, folder, reason)),
     }
     let filled = fill(rt, folder, texts).and_then(|()| {
-        sync_names(rt, directory, folder)
-            .map_err(|reason| FolderFault::unwritten(alloc, folder, reason))
+        sync_names(rt, directory, folder).map_err(|reason| FolderFault::unwritten(
+            alloc, folder, reason,
+        ))
     });
     if filled.is_err() {
         remove_folder(rt, folder);

@@ -13,28 +13,50 @@ pub enum FolderFault {
     /// There is no state folder in this directory, or upwards from it.
     #[error("there is no folder .sundr in {path}: make one with `sundr init`, or say where it is \
         with `--in DIR`")]
-    NoFolder { path: String },
+    NoFolder {
+        path: String,
+    },
     /// What is to be made is there already.
     #[error("{path} is there already")]
-    Exists { path: String },
+    Exists {
+        path: String,
+    },
     /// Another process works in the state folder of this directory.
     #[error("{path} is in use by {holder}")]
-    InUse { path: String, holder: Holder },
+    InUse {
+        path: String,
+        holder: Holder,
+    },
     /// A file or folder can't be read.
     #[error("reading {path}: {reason}")]
-    Unread { path: String, reason: io::Error },
+    Unread {
+        path: String,
+        reason: io::Error,
+    },
     /// A file or folder can't be made, written, synced or locked.
     #[error("writing {path}: {reason}")]
-    Unwritten { path: String, reason: io::Error },
+    Unwritten {
+        path: String,
+        reason: io::Error,
+    },
     /// A file has more bytes than it may have.
     #[error("{path} has more than {most} bytes")]
-    TooLong { path: String, most: u64 },
+    TooLong {
+        path: String,
+        most: u64,
+    },
     /// The file of the team isn't read.
     #[error("{path}, {fault}")]
-    Team { path: String, fault: TextFault },
+    Team {
+        path: String,
+        fault: TextFault,
+    },
     /// Another file has, or would have, what may not stand there.
     #[error("{path}: {mistake}")]
-    Wrong { path: String, mistake: Mistake },
+    Wrong {
+        path: String,
+        mistake: Mistake,
+    },
     /// More of the log would be dropped than a write that was stopped leaves behind.
     #[error("{path} is damaged: of its {length} bytes the first {whole} are whole entries, and more \
         is behind them than a stop leaves")]

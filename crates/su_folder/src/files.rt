@@ -37,7 +37,11 @@ pub(crate) fn read_file(rt: &HostRuntime, path: &str, most: u64) -> Result<Vec<u
         Ok(_) => return Err(FolderFault::wrong(alloc, path, Mistake::NoFile)),
         Err(reason) => return Err(FolderFault::unread(alloc, path, reason)),
     }
-    let read = File::open(rt, path).and_then(|file| first_bytes(alloc, file, most.saturating_add(1)));
+    let read = File::open(rt, path).and_then(|file| first_bytes(
+        alloc,
+        file,
+        most.saturating_add(1),
+    ));
     let bytes = match read {
         Ok(bytes) => bytes,
         Err(reason) => return Err(FolderFault::unread(alloc, path, reason)),

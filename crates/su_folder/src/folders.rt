@@ -146,8 +146,9 @@ impl<'a> StateFolder<'a> {
     /// Opens the log to be read from its beginning. `Unread`; `NoMemory`.
     pub fn read_log(&self) -> Result<BufReader<File>, FolderFault> {
         let alloc = self.rt.alloc();
-        let opened = File::open(self.rt, self.log.path())
-            .and_then(|file| BufReader::new(alloc, file));
+        let opened = File::open(self.rt, self.log.path()).and_then(|file| BufReader::new(
+            alloc, file,
+        ));
         match opened {
             Ok(reader) => Ok(reader),
             Err(reason) => Err(FolderFault::unread(alloc, self.log.path(), reason)),
@@ -304,15 +305,23 @@ fn user_in(rt: &HostRuntime, folder: &str, team: &Team, me: &Me) -> Result<User,
 fn server_in(rt: &HostRuntime, folder: &str) -> Result<Server, FolderFault> {
     let path = format!(in rt.alloc(); "{folder}/where")?;
     let text = read_file(rt, path.as_str(), MOST_OF_LINES)?;
-    let line = match str::from_utf8(&text) {
-        Ok(text) => text.strip_suffix('\n').unwrap_or(""),
-        Err(_) => "",
+    let server = match line_of(&text) {
+        Some(line) => Server::read(rt.alloc(), line)?,
+        None => None,
     };
-    match Server::read(rt.alloc(), line)? {
+    match server {
         Some(server) => Ok(server),
         None => Err(FolderFault::Wrong {
             path,
             mistake: Mistake::Server,
         }),
+    }
+}
+
+/// Lends the text before the line feed that these bytes end with. `None` where they are none.
+fn line_of(bytes: &[u8]) -> Option<&str> {
+    match str::from_utf8(bytes) {
+        Ok(text) => text.strip_suffix('\n'),
+        Err(_) => None,
     }
 }
