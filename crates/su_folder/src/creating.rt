@@ -18,6 +18,7 @@ const NAMES: [&str; 7] = ["team", "where", "me", "log", "times", "seen", "lock"]
 
 /// What a new state folder is to tell: the team, its server, the name of the user, who has to be in
 /// the team, and the path of the user's key file, without a line feed.
+#[derive(Drop)]
 pub struct NewFolder<'a> {
     pub team: &'a Team,
     pub server: &'a Server,

@@ -26,6 +26,23 @@ const TIME_LENGTH: u64 = 8;
 /// How many commits are appended before the log is synced.
 const COMMITS_BETWEEN_SYNCS: u64 = 32;
 
+/// What stands in a state folder, until it is set anew.
+#[derive(Drop)]
+struct Standing {
+    team: Team,
+    me: Me,
+    user: User,
+    server: Server,
+}
+
+/// What grows in a state folder.
+#[derive(Drop)]
+struct Growing {
+    log: Appended,
+    times: Appended,
+    seen: SeenLines,
+}
+
 /// A state folder, which no other process works in as long as this value lives.
 #[derive(Drop)]
 pub struct StateFolder<'a> {
@@ -33,13 +50,8 @@ pub struct StateFolder<'a> {
     directory: String,
     folder: String,
     _lock: File,
-    team: Team,
-    me: Me,
-    user: User,
-    server: Server,
-    log: Appended,
-    times: Appended,
-    seen: SeenLines,
+    standing: Standing,
+    growing: Growing,
     count: u64,
     unsynced: u64,
 }
@@ -59,54 +71,44 @@ impl<'a> StateFolder<'a> {
             });
         }
         let lock = lock_folder(rt, directory, folder.as_str())?;
-        let team = team_in(rt, folder.as_str())?;
-        let me = me_in(rt, folder.as_str())?;
-        let user = user_in(rt, folder.as_str(), &team, &me)?;
-        let server = server_in(rt, folder.as_str())?;
-        let log = Appended::open(rt, format!(in alloc; "{folder}/log")?)?;
-        let times = Appended::open(rt, format!(in alloc; "{folder}/times")?)?;
-        let seen = SeenLines::open(rt, folder.as_str())?;
-        let count = times.length() / TIME_LENGTH;
+        let directory = String::from_str(alloc, directory)?;
+        let standing = standing_in(rt, folder.as_str())?;
+        let growing = growing_in(rt, folder.as_str())?;
         Ok(StateFolder {
             rt,
-            directory: String::from_str(alloc, directory)?,
+            directory,
             folder,
             _lock: lock,
-            team,
-            me,
-            user,
-            server,
-            log,
-            times,
-            seen,
-            count,
+            standing,
+            count: growing.times.length() / TIME_LENGTH,
+            growing,
             unsynced: 0,
         })
     }
 
     /// Lends the team.
     pub fn team(&self) -> &Team {
-        &self.team
+        &self.standing.team
     }
 
     /// Returns the user who works here.
     pub fn user(&self) -> User {
-        self.user
+        self.standing.user
     }
 
     /// Lends the name of the user who works here.
     pub fn user_name(&self) -> &[u8] {
-        self.me.name.as_slice()
+        self.standing.me.name.as_slice()
     }
 
     /// Lends the path of the user's key file, as it stands in `me`.
     pub fn key_path(&self) -> &str {
-        self.me.key.as_str()
+        self.standing.me.key.as_str()
     }
 
     /// Lends where the server listens.
     pub fn server(&self) -> &Server {
-        &self.server
+        &self.standing.server
     }
 
     /// Lends the path of the directory that has the state folder, as it was opened.
@@ -123,9 +125,9 @@ impl<'a> StateFolder<'a> {
             return Err(FolderFault::wrong(alloc, file.as_str(), Mistake::Me));
         }
         let key = String::from_str(alloc, path)?;
-        let text = spelled_me(alloc, &self.me.name, path)?;
+        let text = spelled_me(alloc, &self.standing.me.name, path)?;
         replace(self.rt, self.folder.as_str(), "me", &text)?;
-        self.me.key = key;
+        self.standing.me.key = key;
         Ok(())
     }
 
@@ -136,7 +138,7 @@ impl<'a> StateFolder<'a> {
         let text = spelled_place(alloc, self.folder.as_str(), server)?;
         let host = String::from_str(alloc, server.host.as_str())?;
         replace(self.rt, self.folder.as_str(), "where", text.as_bytes())?;
-        self.server = Server {
+        self.standing.server = Server {
             host,
             port: server.port,
         };
@@ -146,18 +148,18 @@ impl<'a> StateFolder<'a> {
     /// Opens the log to be read from its beginning. `Unread`; `NoMemory`.
     pub fn read_log(&self) -> Result<BufReader<File>, FolderFault> {
         let alloc = self.rt.alloc();
-        let opened = File::open(self.rt, self.log.path()).and_then(|file| BufReader::new(
+        let opened = File::open(self.rt, self.growing.log.path()).and_then(|file| BufReader::new(
             alloc, file,
         ));
         match opened {
             Ok(reader) => Ok(reader),
-            Err(reason) => Err(FolderFault::unread(alloc, self.log.path(), reason)),
+            Err(reason) => Err(FolderFault::unread(alloc, self.growing.log.path(), reason)),
         }
     }
 
     /// Returns how many bytes the log has.
     pub fn log_length(&self) -> u64 {
-        self.log.length()
+        self.growing.log.length()
     }
 
     /// Cuts the log to so many bytes, and waits until the disk has it. Returns how many it dropped.
@@ -165,17 +167,17 @@ impl<'a> StateFolder<'a> {
     /// nothing is done. `Unwritten`.
     pub fn cut_log(&mut self, length: u64, most: u64) -> Result<u64, FolderFault> {
         let alloc = self.rt.alloc();
-        let before = self.log.length();
+        let before = self.growing.log.length();
         if before < length || most < before - length {
             return Err(FolderFault::Damaged {
-                path: String::from_str(alloc, self.log.path())?,
+                path: String::from_str(alloc, self.growing.log.path())?,
                 length: before,
                 whole: length,
             });
         }
         if length < before {
-            self.log.resize(alloc, length)?;
-            self.log.sync(alloc)?;
+            self.growing.log.resize(alloc, length)?;
+            self.growing.log.sync(alloc)?;
         }
         Ok(before - length)
     }
@@ -184,8 +186,8 @@ impl<'a> StateFolder<'a> {
     /// time for each of them. `Unwritten`.
     pub fn align(&mut self, count: u64) -> Result<(), FolderFault> {
         let length = count.saturating_mul(TIME_LENGTH);
-        if self.times.length() != length {
-            self.times.resize(self.rt.alloc(), length)?;
+        if self.growing.times.length() != length {
+            self.growing.times.resize(self.rt.alloc(), length)?;
         }
         self.count = count;
         Ok(())
@@ -203,10 +205,10 @@ impl<'a> StateFolder<'a> {
         for _ in 0..count {
             times.extend_from_slice(&second)?;
         }
-        self.log.append(alloc, entries)?;
+        self.growing.log.append(alloc, entries)?;
         self.count = self.count.saturating_add(count);
         self.unsynced = self.unsynced.saturating_add(count);
-        self.times.append(alloc, &times)?;
+        self.growing.times.append(alloc, &times)?;
         if self.unsynced < COMMITS_BETWEEN_SYNCS {
             return Ok(());
         }
@@ -217,20 +219,20 @@ impl<'a> StateFolder<'a> {
     pub fn sync(&mut self) -> Result<(), FolderFault> {
         let alloc = self.rt.alloc();
         self.sync_log()?;
-        self.times.sync(alloc)?;
-        self.seen.sync(alloc)
+        self.growing.times.sync(alloc)?;
+        self.growing.seen.sync(alloc)
     }
 
     /// Returns up to which commit the user has seen the file at a path. `None` where it wasn't seen.
     pub fn seen_at(&self, path: &[u8]) -> Option<u64> {
-        self.seen.number_of(path)
+        self.growing.seen.number_of(path)
     }
 
     /// Notes that the user has seen the file at a path up to a commit, and appends the line that tells
     /// it to `seen`. `TooLong`, where `seen` has no room for it before it is written anew by the next
     /// start; `Unwritten`; `NoMemory`. After a fault it is noted nowhere, or in the file alone.
     pub fn note_seen(&mut self, number: u64, path: &[u8]) -> Result<(), FolderFault> {
-        self.seen.note(self.rt.alloc(), number, path)
+        self.growing.seen.note(self.rt.alloc(), number, path)
     }
 
     /// Returns the second in which the commit with that number, from 1, was taken. `None` where there
@@ -240,7 +242,7 @@ impl<'a> StateFolder<'a> {
             return None;
         }
         let place = (number - 1).checked_mul(TIME_LENGTH)?;
-        let bytes = self.times.eight_at(place)?;
+        let bytes = self.growing.times.eight_at(place)?;
         match time_of(&bytes, 1) {
             Some(second) if 0 < second => Some(second),
             _ => None,
@@ -249,7 +251,7 @@ impl<'a> StateFolder<'a> {
 
     /// Waits until the disk has the log.
     fn sync_log(&mut self) -> Result<(), FolderFault> {
-        self.log.sync(self.rt.alloc())?;
+        self.growing.log.sync(self.rt.alloc())?;
         self.unsynced = 0;
         Ok(())
     }
@@ -264,6 +266,28 @@ impl<'a> StateFolder<'a> {
             Err(_) => 0,
         }
     }
+}
+
+/// Reads what stands in a state folder.
+fn standing_in(rt: &HostRuntime, folder: &str) -> Result<Standing, FolderFault> {
+    let team = team_in(rt, folder)?;
+    let me = me_in(rt, folder)?;
+    let user = user_in(rt, folder, &team, &me)?;
+    let server = server_in(rt, folder)?;
+    Ok(Standing {
+        team,
+        me,
+        user,
+        server,
+    })
+}
+
+/// Opens what grows in a state folder.
+fn growing_in(rt: &HostRuntime, folder: &str) -> Result<Growing, FolderFault> {
+    let log = Appended::open(rt, format!(in rt.alloc(); "{folder}/log")?)?;
+    let times = Appended::open(rt, format!(in rt.alloc(); "{folder}/times")?)?;
+    let seen = SeenLines::open(rt, folder)?;
+    Ok(Growing { log, times, seen })
 }
 
 /// Reads the team of a state folder.
