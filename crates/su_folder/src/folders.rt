@@ -1,4 +1,6 @@
 // A state folder that a process works in.
+ghost use Rattle.std.specs.Prelude.{◌≤◌, IfOk};
+
 use crate::appended::Appended;
 use crate::creating::spelled_place;
 use crate::faults::{FolderFault, Mistake};
@@ -165,7 +167,9 @@ impl<'a> StateFolder<'a> {
     /// Cuts the log to so many bytes, and waits until the disk has it. Returns how many it dropped.
     /// `Damaged` where these are more than `most`, or the log has fewer bytes than are to stay: then
     /// nothing is done. `Unwritten`.
-    pub fn cut_log(&mut self, length: u64, most: u64) -> Result<u64, FolderFault> {
+    pub fn cut_log(&mut self, length: u64, most: u64) -> Result<u64, FolderFault>
+        ensures { IfOk result (λ dropped. dropped ≤ most) }
+    {
         let alloc = self.rt.alloc();
         let before = self.growing.log.length();
         if before < length || most < before - length {
