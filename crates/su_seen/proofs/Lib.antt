@@ -1,2 +1,5 @@
 mod Examples
+mod FileLines
+mod KeptMap
 mod Spaces
+mod Told

@@ -13,11 +13,11 @@ use Rattle.std.proofs.Math.Seq.{drop-append-add, take-append_seam}
 use Rattle.su_spelling.specs.Shown.{shown}
 use Rattle.su_seen.specs.Line.{seen_line}
 
-abbrev read_on : ℕ → List ℕ → ℕ
+abbrev pub read_on : ℕ → List ℕ → ℕ
 read_on n [] = n
 read_on n (c ∷ cs) = read_on (10 * n + (c - 48)) cs
 
-own : IsNumeralModel (λ ds. all_ascii_digits ds ≡ true) (read_on 0)
+pub own : IsNumeralModel (λ ds. all_ascii_digits ds ≡ true) (read_on 0)
 own = numerals_by_fold _ (search rules) read_on (search rules)
 
 no_digit : (c : ℕ) → is_ascii_digit c ≡ true → c ≡ 32 → ⊥

@@ -1,2 +1,4 @@
+pub mod Kept
 pub mod Line
+pub mod Seen
 pub mod Tells

@@ -50,7 +50,7 @@ fn parsed_line(alloc: Global, line: &[u8]) -> Result<Option<SeenFile>, AllocErro
     ensures { IfOk result (λ file. (n : ℕ) (path : List ℕ) → n < 2 ^ 64 → AreBytes path
         → line.now ≡ seen_line n path → Tells file n path) }
 {
-    let place = first_space(line);
+    let place = place_of(b' ', line);
     if line.len() <= place {
         return Ok(None);
     }
@@ -64,18 +64,18 @@ fn parsed_line(alloc: Global, line: &[u8]) -> Result<Option<SeenFile>, AllocErro
     }
 }
 
-/// Returns the place of the first space, or how many bytes there are.
-fn first_space(line: &[u8]) -> usize
-    ensures within { result ≤ length line.now }
-    ensures before { (k : ℕ) → k < result → slice_index line.now k ≢ 32 }
-    ensures at { result < length line.now → slice_index line.now result ≡ 32 }
+/// Returns the place of the first byte that is this one, or how many bytes there are.
+pub(crate) fn place_of(wanted: u8, bytes: &[u8]) -> usize
+    ensures within { result ≤ length bytes.now }
+    ensures before { (k : ℕ) → k < result → slice_index bytes.now k ≢ wanted }
+    ensures at { result < length bytes.now → slice_index bytes.now result ≡ wanted }
 {
-    for (place, byte) in line.iter().enumerate() {
-        if *byte == b' ' {
+    for (place, byte) in bytes.iter().enumerate() {
+        if *byte == wanted {
             return place;
         }
     }
-    line.len()
+    bytes.len()
 }
 
 /// Reads a decimal number, which may be one that isn't spelled so.
