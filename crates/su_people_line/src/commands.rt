@@ -42,16 +42,26 @@ fn init_command<'a>(alloc: Global) -> Result<Command<'a>, AllocError> {
     )
     .arg(word(alloc, "folder", "DIR", "The folder that is made").required(true))
     .arg(needed(alloc, "server", "HOST:PORT", server))
-    .arg(needed(alloc, "team", "FILE", "The names and public keys of the team"))
+    .arg(needed(
+        alloc,
+        "team",
+        "FILE",
+        "The names and public keys of the team",
+    ))
     .arg(needed(alloc, "user", "NAME", "Who of the team works here"))
     .arg(needed(alloc, "key", "FILE", "The user's key file"))
     .finish()
 }
 
 fn put_command<'a>(alloc: Global) -> Result<Command<'a>, AllocError> {
-    let locals = word(alloc, "locals", "LOCAL", "Files and folders of this machine")
-        .required(true)
-        .num_args(1..);
+    let locals = word(
+        alloc,
+        "locals",
+        "LOCAL",
+        "Files and folders of this machine",
+    )
+    .required(true)
+    .num_args(1..);
     let over = "Also what another user has changed since it was got";
     let dry_run = "Tells what would be written, and writes nothing";
     begun(
@@ -112,11 +122,16 @@ fn folders_command<'a>(alloc: Global) -> Result<Command<'a>, AllocError> {
 }
 
 fn move_command<'a>(alloc: Global) -> Result<Command<'a>, AllocError> {
-    begun(alloc, "mv", "Gives a file or a folder another name", MOVE_ABOUT)
-        .arg(word(alloc, "path", "OLD", "The path as it is").required(true))
-        .arg(word(alloc, "other", "NEW", "The path as it shall be").required(true))
-        .arg(folder(alloc))
-        .finish()
+    begun(
+        alloc,
+        "mv",
+        "Gives a file or a folder another name",
+        MOVE_ABOUT,
+    )
+    .arg(word(alloc, "path", "OLD", "The path as it is").required(true))
+    .arg(word(alloc, "other", "NEW", "The path as it shall be").required(true))
+    .arg(folder(alloc))
+    .finish()
 }
 
 fn remove_command<'a>(alloc: Global) -> Result<Command<'a>, AllocError> {
@@ -136,43 +151,68 @@ fn link_command<'a>(alloc: Global) -> Result<Command<'a>, AllocError> {
 }
 
 fn history_command<'a>(alloc: Global) -> Result<Command<'a>, AllocError> {
-    let count = option(alloc, "count", "COUNT", "So many lines at most, from 1; else all")
-        .short('n')
-        .value_parser(clap::value_parser!(u64).range(1..));
-    begun(alloc, "history", "Tells the commits, the newest first", HISTORY_ABOUT)
-        .arg(word(alloc, "path", "PATH", "Of this path alone"))
-        .arg(count)
-        .arg(folder(alloc))
-        .arg(json(alloc))
-        .finish()
+    let count = option(
+        alloc,
+        "count",
+        "COUNT",
+        "So many lines at most, from 1; else all",
+    )
+    .short('n')
+    .value_parser(clap::value_parser!(u64).range(1..));
+    begun(
+        alloc,
+        "history",
+        "Tells the commits, the newest first",
+        HISTORY_ABOUT,
+    )
+    .arg(word(alloc, "path", "PATH", "Of this path alone"))
+    .arg(count)
+    .arg(folder(alloc))
+    .arg(json(alloc))
+    .finish()
 }
 
 fn show_command<'a>(alloc: Global) -> Result<Command<'a>, AllocError> {
-    begun(alloc, "show", "Tells all that is known of a commit", SHOW_ABOUT)
-        .arg(commit(alloc))
-        .arg(folder(alloc))
-        .arg(json(alloc))
-        .finish()
+    begun(
+        alloc,
+        "show",
+        "Tells all that is known of a commit",
+        SHOW_ABOUT,
+    )
+    .arg(commit(alloc))
+    .arg(folder(alloc))
+    .arg(json(alloc))
+    .finish()
 }
 
 fn diff_command<'a>(alloc: Global) -> Result<Command<'a>, AllocError> {
-    begun(alloc, "diff", "Tells how a commit changed a file", DIFF_ABOUT)
-        .arg(commit(alloc))
-        .arg(folder(alloc))
-        .finish()
+    begun(
+        alloc,
+        "diff",
+        "Tells how a commit changed a file",
+        DIFF_ABOUT,
+    )
+    .arg(commit(alloc))
+    .arg(folder(alloc))
+    .finish()
 }
 
 fn undo_command<'a>(alloc: Global) -> Result<Command<'a>, AllocError> {
     let numbers = "A commit, or the first and the last of several";
     let why = "Tells what blocks it, and undoes nothing";
     let with_blockers = "Also what blocks it, where all is one's own";
-    begun(alloc, "undo", "Takes back operations of one's own", UNDO_ABOUT)
-        .arg(word(alloc, "numbers", "N[..M]", numbers).required(true))
-        .arg(flag(alloc, "why", why))
-        .arg(flag(alloc, "with-blockers", with_blockers))
-        .arg(folder(alloc))
-        .arg(flag(alloc, "json", "With --why: answers in JSON"))
-        .finish()
+    begun(
+        alloc,
+        "undo",
+        "Takes back operations of one's own",
+        UNDO_ABOUT,
+    )
+    .arg(word(alloc, "numbers", "N[..M]", numbers).required(true))
+    .arg(flag(alloc, "why", why))
+    .arg(flag(alloc, "with-blockers", with_blockers))
+    .arg(folder(alloc))
+    .arg(flag(alloc, "json", "With --why: answers in JSON"))
+    .finish()
 }
 
 fn status_command<'a>(alloc: Global) -> Result<Command<'a>, AllocError> {
@@ -183,15 +223,25 @@ fn status_command<'a>(alloc: Global) -> Result<Command<'a>, AllocError> {
 }
 
 fn compare_command<'a>(alloc: Global) -> Result<Command<'a>, AllocError> {
-    let number = word(alloc, "number", "NUMBER", "How many commits the other list has")
-        .required(true)
-        .value_parser(clap::value_parser!(u64));
+    let number = word(
+        alloc,
+        "number",
+        "NUMBER",
+        "How many commits the other list has",
+    )
+    .required(true)
+    .value_parser(clap::value_parser!(u64));
     let groups = "The first groups of its digest, or all eight";
-    begun(alloc, "compare", "Compares another user's list with one's own", COMPARE_ABOUT)
-        .arg(number)
-        .arg(words(alloc, "groups", "GROUPS", groups))
-        .arg(folder(alloc))
-        .finish()
+    begun(
+        alloc,
+        "compare",
+        "Compares another user's list with one's own",
+        COMPARE_ABOUT,
+    )
+    .arg(number)
+    .arg(words(alloc, "groups", "GROUPS", groups))
+    .arg(folder(alloc))
+    .finish()
 }
 
 fn verify_command<'a>(alloc: Global) -> Result<Command<'a>, AllocError> {
@@ -208,10 +258,15 @@ fn rekey_command<'a>(alloc: Global) -> Result<Command<'a>, AllocError> {
 
 fn where_command<'a>(alloc: Global) -> Result<Command<'a>, AllocError> {
     let server = "Where it listens from now on";
-    begun(alloc, "where", "Tells where the server is, or takes another place", WHERE_ABOUT)
-        .arg(word(alloc, "server", "HOST:PORT", server))
-        .arg(folder(alloc))
-        .finish()
+    begun(
+        alloc,
+        "where",
+        "Tells where the server is, or takes another place",
+        WHERE_ABOUT,
+    )
+    .arg(word(alloc, "server", "HOST:PORT", server))
+    .arg(folder(alloc))
+    .finish()
 }
 
 /// Begins with a subcommand of this name, with a line of help and a text of it.

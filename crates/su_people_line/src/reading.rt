@@ -134,11 +134,7 @@ fn text_of(alloc: Global, values: &ArgMatches<'_>, id: &str) -> Result<String, L
 }
 
 /// Copies texts, of which one at least has to be there.
-fn texts_of(
-    alloc: Global,
-    values: &ArgMatches<'_>,
-    id: &str,
-) -> Result<Vec<String>, LineFault>
+fn texts_of(alloc: Global, values: &ArgMatches<'_>, id: &str) -> Result<Vec<String>, LineFault>
     ensures { IfOk result (λ texts. texts.items ≢ []) }
 {
     let texts = copies(alloc, values.get_strs(id).unwrap_or(&[]))?;
