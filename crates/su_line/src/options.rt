@@ -1,7 +1,7 @@
 // Options, and what is read of them.
-ghost use Rattle.std.specs.Prelude.{◌≡◌, IfOk, length, map, option_map};
+ghost use Rattle.std.specs.Prelude.{◌≡◌, IfOk, map, option_map};
 ghost use Rattle.std.specs.String.{string_bytes};
-ghost use Rattle.su_line.specs.declared.faults.LineFault.{LineFault};
+ghost use Rattle.su_line.specs.Fault.{IsUsage};
 
 use crate::faults::LineFault;
 use clap::{Arg, ArgAction};
@@ -29,7 +29,10 @@ pub fn needed<'a>(alloc: Global, name: &'a str, value: &'a str, help: &'a str) -
 }
 
 /// Copies texts.
-pub fn copies(alloc: Global, texts: &[&str]) -> Result<Vec<String>, AllocError> {
+pub fn copies(alloc: Global, texts: &[&str]) -> Result<Vec<String>, AllocError>
+    ensures { IfOk result (λ copies.
+        map string_bytes copies.items ≡ map (λ text. text.now) texts.now) }
+{
     let mut copies = Vec::with_capacity(alloc, texts.len())?;
     for text in texts {
         let copy = String::from_str(alloc, text)?;
@@ -41,7 +44,10 @@ pub fn copies(alloc: Global, texts: &[&str]) -> Result<Vec<String>, AllocError> 
 }
 
 /// Copies a text, if there is one.
-pub fn copy(alloc: Global, text: Option<&str>) -> Result<Option<String>, AllocError> {
+pub fn copy(alloc: Global, text: Option<&str>) -> Result<Option<String>, AllocError>
+    ensures { IfOk result (λ copy.
+        option_map string_bytes copy ≡ option_map (λ text. text.now) text.entry) }
+{
     match text {
         Some(text) => Ok(Some(String::from_str(alloc, text)?)),
         None => Ok(None),
@@ -49,7 +55,9 @@ pub fn copy(alloc: Global, text: Option<&str>) -> Result<Option<String>, AllocEr
 }
 
 /// Returns a fault of the command line that this text tells.
-pub fn usage(alloc: Global, text: &str) -> LineFault {
+pub fn usage(alloc: Global, text: &str) -> LineFault
+    ensures { IsUsage text.now result }
+{
     match String::from_str(alloc, text) {
         Ok(text) => LineFault::Usage(text),
         Err(_) => LineFault::NoMemory,

@@ -1,2 +1,3 @@
 pub mod Deed
+pub mod Said
 pub mod Server

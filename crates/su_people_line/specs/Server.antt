@@ -1,5 +1,5 @@
 -- Where a server is.
-use Rattle.std.specs.Prelude.{ℕ, ◌<◌, List, length}
+use Rattle.std.specs.Prelude.{◌<◌, length}
 use Rattle.std.specs.String.{string_bytes}
 use Rattle.su_line.specs.Port.{IsPort}
 use Rattle.su_people_line.specs.declared.servers.Server.{Server}

@@ -1,6 +1,9 @@
 // What the words of a command line for people ask for.
-ghost use Rattle.std.specs.Prelude.{◌≡◌, ◌≢◌, [], true, IfOk, IfSome};
+ghost use Rattle.std.specs.Prelude.{◌≡◌, ◌≢◌, [], true, map, IfOk, IfSome};
+ghost use Rattle.std.specs.String.{string_bytes};
+ghost use Rattle.clap.specs.Matches.{found_of};
 ghost use Rattle.su_people_line.specs.Deed.{HasGoodNumbers, IsGood, IsNumber, MayBeJson};
+ghost use Rattle.su_people_line.specs.Said.{AreWords, IsNumberWord, IsWord, Says};
 ghost use Rattle.su_people_line.specs.Server.{IsServer};
 
 use crate::deeds::{CompareArgs, Deed, GetArgs, InitArgs, PeopleLine, PutArgs};
@@ -21,7 +24,8 @@ pub fn people_line_of(
     name: &str,
     values: &ArgMatches<'_>,
 ) -> Result<PeopleLine, LineFault>
-    ensures { IfOk result IsGood }
+    ensures good { IfOk result IsGood }
+    ensures said { IfOk result (λ line. Says (found_of values.now) line.deed) }
 {
     let folder = copy(alloc, values.get_str("in"))?;
     let deed = deed_of(alloc, name, values)?;
@@ -45,7 +49,8 @@ fn may_be_json(deed: &Deed) -> bool
 
 /// Reads what is to be done.
 fn deed_of(alloc: Global, name: &str, values: &ArgMatches<'_>) -> Result<Deed, LineFault>
-    ensures { IfOk result HasGoodNumbers }
+    ensures numbers { IfOk result HasGoodNumbers }
+    ensures said { IfOk result (Says (found_of values.now)) }
 {
     match name {
         "init" => init_of(alloc, values),
@@ -72,7 +77,8 @@ fn deed_of(alloc: Global, name: &str, values: &ArgMatches<'_>) -> Result<Deed, L
 
 /// `init DIR --server HOST:PORT --team FILE --user NAME --key FILE`
 fn init_of(alloc: Global, values: &ArgMatches<'_>) -> Result<Deed, LineFault>
-    ensures { IfOk result HasGoodNumbers }
+    ensures numbers { IfOk result HasGoodNumbers }
+    ensures said { IfOk result (Says (found_of values.now)) }
 {
     let (Some(folder), Some(server), Some(team), Some(user), Some(key)) = (
         values.get_str("folder"),
@@ -112,7 +118,8 @@ fn server_of(alloc: Global, text: &str) -> Result<Server, LineFault>
 
 /// `put [-r] [--over] [-n] LOCAL.. PATH`
 fn put_of(alloc: Global, values: &ArgMatches<'_>) -> Result<Deed, LineFault>
-    ensures { IfOk result HasGoodNumbers }
+    ensures numbers { IfOk result HasGoodNumbers }
+    ensures said { IfOk result (Says (found_of values.now)) }
 {
     let path = text_of(alloc, values, "path")?;
     let locals = texts_of(alloc, values, "locals")?;
@@ -126,7 +133,9 @@ fn put_of(alloc: Global, values: &ArgMatches<'_>) -> Result<Deed, LineFault>
 }
 
 /// Copies a text that has to be there.
-fn text_of(alloc: Global, values: &ArgMatches<'_>, id: &str) -> Result<String, LineFault> {
+fn text_of(alloc: Global, values: &ArgMatches<'_>, id: &str) -> Result<String, LineFault>
+    ensures { IfOk result (λ text. IsWord (found_of values.now) id.now (string_bytes text)) }
+{
     match values.get_str(id) {
         Some(text) => Ok(String::from_str(alloc, text)?),
         None => Err(usage(alloc, LACKING)),
@@ -135,7 +144,9 @@ fn text_of(alloc: Global, values: &ArgMatches<'_>, id: &str) -> Result<String, L
 
 /// Copies texts, of which one at least has to be there.
 fn texts_of(alloc: Global, values: &ArgMatches<'_>, id: &str) -> Result<Vec<String>, LineFault>
-    ensures { IfOk result (λ texts. texts.items ≢ []) }
+    ensures some { IfOk result (λ texts. texts.items ≢ []) }
+    ensures words { IfOk result (λ texts.
+        AreWords (found_of values.now) id.now (map string_bytes texts.items)) }
 {
     let texts = copies(alloc, values.get_strs(id).unwrap_or(&[]))?;
     if texts.is_empty() {
@@ -146,7 +157,8 @@ fn texts_of(alloc: Global, values: &ArgMatches<'_>, id: &str) -> Result<Vec<Stri
 
 /// `get [-r] [--over] PATH LOCAL`
 fn get_of(alloc: Global, values: &ArgMatches<'_>) -> Result<Deed, LineFault>
-    ensures { IfOk result HasGoodNumbers }
+    ensures numbers { IfOk result HasGoodNumbers }
+    ensures said { IfOk result (Says (found_of values.now)) }
 {
     let path = text_of(alloc, values, "path")?;
     let local = text_of(alloc, values, "local")?;
@@ -160,7 +172,8 @@ fn get_of(alloc: Global, values: &ArgMatches<'_>) -> Result<Deed, LineFault>
 
 /// `ls [-l] [PATH]`
 fn list_of(alloc: Global, values: &ArgMatches<'_>) -> Result<Deed, LineFault>
-    ensures { IfOk result HasGoodNumbers }
+    ensures numbers { IfOk result HasGoodNumbers }
+    ensures said { IfOk result (Says (found_of values.now)) }
 {
     Ok(Deed::List {
         path: copy(alloc, values.get_str("path"))?,
@@ -170,7 +183,8 @@ fn list_of(alloc: Global, values: &ArgMatches<'_>) -> Result<Deed, LineFault>
 
 /// `cat PATH`
 fn cat_of(alloc: Global, values: &ArgMatches<'_>) -> Result<Deed, LineFault>
-    ensures { IfOk result HasGoodNumbers }
+    ensures numbers { IfOk result HasGoodNumbers }
+    ensures said { IfOk result (Says (found_of values.now)) }
 {
     let path = text_of(alloc, values, "path")?;
     Ok(Deed::Cat { path })
@@ -178,7 +192,8 @@ fn cat_of(alloc: Global, values: &ArgMatches<'_>) -> Result<Deed, LineFault>
 
 /// `mkdir [-p] PATH..`
 fn folders_of(alloc: Global, values: &ArgMatches<'_>) -> Result<Deed, LineFault>
-    ensures { IfOk result HasGoodNumbers }
+    ensures numbers { IfOk result HasGoodNumbers }
+    ensures said { IfOk result (Says (found_of values.now)) }
 {
     let paths = texts_of(alloc, values, "paths")?;
     Ok(Deed::MakeFolders {
@@ -189,7 +204,8 @@ fn folders_of(alloc: Global, values: &ArgMatches<'_>) -> Result<Deed, LineFault>
 
 /// `mv OLD NEW`
 fn move_of(alloc: Global, values: &ArgMatches<'_>) -> Result<Deed, LineFault>
-    ensures { IfOk result HasGoodNumbers }
+    ensures numbers { IfOk result HasGoodNumbers }
+    ensures said { IfOk result (Says (found_of values.now)) }
 {
     let path = text_of(alloc, values, "path")?;
     let other = text_of(alloc, values, "other")?;
@@ -198,7 +214,8 @@ fn move_of(alloc: Global, values: &ArgMatches<'_>) -> Result<Deed, LineFault>
 
 /// `rm [-r] PATH..`
 fn remove_of(alloc: Global, values: &ArgMatches<'_>) -> Result<Deed, LineFault>
-    ensures { IfOk result HasGoodNumbers }
+    ensures numbers { IfOk result HasGoodNumbers }
+    ensures said { IfOk result (Says (found_of values.now)) }
 {
     let paths = texts_of(alloc, values, "paths")?;
     Ok(Deed::Remove {
@@ -209,7 +226,8 @@ fn remove_of(alloc: Global, values: &ArgMatches<'_>) -> Result<Deed, LineFault>
 
 /// `ln OLD NEW`
 fn link_of(alloc: Global, values: &ArgMatches<'_>) -> Result<Deed, LineFault>
-    ensures { IfOk result HasGoodNumbers }
+    ensures numbers { IfOk result HasGoodNumbers }
+    ensures said { IfOk result (Says (found_of values.now)) }
 {
     let path = text_of(alloc, values, "path")?;
     let other = text_of(alloc, values, "other")?;
@@ -218,7 +236,8 @@ fn link_of(alloc: Global, values: &ArgMatches<'_>) -> Result<Deed, LineFault>
 
 /// `history [-n COUNT] [PATH]`
 fn history_of(alloc: Global, values: &ArgMatches<'_>) -> Result<Deed, LineFault>
-    ensures { IfOk result HasGoodNumbers }
+    ensures numbers { IfOk result HasGoodNumbers }
+    ensures said { IfOk result (Says (found_of values.now)) }
 {
     let path = copy(alloc, values.get_str("path"))?;
     Ok(Deed::History {
@@ -229,7 +248,8 @@ fn history_of(alloc: Global, values: &ArgMatches<'_>) -> Result<Deed, LineFault>
 
 /// `show N`
 fn show_of(alloc: Global, values: &ArgMatches<'_>) -> Result<Deed, LineFault>
-    ensures { IfOk result HasGoodNumbers }
+    ensures numbers { IfOk result HasGoodNumbers }
+    ensures said { IfOk result (Says (found_of values.now)) }
 {
     match number_of(values, "number") {
         Some(number) => Ok(Deed::Show { number }),
@@ -239,7 +259,8 @@ fn show_of(alloc: Global, values: &ArgMatches<'_>) -> Result<Deed, LineFault>
 
 /// `diff N`
 fn diff_of(alloc: Global, values: &ArgMatches<'_>) -> Result<Deed, LineFault>
-    ensures { IfOk result HasGoodNumbers }
+    ensures numbers { IfOk result HasGoodNumbers }
+    ensures said { IfOk result (Says (found_of values.now)) }
 {
     match number_of(values, "number") {
         Some(number) => Ok(Deed::Diff { number }),
@@ -248,14 +269,16 @@ fn diff_of(alloc: Global, values: &ArgMatches<'_>) -> Result<Deed, LineFault>
 }
 
 fn number_of(values: &ArgMatches<'_>, id: &str) -> Option<u64>
-    ensures { IfSome result IsNumber }
+    ensures number { IfSome result IsNumber }
+    ensures word { IfSome result (IsNumberWord (found_of values.now) id.now) }
 {
     values.get_one::<u64>(id).filter(|number| 1 <= *number)
 }
 
 /// `undo N[..M]`, `undo --why N`, `undo --with-blockers N`
 fn undo_of(alloc: Global, values: &ArgMatches<'_>) -> Result<Deed, LineFault>
-    ensures { IfOk result HasGoodNumbers }
+    ensures numbers { IfOk result HasGoodNumbers }
+    ensures said { IfOk result (Says (found_of values.now)) }
 {
     let Some((first, last)) = numbers_of(values.get_str("numbers").unwrap_or("")) else {
         return Err(usage(
@@ -279,7 +302,8 @@ fn undo_of(alloc: Global, values: &ArgMatches<'_>) -> Result<Deed, LineFault>
 
 /// `compare NUMBER GROUPS..`
 fn compare_of(alloc: Global, values: &ArgMatches<'_>) -> Result<Deed, LineFault>
-    ensures { IfOk result HasGoodNumbers }
+    ensures numbers { IfOk result HasGoodNumbers }
+    ensures said { IfOk result (Says (found_of values.now)) }
 {
     let Some(number) = values.get_one::<u64>("number") else {
         return Err(usage(alloc, LACKING));
@@ -295,7 +319,8 @@ fn compare_of(alloc: Global, values: &ArgMatches<'_>) -> Result<Deed, LineFault>
 
 /// `where [HOST:PORT]`
 fn where_of(alloc: Global, values: &ArgMatches<'_>) -> Result<Deed, LineFault>
-    ensures { IfOk result HasGoodNumbers }
+    ensures numbers { IfOk result HasGoodNumbers }
+    ensures said { IfOk result (Says (found_of values.now)) }
 {
     let server = match values.get_str("server") {
         Some(text) => Some(server_of(alloc, text)?),
