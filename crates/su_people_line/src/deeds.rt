@@ -5,8 +5,8 @@ use crate::servers::Server;
 /// found upwards where none is. The answer is JSON where that is asked for.
 #[derive(Debug, Drop)]
 pub struct PeopleLine {
-    /// The folder that has the state folder in it, by `--in`. None is named for `Init`, which has its
-    /// own.
+    /// The folder that has the state folder in it, by `--in`. None is named for `Init`, which has
+    /// its own.
     pub folder: Option<String>,
     /// Whether the answer is JSON, which is asked for of `List`, `History`, `Show`, `Status` and
     /// `WhyBlocked` alone.
@@ -24,7 +24,7 @@ pub enum Deed {
     Put(PutArgs),
     /// Writes a file or a folder of the store to a local file or folder.
     Get(GetArgs),
-    /// Tells the names of a folder, of the root where there is no path, in long lines or short ones.
+    /// Tells the names of a folder, of the root where there is no path, in long lines or short.
     List {
         path: Option<String>,
         long: bool,
@@ -53,7 +53,7 @@ pub enum Deed {
         path: String,
         other: String,
     },
-    /// Tells so many lines of the history, at least one, or all; of one path, or of the whole store.
+    /// Tells so many lines of the history, at least one, or all; of one path, or of the store.
     History {
         count: Option<u64>,
         path: Option<String>,
@@ -105,8 +105,8 @@ pub struct InitArgs {
 }
 
 /// Local files, at least one, and folders where it is recursive, that are written to a path of the
-/// store: over what another changed since, too, where that is said, and not at all where it is a dry
-/// run.
+/// store: over what another changed since, too, where that is said, and not at all where it is a
+/// dry run.
 #[derive(Debug, Drop)]
 pub struct PutArgs {
     pub locals: Vec<String>,

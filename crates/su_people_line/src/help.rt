@@ -2,9 +2,9 @@
 
 pub const INIT_ABOUT: &str = "Makes a folder that works with a team's store
 
-Makes DIR, and in it .sundr with the team, the server, the user and a log. Prints
-the digest of the team, which all its members compare, and takes the commits that
-the server has. So
+Makes DIR, and in it .sundr with the team, the server, the user and a log.
+Prints the digest of the team, which all its members compare, and takes the
+commits that the server has. So
 
     sundr init team --server localhost:7000 --team team.txt --user ann --key ann
 
@@ -70,8 +70,8 @@ The file has both names then: what is written under one is read under the other.
 pub const HISTORY_ABOUT: &str = "Tells the commits, the newest first
 
 A line has the number, who made it, what it did, and whether it was undone.
-Commits of one put are one line, with the first number and the last. With PATH it
-tells those that changed that file or folder. So
+Commits of one put are one line, with the first number and the last. With PATH
+it tells those that changed that file or folder. So
 
     sundr history -n 10 /report
 
@@ -95,8 +95,9 @@ one's own from N to M, the latest first. So
     sundr undo 198..214
 
 takes back a put of several commits. One that others rest on is blocked until
-those are undone: --why tells which these are and who made them, the latest first,
-and --with-blockers undoes them too, where all are one's own, and else nothing.";
+those are undone: --why tells which these are and who made them, the latest
+first, and --with-blockers undoes them too, where all are one's own, and else
+nothing.";
 
 pub const STATUS_ABOUT: &str = "Tells where things stand
 
@@ -116,14 +117,14 @@ groups tell two lists apart that nobody chose, eight any two.";
 
 pub const VERIFY_ABOUT: &str = "Checks the whole log again
 
-Each signature and each change is checked, on all cores, and that what is held is
-what the log says. It needs no server and no key.";
+Each signature and each change is checked, on all cores, and that what is held
+is what the log says. It needs no server and no key.";
 
 pub const REKEY_ABOUT: &str = "Goes on to a new key
 
 A key signs 32 or 1,024 times. The new one is made of the system's random bytes,
-the old one's last leaf signs it, and the commit tells the others. Commands do it
-by themselves where leaves run out.";
+the old one's last leaf signs it, and the commit tells the others. Commands do
+it by themselves where leaves run out.";
 
 pub const WHERE_ABOUT: &str = "Tells where the server is, or takes another place for it
 
