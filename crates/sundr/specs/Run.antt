@@ -2,9 +2,9 @@
 use Rattle.std.specs.Prelude.{◌≡◌, ◌≢◌, ℕ, List, ◌++◌, Option, Some, string_bytes, [], ◌∷◌, codes}
 use Rattle.std.specs.Fmt.{decimal}
 use Rattle.su_arguments.specs.declared.line.Line.{Line}
-use Rattle.su_arguments.specs.declared.line.Line.TheVariants.{Desk, Keygen, Audit, Serve, Client, Backup, Text}
-use Rattle.su_arguments.specs.declared.line.LineFault.{LineFault}
-use Rattle.su_arguments.specs.declared.line.LineFault.TheVariants.{Usage, NoMemory}
+use Rattle.su_arguments.specs.declared.line.Line.TheVariants.{People, Desk, Keygen, Audit, Serve, Client, Backup, Text}
+use Rattle.su_line.specs.declared.faults.LineFault.{LineFault}
+use Rattle.su_line.specs.declared.faults.LineFault.TheVariants.{Usage, NoMemory}
 use Rattle.su_desk_script.specs.declared.desk.Status.{Status}
 use Rattle.su_desk_script.specs.declared.desk.Status.TheVariants.{Finished, Fault, BadLine}
 use Rattle.su_desk_script.specs.Transcript.{Prints}
@@ -44,12 +44,15 @@ copied_text records new =
 abbrev pub IsCopiedLine : List ℕ → Type 0
 IsCopiedLine text = (records new : ℕ) × (text ≡ copied_text records new)
 
+-- for people nothing is done yet;
 -- a desk prints the transcript of its script, a key maker the line of a public key, and a text
 -- itself; an audit that ends well prints how many commits it took (of which log no clause can say, as
 -- it stands in a file); a server prints nothing; of what a client prints a clause can only say that
 -- it comes after what was there, as it rests on what the server shows; a backup that ends well prints
 -- how many records the copy has and how many are new
 abbrev pub CarriesOut : Line → List ℕ → List ℕ → Option (List ℕ) → Status → Type 0
+CarriesOut (People line) input before after status =
+    (after ≡ Some before) × (status ≡ Fault)
 CarriesOut (Desk users format) input before after status =
     Prints users format input before after status
 CarriesOut (Keygen entropy out params) input before after status =

@@ -4,6 +4,7 @@
 //! `sundr serve` serves a shared folder to the clients of its users.
 //! `sundr client` runs a script against a server.
 //! `sundr backup` copies what a running server has stored.
+//! The other subcommands are for people, with files and folders.
 #![tactic(auto)]
 
 ghost use Rattle.std.specs.Prelude.{◌≡◌, ℕ, List, Some, IfOk, ◌≤◌, length, string_bytes};
@@ -88,6 +89,7 @@ where
         → CarriesOut line input before (W.contents writer.new) result }
 {
     match line {
+        Line::People(_line) => people(rt),
         Line::Desk { users, format } => run_script(rt, users, format, reader, writer),
         Line::Keygen {
             entropy,
@@ -114,6 +116,14 @@ where
         ),
         Line::Text(text) => print(rt, text.as_str(), writer),
     }
+}
+
+/// Tells that the commands for people aren't there yet.
+fn people(rt: &HostRuntime) -> Status
+    ensures { result ≡ Status.Fault }
+{
+    let _ = eprintln!(rt; "sundr: not there yet");
+    Status::Fault
 }
 
 /// Runs a script on a new desk of `users` users, 1 to 64, whose changes are made in that format.

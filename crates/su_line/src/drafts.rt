@@ -6,7 +6,7 @@ use std::alloc::AllocError;
 /// without a `?` between them, which would have the prover show what becomes of each part that is
 /// built so far (docs/ARCHITECTURE.md, "Forms the kit wants").
 #[derive(Drop)]
-pub(crate) struct Draft<'a> {
+pub struct Draft<'a> {
     command: Result<Command<'a>, AllocError>,
 }
 

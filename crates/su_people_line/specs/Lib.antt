@@ -1,0 +1,3 @@
+pub mod Deed
+pub mod Said
+pub mod Server
