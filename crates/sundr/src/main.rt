@@ -1,3 +1,4 @@
+//! `sundr init`, `put`, `get` and others keep a folder of a store for people.
 //! `sundr desk` reads a script on standard input, a command a line, and prints an answer for each.
 //! `sundr keygen` makes a key for signatures.
 //! `sundr audit` reads a log of commits, and tells whether all of them are taken.
@@ -44,16 +45,36 @@ use su_client_lines::CLIENT_WORDS;
 use su_desk_script::{DESK_WORDS, Ending, Fault, Status, run_desk};
 use su_keygen::{KeygenFault, make_key};
 use su_lms::Params;
+use su_people::{Outcome, run};
 
 fn main(rt: HostRuntime) -> ExitCode {
-    let status = match command_line(&rt) {
+    let ended = match command_line(&rt) {
         Ok(line) => {
             let reader = Prompting::new(&rt, rt.reader());
             carry_out(&rt, &rt, line, reader, &mut io::writer(&rt))
         }
-        Err(fault) => refuse(&rt, &fault),
+        Err(fault) => Ended::Program(refuse(&rt, &fault)),
     };
-    ExitCode::from(status.code())
+    ExitCode::from(ended.code())
+}
+
+/// How a command line ended.
+#[derive(Clone, Copy)]
+enum Ended {
+    /// As a program does that runs a script, serves, or makes something.
+    Program(Status),
+    /// As a command for people does.
+    People(Outcome),
+}
+
+impl Ended {
+    /// Returns the exit status: 0 to 3.
+    fn code(self) -> u8 {
+        match self {
+            Ended::Program(status) => status.code(),
+            Ended::People(outcome) => outcome.code(),
+        }
+    }
 }
 
 /// Reads what the arguments ask for. Arguments that are no text are a wrong command line.
@@ -80,7 +101,7 @@ fn carry_out<T, R: Read + Drop, W: Write>(
     line: Line,
     reader: R,
     writer: &mut W,
-) -> Status
+) -> Ended
 where
     T: Net<Listener = TcpListener, Stream = TcpStream> + Threads + Wait + Sync,
     requires { HasGoodNumbers line }
@@ -89,41 +110,37 @@ where
         → CarriesOut line input before (W.contents writer.new) result }
 {
     match line {
-        Line::People(_line) => people(rt),
-        Line::Desk { users, format } => run_script(rt, users, format, reader, writer),
+        Line::People(line) => Ended::People(run(rt, host, &line, writer)),
+        Line::Desk { users, format } => {
+            Ended::Program(run_script(rt, users, format, reader, writer))
+        }
         Line::Keygen {
             entropy,
             out,
             params,
-        } => new_key(
+        } => Ended::Program(new_key(
             rt,
             host,
             entropy.as_ref().map(|path| path.as_str()),
             out.as_str(),
             params,
             writer,
-        ),
-        Line::Audit { log, keys } => audit(rt, host, log.as_str(), keys.as_slice(), writer),
-        Line::Serve(args) => serve(rt, host, &args),
-        Line::Client(args) => client(rt, host, &args, reader, writer),
-        Line::Backup { port, to, keys } => backup(
+        )),
+        Line::Audit { log, keys } => {
+            Ended::Program(audit(rt, host, log.as_str(), keys.as_slice(), writer))
+        }
+        Line::Serve(args) => Ended::Program(serve(rt, host, &args)),
+        Line::Client(args) => Ended::Program(client(rt, host, &args, reader, writer)),
+        Line::Backup { port, to, keys } => Ended::Program(backup(
             rt,
             host,
             port,
             to.as_str(),
             keys.as_slice(),
             writer,
-        ),
-        Line::Text(text) => print(rt, text.as_str(), writer),
+        )),
+        Line::Text(text) => Ended::Program(print(rt, text.as_str(), writer)),
     }
-}
-
-/// Tells that the commands for people aren't there yet.
-fn people(rt: &HostRuntime) -> Status
-    ensures { result ≡ Status.Fault }
-{
-    let _ = eprintln!(rt; "sundr: not there yet");
-    Status::Fault
 }
 
 /// Runs a script on a new desk of `users` users, 1 to 64, whose changes are made in that format.
