@@ -94,7 +94,7 @@ fn long_line(
     let name = short_line(alloc, found)?;
     let holder = name_of(alloc, team, found.stat.holder)?;
     let size = size_text(alloc, found)?;
-    match last_change(entries, found.file) {
+    match last_change(entries, &found.file) {
         Some(number) => {
             let author = author_name(alloc, team, entries, number)?;
             format!(in alloc; "{name:<24} {size:>10}  commit {number} {author}")
@@ -157,7 +157,7 @@ fn json_object(
     let size = found.stat.size;
     let holder = name_of(alloc, team, found.stat.holder)?;
     let kind = if found.stat.kind == Kind::Dir { "folder" } else { "file" };
-    let last = last_change(entries, found.file).unwrap_or(0);
+    let last = last_change(entries, &found.file).unwrap_or(0);
     format!(in alloc;
         "{{\"path\":\"{path}\",\"kind\":\"{kind}\",\"size\":{size},\"holder\":\"{holder}\",\"last\":{last}}}"
     )

@@ -1,5 +1,5 @@
 -- What a put leaves, and when it may write over a file.
-use Rattle.std.specs.Prelude.{◌≡◌, ◌≤◌, ◌⊎◌, ⊥, ℕ, suc, Bool, true, List, Option, None, Some, Ok, Err}
+use Rattle.std.specs.Prelude.{◌≡◌, ◌≤◌, ◌⊎◌, ℕ, zero, suc, Bool, true, List, Option, None, Some, Ok, Err}
 use Rattle.su_bytes.specs.declared.file_ids.FileId.{FileId}
 use Rattle.su_bytes.specs.declared.refusals.Refusal.TheVariants.{NoName}
 use Rattle.su_desk.specs.declared.entries.Entry.{Entry}
@@ -7,6 +7,7 @@ use Rattle.su_desk.specs.History.{entry_at}
 use Rattle.su_draft.specs.Walk.{found}
 use Rattle.su_legal.specs.Legal.{history}
 use Rattle.su_pieces.specs.CarriedOut.{LeadsTo}
+use Rattle.su_table.specs.Query.{contents}
 use Rattle.su_view.specs.Holding.{HoldingState, tree_of_list}
 use Rattle.su_client_work.specs.Member.{MemberState}
 use Rattle.su_client_work.specs.Work.{Works}
@@ -42,7 +43,7 @@ MayWrite seen over path v = (over ≡ true)
 
 -- So many rounds of work, each of which began when the user might write there by what was held then.
 abbrev pub Rounds : Option ℕ → Bool → List ℕ → ℕ → MemberState → MemberState → Type 0
-Rounds seen over path 0 s t = t ≡ s
+Rounds seen over path zero s t = t ≡ s
 Rounds seen over path (suc k) s t =
     (between : MemberState) × Rounds seen over path k s between
     × MayWrite seen over path between.holding × Works between t
@@ -53,6 +54,12 @@ Rounds seen over path (suc k) s t =
 abbrev pub IsStanding : HoldingState → List ℕ → Standing → Type 0
 IsStanding v path Nothing = found (tree_of_list v) path ≡ Err NoName
 IsStanding v path (File file bytes) = LeadsTo (tree_of_list v) path file bytes.items
+
+-- that is the file with its bytes
+abbrev pub IsFileWith : HoldingState → FileId → Standing → Type 0
+IsFileWith v f Nothing = ⊥
+IsFileWith v f (File file bytes) =
+    (file ≡ f) × (contents (tree_of_list v) f ≡ Ok bytes.items)
 
 -- it is a file with these bytes
 abbrev pub HasBytes : Standing → List ℕ → Type 0

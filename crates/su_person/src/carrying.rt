@@ -85,9 +85,7 @@ where
         ⊎ CarriedOut command.now member.old ns member.new)) }
 {
     for _ in 0..MOST_STEPS {
-        if numbers.reserve(1).is_err() {
-            return Err(Fault::from(Refusal::NoMemory));
-        }
+        numbers.reserve(1)?;
         if !begin(person, member, others)? {
             return Ok(false);
         }

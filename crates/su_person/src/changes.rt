@@ -9,8 +9,8 @@ use su_op::{Change, Op};
 
 /// Returns the number of the last entry of a history that changed the bytes of a file, if one did: it
 /// made the file, wrote to it or cut it, or undid an entry that had.
-pub fn last_change(entries: &[Entry], file: FileId) -> Option<u64>
-    ensures { result ≡ last_change entries.now file }
+pub fn last_change(entries: &[Entry], file: &FileId) -> Option<u64>
+    ensures { result ≡ last_change entries.now file.now }
 {
     let mut last = None;
     for (index, entry) in entries.iter().enumerate() {
@@ -22,8 +22,8 @@ pub fn last_change(entries: &[Entry], file: FileId) -> Option<u64>
 }
 
 /// Tells whether a change of a history changes the bytes of a file, or undoes one that did.
-fn touches(entries: &[Entry], change: &Change, file: FileId) -> bool
-    ensures { result ≡ touches entries.now file change.now }
+fn touches(entries: &[Entry], change: &Change, file: &FileId) -> bool
+    ensures { result ≡ touches entries.now file.now change.now }
 {
     match change {
         Change::Undo(number) => match entry_of(entries, *number) {
@@ -46,8 +46,8 @@ fn entry_of(entries: &[Entry], number: u64) -> Option<&Entry>
 }
 
 /// Tells whether a change is an operation that changes the bytes of a file.
-fn does_change(change: &Change, file: FileId) -> bool
-    ensures { result ≡ does_change file change.now }
+fn does_change(change: &Change, file: &FileId) -> bool
+    ensures { result ≡ does_change file.now change.now }
 {
     match change {
         Change::Do(op) => changes_bytes(op, file),
@@ -56,13 +56,13 @@ fn does_change(change: &Change, file: FileId) -> bool
 }
 
 /// Tells whether an operation makes a file, writes to it or cuts it.
-fn changes_bytes(op: &Op, file: FileId) -> bool
-    ensures { result ≡ changes_bytes file op.now }
+fn changes_bytes(op: &Op, file: &FileId) -> bool
+    ensures { result ≡ changes_bytes file.now op.now }
 {
     match op {
-        Op::Create(create) => create.file == file,
-        Op::Write(write) => write.file == file,
-        Op::Truncate(truncate) => truncate.file == file,
+        Op::Create(create) => *file == create.file,
+        Op::Write(write) => *file == write.file,
+        Op::Truncate(truncate) => *file == truncate.file,
         _ => false,
     }
 }

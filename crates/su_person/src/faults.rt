@@ -1,4 +1,5 @@
 // Why what a person asked for isn't done.
+use std::alloc::AllocError;
 use su_bytes::{Refusal, User};
 use su_view::ViewRefusal;
 
@@ -23,5 +24,11 @@ impl From<ViewRefusal> for Fault {
 impl From<Refusal> for Fault {
     fn from(refusal: Refusal) -> Fault {
         Fault::Refused(ViewRefusal::Plain(refusal))
+    }
+}
+
+impl From<AllocError> for Fault {
+    fn from(_refused: AllocError) -> Fault {
+        Fault::Refused(ViewRefusal::Plain(Refusal::NoMemory))
     }
 }

@@ -1,11 +1,12 @@
 // How new contents are put at a path.
-ghost use Rattle.std.specs.Prelude.{◌≡◌, ◌≤◌, ◌⊎◌, ℕ, true, length, IfErr, IfOk, IsTrue, OnFalse, OnOk};
+ghost use Rattle.std.specs.Prelude.{◌≡◌, ◌≤◌, ◌⊎◌, ℕ, true, length, IfErr, IfOk, IsTrue, OnOk};
+ghost use Rattle.std.specs.Bool.{OnFalse};
 ghost use Rattle.su_bytes.specs.declared.formats.TheConstants.{NEWEST_FORMAT};
 ghost use Rattle.su_op.specs.Limits.{largest_file};
 ghost use Rattle.su_client_work.specs.Work.{Works};
 ghost use Rattle.su_person.specs.declared.faults.Fault.TheVariants.{Changed};
 ghost use Rattle.su_person.specs.LastChange.{last_change};
-ghost use Rattle.su_person.specs.Putting.{HasBytes, HasThere, IsBy, IsStanding, KnowsBytes, MayWrite, Rounds};
+ghost use Rattle.su_person.specs.Putting.{HasBytes, HasThere, IsBy, IsFileWith, IsStanding, KnowsBytes, MayWrite, Rounds};
 
 use crate::carrying::{Others, carry};
 use crate::changes::last_change;
@@ -114,13 +115,23 @@ where
     ensures standing { IfOk result (IsStanding member.old.holding path.now) }
 {
     match member.find_held(path) {
-        Ok(file) => {
-            let bytes = member.contents_held(file)?;
-            Ok(Standing::File { file, bytes })
-        }
+        Ok(file) => file_at(member, &file),
         Err(Refusal::NoName) => Ok(Standing::Nothing),
         Err(refusal) => Err(refusal),
     }
+}
+
+/// Returns a file with its bytes, in the tree of the list that is held. The refusals of `View::contents`.
+fn file_at<R, W, K>(member: &mut Member<R, W, K>, file: &FileId) -> Result<Standing, Refusal>
+where
+    R: Read + Drop,
+    W: Write + Drop,
+    K: KeyStore + Drop,
+    ensures same { member.new ≡ member.old }
+    ensures standing { IfOk result (IsFileWith member.old.holding file.now) }
+{
+    let bytes = member.contents_held(*file)?;
+    Ok(Standing::File { file: *file, bytes })
 }
 
 /// Returns the commands that put the new contents in the place of what stands there. `Changed` as `put`
@@ -142,7 +153,7 @@ where
     let commands = match standing {
         Standing::Nothing => put_commands(alloc, new.path, None, new.bytes),
         Standing::File { file, bytes } => {
-            check_seen(member.view().history(), member.view().user(), *file, new)?;
+            check_seen(member.view().history(), member.view().user(), file, new)?;
             put_commands(alloc, new.path, Some(bytes.as_slice()), new.bytes)
         }
     };
@@ -157,13 +168,13 @@ where
 fn check_seen(
     entries: &[Entry],
     user: User,
-    file: FileId,
+    file: &FileId,
     new: &NewContents<'_>,
 ) -> Result<(), Fault>
     ensures knows { OnOk result ((new.now.over ≡ true)
-        ⊎ KnowsBytes user new.now.seen entries.now file) }
+        ⊎ KnowsBytes user new.now.seen entries.now file.now) }
     ensures changed { IfErr result (λ e. (n author : ℕ) × (e ≡ Changed n author)
-        × (last_change entries.now file ≡ Some n) × IsBy author entries.now n) }
+        × (last_change entries.now file.now ≡ Some n) × IsBy author entries.now n) }
 {
     if new.over {
         return Ok(());

@@ -8,7 +8,6 @@ use crate::faults::Fault;
 use crate::keys::move_on;
 use crate::persons::Person;
 use std::io::{Read, Write};
-use su_bytes::Refusal;
 use su_client_work::Member;
 use su_lms::KeyStore;
 use su_op::Change;
@@ -30,9 +29,7 @@ where
     ensures undone { OnOk result ((n : ℕ) × (numbers.new.items ≡ numbers.old.items ++ n ∷ [])
         × TakesBack P.may_connect number member.old member.new n) }
 {
-    if numbers.reserve(1).is_err() {
-        return Err(Fault::from(Refusal::NoMemory));
-    }
+    numbers.reserve(1)?;
     move_on(person, member);
     let commit = member.change(person, Change::Undo(number), false)?;
     numbers.push_reserved(commit);
