@@ -1,5 +1,6 @@
 // Which entry of a history changed the bytes of a file last.
 ghost use Rattle.std.specs.Prelude.{◌≡◌, option_copied};
+ghost use Rattle.su_bytes.specs.Place.{file_eq};
 ghost use Rattle.su_desk.specs.History.{entry_at};
 ghost use Rattle.su_person.specs.LastChange.{changes_bytes, does_change, last_change, touches};
 
@@ -60,9 +61,16 @@ fn changes_bytes(op: &Op, file: &FileId) -> bool
     ensures { result ≡ changes_bytes file.now op.now }
 {
     match op {
-        Op::Create(create) => *file == create.file,
-        Op::Write(write) => *file == write.file,
-        Op::Truncate(truncate) => *file == truncate.file,
+        Op::Create(create) => is_same(file, &create.file),
+        Op::Write(write) => is_same(file, &write.file),
+        Op::Truncate(truncate) => is_same(file, &truncate.file),
         _ => false,
     }
+}
+
+/// Tells whether both are the same file.
+fn is_same(file: &FileId, other: &FileId) -> bool
+    ensures { result ≡ file_eq file.now other.now }
+{
+    file == other
 }

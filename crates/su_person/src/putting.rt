@@ -66,9 +66,10 @@ where
     W: Write + Drop,
     K: KeyStore + Drop,
     ensures works { Works member.old member.new }
-    ensures there { OnOk result (HasThere member.new.holding new.path.now new.bytes.now) }
+    ensures there { OnOk result
+        (HasThere member.new.holding new.now.path.now new.now.bytes.now) }
     // It writes only where the author may by what the client holds.
-    ensures rounds { (k : ℕ) × Rounds new.now.seen new.now.over new.path.now k
+    ensures rounds { (k : ℕ) × Rounds new.now.seen new.now.over new.now.path.now k
         member.old member.new }
 {
     if is_too_big(new.bytes) {
@@ -146,9 +147,9 @@ where
     R: Read + Drop,
     W: Write + Drop,
     K: KeyStore + Drop,
-    requires length { length new.bytes.now ≤ largest_file NEWEST_FORMAT }
-    requires standing { IsStanding member.now.holding new.path.now standing.now }
-    ensures { OnOk result (MayWrite new.now.seen new.now.over new.path.now member.now.holding) }
+    requires length { length new.now.bytes.now ≤ largest_file NEWEST_FORMAT }
+    requires standing { IsStanding member.now.holding new.now.path.now standing.now }
+    ensures { OnOk result (MayWrite new.now.seen new.now.over new.now.path.now member.now.holding) }
 {
     let commands = match standing {
         Standing::Nothing => put_commands(alloc, new.path, None, new.bytes),
