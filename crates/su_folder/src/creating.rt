@@ -82,15 +82,28 @@ pub(crate) fn spelled_place(
     Ok(text)
 }
 
-/// Makes a directory, if it isn't there. Says whether it was made.
+/// Makes a directory, if it isn't there, and waits until the disk has its name. Says whether it was
+/// made.
 fn make_directory(rt: &HostRuntime, directory: &str) -> Result<bool, FolderFault> {
     if directory.is_empty() || is_folder(rt, directory) {
         return Ok(false);
     }
-    match fs::create_dir(rt, directory) {
-        Ok(()) => Ok(true),
-        Err(reason) => Err(FolderFault::unwritten(rt.alloc(), directory, reason)),
+    if let Err(reason) = fs::create_dir(rt, directory) {
+        return Err(FolderFault::unwritten(rt.alloc(), directory, reason));
     }
+    match sync_above(rt, directory) {
+        Ok(()) => Ok(true),
+        Err(reason) => {
+            let _ = fs::remove_dir(rt, directory);
+            Err(FolderFault::unwritten(rt.alloc(), directory, reason))
+        }
+    }
+}
+
+/// Waits until the disk has the names in the directory above one.
+fn sync_above(rt: &HostRuntime, directory: &str) -> io::Result<()> {
+    let above = format!(in rt.alloc(); "{directory}/..")?;
+    sync_folder(rt, above.as_str())
 }
 
 /// Makes the state folder of a directory, with its files.
@@ -143,15 +156,13 @@ fn text_of<'a>(texts: &'a Texts, name: &str) -> &'a [u8] {
     }
 }
 
-/// Waits until the disk has the names of the files, of the state folder and of its directory.
+/// Waits until the disk has the names of the files, and that of the state folder in its directory.
 fn sync_names(rt: &HostRuntime, directory: &str, folder: &str) -> io::Result<()> {
     sync_folder(rt, folder)?;
     if directory.is_empty() {
         return sync_folder(rt, ".");
     }
-    sync_folder(rt, directory)?;
-    let above = format!(in rt.alloc(); "{directory}/..")?;
-    sync_folder(rt, above.as_str())
+    sync_folder(rt, directory)
 }
 
 /// Removes what stands of a new state folder.

@@ -62,8 +62,9 @@ impl<'a> StateFolder<'a> {
     /// Opens the state folder of a directory, and locks it. What it refuses is left as it is. Faults
     /// in order: `NoFolder`; `InUse`, where another process works there, or this one already;
     /// `Unwritten`, where the lock can't be had; and then of `team`, `me`, `where`, `log`, `times`
-    /// and `seen`, in this order: `Unread`; `TooLong`; `Team`, or `Wrong`. `NoMemory` can come at any
-    /// time. Until `align` is called, there are as many commits as `times` has times.
+    /// and `seen`, in this order: `Unread`; `TooLong`; `Team`, or `Wrong`; and `Unwritten`, where `seen`
+    /// is to be written anew. `NoMemory` can come at any time. Until `align` is called, there are as
+    /// many commits as `times` has times.
     pub fn open(rt: &'a HostRuntime, directory: &str) -> Result<StateFolder<'a>, FolderFault> {
         let alloc = rt.alloc();
         let folder = folder_path(alloc, directory)?;

@@ -78,5 +78,5 @@ fn whole_lines(text: &[u8]) -> &[u8] {
 /// Whether there are more than twice as many lines as paths.
 fn is_long(lines: &[u8], paths: usize) -> bool {
     let count = lines.iter().filter(|byte| **byte == b'\n').count();
-    paths < count / 2 || paths.saturating_mul(2) < count
+    paths.saturating_mul(2) < count
 }
