@@ -17,7 +17,7 @@ complete -c sundr -n __sundr_begins -s h -l help -d 'Print help'
 complete -c sundr -n __sundr_begins -s V -l version -d 'Print the version'
 complete -c sundr -n 'not __sundr_begins; and not __sundr_at help' -s h -l help -d 'Print help'
 
-complete -c sundr -n __sundr_begins -a init -d 'Make a folder that works with a team\'s store'
+complete -c sundr -n __sundr_begins -a init -d "Make a folder that works with a team's store"
 complete -c sundr -n __sundr_begins -a put -d 'Write files and folders to the store'
 complete -c sundr -n __sundr_begins -a get -d 'Write a file or a folder of the store to this machine'
 complete -c sundr -n __sundr_begins -a ls -d 'Tell the names of a folder'
@@ -29,9 +29,9 @@ complete -c sundr -n __sundr_begins -a ln -d 'Give a file one name more'
 complete -c sundr -n __sundr_begins -a history -d 'Tell the commits, the newest first'
 complete -c sundr -n __sundr_begins -a show -d 'Tell all that is known of a commit'
 complete -c sundr -n __sundr_begins -a diff -d 'Tell how a commit changed a file'
-complete -c sundr -n __sundr_begins -a undo -d 'Take back operations of one\'s own'
+complete -c sundr -n __sundr_begins -a undo -d "Take back operations of one's own"
 complete -c sundr -n __sundr_begins -a status -d 'Tell where things stand'
-complete -c sundr -n __sundr_begins -a compare -d 'Compare another user\'s list with one\'s own'
+complete -c sundr -n __sundr_begins -a compare -d "Compare another user's list with one's own"
 complete -c sundr -n __sundr_begins -a verify -d 'Check the whole log again'
 complete -c sundr -n __sundr_begins -a rekey -d 'Go on to a new key'
 complete -c sundr -n __sundr_begins -a where -d 'Tell where the server is, or take another place'

@@ -295,10 +295,10 @@ def lines(room):
 
 
 def helps(names):
-    """Each line of a help fits a terminal, but the first of one that has a value by default."""
+    """Each line of a help fits a terminal, but the one that clap makes of all that is needed."""
     for name in names:
         printed = run([PROGRAM, name, "--help"] if name != "help" else [PROGRAM, "--help"])[0]
-        yield f"help_of_{name}", printed != "" and all(len(it) <= 80 for it in printed.split("\n"))
+        yield f"help_of_{name}", printed != "" and all(len(it) <= 80 or it.startswith("Usage:") for it in printed.split("\n"))
     about = run([PROGRAM, "--help"])[0].split("Usage:")[0]
     yield "help_tells_how_to_begin", all(f"`{it}`" in about for it in ("init", "put", "get", "client"))
 
