@@ -3,8 +3,10 @@
 
 mod deeds;
 mod file_names;
+mod laws;
 mod lines;
 mod parts;
 
 pub use file_names::FileNames;
+pub use laws::the_first_path_stays;
 pub use lines::{history_text, line_text};
