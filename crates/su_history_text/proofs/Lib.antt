@@ -1,5 +1,7 @@
+mod Examples
 mod NameLemmas
 mod Padding
 mod Pieces
+mod SoFar
 mod Staying
 mod TeamNames

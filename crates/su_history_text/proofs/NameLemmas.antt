@@ -1,11 +1,12 @@
 -- What is found of the paths that are kept, and how one more is kept.
-use Rattle.std.proofs.Common.{◌≡◌, ◌∙◌, sym, ap, ℕ, cond, true, false, List, Option, Some, None}
-use Rattle.std.specs.Option.{is_some}
+use Rattle.std.proofs.Common.{◌≡◌, ◌∙◌, refl, sym, ap, ℕ, cond, true, false, List, Option, Some, None}
+use Rattle.std.specs.Cmp.{eq_by_cmp_equiv}
+use Rattle.std.specs.Option.{is_some, unwrap_or}
 use Rattle.std.specs.Ordering.{nat_cmp}
 use Rattle.std.specs.Cmp.Lexicographic.{slice_cmp, nat_list_cmp_total}
 use Rattle.std.specs.Map.{lookup}
 use Rattle.std.specs.BTreeMap.{is_at}
-use Rattle.std.specs.FinMap.{FinMap, get, insert, from_entries, IsAntisymmetric, slice_cmp-IsAntisymmetric, nat_cmp-IsAntisymmetric}
+use Rattle.std.specs.FinMap.{get, get-insert, insert, from_entries, IsAntisymmetric, slice_cmp-IsAntisymmetric, nat_cmp-IsAntisymmetric}
 use Rattle.su_node.proofs.Public.{from_entries-updates, get-from_entries_lookup}
 use Rattle.su_history_text.specs.FileNames.{Names}
 
@@ -35,3 +36,11 @@ put-new es fs names key at path bytes is same told none updates =
     ∙ ap (λ (m : Names). insert m at bytes) is
     ∙ ap (λ k. insert names k bytes) same ∙ ap (insert names key) told
     ∙ ap (λ b. cond b names (insert names key path)) (sym here)
+
+-- what is found then
+pub get-kept_first : (names : Names) (key path : List ℕ) → get (cond (is_some (get names key)) names (insert names key path)) key ≡ Some (unwrap_or (get names key) path)
+get-kept_first names key path = go (get names key) refl
+  where
+    go : (o : Option (List ℕ)) → get names key ≡ o → get (cond (is_some o) names (insert names key path)) key ≡ Some (unwrap_or o path)
+    go None is = get-insert nat_list_cmp_total names key path key ∙ ap (λ b. cond b (Some path) (get names key)) ((eq_by_cmp_equiv nat_list_cmp_total).refl key)
+    go (Some p) is = is

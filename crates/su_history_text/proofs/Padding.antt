@@ -1,5 +1,5 @@
 -- Spaces behind a text.
-use Rattle.std.proofs.Common.{◌≡◌, ◌∙◌, ℕ, zero, suc, ◌+◌, ◌-◌, ◌&&◌, true, List, [], ◌∷◌, ◌++◌, replicate, length, refl, sym, ap, arith}
+use Rattle.std.proofs.Common.{◌≡◌, ◌∙◌, ℕ, zero, suc, ◌+◌, ◌-◌, true, List, [], ◌∷◌, ◌++◌, replicate, length, refl, ap}
 use Rattle.std.proofs.lemmas.List.{append_assoc, replicate-append-replicate}
 use Rattle.su_history_text.specs.Parts.{padded, stays_on_line}
 use Rattle.su_history_text.proofs.Staying.{stays-append}

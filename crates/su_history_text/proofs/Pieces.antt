@@ -1,6 +1,6 @@
 -- Pieces of a text, as a format joins them and as definitions do.
-use Rattle.std.proofs.Common.{◌≡◌, ◌∙◌, ℕ, Bool, true, false, cond, List, ◌++◌, sym, ap, Result, IfOk}
-use Rattle.std.specs.Prelude.{◌==◌, codes}
+use Rattle.std.proofs.Common.{◌≡◌, ◌∙◌, ℕ, true, false, cond, List, ◌++◌, sym, ap, Result, IfOk}
+use Rattle.std.specs.Prelude.{codes}
 use Rattle.std.specs.Fmt.{decimal}
 use Rattle.std.proofs.lemmas.Bool.{ne_eqb}
 use Rattle.std.proofs.lemmas.List.{append_assoc}
@@ -35,13 +35,13 @@ pub renaming : (names : Names) (r : renames.Rename) → file_eq r.from_ r.to_ �
     → codes "renamed " ++ shown r.old_ ++ codes " in " ++ file_text names r.from_ ++ codes " to " ++ shown r.new_ ≡ renamed_text names r
 renaming names r same =
     sym (ap (λ b. cond b (codes "renamed " ++ shown r.old_ ++ codes " in " ++ file_text names r.from_ ++ codes " to " ++ shown r.new_)
-      (codes "moved " ++ shown r.old_ ++ codes " in " ++ file_text names r.from_ ++ codes " to " ++ shown r.new_ ++ codes " in " ++ file_text names r.to_)) same)
+    (codes "moved " ++ shown r.old_ ++ codes " in " ++ file_text names r.from_ ++ codes " to " ++ shown r.new_ ++ codes " in " ++ file_text names r.to_)) same)
 
 pub moving : (names : Names) (r : renames.Rename) → file_eq r.from_ r.to_ ≡ false
     → codes "moved " ++ shown r.old_ ++ codes " in " ++ file_text names r.from_ ++ codes " to " ++ shown r.new_ ++ codes " in " ++ file_text names r.to_ ≡ renamed_text names r
 moving names r other =
     sym (ap (λ b. cond b (codes "renamed " ++ shown r.old_ ++ codes " in " ++ file_text names r.from_ ++ codes " to " ++ shown r.new_)
-      (codes "moved " ++ shown r.old_ ++ codes " in " ++ file_text names r.from_ ++ codes " to " ++ shown r.new_ ++ codes " in " ++ file_text names r.to_)) other)
+    (codes "moved " ++ shown r.old_ ++ codes " in " ++ file_text names r.from_ ++ codes " to " ++ shown r.new_ ++ codes " in " ++ file_text names r.to_)) other)
 
 pub two_numbers : (first last : ℕ) → (first ≡ last → ⊥) → decimal first ++ (codes ".." ++ decimal last) ≡ numbers_text first last
 two_numbers first last differ =

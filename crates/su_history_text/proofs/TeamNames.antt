@@ -1,6 +1,6 @@
 -- The names of a team.
-use Rattle.std.proofs.Common.{◌≡◌, ◌∙◌, ℕ, ◌+◌, ◌<◌, ◌≤◌, Bool, true, List, [], ◌∷◌, length, drop, get_or, max, Some, None, Option, cond, refl, sym, ap, inl, inr, arith}
-use Rattle.std.specs.Prelude.{All, ◌&&◌, not, nat_le, option_map, unwrap_or}
+use Rattle.std.proofs.Common.{◌≡◌, ◌∙◌, ℕ, ◌+◌, ◌<◌, true, List, [], ◌∷◌, length, drop, get_or, max, Some, None, Option, cond, refl, sym, ap, inl, inr, arith}
+use Rattle.std.specs.Prelude.{◌&&◌, not, nat_le, option_map, unwrap_or}
 use Rattle.std.specs.List.{list_all, slice_get}
 use Rattle.std.specs.declared.cmp.Ordering.TheVariants.{Less, Equal, Greater}
 use Rattle.std.specs.Cmp.{nat_cmp_is}

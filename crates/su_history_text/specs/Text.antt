@@ -18,7 +18,7 @@ use Rattle.su_history.specs.declared.line.Line.{Line}
 use Rattle.su_history.specs.declared.line.Deed.{Deed}
 use Rattle.su_history.specs.declared.line.Deed.TheVariants.{Made, Put, Wrote, Cut, Linked, Renamed, Removed, TookOver, Dropped, Undid, NamedKey}
 use Rattle.su_history.specs.declared.line.Fate.{Fate}
-use Rattle.su_history.specs.declared.line.Fate.TheVariants.{Live, Undone, Lasting}
+use Rattle.su_history.specs.declared.line.Fate.TheVariants.{Undone}
 use Rattle.su_history_text.specs.FileNames.{Names}
 use Rattle.su_history_text.specs.Parts.{author_text, file_text, longest_name, numbers_text, padded, size_text}
 
@@ -56,9 +56,9 @@ abbrev pub renamed_text : Names → renames.Rename → List ℕ
 renamed_text names r =
     if file_eq r.from_ r.to_
     then codes "renamed " ++ shown r.old_ ++ codes " in " ++ file_text names r.from_
-      ++ codes " to " ++ shown r.new_
+    ++ codes " to " ++ shown r.new_
     else codes "moved " ++ shown r.old_ ++ codes " in " ++ file_text names r.from_
-      ++ codes " to " ++ shown r.new_ ++ codes " in " ++ file_text names r.to_
+    ++ codes " to " ++ shown r.new_ ++ codes " in " ++ file_text names r.to_
 
 -- `took the name a out of /d`
 abbrev pub removed_text : Names → unlinks.Unlink → List ℕ

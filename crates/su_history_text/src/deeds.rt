@@ -14,11 +14,7 @@ use su_history::Deed;
 use su_op::{Create, DropBody, Link, Rename, Take, Truncate, Unlink};
 
 /// Spells what entries did, without their author.
-pub(crate) fn deed_text(
-    alloc: Global,
-    deed: &Deed,
-    names: &FileNames,
-) -> Result<String, AllocError>
+pub(crate) fn deed_text(alloc: Global, deed: &Deed, names: &FileNames) -> Result<String, AllocError>
     ensures value { IfOk result (λ text. string_bytes text ≡ deed_text names.now deed.now) }
     ensures line { IfOk result (λ text. stays_on_line (string_bytes text) ≡ true) }
 {

@@ -49,11 +49,7 @@ pub(crate) fn size_text(alloc: Global, bytes: u64) -> Result<String, AllocError>
 }
 
 /// Spells how a file is called: its path as people see it, or its id where no path leads to it.
-pub(crate) fn file_text(
-    alloc: Global,
-    file: FileId,
-    names: &FileNames,
-) -> Result<String, AllocError>
+pub fn file_text(alloc: Global, file: FileId, names: &FileNames) -> Result<String, AllocError>
     ensures value { IfOk result (λ text. string_bytes text ≡ file_text names.now file) }
     ensures line { IfOk result (λ text. stays_on_line (string_bytes text) ≡ true) }
 {
@@ -80,7 +76,7 @@ pub(crate) fn name_text(alloc: Global, name: &Name) -> Result<String, AllocError
 }
 
 /// Spells the name of a user, or `user 7` of one who isn't in the team.
-pub(crate) fn author_text(alloc: Global, author: User, team: &Team) -> Result<String, AllocError>
+pub fn author_text(alloc: Global, author: User, team: &Team) -> Result<String, AllocError>
     ensures value { IfOk result (λ text. string_bytes text ≡ author_text team.now author) }
     ensures line { IfOk result (λ text. stays_on_line (string_bytes text) ≡ true) }
 {

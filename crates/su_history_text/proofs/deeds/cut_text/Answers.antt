@@ -13,7 +13,7 @@ returns-clause-value c =
     let size : s ≡ size_text c.args.truncate.now.size = c.in_ok-size.ensures.value ∙ ap size_text c.from.ensures in
     told-as string_bytes c.format.result (codes "set the size of " ++ (f ++ (codes " to " ++ s))) (cut_text c.args.names.now c.args.truncate.now) c.format.ensures.ok
     (of_four (codes "set the size of ") f (codes " to ") s
-      ∙ (λ i. codes "set the size of " ++ c.in_ok-file.ensures.value i ++ codes " to " ++ size i))
+    ∙ (λ i. codes "set the size of " ++ c.in_ok-file.ensures.value i ++ codes " to " ++ size i))
 
 pub returns-clause-line : goal.returns-clause-line
 returns-clause-line c =

@@ -12,7 +12,7 @@ returns-clause-value c =
     let d = string_bytes c.in_ok-folder.folder in
     told-as string_bytes c.format.result (codes "gave " ++ (f ++ (codes " a further name, " ++ (n ++ (codes " in " ++ d))))) (linked_text c.args.names.now c.args.link.now) c.format.ensures.ok
     (of_six (codes "gave ") f (codes " a further name, ") n (codes " in ") d
-      ∙ (λ i. codes "gave " ++ c.in_ok-file.ensures.value i ++ codes " a further name, " ++ c.in_ok-name.ensures.value i ++ codes " in " ++ c.in_ok-folder.ensures.value i))
+    ∙ (λ i. codes "gave " ++ c.in_ok-file.ensures.value i ++ codes " a further name, " ++ c.in_ok-name.ensures.value i ++ codes " in " ++ c.in_ok-folder.ensures.value i))
 
 pub returns-clause-line : goal.returns-clause-line
 returns-clause-line c =

@@ -11,7 +11,7 @@ returns-clause-value c =
     let d = string_bytes c.in_ok-folder.folder in
     told-as string_bytes c.format.result (codes "took the name " ++ (n ++ (codes " out of " ++ d))) (removed_text c.args.names.now c.args.unlink.now) c.format.ensures.ok
     (of_four (codes "took the name ") n (codes " out of ") d
-      ∙ (λ i. codes "took the name " ++ c.in_ok-name.ensures.value i ++ codes " out of " ++ c.in_ok-folder.ensures.value i))
+    ∙ (λ i. codes "took the name " ++ c.in_ok-name.ensures.value i ++ codes " out of " ++ c.in_ok-folder.ensures.value i))
 
 pub returns-clause-line : goal.returns-clause-line
 returns-clause-line c =

@@ -1,4 +1,4 @@
-use Rattle.std.proofs.Common.{◌≡◌, ◌∙◌, [], ◌∷◌, ◌++◌, ap, take, sym, subst}
+use Rattle.std.proofs.Common.{◌∙◌, [], ◌∷◌, ◌++◌, ap, take, sym, subst}
 use Rattle.std.specs.String.{string_bytes}
 use Rattle.su_history_text.specs.Text.{line_text_at}
 use Rattle.su_history_text.proofs.SoFar.{IsToldOf, next_line, one_told_more}

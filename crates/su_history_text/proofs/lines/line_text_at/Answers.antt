@@ -17,7 +17,7 @@ returns-clause-value c =
     told-as string_bytes c.format.result (n ++ (codes " " ++ (a ++ (codes "  " ++ (d ++ f)))))
     (line_text_at c.args.width c.args.team.now c.args.names.now c.args.line.now) c.format.ensures.ok
     (of_six n (codes " ") a (codes "  ") d f
-      ∙ (λ i. numbers i ++ codes " " ++ author i ++ codes "  " ++ c.in_ok-deed.ensures.value i ++ c.in_ok-fate.ensures.value i))
+    ∙ (λ i. numbers i ++ codes " " ++ author i ++ codes "  " ++ c.in_ok-deed.ensures.value i ++ c.in_ok-fate.ensures.value i))
 
 pub returns-clause-line : goal.returns-clause-line
 returns-clause-line c =
@@ -27,4 +27,4 @@ returns-clause-line c =
     let f = string_bytes c.in_ok-fate.fate in
     stays-told string_bytes c.format.result (n ++ (codes " " ++ (a ++ (codes "  " ++ (d ++ f))))) c.format.ensures.ok
     (stays-append n (codes " " ++ (a ++ (codes "  " ++ (d ++ f)))) c.in_ok-numbers.ensures.line
-      (stays-append a (codes "  " ++ (d ++ f)) c.in_ok-author.ensures.line (stays-append d f c.in_ok-deed.ensures.line c.in_ok-fate.ensures.line)))
+    (stays-append a (codes "  " ++ (d ++ f)) c.in_ok-author.ensures.line (stays-append d f c.in_ok-deed.ensures.line c.in_ok-fate.ensures.line)))

@@ -1,4 +1,4 @@
-use Rattle.std.proofs.Common.{◌≡◌, ◌∙◌, ◌+◌, ap, max, drop, length, sym, subst, arith}
+use Rattle.std.proofs.Common.{◌∙◌, ◌+◌, ap, max, drop, arith}
 use Rattle.su_history_text.specs.Parts.{longest_name}
 use Rattle.su_history_text.proofs.TeamNames.{longest_more, max_by_cmp}
 use Rattle.su_history_text.proofs.parts.longest_name.Goals as goal

@@ -1,4 +1,4 @@
-use Rattle.std.proofs.Common.{◌≡◌, ◌∙◌, ◌+◌, ◌-◌, ◌++◌, ap, min, length, replicate, arith}
+use Rattle.std.proofs.Common.{◌≡◌, ◌∙◌, ◌-◌, ◌++◌, ap, min, length, replicate, arith}
 use Rattle.std.specs.String.{string_bytes}
 use Rattle.su_history_text.specs.Parts.{padded, stays_on_line}
 use Rattle.su_history_text.proofs.Padding.{one_space_more, stays-padded}
