@@ -95,8 +95,8 @@ fn long_line(
     let holder = name_of(alloc, team, found.stat.holder)?;
     let size = size_text(alloc, found)?;
     match last_change(entries, &found.file) {
-        Some(number) => {
-            let author = author_name(alloc, team, entries, number)?;
+        Some((number, author)) => {
+            let author = name_of(alloc, team, author)?;
             format!(in alloc; "{name:<24} {size:>10}  commit {number} {author}")
         }
         None => format!(in alloc; "{name:<24} {size:>10}  held by {holder}"),
@@ -157,7 +157,7 @@ fn json_object(
     let size = found.stat.size;
     let holder = name_of(alloc, team, found.stat.holder)?;
     let kind = if found.stat.kind == Kind::Dir { "folder" } else { "file" };
-    let last = last_change(entries, &found.file).unwrap_or(0);
+    let last = last_change(entries, &found.file).map_or(0, |(number, _)| number);
     format!(in alloc;
         "{{\"path\":\"{path}\",\"kind\":\"{kind}\",\"size\":{size},\"holder\":\"{holder}\",\"last\":{last}}}"
     )

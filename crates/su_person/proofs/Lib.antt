@@ -1,3 +1,4 @@
 pub mod Working
 pub mod StepLemmas
 pub mod ChangeLemmas
+pub mod PutLemmas

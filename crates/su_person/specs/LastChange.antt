@@ -31,12 +31,13 @@ abbrev pub touches : List Entry → FileId → Change → Bool
 touches h f (Undo n) = does_change_at f (entry_at h n)
 touches h f change = does_change f change
 
--- the number of the last of these entries, of which the first has number n, that does so
-abbrev pub last_from : ℕ → List Entry → FileId → List Entry → Option ℕ
+-- the last of these entries that does so, of which the first has number n: its number and its author
+abbrev pub last_from : ℕ → List Entry → FileId → List Entry → Option (ℕ × ℕ)
 last_from n h f [] = None
 last_from n h f (e ∷ es) =
-    option_or (last_from (n + 1) h f es) (cond (touches h f e.change) (Some n) None)
+    option_or (last_from (n + 1) h f es) (cond (touches h f e.change) (Some (n, e.author)) None)
 
--- the number of the last entry that changed the bytes of the file, by an operation or the undo of one
-abbrev pub last_change : List Entry → FileId → Option ℕ
+-- the number and the author of the last entry that changed the bytes of the file, by an operation or
+-- the undo of one
+abbrev pub last_change : List Entry → FileId → Option (ℕ × ℕ)
 last_change h f = last_from 1 h f h

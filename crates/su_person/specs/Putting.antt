@@ -3,7 +3,6 @@ use Rattle.std.specs.Prelude.{◌≡◌, ◌≤◌, ◌⊎◌, ℕ, zero, suc, B
 use Rattle.su_bytes.specs.declared.file_ids.FileId.{FileId}
 use Rattle.su_bytes.specs.declared.refusals.Refusal.TheVariants.{NoName}
 use Rattle.su_desk.specs.declared.entries.Entry.{Entry}
-use Rattle.su_desk.specs.History.{entry_at}
 use Rattle.su_draft.specs.Walk.{found}
 use Rattle.su_legal.specs.Legal.{history}
 use Rattle.su_pieces.specs.CarriedOut.{LeadsTo}
@@ -19,10 +18,6 @@ use Rattle.su_person.specs.declared.putting.Standing.TheVariants.{Nothing, File}
 abbrev pub HasThere : HoldingState → List ℕ → List ℕ → Type 0
 HasThere v path bytes = (file : FileId) × LeadsTo (tree_of_list v) path file bytes
 
--- the user made that entry
-abbrev pub IsBy : ℕ → List Entry → ℕ → Type 0
-IsBy user h n = (e : Entry) × (entry_at h n ≡ Some e) × (e.author ≡ user)
-
 -- the user has seen up to an entry that isn't before this one
 abbrev pub HasSeen : Option ℕ → ℕ → Type 0
 HasSeen seen n = (m : ℕ) × (seen ≡ Some m) × (n ≤ m)
@@ -31,7 +26,8 @@ HasSeen seen n = (m : ℕ) × (seen ≡ Some m) × (n ≤ m)
 -- was seen.
 abbrev pub KnowsBytes : ℕ → Option ℕ → List Entry → FileId → Type 0
 KnowsBytes user seen h file = (last_change h file ≡ None)
-    ⊎ ((n : ℕ) × (last_change h file ≡ Some n) × (IsBy user h n ⊎ HasSeen seen n))
+    ⊎ ((n author : ℕ) × (last_change h file ≡ Some (n, author))
+    × ((author ≡ user) ⊎ HasSeen seen n))
 
 -- The user may write there: over anything; or nothing is there; or the bytes of the file there are
 -- known.

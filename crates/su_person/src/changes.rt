@@ -4,19 +4,19 @@ ghost use Rattle.su_bytes.specs.Place.{file_eq};
 ghost use Rattle.su_desk.specs.History.{entry_at};
 ghost use Rattle.su_person.specs.LastChange.{changes_bytes, does_change, last_change, touches};
 
-use su_bytes::FileId;
+use su_bytes::{FileId, User};
 use su_desk::Entry;
 use su_op::{Change, Op};
 
-/// Returns the number of the last entry of a history that changed the bytes of a file, if one did: it
-/// made the file, wrote to it or cut it, or undid an entry that had.
-pub fn last_change(entries: &[Entry], file: &FileId) -> Option<u64>
+/// Returns the number of the last entry of a history that changed the bytes of a file, and its author,
+/// if one did: it made the file, wrote to it or cut it, or undid an entry that had.
+pub fn last_change(entries: &[Entry], file: &FileId) -> Option<(u64, User)>
     ensures { result ≡ last_change entries.now file.now }
 {
     let mut last = None;
     for (index, entry) in entries.iter().enumerate() {
         if touches(entries, &entry.change, file) {
-            last = Some(index as u64 + 1);
+            last = Some((index as u64 + 1, entry.author));
         }
     }
     last

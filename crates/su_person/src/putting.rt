@@ -6,7 +6,7 @@ ghost use Rattle.su_op.specs.Limits.{largest_file};
 ghost use Rattle.su_client_work.specs.Work.{Works};
 ghost use Rattle.su_person.specs.declared.faults.Fault.TheVariants.{Changed};
 ghost use Rattle.su_person.specs.LastChange.{last_change};
-ghost use Rattle.su_person.specs.Putting.{HasBytes, HasThere, IsBy, IsFileWith, IsStanding, KnowsBytes, MayWrite, Rounds};
+ghost use Rattle.su_person.specs.Putting.{HasBytes, HasThere, IsFileWith, IsStanding, KnowsBytes, MayWrite, Rounds};
 
 use crate::carrying::{Others, carry};
 use crate::changes::last_change;
@@ -175,15 +175,14 @@ fn check_seen(
     ensures knows { OnOk result ((new.now.over ≡ true)
         ⊎ KnowsBytes user new.now.seen entries.now file.now) }
     ensures changed { IfErr result (λ e. (n author : ℕ) × (e ≡ Changed n author)
-        × (last_change entries.now file.now ≡ Some n) × IsBy author entries.now n) }
+        × (last_change entries.now file.now ≡ Some (n, author))) }
 {
     if new.over {
         return Ok(());
     }
-    let Some(number) = last_change(entries, file) else {
+    let Some((number, author)) = last_change(entries, file) else {
         return Ok(());
     };
-    let author = entries[(number - 1) as usize].author;
     let is_seen = match new.seen {
         Some(seen) => number <= seen,
         None => false,

@@ -1,0 +1,18 @@
+use Rattle.std.proofs.Common.{◌≡◌, ◌+◌, ◌∙◌, Bool, true, false, cond, Option, ℕ, Some, sym, ap, take}
+use Rattle.su_person.specs.LastChange.{last_from}
+use Rattle.su_person.proofs.ChangeLemmas.{last_of_more}
+use Rattle.su_person.proofs.changes.last_change.Goals.{then-touches, else-touches}
+use Rattle.su_person.proofs.changes.last_change.Goals as goal
+
+pub loop-index-preserved : goal.loop-index-preserved
+loop-index-preserved c =
+    let h = c.args.entries.now in
+    let f = c.args.file.now in
+    let i = c.loop-index.index in
+    let e = c.index-entries-index.result in
+    let more = last_of_more h f i e c.index-entries-index.is in
+    elim c.if-touches.branch [
+      then-touches w ↦ w.last-is ∙ sym (more ∙ ap (λ (b : Bool). cond b (Some (i + 1, e.author)) (last_from 1 h f (take i h))) (sym c.touches.ensures ∙ w.if-touches))
+    | else-touches w ↦ w.last-is ∙ c.loop-index.invariant
+        ∙ sym (more ∙ ap (λ (b : Bool). cond b (Some (i + 1, e.author)) (last_from 1 h f (take i h))) (sym c.touches.ensures ∙ w.if-touches))
+    ]
