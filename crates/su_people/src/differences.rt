@@ -13,12 +13,17 @@ use su_op::{Change, Op};
 
 /// Returns the text of `diff`: the bytes that stood where a commit wrote, and those that it wrote. The
 /// history before it is gone through once more for that.
-pub(crate) fn diff<T>(session: &mut Session<'_, T, Keyless>, number: u64) -> Result<String, Trouble> {
+pub(crate) fn diff<T>(
+    session: &mut Session<'_, T, Keyless>,
+    number: u64,
+) -> Result<String, Trouble> {
     let alloc = session.helper.rt.alloc();
     let names = names_of(alloc, &mut session.member)?;
     let team = session.helper.folder.team();
     let entries = session.member.view().history();
-    let place = usize::try_from(number).unwrap_or(usize::MAX).saturating_sub(1);
+    let place = usize::try_from(number)
+        .unwrap_or(usize::MAX)
+        .saturating_sub(1);
     let Some(entry) = entries.get(place) else {
         return Err(Trouble::from(Refusal::NoOperation(number)));
     };
@@ -29,7 +34,9 @@ pub(crate) fn diff<T>(session: &mut Session<'_, T, Keyless>, number: u64) -> Res
     };
     let desk = desk_after(alloc, team.roster(alloc)?, &entries[..place])?;
     let length = write.bytes.len() as u64;
-    let old = desk.forest().read_at(write.file, u64::from(write.off), length)?;
+    let old = desk
+        .forest()
+        .read_at(write.file, u64::from(write.off), length)?;
     let path = shown_file(alloc, &names, &write.file)?;
     let author = name_of(alloc, team, entry.author)?;
     let end = u64::from(write.off) + length;

@@ -102,16 +102,13 @@ fn get_one<T>(
 }
 
 /// Returns the local path of what was found behind a path of the store.
-fn local_of(
-    alloc: Global,
-    local: &str,
-    path: &[u8],
-    found: &Found,
-) -> Result<String, Trouble> {
+fn local_of(alloc: Global, local: &str, path: &[u8], found: &Found) -> Result<String, Trouble> {
     let behind = found.path.get(path.len()..).unwrap_or(&[]);
     let Ok(behind) = str::from_utf8(behind) else {
         let shown = su_spelling::shown(alloc, found.path.as_slice())?;
-        return Err(Trouble::told(format!(in alloc; "{shown}: its name is no text, so it is left out")));
+        return Err(Trouble::told(format!(in alloc;
+            "{shown}: its name is no text, so it is left out"
+        )));
     };
     let behind = behind.trim_start_matches('/');
     if behind.is_empty() {
@@ -144,7 +141,10 @@ fn is_same(rt: &HostRuntime, local: &str, bytes: &[u8], over: bool) -> Result<bo
 fn summary(alloc: Global, path: &[u8], tally: &Tally) -> Result<String, AllocError> {
     let path = su_spelling::shown(alloc, path)?;
     let Tally {
-        files, bytes, same, ..
+        files,
+        bytes,
+        same,
+        ..
     } = tally;
     format!(in alloc; "got {path}: {files} files, {bytes} bytes; {same} files were there already\n")
 }

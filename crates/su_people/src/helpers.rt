@@ -11,8 +11,8 @@ use su_block::Checked;
 use su_client::Outbox;
 use su_client_work::{Surroundings, log_behind};
 use su_folder::StateFolder;
-use su_keygen::make_next_key;
 use su_kept_key::{KeptKey, signer_of};
+use su_keygen::make_next_key;
 use su_lms::{Params, Signer};
 use su_person::Person;
 use su_view::{View, ViewRefusal};
@@ -68,7 +68,10 @@ impl<'a, T> Helper<'a, T> {
     }
 
     /// Appends what a view holds behind the log of the state folder to that.
-    fn append(&mut self, view: &View<Checked<Outbox<BufReader<TcpStream>, TcpStream>>>) -> Result<(), Trouble> {
+    fn append(
+        &mut self,
+        view: &View<Checked<Outbox<BufReader<TcpStream>, TcpStream>>>,
+    ) -> Result<(), Trouble> {
         let (count, _) = view.head();
         if count <= self.kept {
             return Ok(());
@@ -123,7 +126,12 @@ where
 
     fn connect(&mut self) -> io::Result<Link> {
         let server = self.folder.server();
-        connect(self.rt.alloc(), self.host, server.host.as_str(), server.port)
+        connect(
+            self.rt.alloc(),
+            self.host,
+            server.host.as_str(),
+            server.port,
+        )
     }
 }
 

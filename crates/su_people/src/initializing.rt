@@ -52,7 +52,9 @@ fn team_of(rt: &HostRuntime, path: &str) -> Result<Team, Trouble> {
     let alloc = rt.alloc();
     let text = match read_whole(rt, path, LONGEST_TEAM) {
         Ok(Some(text)) => text,
-        Ok(None) => return Err(Trouble::told(format!(in alloc; "{path}: it is no team's: it is too long"))),
+        Ok(None) => return Err(Trouble::told(format!(in alloc;
+            "{path}: it is no team's: it is too long"
+        ))),
         Err(reason) => return Err(Trouble::local(path, alloc, reason)),
     };
     match read_team(alloc, text.as_slice()) {

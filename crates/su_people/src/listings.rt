@@ -7,8 +7,8 @@ use crate::walks::{Found, found_at, names_in};
 use std::alloc::{AllocError, Global};
 use std::io::Write;
 use su_bytes::{Kind, Refusal};
-use su_person::{Fault, last_change};
 use su_desk::Entry;
+use su_person::{Fault, last_change};
 use su_team::Team;
 
 /// Returns the text of `ls`: a line for each name of a folder, or one for a file.
@@ -156,7 +156,11 @@ fn json_object(
     let path = escaped(alloc, shown.as_str())?;
     let size = found.stat.size;
     let holder = name_of(alloc, team, found.stat.holder)?;
-    let kind = if found.stat.kind == Kind::Dir { "folder" } else { "file" };
+    let kind = if found.stat.kind == Kind::Dir {
+        "folder"
+    } else {
+        "file"
+    };
     let last = last_change(entries, &found.file).map_or(0, |(number, _)| number);
     format!(in alloc;
         "{{\"path\":\"{path}\",\"kind\":\"{kind}\",\"size\":{size},\"holder\":\"{holder}\",\"last\":{last}}}"

@@ -117,8 +117,19 @@ fn items_of<'a, T>(
         left_out: false,
     };
     for local in &args.locals {
-        let to = target_of(alloc, local.as_str(), path, is_folder || 1 < args.locals.len())?;
-        add_local(&session.helper, &mut items, local.as_str(), to, args.recursive)?;
+        let to = target_of(
+            alloc,
+            local.as_str(),
+            path,
+            is_folder || 1 < args.locals.len(),
+        )?;
+        add_local(
+            &session.helper,
+            &mut items,
+            local.as_str(),
+            to,
+            args.recursive,
+        )?;
     }
     grow(&session.helper, &mut items)?;
     refuse_big(&session.helper, &items)?;
@@ -194,7 +205,9 @@ fn add_entries<T>(helper: &Helper<'_, T>, items: &mut Items, place: usize) -> Re
     if 0 < listing.unreadable {
         items.left_out = true;
         let folder = local.as_str();
-        let text = format!(in alloc; "{folder}: it has names that are no text, which are left out")?;
+        let text = format!(in alloc;
+            "{folder}: it has names that are no text, which are left out"
+        )?;
         helper.warn(text.as_str());
     }
     for entry in &listing.entries {
@@ -243,7 +256,9 @@ fn refuse_big<T>(helper: &Helper<'_, T>, items: &Items) -> Result<(), Trouble> {
         {
             has_big = true;
             let local = item.local.as_str();
-            let _ = eprintln!(helper.rt; "sundr: {local}: {size} bytes are more than a file can have");
+            let _ = eprintln!(helper.rt;
+                "sundr: {local}: {size} bytes are more than a file can have"
+            );
         }
     }
     if has_big {
@@ -273,7 +288,13 @@ where
         Err(reason) => return Err(Trouble::local(item.local.as_str(), alloc, reason)),
     };
     if args.dry_run {
-        return plan_file(alloc, &mut session.member, item.path.as_slice(), &bytes, tally);
+        return plan_file(
+            alloc,
+            &mut session.member,
+            item.path.as_slice(),
+            &bytes,
+            tally,
+        );
     }
     put_file(session, item.path.as_slice(), &bytes, args.over, tally)
 }
@@ -396,12 +417,7 @@ fn plan_file<'a>(
 }
 
 /// Returns the line that tells what was put, or what would be.
-fn summary(
-    alloc: Global,
-    path: &[u8],
-    tally: &Tally,
-    is_dry: bool,
-) -> Result<String, AllocError> {
+fn summary(alloc: Global, path: &[u8], tally: &Tally, is_dry: bool) -> Result<String, AllocError> {
     let path = su_spelling::shown(alloc, path)?;
     let Tally {
         files,

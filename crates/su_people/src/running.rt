@@ -26,12 +26,7 @@ use su_spelling::read_path;
 
 /// Carries out a command line of people, and writes its answer. Why something isn't done is told on
 /// standard error.
-pub fn run<T, W: Write>(
-    rt: &HostRuntime,
-    host: &T,
-    line: &PeopleLine,
-    writer: &mut W,
-) -> Outcome
+pub fn run<T, W: Write>(rt: &HostRuntime, host: &T, line: &PeopleLine, writer: &mut W) -> Outcome
 where
     T: Net<Listener = TcpListener, Stream = TcpStream> + Threads + Sync,
 {
@@ -93,7 +88,10 @@ fn is_look(deed: &Deed) -> bool {
 
 /// Writes an answer.
 fn write<W: Write>(writer: &mut W, text: &str) -> Result<Outcome, Trouble> {
-    match writer.write_all(text.as_bytes()).and_then(|()| writer.flush()) {
+    match writer
+        .write_all(text.as_bytes())
+        .and_then(|()| writer.flush())
+    {
         Ok(()) => Ok(Outcome::Done),
         Err(reason) => Err(Trouble::Unwritten(reason)),
     }
@@ -129,7 +127,11 @@ where
 /// Writes an answer, of which some may not be done.
 fn write_answer<W: Write>(writer: &mut W, answer: &Answer) -> Result<Outcome, Trouble> {
     write(writer, answer.text.as_str())?;
-    Ok(if answer.is_partly { Outcome::Refused } else { Outcome::Done })
+    Ok(if answer.is_partly {
+        Outcome::Refused
+    } else {
+        Outcome::Done
+    })
 }
 
 /// Writes the bytes of the file at a path, which is spelled so.
@@ -241,7 +243,9 @@ where
 /// Tells which commits were made before something was refused.
 fn tell_done<T>(helper: &Helper<'_, T>, numbers: &[u64]) {
     if let (Some(first), Some(last)) = (numbers.first(), numbers.last()) {
-        let _ = eprintln!(helper.rt; "sundr: before that commits {first} to {last} were made, which stay");
+        let _ = eprintln!(helper.rt;
+            "sundr: before that commits {first} to {last} were made, which stay"
+        );
     }
 }
 
@@ -265,11 +269,17 @@ where
         }
         Deed::Remove { paths, recursive } => remove_all(session, paths, *recursive, numbers),
         Deed::Move { path, other } => {
-            let (path, other) = (path_of(alloc, path.as_str())?, path_of(alloc, other.as_str())?);
+            let (path, other) = (
+                path_of(alloc, path.as_str())?,
+                path_of(alloc, other.as_str())?,
+            );
             rename(session, &path, &other, numbers)
         }
         Deed::Link { path, other } => {
-            let (path, other) = (path_of(alloc, path.as_str())?, path_of(alloc, other.as_str())?);
+            let (path, other) = (
+                path_of(alloc, path.as_str())?,
+                path_of(alloc, other.as_str())?,
+            );
             link(session, &path, &other, numbers)
         }
         Deed::Undo { first, last } => undo_range(session, *first, *last, numbers),

@@ -64,10 +64,12 @@ pub(crate) fn name_of(alloc: Global, team: &Team, user: User) -> Result<String, 
     format!(in alloc; "user {number}")
 }
 
-const OWN_MISSING: &str = "the server shows a list without your own last commit: it was put back to an \
+const OWN_MISSING: &str =
+    "the server shows a list without your own last commit: it was put back to an \
 older state, or it lies to you. Nothing of it is taken";
 
-const OTHER_TREE: &str = "the server shows a commit of another tree than its change makes. Nothing of \
+const OTHER_TREE: &str =
+    "the server shows a commit of another tree than its change makes. Nothing of \
 it is taken";
 
 /// Returns the sentence of a refusal that names something of the team, or has a text of its own.

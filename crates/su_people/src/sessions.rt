@@ -12,8 +12,8 @@ use su_block::{BlockSource, Checked};
 use su_client::Outbox;
 use su_client_work::Member;
 use su_folder::StateFolder;
-use su_keygen::next_key_path;
 use su_kept_key::{KeptKey, signer_of};
+use su_keygen::next_key_path;
 use su_lms::{KeyStore, PublicKey, Signer};
 use su_person::Person;
 use su_view::{View, ViewRefusal};
@@ -150,11 +150,7 @@ fn signer_for<'a, T: Threads + Sync, S: BlockSource + Drop>(
 }
 
 /// Returns the path of a key that was made in a state folder.
-fn made_path(
-    alloc: Global,
-    folder: &StateFolder<'_>,
-    key: &PublicKey,
-) -> Result<String, Trouble> {
+fn made_path(alloc: Global, folder: &StateFolder<'_>, key: &PublicKey) -> Result<String, Trouble> {
     let directory = folder.directory();
     let prefix = format!(in alloc; "{directory}/.sundr/key")?;
     let mut id = [0; 16];
@@ -179,7 +175,12 @@ where
         return Ok(());
     }
     let helper = &session.helper;
-    let signer = signer_for(helper.rt, helper.host, &helper.folder, session.member.view())?;
+    let signer = signer_for(
+        helper.rt,
+        helper.host,
+        &helper.folder,
+        session.member.view(),
+    )?;
     session.member.replace_key(signer);
     Ok(())
 }

@@ -3,8 +3,8 @@ use std::alloc::{AllocError, AllocFailed};
 use std::io;
 use su_bytes::{Refusal, User};
 use su_folder::FolderFault;
-use su_keygen::KeygenFault;
 use su_kept_key::KeptKeyFault;
+use su_keygen::KeygenFault;
 use su_person::Fault;
 use su_view::ViewRefusal;
 use thiserror::Error;
@@ -23,30 +23,50 @@ pub(crate) enum Trouble {
     NextKey(KeygenFault),
     /// The key file has another key than the one that the user has by the commits that are held.
     #[error("{path} has another key than yours: the one that you have now begins with {present}")]
-    OtherKey { path: String, present: String },
+    OtherKey {
+        path: String,
+        present: String,
+    },
     /// A local file or folder can't be read or written.
     #[error("{path}: {reason}")]
-    Local { path: String, reason: io::Error },
+    Local {
+        path: String,
+        reason: io::Error,
+    },
     /// The commit of that number of the folder's own log is refused.
     #[error("commit {number} of .sundr/log is refused ({refusal}): the file is damaged, or of \
 another team")]
-    Log { number: u64, refusal: ViewRefusal },
+    Log {
+        number: u64,
+        refusal: ViewRefusal,
+    },
     /// The folder's own log can't be read.
     #[error("reading .sundr/log: {0}")]
     UnreadLog(io::Error),
     /// There is no server.
     #[error("connecting to {server}: {reason}")]
-    Unlinked { server: String, reason: io::Error },
+    Unlinked {
+        server: String,
+        reason: io::Error,
+    },
     /// The answer can't be written.
     #[error("writing the answer: {0}")]
     Unwritten(io::Error),
     /// The client, the tree or the server refuses it, at a path if it is one's. `takes` tells whether
     /// commits of others were being taken.
     #[error("{refusal}")]
-    Refused { path: Option<Vec<u8>>, refusal: ViewRefusal, takes: bool },
+    Refused {
+        path: Option<Vec<u8>>,
+        refusal: ViewRefusal,
+        takes: bool,
+    },
     /// Another user changed the file with the commit of that number, which isn't seen yet.
     #[error("changed with commit {number}")]
-    Changed { path: Vec<u8>, number: u64, author: User },
+    Changed {
+        path: Vec<u8>,
+        number: u64,
+        author: User,
+    },
     /// Something is wrong that a sentence tells.
     #[error("{0}")]
     Told(String),

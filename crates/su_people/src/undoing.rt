@@ -79,7 +79,10 @@ fn first_of_others<S: BlockSource + Drop>(
 
 /// Returns the text of `undo --why`: what has to be taken back before, in an order in which it can be,
 /// and who can.
-pub(crate) fn why<T>(session: &mut Session<'_, T, Keyless>, number: u64) -> Result<String, Trouble> {
+pub(crate) fn why<T>(
+    session: &mut Session<'_, T, Keyless>,
+    number: u64,
+) -> Result<String, Trouble> {
     let alloc = session.helper.rt.alloc();
     let names = names_of(alloc, &mut session.member)?;
     let team = session.helper.folder.team();
@@ -88,7 +91,9 @@ pub(crate) fn why<T>(session: &mut Session<'_, T, Keyless>, number: u64) -> Resu
     if reasons.is_empty() {
         return Ok(format!(in alloc; "nothing blocks {number}: it can be taken back\n")?);
     }
-    let mut text = format!(in alloc; "before {number} these have to be taken back, in this order:\n")?;
+    let mut text = format!(in alloc;
+        "before {number} these have to be taken back, in this order:\n"
+    )?;
     for reason in &reasons {
         let line = reason_line(alloc, view, team, &names, *reason)?;
         text.push_str(line.as_str())?;

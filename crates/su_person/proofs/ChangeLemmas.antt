@@ -1,10 +1,8 @@
 -- The last change of a file's bytes, of one entry more.
-use Rattle.std.proofs.Common.{◌≡◌, ℕ, suc, ◌+◌, ◌<◌, ◌≤◌, ◌⊎◌, inl, inr, Bool, true, false, cond, List, [], ◌∷◌, ◌++◌, length, take, get_or, Option, None, Some, refl, sym, ap, ◌∙◌, subst, arith}
+use Rattle.std.proofs.Common.{◌≡◌, ℕ, suc, ◌+◌, ◌<◌, Bool, true, false, cond, List, [], ◌∷◌, ◌++◌, length, take, get_or, Option, None, Some, refl, sym, ap, ◌∙◌, subst, arith}
 use Rattle.std.specs.Option.{option_or}
-use Rattle.std.specs.Prelude.{slice_get}
 use Rattle.std.proofs.Math.Seq.{take-suc}
 use Rattle.std.proofs.lemmas.List.{length-take-le}
-use Rattle.std.proofs.lemmas.Option.{same_Some, slice_get_cases}
 use Rattle.su_bytes.specs.declared.file_ids.FileId.{FileId}
 use Rattle.su_desk.specs.declared.entries.Entry.{Entry}
 use Rattle.su_person.specs.LastChange.{last_from, touches}
@@ -22,21 +20,14 @@ last_more n h f (x ∷ es) e =
     by false = refl
 
 -- behind the first i of a history it is that of one more
-pub last_of_more : (h : List Entry) (f : FileId) (i : ℕ) (e : Entry) → slice_get h i ≡ Some e
+pub last_of_more : (h : List Entry) (f : FileId) (i : ℕ) (e : Entry) → i < length h → e ≡ get_or h i e
     → last_from 1 h f (take (i + 1) h) ≡ cond (touches h f e.change) (Some (i + 1, e.author)) (last_from 1 h f (take i h))
-last_of_more h f i e there = at (slice_get_cases h i).1
-  where
-    at : ((x : Entry) × (i < length h) × (slice_get h i ≡ Some x) × (get_or h i x ≡ x)) ⊎ ((length h ≤ i) × (slice_get h i ≡ None))
-        → last_from 1 h f (take (i + 1) h) ≡ cond (touches h f e.change) (Some (i + 1, e.author)) (last_from 1 h f (take i h))
-    at (inl (x, inside, is, same)) =
-        let one : suc i ≡ i + 1 = omega arith in
-        let both : Some x ≡ Some e = sym is ∙ there in
-        let entry : x ≡ e = same_Some both in
-        let more : take (i + 1) h ≡ take i h ++ e ∷ [] =
-            subst (λ (m : ℕ). take m h ≡ take i h ++ e ∷ []) one (take-suc i h x inside ∙ ap (λ (d : Entry). take i h ++ d ∷ []) (same ∙ entry)) in
-        let count : length (take i h) ≡ i = length-take-le i h (omega (arith, inside)) in
-        let number : 1 + length (take i h) ≡ i + 1 = omega (arith, count) in
-        ap (last_from 1 h f) more
-        ∙ last_more 1 h f (take i h) e
-        ∙ ap (λ (k : ℕ). cond (touches h f e.change) (Some (k, e.author)) (last_from 1 h f (take i h))) number
-    at (inr (past, none)) = absurd (let clash : Some e ≡ None = sym there ∙ none in cc)
+last_of_more h f i e inside is =
+    let one : suc i ≡ i + 1 = omega arith in
+    let more : take (i + 1) h ≡ take i h ++ e ∷ [] =
+    subst (λ (m : ℕ). take m h ≡ take i h ++ e ∷ []) one (take-suc h i e inside ∙ ap (λ (d : Entry). take i h ++ d ∷ []) (sym is)) in
+    let count : length (take i h) ≡ i = length-take-le i h (omega (arith, inside)) in
+    let number : 1 + length (take i h) ≡ i + 1 = omega (arith, count) in
+    ap (last_from 1 h f) more
+    ∙ last_more 1 h f (take i h) e
+    ∙ ap (λ (k : ℕ). cond (touches h f e.change) (Some (k, e.author)) (last_from 1 h f (take i h))) number

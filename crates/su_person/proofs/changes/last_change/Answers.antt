@@ -10,9 +10,9 @@ loop-index-preserved c =
     let f = c.args.file.now in
     let i = c.loop-index.index in
     let e = c.index-entries-index.result in
-    let more = last_of_more h f i e c.index-entries-index.is in
+    let more = last_of_more h f i e c.loop-index-test.true c.index-entries-index.is in
     elim c.if-touches.branch [
-      then-touches w ↦ w.last-is ∙ sym (more ∙ ap (λ (b : Bool). cond b (Some (i + 1, e.author)) (last_from 1 h f (take i h))) (sym c.touches.ensures ∙ w.if-touches))
-    | else-touches w ↦ w.last-is ∙ c.loop-index.invariant
-        ∙ sym (more ∙ ap (λ (b : Bool). cond b (Some (i + 1, e.author)) (last_from 1 h f (take i h))) (sym c.touches.ensures ∙ w.if-touches))
+      | then-touches w ↦ w.last-is ∙ sym (more ∙ ap (λ (b : Bool). cond b (Some (i + 1, e.author)) (last_from 1 h f (take i h))) (sym c.touches.ensures ∙ w.if-touches.true))
+      | else-touches w ↦ w.last-is ∙ c.loop-index.invariant
+          ∙ sym (more ∙ ap (λ (b : Bool). cond b (Some (i + 1, e.author)) (last_from 1 h f (take i h))) (sym c.touches.ensures ∙ w.if-touches.false))
     ]

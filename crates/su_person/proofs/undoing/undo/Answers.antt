@@ -16,8 +16,7 @@ returns-clause-works g c =
 
 pub returns-clause-undone : goal.returns-clause-undone
 returns-clause-undone g c =
-    on_ok c.kept.result _
-    (
+    on_ok c.kept.result _ (
       c.in_ok-commit.commit,
       c.push_reserved.ensures.items ∙ ap (λ (l : List ℕ). l ++ c.in_ok-commit.commit ∷ []) c.reserve.ensures.items,
       record { ready = c.move_on.new.member; moves = c.move_on.ensures; published = c.in_ok-commit.ensures.published },
