@@ -5,7 +5,7 @@ use crate::sentences::name_of;
 use crate::sessions::Session;
 use crate::troubles::Trouble;
 use crate::walks::walked;
-use std::alloc::Global;
+use std::alloc::{AllocError, Global};
 use std::io::{Read, Write};
 use su_block::{BlockSource, digest_of};
 use su_bytes::{Digest, Refusal};
@@ -62,6 +62,7 @@ pub(crate) fn show<T>(
 ) -> Result<String, Trouble> {
     let alloc = session.helper.rt.alloc();
     let names = names_of(alloc, &mut session.member)?;
+    let seen = seen_text(alloc, session.helper.folder.time_of(number))?;
     let view = session.member.view();
     let Some((bytes, item)) = view.entry(number) else {
         return Err(Trouble::from(Refusal::NoOperation(number)));
@@ -71,15 +72,19 @@ pub(crate) fn show<T>(
     let author = name_of(alloc, team, commit.version().author())?;
     let digest = grouped(alloc, &digest_of(bytes))?;
     let item_length = item.len();
-    let seen = match session.helper.folder.time_of(number) {
-        Some(second) => format!(in alloc; "{second} seconds after 1970, by this machine")?,
-        None => String::from_str(alloc, "at a time that isn't known")?,
-    };
     let all = line_of(lines(alloc, view.history())?, number);
     let told = history_text(alloc, &all, team, &names)?;
     Ok(format!(in alloc;
         "commit {number} by {author}\ndigest {digest}\nseen {seen}\nitem of {item_length} bytes\n{told}"
     )?)
+}
+
+/// Returns when a commit was seen, in seconds of this machine's clock.
+fn seen_text(alloc: Global, second: Option<u64>) -> Result<String, AllocError> {
+    match second {
+        Some(second) => format!(in alloc; "{second} seconds after 1970, by this machine"),
+        None => String::from_str(alloc, "at a time that isn't known"),
+    }
 }
 
 /// Returns the line that has that number, alone.

@@ -14,7 +14,7 @@ pub(crate) struct Keyless {
 }
 
 impl KeyStore for Keyless {
-    ghost use Rattle.std.specs.Prelude.{◌≡◌, ◌+◌, ◌-◌, ◌^◌, ⊥, min};
+    ghost use Rattle.std.specs.Prelude.{◌≡◌, ◌+◌, ◌-◌, ◌^◌, min};
 
     ghost stores = { λ _ _ _. ⊥ };
 

@@ -87,16 +87,19 @@ where
 
 /// Tells why an item isn't put, where the others can be all the same; else answers why.
 fn tell_item<T>(helper: &Helper<'_, T>, trouble: Trouble) -> Result<(), Trouble> {
+    if is_of_item(&trouble) {
+        helper.tell(&trouble);
+        return Ok(());
+    }
+    Err(trouble)
+}
+
+/// Tells whether something is wrong with an item, and not with all of them.
+fn is_of_item(trouble: &Trouble) -> bool {
     match trouble {
-        Trouble::Local { .. } | Trouble::Changed { .. } | Trouble::Told(_) => {
-            helper.tell(&trouble);
-            Ok(())
-        }
-        Trouble::Refused { refusal, .. } if is_of_path(&refusal) => {
-            helper.tell(&trouble);
-            Ok(())
-        }
-        trouble => Err(trouble),
+        Trouble::Local { .. } | Trouble::Changed { .. } | Trouble::Told(_) => true,
+        Trouble::Refused { refusal, .. } => is_of_path(refusal),
+        _ => false,
     }
 }
 

@@ -39,9 +39,7 @@ where
 {
     let opened = open(rt, host, given)?;
     let signer = no_signer(rt.alloc())?;
-    let mut session = session_of(rt, host, opened, signer)?;
-    catch_up(&mut session.helper, &mut session.member)?;
-    Ok(session)
+    caught_up(session_of(rt, host, opened, signer)?)
 }
 
 /// Begins a session that signs with the key that its user has by the log, and takes the commits that
@@ -54,12 +52,25 @@ pub(crate) fn sign<'a, T>(
 where
     T: Net<Listener = TcpListener, Stream = TcpStream> + Threads + Sync,
 {
-    let opened = open(rt, host, given)?;
-    let signer = signer_for(rt, host, &opened.folder, &opened.view)?;
-    let mut session = session_of(rt, host, opened, signer)?;
-    catch_up(&mut session.helper, &mut session.member)?;
+    let Opened { folder, view } = open(rt, host, given)?;
+    let signer = signer_for(rt, host, &folder, &view)?;
+    let mut session = caught_up(session_of(rt, host, Opened { folder, view }, signer)?)?;
     follow_key(&mut session)?;
     Ok(session)
+}
+
+/// Takes the commits that came, and keeps them.
+fn caught_up<'a, T, K>(session: Session<'a, T, K>) -> Result<Session<'a, T, K>, Trouble>
+where
+    T: Net<Listener = TcpListener, Stream = TcpStream> + Threads + Sync,
+    K: KeyStore + Drop,
+{
+    let Session {
+        mut helper,
+        mut member,
+    } = session;
+    catch_up(&mut helper, &mut member)?;
+    Ok(Session { helper, member })
 }
 
 /// Connects to the server, and makes the client that holds what the view does.
@@ -126,7 +137,7 @@ where
 fn signer_for<'a, T: Threads + Sync, S: BlockSource + Drop>(
     rt: &'a HostRuntime,
     host: &T,
-    folder: &StateFolder<'_>,
+    folder: &StateFolder<'a>,
     view: &View<S>,
 ) -> Result<Signer<KeptKey<'a>>, Trouble> {
     let alloc = rt.alloc();

@@ -35,9 +35,23 @@ pub(crate) fn found_at<R: Read + Drop, W: Write + Drop, K: KeyStore + Drop>(
     path: &[u8],
 ) -> Result<Found, Refusal> {
     let file = member.find_held(path)?;
-    let stat = member.stat_held(file)?;
+    found_as(alloc, member, path, &file)
+}
+
+/// Tells what a file is that was met on a path.
+fn found_as<R: Read + Drop, W: Write + Drop, K: KeyStore + Drop>(
+    alloc: Global,
+    member: &mut Member<R, W, K>,
+    path: &[u8],
+    file: &FileId,
+) -> Result<Found, Refusal> {
+    let stat = member.stat_held(*file)?;
     let path = Vec::from_slice(alloc, path)?;
-    Ok(Found { path, file, stat })
+    Ok(Found {
+        path,
+        file: *file,
+        stat,
+    })
 }
 
 /// Returns what stands in a folder, by the names, ascending.
