@@ -250,7 +250,7 @@ def conflict(room, team):
 def undos(room, team):
     ended = team.do("bob", "history", "-n", "1", "/report/plan")
     check("the history tells the last change", ended.status == 0 and "bob" in ended.text and "13 bytes" in ended.text, ended)
-    last = int(re.match(r"\d+", ended.text)[0]) if ended.text else 0
+    last = int((re.search(r"\d+", ended.text) or [0])[0])
     ended = team.do("bob", "history", "--json", "-n", "1", "/report/plan")
     check("as JSON", ended.status == 0 and json.loads(ended.printed or b"[]")[0]["last"] == last, ended)
     ended = team.do("bob", "undo", last)
@@ -263,7 +263,7 @@ def undos(room, team):
     check("a commit is shown", ended.status == 0 and f"commit {last} by bob" in ended.text, ended)
     # ann's change is blocked by bob's take, which read all of it
     ended = team.do("ann", "history", "/report/plan")
-    mine = [int(it) for it in re.findall(r"^(\d+) +ann  wrote", ended.text, re.M)]
+    mine = [int(it) for it in re.findall(r"^ *(\d+) +ann  wrote", ended.text, re.M)]
     check("ann's own change is in the history", mine, ended)
     ended = team.do("ann", "undo", mine[0])
     check("a blocked undo is refused", ended.status == 1 and "Blocked" in ended.told, ended)
@@ -275,7 +275,7 @@ def undos(room, team):
         it.write("one\n")
     check("a file of one's own", team.do("ann", "put", f"{room}/own", "/tree/own").status == 0)
     ended = team.do("ann", "history", "-n", "1")
-    first = int(re.match(r"\d+", ended.text)[0])
+    first = int((re.search(r"\d+", ended.text) or [0])[0])
     check("another name for it", team.do("ann", "mv", "/tree/own", "/tree/mine").status == 0)
     ended = team.do("ann", "undo", "--with-blockers", first)
     check("one's own blockers are taken back", ended.status == 0, ended)

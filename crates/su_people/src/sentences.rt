@@ -193,7 +193,7 @@ pub(crate) fn tell(rt: &HostRuntime, team: Option<&Team>, trouble: &Trouble) {
 /// Returns the line that tells why something isn't done.
 fn line_of(alloc: Global, team: Option<&Team>, trouble: &Trouble) -> Result<String, AllocError> {
     let Some(team) = team else {
-        return format!(in alloc; "{trouble}");
+        return line_without_names(alloc, trouble);
     };
     match trouble {
         Trouble::Refused {
@@ -219,5 +219,26 @@ or put --over"
             )
         }
         trouble => format!(in alloc; "{trouble}"),
+    }
+}
+
+/// Returns the line that tells why something isn't done, where the team's names aren't at hand.
+fn line_without_names(alloc: Global, trouble: &Trouble) -> Result<String, AllocError> {
+    let Trouble::Refused { refusal, .. } = trouble else {
+        return format!(in alloc; "{trouble}");
+    };
+    match text_without_names(refusal) {
+        Some(text) => format!(in alloc; "{text} ({refusal})"),
+        None => format!(in alloc; "{refusal}"),
+    }
+}
+
+/// Returns the text of a refusal that has one without names and numbers.
+fn text_without_names(refusal: &ViewRefusal) -> Option<&'static str> {
+    match refusal {
+        ViewRefusal::Plain(Refusal::WrongPrev(0)) => Some(OTHER_TEAM),
+        ViewRefusal::Plain(refusal) | ViewRefusal::Change(refusal) => plain_text(refusal),
+        ViewRefusal::OwnMissing => Some(OWN_MISSING),
+        ViewRefusal::WrongHandle(_) => Some(OTHER_TREE),
     }
 }
