@@ -1,11 +1,9 @@
-//! `sundr init`, `put`, `get` and others keep a folder of a store for people.
 //! `sundr desk` reads a script on standard input, a command a line, and prints an answer for each.
 //! `sundr keygen` makes a key for signatures.
 //! `sundr audit` reads a log of commits, and tells whether all of them are taken.
 //! `sundr serve` serves a shared folder to the clients of its users.
 //! `sundr client` runs a script against a server.
 //! `sundr backup` copies what a running server has stored.
-//! The other subcommands are for people, with files and folders.
 #![tactic(auto)]
 
 ghost use Rattle.std.specs.Prelude.{◌≡◌, ℕ, List, Some, IfOk, ◌≤◌, length, string_bytes};
@@ -45,36 +43,16 @@ use su_client_lines::CLIENT_WORDS;
 use su_desk_script::{DESK_WORDS, Ending, Fault, Status, run_desk};
 use su_keygen::{KeygenFault, make_key};
 use su_lms::Params;
-use su_people::{Outcome, run};
 
 fn main(rt: HostRuntime) -> ExitCode {
-    let ended = match command_line(&rt) {
+    let status = match command_line(&rt) {
         Ok(line) => {
             let reader = Prompting::new(&rt, rt.reader());
             carry_out(&rt, &rt, line, reader, &mut io::writer(&rt))
         }
-        Err(fault) => Ended::Program(refuse(&rt, &fault)),
+        Err(fault) => refuse(&rt, &fault),
     };
-    ExitCode::from(ended.code())
-}
-
-/// How a command line ended.
-#[derive(Clone, Copy)]
-enum Ended {
-    /// As a program does that runs a script, serves, or makes something.
-    Program(Status),
-    /// As a command for people does.
-    People(Outcome),
-}
-
-impl Ended {
-    /// Returns the exit status: 0 to 3.
-    fn code(self) -> u8 {
-        match self {
-            Ended::Program(status) => status.code(),
-            Ended::People(outcome) => outcome.code(),
-        }
-    }
+    ExitCode::from(status.code())
 }
 
 /// Reads what the arguments ask for. Arguments that are no text are a wrong command line.
@@ -101,7 +79,7 @@ fn carry_out<T, R: Read + Drop, W: Write>(
     line: Line,
     reader: R,
     writer: &mut W,
-) -> Ended
+) -> Status
 where
     T: Net<Listener = TcpListener, Stream = TcpStream> + Threads + Wait + Sync,
     requires { HasGoodNumbers line }
@@ -110,36 +88,31 @@ where
         → CarriesOut line input before (W.contents writer.new) result }
 {
     match line {
-        Line::People(line) => Ended::People(run(rt, host, &line, writer)),
-        Line::Desk { users, format } => {
-            Ended::Program(run_script(rt, users, format, reader, writer))
-        }
+        Line::Desk { users, format } => run_script(rt, users, format, reader, writer),
         Line::Keygen {
             entropy,
             out,
             params,
-        } => Ended::Program(new_key(
+        } => new_key(
             rt,
             host,
             entropy.as_ref().map(|path| path.as_str()),
             out.as_str(),
             params,
             writer,
-        )),
-        Line::Audit { log, keys } => {
-            Ended::Program(audit(rt, host, log.as_str(), keys.as_slice(), writer))
-        }
-        Line::Serve(args) => Ended::Program(serve(rt, host, &args)),
-        Line::Client(args) => Ended::Program(client(rt, host, &args, reader, writer)),
-        Line::Backup { port, to, keys } => Ended::Program(backup(
+        ),
+        Line::Audit { log, keys } => audit(rt, host, log.as_str(), keys.as_slice(), writer),
+        Line::Serve(args) => serve(rt, host, &args),
+        Line::Client(args) => client(rt, host, &args, reader, writer),
+        Line::Backup { port, to, keys } => backup(
             rt,
             host,
             port,
             to.as_str(),
             keys.as_slice(),
             writer,
-        )),
-        Line::Text(text) => Ended::Program(print(rt, text.as_str(), writer)),
+        ),
+        Line::Text(text) => print(rt, text.as_str(), writer),
     }
 }
 
