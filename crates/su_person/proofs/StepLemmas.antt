@@ -4,15 +4,17 @@ use Rattle.std.specs.Prelude.{OnErr, OnOk}
 use Rattle.su_draft.specs.declared.commands.Command.{Command}
 use Rattle.su_client_work.specs.Member.{MemberState, OnlyTakes}
 use Rattle.su_person.specs.declared.steps.Step.TheVariants.{Nothing, Last, First}
-use Rattle.su_person.specs.Carrying.{CarriedInPart, CarriedOut, Steps, StepsOn, TakesThen, Tries}
+use Rattle.su_person.specs.declared.carrying.Others.{Others}
+use Rattle.su_person.specs.Carrying.{Before, CarriedInPart, CarriedOut, Steps, StepsOn, TakesThen, Tries}
 
 -- the next step, behind which something is left
-abbrev pub NextStep : Command → ℕ → MemberState → MemberState → Type 0
-NextStep it n s t = TakesThen (λ a b. Steps it a (First n) b) s t
+abbrev pub NextStep : Others → Command → ℕ → MemberState → MemberState → Type 0
+NextStep others it n s t = TakesThen others (λ a b. Steps it a (First n) b) s t
 
-steps_more : (it : Command) (ns : List ℕ) (n : ℕ) (s m t : MemberState) → StepsOn it s ns m → NextStep it n m t → StepsOn it s (ns ++ n ∷ []) t
-steps_more it [] n s m t same next = (t, subst (λ (x : MemberState). NextStep it n x t) same next, refl)
-steps_more it (k ∷ ns) n s m t (between, first, rest) next = (between, first, steps_more it ns n between m t rest next)
+steps_more : (others : Others) (it : Command) (ns : List ℕ) (n : ℕ) (s m t : MemberState)
+    → StepsOn others it s ns m → NextStep others it n m t → StepsOn others it s (ns ++ n ∷ []) t
+steps_more others it [] n s m t same next = (t, subst (λ (x : MemberState). NextStep others it n x t) same next, refl)
+steps_more others it (k ∷ ns) n s m t (between, first, rest) next = (between, first, steps_more others it ns n between m t rest next)
 
 pub on_ok : {A E : Type 0} (r : Result A E) (X : Type 0) → X → OnOk r X
 on_ok (Ok a) X x = x
@@ -23,21 +25,21 @@ on_err (Ok a) X x = tt
 on_err (Err e) X x = x
 
 -- from s, where these numbers were noted, on: the steps so far, what is done, and what is done in part
-module _ (it : Command) (s : MemberState) (olds : List ℕ) where
+module _ (others : Others) (it : Command) (s : MemberState) (olds : List ℕ) where
   abbrev pub Noted : (List ℕ → Type 0) → List ℕ → Type 0
   Noted Done now = (ns : List ℕ) × (now ≡ olds ++ ns) × Done ns
 
   abbrev pub SoFar : MemberState → List ℕ → Type 0
-  SoFar m now = Noted (λ ns. StepsOn it s ns m) now
+  SoFar m now = Noted (λ ns. StepsOn others it s ns m) now
 
   abbrev pub Part : MemberState → List ℕ → Type 0
-  Part t now = Noted (λ ns. CarriedInPart it s ns t) now
+  Part t now = Noted (λ ns. CarriedInPart others it s ns t) now
 
   abbrev pub Whole : MemberState → List ℕ → Type 0
-  Whole t now = Noted (λ ns. CarriedOut it s ns t) now
+  Whole t now = Noted (λ ns. CarriedOut others it s ns t) now
 
   abbrev pub Some_ : MemberState → List ℕ → Type 0
-  Some_ t now = Noted (λ ns. CarriedInPart it s ns t ⊎ CarriedOut it s ns t) now
+  Some_ t now = Noted (λ ns. CarriedInPart others it s ns t ⊎ CarriedOut others it s ns t) now
 
   pub of_part : (t : MemberState) (now : List ℕ) → Part t now → Some_ t now
   of_part t now (ns, noted, part) = (ns, noted, inl part)
@@ -51,11 +53,11 @@ module _ (it : Command) (s : MemberState) (olds : List ℕ) where
   pub stops_taking : (m t : MemberState) (before now : List ℕ) → SoFar m before → now ≡ before → OnlyTakes m t → Part t now
   stops_taking m t before now (ns, noted, steps) same takes = (ns, same ∙ noted, record { between = m; steps = steps; ends = inr (inl takes) })
 
-  pub stops_trying : (m b t : MemberState) (before now : List ℕ) → SoFar m before → now ≡ before → OnlyTakes m b → Tries it b t → Part t now
+  pub stops_trying : (m b t : MemberState) (before now : List ℕ) → SoFar m before → now ≡ before → Before others m b → Tries it b t → Part t now
   stops_trying m b t before now (ns, noted, steps) same takes tries =
       (ns, same ∙ noted, record { between = m; steps = steps; ends = inr (inr (record { turn = b; takes = takes; does = tries })) })
 
-  pub ends_none : (m b t : MemberState) (before now : List ℕ) → SoFar m before → now ≡ before → OnlyTakes m b → Steps it b Nothing t → Whole t now
+  pub ends_none : (m b t : MemberState) (before now : List ℕ) → SoFar m before → now ≡ before → Before others m b → Steps it b Nothing t → Whole t now
   ends_none m b t before now (ns, noted, steps) same takes does = (
     ns,
     same ∙ noted,
@@ -72,7 +74,7 @@ module _ (it : Command) (s : MemberState) (olds : List ℕ) where
   one_more : (before now : List ℕ) (ns : List ℕ) (n : ℕ) → before ≡ olds ++ ns → now ≡ before ++ n ∷ [] → now ≡ olds ++ (ns ++ n ∷ [])
   one_more before now ns n noted more = more ∙ ap (λ (l : List ℕ). l ++ n ∷ []) noted ∙ append_assoc olds ns (n ∷ [])
 
-  pub ends_last : (m b t : MemberState) (before now : List ℕ) (n : ℕ) → SoFar m before → now ≡ before ++ n ∷ [] → OnlyTakes m b → Steps it b (Last n) t → Whole t now
+  pub ends_last : (m b t : MemberState) (before now : List ℕ) (n : ℕ) → SoFar m before → now ≡ before ++ n ∷ [] → Before others m b → Steps it b (Last n) t → Whole t now
   ends_last m b t before now n (ns, noted, steps) more takes does = (
     ns ++ n ∷ [],
     one_more before now ns n noted more,
@@ -86,6 +88,6 @@ module _ (it : Command) (s : MemberState) (olds : List ℕ) where
     },
   )
 
-  pub goes_on : (m b t : MemberState) (before now : List ℕ) (n : ℕ) → SoFar m before → now ≡ before ++ n ∷ [] → OnlyTakes m b → Steps it b (First n) t → SoFar t now
+  pub goes_on : (m b t : MemberState) (before now : List ℕ) (n : ℕ) → SoFar m before → now ≡ before ++ n ∷ [] → Before others m b → Steps it b (First n) t → SoFar t now
   goes_on m b t before now n (ns, noted, steps) more takes does =
-      (ns ++ n ∷ [], one_more before now ns n noted more, steps_more it ns n s m t steps (record { turn = b; takes = takes; does = does }))
+      (ns ++ n ∷ [], one_more before now ns n noted more, steps_more others it ns n s m t steps (record { turn = b; takes = takes; does = does }))

@@ -1,4 +1,6 @@
 pub mod Carrying
+pub mod Fault
 pub mod LastChange
+pub mod Moving
 pub mod Putting
 pub mod Undoing

@@ -1,16 +1,20 @@
 -- What a put leaves, and when it may write over a file.
-use Rattle.std.specs.Prelude.{◌≡◌, ◌≤◌, ◌⊎◌, ℕ, zero, suc, Bool, true, List, Option, None, Some, Ok, Err}
+use Rattle.std.specs.Prelude.{◌≡◌, ◌≢◌, ◌≤◌, ◌⊎◌, ◌++◌, ⊤, ℕ, zero, suc, Bool, true, false, List, [], Option, None, Some, Ok, Err}
 use Rattle.su_bytes.specs.declared.file_ids.FileId.{FileId}
 use Rattle.su_bytes.specs.declared.refusals.Refusal.TheVariants.{NoName}
 use Rattle.su_desk.specs.declared.entries.Entry.{Entry}
+use Rattle.su_draft.specs.declared.commands.Command.{Command}
 use Rattle.su_draft.specs.Walk.{found}
 use Rattle.su_legal.specs.Legal.{history}
 use Rattle.su_pieces.specs.CarriedOut.{LeadsTo}
+use Rattle.su_pieces.specs.Put.{Put}
 use Rattle.su_table.specs.Query.{contents}
 use Rattle.su_view.specs.Holding.{HoldingState, tree_of_list}
 use Rattle.su_client_work.specs.Member.{MemberState}
-use Rattle.su_client_work.specs.Work.{Works}
+use Rattle.su_person.specs.Carrying.{CarriesSome}
 use Rattle.su_person.specs.LastChange.{last_change}
+use Rattle.su_person.specs.declared.faults.Fault.{Fault}
+use Rattle.su_person.specs.declared.faults.Fault.TheVariants.{Changed}
 use Rattle.su_person.specs.declared.putting.Standing.{Standing}
 use Rattle.su_person.specs.declared.putting.Standing.TheVariants.{Nothing, File}
 
@@ -37,12 +41,48 @@ MayWrite seen over path v = (over ≡ true)
     ⊎ ((file : FileId) × (found (tree_of_list v) path ≡ Ok file)
     × KnowsBytes v.user seen (history v.held) file))
 
--- So many rounds of work, each of which began when the user might write there by what was held then.
-abbrev pub Rounds : Option ℕ → Bool → List ℕ → ℕ → MemberState → MemberState → Type 0
-Rounds seen over path zero s t = t ≡ s
-Rounds seen over path (suc k) s t =
-    (between : MemberState) × Rounds seen over path k s between
-    × MayWrite seen over path between.holding × Works between t
+-- what stands at the path in the tree that is held: nothing, or a file with these bytes
+abbrev pub StandsThere : HoldingState → List ℕ → Option (List ℕ) → Type 0
+StandsThere v path None = found (tree_of_list v) path ≡ Err NoName
+StandsThere v path (Some old) = HasThere v path old
+
+-- the commands put the new contents in the place of what stands at the path
+abbrev pub PutsOver : HoldingState → List ℕ → List ℕ → List Command → Type 0
+PutsOver v path new commands =
+    (old : Option (List ℕ)) × StandsThere v path old × Put path old new commands
+
+-- A round of a put: by what the client holds the user may write there, and the first of the commands
+-- that put the new contents there are carried out, by the commits of these numbers, while no others
+-- come.
+pub record Round (seen : Option ℕ) (over : Bool) (path new : List ℕ) (s : MemberState)
+    (ns : List ℕ) (t : MemberState) : Type 0 where
+  pub may : MayWrite seen over path s.holding
+  pub commands : List Command
+  pub puts : PutsOver s.holding path new commands
+  pub carries : CarriesSome commands s ns t
+
+-- so many rounds, one after another
+abbrev pub Rounds : Option ℕ → Bool → List ℕ → List ℕ → ℕ → MemberState → List ℕ → MemberState
+    → Type 0
+Rounds seen over path new zero s ns t = (ns ≡ []) × (t ≡ s)
+Rounds seen over path new (suc k) s ns t =
+    (between : MemberState) × (front last : List ℕ) × (ns ≡ front ++ last)
+    × Rounds seen over path new k s front between × Round seen over path new between last t
+
+-- ---- refusals
+
+-- the fault tells the last change of a file's bytes, which isn't the user's, who hasn't seen it
+abbrev pub TellsUnseen : Option ℕ → Bool → ℕ → Option (ℕ × ℕ) → Fault → Type 0
+TellsUnseen seen over user last (Changed n author) =
+    (over ≡ false) × (author ≢ user) × (HasSeen seen n → ⊥) × (last ≡ Some (n, author))
+TellsUnseen seen over user last e = ⊥
+
+-- where a fault tells a change, it is that of the file there
+abbrev pub TellsWhy : Option ℕ → Bool → List ℕ → HoldingState → Fault → Type 0
+TellsWhy seen over path v (Changed n author) =
+    (file : FileId) × (found (tree_of_list v) path ≡ Ok file)
+    × TellsUnseen seen over v.user (last_change (history v.held) file) (Changed n author)
+TellsWhy seen over path v e = ⊤
 
 -- ---- what stands at a path
 

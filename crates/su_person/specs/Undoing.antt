@@ -4,12 +4,12 @@ use Rattle.su_client.specs.Link.{LinkState}
 use Rattle.su_op.specs.declared.operations.Change.TheVariants.{Undo}
 use Rattle.su_client_work.specs.Member.{MemberState}
 use Rattle.su_client_work.specs.Publishing.{always, Publishes}
-use Rattle.su_client_work.specs.Work.{Works}
+use Rattle.su_person.specs.Moving.{MovesOn}
 
--- The client may go on to another key, and then publishes the undo of the operation of that number, by
--- commit n.
+-- The client goes on to another key or does nothing, and then publishes the undo of the operation of
+-- that number, by commit n.
 pub record TakesBack (MayConnect : LinkState → Type 0) (number : ℕ) (s t : MemberState) (n : ℕ)
     : Type 0 where
   pub ready : MemberState
-  pub moves : Works s ready
+  pub moves : MovesOn s ready
   pub published : Publishes MayConnect (always (Undo number)) ready t n

@@ -1,14 +1,17 @@
 // How new contents are put at a path.
-ghost use Rattle.std.specs.Prelude.{◌≡◌, ◌≤◌, ◌⊎◌, ℕ, true, length, IfErr, IfOk, IsTrue, OnOk};
-ghost use Rattle.std.specs.Bool.{OnFalse};
+ghost use Rattle.std.specs.Prelude.{◌≡◌, ◌<◌, ◌≤◌, ◌⊎◌, ◌++◌, ◌↔◌, ℕ, List, true, Err, length, IfErr, IfOk, IsTrue, OnOk};
 ghost use Rattle.su_bytes.specs.declared.formats.TheConstants.{NEWEST_FORMAT};
+ghost use Rattle.su_bytes.specs.declared.refusals.Refusal.TheVariants.{TooBig};
 ghost use Rattle.su_op.specs.Limits.{largest_file};
+ghost use Rattle.su_view.specs.declared.refusals.ViewRefusal.TheVariants.{Plain};
 ghost use Rattle.su_client_work.specs.Work.{Works};
-ghost use Rattle.su_person.specs.declared.faults.Fault.TheVariants.{Changed};
+ghost use Rattle.su_person.specs.Carrying.{CarriesSome};
+ghost use Rattle.su_person.specs.Fault.{TellsNoChange};
 ghost use Rattle.su_person.specs.LastChange.{last_change};
-ghost use Rattle.su_person.specs.Putting.{HasBytes, HasThere, IsFileWith, IsStanding, KnowsBytes, MayWrite, Rounds};
+ghost use Rattle.su_person.specs.Putting.{HasBytes, HasThere, IsFileWith, IsStanding, KnowsBytes, MayWrite, PutsOver, Rounds, TellsUnseen, TellsWhy};
+ghost use Rattle.su_person.specs.declared.faults.Fault.TheVariants.{Refused};
 
-use crate::carrying::{Others, carry};
+use crate::carrying::{Others, carry, kept};
 use crate::changes::last_change;
 use crate::faults::Fault;
 use crate::keys::move_on;
@@ -68,9 +71,16 @@ where
     ensures works { Works member.old member.new }
     ensures there { OnOk result
         (HasThere member.new.holding new.now.path.now new.now.bytes.now) }
-    // It writes only where the author may by what the client holds.
-    ensures rounds { (k : ℕ) × Rounds new.now.seen new.now.over new.now.path.now k
-        member.old member.new }
+    // It commits nothing else than commands of puts, each where the author may write by what the
+    // client holds then.
+    ensures rounds { (k : ℕ) × (ns : List ℕ) × (numbers.new.items ≡ numbers.old.items ++ ns)
+        × Rounds new.now.seen new.now.over new.now.path.now new.now.bytes.now k
+        member.old ns member.new }
+    ensures kept { OnOk result (length member.new.holding.held ≤ P.kept person.new) }
+    ensures too_big { largest_file NEWEST_FORMAT < length new.now.bytes.now
+        → result ≡ Err (Refused (Plain TooBig)) }
+    ensures changed { IfErr result
+        (TellsWhy new.now.seen new.now.over new.now.path.now member.new.holding) }
 {
     if is_too_big(new.bytes) {
         return Err(Fault::from(Refusal::TooBig));
@@ -78,7 +88,7 @@ where
     for _ in 0..MOST_ROUNDS {
         let standing = standing_at(member, new.path)?;
         if standing.has(new.bytes) {
-            return Ok(());
+            return kept(person, member);
         }
         let commands = commands_for(alloc, member, new, &standing)?;
         write_all(person, member, &commands, numbers)?;
@@ -88,7 +98,7 @@ where
 
 /// Tells whether so many bytes are more than a file can have.
 fn is_too_big(bytes: &[u8]) -> bool
-    ensures { OnFalse result (length bytes.now ≤ largest_file NEWEST_FORMAT) }
+    ensures { IsTrue result ↔ largest_file NEWEST_FORMAT < length bytes.now }
 {
     (largest_file(NEWEST_FORMAT) as usize) < bytes.len()
 }
@@ -149,7 +159,12 @@ where
     K: KeyStore + Drop,
     requires length { length new.now.bytes.now ≤ largest_file NEWEST_FORMAT }
     requires standing { IsStanding member.now.holding new.now.path.now standing.now }
-    ensures { OnOk result (MayWrite new.now.seen new.now.over new.now.path.now member.now.holding) }
+    ensures may { OnOk result
+        (MayWrite new.now.seen new.now.over new.now.path.now member.now.holding) }
+    ensures puts { IfOk result (λ commands. PutsOver member.now.holding new.now.path.now
+        new.now.bytes.now commands.items) }
+    ensures changed { IfErr result
+        (TellsWhy new.now.seen new.now.over new.now.path.now member.now.holding) }
 {
     let commands = match standing {
         Standing::Nothing => put_commands(alloc, new.path, None, new.bytes),
@@ -174,8 +189,8 @@ fn check_seen(
 ) -> Result<(), Fault>
     ensures knows { OnOk result ((new.now.over ≡ true)
         ⊎ KnowsBytes user new.now.seen entries.now file.now) }
-    ensures changed { IfErr result (λ e. (n author : ℕ) × (e ≡ Changed n author)
-        × (last_change entries.now file.now ≡ Some (n, author))) }
+    ensures changed { IfErr result (TellsUnseen new.now.seen new.now.over user
+        (last_change entries.now file.now)) }
 {
     if new.over {
         return Ok(());
@@ -193,8 +208,8 @@ fn check_seen(
     Err(Fault::Changed { number, author })
 }
 
-/// Carries out commands one after another, before each of which the client may go on to another key; up
-/// to where others committed something in between. The refusals of `carry_out`.
+/// Carries out commands one after another, up to where the client goes on to another key, or others
+/// committed something in between. The refusals of `carry_out`.
 fn write_all<P, R, W, K>(
     person: &mut P,
     member: &mut Member<R, W, K>,
@@ -206,10 +221,15 @@ where
     R: Read + Drop,
     W: Write + Drop,
     K: KeyStore + Drop,
-    ensures { Works member.old member.new }
+    ensures works { Works member.old member.new }
+    ensures carries { (ns : List ℕ) × (numbers.new.items ≡ numbers.old.items ++ ns)
+        × CarriesSome commands.now member.old ns member.new }
+    ensures faults { IfErr result TellsNoChange }
 {
     for command in commands {
-        move_on(person, member);
+        if move_on(person, member) {
+            return Ok(());
+        }
         if !carry(person, member, command, Others::Unwelcome, numbers)? {
             return Ok(());
         }

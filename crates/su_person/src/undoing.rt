@@ -1,5 +1,5 @@
 // How a person takes operations back.
-ghost use Rattle.std.specs.Prelude.{◌≡◌, ◌++◌, ◌∷◌, [], ℕ, OnOk};
+ghost use Rattle.std.specs.Prelude.{◌≡◌, ◌≤◌, ◌++◌, ◌∷◌, [], ℕ, length, OnOk};
 ghost use Rattle.su_client_work.specs.Work.{Works};
 ghost use Rattle.su_person.specs.Undoing.{TakesBack};
 
@@ -13,7 +13,8 @@ use su_lms::KeyStore;
 use su_op::Change;
 
 /// Undoes the operation of that number, before which the client may go on to another key, and appends
-/// the number of the commit to `numbers`. The refusals are those of `Member::change`, and `Unkept`.
+/// the number of the commit to `numbers`. `Shown` with the refusals of `Member::begin`; those of
+/// `Member::publish`; `Unkept`.
 pub fn undo<P, R, W, K>(
     person: &mut P,
     member: &mut Member<R, W, K>,
@@ -28,10 +29,14 @@ where
     ensures works { Works member.old member.new }
     ensures undone { OnOk result ((n : ℕ) × (numbers.new.items ≡ numbers.old.items ++ n ∷ [])
         × TakesBack P.may_connect number member.old member.new n) }
+    ensures kept { OnOk result (length member.new.holding.held ≤ P.kept person.new) }
 {
     numbers.reserve(1)?;
     move_on(person, member);
-    let commit = member.change(person, Change::Undo(number), false)?;
+    if let Err(refusal) = member.begin(person) {
+        return Err(Fault::Shown(refusal));
+    }
+    let commit = member.publish(Change::Undo(number), false)?;
     numbers.push_reserved(commit);
     kept(person, member)
 }

@@ -8,5 +8,5 @@ abbrev pub invariant-loop : goal.invariant-loop
 invariant-loop g l = record {
   works : Works l.fn.member l.member;
   steps : (ns : List ℕ) × (l.numbers.items ≡ l.fn.numbers.items ++ ns)
-      × StepsOn l.fn.command l.fn.member ns l.member;
+      × StepsOn l.fn.others l.fn.command l.fn.member ns l.member;
 }

@@ -1,4 +1,4 @@
-use Rattle.std.proofs.Common.{◌≡◌, ◌+◌, ◌∙◌, Bool, true, false, cond, Option, ℕ, Some, sym, ap, take}
+use Rattle.std.proofs.Common.{◌+◌, ◌∙◌, Bool, cond, Some, sym, ap, take}
 use Rattle.su_person.specs.LastChange.{last_from}
 use Rattle.su_person.proofs.ChangeLemmas.{last_of_more}
 use Rattle.su_person.proofs.changes.last_change.Goals.{then-touches, else-touches}
