@@ -3,9 +3,11 @@
 `bench/relay.py PORT [--delay 10]` relays to that port, prints its own, and runs until it is killed.
 
 Each direction is held back by so many milliseconds, 10 by default, so that a reply comes twice as many after its request. The throughput
-isn't held back: what comes is passed on once its time has come, however much is on the way. Connections are made without delay.
+isn't held back: what comes is passed on once its time has come, however much is on the way. Connections are made without delay. The
+bytes are counted each way, as `Relay.counted` tells.
 """
 import argparse
+import functools
 import queue
 import socket
 import threading
@@ -19,6 +21,7 @@ class Relay:
 
     def __init__(self, to, seconds):
         self.to, self.seconds = to, seconds
+        self.counting, self.bytes, self.going = threading.Condition(), [0, 0], 0
         self.listener = socket.create_server(("127.0.0.1", 0))
         self.port = self.listener.getsockname()[1]
         self.accepting = threading.Thread(target=self.accept, daemon=True)
@@ -43,15 +46,33 @@ class Relay:
                 continue
             for stream in (client, server):
                 stream.setsockopt(socket.IPPROTO_TCP, socket.TCP_NODELAY, 1)
-            for ends in ((client, server), (server, client)):
-                Direction(*ends, self.seconds)
+            with self.counting:
+                self.going += 2
+            for way, ends in enumerate(((client, server), (server, client))):
+                Direction(*ends, self.seconds, functools.partial(self.count, way))
+
+    def count(self, way, size):
+        """Counts bytes that came to go to the server (way 0) or back (way 1); none are the end of a direction."""
+        with self.counting:
+            self.bytes[way] += size
+            if not size:
+                self.going -= 1
+                self.counting.notify_all()
+
+    def counted(self, wait=30):
+        """How many bytes came to go to the server, and back, once each connection has ended. Raises `TimeoutError` where one goes on for
+        so many seconds."""
+        with self.counting:
+            if not self.counting.wait_for(lambda: not self.going, wait):
+                raise TimeoutError(f"{self.going} directions of the relay to port {self.to} haven't ended")
+            return tuple(self.bytes)
 
 
 class Direction:
-    """Passes on what comes from one end to the other, each chunk so many seconds later."""
+    """Passes on what comes from one end to the other, each chunk so many seconds later, and has the sizes of the chunks counted."""
 
-    def __init__(self, come_from, go_to, seconds):
-        self.come_from, self.go_to, self.seconds = come_from, go_to, seconds
+    def __init__(self, come_from, go_to, seconds, count):
+        self.come_from, self.go_to, self.seconds, self.count = come_from, go_to, seconds, count
         self.on_the_way = queue.SimpleQueue()
         for work in (self.take, self.pass_on):
             threading.Thread(target=work, daemon=True).start()
@@ -64,6 +85,7 @@ class Direction:
                 chunk = self.come_from.recv(CHUNK)
             except OSError:
                 chunk = b""
+            self.count(len(chunk))
             self.on_the_way.put((time.monotonic() + self.seconds, chunk))
 
     def pass_on(self):
