@@ -9,10 +9,6 @@ IsUserCount n = (1 ≤ n) × (n ≤ 64)
 abbrev pub IsUser : ℕ → Type 0
 IsUser n = n ≤ 63
 
--- a port that can be listened on
-abbrev pub IsPort : ℕ → Type 0
-IsPort n = (1 ≤ n) × (n ≤ 65535)
-
 -- how many workers a server may have
 abbrev pub IsWorkerCount : ℕ → Type 0
 IsWorkerCount n = (1 ≤ n) × (n ≤ 16)

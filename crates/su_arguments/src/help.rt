@@ -6,12 +6,16 @@ proved with a Rattle kit of logic dac8208d650f15bf";
 
 pub const ABOUT: &str = "A shared file store of which each operation can be undone
 
+People begin with `init`, `put` and `get`, and scripts with `client`.
+
 Exit status:
   0  what was asked for was done, refusals among the answers of a script
   1  a log was refused, which is printed; or a file, a stream or a link failed,
      a record of a server was refused, a client with --stop was refused, or
-     there was no memory, and standard error says which
-  2  a wrong command line, or a line of a script that is no command";
+     there was no memory, and standard error says which; or what people asked
+     for was refused, and what was committed before stays
+  2  a wrong command line, or a line of a script that is no command
+  3  a server showed people what it may not, and nothing of it was taken";
 
 pub const DESK_ABOUT: &str = "Runs a script from standard input, and answers it on standard output
 

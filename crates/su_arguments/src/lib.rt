@@ -1,11 +1,11 @@
 //! The command line of `sundr`: what its words ask for, and the texts of its help.
 #![tactic(auto)]
 
-mod drafts;
 mod help;
+mod keys;
 mod line;
-mod options;
 mod serving;
 
-pub use line::{Line, LineFault, line_of};
+pub use line::{Line, line_of};
 pub use serving::{ClientArgs, ServeArgs};
+pub use su_line::LineFault;

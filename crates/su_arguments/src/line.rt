@@ -3,15 +3,13 @@ ghost use Rattle.std.specs.Prelude.{◌≡◌, IfOk, IfSome};
 ghost use Rattle.std.specs.Str.Parse.{digits_value};
 ghost use Rattle.su_bytes.specs.Format.{format_number};
 ghost use Rattle.su_lms.specs.ParameterSets.{height_of, width_of};
-ghost use Rattle.su_arguments.specs.declared.line.LineFault.TheVariants.{NoMemory};
 ghost use Rattle.su_arguments.specs.Line.{HasGoodNumbers};
 
-use crate::drafts::Draft;
 use crate::help::{
     ABOUT, AUDIT_ABOUT, AUDIT_ANSWERS, CLIENT_ANSWERS, DESK_ABOUT, DESK_ANSWERS, KEYGEN_ABOUT,
     LONG_VERSION,
 };
-use crate::options::{copy, keys_of, needed, needed_keys, option, usage};
+use crate::keys::{keys_of, needed_keys};
 use crate::serving::{
     ClientArgs, ServeArgs, backup_command, backup_of, client_command, client_of, serve_command,
     serve_of,
@@ -19,12 +17,15 @@ use crate::serving::{
 use clap::{Arg, ArgMatches, Command};
 use std::alloc::{AllocError, Global};
 use su_bytes::Format;
+use su_line::{Draft, LineFault, copy, needed, option, usage};
 use su_lms::Params;
-use thiserror::Error;
+use su_people_line::{PeopleLine, people_line_of, with_people};
 
 /// What a command line asks for.
 #[derive(Debug, Drop)]
 pub enum Line {
+    /// Does what people ask for, with files and folders.
+    People(PeopleLine),
     /// Reads a script for so many users, 1 to 64, whose changes are made in that format.
     Desk {
         users: u8,
@@ -55,24 +56,6 @@ pub enum Line {
     },
     /// A text for the standard output: help, or the version.
     Text(String),
-}
-
-/// Why there is no line.
-#[derive(Debug, Drop, Error)]
-pub enum LineFault {
-    /// The words make no command line; the text says why.
-    #[error("{0}")]
-    Usage(String),
-    #[error("out of memory")]
-    NoMemory,
-}
-
-impl From<AllocError> for LineFault {
-    ghost from_gives = { λ _ e. e ≡ NoMemory };
-
-    fn from(_refused: AllocError) -> LineFault {
-        LineFault::NoMemory
-    }
 }
 
 /// Reads what these words ask for, the first of which is the program's own name. `Usage` where they
@@ -106,8 +89,17 @@ fn asked(alloc: Global, matches: &ArgMatches<'_>) -> Result<Line, LineFault>
         Some(("serve", values)) => serve_of(alloc, values),
         Some(("client", values)) => client_of(alloc, values),
         Some(("backup", values)) => backup_of(alloc, values),
-        _ => Err(usage(alloc, "error: no such subcommand")),
+        Some((name, values)) => people(alloc, name, values),
+        None => Err(usage(alloc, "error: no such subcommand")),
     }
+}
+
+/// A subcommand for people.
+fn people(alloc: Global, name: &str, values: &ArgMatches<'_>) -> Result<Line, LineFault>
+    ensures { IfOk result HasGoodNumbers }
+{
+    let line = people_line_of(alloc, name, values)?;
+    Ok(Line::People(line))
 }
 
 /// Builds the whole command line, with help texts on the scripts of a desk and of a client.
@@ -121,7 +113,7 @@ fn program<'a>(
         .version("0.1.0")
         .long_version(LONG_VERSION)
         .subcommand_required(true);
-    Draft::of(program)
+    with_people(alloc, Draft::of(program))
         .subcommand(desk_command(alloc, desk_help))
         .subcommand(keygen_command(alloc))
         .subcommand(audit_command(alloc))

@@ -1,15 +1,16 @@
 // The command lines of a server, of its clients, and of its backups.
 ghost use Rattle.std.specs.Prelude.{IfOk, IfSome};
 ghost use Rattle.su_arguments.specs.Line.{HasGoodNumbers};
-ghost use Rattle.su_arguments.specs.Ranges.{IsPort, IsUser, IsWorkerCount, IsCapacity, IsTurnLimit, IsIdleLimit, IsSessionCount, IsCacheSize, IsTryCount, IsLeafCount};
+ghost use Rattle.su_line.specs.Port.{IsPort};
+ghost use Rattle.su_arguments.specs.Ranges.{IsUser, IsWorkerCount, IsCapacity, IsTurnLimit, IsIdleLimit, IsSessionCount, IsCacheSize, IsTryCount, IsLeafCount};
 
-use crate::drafts::Draft;
 use crate::help::{BACKUP_ABOUT, BACKUP_ANSWERS, CLIENT_ABOUT, SERVE_ABOUT};
-use crate::line::{Line, LineFault};
-use crate::options::{copy, flag, keys_of, needed, needed_keys, option, usage};
+use crate::keys::{keys_of, needed_keys};
+use crate::line::Line;
 use clap::{Arg, ArgMatches, Command};
 use std::alloc::{AllocError, Global};
 use std::net::{IpAddr, Ipv4Addr};
+use su_line::{Draft, LineFault, copy, flag, needed, option, usage};
 
 /// How many MiB of items a server has in memory at most, where nothing else is asked.
 const CACHE: u32 = 256;

@@ -18,7 +18,8 @@ user, in the same order for all: a name, a space and the public key.";
 
 pub const PUT_ABOUT: &str = "Writes files, and folders with -r, to the store
 
-They go into PATH where it is a folder, and else one LOCAL alone gets that name.
+A folder is put as PATH, and a file too, but into PATH where that is a folder.
+With / behind PATH, and where there are several, all go into PATH.
 What is there already isn't written again, so a put that was broken off goes on
 when it is given once more. A file that another user has changed since it was
 last got here is left as it is, unless --over is given. So
@@ -30,7 +31,9 @@ without -n writes it to /report.";
 
 pub const GET_ABOUT: &str = "Writes a file, or a folder with -r, of the store to LOCAL
 
-A file comes beside LOCAL and is then renamed, so none is ever half there; what
+A folder is written as LOCAL, and a file too, but into LOCAL where that is a
+folder. With / behind LOCAL it goes into that.
+A file comes beside its place and is then renamed, so none is half there; what
 is the same is left. A local file that was changed since it was last got is left
 as it is, unless --over is given. So
 

@@ -1,9 +1,11 @@
+//! `sundr init`, `put`, `get` and others keep a folder of a store for people.
 //! `sundr desk` reads a script on standard input, a command a line, and prints an answer for each.
 //! `sundr keygen` makes a key for signatures.
 //! `sundr audit` reads a log of commits, and tells whether all of them are taken.
 //! `sundr serve` serves a shared folder to the clients of its users.
 //! `sundr client` runs a script against a server.
 //! `sundr backup` copies what a running server has stored.
+//! The other subcommands are for people, with files and folders.
 #![tactic(auto)]
 
 ghost use Rattle.std.specs.Prelude.{◌≡◌, ℕ, List, Some, IfOk, ◌≤◌, length, string_bytes};
@@ -16,6 +18,7 @@ mod audits;
 mod backups;
 mod client_faults;
 mod clients;
+mod endings;
 mod faults;
 mod key_files;
 mod printing;
@@ -28,6 +31,7 @@ mod servers;
 use audits::audit;
 use backups::backup;
 use clients::client;
+use endings::Ended;
 use faults::tell_fault;
 use printing::print;
 use servers::serve;
@@ -43,16 +47,17 @@ use su_client_lines::CLIENT_WORDS;
 use su_desk_script::{DESK_WORDS, Ending, Fault, Status, run_desk};
 use su_keygen::{KeygenFault, make_key};
 use su_lms::Params;
+use su_people::run;
 
 fn main(rt: HostRuntime) -> ExitCode {
-    let status = match command_line(&rt) {
+    let ended = match command_line(&rt) {
         Ok(line) => {
             let reader = Prompting::new(&rt, rt.reader());
             carry_out(&rt, &rt, line, reader, &mut io::writer(&rt))
         }
-        Err(fault) => refuse(&rt, &fault),
+        Err(fault) => Ended::Program(refuse(&rt, &fault)),
     };
-    ExitCode::from(status.code())
+    ExitCode::from(ended.code())
 }
 
 /// Reads what the arguments ask for. Arguments that are no text are a wrong command line.
@@ -79,7 +84,7 @@ fn carry_out<T, R: Read + Drop, W: Write>(
     line: Line,
     reader: R,
     writer: &mut W,
-) -> Status
+) -> Ended
 where
     T: Net<Listener = TcpListener, Stream = TcpStream> + Threads + Wait + Sync,
     requires { HasGoodNumbers line }
@@ -88,31 +93,36 @@ where
         → CarriesOut line input before (W.contents writer.new) result }
 {
     match line {
-        Line::Desk { users, format } => run_script(rt, users, format, reader, writer),
+        Line::People(line) => Ended::People(run(rt, host, &line, writer)),
+        Line::Desk { users, format } => {
+            Ended::Program(run_script(rt, users, format, reader, writer))
+        }
         Line::Keygen {
             entropy,
             out,
             params,
-        } => new_key(
+        } => Ended::Program(new_key(
             rt,
             host,
             entropy.as_ref().map(|path| path.as_str()),
             out.as_str(),
             params,
             writer,
-        ),
-        Line::Audit { log, keys } => audit(rt, host, log.as_str(), keys.as_slice(), writer),
-        Line::Serve(args) => serve(rt, host, &args),
-        Line::Client(args) => client(rt, host, &args, reader, writer),
-        Line::Backup { port, to, keys } => backup(
+        )),
+        Line::Audit { log, keys } => {
+            Ended::Program(audit(rt, host, log.as_str(), keys.as_slice(), writer))
+        }
+        Line::Serve(args) => Ended::Program(serve(rt, host, &args)),
+        Line::Client(args) => Ended::Program(client(rt, host, &args, reader, writer)),
+        Line::Backup { port, to, keys } => Ended::Program(backup(
             rt,
             host,
             port,
             to.as_str(),
             keys.as_slice(),
             writer,
-        ),
-        Line::Text(text) => print(rt, text.as_str(), writer),
+        )),
+        Line::Text(text) => Ended::Program(print(rt, text.as_str(), writer)),
     }
 }
 

@@ -1,0 +1,82 @@
+// How a commit changed the bytes of a file.
+use crate::histories::names_of;
+use std::alloc::{AllocError, Global};
+use std::str;
+use su_bytes::{FileId, Refusal, Roster};
+use su_desk::{Desk, Entry};
+use su_history_text::FileNames;
+use su_op::{Change, Op};
+use su_people_session::{Keyless, Session, Trouble, name_of};
+
+/// Returns the text of `diff`: the bytes that stood where a commit wrote, and those that it wrote.
+/// The history before it is gone through once more for that. `NoOperation` where there is no
+/// commit of that number; refuses with a sentence one that wrote no bytes; `NoMemory`.
+pub fn diff<T>(session: &mut Session<'_, T, Keyless>, number: u64) -> Result<String, Trouble> {
+    let alloc = session.helper.rt.alloc();
+    let names = names_of(alloc, &mut session.member)?;
+    let team = session.helper.folder.team();
+    let entries = session.member.view().history();
+    let place = usize::try_from(number)
+        .unwrap_or(usize::MAX)
+        .saturating_sub(1);
+    let Some(entry) = entries.get(place) else {
+        return Err(Trouble::from(Refusal::NoOperation(number)));
+    };
+    let Change::Do(Op::Write(write)) = &entry.change else {
+        return Err(Trouble::told(format!(in alloc;
+            "commit {number} wrote no bytes: `sundr show {number}` tells what it did"
+        )));
+    };
+    let desk = desk_after(alloc, team.roster(alloc)?, &entries[..place])?;
+    let length = write.bytes.len() as u64;
+    let old = desk
+        .forest()
+        .read_at(write.file, u64::from(write.off), length)?;
+    let path = shown_file(alloc, &names, &write.file)?;
+    let author = name_of(alloc, team, entry.author)?;
+    let end = u64::from(write.off) + length;
+    let off = write.off;
+    let mut text = format!(in alloc; "{path}  bytes {off} to {end}, by {author}\n")?;
+    push_lines(&mut text, alloc, '-', &old)?;
+    push_lines(&mut text, alloc, '+', &write.bytes)?;
+    Ok(text)
+}
+
+/// Makes the desk of a history.
+fn desk_after(alloc: Global, roster: Roster, entries: &[Entry]) -> Result<Desk, Refusal> {
+    let mut desk = Desk::new(alloc, roster)?;
+    for entry in entries {
+        let change = entry.change.clone()?;
+        desk.apply_as(entry.format, entry.author, change)?;
+    }
+    Ok(desk)
+}
+
+/// Returns the path that leads to a file, or its number where none does.
+fn shown_file(alloc: Global, names: &FileNames, file: &FileId) -> Result<String, AllocError> {
+    match names.path_of(*file) {
+        Some(path) => su_spelling::shown(alloc, path),
+        None => format!(in alloc; "{file}"),
+    }
+}
+
+/// Appends each line of a text with a sign before it, or says that the bytes are no text.
+fn push_lines(
+    text: &mut String,
+    alloc: Global,
+    sign: char,
+    bytes: &[u8],
+) -> Result<(), AllocError> {
+    let Ok(lines) = str::from_utf8(bytes) else {
+        let count = bytes.len();
+        let line = format!(in alloc; "{sign}({count} bytes that are no text)\n")?;
+        return text.push_str(line.as_str());
+    };
+    for line in lines.lines() {
+        let shown = su_spelling::shown(alloc, line.as_bytes())?;
+        text.push(sign)?;
+        text.push_str(shown.as_str())?;
+        text.push('\n')?;
+    }
+    Ok(())
+}

@@ -1,0 +1,178 @@
+// Files and folders of the store are written to local ones.
+use std::alloc::{AllocError, Global};
+use std::str;
+use su_bytes::{Kind, NEWEST_FORMAT, Refusal};
+use su_local::{LocalKind, joined, kind_of, make_folder, read_whole, write_whole};
+use su_op::largest_file;
+use su_people_line::GetArgs;
+use su_people_session::{
+    Amount, Answer, Found, Keyless, Progress, Session, Trouble, is_of_state, last_name, named,
+    walked,
+};
+use su_person::Fault;
+
+/// What became of a get.
+#[derive(Debug, Drop)]
+struct Tally {
+    /// What was written.
+    written: Amount,
+    /// How many files were there already, as they are.
+    same: u64,
+}
+
+/// Writes the file or the folder at a path to a local one: what is the same there is left, and
+/// what differs too, unless it is to be written over. What can't be got is told, and the others go
+/// on. Refuses a path that leads to nothing, and with `WrongKind` a folder where folders aren't
+/// asked for; `NoMemory`.
+pub fn get_all<T>(
+    session: &mut Session<'_, T, Keyless>,
+    args: &GetArgs,
+    path: &[u8],
+) -> Result<Answer, Trouble> {
+    let alloc = session.helper.rt.alloc();
+    let all = walked(alloc, &mut session.member, path)?;
+    refuse_folder(alloc, path, &all, args.recursive)?;
+    let local = target_of(session.helper.rt, args.local.as_str(), path, &all)?;
+    let mut tally = Tally {
+        written: Amount::none(),
+        same: 0,
+    };
+    let mut is_partly = false;
+    session.helper.progress = Progress::new(session.helper.rt, "get", amount_of(&all));
+    for found in &all {
+        if let Err(trouble) = get_one(session, local.as_str(), args.over, path, found, &mut tally) {
+            session.helper.tell(&trouble);
+            is_partly = true;
+        }
+    }
+    session.helper.progress.clear();
+    let text = summary(alloc, path, &tally)?;
+    Ok(Answer { text, is_partly })
+}
+
+/// Returns the local path to which what is at a path is written: below the one that is given, under
+/// its own name, where that has `/` behind, or is a folder and a file is written; else that one.
+fn target_of(rt: &HostRuntime, local: &str, path: &[u8], all: &[Found]) -> Result<String, Trouble> {
+    let alloc = rt.alloc();
+    let is_file = all
+        .first()
+        .is_some_and(|found| found.stat.kind != Kind::Dir);
+    let is_folder = matches!(kind_of(rt, local), Ok(Some(LocalKind::Folder)));
+    let is_into = local.ends_with('/') || is_file && is_folder;
+    match str::from_utf8(last_name(path)) {
+        Ok(name) if is_into && !name.is_empty() => Ok(joined(alloc, local, name)?),
+        _ => Ok(String::from_str(alloc, local)?),
+    }
+}
+
+/// Returns how much there is to get.
+fn amount_of(all: &[Found]) -> Amount {
+    let mut amount = Amount::none();
+    for found in all {
+        if found.stat.kind != Kind::Dir {
+            amount.add(u64::from(found.stat.size));
+        }
+    }
+    amount
+}
+
+/// Refuses a folder where folders aren't asked for.
+fn refuse_folder(
+    alloc: Global,
+    path: &[u8],
+    all: &[Found],
+    is_recursive: bool,
+) -> Result<(), Trouble> {
+    match all.first() {
+        Some(found) if found.stat.kind == Kind::Dir && !is_recursive => {
+            let refusal = Refusal::WrongKind(found.file);
+            Err(Trouble::at(path, alloc, Fault::from(refusal)))
+        }
+        _ => Ok(()),
+    }
+}
+
+/// Writes a file, or makes a folder, and notes that the person has seen the file.
+fn get_one<T>(
+    session: &mut Session<'_, T, Keyless>,
+    local: &str,
+    over: bool,
+    path: &[u8],
+    found: &Found,
+    tally: &mut Tally,
+) -> Result<(), Trouble> {
+    let alloc = session.helper.rt.alloc();
+    let rt = session.helper.rt;
+    let local = local_of(alloc, local, path, found)?;
+    let local = local.as_str();
+    if found.stat.kind == Kind::Dir {
+        return match make_folder(rt, local) {
+            Ok(()) => Ok(()),
+            Err(reason) => Err(Trouble::local(local, alloc, reason)),
+        };
+    }
+    let at = found.path.as_slice();
+    let bytes = named(alloc, at, session.member.contents_held(found.file))?;
+    if is_same(rt, local, &bytes, over)? {
+        tally.same = tally.same.saturating_add(1);
+    } else {
+        if let Err(reason) = write_whole(rt, local, &bytes) {
+            return Err(Trouble::local(local, alloc, reason));
+        }
+        tally.written.add(bytes.len() as u64);
+    }
+    session.helper.progress.file_done(bytes.len() as u64);
+    let (head, _) = session.member.view().head();
+    session.helper.folder.note_seen(head, at)?;
+    Ok(())
+}
+
+/// Returns the local path of what was found behind a path of the store.
+fn local_of(alloc: Global, local: &str, path: &[u8], found: &Found) -> Result<String, Trouble> {
+    let behind = found.path.get(path.len()..).unwrap_or(&[]);
+    let Ok(behind) = str::from_utf8(behind) else {
+        let shown = su_spelling::shown(alloc, found.path.as_slice())?;
+        return Err(Trouble::told(format!(in alloc;
+            "{shown}: its name is no text, so it is left out"
+        )));
+    };
+    if is_of_state(behind.as_bytes()) {
+        let shown = su_spelling::shown(alloc, found.path.as_slice())?;
+        return Err(Trouble::told(format!(in alloc;
+            "{shown}: it has the name of a state folder, so it is left out"
+        )));
+    }
+    let behind = behind.trim_start_matches('/');
+    if behind.is_empty() {
+        return Ok(String::from_str(alloc, local)?);
+    }
+    Ok(joined(alloc, local, behind)?)
+}
+
+/// Tells whether a local file has these bytes already. Where it has others, which aren't to be
+/// written over, that is told.
+fn is_same(rt: &HostRuntime, local: &str, bytes: &[u8], over: bool) -> Result<bool, Trouble> {
+    let alloc = rt.alloc();
+    match kind_of(rt, local) {
+        Ok(None) => return Ok(false),
+        Ok(Some(LocalKind::File { .. })) => {}
+        Ok(Some(_)) => return Err(Trouble::told(format!(in alloc; "{local}: it is no file"))),
+        Err(reason) => return Err(Trouble::local(local, alloc, reason)),
+    }
+    match read_whole(rt, local, largest_file(NEWEST_FORMAT)) {
+        Ok(Some(held)) if held.as_slice() == bytes => Ok(true),
+        Ok(_) if over => Ok(false),
+        Ok(_) => Err(Trouble::told(format!(in alloc;
+            "{local}: it differs from what is in the store: put it first, or get --over"
+        ))),
+        Err(reason) => Err(Trouble::local(local, alloc, reason)),
+    }
+}
+
+/// Returns the line that tells what was got.
+fn summary(alloc: Global, path: &[u8], tally: &Tally) -> Result<String, AllocError> {
+    let path = su_spelling::shown(alloc, path)?;
+    let Amount { files, bytes } = tally.written;
+    let same = tally.same;
+    format!(in alloc; "got {path}: {files} files, {bytes} bytes; {same} files were there already\n")
+}

@@ -1,0 +1,470 @@
+#!/usr/bin/env python3
+"""Tries what `sundr` does for people: state folders of two users at one server, a tree of files put and got back, a conflict, an undo
+and one that is blocked, heads that are compared, puts that are killed, and a server that was set back.
+
+usage: people.py [PART..]
+
+Prints a line for each case that isn't as it should be, and last 'N passed, M failed'.
+"""
+import json
+import os
+import pty
+import random
+import re
+import shutil
+import signal
+import socket
+import subprocess
+import sys
+import tempfile
+import time
+
+HERE = os.path.dirname(os.path.abspath(__file__))
+TOP = os.path.dirname(HERE)
+PROGRAM = os.environ.get("SUNDR", f"{TOP}/crates/sundr/out/sundr")
+FILES = int(os.environ.get("PEOPLE_FILES", "200"))
+KILLS = int(os.environ.get("PEOPLE_KILLS", "50"))
+WAIT = 120  # seconds that a command may take at most
+
+passed = failed = 0
+
+
+def check(name, is_so, seen=""):
+    global passed, failed
+    if is_so:
+        passed += 1
+    else:
+        failed += 1
+        print(f"{name}: {seen!r}", flush=True)
+
+
+class Ended:
+    """What a command printed and told, and its status."""
+
+    def __init__(self, process, printed, told):
+        self.status, self.printed, self.told = process.returncode, printed, told.decode(errors="replace")
+
+    @property
+    def text(self):
+        return self.printed.decode(errors="replace")
+
+    def __repr__(self):
+        return f"status {self.status}, printed {self.text[-600:]!r}, told {self.told[-600:]!r}"
+
+
+def run(*words, at=None):
+    process = subprocess.Popen([PROGRAM, *map(str, words)], cwd=at, stdin=subprocess.DEVNULL, stdout=subprocess.PIPE, stderr=subprocess.PIPE)
+    try:
+        printed, told = process.communicate(timeout=WAIT)
+    except subprocess.TimeoutExpired:
+        process.kill()
+        printed, told = process.communicate()
+    return Ended(process, printed, told)
+
+
+def free_port():
+    with socket.socket() as it:
+        it.bind(("127.0.0.1", 0))
+        return it.getsockname()[1]
+
+
+class Server:
+    """A server with a store, which can be stopped, set back and started again."""
+
+    def __init__(self, room, publics):
+        self.store, self.publics, self.port, self.process = f"{room}/store", publics, free_port(), None
+
+    def start(self):
+        words = ["serve", "--port", self.port, "--workers", 4, "--capacity", 100000, "--store", self.store, *self.publics]
+        self.process = subprocess.Popen([PROGRAM, *map(str, words)], stdin=subprocess.PIPE, stdout=subprocess.DEVNULL, stderr=subprocess.DEVNULL)
+        for _ in range(600):
+            try:
+                socket.create_connection(("127.0.0.1", self.port)).close()
+                return
+            except OSError:
+                time.sleep(0.05)
+        raise SystemExit("the server doesn't listen")
+
+    def stop(self):
+        if self.process:
+            self.process.stdin.close()
+            self.process.terminate()
+            self.process.wait()
+            self.process = None
+
+
+class Team:
+    """Users with keys, a server, and a state folder for each."""
+
+    def __init__(self, room, names=("ann", "bob")):
+        self.room, self.names = room, names
+        publics, lines = [], ["sundr team 1"]
+        for name in names:
+            ended = run("keygen", "--out", f"{room}/{name}.key", "--height", 10, "--width", 4)
+            check(f"keygen {name}", ended.status == 0, ended)
+            publics.append(f"{room}/{name}.key.pub")
+            lines.append(f"{name} {ended.text.strip()}")
+        self.file = f"{room}/team.txt"
+        with open(self.file, "w") as it:
+            it.write("".join(f"{line}\n" for line in lines))
+        self.server = Server(room, publics)
+        self.server.start()
+
+    def init(self, name):
+        ended = run("init", self.at(name), "--server", f"localhost:{self.server.port}", "--team", self.file, "--user", name, "--key",
+                    f"{self.room}/{name}.key")
+        check(f"init {name}", ended.status == 0 and "team of" in ended.text, ended)
+        return ended
+
+    def at(self, name):
+        return f"{self.room}/{name}"
+
+    def do(self, name, *words):
+        return run(words[0], "--in", self.at(name), *words[1:])
+
+    def end(self):
+        self.server.stop()
+
+
+def team_of(room, names=("ann", "bob")):
+    team = Team(room, names)
+    digests = set()
+    for name in names:
+        ended = team.init(name)
+        digests.update(re.findall(r"digest ((?:[0-9a-f]{8} ?){8})", ended.text))
+    check("one digest of the team", len(digests) == 1, digests)
+    return team
+
+
+def make_tree(at, files, seed):
+    """A tree of files of many sizes, of which some are empty, and some of several blocks."""
+    chance = random.Random(seed)
+    os.makedirs(at)
+    for number in range(files):
+        folder = f"{at}/d{number % 7}" if number % 3 else f"{at}/d{number % 7}/e{number % 5}"
+        os.makedirs(folder, exist_ok=True)
+        size = chance.choice([0, 1, 100, 4095, 4096, 4097, 20000, 70000])
+        with open(f"{folder}/f {number} é", "wb") as it:
+            it.write(chance.randbytes(size))
+
+
+def tree_of(at):
+    found = {}
+    for folder, _, files in os.walk(at):
+        for name in files:
+            path = f"{folder}/{name}"
+            with open(path, "rb") as it:
+                found[os.path.relpath(path, at)] = it.read()
+    return found
+
+
+def number_in(text):
+    found = re.findall(r"commit (\d+)", text)
+    return int(found[-1]) if found else 0
+
+
+def walk(room):
+    """Two people at one folder tree."""
+    team = team_of(room)
+    try:
+        walk_of(room, team)
+    finally:
+        team.end()
+
+
+def walk_of(room, team):
+    make_tree(f"{room}/tree", FILES, 1)
+    ended = team.do("ann", "put", "-n", "-r", f"{room}/tree", "/tree")
+    check("a dry run tells", ended.status == 0 and "would put" in ended.text, ended)
+    ended = team.do("ann", "ls", "/")
+    check("a dry run puts nothing", ended.status == 0 and ended.text == "", ended)
+    ended = team.do("ann", "put", "-r", f"{room}/tree", "/tree")
+    check("a tree is put", ended.status == 0 and "put /tree" in ended.text, ended)
+    ended = team.do("ann", "put", "-r", f"{room}/tree", "/tree")
+    check("it isn't put again", ended.status == 0 and f"{FILES} files are there already" in ended.text, ended)
+    ended = team.do("bob", "get", "-r", "/tree", f"{room}/got")
+    check("the tree is got", ended.status == 0, ended)
+    check("byte by byte", tree_of(f"{room}/tree") == tree_of(f"{room}/got"))
+    ended = team.do("bob", "get", "-r", "/tree", f"{room}/got")
+    check("it isn't got again", ended.status == 0 and f"{FILES} files were there already" in ended.text, ended)
+    names(room, team)
+    targets(room, team)
+    progress(room, team)
+    conflict(room, team)
+    undos(room, team)
+    heads(team)
+    forgets(room, team)
+
+
+def names(room, team):
+    ended = team.do("bob", "mkdir", "-p", "/report/old")
+    check("folders are made", ended.status == 0 and "done, with" in ended.text, ended)
+    ended = team.do("bob", "ls", "/")
+    check("a folder is listed", ended.text == "report/\ntree/\n", ended)
+    ended = team.do("bob", "ls", "--json", "/")
+    check("as JSON too", [it["path"] for it in json.loads(ended.printed or b"[]")] == ["/report", "/tree"], ended)
+    with open(f"{room}/plan", "w") as it:
+        it.write("meet at nine\n")
+    ended = team.do("ann", "put", f"{room}/plan", "/report")
+    check("a file is put into a folder", ended.status == 0, ended)
+    ended = team.do("bob", "cat", "/report/plan")
+    check("its bytes are written", (ended.status, ended.printed) == (0, b"meet at nine\n"), ended)
+    ended = team.do("bob", "ls", "-l", "/report")
+    check("a long list tells who changed it", re.search(r"plan +13  commit \d+ ann", ended.text), ended)
+    ended = team.do("ann", "mv", "/report/plan", "/report/draft")
+    check("a file gets another name", ended.status == 0, ended)
+    ended = team.do("ann", "ln", "/report/draft", "/report/plan")
+    check("and one more", ended.status == 0, ended)
+    ended = team.do("ann", "rm", "/report/draft")
+    check("a name is taken away", ended.status == 0, ended)
+    ended = team.do("ann", "rm", "/report")
+    check("a folder with names isn't", ended.status == 1 and "NotEmpty" in ended.told, ended)
+    ended = team.do("ann", "cat", "/report/none")
+    check("what isn't there is told", ended.status == 1 and "/report/none: there is nothing of that name (18 NoName)" in ended.told, ended)
+    ended = team.do("bob", "rm", "-r", "/report/old")
+    check("a folder is taken away", ended.status == 0, ended)
+    ended = run("ls", at=f"{team.at('ann')}")
+    check("the folder is found where one stands", ended.status == 0 and ended.text == "report/\ntree/\n", ended)
+    ended = run("ls", at=room)
+    check("where there is none, that is told", ended.status == 1 and "sundr init" in ended.told, ended)
+
+
+def targets(room, team):
+    """Where what is put and got goes: a folder as the path, and below it where `/` is behind; a file into a folder."""
+    os.makedirs(f"{room}/small/in/.sundr")
+    for name in ("one", "in/two", "in/.sundr/log"):
+        with open(f"{room}/small/{name}", "w") as it:
+            it.write(f"{name}\n")
+    small = {"one": b"one\n", "in/two": b"in/two\n"}
+    check("a folder is put as the path", team.do("ann", "put", "-r", f"{room}/small", "/a").status == 0)
+    ended = team.do("ann", "put", "-r", f"{room}/small", "/a")
+    check("by the same command to the same place", ended.status == 0 and "2 files are there already" in ended.text, ended)
+    ended = team.do("ann", "put", "-r", f"{room}/small", "/a/")
+    check("below it where / is behind", ended.status == 0 and "2 files" in ended.text, ended)
+    ended = team.do("ann", "ls", "/a/small/")
+    check("which is there", ended.text == "in/\none\n", ended)
+    ended = team.do("ann", "ls", "/a/in")
+    check("what belongs to a state folder isn't", ended.text == "two\n", ended)
+    ended = team.do("ann", "put", f"{team.at('ann')}/.sundr/team", "/a")
+    check("nor is it when it is named", ended.status == 1 and "state folder" in ended.told, ended)
+    ended = team.do("bob", "get", "-r", "/a/small", f"{room}/small of bob")
+    check("it is got", ended.status == 0 and tree_of(f"{room}/small of bob") == small, ended)
+    ended = team.do("bob", "get", "-r", "/a/small", f"{room}/small of bob/")
+    check("and below a folder", ended.status == 0 and tree_of(f"{room}/small of bob/small") == small, ended)
+    ended = team.do("bob", "get", "/a/one", f"{room}/small of bob/in")
+    check("a file is got into a folder", ended.status == 0 and os.path.exists(f"{room}/small of bob/in/one"), ended)
+    check("a folder of that name is made", team.do("ann", "mkdir", "/a/.sundr").status == 0)
+    check("with a file", team.do("ann", "put", f"{room}/small/one", "/a/.sundr/team").status == 0)
+    ended = team.do("bob", "get", "-r", "--over", "/a", team.at("bob"))
+    check("it isn't got into a state folder", ended.status == 1 and "name of a state folder" in ended.told, ended)
+    check("which still works", team.do("bob", "ls", "/a").status == 0)
+    ended = team.do("ann", "mv", "/a/none", "/a/some")
+    check("the path that leads to nothing is named", ended.status == 1 and "/a/none: there is nothing" in ended.told, ended)
+    check("what was for this alone goes", team.do("ann", "rm", "-r", "/a").status == 0)
+
+
+def told_on_terminal(*words):
+    """What a command tells where standard error is a terminal."""
+    ours, theirs = pty.openpty()
+    process = subprocess.Popen([PROGRAM, *map(str, words)], stdin=subprocess.DEVNULL, stdout=subprocess.DEVNULL, stderr=theirs)
+    os.close(theirs)
+    told = b""
+    while True:
+        try:
+            piece = os.read(ours, 65536)
+        except OSError:  # the other end is closed
+            piece = b""
+        if not piece:
+            break
+        told += piece
+    os.close(ours)
+    process.wait(WAIT)
+    return told.decode(errors="replace")
+
+
+def progress(room, team):
+    """How far a put is stands on one line of a terminal, which is cleared at the end, and nowhere else."""
+    os.makedirs(f"{room}/large")
+    for number in range(5):
+        with open(f"{room}/large/{number}", "wb") as it:
+            it.write(bytes([number]) * 200000)
+    told = told_on_terminal("put", "--in", team.at("ann"), "-r", f"{room}/large", "/large")
+    check("a terminal is told of each file", all(f"put  {n}/5 files" in told for n in range(1, 6)), told)
+    check("of bytes and commits", "1.0/1.0 MB  26 commits" in told, told)
+    check("on one line that is cleared", "\n" not in told and told.endswith("\r\x1b[K"), told)
+    ended = team.do("bob", "get", "-r", "/large", f"{room}/large of bob")
+    check("nothing else is", ended.status == 0 and ended.told == "", ended)
+    check("what was for this alone goes", team.do("ann", "rm", "-r", "/large").status == 0)
+
+
+def conflict(room, team):
+    plan = f"{room}/plan"
+    ended = team.do("bob", "get", "/report/plan", f"{room}/plan of bob")
+    check("a file is got", ended.status == 0, ended)
+    with open(plan, "w") as it:
+        it.write("meet at ten\n")
+    check("its author changes it", team.do("ann", "put", plan, "/report/plan").status == 0)
+    with open(f"{room}/plan of bob", "w") as it:
+        it.write("meet at noon\n")
+    ended = team.do("bob", "put", f"{room}/plan of bob", "/report/plan")
+    check("who hasn't seen that doesn't write over it", ended.status == 1 and "ann changed it with commit" in ended.told, ended)
+    ended = team.do("bob", "cat", "/report/plan")
+    check("it stays", ended.printed == b"meet at ten\n", ended)
+    ended = team.do("bob", "get", "/report/plan", f"{room}/plan of bob")
+    check("a local file that differs stays too", ended.status == 1 and "get --over" in ended.told, ended)
+    ended = team.do("bob", "put", "--over", f"{room}/plan of bob", "/report/plan")
+    check("unless it is to be", ended.status == 0, ended)
+    ended = team.do("ann", "cat", "/report/plan")
+    check("which the other sees", ended.printed == b"meet at noon\n", ended)
+
+
+def undos(room, team):
+    ended = team.do("bob", "history", "-n", "1", "/report/plan")
+    check("the history tells the last change", ended.status == 0 and "bob" in ended.text and "13 bytes" in ended.text, ended)
+    last = int((re.search(r"\d+", ended.text) or [0])[0])
+    ended = team.do("bob", "history", "--json", "-n", "1", "/report/plan")
+    check("as JSON", ended.status == 0 and json.loads(ended.printed or b"[]")[0]["last"] == last, ended)
+    ended = team.do("bob", "undo", last)
+    check("it is taken back", ended.status == 0 and "done, with commit" in ended.text, ended)
+    ended = team.do("ann", "cat", "/report/plan")
+    check("and the bytes before are there", ended.printed == b"meet at ten\n", ended)
+    ended = team.do("bob", "undo", last)
+    check("once", ended.status == 1 and "AlreadyUndone" in ended.told, ended)
+    ended = team.do("bob", "show", last)
+    check("a commit is shown", ended.status == 0 and f"commit {last} by bob" in ended.text, ended)
+    ended = team.do("bob", "show", "--json", last)
+    shown = json.loads(ended.printed or b"{}")
+    check("as JSON", (shown.get("number"), shown.get("author"), shown.get("lines", [{}])[0].get("last")) == (last, "bob", last), ended)
+    # ann's change is blocked by bob's take, which read all of it
+    ended = team.do("ann", "history", "/report/plan")
+    mine = [int(it) for it in re.findall(r"^(?:\d+\.\.| *)(\d+) +ann  wrote", ended.text, re.M)]
+    check("ann's own change is in the history", mine, ended)
+    ended = team.do("ann", "undo", mine[0])
+    check("a blocked undo is refused", ended.status == 1 and "Blocked" in ended.told, ended)
+    ended = team.do("ann", "undo", "--why", mine[0])
+    check("why is told", ended.status == 0 and "bob" in ended.text and "took" in ended.text, ended)
+    ended = team.do("ann", "undo", "--why", "--json", mine[0])
+    check("as JSON", ended.status == 0 and json.loads(ended.printed or b"[]")[-1]["author"] == "bob", ended)
+    ended = team.do("bob", "undo", "--with-blockers", mine[0])
+    check("nor is what others did for another's", ended.status == 1 and "only ann can" in ended.told, ended)
+    ended = team.do("ann", "undo", "--with-blockers", mine[0])
+    check("what is another's isn't taken back", ended.status == 1 and "only bob can" in ended.told, ended)
+    with open(f"{room}/own", "w") as it:
+        it.write("one\n")
+    check("a file of one's own", team.do("ann", "put", f"{room}/own", "/tree/own").status == 0)
+    ended = team.do("ann", "history", "-n", "1")
+    first = int((re.search(r"\d+", ended.text) or [0])[0])
+    check("another name for it", team.do("ann", "mv", "/tree/own", "/tree/mine").status == 0)
+    ended = team.do("ann", "undo", "--with-blockers", first)
+    check("one's own blockers are taken back", ended.status == 0, ended)
+    ended = team.do("ann", "cat", "/tree/own")
+    check("so the file is gone", ended.status == 1 and "NoName" in ended.told, ended)
+
+
+def heads(team):
+    told = {name: json.loads(team.do(name, "status", "--json").printed or b"{}") for name in team.names}
+    ann, bob = told["ann"], told["bob"]
+    check("both see one head", ann.get("digest") == bob.get("digest") and ann.get("head") == bob.get("head"), told)
+    ended = team.do("ann", "compare", bob["head"], bob["digest"])
+    check("which is the same", ended.status == 0 and ended.text.startswith("the same"), ended)
+    ended = team.do("ann", "compare", bob["head"] + 1, bob["digest"])
+    check("a later one is ahead", ended.status == 0 and ended.text.startswith("ahead"), ended)
+    ended = team.do("ann", "compare", bob["head"], "00000000 " + bob["digest"][9:])
+    check("another one is of a fork", ended.status == 1 and "forked" in ended.told, ended)
+    ended = team.do("ann", "verify")
+    check("the log is verified", ended.status == 0 and ended.text == f"ok {ann['head']}\n", ended)
+
+
+def forgets(room, team):
+    """A server that was set back is noticed by who has a commit that it lacks, and nothing of it is taken."""
+    team.server.stop()
+    shutil.copytree(team.server.store, f"{room}/older")
+    team.server.start()
+    with open(f"{room}/new", "w") as it:
+        it.write("new\n")
+    check("one more file", team.do("ann", "put", f"{room}/new", "/tree/new").status == 0)
+    team.server.stop()
+    shutil.rmtree(team.server.store)
+    shutil.copytree(f"{room}/older", team.server.store)
+    team.server.start()
+    log = f"{team.at('ann')}/.sundr/log"
+    before = open(log, "rb").read()
+    ended = team.do("ann", "status")
+    check("a server that was set back is noticed", ended.status == 3 and "OwnMissing" in ended.told, ended)
+    ended = team.do("ann", "put", f"{room}/new", "/tree/new")
+    check("nothing is put there", ended.status == 3, ended)
+    check("the log stays", open(log, "rb").read() == before)
+    ended = team.do("bob", "status")
+    check("who lacks nothing goes on", ended.status == 0, ended)
+
+
+def cut_log(room):
+    """A log whose last entry was cut is cut there; one that is damaged is refused."""
+    team = team_of(room)
+    try:
+        make_tree(f"{room}/tree", 5, 2)
+        check("a tree is put", team.do("ann", "put", "-r", f"{room}/tree", "/tree").status == 0)
+        log = f"{team.at('ann')}/.sundr/log"
+        whole = open(log, "rb").read()
+        with open(log, "wb") as it:
+            it.write(whole[:-7])
+        ended = team.do("ann", "ls", "/tree")
+        check("a cut entry is dropped", ended.status == 0 and "was cut" in ended.told, ended)
+        check("and fetched again", open(log, "rb").read() == whole)
+        with open(log, "wb") as it:
+            it.write(whole[:200] + bytes([whole[200] ^ 1]) + whole[201:])
+        ended = team.do("ann", "ls", "/tree")
+        check("a damaged log is refused", ended.status == 1 and ".sundr/log" in ended.told, ended)
+        check("and left", len(open(log, "rb").read()) == len(whole))
+    finally:
+        team.end()
+
+
+def kills(room):
+    """A put that is killed goes on by the same command, and in the end what is there is what was put."""
+    team = team_of(room)
+    chance = random.Random(3)
+    try:
+        for number in range(KILLS):
+            tree = f"{room}/tree{number}"
+            make_tree(tree, 6, 100 + number)
+            words = ["put", "--in", team.at("ann"), "-r", tree, f"/t{number}"]
+            process = subprocess.Popen([PROGRAM, *words], stdin=subprocess.DEVNULL, stdout=subprocess.DEVNULL, stderr=subprocess.DEVNULL)
+            time.sleep(chance.uniform(0.1, 1.0))
+            process.send_signal(signal.SIGKILL)
+            process.wait()
+            ended = run(*words)
+            check(f"the put {number} goes on", ended.status == 0, ended)
+            ended = team.do("bob", "get", "-r", f"/t{number}", f"{room}/got{number}")
+            check(f"the tree {number} is got", ended.status == 0, ended)
+            check(f"it is what was put ({number})", tree_of(tree) == tree_of(f"{room}/got{number}"))
+            shutil.rmtree(f"{room}/got{number}")
+    finally:
+        team.end()
+
+
+def example(room):
+    """The walk of examples/ prints what it should."""
+    ended = subprocess.run([f"{TOP}/examples/folder", PROGRAM], capture_output=True, timeout=4 * WAIT)
+    with open(f"{TOP}/examples/folder.out", "rb") as it:
+        wanted = it.read()
+    check("the example", (ended.stdout, ended.stderr, ended.returncode) == (wanted, b"", 0), (ended.stdout[-3000:], ended.stderr, ended.returncode))
+
+
+PARTS = {"walk": walk, "cut_log": cut_log, "kills": kills, "example": example}
+
+
+def main():
+    for name in sys.argv[1:] or PARTS:
+        room = tempfile.mkdtemp(prefix="sundr-people-")
+        try:
+            PARTS[name](room)
+        except Exception as fault:
+            check(name, False, repr(fault))
+        finally:
+            shutil.rmtree(room, ignore_errors=True)
+    print(f"{passed} passed, {failed} failed")
+    sys.exit(1 if failed else 0)
+
+
+main()
