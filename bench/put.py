@@ -13,7 +13,8 @@ is measured once, by the clock; a tiny folder is put and got before. What was go
 - seconds of `sundr ls`, the best of five, with a log of 10,000 and of 100,000 commits in the state folder, and of the `sundr init` that
   took them. Their author's key has a tree of height 20 (bench/audit.py makes it), since keys of `sundr keygen` sign 1,024 times; another
   key stands in the state folder for it, as none of the two commands signs. These servers keep their stores in memory (/dev/shm);
-- the peak of memory (VmHWM, each 2 ms) of a put of 100 files of 1 MB into an empty store, and of `sundr ls` after it.
+- the peak of memory (VmHWM, each 2 ms) of a put of 100 files of 1 MB into an empty store, and of `sundr ls` after it; and of `sundr ls`
+  where one file of 1 MB was put 100 times with other bytes.
 
 SUNDR names another program to measure.
 """
@@ -332,6 +333,20 @@ def memory(room, sizes):
         print(f"{team.head():,} commits have been made by then", flush=True)
 
 
+def memory_of_changes(room, sizes):
+    """The peak of memory of an `ls`, where as many bytes were written over and over to one file, so that the tree is small."""
+    os.makedirs(f"{room}/changes")
+    with contextlib.ExitStack() as closing:
+        Sundr(f"{room}/changes", closing)
+        state = ["--in", f"{room}/changes/ann"]
+        for _ in range(sizes["memory"]):
+            with open(f"{room}/changed", "wb") as it:
+                it.write(os.urandom(MEGABYTE))
+            run([*serving.program, "put", *state, f"{room}/changed", "/changed"])
+        took, peak = peak_of([*serving.program, "ls", *state, "/"])
+        print(f"ls       a file of 1 MB that was put {sizes['memory']} times: {peak / MEGABYTE:,.1f} MB at the peak, {took:.3f} s", flush=True)
+
+
 def main():
     parser = argparse.ArgumentParser(description=__doc__.splitlines()[0])
     parser.add_argument("folder", nargs="?", help="where the log of the most commits is kept for the next time")
@@ -344,6 +359,7 @@ def main():
         compare_peers(room, sizes)
         starts(room, words.folder or room, sizes)
         memory(room, sizes)
+        memory_of_changes(room, sizes)
 
 
 if __name__ == "__main__":
