@@ -1,4 +1,5 @@
 pub mod History
+pub mod KeptEntry
 pub mod Applied
 pub mod Blocker
 pub mod Version

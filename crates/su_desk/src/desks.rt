@@ -12,7 +12,7 @@ ghost use Rattle.su_desk.specs.Tried.{IsKeptAt};
 
 mod attempts;
 
-use crate::entries::{DeskReply, Entry};
+use crate::entries::{DeskReply, Entry, KeptEntry};
 use crate::kept::{KeptOperation, blocker_at, live_index, undo_index};
 use crate::versions::{first_versions, raise};
 use std::alloc::Global;
@@ -29,7 +29,7 @@ use su_used_keys::UsedKeys;
 #[derive(Drop)]
 pub struct Desk {
     roster: Roster,
-    entries: Vec<Entry>,
+    entries: Vec<KeptEntry>,
     kept: Vec<KeptOperation>,
     counters: Vec<(Principal, u64)>,
     used: UsedKeys,
@@ -83,7 +83,7 @@ impl Desk {
     }
 
     /// Lends the history: its entries, in order.
-    pub fn history(&self) -> &[Entry]
+    pub fn history(&self) -> &[KeptEntry]
         ensures { result.now ≡ self.now.history }
     {
         self.entries.as_slice()
@@ -168,7 +168,7 @@ impl Desk {
         ensures { result ≡ format_after self.now.history }
     {
         match self.entries.last() {
-            Some(entry) => entry.format,
+            Some(entry) => entry.format(),
             None => Format::V1,
         }
     }
@@ -235,11 +235,13 @@ impl Desk {
         accepted.perform(self.alloc, &mut self.forest)?;
         raise(&mut self.counters, author, footprint.writes.as_slice());
         let change = Change::Do(op);
-        self.entries.push_reserved(Entry {
+        let entry = Entry {
             author,
             format,
             change,
-        });
+        };
+        self.entries
+            .push_reserved(KeptEntry::new(self.alloc, entry));
         let number = self.entries.len() as u64;
         self.kept.push_reserved(KeptOperation {
             number,
@@ -285,11 +287,13 @@ impl Desk {
         let undone = self.kept.remove(index);
         raise(&mut self.counters, author, &undone.footprint.writes);
         let change = Change::Undo(number);
-        self.entries.push_reserved(Entry {
+        let entry = Entry {
             author,
             format,
             change,
-        });
+        };
+        self.entries
+            .push_reserved(KeptEntry::new(self.alloc, entry));
         Ok((index, undone))
     }
 
@@ -304,11 +308,13 @@ impl Desk {
         self.used.add(key);
         raise(&mut self.counters, author, &[]);
         let change = Change::Rekey(key);
-        self.entries.push_reserved(Entry {
+        let entry = Entry {
             author,
             format,
             change,
-        });
+        };
+        self.entries
+            .push_reserved(KeptEntry::new(self.alloc, entry));
         Ok(self.entries.len() as u64)
     }
 

@@ -1,9 +1,13 @@
 // What a history is made of, and what is answered to a change.
 ghost use Rattle.std.specs.Prelude.{◌≡◌, option_copied};
-ghost use Rattle.su_desk.specs.History.{entry_at, undoer};
+ghost use Rattle.su_desk.specs.History.{entry_at, undoer, undoes};
+ghost use Rattle.su_desk.specs.KeptEntry.{without_bytes, written};
 
+use http_server::Log;
+use std::alloc::Global;
+use std::marker::Model;
 use su_bytes::{Format, Refusal, User};
-use su_op::Change;
+use su_op::{Change, Op, Write};
 
 /// An entry of the history: who made which change, and in which format.
 #[derive(Debug, Drop)]
@@ -13,8 +17,81 @@ pub struct Entry {
     pub change: Change,
 }
 
-impl Entry {
-    ghost use Rattle.su_desk.specs.History.{undoes};
+/// An entry as a history keeps it: all of it but the bytes that a write has, which no memory holds;
+/// how many these are is known. Its model is the whole entry.
+#[derive(Drop)]
+pub struct KeptEntry {
+    author: User,
+    format: Format,
+    /// The change; where it is a write, with no bytes.
+    change: Change,
+    /// How many bytes the change writes.
+    written: u64,
+    /// The whole entry alone, which proofs read. (`Log` is the kit's list that no memory holds.)
+    whole: Log<Entry, ()>,
+}
+
+impl Model for KeptEntry {
+    ghost use Rattle.su_desk.specs.declared.entries.Entry.{Entry as TheEntry};
+
+    ghost Value = { TheEntry };
+
+    ghost use Rattle.su_desk.specs.KeptEntry.{first_in, IsKeptAs};
+
+    ghost view = { λ k. first_in
+        (record { author = k.author; format = k.format; change = k.change }) k.whole.items };
+
+    ghost invariant = { λ k. IsKeptAs k.author k.format k.change k.written (first_in
+        (record { author = k.author; format = k.format; change = k.change }) k.whole.items) };
+}
+
+impl KeptEntry {
+    /// Keeps an entry. Takes no memory.
+    pub(crate) fn new(alloc: Global, entry: Entry) -> KeptEntry
+        ensures { result ≡ entry }
+    {
+        let whole = Log::new().and(&entry, &());
+        let Entry {
+            author,
+            format,
+            change,
+        } = entry;
+        KeptEntry {
+            author,
+            format,
+            written: written(&change),
+            change: without_bytes(alloc, change),
+            whole,
+        }
+    }
+
+    /// Returns who made the change.
+    pub fn author(&self) -> User
+        ensures { result ≡ self.now.author }
+    {
+        self.author
+    }
+
+    /// Returns the format that the change was made in.
+    pub fn format(&self) -> Format
+        ensures { result ≡ self.now.format }
+    {
+        self.format
+    }
+
+    /// Lends the change; where it is a write, with no bytes.
+    pub fn change(&self) -> &Change
+        ensures { result.now ≡ without_bytes self.now.change }
+    {
+        &self.change
+    }
+
+    /// Returns how many bytes the change writes.
+    pub fn written(&self) -> u64
+        ensures { result ≡ written self.now.change }
+    {
+        self.written
+    }
 
     /// Tells whether this is the undo of that entry.
     pub(crate) fn undoes(&self, number: u64) -> bool
@@ -27,6 +104,33 @@ impl Entry {
     }
 }
 
+/// Returns how many bytes a change writes.
+fn written(change: &Change) -> u64
+    ensures { result ≡ written change.now }
+{
+    match change {
+        Change::Do(Op::Write(write)) => write.bytes.len() as u64,
+        _ => 0,
+    }
+}
+
+/// Takes the bytes out of a change, where it is a write. Takes no memory.
+fn without_bytes(alloc: Global, change: Change) -> Change
+    ensures { result ≡ without_bytes change }
+{
+    match change {
+        Change::Do(Op::Write(write)) => {
+            let Write { file, off, .. } = write;
+            Change::Do(Op::Write(Write {
+                file,
+                off,
+                bytes: Vec::new(alloc),
+            }))
+        }
+        change => change,
+    }
+}
+
 /// What a desk answers to one of several changes.
 #[derive(Clone, Copy, Debug, PartialEq, Eq)]
 pub enum DeskReply {
@@ -36,7 +140,7 @@ pub enum DeskReply {
 }
 
 /// Returns the entry of a number, if there is one.
-pub(crate) fn entry_at(entries: &[Entry], number: u64) -> Option<&Entry>
+pub(crate) fn entry_at(entries: &[KeptEntry], number: u64) -> Option<&KeptEntry>
     ensures { option_copied result ≡ entry_at entries.now number }
 {
     if number == 0 {
@@ -47,7 +151,7 @@ pub(crate) fn entry_at(entries: &[Entry], number: u64) -> Option<&Entry>
 }
 
 /// Returns the number of the first entry that undoes that one, if one does.
-pub(crate) fn undoer_in(entries: &[Entry], number: u64) -> Option<u64>
+pub(crate) fn undoer_in(entries: &[KeptEntry], number: u64) -> Option<u64>
     ensures { result ≡ undoer entries.now number }
 {
     for (index, entry) in entries.iter().enumerate() {

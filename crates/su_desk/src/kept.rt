@@ -7,7 +7,7 @@ ghost use Rattle.su_op.specs.Area.{meet, overlaps};
 ghost use Rattle.su_desk.specs.Answer.{live_refusal, undo_refusal};
 ghost use Rattle.su_desk.specs.Keeping.{AreKept, IsIndexOf, last_kept_reader, kept_blocker};
 
-use crate::entries::{Entry, entry_at, undoer_in};
+use crate::entries::{KeptEntry, entry_at, undoer_in};
 use su_bytes::{Refusal, Roster, User};
 use su_inverse::Inverse;
 use su_op::{Area, Change, Footprint};
@@ -25,7 +25,7 @@ pub(crate) struct KeptOperation {
 /// first refusal.
 pub(crate) fn undo_index(
     roster: &Roster,
-    entries: &[Entry],
+    entries: &[KeptEntry],
     kept: &[KeptOperation],
     author: User,
     number: u64,
@@ -43,8 +43,8 @@ pub(crate) fn undo_index(
     let Some(entry) = entry_at(entries, number) else {
         unreachable!()
     };
-    if author != entry.author {
-        return Err(Refusal::NotAuthor(entry.author));
+    if author != entry.author() {
+        return Err(Refusal::NotAuthor(entry.author()));
     }
     match blocker_at(kept, index) {
         Some(blocker) => Err(Refusal::Blocked(blocker)),
@@ -55,7 +55,7 @@ pub(crate) fn undo_index(
 /// Finds where the live operation of that number is kept; else tells why it is none. Only then the
 /// history is searched.
 pub(crate) fn live_index(
-    entries: &[Entry],
+    entries: &[KeptEntry],
     kept: &[KeptOperation],
     number: u64,
 ) -> Result<usize, Refusal>
@@ -70,7 +70,7 @@ pub(crate) fn live_index(
     let Some(entry) = entry_at(entries, number) else {
         return Err(Refusal::NoOperation(number));
     };
-    let Change::Do(_) = &entry.change else {
+    let Change::Do(_) = entry.change() else {
         return Err(Refusal::NotOperation(number));
     };
     let Some(by) = undoer_in(entries, number) else {

@@ -10,7 +10,7 @@ mod trials;
 mod versions;
 
 pub use desks::Desk;
-pub use entries::{DeskReply, Entry};
+pub use entries::{DeskReply, Entry, KeptEntry};
 pub use laws::{
     areas_meet_in_a_cell, carried_groups_are_listed, good_histories_can_be_undone, latest_is_free,
     live_numbers_ascend, one_entry_more, operations_can_be_taken_out, versions_rise,

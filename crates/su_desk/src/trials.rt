@@ -11,7 +11,7 @@ ghost use Rattle.su_desk.specs.Version.{versions};
 mod rehearsals;
 
 use crate::desks::Desk;
-use crate::entries::Entry;
+use crate::entries::KeptEntry;
 use crate::prepared::{Prepared, Tried};
 use std::alloc::Global;
 use std::marker::Model;
@@ -65,7 +65,7 @@ impl TrialDesk {
     }
 
     /// Lends the history of what is settled, also where something stands ready.
-    pub fn history(&self) -> &[Entry]
+    pub fn history(&self) -> &[KeptEntry]
         ensures { result.now ≡ self.now.settled.history }
     {
         let entries = self.desk.history();

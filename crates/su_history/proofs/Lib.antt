@@ -4,3 +4,4 @@ mod LineLemmas
 mod NumberedEntries
 mod RunLemmas
 mod UndoerLemmas
+mod WithoutBytes

@@ -7,7 +7,8 @@ use Rattle.su_desk.specs.declared.entries.Entry.{Entry}
 use Rattle.su_history.specs.declared.line.Line.{Line}
 use Rattle.su_history.specs.declared.line.Deed.{Deed}
 use Rattle.su_history.specs.declared.line.Fate.{Fate}
-use Rattle.su_history.specs.Line.{AreUndoers, NumberedEntry, deed_of_run, fate_of, last_of, line_of, numbered, written}
+use Rattle.su_history.specs.Line.{AreUndoers, NumberedEntry, deed_of_run, fate_of, last_of, line_of, numbered}
+use Rattle.su_desk.specs.KeptEntry.{written}
 use Rattle.su_history.proofs.NumberedEntries.{entries_between, entry_of_index, length_numbered, with_number}
 use Rattle.su_history.proofs.RunLemmas.{first_between, last_between}
 

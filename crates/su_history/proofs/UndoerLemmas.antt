@@ -1,11 +1,12 @@
 -- Who undid which entry, found from the last entry on.
-use Rattle.std.proofs.Common.{◌≡◌, ◌∙◌, ℕ, ◌+◌, ◌-◌, ◌<◌, Bool, true, false, cond, List, ◌∷◌, length, drop, set, get_or, replicate, nat_eq, Option, Some, None, refl, sym, ap, arith, ◌⊎◌, inl, inr}
+use Rattle.std.proofs.Common.{◌≡◌, ◌∙◌, ℕ, ◌+◌, ◌-◌, ◌<◌, ◌≤◌, Bool, true, false, cond, List, ◌∷◌, ◌++◌, append-nil, length, drop, take, subst, set, get_or, replicate, nat_eq, Option, Some, None, refl, sym, ap, arith, ◌⊎◌, inl, inr}
 use Rattle.std.proofs.lemmas.Bool.{cases_eq, eq-eqb, eqb-false, eqb-true, ne_eqb}
-use Rattle.std.proofs.lemmas.List.{drop_more, drop_all, get_or-set_same, get_or-set_other, length-set, get_or-replicate, length-replicate}
+use Rattle.std.proofs.lemmas.List.{drop_more, drop_all, take_all, get_or-set_same, get_or-set_other, length-set, get_or-replicate, length-replicate}
 use Rattle.su_op.specs.declared.operations.Change.{Change}
 use Rattle.su_op.specs.declared.operations.Change.TheVariants.{Do, Undo, Rekey}
 use Rattle.su_desk.specs.declared.entries.Entry.{Entry}
 use Rattle.su_desk.specs.History.{undoer_from, undoes}
+use Rattle.su_desk.specs.KeptEntry.{without_bytes}
 use Rattle.su_history.specs.Line.{AreUndoers}
 
 -- of each entry the first one that undoes it, of those from an index on
@@ -72,6 +73,29 @@ one_more h from e undoers after lt is are noted_is = record {
       ∙ sym (ap (λ es. undoer_from (from + 1) es (i + 1)) (drop_more h from e lt) ∙ ap (λ x. undoer_from (from + 1) (x ∷ drop (from + 1) h) (i + 1)) (sym is))
       );
 }
+
+-- a change notes as much without its bytes
+noted_so : (undoers : List (Option ℕ)) (c : Change) (by : ℕ) → noted undoers (without_bytes c) by ≡ noted undoers c by
+noted_so undoers (Do op) by = refl
+noted_so undoers (Undo n) by = refl
+noted_so undoers (Rekey k) by = refl
+
+-- an undo that was read of the entry at an index, and noted
+pub undo_noted : (h : List Entry) (i : ℕ) (e : Entry) (read : Change) (n : ℕ) (undoers before after : List (Option ℕ)) (len : ℕ) → 0 < i → i ≤ length h
+    → e ≡ get_or h (i - 1) e → AreUndoersFrom h i undoers → read ≡ Undo n → read ≡ without_bytes e.change → before ≡ undoers
+    → after ≡ cond (nat_eq n 0) before (set before (n - 1) (Some (i - 1 + 1))) → len ≡ length undoers
+    → AreUndoersFrom h (i - 1) (take len (after ++ drop (length after) undoers))
+undo_noted h i e read n undoers before after len some within is are undo kept same noted_is long =
+    let next : i ≡ i - 1 + 1 = omega (arith, some) in
+    let all : after ≡ noted undoers e.change (i - 1 + 1)
+    = noted_is ∙ ap (λ (us : List (Option ℕ)). cond (nat_eq n 0) us (set us (n - 1) (Some (i - 1 + 1)))) same
+    ∙ ap (λ (c : Change). noted undoers c (i - 1 + 1)) (sym undo ∙ kept) ∙ noted_so undoers e.change (i - 1 + 1) in
+    let as_long : length after ≡ length undoers = ap length all ∙ length_noted undoers e.change (i - 1 + 1) in
+    let whole : take len (after ++ drop (length after) undoers) ≡ after
+    = ap (λ (us : List (Option ℕ)). take len (after ++ us)) (drop_all (length after) undoers (omega (arith, as_long)))
+    ∙ ap (take len) (append-nil after) ∙ take_all len after (omega (arith, as_long, long)) in
+    subst (AreUndoersFrom h (i - 1)) (sym whole)
+    (one_more h (i - 1) e undoers after (omega (arith, some, within)) is (subst (λ (k : ℕ). AreUndoersFrom h k undoers) next are) all)
 
 -- all of them
 pub all_undone : (h : List Entry) (from : ℕ) (undoers : List (Option ℕ)) → from ≡ 0 → AreUndoersFrom h from undoers → AreUndoers h undoers

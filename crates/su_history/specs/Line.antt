@@ -13,6 +13,7 @@ use Rattle.su_op.specs.declared.operations.Change.{Change}
 use Rattle.su_op.specs.declared.operations.Change.TheVariants.{Do, Undo, Rekey}
 use Rattle.su_desk.specs.declared.entries.Entry.{Entry}
 use Rattle.su_desk.specs.History.{undoer}
+use Rattle.su_desk.specs.KeptEntry.{written}
 use Rattle.su_history.specs.declared.line.Line.{Line}
 use Rattle.su_history.specs.declared.line.Deed.{Deed}
 use Rattle.su_history.specs.declared.line.Deed.TheVariants.{Made, Put, Wrote, Cut, Linked, Renamed, Removed, TookOver, Dropped, Undid, NamedKey}
@@ -93,11 +94,6 @@ runs (e ∷ es) = with_first e (runs es)
 abbrev pub last_of : NumberedEntry → List NumberedEntry → NumberedEntry
 last_of e [] = e
 last_of e (next ∷ es) = last_of next es
-
--- how many bytes a change writes
-abbrev pub written : Change → ℕ
-written (Do (Write w)) = length w.bytes
-written _ = 0
 
 -- how many bytes a run writes in all
 abbrev pub bytes_of : Run → ℕ

@@ -6,13 +6,13 @@ use crate::line::Line;
 use crate::runs::{all_written, deed_of_run, end_of_run, fate_of};
 use crate::undoers::undoers;
 use std::alloc::{AllocError, Global};
-use su_desk::Entry;
+use su_desk::KeptEntry;
 
 /// Returns the lines of a history, the oldest first. Entries in a row by one author are one line
 /// where the first makes a file, writes to it or cuts it, each other one writes to it or cuts it,
 /// and all are live or all undone; every other entry is a line alone. Fails only for want of memory,
 /// also where the writes of a line have 2^64 bytes or more.
-pub fn lines(alloc: Global, entries: &[Entry]) -> Result<Vec<Line>, AllocError>
+pub fn lines(alloc: Global, entries: &[KeptEntry]) -> Result<Vec<Line>, AllocError>
     ensures { IfOk result (λ lines_. lines_.items ≡ lines entries.now) }
 {
     let undoers = undoers(alloc, entries)?;
@@ -28,7 +28,7 @@ pub fn lines(alloc: Global, entries: &[Entry]) -> Result<Vec<Line>, AllocError>
 
 /// Returns the line of the run from the entry of one index up to that of another, which isn't in it.
 fn line(
-    entries: &[Entry],
+    entries: &[KeptEntry],
     undoers: &[Option<u64>],
     first: usize,
     end: usize,
@@ -49,8 +49,8 @@ fn line(
     Ok(Line {
         first: first as u64 + 1,
         last: end as u64,
-        author: opening.author,
-        deed: deed_of_run(&opening.change, &closing.change, bytes)?,
-        fate: fate_of(&closing.change, undoer),
+        author: opening.author(),
+        deed: deed_of_run(opening.change(), closing, bytes)?,
+        fate: fate_of(closing.change(), undoer),
     })
 }

@@ -2,12 +2,13 @@
 ghost use Rattle.std.specs.Prelude.{◌≡◌, ◌-◌, ◌^◌, ◌<◌, ◌≤◌, ◌⊎◌, ℕ, true, false, length, get_or, IfOk, MatchOption};
 ghost use Rattle.std.specs.List.{sum_by};
 ghost use Rattle.su_bytes.specs.Place.{file_eq};
-ghost use Rattle.su_history.specs.Line.{AreUndoers, NumberedEntry, deed_of, deed_of_op, deed_of_run, edited, fate_of, filled, goes_on, is_same_file, numbered, written};
+ghost use Rattle.su_desk.specs.KeptEntry.{written};
+ghost use Rattle.su_history.specs.Line.{AreUndoers, NumberedEntry, deed_of, deed_of_op, deed_of_run, edited, fate_of, filled, goes_on, is_same_file, numbered};
 
 use crate::line::{Deed, Fate};
 use std::alloc::AllocError;
 use su_bytes::{FileId, Kind};
-use su_desk::Entry;
+use su_desk::KeptEntry;
 use su_op::{Change, Op};
 
 /// Returns the file that a change makes, writes to or cuts.
@@ -49,7 +50,7 @@ fn is_same_file(before: &Change, change: &Change) -> bool
 }
 
 /// Tells whether the entry of that index goes on with the one before it.
-fn goes_on(entries: &[Entry], undoers: &[Option<u64>], index: usize) -> bool
+fn goes_on(entries: &[KeptEntry], undoers: &[Option<u64>], index: usize) -> bool
     requires undoers { AreUndoers entries.now undoers.now }
     requires some { 0 < index }
     requires there { index < length entries.now }
@@ -61,13 +62,13 @@ fn goes_on(entries: &[Entry], undoers: &[Option<u64>], index: usize) -> bool
     let entry = &entries[index];
     let before_undoer = undoers[index - 1];
     let undoer = undoers[index];
-    before.author == entry.author
-        && is_same_file(&before.change, &entry.change)
+    before.author() == entry.author()
+        && is_same_file(before.change(), entry.change())
         && before_undoer.is_some() == undoer.is_some()
 }
 
 /// Returns the index behind the run of entries that begins with that one, the longest.
-pub(crate) fn end_of_run(entries: &[Entry], undoers: &[Option<u64>], first: usize) -> usize
+pub(crate) fn end_of_run(entries: &[KeptEntry], undoers: &[Option<u64>], first: usize) -> usize
     requires undoers { AreUndoers entries.now undoers.now }
     requires there { first < length entries.now }
     ensures above { first < result }
@@ -87,30 +88,20 @@ pub(crate) fn end_of_run(entries: &[Entry], undoers: &[Option<u64>], first: usiz
     entries.len()
 }
 
-/// Returns how many bytes a change writes.
-fn written(change: &Change) -> u64
-    ensures { result ≡ written change.now }
-{
-    match change {
-        Change::Do(Op::Write(write)) => write.bytes.len() as u64,
-        _ => 0,
-    }
-}
-
 /// Returns how many bytes the entries write in all; `None` where they are 2^64 or more.
-pub(crate) fn all_written(entries: &[Entry]) -> Option<u64>
+pub(crate) fn all_written(entries: &[KeptEntry]) -> Option<u64>
     ensures { MatchOption result
         (2 ^ 64 ≤ sum_by (λ e. written e.change) entries.now)
         (λ bytes. bytes ≡ sum_by (λ e. written e.change) entries.now) }
 {
     let mut bytes: u64 = 0;
     for entry in entries {
-        bytes = bytes.checked_add(written(&entry.change))?;
+        bytes = bytes.checked_add(entry.written())?;
     }
     Some(bytes)
 }
 
-/// Returns what an entry alone did.
+/// Returns what a change alone did.
 fn deed_of(change: &Change) -> Result<Deed, AllocError>
     ensures { IfOk result (λ deed. deed ≡ deed_of change.now) }
 {
@@ -140,9 +131,23 @@ fn deed_of_op(op: &Op) -> Result<Deed, AllocError>
     })
 }
 
-/// Returns what the entries of a run did, from its first to its last, which write so many bytes.
-pub(crate) fn deed_of_run(first: &Change, last: &Change, bytes: u64) -> Result<Deed, AllocError>
-    ensures { IfOk result (λ deed. deed ≡ deed_of_run first.now last.now bytes) }
+/// Returns what an entry alone did.
+fn deed_of_entry(entry: &KeptEntry) -> Result<Deed, AllocError>
+    ensures { IfOk result (λ deed. deed ≡ deed_of entry.now.change) }
+{
+    match entry.change() {
+        Change::Do(Op::Write(write)) => Ok(Deed::Wrote {
+            file: write.file,
+            bytes: entry.written(),
+        }),
+        change => deed_of(change),
+    }
+}
+
+/// Returns what the entries of a run did, from the change of its first to its last, which write so
+/// many bytes.
+pub(crate) fn deed_of_run(first: &Change, last: &KeptEntry, bytes: u64) -> Result<Deed, AllocError>
+    ensures { IfOk result (λ deed. deed ≡ deed_of_run first.now last.now.change bytes) }
 {
     match first {
         Change::Do(Op::Create(create)) if bytes != 0 => Ok(Deed::Put {
@@ -157,7 +162,7 @@ pub(crate) fn deed_of_run(first: &Change, last: &Change, bytes: u64) -> Result<D
             file: truncate.file,
             bytes,
         }),
-        Change::Do(Op::Truncate(_)) => deed_of(last),
+        Change::Do(Op::Truncate(_)) => deed_of_entry(last),
         _ => deed_of(first),
     }
 }

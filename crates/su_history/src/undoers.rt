@@ -3,17 +3,17 @@ ghost use Rattle.std.specs.Prelude.{◌≡◌, ◌-◌, IfOk, Some, set, cond, n
 ghost use Rattle.su_history.specs.Line.{AreUndoers};
 
 use std::alloc::{AllocError, Global};
-use su_desk::Entry;
+use su_desk::KeptEntry;
 use su_op::Change;
 
 /// Returns of each entry, in order, the number of the one that undid it.
-pub(crate) fn undoers(alloc: Global, entries: &[Entry]) -> Result<Vec<Option<u64>>, AllocError>
+pub(crate) fn undoers(alloc: Global, entries: &[KeptEntry]) -> Result<Vec<Option<u64>>, AllocError>
     ensures { IfOk result (λ undoers. AreUndoers entries.now undoers.items) }
 {
     let mut undoers: Vec<Option<u64>> = vec![in alloc; None; entries.len()]?;
     for index in (0..entries.len()).rev() {
-        if let Change::Undo(number) = entries[index].change {
-            note(&mut undoers, number, index as u64 + 1);
+        if let Change::Undo(number) = entries[index].change() {
+            note(&mut undoers, *number, index as u64 + 1);
         }
     }
     Ok(undoers)

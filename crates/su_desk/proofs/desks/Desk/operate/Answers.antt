@@ -26,7 +26,7 @@ pub invariant_of-self-2 : goal.invariant_of-self-2
 invariant_of-self-2 c =
     let fits = subst (λ d. format_refusal d.history c.args.format (Do c.args.op) ≡ None) (sym c.self.view_is) c.requires in
     let s = c.self.inside in
-    let entries = c.push_reserved.ensures.items ∙ ap (λ h. h ++ entry_doing (action_by c.args.author c.args.format c.args.op) ∷ []) c.in_ok-reserve.ensures.items in
+    let entries = c.push_reserved.ensures.items ∙ ap (λ (e : Entry). c.reserve.new.self.items ++ e ∷ []) c.new.ensures ∙ ap (λ h. h ++ entry_doing (action_by c.args.author c.args.format c.args.op) ∷ []) c.in_ok-reserve.ensures.items in
     let kept = c.push_reserved-2.ensures.items ∙ ap (λ ks. ks ++ record { number = c.len-number.result; footprint = c.in_ok-footprint.footprint; inverse = c.in_ok-inverse.inverse } ∷ []) c.in_ok-reserve-2.ensures.items in
     let accepted = c.in-Ok.ensures.accepted in
     let number : c.len-number.result ≡ length s.entries.items + 1 = omega (arith, c.len-number.ensures, c.push_reserved.new.self.ok.0, ap length entries, length-append s.entries.items (entry_doing (action_by c.args.author c.args.format c.args.op) ∷ [])) in
@@ -55,7 +55,7 @@ pub returns : goal.returns
 returns c =
     let fits = subst (λ d. format_refusal d.history c.args.format (Do c.args.op) ≡ None) (sym c.self.view_is) c.requires in
     let s = c.self.inside in
-    let entries = c.push_reserved.ensures.items ∙ ap (λ h. h ++ entry_doing (action_by c.args.author c.args.format c.args.op) ∷ []) c.in_ok-reserve.ensures.items in
+    let entries = c.push_reserved.ensures.items ∙ ap (λ (e : Entry). c.reserve.new.self.items ++ e ∷ []) c.new.ensures ∙ ap (λ h. h ++ entry_doing (action_by c.args.author c.args.format c.args.op) ∷ []) c.in_ok-reserve.ensures.items in
     let number : length s.entries.items + 1 ≡ c.len-number.result = omega (arith, c.len-number.ensures, c.push_reserved.new.self.ok.0, ap length entries, length-append s.entries.items (entry_doing (action_by c.args.author c.args.format c.args.op) ∷ [])) in
     let seen : List Entry → DeskState = λ h. record { roster = s.roster; history = h } in (
       subst (λ d. answer d.roster d.history (entry_doing (action_by c.args.author c.args.format c.args.op)) ≡ Ok c.len-number.result) c.self.view_is

@@ -19,7 +19,7 @@ invariant_of-self-2 c =
     let s = c.self.inside in
     let k = c.args.key in
     let e : Entry = rekey_by c.args.author c.args.format k in
-    let entries = c.push_reserved.ensures.items ∙ ap (λ h. h ++ e ∷ []) c.in_ok-reserve.ensures.items in
+    let entries = c.push_reserved.ensures.items ∙ ap (λ (e : Entry). c.reserve.new.self.items ++ e ∷ []) c.new.ensures ∙ ap (λ h. h ++ e ∷ []) c.in_ok-reserve.ensures.items in
     let fits = subst (λ d. format_refusal d.history c.args.format (Rekey k) ≡ None) (sym c.self.view_is) c.requires in
     let accepted = subst (λ (d : DeskState). rekey_refusal d.roster d.history c.args.author k ≡ None) (sym c.self.view_is) c.in_ok-check_key.ensures.accepted in (
       subst (λ h. Keeps s.roster h s.kept.items s.forest) (sym entries)
@@ -35,7 +35,7 @@ returns c =
     let s = c.self.inside in
     let e : Entry = rekey_by c.args.author c.args.format c.args.key in
     let fits = subst (λ d. format_refusal d.history c.args.format (Rekey c.args.key) ≡ None) (sym c.self.view_is) c.requires in
-    let entries = c.push_reserved.ensures.items ∙ ap (λ h. h ++ e ∷ []) c.in_ok-reserve.ensures.items in
+    let entries = c.push_reserved.ensures.items ∙ ap (λ (e : Entry). c.reserve.new.self.items ++ e ∷ []) c.new.ensures ∙ ap (λ h. h ++ e ∷ []) c.in_ok-reserve.ensures.items in
     let number : length s.entries.items + 1 ≡ c.len.result = omega (arith, c.len.ensures, c.push_reserved.new.self.ok.0, ap length entries, length-append s.entries.items (e ∷ [])) in
     let seen : List Entry → DeskState = λ h. record { roster = s.roster; history = h } in
     let accepted = c.in_ok-check_key.ensures.accepted in (

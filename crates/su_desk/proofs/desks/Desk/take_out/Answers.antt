@@ -25,7 +25,7 @@ pub invariant_of-self-2 : goal.invariant_of-self-2
 invariant_of-self-2 c =
     let s = c.self.inside in
     let e : Entry = undo_by c.args.author c.args.format c.args.number in
-    let entries = c.push_reserved.ensures.items ∙ ap (λ h. h ++ undo_by c.args.author c.args.format c.args.number ∷ []) c.in_ok-reserve.ensures.items in
+    let entries = c.push_reserved.ensures.items ∙ ap (λ (e : Entry). c.reserve.new.self.items ++ e ∷ []) c.new.ensures ∙ ap (λ h. h ++ undo_by c.args.author c.args.format c.args.number ∷ []) c.in_ok-reserve.ensures.items in
     let fits = subst (λ d. format_refusal d.history c.args.format (Undo c.args.number) ≡ None) (sym c.self.view_is) c.requires in
     let accepted = ap (λ h. undo_refusal s.roster h c.args.author c.args.number) (sym c.deref.ensures.value) ∙ c.in_ok-index.ensures.accepted in
     let k = c.index.result.now in
@@ -44,7 +44,7 @@ invariant_of-self-2 c =
 
 pub returns-clause-done : goal.returns-clause-done
 returns-clause-done c =
-    let entries = c.push_reserved.ensures.items ∙ ap (λ h. h ++ undo_by c.args.author c.args.format c.args.number ∷ []) c.in_ok-reserve.ensures.items in
+    let entries = c.push_reserved.ensures.items ∙ ap (λ (e : Entry). c.reserve.new.self.items ++ e ∷ []) c.new.ensures ∙ ap (λ h. h ++ undo_by c.args.author c.args.format c.args.number ∷ []) c.in_ok-reserve.ensures.items in
     let seen : List Entry → DeskState = λ h. record { roster = c.self.inside.roster; history = h } in
     ap seen entries ∙ ap (λ d. with_entry d (undo_by c.args.author c.args.format c.args.number)) c.self.view_is
 
