@@ -62,7 +62,7 @@ items_of records = map (λ (r : LogRecord). r.item) records
 
 -- user 0 holds these commits
 abbrev pub held_by_first : Membership → List Committed → HoldingState
-held_by_first ro cs = record { roster = ro; user = 0; held = cs }
+held_by_first ro cs = record { roster = ro; user = 0; held = cs; itemless = 0 }
 
 -- the commits of a log before the nth make a legal list, and that is refused
 pub record IsRefusedAt (ro : Membership) (log : List ℕ) (n : ℕ) (e : ViewRefusal) : Type 0 where

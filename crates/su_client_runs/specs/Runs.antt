@@ -13,6 +13,6 @@ pub record GoesOn (w : World) (es : List Event) (k : ℕ) (s t : MemberState) : 
   pub acts : List Act
   pub commits : List Commit
   pub run : Run w (es ++ acting k acts)
-  pub holds : t.holding ≡ holding_after w (es ++ acting k acts) k
+  pub holds : t.holding ≡ holding_after w (es ++ acting k acts) k s.holding.itemless
   pub signed : t.signed ≡ s.signed ++ commits
   pub signs : signed_in acts ≡ map (λ c. c.version) commits

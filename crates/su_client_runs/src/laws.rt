@@ -14,7 +14,7 @@ use su_fork::acts_make_runs;
 /// run does with the keys (`run_client`).
 pub fn clients_make_runs()
     ensures { (w : World) (es : List Event) (k : ℕ) (s t : MemberState)
-        → Run w es → w.honest (w.user k) ≡ true → s.holding ≡ holding_after w es k
+        → Run w es → w.honest (w.user k) ≡ true → s.holding ≡ holding_after w es k s.holding.itemless
         → Works s t → GoesOn w es k s t }
 {
     acts_make_runs();

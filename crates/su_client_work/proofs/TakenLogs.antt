@@ -41,7 +41,7 @@ module _ {S : Type 0} (Follows : S → S → Type 0) (Puts : S → List ℕ → 
     front = refl;
     are = refl;
     number = refl;
-    took = record { may = tt; becomes = ap (λ l. record { roster = v.roster; user = v.user; held = l }) (sym (append-nil v.held)) };
+    took = record { may = tt; becomes = ap (λ l. record { roster = v.roster; user = v.user; held = l; itemless = v.itemless }) (sym (append-nil v.held)) };
     put = same;
   }
 
@@ -61,7 +61,7 @@ module _ {S : Type 0} (Follows : S → S → Type 0) (Puts : S → List ℕ → 
     took = record {
       may = after_both v.roster v.held f.commits (c ∷ []) f.took.may (subst (λ (u : HoldingState). LegalAfter u.roster u.held (c ∷ [])) f.took.becomes took.may);
       becomes = took.becomes ∙ ap (λ u. with_more u (c ∷ [])) f.took.becomes
-          ∙ ap (λ l. record { roster = v.roster; user = v.user; held = l }) (append_assoc v.held f.commits (c ∷ []));
+          ∙ ap (λ l. record { roster = v.roster; user = v.user; held = l; itemless = v.itemless }) (append_assoc v.held f.commits (c ∷ []));
     };
     put = subst (λ items. PutsEach Follows Puts s items u) (sym (map-append (λ (r : LogRecord). r.item) f.records (r ∷ [])))
         (puts_more s t at u (map (λ (r : LogRecord). r.item) f.records) r.item f.put there on);

@@ -10,7 +10,7 @@ use Rattle.su_view.specs.Holding.{HoldingState, with_more, Took}
 
 -- a state with another list
 abbrev with_list : HoldingState → List Committed → HoldingState
-with_list v held = record { roster = v.roster; user = v.user; held = held }
+with_list v held = record { roster = v.roster; user = v.user; held = held; itemless = v.itemless }
 
 pub takes_none : (v : HoldingState) → TakesSome v v
 takes_none v = ([], record { may = tt; becomes = ap (with_list v) (sym (append-nil v.held)) })

@@ -3,4 +3,5 @@ pub mod Turn
 pub mod Work
 pub mod Publishing
 pub mod SavedLog
+pub mod LastItem
 pub mod TakenLog

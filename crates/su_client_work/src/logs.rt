@@ -1,5 +1,6 @@
 // Logs of commits, with the items of their changes: how one is made of a list, and taken in a view.
-ghost use Rattle.std.specs.Prelude.{◌≡◌, ◌∷◌, ◌++◌, ℕ, List, [], drop, map, true, Some, IfOk, IfErr, OnOk, OnErr};
+ghost use Rattle.std.specs.Prelude.{◌≡◌, ◌⊎◌, ◌∷◌, ◌++◌, ◌<◌, ◌≤◌, ℕ, List, [], drop, map, true, None, Some, Err, IfOk, IfErr, OnOk, OnErr};
+ghost use Rattle.su_bytes.specs.declared.refusals.Refusal.TheVariants.{MissingBlock, NoMemory, TooBig};
 ghost use Rattle.su_version.specs.Commit.{commit_bytes};
 ghost use Rattle.su_legal.specs.Legal.{Committed};
 ghost use Rattle.su_view.specs.Acting.{TakesSome};
@@ -127,13 +128,16 @@ pub(crate) fn take_commit<S: BlockSource + Drop>(
 }
 
 /// Returns the log of a view's list behind its first `from_` commits: of each commit its bytes and the
-/// item of its change, each with its length before it. Only `NoMemory` can come.
+/// item of its change, each with its length before it. `MissingBlock` where the view has left one of
+/// the items, `NoMemory`.
 pub fn log_behind<S: BlockSource + Drop>(
     alloc: Global,
     view: &View<S>,
     from_: u64,
 ) -> Result<Vec<u8>, Refusal>
-    ensures { IfOk result (λ log. log.items ≡ saved_log (drop from_ view.now.holding.held)) }
+    ensures value { IfOk result (λ log.
+        log.items ≡ saved_log (drop from_ view.now.holding.held)) }
+    ensures missing { result ≡ Err MissingBlock → from_ < view.now.holding.itemless }
 {
     let (count, _) = view.head();
     let mut log = Vec::new(alloc);
@@ -149,11 +153,14 @@ fn put_entry<S: BlockSource + Drop>(
     view: &View<S>,
     number: u64,
 ) -> Result<(), Refusal>
-    ensures { (c : Committed) → committed_at view.now.holding.held number ≡ Some c
+    ensures value { (c : Committed) → committed_at view.now.holding.held number ≡ Some c
         → OnOk result (log.new.items ≡ log.old.items ++ entry_bytes c) }
+    ensures missing { result ≡ Err MissingBlock
+        → (committed_at view.now.holding.held number ≡ None)
+        ⊎ (number ≤ view.now.holding.itemless) }
 {
     let Some((commit, item)) = view.entry(number) else {
-        return Ok(());
+        return Err(Refusal::MissingBlock);
     };
     put_bytes(log, commit)?;
     put_bytes(log, item)
@@ -161,7 +168,8 @@ fn put_entry<S: BlockSource + Drop>(
 
 /// Appends bytes with their number before them.
 fn put_bytes(log: &mut Vec<u8>, bytes: &[u8]) -> Result<(), Refusal>
-    ensures { OnOk result (log.new.items ≡ log.old.items ++ part_bytes bytes.now) }
+    ensures value { OnOk result (log.new.items ≡ log.old.items ++ part_bytes bytes.now) }
+    ensures refused { IfErr result (λ e. (e ≡ TooBig) ⊎ (e ≡ NoMemory)) }
 {
     let Ok(count) = u32::try_from(bytes.len()) else {
         return Err(Refusal::TooBig);

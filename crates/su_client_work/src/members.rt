@@ -103,6 +103,17 @@ impl<R: Read + Drop, W: Write + Drop, K: KeyStore + Drop> Member<R, W, K> {
         self.key.replace(signer);
     }
 
+    /// Leaves the items of the changes to whoever has them elsewhere, as `View::leave_items` does.
+    pub fn leave_items(&mut self)
+        ensures { self.new ≡ record self.old {
+          holding = record self.old.holding {
+            itemless = length self.old.holding.held;
+          };
+        } }
+    {
+        self.view.leave_items();
+    }
+
     /// Lends where the leaf that signs next is stored.
     pub fn store(&self) -> &K {
         self.key.store()

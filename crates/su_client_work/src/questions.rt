@@ -162,7 +162,7 @@ impl<R: Read + Drop, W: Write + Drop, K: KeyStore + Drop> Member<R, W, K> {
 
     /// Tells whether the commit of that number is the user's own.
     fn is_own(&self, number: u64) -> bool {
-        let Some((bytes, _)) = self.view.entry(number) else {
+        let Some(bytes) = self.view.commit(number) else {
             return false;
         };
         match Commit::decode(self.alloc, bytes) {

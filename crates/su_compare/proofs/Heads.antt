@@ -1,10 +1,11 @@
 -- The head that a list had with fewer commits.
-use Rattle.std.proofs.Common.{◌≡◌, ℕ, zero, suc, ◌-◌, ◌<◌, ◌≤◌, Bool, true, false, cond, List, [], ◌∷◌, length, take, nat_eq, Some, None, refl, sym, ap, ◌∙◌, arith, slice_get, get_or, inl, inr, ◌⊎◌}
+use Rattle.std.proofs.Common.{◌≡◌, ℕ, zero, suc, ◌-◌, ◌<◌, ◌≤◌, Bool, true, false, cond, List, [], ◌∷◌, length, take, nat_eq, Option, Some, None, refl, sym, ap, ◌∙◌, arith, slice_get, get_or, inl, inr, ◌⊎◌}
 use Rattle.std.proofs.lemmas.Option.{slice_get_cases}
 use Rattle.su_bytes.specs.Membership.{Membership}
 use Rattle.su_bytes.specs.RosterBytes.{roster_digest}
 use Rattle.su_version.specs.Chain.{chain_head, last_digest}
-use Rattle.su_version.specs.Commit.{commit_digest}
+use Rattle.std.specs.Option.{option_map}
+use Rattle.su_version.specs.Commit.{commit_bytes, commit_digest}
 use Rattle.su_legal.specs.Legal.{Committed, commits_of}
 use Rattle.su_view.specs.Entry.{committed_at}
 use Rattle.su_compare.specs.Standing.{head_at}
@@ -39,3 +40,14 @@ head_at_first ro cs n le e = go (nat_eq n 0) refl e
     go : (b : Bool) → nat_eq n 0 ≡ b → cond b None (slice_get cs (n - 1)) ≡ None → last_digest (roster_digest ro) (commits_of (take n cs)) ≡ roster_digest ro
     go true is e = let none : n ≡ 0 = grind arith in ap (λ k. last_digest (roster_digest ro) (commits_of (take k cs))) none
     go false is e = let past = there (n - 1) e in let some : 1 ≤ n = grind arith in absurd (omega (arith, past, some, le))
+
+-- ---- the commit whose bytes are lent
+
+pub commit_lent : (o : Option Committed) (bytes : List ℕ) → ◌≡◌ {A = Option (List ℕ)} (Some bytes) (option_map (λ (c : Committed). commit_bytes c.commit) o)
+    → (c : Committed) × (o ≡ Some c) × (bytes ≡ commit_bytes c.commit)
+commit_lent None bytes is = absurd (cc)
+commit_lent (Some c) bytes is = (c, refl, cc)
+
+pub none_lent : (o : Option Committed) → ◌≡◌ {A = Option (List ℕ)} None (option_map (λ (c : Committed). commit_bytes c.commit) o) → o ≡ None
+none_lent None is = refl
+none_lent (Some c) is = absurd (cc)

@@ -42,8 +42,8 @@ fn head_at<S: BlockSource + Drop>(view: &View<S>, number: u64) -> Digest
     requires { number ≤ length view.now.holding.held }
     ensures { result ≡ head_at view.now.holding.roster view.now.holding.held number }
 {
-    match view.entry(number) {
-        Some((bytes, _)) => digest_of(bytes),
+    match view.commit(number) {
+        Some(bytes) => digest_of(bytes),
         None => view.roster().digest(),
     }
 }

@@ -14,39 +14,39 @@ unfolding list_of
 none_held k = refl
 
 -- what client k holds when it holds this list
-abbrev holding : World → ℕ → List Committed → HoldingState
-holding w k list = record { roster = w.roster; user = w.user k; held = list }
+abbrev holding : World → ℕ → ℕ → List Committed → HoldingState
+holding w k n list = record { roster = w.roster; user = w.user k; held = list; itemless = n }
 
-pub at_first : (w : World) (k : ℕ) → holding_after w [] k ≡ record { roster = w.roster; user = w.user k; held = [] }
-at_first w k = ap (holding w k) (none_held k)
+pub at_first : (w : World) (k n : ℕ) → holding_after w [] k n ≡ record { roster = w.roster; user = w.user k; held = []; itemless = n }
+at_first w k n = ap (holding w k n) (none_held k)
 
-pub taking_runs : (w : World) (es : List Event) (k : ℕ) (v : HoldingState) (more : List Committed) → Run w es → w.honest (w.user k) ≡ true
-    → Took (holding_after w es k) more v → Run w (es ++ taking k more ∷ []) × (v ≡ holding_after w (es ++ taking k more ∷ []) k)
-taking_runs w es k v more r h t = (run_more w es (taking k more) r h t.may, t.becomes ∙ ap (holding w k) (sym (list_own k es (Takes more))))
+pub taking_runs : (w : World) (es : List Event) (k n : ℕ) (v : HoldingState) (more : List Committed) → Run w es → w.honest (w.user k) ≡ true
+    → Took (holding_after w es k n) more v → Run w (es ++ taking k more ∷ []) × (v ≡ holding_after w (es ++ taking k more ∷ []) k n)
+taking_runs w es k n v more r h t = (run_more w es (taking k more) r h t.may, t.becomes ∙ ap (holding w k n) (sym (list_own k es (Takes more))))
 
-pub signing_runs : (w : World) (es : List Event) (k : ℕ) (s : Version) → Run w es → w.honest (w.user k) ≡ true → MaySign (holding_after w es k) s
-    → Run w (es ++ signing k s ∷ []) × (holding_after w (es ++ signing k s ∷ []) k ≡ holding_after w es k)
-signing_runs w es k s r h m =
-    (run_more w es (signing k s) r h m, ap (holding w k) (list_own k es (Signs s) ∙ append-nil (list_of k es)))
+pub signing_runs : (w : World) (es : List Event) (k n : ℕ) (s : Version) → Run w es → w.honest (w.user k) ≡ true → MaySign (holding_after w es k n) s
+    → Run w (es ++ signing k s ∷ []) × (holding_after w (es ++ signing k s ∷ []) k n ≡ holding_after w es k n)
+signing_runs w es k n s r h m =
+    (run_more w es (signing k s) r h m, ap (holding w k n) (list_own k es (Signs s) ∙ append-nil (list_of k es)))
 
-pub others_stay : (w : World) (es : List Event) (j k : ℕ) (x : Act) → j ≢ k → holding_after w (es ++ record { client = k; act = x } ∷ []) j ≡ holding_after w es j
-others_stay w es j k x n = ap (holding w j) (list_other j k es x n)
+pub others_stay : (w : World) (es : List Event) (j k n : ℕ) (x : Act) → j ≢ k → holding_after w (es ++ record { client = k; act = x } ∷ []) j n ≡ holding_after w es j n
+others_stay w es j k n x other = ap (holding w j n) (list_other j k es x other)
 
 -- ---- acts
 
 -- what client k holds after one act more
-after_is : (w : World) (es : List Event) (k : ℕ) (act : Act) → after (holding_after w es k) act ≡ holding_after w (es ++ record { client = k; act = act } ∷ []) k
-after_is w es k (Takes more) = ap (holding w k) (sym (list_own k es (Takes more)))
-after_is w es k (Signs s) = ap (holding w k) (sym (list_own k es (Signs s) ∙ append-nil (list_of k es)))
+after_is : (w : World) (es : List Event) (k n : ℕ) (act : Act) → after (holding_after w es k n) act ≡ holding_after w (es ++ record { client = k; act = act } ∷ []) k n
+after_is w es k n (Takes more) = ap (holding w k n) (sym (list_own k es (Takes more)))
+after_is w es k n (Signs s) = ap (holding w k n) (sym (list_own k es (Signs s) ∙ append-nil (list_of k es)))
 
-pub acting_runs : (w : World) (es : List Event) (k : ℕ) (acts : List Act) (v : HoldingState) → Run w es → w.honest (w.user k) ≡ true
-    → Does (holding_after w es k) acts v → Run w (es ++ acting k acts) × (v ≡ holding_after w (es ++ acting k acts) k)
-acting_runs w es k [] v r h is = (subst (λ x. Run w x) (sym (append-nil es)) r, is ∙ ap (λ x. holding_after w x k) (sym (append-nil es)))
-acting_runs w es k (act ∷ acts) v r h (may, rest) =
+pub acting_runs : (w : World) (es : List Event) (k n : ℕ) (acts : List Act) (v : HoldingState) → Run w es → w.honest (w.user k) ≡ true
+    → Does (holding_after w es k n) acts v → Run w (es ++ acting k acts) × (v ≡ holding_after w (es ++ acting k acts) k n)
+acting_runs w es k n [] v r h is = (subst (λ x. Run w x) (sym (append-nil es)) r, is ∙ ap (λ x. holding_after w x k n) (sym (append-nil es)))
+acting_runs w es k n (act ∷ acts) v r h (may, rest) =
     let one : Event = record { client = k; act = act } in
-    let more = acting_runs w (es ++ one ∷ []) k acts v (run_more w es one r h may) h (subst (λ (u : HoldingState). Does u acts v) (after_is w es k act) rest) in
+    let more = acting_runs w (es ++ one ∷ []) k n acts v (run_more w es one r h may) h (subst (λ (u : HoldingState). Does u acts v) (after_is w es k n act) rest) in
     let same = append_assoc es (one ∷ []) (acting k acts) in
-    (subst (λ x. Run w x) same more.0, more.1 ∙ ap (λ x. holding_after w x k) same)
+    (subst (λ x. Run w x) same more.0, more.1 ∙ ap (λ x. holding_after w x k n) same)
 
 -- ---- a server may show any legal lists
 

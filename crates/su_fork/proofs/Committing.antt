@@ -57,7 +57,7 @@ module _ (w : World) (es : List Event) (k : ℕ) (c : Committed) where
       (Contains-append_right (flat_map (signed_by w (w.user k)) es) (flat_map (signed_by w (w.user k)) (committing k c)) v
       (first_of (nat_eq (w.user k) (w.user k)) (flat_map (signed_by w (w.user k)) (taking k (c ∷ []) ∷ [])) (eq-eqb (w.user k) (w.user k) refl)))
 
-  pub commits_in : Run w es → NoForgery w es (all_taken es) → w.honest (w.user k) ≡ true → MaySign (holding_after w es k) v → MayJoin w.roster (list_of k es) c → CommitsIn w es k c
+  pub commits_in : Run w es → NoForgery w es (all_taken es) → w.honest (w.user k) ≡ true → MaySign (holding_after w es k 0) v → MayJoin w.roster (list_of k es) c → CommitsIn w es k c
   commits_in r none h may joins = record {
     run = subst (Run w) both
         (run_more w (es ++ signing k v ∷ []) (taking k (c ∷ [])) (run_more w es (signing k v) r h may) h

@@ -140,12 +140,12 @@ module _ (w : World) (es : List Event) (run : Run w es) (cs : List Committed) (a
           ap (λ i. take i ys) (sym both.0) ∙ both.1
 
   -- where the own commit isn't missing among those of a list that are shown, the list has all of u's list up to u's last commit
-  pub passed : (shown : List Commit) (l : Committed) → AreOf ys shown → ShowsOwn w.roster (w.user k) (own_last (holding_after w es k)) shown → last_by (w.user k) (list_of k es) ≡ Some l
+  pub passed : (shown : List Commit) (l : Committed) → AreOf ys shown → ShowsOwn w.roster (w.user k) (own_last (holding_after w es k 0)) shown → last_by (w.user k) (list_of k es) ≡ Some l
       → HasUpTo l (list_of k es) ys
   passed shown l of_ys shows_own last =
       let mine = last_there (w.user k) (list_of k es) l last in
       let m = place_of (list_of k es) l mine.0 in
-      let kept : own_last (holding_after w es k) ≡ Some l.commit = ap (option_map (λ (c : Committed). c.commit)) last in
+      let kept : own_last (holding_after w es k 0) ≡ Some l.commit = ap (option_map (λ (c : Committed). c.commit)) last in
       let shows : ShowsLast w.roster (w.user k) l.commit shown = subst (λ o. ShowsOwn w.roster (w.user k) o shown) kept shows_own in
       let own = own_shown w.roster (w.user k) l.commit shown shows.some_own shows.not_behind in
       let d = of_ys own.commit own.there in

@@ -7,9 +7,14 @@ use Rattle.su_view.specs.Holding.{HoldingState}
 use Rattle.su_fork.specs.Events.{World, Event, taking, signing, list_of, all_taken, versions_of, Run}
 use Rattle.su_fork.specs.Premises.{NoForgery}
 
--- what client k holds after these events
-abbrev pub holding_after : World → List Event → ℕ → HoldingState
-holding_after w es k = record { roster = w.roster; user = w.user k; held = list_of k es }
+-- what client k holds after these events, of which it has left the items of the first n commits
+abbrev pub holding_after : World → List Event → ℕ → ℕ → HoldingState
+holding_after w es k n = record {
+  roster = w.roster;
+  user = w.user k;
+  held = list_of k es;
+  itemless = n;
+}
 
 -- client k does these acts, one after the other
 abbrev pub acting : ℕ → List Act → List Event

@@ -100,8 +100,9 @@ pub fn commits_have_one_place()
 /// user's own last commit, also if nobody holds that list. So a rollback behind that commit is
 /// refused as `OwnMissing`.
 pub fn rollbacks_show()
-    ensures { (w : World) (es : List Event) (k : ℕ) (ys : List Committed) (shown : List Commit)
-        (last : Committed) → let v = holding_after w es k in let seen = all_taken es ++ ys in
+    ensures { (w : World) (es : List Event) (k n : ℕ) (ys : List Committed)
+        (shown : List Commit) (last : Committed)
+        → let v = holding_after w es k n in let seen = all_taken es ++ ys in
         Run w es → NoCollision (hashed w.roster seen) → NoForgery w es seen
         → w.honest v.user ≡ true → IsOnlyClient w k → Legal w.roster ys → AreOf ys shown
         → ShowsOwn v.roster v.user (own_last v) shown → last_by v.user v.held ≡ Some last
@@ -144,28 +145,32 @@ pub fn anything_legal_may_be_shown()
 
 /// The calls of honest users' views make a run. A new view holds what its client holds before all
 /// events. A call that took commits, as the clause `took` of a view's calls says it, and one that
-/// signed what its view may sign, is one event more of its client; what other clients hold stays.
+/// signed what its view may sign, is one event more of its client; what other clients hold stays. A
+/// view that leaves the items of its commits makes no event.
 pub fn calls_make_runs()
-    ensures new { (w : World) (k : ℕ) → holding_after w [] k
-        ≡ record { roster = w.roster; user = w.user k; held = [] } }
-    ensures taking { (w : World) (es : List Event) (k : ℕ) (v : HoldingState)
+    ensures new { (w : World) (k n : ℕ) → holding_after w [] k n
+        ≡ record { roster = w.roster; user = w.user k; held = []; itemless = n } }
+    ensures leaving { (w : World) (es : List Event) (k n m : ℕ)
+        → record (holding_after w es k n) { itemless = m } ≡ holding_after w es k m }
+    ensures taking { (w : World) (es : List Event) (k n : ℕ) (v : HoldingState)
         (more : List Committed) → Run w es → w.honest (w.user k) ≡ true
-        → Took (holding_after w es k) more v
-        → Run w (es ++ taking k more ∷ []) × (v ≡ holding_after w (es ++ taking k more ∷ []) k) }
-    ensures signing { (w : World) (es : List Event) (k : ℕ) (s : Version)
-        → Run w es → w.honest (w.user k) ≡ true → MaySign (holding_after w es k) s
+        → Took (holding_after w es k n) more v
+        → Run w (es ++ taking k more ∷ []) × (v ≡ holding_after w (es ++ taking k more ∷ []) k n) }
+    ensures signing { (w : World) (es : List Event) (k n : ℕ) (s : Version)
+        → Run w es → w.honest (w.user k) ≡ true → MaySign (holding_after w es k n) s
         → Run w (es ++ signing k s ∷ [])
-        × (holding_after w (es ++ signing k s ∷ []) k ≡ holding_after w es k) }
-    ensures others { (w : World) (es : List Event) (j k : ℕ) (x : Act) → j ≢ k
-        → holding_after w (es ++ record { client = k; act = x } ∷ []) j ≡ holding_after w es j }
+        × (holding_after w (es ++ signing k s ∷ []) k n ≡ holding_after w es k n) }
+    ensures others { (w : World) (es : List Event) (j k n : ℕ) (x : Act) → j ≢ k
+        → holding_after w (es ++ record { client = k; act = x } ∷ []) j n ≡ holding_after w es j n }
 {}
 
 /// What an honest user's client does act by act, as the clause `acts` of a member's calls says it,
 /// makes a run of what came before: what holds of runs holds of a program that does it.
 pub fn acts_make_runs()
-    ensures acts { (w : World) (es : List Event) (k : ℕ) (acts : List Act) (v : HoldingState)
-        → Run w es → w.honest (w.user k) ≡ true → Does (holding_after w es k) acts v
-        → Run w (es ++ acting k acts) × (v ≡ holding_after w (es ++ acting k acts) k) }
+    ensures acts { (w : World) (es : List Event) (k n : ℕ) (acts : List Act)
+        (v : HoldingState)
+        → Run w es → w.honest (w.user k) ≡ true → Does (holding_after w es k n) acts v
+        → Run w (es ++ acting k acts) × (v ≡ holding_after w (es ++ acting k acts) k n) }
 {}
 
 /// The runs of which the laws on forks speak have signatures in them: a commit that an honest user's
@@ -173,8 +178,8 @@ pub fn acts_make_runs()
 /// run without forgery into one more, in which it is signed.
 pub fn commits_make_runs()
     ensures none { (w : World) → Run w [] × NoForgery w [] (all_taken []) }
-    ensures more { (w : World) (es : List Event) (k : ℕ) (c : Committed)
-        → let v = holding_after w es k in
+    ensures more { (w : World) (es : List Event) (k n : ℕ) (c : Committed)
+        → let v = holding_after w es k n in
         Run w es → NoForgery w es (all_taken es) → w.honest (w.user k) ≡ true
         → MaySign v c.commit.version → MayJoin v.roster v.held c → CommitsIn w es k c }
 {}

@@ -4,7 +4,11 @@ use Rattle.std.specs.Option.{option_or}
 use Rattle.std.proofs.Math.Seq.{take-suc}
 use Rattle.std.proofs.lemmas.List.{length-take-le}
 use Rattle.su_bytes.specs.declared.file_ids.FileId.{FileId}
+use Rattle.su_op.specs.declared.operations.Op.TheVariants.{Create, Unlink, Write, Truncate, Take, Link, Rename, Drop}
+use Rattle.su_op.specs.declared.operations.Change.{Change}
+use Rattle.su_op.specs.declared.operations.Change.TheVariants.{Do, Undo, Rekey}
 use Rattle.su_desk.specs.declared.entries.Entry.{Entry}
+use Rattle.su_desk.specs.KeptEntry.{without_bytes}
 use Rattle.su_person.specs.LastChange.{last_from, touches}
 
 pub last_more : (n : ℕ) (h : List Entry) (f : FileId) (es : List Entry) (e : Entry)
@@ -31,3 +35,16 @@ last_of_more h f i e inside is =
     ap (last_from 1 h f) more
     ∙ last_more 1 h f (take i h) e
     ∙ ap (λ (k : ℕ). cond (touches h f e.change) (Some (k, e.author)) (last_from 1 h f (take i h))) number
+
+-- a change touches the bytes of a file as it does without its own
+pub touches_so : (h : List Entry) (f : FileId) (c : Change) → touches h f (without_bytes c) ≡ touches h f c
+touches_so h f (Do (Create x)) = refl
+touches_so h f (Do (Unlink x)) = refl
+touches_so h f (Do (Write x)) = refl
+touches_so h f (Do (Truncate x)) = refl
+touches_so h f (Do (Take x)) = refl
+touches_so h f (Do (Link x)) = refl
+touches_so h f (Do (Rename x)) = refl
+touches_so h f (Do (Drop x)) = refl
+touches_so h f (Undo n) = refl
+touches_so h f (Rekey k) = refl

@@ -36,7 +36,7 @@ takes_none s t takes same = record {
 }
   where
     none : (more : List Committed) → Took s.holding more t.holding → t.holding ≡ s.holding
-    none [] took = took.becomes ∙ ap (λ (l : List Committed). record { roster = s.holding.roster; user = s.holding.user; held = l }) (append-nil s.holding.held)
+    none [] took = took.becomes ∙ ap (λ (l : List Committed). record { roster = s.holding.roster; user = s.holding.user; held = l; itemless = s.holding.itemless }) (append-nil s.holding.held)
     none (c ∷ more) took =
         let longer : length t.holding.held ≡ length (s.holding.held ++ c ∷ more) = ap (λ (v : HoldingState). length v.held) took.becomes in
         let none_ : ⊥ = omega (arith, length-append s.holding.held (c ∷ more), longer, same) in

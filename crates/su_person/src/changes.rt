@@ -5,30 +5,30 @@ ghost use Rattle.su_desk.specs.History.{entry_at};
 ghost use Rattle.su_person.specs.LastChange.{changes_bytes, does_change, last_change, touches};
 
 use su_bytes::{FileId, User};
-use su_desk::Entry;
+use su_desk::KeptEntry;
 use su_op::{Change, Op};
 
 /// Returns the number of the last entry of a history that changed the bytes of a file, and its author,
 /// if one did: it made the file, wrote to it or cut it, or undid an entry that had.
-pub fn last_change(entries: &[Entry], file: &FileId) -> Option<(u64, User)>
+pub fn last_change(entries: &[KeptEntry], file: &FileId) -> Option<(u64, User)>
     ensures { result ≡ last_change entries.now file.now }
 {
     let mut last = None;
     for (index, entry) in entries.iter().enumerate() {
-        if touches(entries, &entry.change, file) {
-            last = Some((index as u64 + 1, entry.author));
+        if touches(entries, entry.change(), file) {
+            last = Some((index as u64 + 1, entry.author()));
         }
     }
     last
 }
 
 /// Tells whether a change of a history changes the bytes of a file, or undoes one that did.
-fn touches(entries: &[Entry], change: &Change, file: &FileId) -> bool
+fn touches(entries: &[KeptEntry], change: &Change, file: &FileId) -> bool
     ensures { result ≡ touches entries.now file.now change.now }
 {
     match change {
         Change::Undo(number) => match entry_of(entries, *number) {
-            Some(entry) => does_change(&entry.change, file),
+            Some(entry) => does_change(entry.change(), file),
             None => false,
         },
         change => does_change(change, file),
@@ -36,7 +36,7 @@ fn touches(entries: &[Entry], change: &Change, file: &FileId) -> bool
 }
 
 /// Returns the entry of a number, if there is one.
-fn entry_of(entries: &[Entry], number: u64) -> Option<&Entry>
+fn entry_of(entries: &[KeptEntry], number: u64) -> Option<&KeptEntry>
     ensures { option_copied result ≡ entry_at entries.now number }
 {
     if number == 0 {

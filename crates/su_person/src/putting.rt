@@ -20,7 +20,7 @@ use std::alloc::Global;
 use std::io::{Read, Write};
 use su_bytes::{FileId, NEWEST_FORMAT, Refusal, User};
 use su_client_work::Member;
-use su_desk::Entry;
+use su_desk::KeptEntry;
 use su_lms::KeyStore;
 use su_op::largest_file;
 use su_pieces::put_commands;
@@ -182,7 +182,7 @@ where
 /// Checks that the user knows the bytes of a file, or that they are to be written over all the same.
 /// `Changed` with the number and the author of the change that the user doesn't know.
 fn check_seen(
-    entries: &[Entry],
+    entries: &[KeptEntry],
     user: User,
     file: &FileId,
     new: &NewContents<'_>,

@@ -194,11 +194,11 @@ module _ (k : Keeping) (kept : IsKeeping k) (e : Entry) (c : Commit) (change : C
 
 -- what is held then
 pub took_next : (k l m : Keeping) (v : HoldingState) (c : Commit) (change : Change) (bytes item : List ℕ) → holding_of k ≡ v
-    → l.user ≡ k.user → l.records.items ≡ k.records.items → l.desk.settled ≡ k.desk.settled
+    → l.user ≡ k.user → l.records.items ≡ k.records.items → l.itemless ≡ k.itemless → l.desk.settled ≡ k.desk.settled
     → JoinsNext l c change bytes item → holding_of m ≡ with_more (holding_of l) (record { commit = c; change = change } ∷ [])
     → Took v (record { commit = c; change = change } ∷ []) (holding_of m)
-took_next k l m v c change bytes item is user records settled next more =
-    let same : holding_of l ≡ v = (λ i. record { roster = (settled i).roster; user = user i; held = held_in (records i) (settled i).history }) ∙ is in
+took_next k l m v c change bytes item is user records itemless settled next more =
+    let same : holding_of l ≡ v = (λ i. record { roster = (settled i).roster; user = user i; held = held_in (records i) (settled i).history; itemless = itemless i }) ∙ is in
     record {
       may = (subst (λ (w : HoldingState). MayJoin w.roster w.held (record { commit = c; change = change })) same next.joins, tt);
       becomes = more ∙ ap (λ w. with_more w (record { commit = c; change = change } ∷ [])) same;

@@ -1,11 +1,14 @@
 -- What is kept with one commit more.
-use Rattle.std.proofs.Common.{◌≡◌, ℕ, zero, suc, ◌+◌, ◌-◌, ◌<◌, Bool, true, false, cond, List, [], ◌∷◌, ◌++◌, map, length, length-append, drop, Option, Some, None, nat_eq, slice_get, refl, sym, ap, ◌∙◌, subst, arith}
-use Rattle.std.specs.Option.{option_or}
+use Rattle.std.proofs.Common.{◌≡◌, ℕ, zero, suc, ◌+◌, ◌-◌, ◌<◌, ◌≤◌, Bool, true, false, cond, List, [], ◌∷◌, ◌++◌, map, length, length-append, drop, Option, Some, None, nat_eq, slice_get, refl, sym, ap, ◌∙◌, subst, arith}
+use Rattle.std.specs.Global.{Vec}
+use Rattle.std.specs.Option.{option_map, option_or}
+use Rattle.std.proofs.lemmas.Option.{slice_get-map}
 use Rattle.std.proofs.lemmas.Bool.{eqb-true}
-use Rattle.std.proofs.lemmas.List.{map-append, length-map}
+use Rattle.std.proofs.lemmas.List.{drop-append-le, map-append, length-map}
 use Rattle.std.proofs.Math.Seq.{drop-append-add, drop-append_seam}
 use Rattle.su_bytes.specs.Membership.{Membership, IsRoster, has_user}
 use Rattle.su_format.specs.Part.{u32_bytes}
+use Rattle.su_change.specs.Item.{item_bytes}
 use Rattle.su_op.specs.declared.operations.Change.{Change}
 use Rattle.su_desk.specs.declared.entries.Entry.{Entry}
 use Rattle.su_desk.specs.Desk.{DeskState, with_entry}
@@ -16,8 +19,8 @@ use Rattle.su_chain.specs.ChainEnd.{IsEndOf}
 use Rattle.su_legal.specs.Legal.{Committed, author_of, commits_of, entry_made, entry_of, history, Legal}
 use Rattle.su_legal.proofs.Public.{legal_further}
 use Rattle.su_view.specs.LastCommits.{last_by}
-use Rattle.su_view.specs.Entry.{AreBytesAt}
-use Rattle.su_view.specs.Keeping.{commit_in, paired, held_in, AreBytesOf, AreBytes, IsLastIndex, holding_of, IsKeeping, JoinsNext}
+use Rattle.su_view.specs.Entry.{AreBytesAt, committed_at}
+use Rattle.su_view.specs.Keeping.{commit_in, paired, held_in, AreBytes, contents, items_of, IsLastIndex, holding_of, IsKeeping, JoinsNext}
 use Rattle.su_view.specs.declared.records.Record.{Record}
 use Rattle.su_view.specs.declared.records.Keeping.{Keeping}
 
@@ -44,7 +47,7 @@ paired_more [] (x ∷ h) c e l = absurd (omega arith)
 paired_more (x ∷ cs) [] c e l = absurd (omega arith)
 paired_more (x ∷ cs) (y ∷ h) c e l = ap (λ r. record { commit = x; change = y.change } ∷ r) (paired_more cs h c e (omega arith))
 
-bytes_more : (rs : List Record) (cs : List Committed) (r : Record) (c : Committed) → AreBytes rs cs → AreBytesOf r c → AreBytes (rs ++ r ∷ []) (cs ++ c ∷ [])
+bytes_more : (rs : List Record) (cs : List Committed) (r : Record) (c : Committed) → AreBytes rs cs → r.bytes.items ≡ commit_bytes c.commit → AreBytes (rs ++ r ∷ []) (cs ++ c ∷ [])
 bytes_more [] [] r c are is = (is, tt)
 bytes_more (x ∷ rs) (d ∷ cs) r c (here, are) is = (here, bytes_more rs cs r c are is)
 bytes_more [] (d ∷ cs) r c are is = absurd are
@@ -89,7 +92,7 @@ last_index_more u cs c (Some i) false is (less, last) =
 
 -- ---- all of it
 
-module _ (k : Keeping) (c : Commit) (change : Change) (r : Record) (kept : IsKeeping k) (next : JoinsNext k c change r.bytes.items r.item.items)
+module _ (k : Keeping) (c : Commit) (change : Change) (r : Record) (kept : IsKeeping k) (item : Vec ℕ) (next : JoinsNext k c change r.bytes.items item.items)
     (version : r.version ≡ c.version) where
   abbrev ro : Membership
   ro = k.desk.settled.roster
@@ -125,14 +128,31 @@ module _ (k : Keeping) (c : Commit) (change : Change) (r : Record) (kept : IsKee
   pub next_kept : MayBeNext ro (map commit_in rs) c
   next_kept = subst (λ cs. MayBeNext ro cs c) kept.commits next.joins.next
 
-  pub keeping_more : (l : Keeping) → l.user ≡ k.user → l.records.items ≡ rs ++ r ∷ [] → l.desk.settled ≡ with_entry k.desk.settled e
+  within : k.itemless ≤ length held
+  within =
+      let long = length-map held (λ c. c.commit) in
+      let same = ap length kept.commits ∙ length-map rs commit_in in
+      omega (arith, long, same, kept.counted)
+
+  more_items : items_of (drop k.itemless (held ++ x ∷ [])) ≡ contents (k.items.items ++ item ∷ [])
+  more_items =
+      ap items_of (drop-append-le k.itemless held (x ∷ []) within)
+      ∙ map-append (λ c. item_bytes c.change) (drop k.itemless held) (x ∷ [])
+      ∙ (λ i. sym kept.items i ++ sym next.item_is i ∷ [])
+      ∙ sym (map-append (λ (v : Vec ℕ). v.items) k.items.items (item ∷ []))
+
+  pub keeping_more : (l : Keeping) → l.user ≡ k.user → l.records.items ≡ rs ++ r ∷ [] → l.itemless ≡ k.itemless → l.items.items ≡ k.items.items ++ item ∷ [] → l.desk.settled ≡ with_entry k.desk.settled e
       → IsEndOf ro (map commit_in rs ++ c ∷ []) l.end → IsLastIndex k.user (held ++ x ∷ []) l.own → IsKeeping l
-  keeping_more l user records settled end own = record {
+  keeping_more l user records itemless items settled end own = record {
     roster = subst (λ (d : DeskState). IsRoster d.roster) (sym settled) kept.roster;
     commits = ap commits_of all ∙ map-append (λ c. c.commit) held (x ∷ []) ∙ ap (λ cs. cs ++ c ∷ []) kept.commits ∙ sym commits_more ∙ ap (map commit_in) (sym records);
     entries = ap history all ∙ map-append entry_of held (x ∷ []) ∙ ap (λ es. es ++ e ∷ []) kept.entries ∙ sym (ap (λ (d : DeskState). d.history) settled);
     bytes = subst (AreBytes l.records.items) (sym all) (subst (λ zs. AreBytes zs (held ++ x ∷ [])) (sym records)
-        (bytes_more rs held r x kept.bytes (record { commit = next.bytes_are; change = next.item_is })));
+        (bytes_more rs held r x kept.bytes next.bytes_are));
+    counted = ap length records ∙ length-append rs (r ∷ []) ∙ ap (λ n. n + 1) kept.counted
+        ∙ (let long = length-append k.items.items (item ∷ []) in omega (arith, long))
+        ∙ (λ i. sym itemless i + length (sym items i));
+    items = ap contents items ∙ sym more_items ∙ (λ i. items_of (drop (sym itemless i) (sym all i)));
     legal = subst (λ (d : DeskState). Legal d.roster (holding_of l).held) (sym settled) (subst (Legal ro) (sym all) (legal_further ro held x kept.legal next.joins));
     end_is = subst (λ (d : DeskState). IsEndOf d.roster (map commit_in l.records.items) l.end) (sym settled)
         (subst (λ cs. IsEndOf ro cs l.end) (sym (ap (map commit_in) records ∙ commits_more)) end);
@@ -145,13 +165,15 @@ module _ (k : Keeping) (c : Commit) (change : Change) (r : Record) (kept : IsKee
 
 -- ---- with more room, or another entry that stands ready
 
-pub keeping_still : (k l : Keeping) → IsKeeping k → l.user ≡ k.user → l.own ≡ k.own → l.records.items ≡ k.records.items → l.desk.settled ≡ k.desk.settled
+pub keeping_still : (k l : Keeping) → IsKeeping k → l.user ≡ k.user → l.own ≡ k.own → l.records.items ≡ k.records.items → l.itemless ≡ k.itemless → l.items.items ≡ k.items.items → l.desk.settled ≡ k.desk.settled
     → ((ro : Membership) (cs : List Commit) → IsEndOf ro cs k.end → IsEndOf ro cs l.end) → IsKeeping l
-keeping_still k l kept user own records settled end = record {
+keeping_still k l kept user own records itemless items settled end = record {
   roster = subst (λ (d : DeskState). IsRoster d.roster) (sym settled) kept.roster;
   commits = ap commits_of held ∙ kept.commits ∙ sym (ap (map commit_in) records);
   entries = ap history held ∙ kept.entries ∙ sym (ap (λ (d : DeskState). d.history) settled);
   bytes = subst (AreBytes l.records.items) (sym held) (subst (λ rs. AreBytes rs (holding_of k).held) (sym records) kept.bytes);
+  counted = ap length records ∙ kept.counted ∙ (λ i. sym itemless i + length (sym items i));
+  items = ap contents items ∙ kept.items ∙ (λ i. items_of (drop (sym itemless i) (sym held i)));
   legal = subst (λ (d : DeskState). Legal d.roster (holding_of l).held) (sym settled) (subst (Legal k.desk.settled.roster) (sym held) kept.legal);
   end_is = subst (λ (d : DeskState). IsEndOf d.roster (map commit_in l.records.items) l.end) (sym settled)
       (subst (λ rs. IsEndOf k.desk.settled.roster (map commit_in rs) l.end) (sym records) (end k.desk.settled.roster (map commit_in k.records.items) kept.end_is));
@@ -169,11 +191,11 @@ length-held k kept = sym (length-map (holding_of k).held (λ c. c.commit)) ∙ a
 -- ---- by number
 
 bytes_both : (rs : List Record) (cs : List Committed) → AreBytes rs cs → (i : ℕ) (r : Record) → slice_get rs i ≡ Some r
-    → (c : Committed) × (slice_get cs i ≡ Some c) × AreBytesOf r c
+    → (c : Committed) × (slice_get cs i ≡ Some c) × (r.bytes.items ≡ commit_bytes c.commit)
 bytes_both [] [] are i r here = absurd (cc)
 bytes_both [] (x ∷ cs) are i r here = absurd are
 bytes_both (y ∷ rs) [] are i r here = absurd are
-bytes_both (y ∷ rs) (x ∷ cs) (is, are) zero r here = let same : y ≡ r = cc in (x, refl, subst (λ z. AreBytesOf z x) same is)
+bytes_both (y ∷ rs) (x ∷ cs) (is, are) zero r here = let same : y ≡ r = cc in (x, refl, subst (λ (z : Record). z.bytes.items ≡ commit_bytes x.commit) same is)
 bytes_both (y ∷ rs) (x ∷ cs) (is, are) (suc i) r here = bytes_both rs cs are i r here
 
 above_zero : (n : ℕ) → 0 < n → nat_eq n 0 ≡ false
@@ -183,13 +205,41 @@ above_zero n less = go (nat_eq n 0) refl
     go false is = is
     go true is = let none = eqb-true n 0 is in absurd (omega (arith, none, less))
 
-pub entry_found : (k : Keeping) → IsKeeping k → (n : ℕ) (r : Record) (commit item : List ℕ) → 0 < n → slice_get k.records.items (n - 1) ≡ Some r
-    → commit ≡ r.bytes.items → item ≡ r.item.items → AreBytesAt (holding_of k).held n commit item
-entry_found k kept n r commit item some here commit_is item_is =
+-- the commit that is kept at an index
+pub commit_kept : (k : Keeping) → IsKeeping k → (n : ℕ) (r : Record) → 0 < n → slice_get k.records.items (n - 1) ≡ Some r
+    → option_map (λ c. commit_bytes c.commit) (committed_at (holding_of k).held n) ≡ Some r.bytes.items
+commit_kept k kept n r some here =
+    let (c, there, are) = bytes_both k.records.items (holding_of k).held kept.bytes (n - 1) r here in
+    ap (option_map (λ (d : Committed). commit_bytes d.commit)) (ap (λ b. cond b None (slice_get (holding_of k).held (n - 1))) (above_zero n some) ∙ there) ∙ ap Some (sym are)
+
+some_same : (x y : List ℕ) → ◌≡◌ {A = Option (List ℕ)} (Some x) (Some y) → x ≡ y
+some_same x y e = cc
+
+slice_drop : {A : Type 0} (n : ℕ) (xs : List A) (i : ℕ) → slice_get (drop n xs) i ≡ slice_get xs (n + i)
+slice_drop zero xs i = ap (slice_get xs) (omega arith)
+slice_drop (suc n) [] i = refl
+slice_drop (suc n) (x ∷ xs) i = slice_drop n xs i ∙ (let e : suc (n + i) ≡ suc n + i = omega arith in ap (slice_get (x ∷ xs)) e)
+
+-- the item that is kept at an index behind those that aren't at hand
+item_kept : (k : Keeping) → IsKeeping k → (i : ℕ) (v : Vec ℕ) → k.itemless ≤ i → slice_get k.items.items (i - k.itemless) ≡ Some v
+    → (c : Committed) → slice_get (holding_of k).held i ≡ Some c → v.items ≡ item_bytes c.change
+item_kept k kept i v behind here c there =
+    let j = i - k.itemless in
+    let held = (holding_of k).held in
+    let same : slice_get (drop k.itemless held) j ≡ Some c =
+    slice_drop k.itemless held j ∙ ap (slice_get held) (omega (arith, behind)) ∙ there in
+    some_same v.items (item_bytes c.change)
+    (ap (option_map (λ (w : Vec ℕ). w.items)) (sym here) ∙ sym (slice_get-map (λ (w : Vec ℕ). w.items) k.items.items j)
+    ∙ ap (λ zs. slice_get zs j) kept.items ∙ slice_get-map (λ (d : Committed). item_bytes d.change) (drop k.itemless held) j ∙ ap (option_map (λ (d : Committed). item_bytes d.change)) same)
+
+pub entry_found : (k : Keeping) → IsKeeping k → (n : ℕ) (r : Record) (v : Vec ℕ) (commit item : List ℕ) → 0 < n → slice_get k.records.items (n - 1) ≡ Some r
+    → k.itemless ≤ n - 1 → slice_get k.items.items (n - 1 - k.itemless) ≡ Some v
+    → commit ≡ r.bytes.items → item ≡ v.items → AreBytesAt (holding_of k).held n commit item
+entry_found k kept n r v commit item some here behind at_hand commit_is item_is =
     let (c, there, are) = bytes_both k.records.items (holding_of k).held kept.bytes (n - 1) r here in
     record {
       committed = c;
       found = ap (λ b. cond b None (slice_get (holding_of k).held (n - 1))) (above_zero n some) ∙ there;
-      commit_is = commit_is ∙ are.commit;
-      item_is = item_is ∙ are.change;
+      commit_is = commit_is ∙ are;
+      item_is = item_is ∙ item_kept k kept (n - 1) v behind at_hand c there;
     }

@@ -47,7 +47,7 @@ module _ (M : List ℕ → Type 0) where
   pub none_taken : (v : HoldingState) (bytes : List ℕ) → HasTaken M v bytes 0 v bytes
   none_taken v bytes = record {
     more = [];
-    took = record { may = tt; becomes = ap (λ l. record { roster = v.roster; user = v.user; held = l }) (sym (append-nil v.held)) };
+    took = record { may = tt; becomes = ap (λ l. record { roster = v.roster; user = v.user; held = l; itemless = v.itemless }) (sym (append-nil v.held)) };
     given = tt;
     number = refl;
     front = refl;
@@ -64,7 +64,7 @@ module _ (M : List ℕ → Type 0) where
     took = record {
       may = after_both v.roster v.held t.more (c ∷ []) t.took.may (subst (λ (u : HoldingState). LegalAfter u.roster u.held (c ∷ [])) t.took.becomes took.may);
       becomes = took.becomes ∙ ap (λ u. with_more u (c ∷ [])) t.took.becomes
-          ∙ ap (λ l. record { roster = v.roster; user = v.user; held = l }) (append_assoc v.held t.more (c ∷ []));
+          ∙ ap (λ l. record { roster = v.roster; user = v.user; held = l; itemless = v.itemless }) (append_assoc v.held t.more (c ∷ []));
     };
     given = given_more t.more c t.given given;
     number = ap (λ n. n + 1) t.number ∙ sym (length-append t.more (c ∷ []));

@@ -58,7 +58,7 @@ bytes_at [] [] are i r c here there = absurd (cc)
 bytes_at [] (x ∷ cs) are i r c here there = absurd are
 bytes_at (y ∷ rs) [] are i r c here there = absurd are
 bytes_at (y ∷ rs) (x ∷ cs) (is, are) zero r c here there =
-    let one : y ≡ r = cc in let other : x ≡ c = cc in sym (ap (λ z. z.bytes.items) one) ∙ is.commit ∙ ap (λ z. commit_bytes z.commit) other
+    let one : y ≡ r = cc in let other : x ≡ c = cc in sym (ap (λ z. z.bytes.items) one) ∙ is ∙ ap (λ z. commit_bytes z.commit) other
 bytes_at (y ∷ rs) (x ∷ cs) (is, are) (suc i) r c here there = bytes_at rs cs are i r c here there
 
 module _ (k : Keeping) (kept : IsKeeping k) (i : ℕ) (r : Record) (here : slice_get k.records.items i ≡ Some r) where

@@ -13,6 +13,8 @@ pub record HoldingState : Type 0 where
   pub roster : Membership
   pub user : ℕ
   pub held : List Committed
+  -- of so many commits, the first ones, the items aren't at hand
+  pub itemless : ℕ
 
 -- the tree that the list makes
 abbrev pub tree_of_list : HoldingState → Tree
@@ -24,7 +26,12 @@ IsHeld v c = (i : ℕ) × (slice_get (commits_of v.held) i ≡ Some c)
 
 -- the same with these commits more
 abbrev pub with_more : HoldingState → List Committed → HoldingState
-with_more v more = record { roster = v.roster; user = v.user; held = v.held ++ more }
+with_more v more = record {
+  roster = v.roster;
+  user = v.user;
+  held = v.held ++ more;
+  itemless = v.itemless;
+}
 
 -- the client took these commits, as it may
 pub record Took (v : HoldingState) (more : List Committed) (v' : HoldingState) : Type 0 where

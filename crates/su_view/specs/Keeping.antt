@@ -1,6 +1,7 @@
 -- How what a client holds is kept: beside a desk with the changes, of each commit its version
--- structure and its bytes.
+-- structure and its bytes, and of the last ones the items.
 use Rattle.std.specs.Prelude.{◌≡◌, ◌+◌, ◌<◌, ℕ, true, List, [], ◌∷◌, map, length, drop, Option, Some, None, slice_get}
+use Rattle.std.specs.Global.{Vec}
 use Rattle.su_bytes.specs.Membership.{IsRoster, has_user}
 use Rattle.su_op.specs.declared.operations.Change.{Change}
 use Rattle.su_desk.specs.declared.entries.Entry.{Entry}
@@ -30,15 +31,19 @@ paired _ _ = []
 abbrev pub held_in : List Record → List Entry → List Committed
 held_in rs h = paired (map commit_in rs) h
 
--- the bytes are the commit's, and the item that of its change
-pub record AreBytesOf (r : Record) (c : Committed) : Type 0 where
-  pub commit : r.bytes.items ≡ commit_bytes c.commit
-  pub change : r.item.items ≡ item_bytes c.change
-
+-- the bytes are those of the commits
 abbrev pub AreBytes : List Record → List Committed → Type 0
 AreBytes [] [] = Unit {0}
-AreBytes (r ∷ rs) (c ∷ cs) = AreBytesOf r c × AreBytes rs cs
+AreBytes (r ∷ rs) (c ∷ cs) = (r.bytes.items ≡ commit_bytes c.commit) × AreBytes rs cs
 AreBytes _ _ = ⊥
+
+-- the bytes of each
+abbrev pub contents : List (Vec ℕ) → List (List ℕ)
+contents items = map (λ item. item.items) items
+
+-- the items of the changes
+abbrev pub items_of : List Committed → List (List ℕ)
+items_of cs = map (λ c. item_bytes c.change) cs
 
 -- this is the index of the last commit of user u, if there is one
 abbrev pub IsLastIndex : ℕ → List Committed → Option ℕ → Type 0
@@ -51,6 +56,7 @@ holding_of k = record {
   roster = k.desk.settled.roster;
   user = k.user;
   held = held_in k.records.items k.desk.settled.history;
+  itemless = k.itemless;
 }
 
 -- Commits and entries belong together, and make a legal list; and what else is kept is theirs.
@@ -59,6 +65,8 @@ pub record IsKeeping (k : Keeping) : Type 0 where
   pub commits : commits_of (holding_of k).held ≡ map commit_in k.records.items
   pub entries : history (holding_of k).held ≡ k.desk.settled.history
   pub bytes : AreBytes k.records.items (holding_of k).held
+  pub counted : length k.records.items ≡ k.itemless + length k.items.items
+  pub items : contents k.items.items ≡ items_of (drop k.itemless (holding_of k).held)
   pub legal : Legal k.desk.settled.roster (holding_of k).held
   pub end_is : IsEndOf k.desk.settled.roster (map commit_in k.records.items) k.end
   pub member : has_user k.desk.settled.roster k.user ≡ true

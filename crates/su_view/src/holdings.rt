@@ -56,7 +56,7 @@ impl Holding {
     /// Makes what a client of that user holds at first: no commits. `BadKey` where a user's key is
     /// none, `NoUser` where there is no such user; else only `NoMemory`.
     pub fn new(alloc: Global, roster: Roster, user: User) -> Result<Holding, Refusal>
-        ensures value { IfOk result (λ h. h ≡ record { roster = roster; user = user; held = [] }) }
+        ensures value { IfOk result (λ h. h ≡ record { roster = roster; user = user; held = []; itemless = 0 }) }
         ensures user { OnOk result (has_user roster user ≡ true) }
         ensures refused { IfErr result (λ e. ((e ≡ BadKey) × HasBadKey roster)
             ⊎ ((e ≡ NoUser user) × ¬ HasBadKey roster × ¬ (has_user roster user ≡ true))
@@ -74,6 +74,8 @@ impl Holding {
             user,
             own: None,
             records: Vec::new(alloc),
+            itemless: 0,
+            items: Vec::new(alloc),
             end,
             desk,
         };

@@ -12,28 +12,30 @@ ghost use Rattle.su_view.specs.Holding.{with_more};
 ghost use Rattle.su_view.specs.Keeping.{holding_of, IsKeeping, JoinsNext};
 
 use sha2::Sha256;
-use std::alloc::AllocError;
+use std::alloc::{AllocError, Global};
 use su_bytes::{Digest, User};
 use su_chain::ChainEnd;
 use su_desk::{Prepared, TrialDesk};
 use su_version::{Commit, VersionStructure};
 
-/// A commit that is held: its version structure, its bytes, and the item of its change.
+/// A commit that is held: its version structure, and its bytes.
 #[derive(Drop)]
 pub(crate) struct Record {
     pub(crate) version: VersionStructure,
     pub(crate) bytes: Vec<u8>,
-    pub(crate) item: Vec<u8>,
 }
 
-/// What a client keeps: whose client it is, the index of the user's last commit, the commits, what
-/// they come to for the next one, and the desk that their changes make. (It has no model, so that
-/// its fields can be lent; what it means is its owner's.)
+/// What a client keeps: whose client it is, the index of the user's last commit, the commits, how
+/// many of them have no item at hand, which are the first, the items of the others, what the commits
+/// come to for the next one, and the desk that their changes make. (It has no model, so that its
+/// fields can be lent; what it means is its owner's.)
 #[derive(Drop)]
 pub(crate) struct Keeping {
     pub(crate) user: User,
     pub(crate) own: Option<usize>,
     pub(crate) records: Vec<Record>,
+    pub(crate) itemless: usize,
+    pub(crate) items: Vec<Vec<u8>>,
     pub(crate) end: ChainEnd,
     pub(crate) desk: TrialDesk,
 }
@@ -42,15 +44,23 @@ impl Keeping {
     /// Makes room for one commit more. Fails only where memory is refused.
     pub fn reserve(&mut self) -> Result<(), AllocError>
         ensures same { self.new
-            ≡ record self.old { records = self.new.records; end = self.new.end } }
+            ≡ record self.old {
+              records = self.new.records;
+              items = self.new.items;
+              end = self.new.end;
+            } }
         ensures records { self.new.records.items ≡ self.old.records.items }
+        ensures items { self.new.items.items ≡ self.old.items.items }
         ensures end { (ro : Membership) (cs : List CommitParts)
             → IsEndOf ro cs self.old.end → IsEndOf ro cs self.new.end }
         ensures room { OnOk result
             (length self.new.records.items < vec_capacity self.new.records) }
+        ensures item_room { OnOk result
+            (length self.new.items.items < vec_capacity self.new.items) }
         ensures key_room { OnOk result (HasRoom self.new.end.used) }
     {
         self.records.reserve(1)?;
+        self.items.reserve(1)?;
         self.end.reserve()
     }
 
@@ -59,6 +69,7 @@ impl Keeping {
     pub fn push(&mut self, commit: Commit, bytes: Vec<u8>, item: Vec<u8>, prepared: Prepared)
         requires kept { IsKeeping self.old }
         requires room { length self.old.records.items < vec_capacity self.old.records }
+        requires item_room { length self.old.items.items < vec_capacity self.old.items }
         requires key_room { HasRoom self.old.end.used }
         requires ready { IsReady self.old.desk prepared }
         requires joins { (change : Change)
@@ -74,11 +85,23 @@ impl Keeping {
         self.own = last_index(self.own, is_own, self.records.len());
         self.end.push(self.desk.roster(), &commit, digest);
         self.desk.settle(prepared);
+        self.items.push_reserved(item);
         self.records.push_reserved(Record {
             version: commit.into_version(),
             bytes,
-            item,
         });
+    }
+
+    /// Forgets the items of all commits.
+    pub fn leave_items(&mut self, alloc: Global)
+        requires kept { IsKeeping self.old }
+        ensures kept { IsKeeping self.new }
+        ensures left { holding_of self.new ≡ record (holding_of self.old) {
+          itemless = length (holding_of self.old).held;
+        } }
+    {
+        self.itemless = self.records.len();
+        self.items = Vec::new(alloc);
     }
 }
 

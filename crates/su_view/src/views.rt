@@ -1,5 +1,5 @@
 // A client's view.
-ghost use Rattle.std.specs.Prelude.{◌≡◌, ◌≢◌, ◌⊎◌, ◌∷◌, ◌++◌, ◌+◌, ◌-◌, ◌<◌, ◌^◌, ◌↔◌, ℕ, List, [], true, length, None, Ok, Err, IsTrue, IfOk, IfErr, OnOk, OnErr, MatchOption, option_map};
+ghost use Rattle.std.specs.Prelude.{◌≡◌, ◌≢◌, ◌⊎◌, ◌∷◌, ◌++◌, ◌+◌, ◌-◌, ◌<◌, ◌≤◌, ◌^◌, ◌↔◌, ℕ, List, [], true, length, None, Ok, Err, IsTrue, IfOk, IfErr, OnOk, OnErr, MatchOption, option_copied, option_map};
 ghost use Rattle.std.specs.Borrow.{Lends, sem};
 ghost use Rattle.su_bytes.specs.Membership.{has_user};
 ghost use Rattle.su_bytes.specs.declared.formats.TheConstants.{NEWEST_FORMAT};
@@ -36,7 +36,7 @@ use crate::stats::Stat;
 use std::alloc::Global;
 use su_block::BlockSource;
 use su_bytes::{Digest, FileId, Name, Principal, Refusal, Roster, User};
-use su_desk::Entry;
+use su_desk::KeptEntry;
 use su_lms::{KeyStore, PublicKey};
 use su_op::{Change, Op};
 use su_plan::Command;
@@ -56,7 +56,7 @@ impl<S: BlockSource + Drop> View<S> {
     /// roster is none, `NoUser` where there is no such user; else only `NoMemory`.
     pub fn new(alloc: Global, roster: Roster, user: User, source: S) -> Result<View<S>, Refusal>
         ensures holding { IfOk result (λ view.
-            view.holding ≡ record { roster = roster; user = user; held = [] }) }
+            view.holding ≡ record { roster = roster; user = user; held = []; itemless = 0 }) }
         ensures source { IfOk result (λ view. view.source ≡ source) }
         ensures refused { IfErr result (λ e. ((e ≡ BadKey) × HasBadKey roster)
             ⊎ ((e ≡ NoUser user) × ¬ HasBadKey roster × ¬ (has_user roster user ≡ true))
@@ -381,12 +381,33 @@ impl<S: BlockSource + Drop> View<S> {
     }
 
     /// Lends the bytes of the commit of that number, from 1, and the item of its change; none
-    /// where the view holds no commit of that number.
+    /// where the view holds no commit of that number, or its item was left.
     pub fn entry(&self, number: u64) -> Option<(&[u8], &[u8])>
-        ensures { MatchOption result (committed_at self.now.holding.held number ≡ None) (λ entry.
-            AreBytesAt self.now.holding.held number entry.0.now entry.1.now) }
+        ensures { let v = self.now.holding in MatchOption result
+            ((committed_at v.held number ≡ None) ⊎ (number ≤ v.itemless))
+            (λ entry. AreBytesAt v.held number entry.0.now entry.1.now) }
     {
         self.holding.entry(number)
+    }
+
+    /// Lends the bytes of the commit of that number, from 1, if the view holds one.
+    pub fn commit(&self, number: u64) -> Option<&[u8]>
+        ensures { option_copied result ≡ option_map (λ c. commit_bytes c.commit)
+            (committed_at self.now.holding.held number) }
+    {
+        self.holding.commit(number)
+    }
+
+    /// Leaves the items of the changes to whoever has them elsewhere, as in a log: of the commits
+    /// that the view holds now `entry` lends none from then on, and no memory holds their items.
+    /// Nothing else of the view changes.
+    pub fn leave_items(&mut self)
+        ensures holding { self.new.holding ≡ record self.old.holding {
+          itemless = length self.old.holding.held;
+        } }
+        ensures source { self.new.source ≡ self.old.source }
+    {
+        self.holding.leave_items();
     }
 
     /// Returns the version numbers of the users of the roster, and then of its groups: of a user
@@ -408,7 +429,7 @@ impl<S: BlockSource + Drop> View<S> {
     }
 
     /// Lends the history that the list tells: of each commit who made which change, in which format.
-    pub fn history(&self) -> &[Entry]
+    pub fn history(&self) -> &[KeptEntry]
         ensures { result.now ≡ history self.now.holding.held }
     {
         self.holding.history()

@@ -1,6 +1,6 @@
 // What has to be undone before an operation of a list can be.
-ghost use Rattle.std.specs.Prelude.{◌≡◌, ◌⊎◌, Some, map, IfOk, IfErr};
-ghost use Rattle.su_bytes.specs.declared.refusals.Refusal.TheVariants.{NoMemory};
+ghost use Rattle.std.specs.Prelude.{◌≡◌, ◌⊎◌, ◌<◌, Some, map, IfOk, IfErr};
+ghost use Rattle.su_bytes.specs.declared.refusals.Refusal.TheVariants.{MissingBlock, NoMemory};
 ghost use Rattle.su_desk.specs.Answer.{Good, live_refusal};
 ghost use Rattle.su_legal.specs.Legal.{history};
 ghost use Rattle.su_reasons.specs.Reasons.{AreReasons};
@@ -16,7 +16,8 @@ use su_view::View;
 /// Finds the operations of a view's list that have to be undone before that one can be, in an order
 /// in which they can be: `su_reasons::reasons` of the history that the list tells, which is gone
 /// through once more on a desk of its own. `roster` is the view's. `NoOperation`, `NotOperation`,
-/// `AlreadyUndone` where the number isn't that of a live operation; else only `NoMemory`.
+/// `AlreadyUndone` where the number isn't that of a live operation; `MissingBlock` where the view has
+/// left an item of its list; `NoMemory`.
 pub fn reasons_in<S: BlockSource + Drop>(
     alloc: Global,
     roster: Roster,
@@ -26,8 +27,9 @@ pub fn reasons_in<S: BlockSource + Drop>(
     requires { roster ≡ view.now.holding.roster }
     ensures reasons { let v = view.now.holding in IfOk result (λ numbers.
         AreReasons v.roster (history v.held) number numbers.items) }
-    ensures refused { IfErr result (λ e. (e ≡ NoMemory)
-        ⊎ (live_refusal (history view.now.holding.held) number ≡ Some e)) }
+    ensures refused { let v = view.now.holding in IfErr result (λ e. (e ≡ NoMemory)
+        ⊎ ((e ≡ MissingBlock) × (0 < v.itemless))
+        ⊎ (live_refusal (history v.held) number ≡ Some e)) }
 {
     // names the type for the prover (docs/ARCHITECTURE.md, "Forms the kit wants")
     let _file: Option<FileId> = None;

@@ -1,10 +1,11 @@
 // What is asked of what a client holds.
-ghost use Rattle.std.specs.Prelude.{◌≡◌, ◌⊎◌, Ok, Err, IfOk, IfErr, None, MatchOption, length};
+ghost use Rattle.std.specs.Prelude.{◌≡◌, ◌⊎◌, ◌≤◌, Ok, Err, IfOk, IfErr, None, MatchOption, length, option_copied, option_map};
 ghost use Rattle.su_bytes.specs.declared.formats.TheConstants.{NEWEST_FORMAT};
 ghost use Rattle.su_bytes.specs.declared.refusals.Refusal.TheVariants.{NoMemory};
 ghost use Rattle.su_desk.specs.History.{live_numbers};
 ghost use Rattle.su_desk.specs.Rehearsal.{first_refusal};
 ghost use Rattle.su_desk.specs.Version.{versions};
+ghost use Rattle.su_version.specs.Commit.{commit_bytes};
 ghost use Rattle.su_draft.specs.Walk.{found};
 ghost use Rattle.su_plan.specs.Plan.{plan};
 ghost use Rattle.su_legal.specs.Legal.{head_of, history, Legal};
@@ -16,7 +17,7 @@ ghost use Rattle.su_view.specs.Stat.{stat_in};
 use crate::holdings::Holding;
 use crate::stats::{Stat, stat_in};
 use su_bytes::{Digest, FileId, Name, Principal, Refusal, Roster, User};
-use su_desk::Entry;
+use su_desk::KeptEntry;
 use su_op::Op;
 use su_plan::{Command, find, plan};
 
@@ -45,10 +46,29 @@ impl Holding {
     }
 
     /// Lends the bytes of the commit of that number, from 1, and the item of its change, if there
-    /// is one.
+    /// is one and its item is at hand.
     pub fn entry(&self, number: u64) -> Option<(&[u8], &[u8])>
-        ensures { MatchOption result (committed_at self.now.held number ≡ None) (λ entry.
-            AreBytesAt self.now.held number entry.0.now entry.1.now) }
+        ensures { MatchOption result
+            ((committed_at self.now.held number ≡ None) ⊎ (number ≤ self.now.itemless))
+            (λ entry. AreBytesAt self.now.held number entry.0.now entry.1.now) }
+    {
+        let itemless = self.keeping.itemless;
+        if number <= itemless as u64 {
+            return None;
+        }
+        if self.number() < number {
+            return None;
+        }
+        let index = (number - 1) as usize;
+        let record = &self.keeping.records[index];
+        let item = &self.keeping.items[index - itemless];
+        Some((record.bytes.as_slice(), item.as_slice()))
+    }
+
+    /// Lends the bytes of the commit of that number, from 1, if there is one.
+    pub fn commit(&self, number: u64) -> Option<&[u8]>
+        ensures { option_copied result ≡ option_map (λ c. commit_bytes c.commit)
+            (committed_at self.now.held number) }
     {
         if number == 0 {
             return None;
@@ -57,11 +77,18 @@ impl Holding {
             return None;
         }
         let record = &self.keeping.records[(number - 1) as usize];
-        Some((record.bytes.as_slice(), record.item.as_slice()))
+        Some(record.bytes.as_slice())
+    }
+
+    /// Leaves the items of all commits.
+    pub fn leave_items(&mut self)
+        ensures { self.new ≡ record self.old { itemless = length self.old.held } }
+    {
+        self.keeping.leave_items(self.alloc);
     }
 
     /// Lends the history that the list tells.
-    pub fn history(&self) -> &[Entry]
+    pub fn history(&self) -> &[KeptEntry]
         ensures { result.now ≡ history self.now.held }
     {
         self.keeping.desk.history()

@@ -12,10 +12,10 @@ loop-before-preserved g c =
     let test = c.loop-before-test.true in
     saved_more held c.loop-before.before (left_out ++ c.loop-before.log.items) (left_out ++ c.put_entry.new.log.items)
     (omega (arith, count, test)) c.loop-before.invariant
-    (λ d there. ap (λ (l : List ℕ). left_out ++ l) (c.in_ok-put_entry.ensures d there) ∙ sym (append_assoc left_out c.loop-before.log.items (entry_bytes d)))
+    (λ d there. ap (λ (l : List ℕ). left_out ++ l) (c.in_ok-put_entry.ensures.value d there) ∙ sym (append_assoc left_out c.loop-before.log.items (entry_bytes d)))
 
-pub returns : goal.returns
-returns g c =
+pub returns-clause-value : goal.returns-clause-value
+returns-clause-value g c =
     let held = c.args.view.now.holding.held in
     let count = ap (λ (head : ℕ × List ℕ). head.0) c.head-count.ensures.value in
     let test = c.loop-before-test.false in

@@ -4,5 +4,5 @@ use Rattle.su_fork.proofs.laws.commits_make_runs.Goals as goal
 pub returns : goal.returns
 returns c = record {
   none = none_forged;
-  more = commits_in;
+  more = λ w es k n c. commits_in w es k c;
 }

@@ -1,6 +1,6 @@
-use Rattle.std.proofs.Common.{◌+◌, ◌∙◌, Bool, cond, Some, sym, ap, take}
-use Rattle.su_person.specs.LastChange.{last_from}
-use Rattle.su_person.proofs.ChangeLemmas.{last_of_more}
+use Rattle.std.proofs.Common.{ℕ, ◌+◌, ◌∙◌, Bool, cond, Some, sym, ap, take}
+use Rattle.su_person.specs.LastChange.{last_from, touches}
+use Rattle.su_person.proofs.ChangeLemmas.{last_of_more, touches_so}
 use Rattle.su_person.proofs.changes.last_change.Goals.{then-touches, else-touches}
 use Rattle.su_person.proofs.changes.last_change.Goals as goal
 
@@ -11,8 +11,9 @@ loop-index-preserved c =
     let i = c.loop-index.index in
     let e = c.index-entries-index.result in
     let more = last_of_more h f i e c.loop-index-test.true c.index-entries-index.is in
+    let touched = c.touches.ensures ∙ ap (touches h f) c.change.ensures ∙ touches_so h f e.change in
     elim c.if-touches.branch [
-      | then-touches w ↦ w.last-is ∙ sym (more ∙ ap (λ (b : Bool). cond b (Some (i + 1, e.author)) (last_from 1 h f (take i h))) (sym c.touches.ensures ∙ w.if-touches.true))
+      | then-touches w ↦ w.last-is ∙ ap (λ (a : ℕ). Some (i + 1, a)) w.author.ensures ∙ sym (more ∙ ap (λ (b : Bool). cond b (Some (i + 1, e.author)) (last_from 1 h f (take i h))) (sym touched ∙ w.if-touches.true))
       | else-touches w ↦ w.last-is ∙ c.loop-index.invariant
-          ∙ sym (more ∙ ap (λ (b : Bool). cond b (Some (i + 1, e.author)) (last_from 1 h f (take i h))) (sym c.touches.ensures ∙ w.if-touches.false))
+          ∙ sym (more ∙ ap (λ (b : Bool). cond b (Some (i + 1, e.author)) (last_from 1 h f (take i h))) (sym touched ∙ w.if-touches.false))
     ]

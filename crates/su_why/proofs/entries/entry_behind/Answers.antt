@@ -1,8 +1,8 @@
-use Rattle.std.proofs.Common.{◌≡◌, ◌∙◌, [], Some, sym, ap}
+use Rattle.std.proofs.Common.{◌⊎◌, ◌<◌, inl, ◌≡◌, ◌∙◌, [], Some, sym, ap}
 use Rattle.su_desk.specs.History.{entry_by}
 use Rattle.su_legal.specs.Legal.{entry_made, entry_of}
 use Rattle.su_version.specs.Version.{Version}
-use Rattle.su_bytes.specs.declared.refusals.Refusal.TheVariants.{NoMemory}
+use Rattle.su_bytes.specs.declared.refusals.Refusal.TheVariants.{MissingBlock, NoMemory}
 use Rattle.su_reasons.proofs.Public.{refused_by}
 use Rattle.su_why.proofs.Listed.{behind, entry_there, read_so, refused_so, spelled_at}
 use Rattle.su_why.proofs.entries.entry_behind.Goals as goal
@@ -13,8 +13,8 @@ returns-in_err-commit-clause-refused g c =
     let found = c.in-Some.ensures in
     let k = found.committed in
     let spelled = spelled_at v.roster [] v.held c.head-head.ensures.legal c.args.before k (behind v.held c.args.before k found.found) in
-    refused_by (λ e. e ≡ NoMemory) c.from_residual.result c.in_err-commit.field-0.0 c.from_residual.ensures.1
-    (refused_so c.decode.result k.commit c.in_err-commit.field-0.0 c.in_err-commit.was (c.decode.ensures.only k.commit spelled.is_commit found.commit_is))
+    refused_by (λ e. (e ≡ NoMemory) ⊎ ((e ≡ MissingBlock) × (0 < v.itemless))) c.from_residual.result c.in_err-commit.field-0.0 c.from_residual.ensures.1
+    (inl (refused_so c.decode.result k.commit c.in_err-commit.field-0.0 c.in_err-commit.was (c.decode.ensures.only k.commit spelled.is_commit found.commit_is)))
 
 pub returns-in_err-change-clause-refused : goal.returns-in_err-change-clause-refused
 returns-in_err-change-clause-refused g c =
@@ -22,8 +22,8 @@ returns-in_err-change-clause-refused g c =
     let found = c.in-Some.ensures in
     let k = found.committed in
     let spelled = spelled_at v.roster [] v.held c.head-head.ensures.legal c.args.before k (behind v.held c.args.before k found.found) in
-    refused_by (λ e. e ≡ NoMemory) c.from_residual-in_err-change.result c.in_err-change.field-0.0 c.from_residual-in_err-change.ensures.1
-    (refused_so c.decode-2.result k.change c.in_err-change.field-0.0 c.in_err-change.was (c.decode-2.ensures.only k.change spelled.is_change spelled.has_item found.item_is))
+    refused_by (λ e. (e ≡ NoMemory) ⊎ ((e ≡ MissingBlock) × (0 < v.itemless))) c.from_residual-in_err-change.result c.in_err-change.field-0.0 c.from_residual-in_err-change.ensures.1
+    (inl (refused_so c.decode-2.result k.change c.in_err-change.field-0.0 c.in_err-change.was (c.decode-2.ensures.only k.change spelled.is_change spelled.has_item found.item_is)))
 
 pub returns-clause-value : goal.returns-clause-value
 returns-clause-value g c =

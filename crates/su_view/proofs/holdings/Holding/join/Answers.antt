@@ -60,7 +60,7 @@ pub push-requires-clause-kept : goal.push-requires-clause-kept
 push-requires-clause-kept c =
     let desk = ap (λ (x : Keeping). x.desk) c.reserve.ensures.same ∙ c.in-Ok-prepare_as.ensures.ready in
     keeping_still c.self.inside.keeping c.reserve.new.self c.self.invariant (ap (λ (x : Keeping). x.user) c.reserve.ensures.same) (ap (λ (x : Keeping). x.own) c.reserve.ensures.same)
-    c.reserve.ensures.records (ap (λ (t : TrialState). t.settled) desk) c.reserve.ensures.end
+    c.reserve.ensures.records (ap (λ (x : Keeping). x.itemless) c.reserve.ensures.same) c.reserve.ensures.items (ap (λ (t : TrialState). t.settled) desk) c.reserve.ensures.end
 
 pub push-requires-clause-ready : goal.push-requires-clause-ready
 push-requires-clause-ready c =
@@ -106,6 +106,6 @@ returns-clause-took c =
       c.in-Ok.change,
       sym c.as_slice.ensures.value ∙ found.2,
       took_next k c.reserve.new.self c.push.new.self c.args.self.now c.args.commit c.in-Ok.change c.args.bytes.items c.args.item.items c.self.view_is
-          (ap (λ (x : Keeping). x.user) c.reserve.ensures.same) c.reserve.ensures.records
+          (ap (λ (x : Keeping). x.user) c.reserve.ensures.same) c.reserve.ensures.records (ap (λ (x : Keeping). x.itemless) c.reserve.ensures.same)
           (ap (λ (t : TrialState). t.settled) desk) next (c.push.ensures.pushed c.in-Ok.change next),
     )
