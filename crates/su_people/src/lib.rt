@@ -3,6 +3,7 @@
 //! and tells refusals in sentences.
 #![tactic(auto)]
 
+mod blockers;
 mod outcomes;
 mod running;
 

@@ -1,4 +1,5 @@
 // What a command line of people does.
+use crate::blockers::own_blockers;
 use crate::outcomes::Outcome;
 use std::alloc::Global;
 use std::io::Write;
@@ -11,11 +12,11 @@ use su_people_reading::{
     cat, compare_heads, diff, get_all, history, list, show, status, verify, why,
 };
 use su_people_session::{
-    Answer, Helper, Keyless, Session, Trouble, finish, is_lie, look, sign, tell,
+    Answer, Helper, Items, Keyless, Session, Trouble, finish, is_lie, look, sign, tell,
 };
 use su_people_writing::{
     done_line, first_look, link, make_folders, new_folder, put_all, rekey, remove, rename,
-    undo_range, undo_with_blockers,
+    undo_range,
 };
 use su_spelling::read_path;
 
@@ -84,6 +85,14 @@ fn is_look(deed: &Deed) -> bool {
     )
 }
 
+/// Returns what of the items of a list a command needs that only looks.
+fn items_for(deed: &Deed) -> Items {
+    match deed {
+        Deed::Show { .. } | Deed::Diff { .. } | Deed::WhyBlocked { .. } => Items::AtHand,
+        _ => Items::Left,
+    }
+}
+
 /// Writes an answer.
 fn write<W: Write>(writer: &mut W, text: &str) -> Result<Outcome, Trouble> {
     match writer
@@ -107,7 +116,7 @@ fn looked<T, W: Write>(
 where
     T: Net<Listener = TcpListener, Stream = TcpStream> + Threads + Sync,
 {
-    let mut session = look(rt, host, given)?;
+    let mut session = look(rt, host, given, items_for(&line.deed))?;
     let answered = match &line.deed {
         Deed::Cat { path } => cat_at(&mut session, path.as_str(), writer),
         deed => look_deed(&mut session, deed, line.json),
@@ -205,9 +214,13 @@ fn changed<T, W: Write>(
 where
     T: Net<Listener = TcpListener, Stream = TcpStream> + Threads + Sync,
 {
+    let undone = match deed {
+        Deed::UndoWithBlockers { number } => own_blockers(rt, host, given, *number)?,
+        _ => Vec::new(rt.alloc()),
+    };
     let mut session = sign(rt, host, given)?;
     let mut numbers = Vec::new(rt.alloc());
-    let answered = change_deed(&mut session, deed, &mut numbers);
+    let answered = change_deed(&mut session, deed, &undone, &mut numbers);
     finish(&mut session);
     match answered {
         Ok(answer) => write_answer(writer, &answer),
@@ -219,10 +232,12 @@ where
     }
 }
 
-/// Returns the answer of a command that signs, and appends the numbers of its commits.
+/// Returns the answer of a command that signs, and appends the numbers of its commits; `undone` are
+/// the operations that one takes back which takes back what blocks another.
 fn change_deed<'a, T>(
     session: &mut Session<'a, T, KeptKey<'a>>,
     deed: &Deed,
+    undone: &[u64],
     numbers: &mut Vec<u64>,
 ) -> Result<Answer, Trouble>
 where
@@ -234,7 +249,7 @@ where
         let path = path_of(alloc, args.path.as_str())?;
         return put_all(session, args, &path, is_into, numbers);
     }
-    change_names(session, deed, numbers)?;
+    change_names(session, deed, undone, numbers)?;
     Ok(Answer::whole(done_line(alloc, numbers)?))
 }
 
@@ -251,6 +266,7 @@ fn tell_done<T>(helper: &Helper<'_, T>, numbers: &[u64]) {
 fn change_names<'a, T>(
     session: &mut Session<'a, T, KeptKey<'a>>,
     deed: &Deed,
+    undone: &[u64],
     numbers: &mut Vec<u64>,
 ) -> Result<(), Trouble>
 where
@@ -281,10 +297,25 @@ where
             link(session, &path, &other, numbers)
         }
         Deed::Undo { first, last } => undo_range(session, *first, *last, numbers),
-        Deed::UndoWithBlockers { number } => undo_with_blockers(session, *number, numbers),
+        Deed::UndoWithBlockers { .. } => undo_each(session, undone, numbers),
         Deed::Rekey => rekey(session, numbers),
         _ => Ok(()),
     }
+}
+
+/// Takes operations back, one after another.
+fn undo_each<'a, T>(
+    session: &mut Session<'a, T, KeptKey<'a>>,
+    undone: &[u64],
+    numbers: &mut Vec<u64>,
+) -> Result<(), Trouble>
+where
+    T: Net<Listener = TcpListener, Stream = TcpStream> + Threads + Sync,
+{
+    for number in undone {
+        undo_range(session, *number, *number, numbers)?;
+    }
+    Ok(())
 }
 
 /// Takes names away, one after another.

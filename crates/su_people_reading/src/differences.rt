@@ -7,6 +7,7 @@ use su_desk::{Desk, Entry};
 use su_history_text::FileNames;
 use su_op::{Change, Op};
 use su_people_session::{Keyless, Session, Trouble, name_of};
+use su_why::entries_of;
 
 /// Returns the text of `diff`: the bytes that stood where a commit wrote, and those that it wrote.
 /// The history before it is gone through once more for that. `NoOperation` where there is no
@@ -15,7 +16,7 @@ pub fn diff<T>(session: &mut Session<'_, T, Keyless>, number: u64) -> Result<Str
     let alloc = session.helper.rt.alloc();
     let names = names_of(alloc, &mut session.member)?;
     let team = session.helper.folder.team();
-    let entries = session.member.view().history();
+    let entries = entries_of(alloc, session.member.view())?;
     let place = usize::try_from(number)
         .unwrap_or(usize::MAX)
         .saturating_sub(1);

@@ -9,7 +9,7 @@ use su_block::{BlockSource, digest_of};
 use su_bytes::{Digest, Refusal};
 use su_client_work::Member;
 use su_compare::{Standing, compare};
-use su_desk::Entry;
+use su_desk::KeptEntry;
 use su_history::{Line, lines, newest, of_file};
 use su_history_json::history_json;
 use su_history_text::{FileNames, history_text};
@@ -125,12 +125,12 @@ fn key_text(alloc: Global, leaves: Option<Leaves>) -> Result<String, AllocError>
 fn author_name(
     alloc: Global,
     team: &Team,
-    entries: &[Entry],
+    entries: &[KeptEntry],
     number: u64,
 ) -> Result<String, AllocError> {
     let place = (number as usize).saturating_sub(1);
     match entries.get(place) {
-        Some(entry) => name_of(alloc, team, entry.author),
+        Some(entry) => name_of(alloc, team, entry.author()),
         None => String::from_str(alloc, "?"),
     }
 }
@@ -177,8 +177,8 @@ fn standing_of<S: BlockSource + Drop>(view: &View<S>, args: &CompareArgs) -> Sta
 /// Returns the digest of the head that a view's list had when it had so many commits; of the
 /// roster where it never had.
 fn digest_at<S: BlockSource + Drop>(view: &View<S>, number: u64) -> Digest {
-    match view.entry(number) {
-        Some((bytes, _)) => digest_of(bytes),
+    match view.commit(number) {
+        Some(bytes) => digest_of(bytes),
         None => view.roster().digest(),
     }
 }

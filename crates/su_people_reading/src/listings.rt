@@ -5,7 +5,7 @@ ghost use Rattle.su_people_reading.specs.Reading.{Writes};
 use std::alloc::{AllocError, Global};
 use std::io::Write;
 use su_bytes::Kind;
-use su_desk::Entry;
+use su_desk::KeptEntry;
 use su_people_session::{
     Found, Keyless, Session, Trouble, found_at, last_name, name_of, named, names_in,
 };
@@ -40,7 +40,7 @@ pub fn list<T>(
 fn lines_of(
     alloc: Global,
     team: &Team,
-    entries: &[Entry],
+    entries: &[KeptEntry],
     all: &[Found],
     long: bool,
 ) -> Result<String, AllocError> {
@@ -70,7 +70,7 @@ fn short_line(alloc: Global, found: &Found) -> Result<String, AllocError> {
 fn long_line(
     alloc: Global,
     team: &Team,
-    entries: &[Entry],
+    entries: &[KeptEntry],
     found: &Found,
 ) -> Result<String, AllocError> {
     let name = short_line(alloc, found)?;
@@ -98,7 +98,7 @@ fn size_text(alloc: Global, found: &Found) -> Result<String, AllocError> {
 fn json_of(
     alloc: Global,
     team: &Team,
-    entries: &[Entry],
+    entries: &[KeptEntry],
     all: &[Found],
 ) -> Result<String, AllocError> {
     let mut text = String::from_str(alloc, "[")?;
@@ -117,7 +117,7 @@ fn json_of(
 fn json_object(
     alloc: Global,
     team: &Team,
-    entries: &[Entry],
+    entries: &[KeptEntry],
     found: &Found,
 ) -> Result<String, AllocError> {
     let shown = su_spelling::shown(alloc, found.path.as_slice())?;

@@ -78,6 +78,11 @@ impl<'a, T> Helper<'a, T> {
         }
     }
 
+    /// Tells whether the log of the state folder has so many commits.
+    pub(crate) fn has_kept(&self, count: u64) -> bool {
+        count <= self.kept
+    }
+
     /// Appends what a view holds behind the log of the state folder to that.
     fn append(
         &mut self,

@@ -2,7 +2,7 @@
 use crate::helpers::{Helper, LEAVES_AHEAD};
 use crate::keyless::{Keyless, no_signer};
 use crate::links::{Link, connect};
-use crate::opening::{Opened, open};
+use crate::opening::{Items, Opened, open};
 use crate::troubles::Trouble;
 use std::alloc::Global;
 use std::io::{BufReader, Read, Write};
@@ -30,6 +30,17 @@ pub struct Session<'a, T, K: KeyStore> {
     pub member: Member<BufReader<TcpStream>, TcpStream, K>,
 }
 
+impl<T, K: KeyStore + Drop> Session<'_, T, K> {
+    /// Leaves the items of the changes to the log of the state folder, where that has all of them: no
+    /// memory holds them then.
+    pub fn leave_items(&mut self) {
+        let (count, _) = self.member.view().head();
+        if self.helper.has_kept(count) {
+            self.member.leave_items();
+        }
+    }
+}
+
 /// Begins a session that only looks, for which no key is needed, and takes the commits that came.
 /// The state folder is in the directory that is given, else in the current one or upwards from it.
 /// Refuses a state folder or a log that can't be used, a server that can't be reached, and what
@@ -38,11 +49,12 @@ pub fn look<'a, T>(
     rt: &'a HostRuntime,
     host: &'a T,
     given: Option<&str>,
+    items: Items,
 ) -> Result<Session<'a, T, Keyless>, Trouble>
 where
     T: Net<Listener = TcpListener, Stream = TcpStream> + Threads + Sync,
 {
-    let opened = open(rt, host, given)?;
+    let opened = open(rt, host, given, items)?;
     let signer = no_signer(rt.alloc())?;
     caught_up(session_of(rt, host, opened, signer)?)
 }
@@ -57,9 +69,10 @@ pub fn sign<'a, T>(
 where
     T: Net<Listener = TcpListener, Stream = TcpStream> + Threads + Sync,
 {
-    let Opened { folder, view } = open(rt, host, given)?;
+    let Opened { folder, view } = open(rt, host, given, Items::Left)?;
     let signer = signer_for(rt, host, &folder, &view)?;
     let mut session = caught_up(session_of(rt, host, Opened { folder, view }, signer)?)?;
+    session.leave_items();
     follow_key(&mut session)?;
     Ok(session)
 }

@@ -7,7 +7,7 @@ use su_folder::{NewFolder, Server, create};
 use su_kept_key::KeptKey;
 use su_local::read_whole;
 use su_people_line::InitArgs;
-use su_people_session::{Trouble, look, name_of};
+use su_people_session::{Items, Trouble, look, name_of};
 use su_team::{Team, grouped, read_team};
 
 /// How many bytes the text of a team has at most.
@@ -46,7 +46,7 @@ pub fn first_look<T>(rt: &HostRuntime, host: &T, args: &InitArgs) -> Result<Stri
 where
     T: Net<Listener = TcpListener, Stream = TcpStream> + Threads + Sync,
 {
-    let mut session = look(rt, host, Some(args.folder.as_str()))?;
+    let mut session = look(rt, host, Some(args.folder.as_str()), Items::Left)?;
     session.helper.end();
     let (count, _) = session.member.view().head();
     Ok(format!(in rt.alloc(); "{count} commits taken, all signed\n")?)

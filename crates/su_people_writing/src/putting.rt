@@ -58,6 +58,7 @@ where
             tell_item(&session.helper, trouble)?;
             is_partly = true;
         }
+        session.leave_items();
     }
     let text = if args.dry_run {
         plan_text(alloc, path, &tally)?

@@ -87,8 +87,8 @@ fn first_of_others<S: BlockSource + Drop>(
     let entries = view.history();
     for number in numbers {
         let entry = entries.get((*number as usize).saturating_sub(1))?;
-        if entry.author != user {
-            return Some((*number, entry.author));
+        if entry.author() != user {
+            return Some((*number, entry.author()));
         }
     }
     None
