@@ -204,6 +204,9 @@ def faults(tree):
 
 
 def main():
+    # (a program that was started in the background of a shell leaves this signal ignored, and then those that it starts can't be
+    # stopped by it)
+    signal.signal(signal.SIGINT, signal.default_int_handler)
     results = {}
     with tempfile.TemporaryDirectory() as room:
         for part in (first_run, changes, texts, words, stops, places, together, faults):
