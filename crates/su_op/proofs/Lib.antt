@@ -15,4 +15,6 @@ pub mod RenameLemmas
 pub mod DropBodyLemmas
 pub mod StoreLemmas
 pub mod SoundnessLemmas
+pub mod ListLemmas
+pub mod BatchLemmas
 pub mod Public

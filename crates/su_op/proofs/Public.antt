@@ -7,3 +7,5 @@ pub use Rattle.su_op.proofs.KeyLemmas.{get-set_name, get-set_place, name_eq-itse
 pub use Rattle.su_op.proofs.RuleLemmas.{Gives, gives_of}
 pub use Rattle.su_op.proofs.SoundnessLemmas.{block_written, kind_written, kinds_new}
 pub use Rattle.su_op.proofs.StoreLemmas.{none_is, store_lawful}
+pub use Rattle.su_op.proofs.ListLemmas.{has_joined, list_kind, lists_lawful}
+pub use Rattle.su_op.proofs.BatchLemmas.{batch_block_written, batch_kind_written, batches_lawful, effect_alone, first_accepted, reads_alone, why_alone, writes_alone}

@@ -16,3 +16,4 @@ pub mod Action
 pub mod Operation
 pub mod Soundness
 pub mod Store
+pub mod Batch

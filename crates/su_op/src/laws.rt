@@ -13,6 +13,9 @@ ghost use Rattle.su_op.specs.Soundness.{Sound, WholeOrNew, KindIsNew, KindOrFile
 ghost use Rattle.su_undo.specs.System.{Lawful};
 ghost use Rattle.su_op.specs.Action.{Action};
 ghost use Rattle.su_op.specs.Store.{store};
+ghost use Rattle.su_op.specs.Batch.{areas, Action as BatchAction, why as batch_why, writes as batch_writes, store as batch_store};
+ghost use Rattle.su_undo.specs.Flat.{ReplaysFlat, NothingReadInside};
+ghost use Rattle.su_undo.specs.Blocking.{BlocksByActions};
 ghost use Rattle.su_op.specs.declared.operations.Op.{Op};
 
 /// An operation depends on the cells that it reads alone, leaves the cells that it doesn't write,
@@ -42,4 +45,32 @@ pub fn kinds_change_whole()
 /// The table of cells: what each operation reads and writes.
 pub fn table_of_cells()
     ensures { (op : Op) → Row op }
+{}
+
+/// A batch depends on the cells that its operations read alone, leaves the cells that none of them
+/// writes, and keeps a tree sound. So it can be taken out as an operation can.
+pub fn batches_are_local()
+    ensures { (ro : Membership) → Lawful (batch_store ro) }
+{}
+
+/// Lists of operations lead where their operations lead; what one reads is what its operations read
+/// from outside of it; and it is blocked just where one of its operations would be, by one outside
+/// of it.
+pub fn batches_are_their_operations()
+    ensures replay { (ro : Membership) → ReplaysFlat (store ro) (areas ro) }
+    ensures outside { (ro : Membership) → NothingReadInside (store ro) (areas ro) }
+    ensures blocks { (ro : Membership) → BlocksByActions (store ro) (areas ro) }
+{}
+
+/// A batch that writes the kind of an inode writes all of it, or makes it where nothing stood before
+/// the batch; one that writes a block writes the kind too, or writes into a file that stood there.
+pub fn batches_change_whole()
+    ensures kind { (ro : Membership) (T : Tree) (x : BatchAction) (p : Place) → Sound T
+        → is_none (batch_why ro T x) ≡ true
+        → has (batch_writes ro T x) (At p KindOf) ≡ true
+        → WholeOrNew T p (has (batch_writes ro T x)) }
+    ensures block { (ro : Membership) (T : Tree) (x : BatchAction) (p : Place) (n : ℕ) → Sound T
+        → is_none (batch_why ro T x) ≡ true
+        → has (batch_writes ro T x) (At p (BlockOf n)) ≡ true
+        → KindOrFile T p (has (batch_writes ro T x)) }
 {}

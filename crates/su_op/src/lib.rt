@@ -21,7 +21,10 @@ pub use areas::{Area, BlockRun, Part};
 pub use create::Create;
 pub use drop_body::{DropBody, stale_home};
 pub use footprints::Footprint;
-pub use laws::{kinds_change_whole, operations_are_local, table_of_cells};
+pub use laws::{
+    batches_are_local, batches_are_their_operations, batches_change_whole, kinds_change_whole,
+    operations_are_local, table_of_cells,
+};
 pub use limits::{LARGEST_WRITE, MOST_LINKS, largest_file};
 pub use link::Link;
 pub use operations::{Accepted, Change, Op, apply, footprint};

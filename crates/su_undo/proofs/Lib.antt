@@ -1,2 +1,5 @@
 pub mod TakingOut
 pub mod Copies
+pub mod BatchLemmas
+pub mod BlockingLemmas
+pub mod CopyBatches
