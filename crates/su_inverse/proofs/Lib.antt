@@ -6,4 +6,5 @@ pub mod OverwrittenLemmas
 pub mod SizeLemmas
 pub mod InverseLemmas
 pub mod KeptLemmas
+pub mod WholeLemmas
 pub mod Public

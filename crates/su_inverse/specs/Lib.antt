@@ -1,3 +1,4 @@
 pub mod Kept
 pub mod Overwritten
 pub mod Remaining
+pub mod Whole

@@ -1,5 +1,5 @@
 // Laws: what holds of the definitions themselves.
-ghost use Rattle.std.specs.Prelude.{◌≡◌, None};
+ghost use Rattle.std.specs.Prelude.{◌≡◌, ◌++◌, true, None, List};
 ghost use Rattle.std.specs.List.{All};
 ghost use Rattle.su_bytes.specs.Membership.{Membership};
 ghost use Rattle.su_table.specs.Tree.{Tree};
@@ -8,8 +8,12 @@ ghost use Rattle.su_op.specs.Action.{Action};
 ghost use Rattle.su_op.specs.Area.{has};
 ghost use Rattle.su_op.specs.Operation.{why, effect, writes};
 ghost use Rattle.su_op.specs.Soundness.{Sound};
+ghost use Rattle.su_op.specs.Store.{store};
+ghost use Rattle.su_op.specs.Batch.{areas};
+ghost use Rattle.su_undo.specs.Batch.{all_ok, all_acted, all_writes};
 ghost use Rattle.su_inverse.specs.declared.inverses.Inverse.{Inverse};
 ghost use Rattle.su_inverse.specs.Kept.{CanKeep, inverse_areas, IsKeptOf, IsPutBack, HoldsSame};
+ghost use Rattle.su_inverse.specs.Whole.{KindsChangeWhole};
 
 /// What an accepted operation writes can be kept.
 pub fn writes_can_be_kept()
@@ -31,4 +35,17 @@ pub fn undo_after_apply()
         → why ro T x ≡ None
         → ((c : Cell) → has (inverse_areas i) c ≡ has (writes ro T x) c) → IsKeptOf i T
         → IsPutBack i (effect ro T x) T }
+{}
+
+/// What operations write that are accepted one after another can be kept before the first of them;
+/// and behind as many of them as were made, that puts back the tree before the first.
+pub fn undo_after_batch()
+    ensures kinds { (ro : Membership) (T : Tree) (xs : List Action) → Sound T
+        → all_ok (store ro) T xs ≡ true
+        → KindsChangeWhole T (all_writes (store ro) (areas ro) T xs) }
+    ensures back { (ro : Membership) (T : Tree) (xs ys : List Action) (i : Inverse) → Sound T
+        → all_ok (store ro) T (xs ++ ys) ≡ true
+        → ((c : Cell) → has (inverse_areas i) c
+        ≡ has (all_writes (store ro) (areas ro) T (xs ++ ys)) c)
+        → IsKeptOf i T → IsPutBack i (all_acted (store ro) T xs) T }
 {}

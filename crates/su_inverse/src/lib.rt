@@ -9,5 +9,5 @@ mod returns;
 mod wholes;
 
 pub use inverses::{Inverse, build};
-pub use laws::{kept_of_trees_alike, undo_after_apply, writes_can_be_kept};
+pub use laws::{kept_of_trees_alike, undo_after_apply, undo_after_batch, writes_can_be_kept};
 pub use wholes::build_whole;
