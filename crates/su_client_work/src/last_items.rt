@@ -1,5 +1,5 @@
 // A source of the item that was put last.
-ghost use Rattle.std.specs.Prelude.{◌≡◌, ◌⊎◌, ◌↔◌, ℕ, List, [], true, false, None, Some, IfOk, IfErr, OnOk, OnErr, Err};
+ghost use Rattle.std.specs.Prelude.{◌≡◌, ◌≢◌, ◌⊎◌, ◌↔◌, ℕ, List, [], true, false, None, Some, IfOk, IfErr, OnOk, OnErr, Err};
 ghost use Rattle.sha2.specs.Sha256.{sha256};
 ghost use Rattle.su_block.specs.Item.{is_item};
 ghost use Rattle.su_block.specs.Failure.{failures_after};
@@ -68,6 +68,7 @@ impl BlockSource for LastItem {
     fn get(&mut self, alloc: Global, digest: Digest) -> Result<Vec<u8>, Refusal>
         ensures given { IfOk result (λ item. item.items ≡ self.old.item) }
         ensures checked { IfOk result (λ item. sha256 item.items ≡ digest) }
+        ensures missing { result ≡ Err MissingBlock → sha256 self.old.item ≢ digest }
         ensures refused { IfErr result (λ e. (e ≡ MissingBlock) ⊎ (e ≡ NoMemory)) }
         ensures kept { self.new.item ≡ self.old.item }
         ensures counted { self.new.failed ≡ failures_after result digest self.old.failed }
