@@ -6,8 +6,8 @@ use su_local::{LocalKind, joined, kind_of, make_folder, read_whole, write_whole}
 use su_op::largest_file;
 use su_people_line::GetArgs;
 use su_people_session::{
-    Amount, Answer, Found, Keyless, Progress, Session, Trouble, is_of_state, last_name, named,
-    walked,
+    Amount, Answer, Found, Keyless, Progress, Session, Trouble, counted, is_of_state, last_name,
+    named, walked,
 };
 use su_person::Fault;
 
@@ -173,6 +173,8 @@ fn is_same(rt: &HostRuntime, local: &str, bytes: &[u8], over: bool) -> Result<bo
 fn summary(alloc: Global, path: &[u8], tally: &Tally) -> Result<String, AllocError> {
     let path = su_spelling::shown(alloc, path)?;
     let Amount { files, bytes } = tally.written;
-    let same = tally.same;
-    format!(in alloc; "got {path}: {files} files, {bytes} bytes; {same} files were there already\n")
+    let files = counted(alloc, files, "file")?;
+    let bytes = counted(alloc, bytes, "byte")?;
+    let same = counted(alloc, tally.same, "file")?;
+    format!(in alloc; "got {path}: {files}, {bytes}; {same} there already\n")
 }

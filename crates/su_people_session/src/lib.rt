@@ -21,7 +21,7 @@ pub use helpers::Helper;
 pub use keyless::Keyless;
 pub use names::{is_of_state, last_name, named};
 pub use opening::Items;
-pub use progress::{Amount, Progress};
+pub use progress::{Amount, Progress, counted};
 pub use sentences::{is_lie, is_of_path, name_of, tell};
 pub use sessions::{Leaves, Session, finish, leaves_of, look, sign};
 pub use troubles::Trouble;

@@ -98,14 +98,15 @@ impl<'a> Progress<'a> {
         let (files, all_files) = (self.done.files, self.all.files);
         let done = megabytes(alloc, self.done.bytes)?;
         let all = megabytes(alloc, self.all.bytes)?;
-        let commits = self.commits;
+        let commits = match self.commits {
+            0 => String::new(alloc),
+            count => format!(in alloc; "  {}", counted(alloc, count, "commit")?)?,
+        };
         let left = match self.seconds_left(seconds) {
             Some(left) => format!(in alloc; "  {left} s left")?,
             None => String::new(alloc),
         };
-        format!(in alloc;
-            "{verb}  {files}/{all_files} files  {done}/{all} MB  {commits} commits{left}"
-        )
+        format!(in alloc; "{verb}  {files}/{all_files} files  {done}/{all} MB{commits}{left}")
     }
 
     /// Returns how many seconds are left where what is left takes as long as what is done, which took so
@@ -128,4 +129,12 @@ fn megabytes(alloc: Global, bytes: u64) -> Result<String, AllocError> {
     let whole = bytes / 1_000_000;
     let tenths = bytes / 100_000 % 10;
     format!(in alloc; "{whole}.{tenths}")
+}
+
+/// Returns a number with the word for what it counts: `1 file`, `2 files`.
+pub fn counted(alloc: Global, count: u64, word: &str) -> Result<String, AllocError> {
+    match count {
+        1 => format!(in alloc; "1 {word}"),
+        _ => format!(in alloc; "{count} {word}s"),
+    }
 }

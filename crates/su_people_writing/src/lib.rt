@@ -14,4 +14,4 @@ pub use changing::{done_line, link, make_folders, remove, rename};
 pub use initializing::{first_look, new_folder};
 pub use putting::put_all;
 pub use rekeying::rekey;
-pub use undoing::{undo_range, undo_with_blockers};
+pub use undoing::undo_range;

@@ -11,7 +11,7 @@ use su_local::{LocalKind, read_whole};
 use su_op::largest_file;
 use su_people_line::PutArgs;
 use su_people_session::{
-    Amount, Answer, Helper, Progress, Session, Trouble, found_at, is_of_path, named,
+    Amount, Answer, Helper, Progress, Session, Trouble, counted, found_at, is_of_path, named,
 };
 use su_person::{Fault, NewContents, carry_out, move_on, put};
 use su_pieces::put_commands;
@@ -225,14 +225,13 @@ fn plan_file<'a>(
 /// Returns the line that tells what would be put.
 fn plan_text(alloc: Global, path: &[u8], tally: &Tally) -> Result<String, AllocError> {
     let path = su_spelling::shown(alloc, path)?;
-    let Tally {
-        written: Amount { files, bytes },
-        same,
-        planned,
-    } = tally;
+    let Amount { files, bytes } = tally.written;
+    let files = counted(alloc, files, "file")?;
+    let bytes = counted(alloc, bytes, "byte")?;
+    let planned = counted(alloc, tally.planned, "commit")?;
+    let same = counted(alloc, tally.same, "file")?;
     format!(in alloc;
-        "would put {path}: {files} files, {bytes} bytes, {planned} commits and what takes over; \
-{same} files are there already\n"
+        "would put {path}: {files}, {bytes}, {planned} and what takes over; {same} there already\n"
     )
 }
 
@@ -245,14 +244,15 @@ fn summary(
 ) -> Result<String, AllocError> {
     let path = su_spelling::shown(alloc, path)?;
     let Amount { files, bytes } = tally.written;
-    let same = tally.same;
-    let commits = numbers.len();
+    let files = counted(alloc, files, "file")?;
+    let bytes = counted(alloc, bytes, "byte")?;
+    let commits = counted(alloc, numbers.len() as u64, "commit")?;
+    let same = counted(alloc, tally.same, "file")?;
     match (numbers.first(), numbers.last()) {
         (Some(first), Some(last)) => format!(in alloc;
-            "put {path}: {files} files, {bytes} bytes, {commits} commits ({first} to {last}); \
-{same} files were there already\n"
+            "put {path}: {files}, {bytes}, {commits} ({first} to {last}); {same} there already\n"
         ),
-        _ if same == 0 => format!(in alloc; "{path}: nothing is put\n"),
-        _ => format!(in alloc; "{path}: {same} files are there already\n"),
+        _ if tally.same == 0 => format!(in alloc; "{path}: nothing is put\n"),
+        _ => format!(in alloc; "{path}: {same} there already\n"),
     }
 }
