@@ -5,7 +5,7 @@ use Rattle.su_bytes.specs.declared.refusals.Refusal.{Refusal}
 use Rattle.su_bytes.specs.Membership.{Membership}
 use Rattle.su_table.specs.Tree.{Tree}
 use Rattle.su_op.specs.declared.operations.Op.{Op}
-use Rattle.su_desk.specs.Rehearsal.{first_refusal}
+use Rattle.su_op.specs.Batch.{first_refusal}
 use Rattle.su_draft.specs.declared.commands.Command.{Command}
 use Rattle.su_draft.specs.Refusable.{◌>>=◌}
 use Rattle.su_draft.specs.Command.{draft}

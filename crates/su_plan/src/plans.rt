@@ -2,7 +2,7 @@
 ghost use Rattle.std.specs.Prelude.{◌≡◌, ◌⊎◌, None, Some, Ok, Err, IfOk, IfErr, OnOk, OnErr};
 ghost use Rattle.su_bytes.specs.declared.refusals.Refusal.TheVariants.{NoMemory};
 ghost use Rattle.su_desk.specs.Trial.{nothing_ready, tree_of};
-ghost use Rattle.su_desk.specs.Rehearsal.{first_refusal};
+ghost use Rattle.su_op.specs.Batch.{first_refusal};
 ghost use Rattle.su_draft.specs.Walk.{found};
 ghost use Rattle.su_plan.specs.Plan.{plan};
 
