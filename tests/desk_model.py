@@ -4,7 +4,7 @@ for each answer replays what is live from the first tree on. With scripts by cha
 definitions mean what they were meant to.
 
 usage: desk_model.py FOLDER COUNT LINES    writes COUNT scripts of LINES lines each into FOLDER, as NAME, NAME.args, NAME.stdout;
-                                           each fourth also asks for all handles after each line; of nine, three each are in one format
+                                           each fourth also asks for all handles after each line; of twelve, three each are in one format
        desk_model.py --run USERS [FORMAT]  reads a script of good lines on standard input, and prints what it answers
 """
 import functools
@@ -13,9 +13,9 @@ import random
 import sys
 
 BLOCK = 4096
-NEWEST = 3  # of the formats, which are numbers
-LARGEST_FILE = {1: 1048576, 2: 16777216, 3: 16777216}  # in each format
-FIRST_FORMAT = {"drop": 2, "rekey": 3}  # of the changes that not all formats have
+NEWEST = 4  # of the formats, which are numbers
+LARGEST_FILE = {1: 1048576, 2: 16777216, 3: 16777216, 4: 16777216}  # in each format
+FIRST_FORMAT = {"drop": 2, "rekey": 3, "batch": 4}  # of the changes that not all formats have
 KEY_LENGTH = 56
 LARGEST_WRITE = 65536
 MOST_LINKS = 255
@@ -96,9 +96,21 @@ def holds(a, *places):
 
 def check(roster, tree, a, form, op):
     """Raises the first refusal; else answers the effect, the cells that are read besides, and those that are written."""
+    if op[0] == "batch":
+        return check_batch(roster, tree, a, form, op[1])
     demand(a in roster.users, f"12 NoUser {a}")
     limits = [LARGEST_FILE[form]] if op[0] in ("write", "truncate") else []
     return globals()["check_" + op[0]](roster, tree, a, *op[1:], *limits)
+
+
+def check_batch(roster, tree, a, form, operations):
+    """Each operation comes behind those before it; the cells are those of all of them."""
+    reads, writes = set(), set()
+    for op in operations:
+        tree, besides, written = check(roster, tree, a, form, op)
+        reads |= besides | written
+        writes |= written
+    return tree, reads, writes
 
 
 def names(tree, place):
@@ -508,14 +520,35 @@ def change_of(word, rest):
     return ("undo", int(rest[0])), [], [], True
 
 
-def carry_out_change(desk, a, words):
-    last = words[0] == "undo_last"
-    change, bad_names, files, numbers = (None, [], [], True) if last else change_of(words[0], words[1:])
-    are_names, are_numbers = all(map(is_name, bad_names)), a <= 63 and all(map(is_file_id, files)) and numbers
+def operations_of(words):
+    """The words of each operation of a batch, between which `+` stands."""
+    parts = [[]]
+    for word in words:
+        if word == "+":
+            parts.append([])
+        else:
+            parts[-1].append(word)
+    return parts
+
+
+def in_range(desk, a, words):
+    """The change that the words say, each of them in its range."""
+    change, said, files, numbers = change_of(words[0], words[1:])
+    are_names, are_numbers = all(map(is_name, said)), a <= 63 and all(map(is_file_id, files)) and numbers
     if not (are_names and are_numbers):
         demand(a > 63 or a in desk.roster.users, f"12 NoUser {a}")
         raise Refused("3 BadNumber" if are_names else "2 BadName")
-    return f"ok {desk.undo_last(a) if last else desk.apply(a, change)}"
+    return change
+
+
+def carry_out_change(desk, a, words):
+    if words[0] == "undo_last":
+        demand(a <= 63, "3 BadNumber")
+        return f"ok {desk.undo_last(a)}"
+    if words[0] == "batch":
+        changes = [in_range(desk, a, part) for part in operations_of(words[1:])]
+        return f"ok {desk.apply(a, changes[0] if len(changes) == 1 else ('batch', tuple(changes)))}"
+    return f"ok {desk.apply(a, in_range(desk, a, words))}"
 
 
 def ask(desk, words):
@@ -671,10 +704,31 @@ class Dice:
             f"ls {file}", f"cat {file} {self.size()} {self.pick(0, 1, 5, 2 ** 64 - 1)}", f"stat {file}", "versions",
             f"ihandle {self.pick('U0', 'U1', 'G0', 'G1', 'G15', 'U63')}", "mark", "same", "same")
 
+    def batch(self):
+        """A user, and a batch of changes of his, each of which fits what those before it leave, but for a detail."""
+        desk, said, user = self.desk, [], None
+        self.desk = type(desk)(self.users, desk.form)
+        self.desk.history = list(desk.history)
+        for _ in range(self.random.randint(2, 12)):
+            author, change = self.fitting_change()
+            if change.split(" ")[0] in ("undo", "undo_last", "rekey") or (user is not None and author != user):
+                continue
+            before = len(self.desk.history)
+            refused = answer(self.desk, f"{author} {change}")[0].startswith("no")
+            if not refused or self.random.random() < 0.05:
+                said, user = said + [change], author
+            if refused:
+                self.desk.history = self.desk.history[:before]
+        self.desk = desk
+        return (user, "batch " + " + ".join(said)) if said else self.fitting_change()
+
     def line(self):
         chance = self.random.random()
         if chance < 0.2:
             return self.question()
+        if self.desk.form >= FIRST_FORMAT["batch"] and chance > 0.8:
+            user, change = self.batch()
+            return f"{self.rarely(self.user(), user)} {change}"
         if chance < 0.35:
             return f"{self.user()} {self.any_change()}"
         user, change = self.fitting_change()

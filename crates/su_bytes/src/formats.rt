@@ -12,10 +12,16 @@ pub enum Format {
     V2,
     /// The third one: a user can name the next key.
     V3,
+    /// The fourth one: operations can be made together, as one change.
+    V4,
 }
 
-/// The format in which changes are made.
-pub const NEWEST_FORMAT: Format = Format::V3;
+/// The newest format.
+pub const NEWEST_FORMAT: Format = Format::V4;
+
+/// The format in which a list of commits is begun: the next ones are made in it too, until one
+/// comes that is newer, or has a change that asks for a newer one.
+pub const FIRST_FORMAT: Format = Format::V3;
 
 impl Format {
     /// Its number, from 1 on. A newer format has a greater one.
@@ -26,6 +32,7 @@ impl Format {
             Format::V1 => 1,
             Format::V2 => 2,
             Format::V3 => 3,
+            Format::V4 => 4,
         }
     }
 

@@ -1,275 +1,245 @@
 -- Items of changes: one spelling each, which begins no other, of at most 70,000 bytes.
-use Rattle.std.proofs.Common.{◌≡◌, ◌∙◌, ℕ, ◌<◌, ◌≤◌, ◌^◌, Bool, true, false, cond, nat_eq, List, [], ◌∷◌, ◌++◌, length, refl, sym, ap, subst, arith, ◌⊎◌}
+use Rattle.std.proofs.Common.{◌≡◌, ◌∙◌, ℕ, ◌+◌, ◌<◌, ◌≤◌, ◌^◌, Bool, true, false, cond, nat_eq, List, [], ◌∷◌, ◌++◌, length, refl, sym, ap, subst, arith, ◌⊎◌, inl, inr, length-append}
 use Rattle.std.proofs.lemmas.Bool.{eqb-true}
 use Rattle.std.specs.Prelude.{Result, Ok, Err}
 use Rattle.su_bytes.specs.declared.refusals.Refusal.{Refusal}
-use Rattle.su_bytes.specs.declared.refusals.Refusal.TheVariants.{NoMemory}
-use Rattle.su_op.specs.declared.operations.Op.TheVariants.{Create, Unlink, Write, Truncate, Take, Link, Rename, Drop}
+use Rattle.su_bytes.specs.declared.refusals.Refusal.TheVariants.{Malformed, NoMemory}
 use Rattle.su_bytes.specs.declared.rosters.TheConstants.{KEY_LENGTH}
+use Rattle.su_op.specs.declared.operations.Op.{Op}
 use Rattle.su_op.specs.declared.operations.Change.{Change}
 use Rattle.su_op.specs.declared.operations.Change.TheVariants.{Do, Undo, Rekey}
-use Rattle.su_format.specs.Format.{Format, IsLawful, IsFormatOf, part, ◌>>=◌}
-use Rattle.su_format.specs.Part.{u8_part, u32_bytes, u64_bytes, kind_bytes, name_bytes}
-use Rattle.su_format.specs.Reading.{Decodes}
-use Rattle.su_format.proofs.Public.{Makes, said_as, last_of, in_order_of, in_order, told_by, behind_mark, format_of, part_makes, part_lawful, found_by, only_by, u8_lawful, u32_told, u32_of, u64_of, bytes_of, inum_of, file_id_of, name_of, kind_of}
-use Rattle.su_bytes.specs.FileId.{file_id_bytes}
-use Rattle.su_change.specs.NameAt.{IsNameAt, name_at_bytes, name_at_format, created_name, linked_name, unlinked_name, link_fields, unlink_fields}
-use Rattle.su_change.specs.Create.{IsCreate, create_bytes, create_fields}
-use Rattle.su_change.specs.Write.{IsWrite, IsLength, HasLength, length_part, write_bytes, write_fields}
-use Rattle.su_change.specs.Truncate.{IsTruncate, truncate_bytes, truncate_fields}
-use Rattle.su_change.specs.Rename.{IsRename, rename_bytes, rename_fields}
-use Rattle.su_change.specs.Take.{IsTake, take_bytes, take_fields}
-use Rattle.su_change.specs.DropBody.{IsDrop, drop_bytes, drop_fields}
+use Rattle.su_format.specs.Format.{Format, IsLawful, IsFormatOf, making, ◌>>=◌}
+use Rattle.su_format.specs.Part.{u64_bytes}
+use Rattle.su_format.specs.Reading.{Reading, Took, Refuses, Takes, Decodes}
+use Rattle.su_format.proofs.Public.{Makes, known_as, last_of, in_order, making_lawful, behind_mark, format_of, found_by, only_by, u64_of, bytes_of}
+use Rattle.su_change.specs.Kinds.{no_kind, fields_of}
+use Rattle.su_change.specs.Operation.{op_bytes, op_kinds}
+use Rattle.su_change.specs.Batch.{batch_bytes, batch_fields}
 use Rattle.su_change.specs.Rekey.{IsKey, rekey_fields}
-use Rattle.su_change.specs.Item.{HasItem, IsChange, tagged_bytes, first_byte, item_bytes, undo_fields, kinds, no_kind, fields_of, tagged_format, item_format}
-use Rattle.su_change.proofs.Sizes.{joined, six, one, name_size, file_name_file, file_number}
+use Rattle.su_change.specs.Item.{HasSpelling, HasItem, IsTooLong, IsChange, tagged_bytes, first_byte, item_bytes, longest_item, undo_fields, alone_fields, alone_kinds, kinds, tagged_format, within, marked_format, item_format}
+use Rattle.su_change.proofs.Sizes.{op_few}
+use Rattle.su_change.proofs.KindLemmas.{IsKind, Tells, AllTell, HasKind, HasNoKind, told, of_kind, one_makes, no_kind_fails, not_the_first}
+use Rattle.su_change.proofs.Operations.{Fits, by_number, by_op}
+use Rattle.su_change.proofs.Batches.{IsBatch, batch_of}
 
--- ---- kinds of changes
+-- a change that is spelled, in however many bytes
+abbrev pub IsSpelled : Change → Type 0
+IsSpelled c = IsChange c × HasSpelling c
 
 -- The fields make the changes of the kind with the number, each of one of these, which has one
--- spelling, which is at most so long.
-pub record IsKind {A : Type 0} (number : ℕ) (f : Format Change) (make : A → Change) (Is : A → Type 0) (spelling : A → List ℕ) : Type 0 where
-  pub makes : Makes f make Is spelling
-  pub few : (a : A) → Is a → length (spelling a) ≤ 69998
-  pub is : (a : A) → Is a → IsChange (make a) × HasItem (make a) × (tagged_bytes (make a) ≡ number ∷ spelling a)
+-- spelling.
+abbrev IsChangeKind : {A : Type 0} → ℕ → Format Change → (A → Change) → (A → Type 0) → (A → List ℕ) → Type 0
+IsChangeKind n f make Is spelling = IsKind IsSpelled tagged_bytes n f make Is spelling
 
-pub undo_kind : IsKind 0 undo_fields Undo (λ n. n < 2 ^ 64) u64_bytes
-undo_kind = record {
-  makes = last_of u64_of Undo;
-  few = λ n is. omega arith;
-  is = λ n is. (is, tt, refl);
-}
+undo_kind : IsChangeKind 0 undo_fields Undo (λ n. n < 2 ^ 64) u64_bytes
+undo_kind = record { makes = last_of u64_of Undo; is = λ n is. ((is, tt), refl) }
 
-pub rekey_kind : IsKind 9 rekey_fields Rekey IsKey (λ k. k)
+rekey_kind : IsChangeKind 9 rekey_fields Rekey IsKey (λ k. k)
 unfolding rekey_fields
-rekey_kind = record {
-  makes = last_of (bytes_of KEY_LENGTH) Rekey;
-  few = λ k is. omega (arith, is);
-  is = λ k is. (is, tt, refl);
+rekey_kind = record { makes = last_of (bytes_of KEY_LENGTH) Rekey; is = λ k is. ((is, tt), refl) }
+
+-- the kinds of changes behind those that are one operation
+abbrev more_kinds : List (ℕ × Format Change)
+more_kinds = (9, rekey_fields) ∷ (10, batch_fields) ∷ []
+
+-- ---- several operations
+
+batch_is : (ops : List Op) → IsBatch ops → IsSpelled (Do ops) × (tagged_bytes (Do ops) ≡ 10 ∷ batch_bytes ops)
+batch_is [] is = absurd (let few = is.count.0 in omega (arith, few))
+batch_is (op ∷ []) is = absurd (let few = is.count.0 in omega (arith, few))
+batch_is (op ∷ next ∷ ops) is = ((is.are, record { some = omega arith; few = is.count.1; each = is.each }), refl)
+
+batch_kind : IsChangeKind 10 batch_fields Do IsBatch batch_bytes
+unfolding batch_fields
+batch_kind = record { makes = last_of batch_of Do; is = batch_is }
+
+-- ---- one operation
+
+-- what the number of its kind tells of an operation, it tells of the change that is this one
+alone_told : (n : ℕ) (f : Format Op) → Tells Fits op_bytes n f → Tells IsSpelled tagged_bytes n (alone_fields f)
+unfolding ◌>>=◌ making
+alone_told n f tells = record {
+  lawful = in_order f (λ op. making (Do (op ∷ []))) tells.lawful (λ op. making_lawful (Do (op ∷ [])));
+  spelled = λ bytes c rest x.
+      let s = tells.spelled bytes x.0 x.1 x.2 in
+      subst (λ d. IsSpelled d × (n ∷ bytes ≡ tagged_bytes d ++ rest)) (sym x.3.0)
+      (((s.0.0, tt), s.0.1), s.1 ∙ ap (λ l. op_bytes x.0 ++ l) (sym x.3.1));
 }
 
--- ---- names
+all_alone : (rows : List (ℕ × Format Op)) (others : List (ℕ × Format Change)) → AllTell Fits op_bytes rows → AllTell IsSpelled tagged_bytes others → AllTell IsSpelled tagged_bytes (alone_kinds rows ++ others)
+all_alone [] others all more = more
+all_alone (kind ∷ rows) others all more = (alone_told kind.0 kind.1 all.0, all_alone rows others all.1 more)
 
-pub name_at_of : Makes name_at_format (λ n. n) IsNameAt name_at_bytes
-unfolding name_at_format
-name_at_of =
-    said_as (in_order_of file_id_of (λ dir. in_order_of name_of (λ name. last_of file_id_of _)))
-    (λ p. record { dir = p.0; name = p.1.0; file = p.1.1 }) (λ n. (n.dir, (n.name, n.file)))
-    (λ p is. (record { dir = is.0; name = is.1.0; file = is.1.1 }, refl, refl))
-    (λ n is. ((is.dir, (is.name, is.file)), refl, refl))
-
-pub create_kind : IsKind 1 create_fields (λ c. Do (Create c)) IsCreate create_bytes
-unfolding create_fields
-create_kind = record {
-  makes =
-      said_as (in_order_of name_at_of (λ n. in_order_of inum_of (λ body. last_of kind_of _)))
-      (λ p. record { dir = p.0.dir; name = p.0.name; file = p.0.file; body = p.1.0; kind = p.1.1 }) (λ c. (created_name c, (c.body, c.kind)))
-      (λ p is. (record { name_at = is.0; body = is.1.0 }, refl, refl))
-      (λ c is. ((is.name_at, (is.body, tt)), refl, refl));
-  few = λ c is.
-      joined (name_at_bytes (created_name c)) (u32_bytes c.body ++ kind_bytes c.kind) 268 69730 (file_name_file c.dir c.name c.file is.name_at.name)
-      (joined (u32_bytes c.body) (kind_bytes c.kind) 4 69726 (omega arith) (let few = one c.kind in omega (arith, few)));
-  is = λ c is. (is, tt, refl);
-}
-
-pub link_kind : IsKind 4 link_fields (λ l. Do (Link l)) (λ l. IsNameAt (linked_name l)) (λ l. name_at_bytes (linked_name l))
-unfolding link_fields
-link_kind = record {
-  makes =
-      said_as (last_of name_at_of _)
-      (λ n. record { dir = n.dir; name = n.name; file = n.file }) linked_name (λ n is. (is, refl, refl)) (λ l is. (is, refl, refl));
-  few = λ l is. let few = file_name_file l.dir l.name l.file is.name in omega (arith, few);
-  is = λ l is. (is, tt, refl);
-}
-
-pub unlink_kind : IsKind 6 unlink_fields (λ u. Do (Unlink u)) (λ u. IsNameAt (unlinked_name u)) (λ u. name_at_bytes (unlinked_name u))
-unfolding unlink_fields
-unlink_kind = record {
-  makes =
-      said_as (last_of name_at_of _)
-      (λ n. record { dir = n.dir; name = n.name; file = n.file }) unlinked_name (λ n is. (is, refl, refl)) (λ u is. (is, refl, refl));
-  few = λ u is. let few = file_name_file u.dir u.name u.file is.name in omega (arith, few);
-  is = λ u is. (is, tt, refl);
-}
-
-pub rename_kind : IsKind 5 rename_fields (λ r. Do (Rename r)) IsRename rename_bytes
-unfolding rename_fields
-rename_kind = record {
-  makes =
-      said_as (in_order_of file_id_of (λ from. in_order_of name_of (λ old. in_order_of file_id_of (λ to. in_order_of name_of (λ new. last_of file_id_of _)))))
-      (λ p. record { from_ = p.0; old_ = p.1.0; to_ = p.1.1.0; new_ = p.1.1.1.0; file = p.1.1.1.1 }) (λ r. (r.from_, (r.old_, (r.to_, (r.new_, r.file)))))
-      (λ p is. (record { from_ = is.0; old_ = is.1.0; to_ = is.1.1.0; new_ = is.1.1.1.0; file = is.1.1.1.1 }, refl, refl))
-      (λ r is. ((is.from_, (is.old_, (is.to_, (is.new_, is.file)))), refl, refl));
-  few = λ r is.
-      joined (file_id_bytes r.from_) (name_bytes r.old_ ++ (file_id_bytes r.to_ ++ (name_bytes r.new_ ++ file_id_bytes r.file))) 6 69992 (six r.from_)
-      (joined (name_bytes r.old_) (file_id_bytes r.to_ ++ (name_bytes r.new_ ++ file_id_bytes r.file)) 256 69736 (name_size r.old_ is.old_)
-      (let few = file_name_file r.to_ r.new_ r.file is.new_ in omega (arith, few)));
-  is = λ r is. (is, tt, refl);
-}
-
--- ---- files
-
--- a length is spelled as a number is
-pub length_is_u32 : (n : ℕ) → IsLength n → (n < 2 ^ 32) × (u32_bytes n ≡ u32_bytes n)
-length_is_u32 n is = (omega (arith, is.0, is.1), refl)
-
-length_of : Makes length_part (λ n. n) IsLength u32_bytes
-unfolding length_part
-length_of =
-    part_makes (part_lawful IsLength u32_bytes (λ a b rest behind x y e. u32_told a b rest behind (length_is_u32 a x).0 (length_is_u32 b y).0 e))
-
-pub write_kind : IsKind 2 write_fields (λ w. Do (Write w)) (λ w. IsWrite w × HasLength w) write_bytes
-unfolding write_fields
-write_kind = record {
-  makes =
-      said_as (in_order_of file_id_of (λ file. in_order_of u32_of (λ off. told_by length length_of (λ n. last_of (bytes_of n) _) (λ n bytes long. long))))
-      (λ p. record { file = p.0; off = p.1.0; bytes = p.1.1 }) (λ w. (w.file, (w.off, w.bytes)))
-      (λ p is. ((record { file = is.0; off = is.1.0 }, is.1.1.0), refl, refl))
-      (λ w is. ((is.0.file, (is.0.off, (is.1, refl))), refl, refl));
-  few = λ w is.
-      joined (file_id_bytes w.file) (u32_bytes w.off ++ (u32_bytes (length w.bytes) ++ w.bytes)) 6 69992 (six w.file)
-      (joined (u32_bytes w.off) (u32_bytes (length w.bytes) ++ w.bytes) 4 69988 (omega arith)
-      (joined (u32_bytes (length w.bytes)) w.bytes 4 69984 (omega arith) (omega (arith, is.1.1))));
-  is = λ w is. (is.0, is.1, refl);
-}
-
-pub truncate_kind : IsKind 3 truncate_fields (λ t. Do (Truncate t)) IsTruncate truncate_bytes
-unfolding truncate_fields
-truncate_kind = record {
-  makes =
-      said_as (in_order_of file_id_of (λ file. last_of u32_of _))
-      (λ p. record { file = p.0; size = p.1 }) (λ t. (t.file, t.size))
-      (λ p is. (record { file = is.0; size = is.1 }, refl, refl))
-      (λ t is. ((is.file, is.size), refl, refl));
-  few = λ t is. let few = file_number t.file t.size in omega (arith, few);
-  is = λ t is. (is, tt, refl);
-}
-
-pub take_kind : IsKind 7 take_fields (λ t. Do (Take t)) IsTake take_bytes
-unfolding take_fields
-take_kind = record {
-  makes =
-      said_as (in_order_of file_id_of (λ file. last_of inum_of _))
-      (λ p. record { file = p.0; body = p.1 }) (λ t. (t.file, t.body))
-      (λ p is. (record { file = is.0; body = is.1 }, refl, refl))
-      (λ t is. ((is.file, is.body), refl, refl));
-  few = λ t is. let few = file_number t.file t.body in omega (arith, few);
-  is = λ t is. (is, tt, refl);
-}
-
-pub drop_kind : IsKind 8 drop_fields (λ d. Do (Drop d)) IsDrop drop_bytes
-unfolding drop_fields
-drop_kind = record {
-  makes = said_as (last_of inum_of _) (λ n. record { body = n }) (λ d. d.body) (λ n is. (is, refl, refl)) (λ d is. (is, refl, refl));
-  few = λ d is. omega arith;
-  is = λ d is. (is, tt, refl);
-}
-
--- ---- what the number of a kind tells
-
--- the fields behind the number spell changes of that kind
-pub record Tells (n : ℕ) (f : Format Change) : Type 0 where
-  pub lawful : IsLawful f
-  pub spelled : (bytes : List ℕ) (c : Change) (rest : List ℕ) → f.Begins bytes c rest → IsChange c × HasItem c × (n ∷ bytes ≡ tagged_bytes c ++ rest)
-
-told : {A : Type 0} {n : ℕ} {f : Format Change} {make : A → Change} {Is : A → Type 0} {spelling : A → List ℕ} → IsKind n f make Is spelling → Tells n f
-told {n} kind = record {
-  lawful = kind.makes.lawful;
-  spelled = λ bytes c rest b.
-      let s = kind.makes.spelled bytes c rest b in
-      let k = kind.is s.0 s.2 in
-      subst (λ d. IsChange d × HasItem d × (n ∷ bytes ≡ tagged_bytes d ++ rest)) (sym s.1)
-      (k.0, k.1, ap (λ l. n ∷ l) s.3 ∙ ap (λ l. l ++ rest) (sym k.2));
-}
-
--- no kind's number tells nothing
-none_told : (n : ℕ) → Tells n (no_kind n)
-unfolding no_kind
-none_told n = record {
-  lawful = record {
-    told = λ bytes a b rest behind x y. absurd x;
-    apart = λ bytes a rest behind x y. x;
-    one_place = λ bytes rest behind x y. x ∙ sym y;
-  };
-  spelled = λ bytes c rest b. absurd b;
-}
-
-abbrev AllTell : List (ℕ × Format Change) → Type 0
-AllTell [] = Unit {0}
-AllTell (kind ∷ others) = Tells kind.0 kind.1 × AllTell others
-
-fields_tell : (rows : List (ℕ × Format Change)) → AllTell rows → (n : ℕ) → Tells n (fields_of rows n)
-fields_tell [] all n = none_told n
-fields_tell (kind ∷ others) all n = go (nat_eq n kind.0) refl (fields_tell others all.1 n)
+alone_begins : (rows : List (ℕ × Format Op)) (others : List (ℕ × Format Change)) (n : ℕ) (bytes : List ℕ) (op : Op) (rest : List ℕ) → (fields_of rows n).Begins bytes op rest → (fields_of (alone_kinds rows ++ others) n).Begins bytes (Do (op ∷ [])) rest
+unfolding ◌>>=◌ making no_kind
+alone_begins [] others n bytes op rest b = absurd b
+alone_begins (kind ∷ rows) others n bytes op rest b = go (nat_eq n kind.0) b (alone_begins rows others n bytes op rest)
   where
-    go : (same : Bool) → nat_eq n kind.0 ≡ same → Tells n (fields_of others n) → Tells n (cond same kind.1 (fields_of others n))
-    go true is other = subst (λ k. Tells k kind.1) (sym (eqb-true _ _ is)) all.0
-    go false is other = other
+    go : (same : Bool) → (cond same kind.1 (fields_of rows n)).Begins bytes op rest → ((fields_of rows n).Begins bytes op rest → (fields_of (alone_kinds rows ++ others) n).Begins bytes (Do (op ∷ [])) rest) → (cond same (alone_fields kind.1) (fields_of (alone_kinds rows ++ others) n)).Begins bytes (Do (op ∷ [])) rest
+    go true here behind = (op, rest, here, (refl, refl))
+    go false there behind = behind there
 
-by_number : (n : ℕ) → Tells n (fields_of kinds n)
-by_number =
-    fields_tell kinds (
-      told undo_kind,
-      (told create_kind, (told write_kind, (told truncate_kind, (told link_kind, (told rename_kind, (told unlink_kind, (told take_kind, (told drop_kind, (told rekey_kind, tt))))))))),
-    )
+-- what comes of the fields of an operation comes of those of the change, where none of the other
+-- kinds has the number
+pub alone_takes : (rows : List (ℕ × Format Op)) (others : List (ℕ × Format Change)) (n : ℕ) → HasNoKind others n → (old : Reading) (r : Result Change Refusal) (new : Reading) → Takes (alone_fields (fields_of rows n)) old r new → Takes (fields_of (alone_kinds rows ++ others) n) old r new
+unfolding ◌>>=◌ making no_kind
+alone_takes [] others n none old (Ok c) new took = absurd took.spelled.2
+alone_takes [] others n none old (Err e) new (inl is) = inl is
+alone_takes [] others n none old (Err e) new (inr (place, is, at)) = inr (place, is, record { behind = at.behind; fails = go at.fails; place_is = at.place_is })
+  where
+    go : (at.behind ≡ n ∷ old.left) ⊎ ((op : Op) × (between : List ℕ) × ⊥ × ⊥) → (fields_of others n).Fails old.left at.behind
+    go (inl same) = subst ((fields_of others n).Fails old.left) (sym same) (no_kind_fails others n none old.left)
+    go (inr more) = absurd more.2
+alone_takes (kind ∷ rows) others n none old r new takes = go (nat_eq n kind.0) takes (alone_takes rows others n none old r new)
+  where
+    go : (same : Bool) → Takes (alone_fields (cond same kind.1 (fields_of rows n))) old r new → (Takes (alone_fields (fields_of rows n)) old r new → Takes (fields_of (alone_kinds rows ++ others) n) old r new) → Takes (cond same (alone_fields kind.1) (fields_of (alone_kinds rows ++ others) n)) old r new
+    go true here behind = here
+    go false there behind = behind there
 
--- ---- what a change tells
+-- an operation's kind isn't that of an undo
+not_undone : {op : Op} (k : HasKind op_kinds op_bytes op) → k.number ≡ 0 → ⊥
+unfolding no_kind
+not_undone {op} k is = subst (λ n. (fields_of op_kinds n).Begins (k.fields ++ []) op []) is (k.begins [])
 
-pub record Told (c : Change) : Type 0 where
-  pub begins : (rest : List ℕ) → tagged_format.Begins (tagged_bytes c ++ rest) c rest
-  pub few : length (tagged_bytes c) ≤ 69999
-
-of_kind : {A : Type 0} {n : ℕ} {make : A → Change} {Is : A → Type 0} {spelling : A → List ℕ} → n < 256 → IsKind n (fields_of kinds n) make Is spelling → (a : A) → Is a → Told (make a)
-unfolding tagged_format ◌>>=◌ part u8_part
-of_kind {n} {make} {spelling} small kind a is =
-    let k = kind.is a is in
+alone : (op : Op) → Fits op → HasKind kinds tagged_bytes (Do (op ∷ []))
+alone op fits =
+    let k = by_op op fits in
     record {
-      begins = λ rest. (n, spelling a ++ rest, (small, ap (λ l. l ++ rest) k.2), kind.makes.begins (spelling a ++ rest) a rest is refl);
-      few = let long = ap length k.2 in omega (arith, long, kind.few a is);
+      number = k.number;
+      fields = k.fields;
+      small = k.small;
+      spelled = k.spelled;
+      begins = λ rest. go k.number (not_undone k) (k.fields ++ rest) rest (k.begins rest);
     }
-
-by_change : (c : Change) → IsChange c → HasItem c → Told c
-by_change (Undo n) is has = of_kind (omega arith) undo_kind n is
-by_change (Do (Create c)) is has = of_kind (omega arith) create_kind c is
-by_change (Do (Write w)) is has = of_kind (omega arith) write_kind w (is, has)
-by_change (Do (Truncate t)) is has = of_kind (omega arith) truncate_kind t is
-by_change (Do (Link l)) is has = of_kind (omega arith) link_kind l is
-by_change (Do (Rename r)) is has = of_kind (omega arith) rename_kind r is
-by_change (Do (Unlink u)) is has = of_kind (omega arith) unlink_kind u is
-by_change (Do (Take t)) is has = of_kind (omega arith) take_kind t is
-by_change (Do (Drop d)) is has = of_kind (omega arith) drop_kind d is
-by_change (Rekey k) is has = of_kind (omega arith) rekey_kind k is
-
-tagged : Makes tagged_format (λ c. c) (λ c. IsChange c × HasItem c) tagged_bytes
-unfolding tagged_format ◌>>=◌ part u8_part
-tagged = record {
-  lawful = in_order u8_part (fields_of kinds) u8_lawful (λ n. (by_number n).lawful);
-  spelled = λ bytes c rest x. let s = (by_number x.0).spelled x.1 c rest x.3 in (c, refl, (s.0, s.1), x.2.1 ∙ s.2);
-  begins = λ bytes c rest is e. subst (λ l. tagged_format.Begins l c rest) (sym e) ((by_change c is.0 is.1).begins rest);
-}
-
--- ---- what is read of a number of no kind
-
--- no kind has the number
-abbrev pub HasNoKind : List (ℕ × Format Change) → ℕ → Type 0
-HasNoKind [] n = Unit {0}
-HasNoKind (kind ∷ others) n = (n ≡ kind.0 → ⊥) × HasNoKind others n
-
--- then the number is what is refused
-pub no_kind_fails : (rows : List (ℕ × Format Change)) (n : ℕ) → HasNoKind rows n → (bytes : List ℕ) → (fields_of rows n).Fails bytes (n ∷ bytes)
-unfolding no_kind
-no_kind_fails [] n none bytes = refl
-no_kind_fails (kind ∷ others) n none bytes = go (nat_eq n kind.0) refl (no_kind_fails others n none.1 bytes)
   where
-    go : (same : Bool) → nat_eq n kind.0 ≡ same → (fields_of others n).Fails bytes (n ∷ bytes) → (cond same kind.1 (fields_of others n)).Fails bytes (n ∷ bytes)
-    go true is other = absurd (none.0 (eqb-true _ _ is))
-    go false is other = other
+    go : (n : ℕ) → (n ≡ 0 → ⊥) → (bytes rest : List ℕ) → (fields_of op_kinds n).Begins bytes op rest → (fields_of kinds n).Begins bytes (Do (op ∷ [])) rest
+    go n none bytes rest b = first (nat_eq n 0) refl (alone_begins op_kinds more_kinds n bytes op rest b)
+      where
+        first : (same : Bool) → nat_eq n 0 ≡ same → (fields_of (alone_kinds op_kinds ++ more_kinds) n).Begins bytes (Do (op ∷ [])) rest → (cond same undo_fields (fields_of (alone_kinds op_kinds ++ more_kinds) n)).Begins bytes (Do (op ∷ [])) rest
+        first true is there = absurd (none (eqb-true _ _ is))
+        first false is there = there
+
+-- ---- all changes
+
+each_tells : AllTell IsSpelled tagged_bytes kinds
+each_tells = (told undo_kind, all_alone op_kinds more_kinds by_number (told rekey_kind, (told batch_kind, tt)))
+
+by_change : (c : Change) → IsSpelled c → HasKind kinds tagged_bytes c
+by_change (Undo n) is = of_kind (omega arith) undo_kind n is.0
+by_change (Do []) is = absurd is.1
+by_change (Do (op ∷ [])) is = alone op (is.0.0, is.1)
+by_change (Do (op ∷ next ∷ ops)) is =
+    of_kind (omega arith) batch_kind (op ∷ next ∷ ops) (record { count = (omega arith, is.1.few); are = is.0; each = is.1.each })
+by_change (Rekey k) is = of_kind (omega arith) rekey_kind k is.0
+
+tagged : Makes tagged_format (λ c. c) IsSpelled tagged_bytes
+unfolding tagged_format
+tagged = one_makes each_tells by_change
+
+-- ---- what is read of the numbers of other kinds than those of operations
+
+abbrev pub IsOther : ℕ → Type 0
+IsOther n = (n ≡ 0 → ⊥) × HasNoKind more_kinds n
+
+pub takes_alone : (n : ℕ) → IsOther n → (old : Reading) (r : Result Change Refusal) (new : Reading) → Takes (alone_fields (fields_of op_kinds n)) old r new → Takes (fields_of kinds n) old r new
+takes_alone n other old r new takes =
+    not_the_first (0, undo_fields) (alone_kinds op_kinds ++ more_kinds) n old r new other.0
+    (alone_takes op_kinds more_kinds n other.1 old r new takes)
+
+-- ---- values of so many bytes at most
+
+module _ {A : Type 0} {f : Format A} {Is : A → Type 0} {spelling : A → List ℕ} (most : ℕ) (of : Makes f (λ a. a) Is spelling) where
+  -- the value is longer
+  Longer : List ℕ → Type 0
+  Longer bytes = (a : A) × (behind : List ℕ) × f.Begins bytes a behind × (most + length behind < length bytes)
+
+  not_both : (bytes : List ℕ) (a : A) (rest : List ℕ) → f.Begins bytes a rest → length bytes ≤ most + length rest → Longer bytes → ⊥
+  unfolding Longer
+  not_both bytes a rest b short long =
+      let same = ap length (of.lawful.told bytes a long.0 rest long.1 b long.2).1 in
+      let more = long.3 in
+      omega (arith, same, short, more)
+
+  within_lawful : IsLawful (within most f)
+  unfolding within Longer
+  within_lawful =
+      let apart : (bytes : List ℕ) (a : A) (rest behind : List ℕ) → (within most f).Begins bytes a rest → (within most f).Fails bytes behind → ⊥ = λ bytes a rest behind x. elim [
+        | inl y ↦ of.lawful.apart bytes a rest behind x.0 y
+        | inr y ↦ not_both bytes a rest x.0 x.1 y.1
+      ] in
+      let place : (bytes rest behind : List ℕ) → (within most f).Fails bytes rest → (within most f).Fails bytes behind → rest ≡ behind = λ bytes rest behind. elim [
+        | inl x ↦ elim [
+          | inl y ↦ of.lawful.one_place bytes rest behind x y
+          | inr y ↦ absurd (of.lawful.apart bytes y.1.0 y.1.1 rest y.1.2 x)
+        ]
+        | inr x ↦ elim [
+          | inl y ↦ absurd (of.lawful.apart bytes x.1.0 x.1.1 behind x.1.2 y)
+          | inr y ↦ x.0 ∙ sym y.0
+        ]
+      ] in
+      record {
+        told = λ bytes a b rest behind x y. of.lawful.told bytes a b rest behind x.0 y.0;
+        apart = apart;
+        one_place = place;
+      }
+
+  within_makes : Makes (within most f) (λ a. a) (λ a. Is a × (length (spelling a) ≤ most)) spelling
+  unfolding within
+  within_makes = record {
+    lawful = within_lawful;
+    spelled = λ bytes a rest x.
+        let s = of.spelled bytes a rest x.0 in
+        let long = ap length s.3 ∙ length-append (spelling s.0) rest in
+        let short = x.1 in
+        (s.0, s.1, (s.2, omega (arith, long, short)), s.3);
+    begins = λ bytes a rest is e.
+        let long = ap length e ∙ length-append (spelling a) rest in
+        let short = is.1 in
+        (of.begins bytes a rest is.0 e, omega (arith, long, short));
+  }
 
 -- ---- items
 
+short_enough : (c : Change) → IsChange c → HasItem c → length (item_bytes c) ≤ longest_item
+unfolding item_bytes
+short_enough (Undo n) is has = omega arith
+short_enough (Do []) is has = absurd has
+short_enough (Do (op ∷ [])) is has = let few = op_few op is.0 has in omega (arith, few)
+short_enough (Do (op ∷ next ∷ ops)) is has = has.1
+short_enough (Rekey k) is has = omega (arith, is)
+
+-- what has an item has a spelling
+pub has_spelling : (c : Change) → HasItem c → HasSpelling c
+has_spelling (Undo n) has = has
+has_spelling (Do []) has = has
+has_spelling (Do (op ∷ [])) has = has
+has_spelling (Do (op ∷ next ∷ ops)) has = has.0
+has_spelling (Rekey k) has = has
+
+-- what has a spelling that is too long has no item
+pub too_long_for_one : (c : Change) → IsTooLong c → HasItem c → ⊥
+too_long_for_one (Undo n) long has = long
+too_long_for_one (Do []) long has = long
+too_long_for_one (Do (op ∷ [])) long has = long
+too_long_for_one (Do (op ∷ next ∷ ops)) long has = let few = has.1 in let more = long.1 in omega (arith, few, more)
+too_long_for_one (Rekey k) long has = long
+
+has_item : (c : Change) → HasSpelling c → length (item_bytes c) ≤ longest_item → HasItem c
+has_item (Undo n) has few = has
+has_item (Do []) has few = has
+has_item (Do (op ∷ [])) has few = has
+has_item (Do (op ∷ next ∷ ops)) has few = (has, few)
+has_item (Rekey k) has few = has
+
+marked : Makes marked_format (λ c. c) IsSpelled item_bytes
+unfolding marked_format item_bytes
+marked = behind_mark first_byte tagged
+
 item : Makes item_format (λ c. c) (λ c. IsChange c × HasItem c) item_bytes
-unfolding item_format item_bytes
-item = behind_mark first_byte tagged
+unfolding item_format
+item =
+    known_as (within_makes longest_item marked) (λ c is. (is.0.0, has_item c is.0.1 is.1))
+    (λ c is. ((is.0, has_spelling c is.1), short_enough c is.0 is.1))
 
 pub item_lawful : IsLawful item_format
 item_lawful = item.lawful
@@ -281,9 +251,42 @@ item_of = format_of item
 pub item_size : (c : Change) (bytes : List ℕ) → bytes ≡ item_bytes c → IsChange c → HasItem c → (1 ≤ length bytes) × (length bytes ≤ 70000)
 unfolding item_bytes
 item_size c bytes spelled is has =
-    let few = (by_change c is has).few in
+    let few = short_enough c is has in
     let long = ap length spelled in
     (omega (arith, long), omega (arith, few, long))
+
+-- ---- what is read as an item
+
+module _ (old now : Reading) (c : Change) (took : Took marked_format old c now) where
+  -- the place never falls
+  pub place_rises : old.place ≤ now.place
+  place_rises =
+      let s = (marked.spelled old.left c now.left took.spelled).3 in
+      let long = ap length s ∙ length-append _ now.left in
+      let place = took.place in
+      omega (arith, long, place)
+
+  -- the item isn't too long
+  pub taken_within : now.place ≤ old.place + longest_item → Took item_format old c now
+  unfolding item_format within
+  taken_within short =
+      let place = took.place in
+      record { spelled = (took.spelled, omega (arith, place, short)); place = place }
+
+  -- it is
+  pub too_long : (e : Refusal) → e ≡ Malformed old.place → old.place + longest_item < now.place → Refuses item_format old e
+  unfolding item_format within
+  too_long e is long =
+      let place = took.place in
+      let more : longest_item + length now.left < length old.left = omega (arith, place, long) in
+      inr (old.place, is, record { behind = old.left; fails = inr (refl, (c, now.left, took.spelled, more)); place_is = refl })
+
+-- its parts aren't there
+pub parts_refused : (old : Reading) (e : Refusal) → Refuses marked_format old e → Refuses item_format old e
+unfolding item_format within
+parts_refused old e (inl none) = inl none
+parts_refused old e (inr (place, is, at)) =
+    inr (place, is, record { behind = at.behind; fails = inl at.fails; place_is = at.place_is })
 
 -- ---- what is decoded
 

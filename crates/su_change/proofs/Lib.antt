@@ -1,4 +1,7 @@
 pub mod Sizes
+pub mod KindLemmas
+pub mod Operations
+pub mod Batches
 pub mod Items
 pub mod Public
 mod Examples

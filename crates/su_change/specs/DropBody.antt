@@ -2,9 +2,8 @@
 use Rattle.std.specs.Prelude.{◌≡◌, ℕ, true, List}
 use Rattle.su_bytes.specs.FileId.{is_inum}
 use Rattle.su_op.specs.declared.drop_body.DropBody.{DropBody}
+use Rattle.su_op.specs.declared.operations.Op.{Op}
 use Rattle.su_op.specs.declared.operations.Op.TheVariants.{Drop}
-use Rattle.su_op.specs.declared.operations.Change.{Change}
-use Rattle.su_op.specs.declared.operations.Change.TheVariants.{Do}
 use Rattle.su_format.specs.Format.{Format, making, ◌>>=◌}
 use Rattle.su_format.specs.Part.{u32_bytes, inum_part}
 
@@ -16,8 +15,8 @@ IsDrop d = is_inum d.body ≡ true
 abbrev pub drop_bytes : DropBody → List ℕ
 drop_bytes d = u32_bytes d.body
 
--- its part, and the change that it makes
-unfoldable pub drop_fields : Format Change
+-- its part, and the operation that it makes
+unfoldable pub drop_fields : Format Op
 drop_fields = do
   body ← inum_part
-  making (Do (Drop (record { body = body })))
+  making (Drop (record { body = body }))

@@ -1,3 +1,4 @@
+pub mod Kinds
 pub mod NameAt
 pub mod Create
 pub mod Write
@@ -5,5 +6,7 @@ pub mod Truncate
 pub mod Rename
 pub mod Take
 pub mod DropBody
+pub mod Operation
+pub mod Batch
 pub mod Rekey
 pub mod Item

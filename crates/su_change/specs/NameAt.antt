@@ -6,9 +6,8 @@ use Rattle.su_bytes.specs.Name.{is_name}
 use Rattle.su_op.specs.declared.create.Create.{Create}
 use Rattle.su_op.specs.declared.link.Link.{Link as Link_}
 use Rattle.su_op.specs.declared.unlink.Unlink.{Unlink as Unlink_}
+use Rattle.su_op.specs.declared.operations.Op.{Op}
 use Rattle.su_op.specs.declared.operations.Op.TheVariants.{Link, Unlink}
-use Rattle.su_op.specs.declared.operations.Change.{Change}
-use Rattle.su_op.specs.declared.operations.Change.TheVariants.{Do}
 use Rattle.su_format.specs.Format.{Format, making, ◌>>=◌}
 use Rattle.su_format.specs.Part.{file_id_part, name_bytes, name_part}
 use Rattle.su_change.specs.declared.name_at.NameAt.{NameAt}
@@ -45,14 +44,14 @@ linked_name l = record { dir = l.dir; name = l.name; file = l.file }
 abbrev pub unlinked_name : Unlink_ → NameAt
 unlinked_name u = record { dir = u.dir; name = u.name; file = u.file }
 
--- the fields of a link, and the change that they make
-unfoldable pub link_fields : Format Change
+-- the fields of a link, and the operation that they make
+unfoldable pub link_fields : Format Op
 link_fields = do
   n ← name_at_format
-  making (Do (Link (record { dir = n.dir; name = n.name; file = n.file })))
+  making (Link (record { dir = n.dir; name = n.name; file = n.file }))
 
--- the fields of an unlink, and the change that they make
-unfoldable pub unlink_fields : Format Change
+-- the fields of an unlink, and the operation that they make
+unfoldable pub unlink_fields : Format Op
 unlink_fields = do
   n ← name_at_format
-  making (Do (Unlink (record { dir = n.dir; name = n.name; file = n.file })))
+  making (Unlink (record { dir = n.dir; name = n.name; file = n.file }))

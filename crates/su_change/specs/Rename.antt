@@ -3,9 +3,8 @@ use Rattle.std.specs.Prelude.{◌≡◌, ℕ, true, List, ◌++◌}
 use Rattle.su_bytes.specs.FileId.{is_file_id, file_id_bytes}
 use Rattle.su_bytes.specs.Name.{is_name}
 use Rattle.su_op.specs.declared.rename.Rename.{Rename as Rename_}
+use Rattle.su_op.specs.declared.operations.Op.{Op}
 use Rattle.su_op.specs.declared.operations.Op.TheVariants.{Rename}
-use Rattle.su_op.specs.declared.operations.Change.{Change}
-use Rattle.su_op.specs.declared.operations.Change.TheVariants.{Do}
 use Rattle.su_format.specs.Format.{Format, making, ◌>>=◌}
 use Rattle.su_format.specs.Part.{file_id_part, name_bytes, name_part}
 
@@ -24,12 +23,12 @@ rename_bytes r =
     file_id_bytes r.from_ ++ (name_bytes r.old_ ++ (file_id_bytes r.to_
     ++ (name_bytes r.new_ ++ file_id_bytes r.file)))
 
--- its parts, in that order, and the change that they make
-unfoldable pub rename_fields : Format Change
+-- its parts, in that order, and the operation that they make
+unfoldable pub rename_fields : Format Op
 rename_fields = do
   from ← file_id_part
   old ← name_part
   to ← file_id_part
   new ← name_part
   file ← file_id_part
-  making (Do (Rename (record { from_ = from; old_ = old; to_ = to; new_ = new; file = file })))
+  making (Rename (record { from_ = from; old_ = old; to_ = to; new_ = new; file = file }))

@@ -2,9 +2,8 @@
 use Rattle.std.specs.Prelude.{◌≡◌, ◌<◌, ◌^◌, ℕ, true, List, ◌++◌}
 use Rattle.su_bytes.specs.FileId.{is_file_id, file_id_bytes}
 use Rattle.su_op.specs.declared.truncate.Truncate.{Truncate as Truncate_}
+use Rattle.su_op.specs.declared.operations.Op.{Op}
 use Rattle.su_op.specs.declared.operations.Op.TheVariants.{Truncate}
-use Rattle.su_op.specs.declared.operations.Change.{Change}
-use Rattle.su_op.specs.declared.operations.Change.TheVariants.{Do}
 use Rattle.su_format.specs.Format.{Format, making, ◌>>=◌}
 use Rattle.su_format.specs.Part.{file_id_part, u32_bytes, u32_part}
 
@@ -17,9 +16,9 @@ pub record IsTruncate (t : Truncate_) : Type 0 where
 abbrev pub truncate_bytes : Truncate_ → List ℕ
 truncate_bytes t = file_id_bytes t.file ++ u32_bytes t.size
 
--- its parts, in that order, and the change that they make
-unfoldable pub truncate_fields : Format Change
+-- its parts, in that order, and the operation that they make
+unfoldable pub truncate_fields : Format Op
 truncate_fields = do
   file ← file_id_part
   size ← u32_part
-  making (Do (Truncate (record { file = file; size = size })))
+  making (Truncate (record { file = file; size = size }))

@@ -3,9 +3,8 @@ use Rattle.std.specs.Prelude.{◌≡◌, ◌≤◌, ◌<◌, ◌^◌, ℕ, true,
 use Rattle.su_bytes.specs.FileId.{is_file_id, file_id_bytes}
 use Rattle.su_op.specs.Limits.{largest_write}
 use Rattle.su_op.specs.Writing.{Writing}
+use Rattle.su_op.specs.declared.operations.Op.{Op}
 use Rattle.su_op.specs.declared.operations.Op.TheVariants.{Write}
-use Rattle.su_op.specs.declared.operations.Change.{Change}
-use Rattle.su_op.specs.declared.operations.Change.TheVariants.{Do}
 use Rattle.su_format.specs.Format.{Format, part, making, ◌>>=◌}
 use Rattle.su_format.specs.Part.{u32_bytes, u32_part, bytes_part, file_id_part}
 
@@ -31,11 +30,11 @@ write_bytes w =
 unfoldable pub length_part : Format ℕ
 length_part = part IsLength u32_bytes
 
--- its parts, in that order, and the change that they make
-unfoldable pub write_fields : Format Change
+-- its parts, in that order, and the operation that they make
+unfoldable pub write_fields : Format Op
 write_fields = do
   file ← file_id_part
   off ← u32_part
   n ← length_part
   bytes ← bytes_part n
-  making (Do (Write (record { file = file; off = off; bytes = bytes })))
+  making (Write (record { file = file; off = off; bytes = bytes }))

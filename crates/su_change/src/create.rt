@@ -7,10 +7,10 @@ use crate::name_at::NameAt;
 use std::alloc::{AllocError, Global};
 use su_bytes::{FileId, Refusal};
 use su_format::{Reader, Writer};
-use su_op::{Change, Create, Op};
+use su_op::{Create, Op};
 
 /// Reads a create: the directory, the name, the file; the number of its body, its kind.
-pub fn read(alloc: Global, reader: &mut Reader<'_>) -> Result<Change, Refusal>
+pub fn read(alloc: Global, reader: &mut Reader<'_>) -> Result<Op, Refusal>
     ensures { Takes create_fields reader.old result reader.new }
 {
     // names the type for the prover (docs/ARCHITECTURE.md, "Forms the kit wants")
@@ -18,13 +18,13 @@ pub fn read(alloc: Global, reader: &mut Reader<'_>) -> Result<Change, Refusal>
     let NameAt { dir, name, file } = NameAt::read(alloc, reader)?;
     let body = reader.take_inum()?;
     let kind = reader.take_kind()?;
-    Ok(Change::Do(Op::Create(Create {
+    Ok(Op::Create(Create {
         dir,
         name,
         file,
         body,
         kind,
-    })))
+    }))
 }
 
 /// Writes the number of the kind, and the fields in the same order.

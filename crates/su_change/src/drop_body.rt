@@ -6,16 +6,16 @@ ghost use Rattle.su_change.specs.DropBody.{IsDrop, drop_bytes, drop_fields};
 use std::alloc::AllocError;
 use su_bytes::{FileId, Refusal};
 use su_format::{Reader, Writer};
-use su_op::{Change, DropBody, Op};
+use su_op::{DropBody, Op};
 
 /// Reads a drop: the number of the body.
-pub fn read(reader: &mut Reader<'_>) -> Result<Change, Refusal>
+pub fn read(reader: &mut Reader<'_>) -> Result<Op, Refusal>
     ensures { Takes drop_fields reader.old result reader.new }
 {
     // names the type for the prover (docs/ARCHITECTURE.md, "Forms the kit wants")
     let _file: Option<FileId> = None;
     let body = reader.take_inum()?;
-    Ok(Change::Do(Op::Drop(DropBody { body })))
+    Ok(Op::Drop(DropBody { body }))
 }
 
 /// Writes the number of the kind, and that of the body.

@@ -1,12 +1,14 @@
 //! The bytes of a change: its item, by which it is stored, and whose digest names it.
 #![tactic(auto)]
 
+mod batch;
 mod create;
 mod decoder;
 mod drop_body;
 mod encoder;
 mod laws;
 mod name_at;
+mod operation;
 mod rekey;
 mod rename;
 mod take;

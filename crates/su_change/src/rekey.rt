@@ -1,5 +1,5 @@
 // A user's next key, in bytes.
-ghost use Rattle.std.specs.Prelude.{◌≡◌, ◌∷◌, ◌++◌, OnOk};
+ghost use Rattle.std.specs.Prelude.{◌≡◌, ◌+◌, ◌≤◌, ◌∷◌, ◌++◌, length, OnOk};
 ghost use Rattle.su_format.specs.Reading.{Takes};
 ghost use Rattle.su_change.specs.Rekey.{IsKey, rekey_fields};
 
@@ -18,6 +18,14 @@ pub fn read(reader: &mut Reader<'_>) -> Result<Change, Refusal>
     let mut key = [0u8; KEY_LENGTH];
     key.copy_from_slice(bytes);
     Ok(Change::Rekey(key))
+}
+
+/// Returns how many bytes a rekey has in an item, with the number of its kind.
+pub fn size(key: &[u8; KEY_LENGTH]) -> usize
+    ensures size { result ≡ 1 + length key.now }
+    ensures few { result ≤ 57 }
+{
+    1 + key.len()
 }
 
 /// Writes the number of the kind, and the bytes of the key.

@@ -1,16 +1,16 @@
 // A file gets another name, in bytes.
-ghost use Rattle.std.specs.Prelude.{◌≡◌, ◌∷◌, ◌++◌, OnOk};
+ghost use Rattle.std.specs.Prelude.{◌≡◌, ◌+◌, ◌≤◌, ◌∷◌, ◌++◌, length, OnOk};
 ghost use Rattle.su_format.specs.Reading.{Takes};
 ghost use Rattle.su_change.specs.Rename.{IsRename, rename_bytes, rename_fields};
 
 use std::alloc::{AllocError, Global};
 use su_bytes::{FileId, Refusal};
 use su_format::{Reader, Writer};
-use su_op::{Change, Op, Rename};
+use su_op::{Op, Rename};
 
 /// Reads a rename: the directory that loses the file, the old name, the directory that gets it,
 /// the new name, the file.
-pub fn read(alloc: Global, reader: &mut Reader<'_>) -> Result<Change, Refusal>
+pub fn read(alloc: Global, reader: &mut Reader<'_>) -> Result<Op, Refusal>
     ensures { Takes rename_fields reader.old result reader.new }
 {
     // names the type for the prover (docs/ARCHITECTURE.md, "Forms the kit wants")
@@ -20,13 +20,21 @@ pub fn read(alloc: Global, reader: &mut Reader<'_>) -> Result<Change, Refusal>
     let to_ = reader.take_file_id()?;
     let new_ = reader.take_name(alloc)?;
     let file = reader.take_file_id()?;
-    Ok(Change::Do(Op::Rename(Rename {
+    Ok(Op::Rename(Rename {
         from_,
         old_,
         to_,
         new_,
         file,
-    })))
+    }))
+}
+
+/// Returns how many bytes a rename has in an item, with the number of its kind.
+pub fn size(rename: &Rename) -> usize
+    ensures size { result ≡ 1 + length (rename_bytes rename.now) }
+    ensures few { result ≤ 531 }
+{
+    21 + rename.old_.as_bytes().len() + rename.new_.as_bytes().len()
 }
 
 /// Writes the number of the kind, and the fields in the same order.

@@ -6,17 +6,17 @@ ghost use Rattle.su_change.specs.Truncate.{IsTruncate, truncate_bytes, truncate_
 use std::alloc::AllocError;
 use su_bytes::{FileId, Refusal};
 use su_format::{Reader, Writer};
-use su_op::{Change, Op, Truncate};
+use su_op::{Op, Truncate};
 
 /// Reads a truncate: the file, and its size.
-pub fn read(reader: &mut Reader<'_>) -> Result<Change, Refusal>
+pub fn read(reader: &mut Reader<'_>) -> Result<Op, Refusal>
     ensures { Takes truncate_fields reader.old result reader.new }
 {
     // names the type for the prover (docs/ARCHITECTURE.md, "Forms the kit wants")
     let _file: Option<FileId> = None;
     let file = reader.take_file_id()?;
     let size = reader.take_u32()?;
-    Ok(Change::Do(Op::Truncate(Truncate { file, size })))
+    Ok(Op::Truncate(Truncate { file, size }))
 }
 
 /// Writes the number of the kind, and the fields in the same order.

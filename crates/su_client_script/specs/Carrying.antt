@@ -39,9 +39,9 @@ pub record CommitsNow (it : Change) (s t : MemberState) (r : Result ℕ ViewRefu
 -- go on to another key
 abbrev pub CommitsIn : (LinkState → Type 0) → Bool → Op → MemberState → MemberState
     → Result ℕ ViewRefusal → Type 0
-CommitsIn MayConnect true op s t r = CommitsNow (change.Do op) s t r
+CommitsIn MayConnect true op s t r = CommitsNow (change.Do (op ∷ [])) s t r
 CommitsIn MayConnect false op s t r =
-    MovesOnThen MayConnect (λ ready. Commits MayConnect (always (change.Do op)) ready t r) s
+    MovesOnThen MayConnect (λ ready. Commits MayConnect (always (change.Do (op ∷ []))) ready t r) s
 
 -- Operations are committed, one after the other, and of each its number is printed; for the first
 -- the turn may be held.

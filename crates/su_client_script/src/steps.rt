@@ -317,13 +317,14 @@ where
         × IfOk result (λ out. IsOutcome (is_after_take place) r out
         × Appends (O.contents output.old) (O.contents output.new) (number_shown r)) }
 {
-    let stored = commit(program, member, operation, place, ahead);
+    let stored = commit(program, alloc, member, operation, place, ahead);
     tell_number(alloc, output, stored, matches!(place, Place::AfterTake))
 }
 
 /// Commits an operation, in the turn that is held or one of its own.
 fn commit<P, R, W, K>(
     program: &mut P,
+    alloc: Global,
     member: &mut Member<R, W, K>,
     operation: Op,
     place: Place,
@@ -338,9 +339,9 @@ where
     ensures commits { CommitsIn P.may_connect (is_first place) operation member.old member.new result }
 {
     if matches!(place, Place::First) {
-        return member.publish(Change::Do(operation), ahead);
+        return member.publish(Change::of(alloc, operation), ahead);
     }
-    change(program, member, Change::Do(operation), ahead)
+    change(program, member, Change::of(alloc, operation), ahead)
 }
 
 /// Goes on to the key in a key file, and prints the number of the commit, or a refusal.

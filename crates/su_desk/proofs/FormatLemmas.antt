@@ -1,11 +1,11 @@
 -- Formats of entries.
-use Rattle.std.proofs.Common.{◌≡◌, ℕ, true, ◌&&◌, cond, List, [], ◌∷◌, ◌++◌, Option, None, Some, refl, sym, ap, ◌∙◌, append_assoc, append-nil}
+use Rattle.std.proofs.Common.{◌≡◌, ℕ, Bool, true, false, arith, ◌&&◌, cond, List, [], ◌∷◌, ◌++◌, Option, None, Some, refl, sym, ap, ◌∙◌, append_assoc, append-nil}
 use Rattle.std.specs.Option.{option_or}
 use Rattle.su_bytes.specs.Format.{is_as_new}
 use Rattle.su_bytes.specs.Membership.{Membership}
 use Rattle.su_bytes.specs.declared.formats.Format.{Format}
-use Rattle.su_bytes.specs.declared.formats.Format.TheVariants.{V1, V2, V3}
-use Rattle.su_bytes.specs.declared.formats.TheConstants.{NEWEST_FORMAT}
+use Rattle.su_bytes.specs.declared.formats.Format.TheVariants.{V1, V2, V3, V4}
+use Rattle.su_bytes.specs.declared.formats.TheConstants.{FIRST_FORMAT, NEWEST_FORMAT}
 use Rattle.su_bytes.specs.declared.refusals.Refusal.{Refusal}
 use Rattle.su_bytes.specs.declared.refusals.Refusal.TheVariants.{OldFormat}
 use Rattle.su_bytes.proofs.Public.{newest}
@@ -14,7 +14,7 @@ use Rattle.su_op.specs.declared.operations.Change.TheVariants.{Undo}
 use Rattle.su_op.specs.Action.{change_format}
 use Rattle.su_desk.specs.declared.entries.Entry.{Entry}
 use Rattle.su_desk.specs.History.{NumberedAction, last_format, format_after, undo_by, undos}
-use Rattle.su_desk.specs.Answer.{format_refusal, refusal_by_change, refusal_of}
+use Rattle.su_desk.specs.Answer.{format_refusal, made_format, newer, refusal_by_change, refusal_of}
 
 -- ---- the format of the last entry
 
@@ -25,19 +25,21 @@ last_format-append f (x ∷ h) e = last_format-append x.format h e
 pub format_further : (h : List Entry) (e : Entry) → format_after (h ++ e ∷ []) ≡ e.format
 format_further h e = last_format-append V1 h e
 
-as_new_itself : (f : Format) → is_as_new f f ≡ true
+pub as_new_itself : (f : Format) → is_as_new f f ≡ true
 as_new_itself V1 = refl
 as_new_itself V2 = refl
 as_new_itself V3 = refl
+as_new_itself V4 = refl
 
 as_new_as_oldest : (f : Format) → is_as_new f V1 ≡ true
 as_new_as_oldest V1 = refl
 as_new_as_oldest V2 = refl
 as_new_as_oldest V3 = refl
+as_new_as_oldest V4 = refl
 
 -- ---- formats that fit
 
-fits : (h : List Entry) (f : Format) (c : Change) → is_as_new f (format_after h) ≡ true → is_as_new f (change_format c) ≡ true → format_refusal h f c ≡ None
+pub fits : (h : List Entry) (f : Format) (c : Change) → is_as_new f (format_after h) ≡ true → is_as_new f (change_format c) ≡ true → format_refusal h f c ≡ None
 fits h f c new has =
     ap (λ b. cond (b && is_as_new f (change_format c)) None (Some OldFormat)) new ∙ ap (λ b. cond b None (Some OldFormat)) has
 
@@ -56,6 +58,36 @@ undos_as_new h f (t ∷ us) new =
     let e : Entry = undo_by t.action.author f t.number in
     ap (λ l. is_as_new f (format_after l)) (sym (append_assoc h (undos f us) (e ∷ [])))
     ∙ ap (is_as_new f) (format_further (h ++ undos f us) e) ∙ as_new_itself f
+
+-- ---- the newer of two
+
+newer_left : (f g : Format) → is_as_new (newer f g) f ≡ true
+newer_left f g = go (is_as_new f g) refl
+  where
+    go : (b : Bool) → is_as_new f g ≡ b → is_as_new (cond b f g) f ≡ true
+    go true is = as_new_itself f
+    go false is = grind (arith, is)
+
+newer_right : (f g : Format) → is_as_new (newer f g) g ≡ true
+newer_right f g = go (is_as_new f g) refl
+  where
+    go : (b : Bool) → is_as_new f g ≡ b → is_as_new (cond b f g) g ≡ true
+    go true is = is
+    go false is = as_new_itself g
+
+as_new_on : (f g k : Format) → is_as_new f g ≡ true → is_as_new g k ≡ true → is_as_new f k ≡ true
+as_new_on f g k e d = grind (arith, e, d)
+
+-- a change that is made so is never refused for its format
+pub made_fits : (h : List Entry) (c : Change) → format_refusal h (made_format h c) c ≡ None
+made_fits h c =
+    let f = newer FIRST_FORMAT (format_after h) in
+    fits h (made_format h c) c (as_new_on (made_format h c) f (format_after h) (newer_left f (change_format c)) (newer_right FIRST_FORMAT (format_after h))) (newer_right f (change_format c))
+
+pub made_new : (h : List Entry) (c : Change) → is_as_new (made_format h c) FIRST_FORMAT ≡ true
+made_new h c =
+    let f = newer FIRST_FORMAT (format_after h) in
+    as_new_on (made_format h c) f FIRST_FORMAT (newer_left f (change_format c)) (newer_left FIRST_FORMAT (format_after h))
 
 -- ---- refusals
 

@@ -5,12 +5,15 @@ use Rattle.std.proofs.lemmas.Bool.{eq-eqb}
 use Rattle.su_bytes.specs.Format.{is_as_new}
 use Rattle.su_bytes.specs.Membership.{Membership, has_user}
 use Rattle.su_bytes.specs.declared.formats.Format.{Format}
-use Rattle.su_bytes.specs.declared.refusals.Refusal.TheVariants.{NotAuthor}
+use Rattle.su_bytes.specs.declared.refusals.Refusal.TheVariants.{BadNumber, NotAuthor}
 use Rattle.su_table.specs.Tree.{Tree, genesis}
-use Rattle.su_op.specs.Action.{Action}
+use Rattle.su_op.specs.declared.operations.Op.{Op}
+use Rattle.su_op.specs.Action.{Action as OneAction, action_by as one_by}
+use Rattle.su_op.specs.Batch.{Action, action_by}
 use Rattle.su_op.specs.Rule.{Plan}
-use Rattle.su_op.specs.Operation.{rule_of, why}
-use Rattle.su_op.proofs.Public.{Gives, gives_of, none_is}
+use Rattle.su_op.specs.Batch.{why}
+use Rattle.su_op.specs.Operation.{rule_of, why as why_one}
+use Rattle.su_op.proofs.Public.{Gives, first_accepted, gives_of, none_is}
 use Rattle.su_desk.specs.declared.entries.Entry.{Entry}
 use Rattle.su_desk.specs.History.{NumberedAction, format_after, undo_by, undos, live, replay, tree, entry_at, last_number, last_live}
 use Rattle.su_desk.specs.Applied.{tree_after}
@@ -25,12 +28,19 @@ use Rattle.su_desk.proofs.Replays.{Replayed, HasTree, tree_replayed, split_live,
 
 -- ---- who did an accepted operation belongs to the roster
 
-author_demanded : (ro : Membership) (T : Tree) (x : Action) (p : Plan) → Gives (rule_of ro T x) p → has_user ro x.author ≡ true
+author_demanded : (ro : Membership) (T : Tree) (x : OneAction) (p : Plan) → Gives (rule_of ro T x) p → has_user ro x.author ≡ true
 author_demanded ro T x p (user, rest) = user
 
+one_known : (ro : Membership) (T : Tree) (x : OneAction) → why_one ro T x ≡ None → has_user ro x.author ≡ true
+unfolding why_one
+one_known ro T x ok = author_demanded ro T x _ (gives_of (rule_of ro T x) ok)
+
+author_of : (ro : Membership) (T : Tree) (a : ℕ) (f : Format) (ops : List Op) → why ro T (action_by a f ops) ≡ None → has_user ro a ≡ true
+author_of ro T a f [] ok = absurd (let bad : Some BadNumber ≡ None = ok in cc)
+author_of ro T a f (op ∷ ops) ok = one_known ro T (one_by a f op) (first_accepted ro T a f op ops ok)
+
 author_known : (ro : Membership) (T : Tree) (x : Action) → why ro T x ≡ None → has_user ro x.author ≡ true
-unfolding why
-author_known ro T x ok = author_demanded ro T x _ (gives_of (rule_of ro T x) ok)
+author_known ro T x ok = author_of ro T x.author x.format x.operations ok
 
 -- ---- the undo of a live operation by its author
 

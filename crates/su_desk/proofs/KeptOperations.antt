@@ -11,11 +11,11 @@ use Rattle.su_table.specs.Cell.{Cell, Cell.At, val}
 use Rattle.su_table.specs.Query.{is_file_kind, is_file_at}
 use Rattle.su_op.specs.declared.areas.Area.{Area}
 use Rattle.su_op.specs.Area.{has}
-use Rattle.su_op.specs.Operation.{why}
+use Rattle.su_op.specs.Batch.{why}
 use Rattle.su_op.specs.Soundness.{Sound, KindOrFile}
-use Rattle.su_op.specs.Action.{Action}
-use Rattle.su_op.specs.Store.{store}
-use Rattle.su_op.proofs.Public.{block_written, none_is, store_lawful}
+use Rattle.su_op.specs.Batch.{Action}
+use Rattle.su_op.specs.Batch.{store}
+use Rattle.su_op.proofs.Public.{batch_block_written as block_written, none_is, batches_lawful as store_lawful}
 use Rattle.su_inverse.specs.Kept.{inverse_areas, IsPutBack}
 use Rattle.su_inverse.proofs.Public.{kept_again}
 use Rattle.su_undo.specs.System.{Agree}
@@ -79,7 +79,7 @@ replayed_kept ro h ks T keeps = good_replayed ro h T keeps.good (tree_kept ro h 
 
 -- one operation more
 pub keeps_do : (ro : Membership) (h : List Entry) (ks : List KeptOperation) (T : Tree) (x : Action) (k : KeptOperation) → Keeps ro h ks T
-    → format_refusal h x.format (Do x.op) ≡ None → Fits ro T (record { number = length h + 1; action = x }) k → Keeps ro (h ++ entry_doing x ∷ []) (ks ++ k ∷ []) ((store ro).act T x)
+    → format_refusal h x.format (Do x.operations) ≡ None → Fits ro T (record { number = length h + 1; action = x }) k → Keeps ro (h ++ entry_doing x ∷ []) (ks ++ k ∷ []) ((store ro).act T x)
 keeps_do ro h ks T x k keeps has fits =
     let e : Entry = entry_doing x in
     let t : NumberedAction = record { number = length h + 1; action = x } in

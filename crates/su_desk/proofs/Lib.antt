@@ -17,3 +17,4 @@ pub mod Runs
 pub mod TrialLemmas
 pub mod StandingReady
 pub mod RehearsalLemmas
+pub mod JoinedLemmas

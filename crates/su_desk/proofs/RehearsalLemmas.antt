@@ -3,9 +3,8 @@ use Rattle.std.proofs.Common.{◌≡◌, ◌+◌, length, Option, Some, None, Ok
 use Rattle.std.specs.Option.{unwrap_or}
 use Rattle.su_bytes.specs.declared.refusals.Refusal.{Refusal}
 use Rattle.su_table.specs.Tree.{genesis}
-use Rattle.su_op.specs.Action.{Action}
+use Rattle.su_op.specs.Batch.{Action, why, effect}
 use Rattle.su_op.specs.declared.operations.Change.TheVariants.{Do}
-use Rattle.su_op.specs.Operation.{why, effect}
 use Rattle.su_desk.specs.History.{entry_doing}
 use Rattle.su_desk.specs.Answer.{format_refusal, refusal_of, Good, answer, reply}
 use Rattle.su_desk.specs.Desk.{DeskState, with_entry}
@@ -22,7 +21,7 @@ pub why_accepted : (d : DeskState) (x : Action) → refusal_of d.roster d.histor
 why_accepted d x accepted = change_accepted d.roster d.history (entry_doing x) accepted
 
 -- a refusal of the change is one of the operation, in a format that fits
-pub why_refused : (d : DeskState) (x : Action) (e : Refusal) → format_refusal d.history x.format (Do x.op) ≡ None → answer d.roster d.history (entry_doing x) ≡ Err e → why d.roster (tree_of d) x ≡ Some e
+pub why_refused : (d : DeskState) (x : Action) (e : Refusal) → format_refusal d.history x.format (Do x.operations) ≡ None → answer d.roster d.history (entry_doing x) ≡ Err e → why d.roster (tree_of d) x ≡ Some e
 unfolding answer
 why_refused d x e fits is = go (why d.roster (tree_of d) x) (sym (ap (reply (length d.history + 1)) (by_change d.roster d.history (entry_doing x) fits)) ∙ is)
   where

@@ -12,11 +12,11 @@ use Rattle.su_op.specs.declared.areas.Area.{Area}
 use Rattle.su_op.specs.declared.operations.Change.{Change}
 use Rattle.su_op.specs.declared.operations.Change.TheVariants.{Do, Undo, Rekey}
 use Rattle.su_op.specs.Area.{meet}
-use Rattle.su_op.specs.Operation.{why}
+use Rattle.su_op.specs.Batch.{why}
 use Rattle.su_op.specs.Soundness.{Sound}
-use Rattle.su_op.specs.Action.{Action}
-use Rattle.su_op.specs.Store.{store}
-use Rattle.su_op.proofs.Public.{store_lawful}
+use Rattle.su_op.specs.Batch.{Action}
+use Rattle.su_op.specs.Batch.{store}
+use Rattle.su_op.proofs.Public.{batches_lawful as store_lawful}
 use Rattle.su_undo.specs.Replay.{replay as replay_actions, NoneReads, CanBeTakenOut}
 use Rattle.su_undo.proofs.TakingOut.{AllBeside, led_to, agree_read, past_it, undo_is_safe}
 use Rattle.su_desk.specs.declared.entries.Entry.{Entry}

@@ -8,9 +8,9 @@ use Rattle.su_bytes.specs.declared.refusals.Refusal.{Refusal}
 use Rattle.su_bytes.specs.declared.refusals.Refusal.TheVariants.{NoMemory}
 use Rattle.su_table.specs.Tree.{Tree, genesis}
 use Rattle.su_inverse.specs.Kept.{IsPutBack}
-use Rattle.su_op.specs.Action.{Action}
+use Rattle.su_op.specs.Batch.{Action}
 use Rattle.su_op.specs.declared.operations.Change.TheVariants.{Do, Undo, Rekey}
-use Rattle.su_op.specs.Operation.{why}
+use Rattle.su_op.specs.Batch.{why}
 use Rattle.su_desk.specs.declared.entries.Entry.{Entry}
 use Rattle.su_desk.specs.History.{entry_doing, undo_by, rekey_by, tree, last_live, format_after}
 use Rattle.su_desk.specs.declared.kept.KeptOperation.{KeptOperation}
@@ -45,7 +45,7 @@ passed_on d e (Ok n) x is why = absurd is
 passed_on d e (Err r) x is why = (⊎_elim (λ m. inl (is ∙ m)) (λ f. inr (f ∙ ap Err (sym is))) why, refl)
 
 -- an operation in a format that fits is answered from the tree
-pub refusal_of-do : (ro : Membership) (h : List Entry) (T : Tree) (x : Action) → format_refusal h x.format (Do x.op) ≡ None → tree ro h ≡ Some T → refusal_of ro h (entry_doing x) ≡ why ro T x
+pub refusal_of-do : (ro : Membership) (h : List Entry) (T : Tree) (x : Action) → format_refusal h x.format (Do x.operations) ≡ None → tree ro h ≡ Some T → refusal_of ro h (entry_doing x) ≡ why ro T x
 refusal_of-do ro h T x fits e = by_change ro h (entry_doing x) fits ∙ ap (λ o. why ro (unwrap_or o genesis) x) e
 
 -- an undo in a format that fits is refused as undos are

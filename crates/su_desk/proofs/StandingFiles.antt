@@ -11,9 +11,9 @@ use Rattle.su_table.specs.Query.{is_file_kind, is_file_at}
 use Rattle.su_op.specs.declared.areas.Area.{Area}
 use Rattle.su_op.specs.Area.{has, meet}
 use Rattle.su_op.specs.Soundness.{Sound, WholeOrNew, KindOrFile}
-use Rattle.su_op.specs.Action.{Action}
-use Rattle.su_op.specs.Store.{store}
-use Rattle.su_op.proofs.Public.{block_written, kind_written, store_lawful}
+use Rattle.su_op.specs.Batch.{Action}
+use Rattle.su_op.specs.Batch.{store}
+use Rattle.su_op.proofs.Public.{batch_block_written as block_written, batch_kind_written as kind_written, batches_lawful as store_lawful}
 use Rattle.su_undo.proofs.TakingOut.{Beside, AllBeside, led_to, unwritten, agree_read, clear_beside}
 
 -- where a file with one of these blocks stood, it stands

@@ -12,11 +12,11 @@ use Rattle.su_table.specs.Cell.{Cell, Cell.At, val}
 use Rattle.su_op.specs.declared.areas.Area.{Area}
 use Rattle.su_op.specs.declared.operations.Change.TheVariants.{Undo}
 use Rattle.su_op.specs.Area.{has}
-use Rattle.su_op.specs.Operation.{why, writes}
+use Rattle.su_op.specs.Batch.{why, writes}
 use Rattle.su_op.specs.Soundness.{Sound}
-use Rattle.su_op.specs.Action.{Action}
-use Rattle.su_op.specs.Store.{store}
-use Rattle.su_op.proofs.Public.{none_is, store_lawful}
+use Rattle.su_op.specs.Batch.{Action}
+use Rattle.su_op.specs.Batch.{store}
+use Rattle.su_op.proofs.Public.{none_is, batches_lawful as store_lawful}
 use Rattle.std.proofs.lemmas.Bool.{both_ways}
 use Rattle.su_inverse.specs.declared.inverses.Inverse.{Inverse}
 use Rattle.su_inverse.specs.Kept.{inverse_areas, IsKeptOf, IsPutBack}
@@ -222,16 +222,16 @@ module _ (ro : Membership) where
   all_fit_back w S S' T [] (k ∷ ks) b leads = absurd leads
   all_fit_back w S S' T (t ∷ ts) [] b leads = absurd leads
 
-  record LedApart (S : Tree) (before after : List NumberedAction) (ks : List KeptOperation) (T : Tree) : Type 0 where
-    front : List KeptOperation
-    rest : List KeptOperation
-    middle : Tree
-    whole : ks ≡ front ++ rest
-    long : length front ≡ length before
-    first : Leads ro S before front middle
-    second : Leads ro middle after rest T
+  pub record LedApart (S : Tree) (before after : List NumberedAction) (ks : List KeptOperation) (T : Tree) : Type 0 where
+    pub front : List KeptOperation
+    pub rest : List KeptOperation
+    pub middle : Tree
+    pub whole : ks ≡ front ++ rest
+    pub long : length front ≡ length before
+    pub first : Leads ro S before front middle
+    pub second : Leads ro middle after rest T
 
-  led_apart : (S T : Tree) (before after : List NumberedAction) (ks : List KeptOperation) → Leads ro S (before ++ after) ks T → LedApart S before after ks T
+  pub led_apart : (S T : Tree) (before after : List NumberedAction) (ks : List KeptOperation) → Leads ro S (before ++ after) ks T → LedApart S before after ks T
   led_apart S T [] after ks leads = record { front = []; rest = ks; middle = S; whole = refl; long = refl; first = refl; second = leads }
   led_apart S T (t ∷ before) after [] leads = absurd leads
   led_apart S T (t ∷ before) after (k ∷ ks) (fits, leads) =

@@ -13,7 +13,7 @@ use Rattle.su_table.specs.Tree.{Tree}
 use Rattle.su_op.specs.declared.areas.Area.{Area}
 use Rattle.su_op.specs.declared.operations.Change.{Change}
 use Rattle.su_op.specs.declared.operations.Change.TheVariants.{Do, Undo, Rekey}
-use Rattle.su_op.specs.Action.{Action}
+use Rattle.su_op.specs.Batch.{Action}
 use Rattle.su_desk.specs.declared.entries.Entry.{Entry}
 use Rattle.su_desk.specs.declared.kept.KeptOperation.{KeptOperation}
 use Rattle.su_desk.specs.declared.prepared.Means.TheVariants.{Kept, Held, Named}

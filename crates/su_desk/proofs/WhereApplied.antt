@@ -6,8 +6,8 @@ use Rattle.std.proofs.Math.Seq.{take-length}
 use Rattle.std.proofs.lemmas.Option.{slice_get_within}
 use Rattle.su_bytes.specs.Membership.{Membership}
 use Rattle.su_table.specs.Tree.{Tree, genesis}
-use Rattle.su_op.specs.Action.{Action}
-use Rattle.su_op.specs.Store.{store}
+use Rattle.su_op.specs.Batch.{Action}
+use Rattle.su_op.specs.Batch.{store}
 use Rattle.su_undo.specs.System.{Agree, GoesAlike}
 use Rattle.su_undo.proofs.TakingOut.{replay-cons, alike_alike, alike_itself}
 use Rattle.su_desk.specs.declared.entries.Entry.{Entry}

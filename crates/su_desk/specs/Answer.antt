@@ -5,13 +5,14 @@ use Rattle.su_bytes.specs.Format.{is_as_new}
 use Rattle.su_bytes.specs.Keys.{is_among}
 use Rattle.su_bytes.specs.Membership.{Membership, has_user}
 use Rattle.su_bytes.specs.declared.formats.Format.{Format}
+use Rattle.su_bytes.specs.declared.formats.TheConstants.{FIRST_FORMAT}
 use Rattle.su_bytes.specs.declared.refusals.Refusal.{Refusal}
 use Rattle.su_bytes.specs.declared.refusals.Refusal.TheVariants.{BadKey, NoUser, NoOperation, NotOperation, AlreadyUndone, NotAuthor, Blocked, KeyReuse, OldFormat}
 use Rattle.su_lms.specs.Signature.{is_public_key}
 use Rattle.su_op.specs.declared.operations.Change.{Change}
 use Rattle.su_op.specs.declared.operations.Change.TheVariants.{Do, Undo, Rekey}
 use Rattle.su_op.specs.Action.{change_format}
-use Rattle.su_op.specs.Operation.{why}
+use Rattle.su_op.specs.Batch.{why}
 use Rattle.su_desk.specs.declared.entries.Entry.{Entry}
 use Rattle.su_desk.specs.History.{action_of, entry_at, format_after, keys_after, undoer}
 use Rattle.su_desk.specs.Applied.{tree_after}
@@ -64,6 +65,15 @@ rekey_refusal ro h a k =
 -- a format fits a change after a history: it is as new as that of the last entry, and has the change
 abbrev pub has_format : List Entry → Format → Change → Bool
 has_format h f c = is_as_new f (format_after h) && is_as_new f (change_format c)
+
+-- the newer of two formats
+abbrev pub newer : Format → Format → Format
+newer f g = cond (is_as_new f g) f g
+
+-- the format in which a change is made after a history, where nobody says which: the first in which
+-- lists are begun, that of the last entry, or the oldest that has the change, whichever is newest
+abbrev pub made_format : List Entry → Change → Format
+made_format h c = newer (newer FIRST_FORMAT (format_after h)) (change_format c)
 
 -- why a change in format f is refused after a history for its format alone
 abbrev pub format_refusal : List Entry → Format → Change → Option Refusal

@@ -7,8 +7,8 @@ use Rattle.su_table.specs.Tree.{Tree, genesis}
 use Rattle.su_op.specs.declared.areas.Area.{Area}
 use Rattle.su_op.specs.declared.operations.Change.{Change}
 use Rattle.su_op.specs.declared.operations.Change.TheVariants.{Do}
-use Rattle.su_op.specs.Operation.{reads, writes}
-use Rattle.su_op.specs.Store.{store}
+use Rattle.su_op.specs.Batch.{reads, writes}
+use Rattle.su_op.specs.Batch.{store}
 use Rattle.su_undo.specs.System.{Agree, GoesAlike}
 use Rattle.su_desk.specs.declared.entries.Entry.{Entry}
 use Rattle.su_desk.specs.History.{NumberedAction, action_of, tree, entry_at}

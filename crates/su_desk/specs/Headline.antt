@@ -5,7 +5,7 @@ use Rattle.su_bytes.specs.Membership.{Membership}
 use Rattle.su_bytes.specs.declared.formats.Format.{Format}
 use Rattle.su_bytes.specs.declared.principals.Principal.{Principal}
 use Rattle.su_table.specs.Tree.{Tree, genesis}
-use Rattle.su_op.specs.Store.{store}
+use Rattle.su_op.specs.Batch.{store}
 use Rattle.su_undo.specs.Replay.{CanBeTakenOut}
 use Rattle.su_desk.specs.declared.entries.Entry.{Entry}
 use Rattle.su_desk.specs.History.{NumberedAction, actions, undo_by, undos, live, replay, tree, last_live, format_after}

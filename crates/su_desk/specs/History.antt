@@ -11,8 +11,9 @@ use Rattle.su_table.specs.Tree.{Tree, genesis}
 use Rattle.su_op.specs.declared.operations.Op.{Op}
 use Rattle.su_op.specs.declared.operations.Change.{Change}
 use Rattle.su_op.specs.declared.operations.Change.TheVariants.{Do, Undo, Rekey}
-use Rattle.su_op.specs.Action.{Action, action_by, named_key}
-use Rattle.su_op.specs.Store.{store}
+use Rattle.su_op.specs.Batch.{Action, action_by}
+use Rattle.su_op.specs.Action.{named_key}
+use Rattle.su_op.specs.Batch.{store}
 use Rattle.su_undo.specs.Replay.{replay as replay_actions}
 use Rattle.su_desk.specs.declared.entries.Entry.{Entry}
 
@@ -31,7 +32,7 @@ entry_by a f c = record { author = a; format = f; change = c }
 
 -- the entry that does an action
 abbrev pub entry_doing : Action → Entry
-entry_doing x = entry_by x.author x.format (Do x.op)
+entry_doing x = entry_by x.author x.format (Do x.operations)
 
 -- the entry of the undo of n by user a, made in format f
 abbrev pub undo_by : ℕ → Format → ℕ → Entry
@@ -42,8 +43,8 @@ abbrev pub rekey_by : ℕ → Format → List ℕ → Entry
 rekey_by a f k = entry_by a f (Rekey k)
 
 -- the action of an entry that does that operation
-abbrev pub action_of : Entry → Op → Action
-action_of e op = action_by e.author e.format op
+abbrev pub action_of : Entry → List Op → Action
+action_of e ops = action_by e.author e.format ops
 
 -- the operation of entry n, whose change is given, if that is one
 abbrev pub operation_by_change : ℕ → Entry → Change → List NumberedAction

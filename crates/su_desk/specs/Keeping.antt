@@ -6,8 +6,8 @@ use Rattle.su_table.specs.Tree.{Tree, genesis}
 use Rattle.su_table.specs.Cell.{Cell}
 use Rattle.su_op.specs.declared.areas.Area.{Area}
 use Rattle.su_op.specs.Area.{has, meet}
-use Rattle.su_op.specs.Operation.{why, reads, writes}
-use Rattle.su_op.specs.Store.{store}
+use Rattle.su_op.specs.Batch.{why, reads, writes}
+use Rattle.su_op.specs.Batch.{store}
 use Rattle.su_inverse.specs.Kept.{inverse_areas, IsKeptOf}
 use Rattle.su_desk.specs.declared.entries.Entry.{Entry}
 use Rattle.su_desk.specs.declared.kept.KeptOperation.{KeptOperation}

@@ -1,25 +1,19 @@
 -- An entry as a history keeps it in memory.
-use Rattle.std.specs.Prelude.{◌≡◌, ℕ, List, [], ◌∷◌, length}
+use Rattle.std.specs.Prelude.{◌≡◌, ℕ, List, [], ◌∷◌, map}
 use Rattle.su_bytes.specs.declared.formats.Format.{Format}
-use Rattle.su_op.specs.declared.operations.Op.{Op}
-use Rattle.su_op.specs.declared.operations.Op.TheVariants.{Write}
 use Rattle.su_op.specs.declared.operations.Change.{Change}
 use Rattle.su_op.specs.declared.operations.Change.TheVariants.{Do}
+use Rattle.su_op.specs.Action.{batch_bytes, op_without_bytes}
 use Rattle.su_desk.specs.declared.entries.Entry.{Entry}
 
--- an operation; a write of no bytes where it is a write
-abbrev pub op_without_bytes : Op → Op
-op_without_bytes (Write w) = Write (record { file = w.file; off = w.off; bytes = [] })
-op_without_bytes op = op
-
--- a change; a write of no bytes where it is a write
+-- a change; its writes are of no bytes
 abbrev pub without_bytes : Change → Change
-without_bytes (Do op) = Do (op_without_bytes op)
+without_bytes (Do ops) = Do (map op_without_bytes ops)
 without_bytes c = c
 
 -- how many bytes a change writes
 abbrev pub written : Change → ℕ
-written (Do (Write w)) = length w.bytes
+written (Do ops) = batch_bytes ops
 written _ = 0
 
 -- what is kept of an entry: all but its bytes, and how many these are

@@ -8,5 +8,5 @@ pub mod Desk
 pub mod Trial
 pub mod Keeping
 pub mod Tried
-pub mod Rehearsal
 pub mod Headline
+pub mod Joined

@@ -1,5 +1,5 @@
 // The desk: a history, what is kept of its live operations, and the forest that they make.
-ghost use Rattle.std.specs.Prelude.{◌≡◌, ◌⊎◌, [], map, option_copied, Some, None, OnOk, IfOk, IfErr, OnErr};
+ghost use Rattle.std.specs.Prelude.{◌≡◌, ◌⊎◌, [], true, false, map, option_copied, Some, None, OnOk, IfOk, IfErr, OnErr};
 ghost use Rattle.su_desk.specs.Version.{versions};
 ghost use Rattle.su_desk.specs.Headline.{Headline};
 ghost use Rattle.su_bytes.specs.declared.refusals.Refusal.TheVariants.{NoMemory};
@@ -7,27 +7,35 @@ ghost use Rattle.su_op.specs.declared.operations.Change.TheVariants.{Do, Undo, R
 ghost use Rattle.su_desk.specs.History.{entry_by, undo_by, rekey_by, tree, live_numbers, last_live, format_after, entry_at, undoer};
 ghost use Rattle.su_desk.specs.Blocker.{blocker};
 ghost use Rattle.su_desk.specs.Answer.{format_refusal, live_refusal, rekey_refusal, undo_refusal, Good};
-ghost use Rattle.su_desk.specs.Desk.{Answers, Runs, result_of, with_entry};
+ghost use Rattle.su_desk.specs.Desk.{Answers, with_entry};
 ghost use Rattle.su_desk.specs.Tried.{IsKeptAt};
+ghost use Rattle.su_desk.specs.Trial.{tree_of};
+ghost use Rattle.su_inverse.specs.Kept.{inverse_areas, IsKeptOf};
+ghost use Rattle.su_op.specs.Action.{change_format, is_many};
+ghost use Rattle.su_op.specs.Batch.{Action, why, writes};
+ghost use Rattle.su_op.specs.Area.{has};
+ghost use Rattle.su_op.specs.declared.operations.Change.{Change as Change_};
+ghost use Rattle.su_table.specs.Cell.{Cell};
 
 mod attempts;
+mod joining;
 
-use crate::entries::{DeskReply, Entry, KeptEntry};
+use crate::entries::{Entry, KeptEntry, format_after};
 use crate::kept::{KeptOperation, blocker_at, live_index, undo_index};
 use crate::versions::{first_versions, raise};
 use std::alloc::Global;
 use std::marker::Model;
-use su_bytes::{Format, KEY_LENGTH, NEWEST_FORMAT, Principal, Refusal, Roster, User};
-use su_inverse::build;
+use su_bytes::{Format, KEY_LENGTH, Principal, Refusal, Roster, User};
+use su_inverse::{Inverse, build, build_whole};
 use su_lms::PublicKey;
-use su_op::{Change, Op};
+use su_op::{Area, Batch, Change};
 use su_table::Forest;
 use su_used_keys::UsedKeys;
 
 /// A history of changes, and the tree of its live operations. Its model is its roster and its
 /// history.
 #[derive(Drop)]
-pub struct Desk {
+pub(crate) struct Desk {
     roster: Roster,
     entries: Vec<KeptEntry>,
     kept: Vec<KeptOperation>,
@@ -57,7 +65,7 @@ impl Model for Desk {
 
 impl Desk {
     /// Makes a desk with an empty history. Fails only with `NoMemory`.
-    pub fn new(alloc: Global, roster: Roster) -> Result<Desk, Refusal>
+    pub(crate) fn new(alloc: Global, roster: Roster) -> Result<Desk, Refusal>
         ensures value { IfOk result (λ desk. desk ≡ record { roster = roster; history = [] }) }
         ensures refused { IfErr result (λ e. e ≡ NoMemory) }
     {
@@ -76,14 +84,14 @@ impl Desk {
     }
 
     /// Returns who belongs to the store.
-    pub fn roster(&self) -> &Roster
+    pub(crate) fn roster(&self) -> &Roster
         ensures { result.now ≡ self.now.roster }
     {
         &self.roster
     }
 
     /// Lends the history: its entries, in order.
-    pub fn history(&self) -> &[KeptEntry]
+    pub(crate) fn history(&self) -> &[KeptEntry]
         ensures { result.now ≡ self.now.history }
     {
         self.entries.as_slice()
@@ -91,7 +99,7 @@ impl Desk {
 
     /// Returns the tree of the live operations. Of it, the history and the version numbers all
     /// holds that the desk is for.
-    pub fn forest(&self) -> &Forest
+    pub(crate) fn forest(&self) -> &Forest
         ensures tree { tree self.now.roster self.now.history ≡ Some result.now }
         ensures good { Good self.now.roster self.now.history }
         ensures headline { Headline self.now.roster self.now.history result.now }
@@ -99,8 +107,29 @@ impl Desk {
         &self.forest
     }
 
+    /// Returns where its memory comes from.
+    pub(crate) fn allocator(&self) -> Global {
+        self.alloc
+    }
+
+    /// Keeps what the cells of the areas hold, and where the kind of a standing inode is among them,
+    /// all of that inode. Fails only with `NoMemory`.
+    pub(crate) fn keep_whole(&self, areas: &[Area]) -> Result<Inverse, Refusal>
+        ensures covers { IfOk result (λ inverse.
+            (c : Cell) → has areas.now c ≡ true → has (inverse_areas inverse) c ≡ true) }
+        // Of what a batch writes that is accepted it keeps no cell more.
+        ensures exact { IfOk result (λ inverse. (x : Action)
+            → why self.now.roster (tree_of self.now) x ≡ None
+            → areas.now ≡ writes self.now.roster (tree_of self.now) x
+            → (c : Cell) → has (inverse_areas inverse) c ≡ has areas.now c) }
+        ensures kept { IfOk result (λ inverse. IsKeptOf inverse (tree_of self.now)) }
+        ensures refused { IfErr result (λ e. e ≡ NoMemory) }
+    {
+        build_whole(self.alloc, &self.forest, areas)
+    }
+
     /// Returns the numbers of the live operations, ascending. Fails only with `NoMemory`.
-    pub fn live(&self) -> Result<Vec<u64>, Refusal>
+    pub(crate) fn live(&self) -> Result<Vec<u64>, Refusal>
         ensures value { IfOk result (λ numbers. numbers.items ≡ live_numbers self.now.history) }
         ensures refused { IfErr result (λ e. e ≡ NoMemory) }
     {
@@ -109,7 +138,7 @@ impl Desk {
 
     /// Returns the version numbers of the users of the roster, and then of its groups: of a user
     /// how many entries are his, of a group how many carry it. They only rise.
-    pub fn versions(&self) -> &[(Principal, u64)]
+    pub(crate) fn versions(&self) -> &[(Principal, u64)]
         ensures { result.now ≡ versions self.now.roster self.now.history }
     {
         &self.counters
@@ -119,7 +148,7 @@ impl Desk {
     /// came after it and read a cell that it wrote. Fails with `NoOperation` where there is no such
     /// entry, with `NotOperation` where it is an undo or a rekey, and with `AlreadyUndone`. Takes no
     /// memory.
-    pub fn blocker(&self, number: u64) -> Result<Option<u64>, Refusal>
+    pub(crate) fn blocker(&self, number: u64) -> Result<Option<u64>, Refusal>
         ensures value { IfOk result (λ m. m ≡ blocker self.now.roster self.now.history number) }
         ensures live { OnOk result (live_refusal self.now.history number ≡ None) }
         ensures refused { IfErr result (λ e. live_refusal self.now.history number ≡ Some e) }
@@ -128,35 +157,13 @@ impl Desk {
         Ok(blocker_at(&self.kept, index))
     }
 
-    /// Makes a change in the newest format, and returns the number of its entry. A refusal, the
-    /// first in order or `NoMemory`, changes nothing.
-    pub fn apply(&mut self, author: User, change: Change) -> Result<u64, Refusal>
-        ensures { Answers self.old (entry_by author NEWEST_FORMAT change) result self.new }
+    /// Finds why a change that has been there since the oldest format is refused in that format for
+    /// its format alone, if it is.
+    pub(crate) fn format_refusal(&self, format: Format, oldest: Format) -> Option<Refusal>
+        ensures { (c : Change_) → change_format c ≡ oldest
+            → result ≡ format_refusal self.now.history format c }
     {
-        self.apply_as(NEWEST_FORMAT, author, change)
-    }
-
-    /// Makes a change in that format, and returns the number of its entry. A refusal changes nothing:
-    /// `OldFormat` where the format is older than that of the last entry, or has no such change; the
-    /// first one in the order of the change; or `NoMemory`.
-    pub fn apply_as(&mut self, format: Format, author: User, change: Change) -> Result<u64, Refusal>
-        ensures { Answers self.old (entry_by author format change) result self.new }
-    {
-        if let Some(refusal) = self.format_refusal(format, &change) {
-            return Err(refusal);
-        }
-        match change {
-            Change::Do(op) => self.operate(format, author, op),
-            Change::Undo(number) => self.undo(format, author, number),
-            Change::Rekey(key) => self.rekey(format, author, key),
-        }
-    }
-
-    /// Finds why a change in that format is refused for its format alone, if it is.
-    fn format_refusal(&self, format: Format, change: &Change) -> Option<Refusal>
-        ensures { result ≡ format_refusal self.now.history format change.now }
-    {
-        if format.is_as_new(self.format()) && format.is_as_new(change.oldest_format()) {
+        if format.is_as_new(self.format()) && format.is_as_new(oldest) {
             None
         } else {
             Some(Refusal::OldFormat)
@@ -167,49 +174,11 @@ impl Desk {
     fn format(&self) -> Format
         ensures { result ≡ format_after self.now.history }
     {
-        match self.entries.last() {
-            Some(entry) => entry.format(),
-            None => Format::V1,
-        }
-    }
-
-    /// Undoes the last live operation, in the newest format. Fails with `NoOperation` of 0 where
-    /// there is none.
-    pub fn undo_last(&mut self, author: User) -> Result<u64, Refusal>
-        ensures { Answers self.old (undo_by author NEWEST_FORMAT (last_live self.old.history))
-            result self.new }
-    {
-        self.undo_last_as(NEWEST_FORMAT, author)
-    }
-
-    /// Undoes the last live operation in that format, as `apply_as` does. Fails with `NoOperation`
-    /// of 0 where there is none.
-    pub fn undo_last_as(&mut self, format: Format, author: User) -> Result<u64, Refusal>
-        ensures { Answers self.old (undo_by author format (last_live self.old.history))
-            result self.new }
-    {
-        let number = self.last();
-        self.apply_as(format, author, Change::Undo(number))
-    }
-
-    /// Makes the changes one after another in the newest format, and returns a reply to each. Fails
-    /// only with `NoMemory`, where there is no room for the replies, and then nothing is changed;
-    /// want of memory for a single change is the reply to it.
-    pub fn run(&mut self, changes: &[(User, Change)]) -> Result<Vec<DeskReply>, Refusal>
-        ensures replies { IfOk result (λ r. Runs self.old changes.now r.items self.new) }
-        ensures refused { IfErr result (λ e. e ≡ NoMemory) }
-        ensures err { OnErr result (self.new ≡ self.old) }
-    {
-        let mut replies = Vec::with_capacity(self.alloc, changes.len())?;
-        for change in changes {
-            let reply = self.reply(change);
-            replies.push_reserved(reply);
-        }
-        Ok(replies)
+        format_after(&self.entries)
     }
 
     /// Returns the number of the last live operation, 0 where there is none.
-    fn last(&self) -> u64
+    pub(crate) fn last(&self) -> u64
         ensures { result ≡ last_live self.now.history }
     {
         match self.kept.last() {
@@ -218,13 +187,15 @@ impl Desk {
         }
     }
 
-    /// Does an operation in that format, which has it, and adds it to the history.
-    fn operate(&mut self, format: Format, author: User, op: Op) -> Result<u64, Refusal>
-        requires { format_refusal self.old.history format (Do op) ≡ None }
-        ensures { Answers self.old (entry_by author format (Do op)) result self.new }
+    /// Does the one operation of a batch in that format, which has it, and adds it to the history.
+    fn operate(&mut self, format: Format, author: User, batch: Batch) -> Result<u64, Refusal>
+        requires fits { format_refusal self.old.history format (Do batch) ≡ None }
+        requires alone { is_many (Do batch) ≡ false }
+        ensures { Answers self.old (entry_by author format (Do batch)) result self.new }
     {
+        let (operation, _) = batch.parts();
         // no `?`, for the prover (docs/ARCHITECTURE.md, "Forms the kit wants")
-        let accepted = match op.check(&self.forest, &self.roster, author, format) {
+        let accepted = match operation.check(&self.forest, &self.roster, author, format) {
             Ok(accepted) => accepted,
             Err(refusal) => return Err(refusal),
         };
@@ -234,7 +205,7 @@ impl Desk {
         self.kept.reserve(1)?;
         accepted.perform(self.alloc, &mut self.forest)?;
         raise(&mut self.counters, author, footprint.writes.as_slice());
-        let change = Change::Do(op);
+        let change = Change::Do(batch);
         let entry = Entry {
             author,
             format,
@@ -249,15 +220,6 @@ impl Desk {
             inverse,
         });
         Ok(number)
-    }
-
-    /// Undoes an operation in that format, which may come next, and adds that to the history.
-    fn undo(&mut self, format: Format, author: User, number: u64) -> Result<u64, Refusal>
-        requires { format_refusal self.old.history format (Undo number) ≡ None }
-        ensures { Answers self.old (undo_by author format number) result self.new }
-    {
-        self.take_out(format, author, number)?;
-        Ok(self.entries.len() as u64)
     }
 
     /// Undoes an operation in that format, which may come next, adds that to the history, and
@@ -334,20 +296,6 @@ impl Desk {
             return Err(Refusal::KeyReuse);
         }
         Ok(())
-    }
-
-    /// Makes one of several changes in the newest format, and returns the reply to it.
-    fn reply(&mut self, change: &(User, Change)) -> DeskReply
-        ensures { Answers self.old (entry_by change.now.0 NEWEST_FORMAT change.now.1)
-            (result_of result) self.new }
-    {
-        let Ok(copy) = change.1.clone() else {
-            return DeskReply::Refused(Refusal::NoMemory);
-        };
-        match self.apply(change.0, copy) {
-            Ok(number) => DeskReply::Done(number),
-            Err(refusal) => DeskReply::Refused(refusal),
-        }
     }
 }
 

@@ -1,13 +1,13 @@
 // What a history is made of, and what is answered to a change.
 ghost use Rattle.std.specs.Prelude.{◌≡◌, option_copied};
-ghost use Rattle.su_desk.specs.History.{entry_at, undoer, undoes};
+ghost use Rattle.su_desk.specs.History.{entry_at, format_after, undoer, undoes};
 ghost use Rattle.su_desk.specs.KeptEntry.{without_bytes, written};
 
 use http_server::Log;
 use std::alloc::Global;
 use std::marker::Model;
 use su_bytes::{Format, Refusal, User};
-use su_op::{Change, Op, Write};
+use su_op::Change;
 
 /// An entry of the history: who made which change, and in which format.
 #[derive(Debug, Drop)]
@@ -17,13 +17,13 @@ pub struct Entry {
     pub change: Change,
 }
 
-/// An entry as a history keeps it: all of it but the bytes that a write has, which no memory holds;
+/// An entry as a history keeps it: all of it but the bytes that its writes have, which no memory holds;
 /// how many these are is known. Its model is the whole entry.
 #[derive(Drop)]
 pub struct KeptEntry {
     author: User,
     format: Format,
-    /// The change; where it is a write, with no bytes.
+    /// The change, with no bytes in its writes.
     change: Change,
     /// How many bytes the change writes.
     written: u64,
@@ -79,14 +79,14 @@ impl KeptEntry {
         self.format
     }
 
-    /// Lends the change; where it is a write, with no bytes.
+    /// Lends the change, with no bytes in its writes.
     pub fn change(&self) -> &Change
         ensures { result.now ≡ without_bytes self.now.change }
     {
         &self.change
     }
 
-    /// Returns how many bytes the change writes.
+    /// Returns how many bytes the change writes; `u64::MAX` where several of its operations write more.
     pub fn written(&self) -> u64
         ensures { result ≡ written self.now.change }
     {
@@ -109,23 +109,19 @@ fn written(change: &Change) -> u64
     ensures { result ≡ written change.now }
 {
     match change {
-        Change::Do(Op::Write(write)) => write.bytes.len() as u64,
+        Change::Do(batch) => batch.written(),
         _ => 0,
     }
 }
 
-/// Takes the bytes out of a change, where it is a write. Takes no memory.
+/// Takes the bytes out of the writes of a change. Takes no memory.
 fn without_bytes(alloc: Global, change: Change) -> Change
     ensures { result ≡ without_bytes change }
 {
     match change {
-        Change::Do(Op::Write(write)) => {
-            let Write { file, off, .. } = write;
-            Change::Do(Op::Write(Write {
-                file,
-                off,
-                bytes: Vec::new(alloc),
-            }))
+        Change::Do(mut batch) => {
+            batch.leave_bytes(alloc);
+            Change::Do(batch)
         }
         change => change,
     }
@@ -148,6 +144,16 @@ pub(crate) fn entry_at(entries: &[KeptEntry], number: u64) -> Option<&KeptEntry>
     }
     let index = usize::try_from(number - 1).ok()?;
     entries.get(index)
+}
+
+/// Returns the format of the last entry, at first the oldest one.
+pub(crate) fn format_after(entries: &[KeptEntry]) -> Format
+    ensures { result ≡ format_after entries.now }
+{
+    match entries.last() {
+        Some(entry) => entry.format(),
+        None => Format::V1,
+    }
 }
 
 /// Returns the number of the first entry that undoes that one, if one does.

@@ -9,7 +9,6 @@ mod prepared;
 mod trials;
 mod versions;
 
-pub use desks::Desk;
 pub use entries::{DeskReply, Entry, KeptEntry};
 pub use laws::{
     areas_meet_in_a_cell, carried_groups_are_listed, good_histories_can_be_undone, latest_is_free,

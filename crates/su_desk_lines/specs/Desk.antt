@@ -3,7 +3,9 @@ use Rattle.std.specs.Prelude.{ℕ, List, [], ◌∷◌, length, map, Option, Som
 use Rattle.std.specs.Option.{option_map}
 use Rattle.su_op.specs.declared.operations.Op.TheVariants.{Create, Unlink, Write, Truncate, Take, Link, Rename, Drop}
 use Rattle.su_op.specs.declared.operations.Change.{Change}
-use Rattle.su_op.specs.declared.operations.Change.TheVariants.{Do, Undo, Rekey}
+use Rattle.su_op.specs.declared.operations.Change.TheVariants as made
+use Rattle.su_desk_lines.specs.declared.ranges.LineChange.{LineChange}
+use Rattle.su_desk_lines.specs.declared.ranges.LineChange.TheVariants.{Do, Undo, Rekey}
 use Rattle.su_desk_lines.specs.declared.ranges.Command.{Command}
 use Rattle.su_desk_lines.specs.declared.ranges.Command.TheVariants as command
 use Rattle.su_desk_lines.specs.declared.ranges.Question.{Question}
@@ -33,7 +35,7 @@ spoken_of held = spoken held.verb (map value_of held.values.items)
 
 -- ---- the words of a command
 
-abbrev pub change_said : Change → Spoken ChangeVerb
+abbrev pub change_said : LineChange → Spoken ChangeVerb
 change_said (Do (Create c)) =
     spoken (change.Create c.kind) (File c.dir ∷ Name c.name ∷ File c.file ∷ Body c.body ∷ [])
 change_said (Do (Unlink u)) =
@@ -47,6 +49,12 @@ change_said (Do (Rename r)) =
 change_said (Do (Drop d)) = spoken change.Drop (Body d.body ∷ [])
 change_said (Undo n) = spoken change.Undo (Number n ∷ [])
 change_said (Rekey k) = spoken change.Rekey (Key k ∷ [])
+
+-- the change that it is
+abbrev pub change_of_line : LineChange → Change
+change_of_line (Do op) = made.Do (op ∷ [])
+change_of_line (Undo n) = made.Undo n
+change_of_line (Rekey k) = made.Rekey k
 
 abbrev pub question_said : Question → Spoken QuestionVerb
 question_said (Listing dir) = spoken question.List (File dir ∷ [])

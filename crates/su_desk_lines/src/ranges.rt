@@ -3,7 +3,7 @@ ghost use Rattle.std.specs.Prelude.{◌≡◌, ◌≢◌, ◌⊎◌, ◌++◌, t
 ghost use Rattle.su_bytes.specs.declared.refusals.Refusal.TheVariants.{NoMemory, BadNumber};
 ghost use Rattle.su_bytes.specs.FileId.{is_file_id};
 ghost use Rattle.su_bytes.specs.Principal.{is_principal};
-ghost use Rattle.su_desk_lines.specs.Desk.{change_said, command_said, question_said, spoken, spoken_of};
+ghost use Rattle.su_desk_lines.specs.Desk.{change_of_line, change_said, command_said, question_said, spoken, spoken_of};
 ghost use Rattle.su_desk_lines.specs.Form.{value_refusal};
 ghost use Rattle.su_desk_lines.specs.Raw.{file_of, principal_of};
 ghost use Rattle.su_desk_lines.specs.Range.{is_stranger, stranger, stranger_first, word_refusal};
@@ -14,14 +14,14 @@ use crate::values::Value;
 use crate::verbs::{ChangeVerb, QuestionVerb, Verb};
 use crate::words::{Words, check_values};
 use std::alloc::Global;
-use su_bytes::{FileId, Group, Inum, Kind, Principal, Refusal, Roster, User};
+use su_bytes::{FileId, Group, Inum, KEY_LENGTH, Kind, Principal, Refusal, Roster, User};
 use su_op::{Change, Create, DropBody, Link, Op, Rename, Take, Truncate, Unlink, Write};
 
 /// A command of a script, each of its words within its range.
 #[derive(Drop)]
 pub enum Command {
     /// A change by a user.
-    Apply(User, Change),
+    Apply(User, LineChange),
     /// The undo of the last live operation, by a user.
     UndoLast(User),
     /// A question about the tree.
@@ -32,6 +32,28 @@ pub enum Command {
     Mark,
     /// Whether all i-tables have the digests that were kept.
     Same,
+}
+
+/// A change as a line says it: one operation, the undo of the entry of that number, or the next key
+/// of its author.
+#[derive(Drop)]
+pub enum LineChange {
+    Do(Op),
+    Undo(u64),
+    Rekey([u8; KEY_LENGTH]),
+}
+
+impl LineChange {
+    /// Returns the change that it is. Takes no memory.
+    pub fn into_change(self, alloc: Global) -> Change
+        ensures { result ≡ change_of_line self }
+    {
+        match self {
+            LineChange::Do(operation) => Change::of(alloc, operation),
+            LineChange::Undo(number) => Change::Undo(number),
+            LineChange::Rekey(key) => Change::Rekey(key),
+        }
+    }
 }
 
 /// A question about the tree, which changes nothing.
@@ -147,7 +169,7 @@ fn take_command(verb: Verb, words: &mut Words) -> Option<Command>
 }
 
 /// Takes the words of a change. `None` where other words come.
-fn take_change(verb: ChangeVerb, words: &mut Words) -> Option<Change>
+fn take_change(verb: ChangeVerb, words: &mut Words) -> Option<LineChange>
     ensures verb { IfSome result (λ c. (change_said c).verb ≡ verb) }
     ensures words { IfSome result (λ c.
         left_of words.old ≡ (change_said c).values ++ left_of words.new) }
@@ -158,42 +180,42 @@ fn take_change(verb: ChangeVerb, words: &mut Words) -> Option<Change>
             let file = words.take_file()?;
             let off = words.take_size()?;
             let bytes = words.take_bytes()?;
-            Some(Change::Do(Op::Write(Write { file, off, bytes })))
+            Some(LineChange::Do(Op::Write(Write { file, off, bytes })))
         }
         ChangeVerb::Truncate => {
             let file = words.take_file()?;
             let size = words.take_size()?;
-            Some(Change::Do(Op::Truncate(Truncate { file, size })))
+            Some(LineChange::Do(Op::Truncate(Truncate { file, size })))
         }
         ChangeVerb::Unlink => {
             let dir = words.take_file()?;
             let name = words.take_name()?;
             let file = words.take_file()?;
-            Some(Change::Do(Op::Unlink(Unlink { dir, name, file })))
+            Some(LineChange::Do(Op::Unlink(Unlink { dir, name, file })))
         }
         ChangeVerb::Take => {
             let file = words.take_file()?;
             let body = words.take_body()?;
-            Some(Change::Do(Op::Take(Take { file, body })))
+            Some(LineChange::Do(Op::Take(Take { file, body })))
         }
         ChangeVerb::Link => {
             let dir = words.take_file()?;
             let name = words.take_name()?;
             let file = words.take_file()?;
-            Some(Change::Do(Op::Link(Link { dir, name, file })))
+            Some(LineChange::Do(Op::Link(Link { dir, name, file })))
         }
         ChangeVerb::Rename => take_rename(words),
         ChangeVerb::Drop => {
             let body = words.take_body()?;
-            Some(Change::Do(Op::Drop(DropBody { body })))
+            Some(LineChange::Do(Op::Drop(DropBody { body })))
         }
-        ChangeVerb::Undo => Some(Change::Undo(words.take_number()?)),
-        ChangeVerb::Rekey => Some(Change::Rekey(words.take_key()?)),
+        ChangeVerb::Undo => Some(LineChange::Undo(words.take_number()?)),
+        ChangeVerb::Rekey => Some(LineChange::Rekey(words.take_key()?)),
     }
 }
 
 /// Takes the words of a create. `None` where other words come.
-fn take_create(kind: Kind, words: &mut Words) -> Option<Change>
+fn take_create(kind: Kind, words: &mut Words) -> Option<LineChange>
     ensures verb { IfSome result (λ c. (change_said c).verb ≡ ChangeVerb.Create kind) }
     ensures words { IfSome result (λ c.
         left_of words.old ≡ (change_said c).values ++ left_of words.new) }
@@ -202,7 +224,7 @@ fn take_create(kind: Kind, words: &mut Words) -> Option<Change>
     let name = words.take_name()?;
     let file = words.take_file()?;
     let body = words.take_body()?;
-    Some(Change::Do(Op::Create(Create {
+    Some(LineChange::Do(Op::Create(Create {
         dir,
         name,
         file,
@@ -212,7 +234,7 @@ fn take_create(kind: Kind, words: &mut Words) -> Option<Change>
 }
 
 /// Takes the words of a rename. `None` where other words come.
-fn take_rename(words: &mut Words) -> Option<Change>
+fn take_rename(words: &mut Words) -> Option<LineChange>
     ensures verb { IfSome result (λ c. (change_said c).verb ≡ ChangeVerb.Rename) }
     ensures words { IfSome result (λ c.
         left_of words.old ≡ (change_said c).values ++ left_of words.new) }
@@ -222,7 +244,7 @@ fn take_rename(words: &mut Words) -> Option<Change>
     let to_ = words.take_file()?;
     let new_ = words.take_name()?;
     let file = words.take_file()?;
-    Some(Change::Do(Op::Rename(Rename {
+    Some(LineChange::Do(Op::Rename(Rename {
         from_,
         old_,
         to_,

@@ -17,6 +17,7 @@ use Rattle.su_table.specs.Handle.{handle}
 use Rattle.su_desk.specs.History.{entry_by, undo_by, tree, last_live}
 use Rattle.su_desk.specs.Version.{versions}
 use Rattle.su_desk.specs.Desk.{DeskState, Answers}
+use Rattle.su_desk_lines.specs.Desk.{change_of_line}
 use Rattle.su_desk_lines.specs.declared.ranges.Command.{Command}
 use Rattle.su_desk_lines.specs.declared.ranges.Command.TheVariants.{Apply, UndoLast, Ask, Versions, Mark, Same}
 use Rattle.su_desk_lines.specs.declared.ranges.Question.{Question}
@@ -76,7 +77,8 @@ KeepsRest s s' = (s'.format ≡ s.format) × (s'.mark ≡ s.mark)
 -- are then. A question and a mark may be refused for want of memory.
 abbrev pub Does : SessionState → Command → List ℕ → SessionState → Type 0
 Does s (Apply a c) out s' =
-    (r : Result ℕ Refusal) × Answers s.desk (entry_by a s.format c) r s'.desk
+    (r : Result ℕ Refusal)
+    × Answers s.desk (entry_by a s.format (change_of_line c)) r s'.desk
     × KeepsRest s s' × (out ≡ answer_text r)
 Does s (UndoLast a) out s' =
     (r : Result ℕ Refusal)

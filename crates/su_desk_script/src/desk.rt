@@ -1,6 +1,7 @@
 // Running a script on a desk.
 ghost use Rattle.std.specs.Prelude.{◌≡◌, ◌≤◌, ◌⊎◌, ℕ, List, None, Some, IfOk, OnOk, MatchOption, replicate};
 ghost use Rattle.std.specs.Io.KnownBytes.{Appends};
+ghost use Rattle.su_desk.specs.Trial.{nothing_ready};
 ghost use Rattle.su_desk_lines.specs.Desk.{line_said};
 ghost use Rattle.su_desk_script.specs.Step.{EndsBadly, LineSteps, Steps};
 ghost use Rattle.su_desk_script.specs.Transcript.{LineSays, Prints, PrintsFrom, new_desk, status_code, status_of};
@@ -11,7 +12,7 @@ use std::alloc::{AllocError, Global};
 use std::io::{Read, Write};
 use std::{fmt, io};
 use su_bytes::{Format, KEY_LENGTH, Refusal, Roster};
-use su_desk::Desk;
+use su_desk::TrialDesk;
 use su_desk_lines::{LineReader, Mistake, NextLine, check_ranges, mistake_in, parse_line};
 
 /// The status that a program ends with.
@@ -119,12 +120,12 @@ pub fn run_desk<R: Read + Drop, W: Write>(
 }
 
 /// Makes a desk of that many users, whose keys are zero bytes.
-fn new_desk(alloc: Global, users: u8) -> Result<Desk, Refusal>
+fn new_desk(alloc: Global, users: u8) -> Result<TrialDesk, Refusal>
     requires { (1 ≤ users) × (users ≤ 64) }
-    ensures { IfOk result (λ desk. desk ≡ new_desk users) }
+    ensures { IfOk result (λ desk. desk ≡ nothing_ready (new_desk users)) }
 {
     let keys = zero_keys(alloc, users)?;
-    Desk::new(alloc, Roster::of_keys(alloc, keys.as_slice())?)
+    TrialDesk::new(alloc, Roster::of_keys(alloc, keys.as_slice())?)
 }
 
 /// Makes `count` keys of zero bytes.

@@ -1,5 +1,5 @@
 // A desk with what a script keeps beside it, and the texts that it answers.
-ghost use Rattle.std.specs.Prelude.{◌≡◌, ◌⊎◌, ◌++◌, None, Some, Ok, IfOk, IfErr, OnOk};
+ghost use Rattle.std.specs.Prelude.{◌≡◌, ◌⊎◌, ◌++◌, [], None, Some, Ok, IfOk, IfErr, OnOk};
 ghost use Rattle.su_bytes.specs.declared.refusals.Refusal.TheVariants.{NoMemory};
 ghost use Rattle.su_table.specs.Handle.{handle};
 ghost use Rattle.su_desk_script.specs.Answer.{answer_text, refused_text, name_text, listing_text, bytes_text, inode_text, digest_line, kind_text, bad_text, version_text, versions_text, description_text};
@@ -9,7 +9,7 @@ ghost use Rattle.su_desk_script.specs.Session.{desk_tree, handles, question_text
 use std::alloc::{AllocError, Global};
 use std::marker::Model;
 use su_bytes::{Digest, FileId, Format, Inum, Kind, Name, Principal, Refusal, Roster, User};
-use su_desk::Desk;
+use su_desk::TrialDesk;
 use su_desk_lines::{Command, Question};
 use su_node::Inode;
 use su_table::Forest;
@@ -18,7 +18,7 @@ use su_table::Forest;
 /// with later.
 #[derive(Drop)]
 pub struct Session {
-    desk: Desk,
+    desk: TrialDesk,
     format: Format,
     mark: Option<Vec<Digest>>,
 }
@@ -30,7 +30,7 @@ impl Model for Session {
     ghost Value = { SessionState };
 
     ghost view = { λ s. record {
-      desk = s.desk;
+      desk = s.desk.settled;
       format = s.format;
       mark = option_map (λ v. v.items) s.mark;
     } };
@@ -38,8 +38,8 @@ impl Model for Session {
 
 impl Session {
     /// Wraps a desk on which changes are made in that format, with nothing kept.
-    pub fn new(desk: Desk, format: Format) -> Session
-        ensures { result ≡ record { desk = desk; format = format; mark = None } }
+    pub fn new(desk: TrialDesk, format: Format) -> Session
+        ensures { result ≡ record { desk = desk.settled; format = format; mark = None } }
     {
         Session {
             desk,
@@ -61,10 +61,14 @@ impl Session {
     {
         match command {
             Command::Apply(user, change) => {
+                let change = change.into_change(alloc);
                 answered(alloc, self.desk.apply_as(self.format, user, change))
             }
             Command::UndoLast(user) => answered(alloc, self.desk.undo_last_as(self.format, user)),
-            Command::Ask(question) => answer(alloc, self.desk.forest(), question),
+            Command::Ask(question) => match self.desk.take_back() {
+                Ok(()) => answer(alloc, self.desk.forest(), question),
+                Err(refusal) => refused(alloc, refusal),
+            },
             Command::Versions => versions_shown(alloc, self.desk.versions()),
             Command::Mark => self.keep_mark(alloc),
             Command::Same => self.compare(alloc),
@@ -75,6 +79,9 @@ impl Session {
     fn keep_mark(&mut self, alloc: Global) -> Result<Vec<u8>, AllocError>
         ensures { IfOk result (λ text. Does self.old Mark text.items self.new) }
     {
+        if let Err(refusal) = self.desk.take_back() {
+            return refused(alloc, refusal);
+        }
         match all_handles(alloc, &self.desk) {
             Ok(handles) => {
                 self.mark = Some(handles);
@@ -85,9 +92,12 @@ impl Session {
     }
 
     /// Returns `same` or `differs`, by the digests that were kept, or `no mark`.
-    fn compare(&self, alloc: Global) -> Result<Vec<u8>, AllocError>
-        ensures { IfOk result (λ text. Does self.now Same text.items self.now) }
+    fn compare(&mut self, alloc: Global) -> Result<Vec<u8>, AllocError>
+        ensures { IfOk result (λ text. Does self.old Same text.items self.new) }
     {
+        if let Err(refusal) = self.desk.take_back() {
+            return refused(alloc, refusal);
+        }
         let Some(mark) = &self.mark else {
             return line(alloc, "no mark\n");
         };
@@ -162,11 +172,12 @@ fn handle(forest: &Forest, principal: Principal) -> Result<Digest, Refusal>
     }
 }
 
-/// Returns the digests of the i-tables of all users, and then of all groups. Fails only with
-/// `NoMemory`.
-fn all_handles(alloc: Global, desk: &Desk) -> Result<Vec<Digest>, Refusal>
+/// Returns the digests of the i-tables of all users, and then of all groups, where nothing stands
+/// ready. Fails only with `NoMemory`.
+fn all_handles(alloc: Global, desk: &TrialDesk) -> Result<Vec<Digest>, Refusal>
+    requires { desk.now.ready ≡ [] }
     ensures value { IfOk result (λ digests.
-        digests.items ≡ handles desk.now.roster (desk_tree desk.now)) }
+        digests.items ≡ handles desk.now.settled.roster (desk_tree desk.now.settled)) }
     ensures refused { IfErr result (λ e. e ≡ NoMemory) }
 {
     let principals = desk.roster().principals()?;

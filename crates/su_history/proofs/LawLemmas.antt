@@ -50,9 +50,9 @@ only_in m n (suc k, lt, is) = absurd (omega (arith, lt))
 own_number : (h : List Entry) (n : ℕ) (e : Entry) (c : Change) (m : ℕ) → Contains (live_in h (operation_by_change n e c)) m → m ≡ n
 own_number h n e (Undo k) m has = absurd (none_in m has)
 own_number h n e (Rekey k) m has = absurd (none_in m has)
-own_number h n e (Do op) m has = go (not (is_undone h n)) has
+own_number h n e (Do ops) m has = go (not (is_undone h n)) has
   where
-    go : (b : Bool) → Contains (map (λ (t : NumberedAction). t.number) (cond b (record { number = n; action = record { author = e.author; format = e.format; op = op } } ∷ []) [])) m → m ≡ n
+    go : (b : Bool) → Contains (map (λ (t : NumberedAction). t.number) (cond b (record { number = n; action = record { author = e.author; format = e.format; operations = ops } } ∷ []) [])) m → m ≡ n
     go true has = only_in n m has
     go false has = absurd (none_in m has)
 
@@ -78,20 +78,20 @@ undone_by_one k (x ∷ h) n = go (undoes n x.change) (undone_by_one (k + 1) h n)
     go true rest = refl
     go false rest = rest
 
--- the number of an operation, if that is to be there
-abbrev if_there : ℕ → Entry → Op → Bool → List ℕ
-if_there n e op b = map (λ (t : NumberedAction). t.number) (cond b (record { number = n; action = action_of e op } ∷ []) [])
+-- the number of a batch, if that is to be there
+abbrev if_there : ℕ → Entry → List Op → Bool → List ℕ
+if_there n e ops b = map (λ (t : NumberedAction). t.number) (cond b (record { number = n; action = action_of e ops } ∷ []) [])
 
 own_live : (h : List Entry) (n : ℕ) (e : Entry) (c : Change) (o : Option ℕ) → is_undone h n ≡ is_some o → (fate_of c o ≡ Live) ↔ Contains (live_in h (operation_by_change n e c)) n
 own_live h n e (Undo k) o is = (λ bad. absurd cc, λ has. absurd (none_in n has))
 own_live h n e (Rekey k) o is = (λ bad. absurd cc, λ has. absurd (none_in n has))
-own_live h n e (Do op) None is = (
-  λ same. subst (λ b. Contains (if_there n e op b) n) (sym (ap not is)) (0, omega arith, refl),
+own_live h n e (Do ops) None is = (
+  λ same. subst (λ b. Contains (if_there n e ops b) n) (sym (ap not is)) (0, omega arith, refl),
   λ has. refl,
 )
-own_live h n e (Do op) (Some by) is = (
+own_live h n e (Do ops) (Some by) is = (
   λ bad. absurd cc,
-  λ has. absurd (none_in n (subst (λ b. Contains (if_there n e op b) n) (ap not is) has)),
+  λ has. absurd (none_in n (subst (λ b. Contains (if_there n e ops b) n) (ap not is) has)),
 )
 
 -- the first entry is live where its operation is
@@ -108,16 +108,16 @@ first_live h n e es = (
 -- ---- which go on
 
 abbrev is_do : Change → Bool
-is_do (Do op) = true
+is_do (Do ops) = true
 is_do _ = false
 
 edited_do : (c : Change) (f : FileId) → edited c ≡ Some f → is_do c ≡ true
-edited_do (Do op) f is = refl
+edited_do (Do ops) f is = refl
 edited_do (Undo n) f is = absurd (let bad : None ≡ Some f = is in cc)
 edited_do (Rekey k) f is = absurd (let bad : None ≡ Some f = is in cc)
 
 filled_do : (c : Change) (f : FileId) → filled c ≡ Some f → is_do c ≡ true
-filled_do (Do op) f is = refl
+filled_do (Do ops) f is = refl
 filled_do (Undo n) f is = absurd (let bad : None ≡ Some f = is in cc)
 filled_do (Rekey k) f is = absurd (let bad : None ≡ Some f = is in cc)
 
@@ -132,8 +132,8 @@ both_do c d is = go (filled c) refl (edited d) refl is
 fate_do : (c : Change) (o : Option ℕ) → is_do c ≡ true → (fate_of c o ≡ Live) ↔ (is_some o ≡ false)
 fate_do (Undo n) o is = absurd (let bad : false ≡ true = is in cc)
 fate_do (Rekey k) o is = absurd (let bad : false ≡ true = is in cc)
-fate_do (Do op) None is = (λ _. refl, λ _. refl)
-fate_do (Do op) (Some n) is = (λ bad. absurd cc, λ bad. absurd cc)
+fate_do (Do ops) None is = (λ _. refl, λ _. refl)
+fate_do (Do ops) (Some n) is = (λ bad. absurd cc, λ bad. absurd cc)
 
 same_bool : (a b : Bool) → beq a b ≡ true → a ≡ b
 same_bool true true is = refl

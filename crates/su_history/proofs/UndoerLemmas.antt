@@ -28,7 +28,7 @@ noted undoers (Undo n) by = cond (nat_eq n 0) undoers (set undoers (n - 1) (Some
 noted undoers _ by = undoers
 
 length_noted : (undoers : List (Option ℕ)) (c : Change) (by : ℕ) → length (noted undoers c by) ≡ length undoers
-length_noted undoers (Do op) by = refl
+length_noted undoers (Do ops) by = refl
 length_noted undoers (Rekey k) by = refl
 length_noted undoers (Undo n) by = go (nat_eq n 0)
   where
@@ -37,7 +37,7 @@ length_noted undoers (Undo n) by = go (nat_eq n 0)
     go false = length-set undoers (n - 1) (Some by)
 
 noted_at : (undoers : List (Option ℕ)) (c : Change) (by i : ℕ) → i < length undoers → get_or (noted undoers c by) i None ≡ cond (undoes (i + 1) c) (Some by) (get_or undoers i None)
-noted_at undoers (Do op) by i lt = refl
+noted_at undoers (Do ops) by i lt = refl
 noted_at undoers (Rekey k) by i lt = refl
 noted_at undoers (Undo n) by i lt = go (nat_eq n 0) refl
   where
@@ -76,7 +76,7 @@ one_more h from e undoers after lt is are noted_is = record {
 
 -- a change notes as much without its bytes
 noted_so : (undoers : List (Option ℕ)) (c : Change) (by : ℕ) → noted undoers (without_bytes c) by ≡ noted undoers c by
-noted_so undoers (Do op) by = refl
+noted_so undoers (Do ops) by = refl
 noted_so undoers (Undo n) by = refl
 noted_so undoers (Rekey k) by = refl
 

@@ -1,8 +1,8 @@
 -- What a history is for people, line by line: entries that belong together are one line.
-use Rattle.std.specs.Prelude.{◌≡◌, ℕ, ◌+◌, ◌-◌, ◌<◌, Bool, false, ◌&&◌, List, [], ◌∷◌, map, length, get_or, Option, None, Some, nat_eq, if◌then◌else◌}
-use Rattle.std.specs.List.{list_any, range_with_len, sum_by}
+use Rattle.std.specs.Prelude.{◌≡◌, ℕ, ◌+◌, ◌-◌, ◌<◌, Bool, true, false, ◌&&◌, List, [], ◌∷◌, map, length, get_or, Option, None, Some, nat_eq, if◌then◌else◌}
+use Rattle.std.specs.List.{filter, list_all, list_any, range_with_len, sum_by}
 use Rattle.std.proofs.Math.Bool.{beq}
-use Rattle.std.specs.Option.{is_some}
+use Rattle.std.specs.Option.{is_some, option_and_then}
 use Rattle.su_bytes.specs.declared.file_ids.FileId.{FileId}
 use Rattle.su_bytes.specs.declared.file_ids.Kind.{Kind}
 use Rattle.su_bytes.specs.declared.file_ids.Kind.TheVariants.{File, Dir}
@@ -11,12 +11,13 @@ use Rattle.su_op.specs.declared.operations.Op.{Op}
 use Rattle.su_op.specs.declared.operations.Op.TheVariants.{Create, Unlink, Write, Truncate, Take, Link, Rename, Drop}
 use Rattle.su_op.specs.declared.operations.Change.{Change}
 use Rattle.su_op.specs.declared.operations.Change.TheVariants.{Do, Undo, Rekey}
+use Rattle.su_op.specs.Action.{batch_bytes, operation_of_change}
 use Rattle.su_desk.specs.declared.entries.Entry.{Entry}
 use Rattle.su_desk.specs.History.{undoer}
 use Rattle.su_desk.specs.KeptEntry.{written}
 use Rattle.su_history.specs.declared.line.Line.{Line}
 use Rattle.su_history.specs.declared.line.Deed.{Deed}
-use Rattle.su_history.specs.declared.line.Deed.TheVariants.{Made, Put, Wrote, Cut, Linked, Renamed, Removed, TookOver, Dropped, Undid, NamedKey}
+use Rattle.su_history.specs.declared.line.Deed.TheVariants.{Made, Put, Wrote, Cut, Linked, Renamed, Removed, TookOver, Dropped, Together, Undid, NamedKey}
 use Rattle.su_history.specs.declared.line.Fate.{Fate}
 use Rattle.su_history.specs.declared.line.Fate.TheVariants.{Live, Undone, Lasting}
 
@@ -39,21 +40,29 @@ numbered h = numbered_from h 1 h
 
 -- ---- which of them are one line
 
--- the file that a change writes to or cuts
-abbrev pub edited : Change → Option FileId
-edited (Do (Write w)) = Some w.file
-edited (Do (Truncate t)) = Some t.file
-edited _ = None
+-- the file that an operation writes to or cuts
+abbrev pub edited_by : Op → Option FileId
+edited_by (Write w) = Some w.file
+edited_by (Truncate t) = Some t.file
+edited_by _ = None
 
 -- the file of a create, if it makes one
 abbrev pub made : Kind → FileId → Option FileId
 made File f = Some f
 made Dir f = None
 
--- the file that a change makes, writes to or cuts
+-- the file that an operation makes, writes to or cuts
+abbrev pub filled_by : Op → Option FileId
+filled_by (Create c) = made c.kind c.file
+filled_by op = edited_by op
+
+-- the file that a change writes to or cuts; none where the change is more than one operation
+abbrev pub edited : Change → Option FileId
+edited c = option_and_then edited_by (operation_of_change c)
+
+-- the file that a change makes, writes to or cuts; none where the change is more than one operation
 abbrev pub filled : Change → Option FileId
-filled (Do (Create c)) = made c.kind c.file
-filled c = edited c
+filled c = option_and_then filled_by (operation_of_change c)
 
 -- both are files, and the same one
 abbrev pub are_one : Option FileId → Option FileId → Bool
@@ -110,25 +119,61 @@ deed_of_op (Link l) = Linked l
 deed_of_op (Rename r) = Renamed r
 deed_of_op (Drop d) = Dropped d
 
+-- What operations in a row on one file did, which write so many bytes in all, from the first of them
+-- and what the last one did: those behind the making of a file put its bytes there, others wrote to
+-- a file; where no bytes are written, the file was made, or cut to the last size.
+abbrev pub deed_of_row : Op → Deed → ℕ → Deed
+deed_of_row (Create c) last n = if nat_eq n 0 then Made c else Put c n
+deed_of_row (Write w) last n = Wrote w.file n
+deed_of_row (Truncate t) last n = if nat_eq n 0 then last else Wrote t.file n
+deed_of_row op last n = deed_of_op op
+
+-- the operation is no take
+abbrev pub is_no_take : Op → Bool
+is_no_take (Take t) = false
+is_no_take _ = true
+
+-- the operation writes to or cuts that file
+abbrev pub edits : Option FileId → Op → Bool
+edits f op = are_one f (edited_by op)
+
+-- op makes, writes to or cuts a file, and each of the others writes to or cuts that one
+abbrev pub is_row : Op → List Op → Bool
+is_row op others = is_some (filled_by op) && list_all (edits (filled_by op)) others
+
+-- the last one of op and those behind it
+abbrev pub last_op : Op → List Op → Op
+last_op op [] = op
+last_op op (next ∷ ops) = last_op next ops
+
+-- What a batch did that has so many operations, which write n bytes in all, from those of them that
+-- are no takes: where these are a row on one file, what such a row did.
+abbrev pub deed_beside_takes : ℕ → ℕ → List Op → Deed
+deed_beside_takes count n [] = Together count n
+deed_beside_takes count n (op ∷ others) =
+    if is_row op others then deed_of_row op (deed_of_op (last_op op others)) n
+    else Together count n
+
+-- what the operations of a batch did, which write n bytes in all
+abbrev pub deed_of_batch : List Op → ℕ → Deed
+deed_of_batch ops n = deed_beside_takes (length ops) n (filter is_no_take ops)
+
 -- what a change did
 abbrev pub deed_of : Change → Deed
-deed_of (Do op) = deed_of_op op
+deed_of (Do (op ∷ [])) = deed_of_op op
+deed_of (Do ops) = deed_of_batch ops (batch_bytes ops)
 deed_of (Undo n) = Undid n
 deed_of (Rekey k) = NamedKey
 
--- What the changes of a run did, from the first to the last, that write so many bytes in all: those
--- behind the making of a file put its bytes there, others wrote to a file; where no bytes are
--- written, the file was made, or cut to the last size.
+-- what the changes of a run did, from the first to the last, that write so many bytes in all
 abbrev pub deed_of_run : Change → Change → ℕ → Deed
-deed_of_run (Do (Create c)) last n = if nat_eq n 0 then Made c else Put c n
-deed_of_run (Do (Write w)) last n = Wrote w.file n
-deed_of_run (Do (Truncate t)) last n = if nat_eq n 0 then deed_of last else Wrote t.file n
+deed_of_run (Do (op ∷ [])) last n = deed_of_row op (deed_of last) n
 deed_of_run first last n = deed_of first
 
 -- what became of a change that this entry undid, if one did
 abbrev pub fate_of : Change → Option ℕ → Fate
-fate_of (Do op) None = Live
-fate_of (Do op) (Some n) = Undone n
+fate_of (Do ops) None = Live
+fate_of (Do ops) (Some n) = Undone n
 fate_of _ _ = Lasting
 
 -- the line of a run

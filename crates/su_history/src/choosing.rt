@@ -4,8 +4,8 @@ ghost use Rattle.std.specs.List.{filter, list_any};
 ghost use Rattle.su_bytes.specs.Place.{file_eq};
 ghost use Rattle.su_history.specs.Line.{files_of, names};
 
+use crate::deeds::is_same;
 use crate::line::{Deed, Line};
-use crate::runs::is_same;
 use su_bytes::FileId;
 
 /// Returns those of the lines that name a file or a directory, in their order.
@@ -38,7 +38,7 @@ fn names(deed: &Deed, file: FileId) -> bool
         Deed::Renamed(rename) => is_one_of(file, &[rename.from_, rename.to_, rename.file]),
         Deed::Removed(unlink) => is_one_of(file, &[unlink.dir, unlink.file]),
         Deed::TookOver(take) => is_same(file, take.file),
-        Deed::Dropped(_) | Deed::Undid(_) | Deed::NamedKey => false,
+        Deed::Dropped(_) | Deed::Together { .. } | Deed::Undid(_) | Deed::NamedKey => false,
     }
 }
 

@@ -8,10 +8,10 @@ use crate::undoers::undoers;
 use std::alloc::{AllocError, Global};
 use su_desk::KeptEntry;
 
-/// Returns the lines of a history, the oldest first. Entries in a row by one author are one line
-/// where the first makes a file, writes to it or cuts it, each other one writes to it or cuts it,
-/// and all are live or all undone; every other entry is a line alone. Fails only for want of memory,
-/// also where the writes of a line have 2^64 bytes or more.
+/// Returns the lines of a history, the oldest first. Entries in a row by one author, each of one
+/// operation, are one line where the first makes a file, writes to it or cuts it, each other one
+/// writes to it or cuts it, and all are live or all undone; every other entry is a line alone. Fails
+/// only for want of memory, also where the writes of a line have 2^64 bytes or more.
 pub fn lines(alloc: Global, entries: &[KeptEntry]) -> Result<Vec<Line>, AllocError>
     ensures { IfOk result (λ lines_. lines_.items ≡ lines entries.now) }
 {
@@ -50,7 +50,7 @@ fn line(
         first: first as u64 + 1,
         last: end as u64,
         author: opening.author(),
-        deed: deed_of_run(opening.change(), closing, bytes)?,
+        deed: deed_of_run(opening, closing, bytes)?,
         fate: fate_of(closing.change(), undoer),
     })
 }

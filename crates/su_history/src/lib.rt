@@ -2,6 +2,7 @@
 #![tactic(auto)]
 
 mod choosing;
+mod deeds;
 mod history;
 mod laws;
 mod line;

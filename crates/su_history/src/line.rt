@@ -39,6 +39,13 @@ pub enum Deed {
     Removed(Unlink),
     TookOver(Take),
     Dropped(DropBody),
+    /// Did several operations together that no other deed tells of.
+    Together {
+        /// How many operations these are.
+        operations: u64,
+        /// How many bytes all their writes have; `u64::MAX` where they have more.
+        bytes: u64,
+    },
     /// Undid the operation with that number.
     Undid(u64),
     /// Named the author's next key.

@@ -1,42 +1,30 @@
 // Which entries are one line, and what they did.
 ghost use Rattle.std.specs.Prelude.{◌≡◌, ◌-◌, ◌^◌, ◌<◌, ◌≤◌, ◌⊎◌, ℕ, true, false, length, get_or, IfOk, MatchOption};
 ghost use Rattle.std.specs.List.{sum_by};
-ghost use Rattle.su_bytes.specs.Place.{file_eq};
 ghost use Rattle.su_desk.specs.KeptEntry.{written};
-ghost use Rattle.su_history.specs.Line.{AreUndoers, NumberedEntry, deed_of, deed_of_op, deed_of_run, edited, fate_of, filled, goes_on, is_same_file, numbered};
+ghost use Rattle.su_history.specs.Line.{AreUndoers, NumberedEntry, deed_of_run, edited, fate_of, filled, goes_on, is_same_file, numbered};
 
+use crate::deeds::{deed_of, deed_of_row, edited_by, filled_by, is_same};
 use crate::line::{Deed, Fate};
 use std::alloc::AllocError;
-use su_bytes::{FileId, Kind};
+use su_bytes::FileId;
 use su_desk::KeptEntry;
 use su_op::{Change, Op};
 
-/// Returns the file that a change makes, writes to or cuts.
+/// Returns the file that a change makes, writes to or cuts; `None` where the change is more than one
+/// operation.
 fn filled(change: &Change) -> Option<FileId>
     ensures { result ≡ filled change.now }
 {
-    match change {
-        Change::Do(Op::Create(create)) if create.kind == Kind::File => Some(create.file),
-        _ => edited(change),
-    }
+    filled_by(change.operation()?)
 }
 
-/// Returns the file that a change writes to or cuts.
+/// Returns the file that a change writes to or cuts; `None` where the change is more than one
+/// operation.
 fn edited(change: &Change) -> Option<FileId>
     ensures { result ≡ edited change.now }
 {
-    match change {
-        Change::Do(Op::Write(write)) => Some(write.file),
-        Change::Do(Op::Truncate(truncate)) => Some(truncate.file),
-        _ => None,
-    }
-}
-
-/// Tells whether both are the same file.
-pub(crate) fn is_same(file: FileId, other: FileId) -> bool
-    ensures { result ≡ file_eq file other }
-{
-    file == other
+    edited_by(change.operation()?)
 }
 
 /// Tells whether a change writes to or cuts the file that the one before it made, wrote to or cut.
@@ -101,69 +89,18 @@ pub(crate) fn all_written(entries: &[KeptEntry]) -> Option<u64>
     Some(bytes)
 }
 
-/// Returns what a change alone did.
-fn deed_of(change: &Change) -> Result<Deed, AllocError>
-    ensures { IfOk result (λ deed. deed ≡ deed_of change.now) }
+/// Returns what the entries of a run did, from its first to its last, which write so many bytes.
+pub(crate) fn deed_of_run(
+    first: &KeptEntry,
+    last: &KeptEntry,
+    bytes: u64,
+) -> Result<Deed, AllocError>
+    ensures { IfOk result (λ deed. deed ≡ deed_of_run first.now.change last.now.change bytes) }
 {
-    match change {
-        Change::Do(op) => deed_of_op(op),
-        Change::Undo(number) => Ok(Deed::Undid(*number)),
-        Change::Rekey(_) => Ok(Deed::NamedKey),
-    }
-}
-
-/// Returns what an operation alone did.
-fn deed_of_op(op: &Op) -> Result<Deed, AllocError>
-    ensures { IfOk result (λ deed. deed ≡ deed_of_op op.now) }
-{
-    Ok(match op {
-        Op::Create(create) => Deed::Made(create.clone()?),
-        Op::Unlink(unlink) => Deed::Removed(unlink.clone()?),
-        Op::Write(write) => Deed::Wrote {
-            file: write.file,
-            bytes: write.bytes.len() as u64,
-        },
-        Op::Truncate(truncate) => Deed::Cut(truncate.clone()?),
-        Op::Take(take) => Deed::TookOver(take.clone()?),
-        Op::Link(link) => Deed::Linked(link.clone()?),
-        Op::Rename(rename) => Deed::Renamed(rename.clone()?),
-        Op::Drop(dropped) => Deed::Dropped(dropped.clone()?),
-    })
-}
-
-/// Returns what an entry alone did.
-fn deed_of_entry(entry: &KeptEntry) -> Result<Deed, AllocError>
-    ensures { IfOk result (λ deed. deed ≡ deed_of entry.now.change) }
-{
-    match entry.change() {
-        Change::Do(Op::Write(write)) => Ok(Deed::Wrote {
-            file: write.file,
-            bytes: entry.written(),
-        }),
-        change => deed_of(change),
-    }
-}
-
-/// Returns what the entries of a run did, from the change of its first to its last, which write so
-/// many bytes.
-pub(crate) fn deed_of_run(first: &Change, last: &KeptEntry, bytes: u64) -> Result<Deed, AllocError>
-    ensures { IfOk result (λ deed. deed ≡ deed_of_run first.now last.now.change bytes) }
-{
-    match first {
-        Change::Do(Op::Create(create)) if bytes != 0 => Ok(Deed::Put {
-            made: create.clone()?,
-            bytes,
-        }),
-        Change::Do(Op::Write(write)) => Ok(Deed::Wrote {
-            file: write.file,
-            bytes,
-        }),
-        Change::Do(Op::Truncate(truncate)) if bytes != 0 => Ok(Deed::Wrote {
-            file: truncate.file,
-            bytes,
-        }),
-        Change::Do(Op::Truncate(_)) => deed_of_entry(last),
-        _ => deed_of(first),
+    match first.change().operation() {
+        Some(Op::Truncate(_)) if bytes == 0 => deed_of(last),
+        Some(op) => deed_of_row(op, op, bytes),
+        None => deed_of(first),
     }
 }
 

@@ -5,7 +5,7 @@ use Rattle.serde_json.specs.View.{items_of}
 use Rattle.su_bytes.specs.declared.file_ids.FileId.{FileId}
 use Rattle.su_history.specs.declared.line.Line.{Line}
 use Rattle.su_history.specs.declared.line.Deed.{Deed}
-use Rattle.su_history.specs.declared.line.Deed.TheVariants.{Made, Put, Wrote, Cut, Linked, Renamed, Removed, TookOver, Dropped, Undid, NamedKey}
+use Rattle.su_history.specs.declared.line.Deed.TheVariants.{Made, Put, Wrote, Cut, Linked, Renamed, Removed, TookOver, Dropped, Together, Undid, NamedKey}
 use Rattle.su_history.specs.declared.line.Fate.{Fate}
 use Rattle.su_history.specs.declared.line.Fate.TheVariants.{Undone}
 use Rattle.su_history_text.specs.FileNames.{Names}
@@ -21,6 +21,7 @@ what_word (Renamed r) = codes "renamed"
 what_word (Removed u) = codes "removed"
 what_word (TookOver t) = codes "took"
 what_word (Dropped d) = codes "dropped"
+what_word (Together n bytes) = codes "together"
 what_word (Undid n) = codes "undid"
 what_word NamedKey = codes "rekeyed"
 
@@ -40,6 +41,7 @@ file_of _ = None
 abbrev pub bytes_of : Deed → Option ℕ
 bytes_of (Put c n) = Some n
 bytes_of (Wrote f n) = Some n
+bytes_of (Together n bytes) = Some bytes
 bytes_of (Cut t) = Some t.size
 bytes_of _ = None
 

@@ -16,7 +16,7 @@ use Rattle.su_op.specs.declared.unlink.Unlink as unlinks
 use Rattle.su_spelling.specs.Shown.{shown}
 use Rattle.su_history.specs.declared.line.Line.{Line}
 use Rattle.su_history.specs.declared.line.Deed.{Deed}
-use Rattle.su_history.specs.declared.line.Deed.TheVariants.{Made, Put, Wrote, Cut, Linked, Renamed, Removed, TookOver, Dropped, Undid, NamedKey}
+use Rattle.su_history.specs.declared.line.Deed.TheVariants.{Made, Put, Wrote, Cut, Linked, Renamed, Removed, TookOver, Dropped, Together, Undid, NamedKey}
 use Rattle.su_history.specs.declared.line.Fate.{Fate}
 use Rattle.su_history.specs.declared.line.Fate.TheVariants.{Undone}
 use Rattle.su_history_text.specs.FileNames.{Names}
@@ -74,6 +74,11 @@ took_text names t = codes "took " ++ file_text names t.file ++ codes " over"
 abbrev pub dropped_text : drops.DropBody → List ℕ
 dropped_text d = codes "dropped an old copy, number " ++ decimal d.body ++ codes " of its own"
 
+-- `did 5 operations together (4096 bytes)`
+abbrev pub together_text : ℕ → ℕ → List ℕ
+together_text n bytes =
+    codes "did " ++ decimal n ++ codes " operations together (" ++ size_text bytes ++ codes ")"
+
 abbrev pub deed_text : Names → Deed → List ℕ
 deed_text names (Made c) = made_text names c
 deed_text names (Put c n) = put_text names c n
@@ -84,6 +89,7 @@ deed_text names (Renamed r) = renamed_text names r
 deed_text names (Removed u) = removed_text names u
 deed_text names (TookOver t) = took_text names t
 deed_text names (Dropped d) = dropped_text d
+deed_text names (Together n bytes) = together_text n bytes
 deed_text names (Undid n) = codes "undid " ++ decimal n
 deed_text names NamedKey = codes "went on to another key"
 

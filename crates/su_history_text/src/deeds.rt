@@ -4,7 +4,7 @@ ghost use Rattle.std.specs.Fmt.{decimal};
 ghost use Rattle.std.specs.String.{string_bytes};
 ghost use Rattle.su_bytes.specs.Place.{file_eq};
 ghost use Rattle.su_history_text.specs.Parts.{stays_on_line};
-ghost use Rattle.su_history_text.specs.Text.{cut_text, deed_text, dropped_text, linked_text, made_text, put_text, removed_text, renamed_text, took_text, wrote_text};
+ghost use Rattle.su_history_text.specs.Text.{cut_text, deed_text, dropped_text, linked_text, made_text, put_text, removed_text, renamed_text, together_text, took_text, wrote_text};
 
 use crate::file_names::FileNames;
 use crate::parts::{file_text, name_text, size_text};
@@ -28,6 +28,7 @@ pub(crate) fn deed_text(alloc: Global, deed: &Deed, names: &FileNames) -> Result
         Deed::Removed(unlink) => removed_text(alloc, unlink, names),
         Deed::TookOver(take) => took_text(alloc, take, names),
         Deed::Dropped(dropped) => dropped_text(alloc, dropped),
+        Deed::Together { operations, bytes } => together_text(alloc, *operations, *bytes),
         Deed::Undid(number) => undid_text(alloc, *number),
         Deed::NamedKey => format!(in alloc; "went on to another key"),
     }
@@ -145,6 +146,15 @@ fn dropped_text(alloc: Global, dropped: &DropBody) -> Result<String, AllocError>
 {
     let number = dropped.body.number();
     format!(in alloc; "dropped an old copy, number {number} of its own")
+}
+
+/// Spells that so many operations were done together, which wrote so many bytes.
+fn together_text(alloc: Global, operations: u64, bytes: u64) -> Result<String, AllocError>
+    ensures value { IfOk result (λ text. string_bytes text ≡ together_text operations bytes) }
+    ensures line { IfOk result (λ text. stays_on_line (string_bytes text) ≡ true) }
+{
+    let size = size_text(alloc, bytes)?;
+    format!(in alloc; "did {operations} operations together ({size})")
 }
 
 /// Spells that an operation was undone.

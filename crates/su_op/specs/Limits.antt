@@ -1,7 +1,7 @@
 -- Limits of what operations make.
 use Rattle.std.specs.Prelude.{ℕ}
 use Rattle.su_bytes.specs.declared.formats.Format.{Format}
-use Rattle.su_bytes.specs.declared.formats.Format.TheVariants.{V1, V2, V3}
+use Rattle.su_bytes.specs.declared.formats.Format.TheVariants.{V1, V2, V3, V4}
 use Rattle.su_op.specs.declared.limits.TheConstants.{LARGEST_WRITE, MOST_LINKS}
 
 -- bytes of one write
@@ -13,6 +13,7 @@ abbrev pub largest_file : Format → ℕ
 largest_file V1 = 1048576
 largest_file V2 = 16777216
 largest_file V3 = 16777216
+largest_file V4 = 16777216
 
 -- names of a file
 abbrev pub most_links : ℕ

@@ -3,6 +3,7 @@
 
 mod access;
 mod areas;
+mod batches;
 mod create;
 mod drop_body;
 mod footprints;
@@ -18,6 +19,7 @@ mod unlink;
 mod write;
 
 pub use areas::{Area, BlockRun, Part};
+pub use batches::Batch;
 pub use create::Create;
 pub use drop_body::{DropBody, stale_home};
 pub use footprints::Footprint;

@@ -13,7 +13,7 @@ pub fn largest_file(format: Format) -> u32
 {
     match format {
         Format::V1 => 1_048_576,
-        Format::V2 | Format::V3 => 16_777_216,
+        Format::V2 | Format::V3 | Format::V4 => 16_777_216,
     }
 }
 

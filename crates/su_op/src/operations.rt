@@ -1,12 +1,14 @@
 // The operations by cases.
-ghost use Rattle.std.specs.Prelude.{◌≡◌, ◌⊎◌, Some, None, IfOk, IfErr, OnOk, OnErr};
+ghost use Rattle.std.specs.Prelude.{◌≡◌, ◌⊎◌, [], ◌∷◌, Some, None, IfOk, IfErr, OnOk, OnErr, option_copied};
 ghost use Rattle.su_table.specs.Tree.{Tree};
 ghost use Rattle.su_table.specs.Edit.{edits};
 ghost use Rattle.su_op.specs.Rule.{plan_reads, plan_writes};
-ghost use Rattle.su_op.specs.Action.{action_by, oldest_format, change_format, named_key};
+ghost use Rattle.su_op.specs.Action.{action_by, oldest_format, change_format, named_key, operation_of_change, is_many, bytes_by, op_without_bytes};
+ghost use Rattle.su_op.specs.declared.operations.Change.TheVariants.{Do};
 ghost use Rattle.su_op.specs.Operation.{why, effect, reads, writes, accepted_plan, StillFits};
 ghost use Rattle.su_bytes.specs.declared.refusals.Refusal.TheVariants.{NoMemory};
 
+use crate::batches::Batch;
 use crate::create::{AcceptedCreate, Create};
 use crate::drop_body::{AcceptedDrop, DropBody};
 use crate::footprints::Footprint;
@@ -47,11 +49,11 @@ pub enum Accepted<'a> {
     Drop(AcceptedDrop<'a>),
 }
 
-/// What an entry of the history does: an operation, the undo of the operation with that number, or
-/// that its author signs with another key from the next entry on.
+/// What an entry of the history does: operations one after another, mostly one; the undo of the
+/// entry with that number; or that its author signs with another key from the next entry on.
 #[derive(Clone, Debug, Drop)]
 pub enum Change {
-    Do(Op),
+    Do(Batch),
     Undo(u64),
     Rekey([u8; KEY_LENGTH]),
 }
@@ -110,15 +112,63 @@ impl Op {
     }
 }
 
+impl Op {
+    /// Returns how many bytes it writes.
+    pub fn written(&self) -> u64
+        ensures { result ≡ bytes_by self.now }
+    {
+        match self {
+            Op::Write(write) => write.bytes.len() as u64,
+            _ => 0,
+        }
+    }
+
+    /// Takes its bytes out, where it is a write. Takes no memory.
+    pub(crate) fn leave_bytes(&mut self, alloc: Global)
+        ensures { self.new ≡ op_without_bytes self.old }
+    {
+        if let Op::Write(write) = self {
+            write.bytes = Vec::new(alloc);
+        }
+    }
+}
+
 impl Change {
     /// Returns the oldest format that has the change. Each format has an undo.
     pub fn oldest_format(&self) -> Format
         ensures { result ≡ change_format self.now }
     {
         match self {
-            Change::Do(op) => op.oldest_format(),
+            Change::Do(batch) => batch.oldest_format(),
             Change::Undo(_) => Format::V1,
             Change::Rekey(_) => Format::V3,
+        }
+    }
+
+    /// Makes the change that is one operation. Takes no memory.
+    pub fn of(alloc: Global, operation: Op) -> Change
+        ensures { result ≡ Do (operation ∷ []) }
+    {
+        Change::Do(Batch::of(alloc, operation))
+    }
+
+    /// Tells whether it is a batch of more than one operation.
+    pub fn is_many(&self) -> bool
+        ensures { result ≡ is_many self.now }
+    {
+        match self {
+            Change::Do(batch) => batch.count() > 1,
+            _ => false,
+        }
+    }
+
+    /// Returns the operation, where the change is just one.
+    pub fn operation(&self) -> Option<&Op>
+        ensures { option_copied result ≡ operation_of_change self.now }
+    {
+        match self {
+            Change::Do(batch) => batch.only(),
+            _ => None,
         }
     }
 

@@ -3,15 +3,16 @@ use crate::histories::names_of;
 use std::alloc::{AllocError, Global};
 use std::str;
 use su_bytes::{FileId, Refusal, Roster};
-use su_desk::{Desk, Entry};
+use su_desk::{Entry, TrialDesk};
 use su_history_text::FileNames;
-use su_op::{Change, Op};
+use su_op::{Change, Op, Write};
 use su_people_session::{Keyless, Session, Trouble, name_of};
 use su_why::entries_of;
 
-/// Returns the text of `diff`: the bytes that stood where a commit wrote, and those that it wrote.
-/// The history before it is gone through once more for that. `NoOperation` where there is no
-/// commit of that number; refuses with a sentence one that wrote no bytes; `NoMemory`.
+/// Returns the text of `diff`: for each write of a commit the bytes that stood where it wrote, and
+/// those that it wrote. The history before it is gone through once more for that. `NoOperation`
+/// where there is no commit of that number; refuses with a sentence one that wrote no bytes;
+/// `NoMemory`.
 pub fn diff<T>(session: &mut Session<'_, T, Keyless>, number: u64) -> Result<String, Trouble> {
     let alloc = session.helper.rt.alloc();
     let names = names_of(alloc, &mut session.member)?;
@@ -23,34 +24,74 @@ pub fn diff<T>(session: &mut Session<'_, T, Keyless>, number: u64) -> Result<Str
     let Some(entry) = entries.get(place) else {
         return Err(Trouble::from(Refusal::NoOperation(number)));
     };
-    let Change::Do(Op::Write(write)) = &entry.change else {
+    let mut text = String::new(alloc);
+    if let Change::Do(batch) = &entry.change {
+        let author = name_of(alloc, team, entry.author)?;
+        let mut desk = desk_after(alloc, team.roster(alloc)?, &entries[..place])?;
+        let (first, more) = batch.parts();
+        push_operation(&mut text, alloc, &mut desk, entry, first, &names, &author)?;
+        for operation in more {
+            push_operation(
+                &mut text, alloc, &mut desk, entry, operation, &names, &author,
+            )?;
+        }
+    }
+    if text.is_empty() {
         return Err(Trouble::told(format!(in alloc;
             "commit {number} wrote no bytes: `sundr show {number}` tells what it did"
         )));
-    };
-    let desk = desk_after(alloc, team.roster(alloc)?, &entries[..place])?;
-    let length = write.bytes.len() as u64;
-    let old = desk
-        .forest()
-        .read_at(write.file, u64::from(write.off), length)?;
-    let path = shown_file(alloc, &names, &write.file)?;
-    let author = name_of(alloc, team, entry.author)?;
-    let end = u64::from(write.off) + length;
-    let off = write.off;
-    let mut text = format!(in alloc; "{path}  bytes {off} to {end}, by {author}\n")?;
-    push_lines(&mut text, alloc, '-', &old)?;
-    push_lines(&mut text, alloc, '+', &write.bytes)?;
+    }
     Ok(text)
 }
 
 /// Makes the desk of a history.
-fn desk_after(alloc: Global, roster: Roster, entries: &[Entry]) -> Result<Desk, Refusal> {
-    let mut desk = Desk::new(alloc, roster)?;
+fn desk_after(alloc: Global, roster: Roster, entries: &[Entry]) -> Result<TrialDesk, Refusal> {
+    let mut desk = TrialDesk::new(alloc, roster)?;
     for entry in entries {
         let change = entry.change.clone()?;
         desk.apply_as(entry.format, entry.author, change)?;
     }
     Ok(desk)
+}
+
+/// Appends what an operation of an entry does to the bytes of a file, where it writes some, and
+/// makes the operation on the desk.
+fn push_operation(
+    text: &mut String,
+    alloc: Global,
+    desk: &mut TrialDesk,
+    entry: &Entry,
+    operation: &Op,
+    names: &FileNames,
+    author: &str,
+) -> Result<(), Refusal> {
+    if let Op::Write(write) = operation {
+        push_write(text, alloc, desk, write, names, author)?;
+    }
+    let change = Change::of(alloc, operation.clone()?);
+    desk.apply_as(entry.format, entry.author, change)?;
+    Ok(())
+}
+
+/// Appends the bytes that stand where a write writes, and those that it writes.
+fn push_write(
+    text: &mut String,
+    alloc: Global,
+    desk: &TrialDesk,
+    write: &Write,
+    names: &FileNames,
+    author: &str,
+) -> Result<(), Refusal> {
+    let off = write.off;
+    let length = write.bytes.len() as u64;
+    let end = u64::from(off) + length;
+    let old = desk.forest().read_at(write.file, u64::from(off), length)?;
+    let path = shown_file(alloc, names, &write.file)?;
+    let line = format!(in alloc; "{path}  bytes {off} to {end}, by {author}\n")?;
+    text.push_str(line.as_str())?;
+    push_lines(text, alloc, '-', &old)?;
+    push_lines(text, alloc, '+', &write.bytes)?;
+    Ok(())
 }
 
 /// Returns the path that leads to a file, or its number where none does.

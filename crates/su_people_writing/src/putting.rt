@@ -159,7 +159,13 @@ where
 {
     let alloc = session.helper.rt.alloc();
     move_on(&mut session.helper, &mut session.member);
-    match carry_out(&mut session.helper, &mut session.member, command, numbers) {
+    match carry_out(
+        alloc,
+        &mut session.helper,
+        &mut session.member,
+        command,
+        numbers,
+    ) {
         Ok(()) => Ok(()),
         Err(fault) => Err(Trouble::at(path, alloc, fault)),
     }

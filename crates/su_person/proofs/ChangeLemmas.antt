@@ -1,15 +1,18 @@
 -- The last change of a file's bytes, of one entry more.
-use Rattle.std.proofs.Common.{◌≡◌, ℕ, suc, ◌+◌, ◌<◌, Bool, true, false, cond, List, [], ◌∷◌, ◌++◌, length, take, get_or, Option, None, Some, refl, sym, ap, ◌∙◌, subst, arith}
+use Rattle.std.proofs.Common.{◌≡◌, ℕ, suc, ◌+◌, ◌<◌, Bool, true, false, cond, List, [], ◌∷◌, ◌++◌, length, take, get_or, Option, None, Some, refl, sym, ap, ◌∙◌, subst, arith, map, ◌||◌}
 use Rattle.std.specs.Option.{option_or}
+use Rattle.std.specs.List.{list_any}
 use Rattle.std.proofs.Math.Seq.{take-suc}
 use Rattle.std.proofs.lemmas.List.{length-take-le}
 use Rattle.su_bytes.specs.declared.file_ids.FileId.{FileId}
+use Rattle.su_op.specs.Action.{op_without_bytes}
+use Rattle.su_op.specs.declared.operations.Op.{Op}
 use Rattle.su_op.specs.declared.operations.Op.TheVariants.{Create, Unlink, Write, Truncate, Take, Link, Rename, Drop}
 use Rattle.su_op.specs.declared.operations.Change.{Change}
 use Rattle.su_op.specs.declared.operations.Change.TheVariants.{Do, Undo, Rekey}
 use Rattle.su_desk.specs.declared.entries.Entry.{Entry}
 use Rattle.su_desk.specs.KeptEntry.{without_bytes}
-use Rattle.su_person.specs.LastChange.{last_from, touches}
+use Rattle.su_person.specs.LastChange.{changes_bytes, does_change, last_from, touches}
 
 pub last_more : (n : ℕ) (h : List Entry) (f : FileId) (es : List Entry) (e : Entry)
     → last_from n h f (es ++ e ∷ []) ≡ cond (touches h f e.change) (Some (n + length es, e.author)) (last_from n h f es)
@@ -36,15 +39,32 @@ last_of_more h f i e inside is =
     ∙ last_more 1 h f (take i h) e
     ∙ ap (λ (k : ℕ). cond (touches h f e.change) (Some (k, e.author)) (last_from 1 h f (take i h))) number
 
+-- an operation changes the bytes of a file as it does without its own
+changes_so : (f : FileId) (op : Op) → changes_bytes f (op_without_bytes op) ≡ changes_bytes f op
+changes_so f (Create x) = refl
+changes_so f (Unlink x) = refl
+changes_so f (Write x) = refl
+changes_so f (Truncate x) = refl
+changes_so f (Take x) = refl
+changes_so f (Link x) = refl
+changes_so f (Rename x) = refl
+changes_so f (Drop x) = refl
+
+any_changes_so : (f : FileId) (ops : List Op)
+    → list_any (changes_bytes f) (map op_without_bytes ops) ≡ list_any (changes_bytes f) ops
+any_changes_so f [] = refl
+any_changes_so f (op ∷ ops) =
+    ap (λ (b : Bool). b || list_any (changes_bytes f) (map op_without_bytes ops)) (changes_so f op)
+    ∙ ap (λ (b : Bool). changes_bytes f op || b) (any_changes_so f ops)
+
+-- so does a change
+pub does_so : (f : FileId) (c : Change) → does_change f (without_bytes c) ≡ does_change f c
+does_so f (Do ops) = any_changes_so f ops
+does_so f (Undo n) = refl
+does_so f (Rekey k) = refl
+
 -- a change touches the bytes of a file as it does without its own
 pub touches_so : (h : List Entry) (f : FileId) (c : Change) → touches h f (without_bytes c) ≡ touches h f c
-touches_so h f (Do (Create x)) = refl
-touches_so h f (Do (Unlink x)) = refl
-touches_so h f (Do (Write x)) = refl
-touches_so h f (Do (Truncate x)) = refl
-touches_so h f (Do (Take x)) = refl
-touches_so h f (Do (Link x)) = refl
-touches_so h f (Do (Rename x)) = refl
-touches_so h f (Do (Drop x)) = refl
+touches_so h f (Do ops) = any_changes_so f ops
 touches_so h f (Undo n) = refl
 touches_so h f (Rekey k) = refl

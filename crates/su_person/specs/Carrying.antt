@@ -22,7 +22,7 @@ pub record CommitsFirst (it : Command) (s : MemberState) (others : List Op) (t :
     : Type 0 where
   pub first : Op
   pub planned : IsPlanned it s.holding (first ∷ others)
-  pub published : IsPublished (Do first) s t n
+  pub published : IsPublished (Do (first ∷ [])) s t n
 
 -- what a client that has the turn does in a step
 abbrev pub Steps : Command → MemberState → Step → MemberState → Type 0
@@ -35,7 +35,7 @@ Steps it s (First n) t = (others : List Op) × (others ≢ []) × CommitsFirst i
 abbrev pub Tries : Command → MemberState → MemberState → Type 0
 Tries it s t = Stays s t
     ⊎ ((first : Op) × (others : List Op) × IsPlanned it s.holding (first ∷ others)
-    × SignsAtMost s.holding (Do first) s t × (t.holding ≡ s.holding))
+    × SignsAtMost s.holding (Do (first ∷ [])) s t × (t.holding ≡ s.holding))
 
 -- what may come before a step: commits of others, or none
 abbrev pub Before : Others → MemberState → MemberState → Type 0

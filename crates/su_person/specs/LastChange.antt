@@ -1,6 +1,7 @@
 -- Which entry of a history changed the bytes of a file last.
 use Rattle.std.specs.Prelude.{ℕ, ◌+◌, Bool, false, cond, List, [], ◌∷◌, Option, None, Some}
 use Rattle.std.specs.Option.{option_or}
+use Rattle.std.specs.List.{list_any}
 use Rattle.su_bytes.specs.Place.{file_eq}
 use Rattle.su_bytes.specs.declared.file_ids.FileId.{FileId}
 use Rattle.su_op.specs.declared.operations.Op.{Op}
@@ -17,9 +18,9 @@ changes_bytes f (Write it) = file_eq f it.file
 changes_bytes f (Truncate it) = file_eq f it.file
 changes_bytes f _ = false
 
--- the change is such an operation
+-- the change has such an operation
 abbrev pub does_change : FileId → Change → Bool
-does_change f (Do op) = changes_bytes f op
+does_change f (Do operations) = list_any (changes_bytes f) operations
 does_change f _ = false
 
 abbrev pub does_change_at : FileId → Option Entry → Bool

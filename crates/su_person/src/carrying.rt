@@ -9,6 +9,7 @@ ghost use Rattle.su_person.specs.declared.carrying.Others.TheVariants.{Welcome};
 use crate::faults::Fault;
 use crate::persons::Person;
 use crate::steps::{Step, commit_first};
+use std::alloc::Global;
 use std::io::{Read, Write};
 use su_bytes::Refusal;
 use su_client_work::Member;
@@ -37,6 +38,7 @@ pub(crate) enum Others {
 /// `Member::begin`; those of `View::plan` and of `Member::publish`; `Busy` where others come in between
 /// again and again; `Unkept`. What is committed before stays.
 pub fn carry_out<P, R, W, K>(
+    alloc: Global,
     person: &mut P,
     member: &mut Member<R, W, K>,
     command: &Command,
@@ -59,13 +61,14 @@ where
     // All that is held then is kept.
     ensures kept { OnOk result (length member.new.holding.held ≤ P.kept person.new) }
 {
-    carry(person, member, command, Others::Welcome, numbers)?;
+    carry(alloc, person, member, command, Others::Welcome, numbers)?;
     Ok(())
 }
 
 /// Carries out a command on paths as `carry_out` does, and answers whether it is carried out: where the
 /// commits of others are unwelcome, it ends before them.
 pub(crate) fn carry<P, R, W, K>(
+    alloc: Global,
     person: &mut P,
     member: &mut Member<R, W, K>,
     command: &Command,
@@ -95,7 +98,7 @@ where
         if !begin(person, member, others)? {
             return Ok(false);
         }
-        match commit_first(member, command)? {
+        match commit_first(alloc, member, command)? {
             Step::Nothing => {
                 kept(person, member)?;
                 return Ok(true);

@@ -1,12 +1,13 @@
 // Which entry of a history changed the bytes of a file last.
 ghost use Rattle.std.specs.Prelude.{◌≡◌, option_copied};
+ghost use Rattle.std.specs.List.{list_any};
 ghost use Rattle.su_bytes.specs.Place.{file_eq};
 ghost use Rattle.su_desk.specs.History.{entry_at};
 ghost use Rattle.su_person.specs.LastChange.{changes_bytes, does_change, last_change, touches};
 
 use su_bytes::{FileId, User};
 use su_desk::KeptEntry;
-use su_op::{Change, Op};
+use su_op::{Batch, Change, Op};
 
 /// Returns the number of the last entry of a history that changed the bytes of a file, and its author,
 /// if one did: it made the file, wrote to it or cut it, or undid an entry that had.
@@ -46,14 +47,29 @@ fn entry_of(entries: &[KeptEntry], number: u64) -> Option<&KeptEntry>
     entries.get(index)
 }
 
-/// Tells whether a change is an operation that changes the bytes of a file.
+/// Tells whether a change has an operation that changes the bytes of a file.
 fn does_change(change: &Change, file: &FileId) -> bool
     ensures { result ≡ does_change file.now change.now }
 {
     match change {
-        Change::Do(op) => changes_bytes(op, file),
+        Change::Do(batch) => batch_changes(batch, file),
         _ => false,
     }
+}
+
+/// Tells whether one of the operations of a batch changes the bytes of a file.
+fn batch_changes(batch: &Batch, file: &FileId) -> bool
+    ensures { result ≡ list_any (changes_bytes file.now) batch.now }
+{
+    let (first, more) = batch.parts();
+    changes_bytes(first, file) || some_changes(more, file)
+}
+
+/// Tells whether one of these operations changes the bytes of a file.
+fn some_changes(operations: &[Op], file: &FileId) -> bool
+    ensures { result ≡ list_any (changes_bytes file.now) operations.now }
+{
+    operations.iter().any(|op| changes_bytes(op, file))
 }
 
 /// Tells whether an operation makes a file, writes to it or cuts it.

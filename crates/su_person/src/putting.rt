@@ -91,7 +91,7 @@ where
             return kept(person, member);
         }
         let commands = commands_for(alloc, member, new, &standing)?;
-        write_all(person, member, &commands, numbers)?;
+        write_all(alloc, person, member, &commands, numbers)?;
     }
     Err(Fault::from(Refusal::Busy(ANY_SEAT)))
 }
@@ -211,6 +211,7 @@ fn check_seen(
 /// Carries out commands one after another, up to where the client goes on to another key, or others
 /// committed something in between. The refusals of `carry_out`.
 fn write_all<P, R, W, K>(
+    alloc: Global,
     person: &mut P,
     member: &mut Member<R, W, K>,
     commands: &[Command],
@@ -230,7 +231,7 @@ where
         if move_on(person, member) {
             return Ok(());
         }
-        if !carry(person, member, command, Others::Unwelcome, numbers)? {
+        if !carry(alloc, person, member, command, Others::Unwelcome, numbers)? {
             return Ok(());
         }
     }

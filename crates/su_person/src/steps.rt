@@ -3,10 +3,11 @@ ghost use Rattle.std.specs.Prelude.{◌≡◌, IfOk, OnErr};
 ghost use Rattle.su_client_work.specs.Work.{Works};
 ghost use Rattle.su_person.specs.Carrying.{Steps, Tries};
 
+use std::alloc::Global;
 use std::io::{Read, Write};
 use su_client_work::Member;
 use su_lms::KeyStore;
-use su_op::{Change, Op};
+use su_op::Change;
 use su_plan::Command;
 use su_view::ViewRefusal;
 
@@ -26,6 +27,7 @@ pub(crate) enum Step {
 /// is none, or on a refusal, the turn is given back. The refusals of `View::plan` and of
 /// `Member::publish`.
 pub(crate) fn commit_first<R, W, K>(
+    alloc: Global,
     member: &mut Member<R, W, K>,
     command: &Command,
 ) -> Result<Step, ViewRefusal>
@@ -49,7 +51,7 @@ where
         return Ok(Step::Nothing);
     };
     let is_followed = operations.len() != 0;
-    let number = member.publish(Change::Do(operation), is_followed)?;
+    let number = member.publish(Change::of(alloc, operation), is_followed)?;
     if is_followed {
         return Ok(Step::First(number));
     }

@@ -24,7 +24,7 @@ use Rattle.su_op.specs.Writing.{Writing}
 use Rattle.su_op.specs.declared.create.Create.{Create as CreateOp}
 use Rattle.su_op.specs.declared.truncate.Truncate.{Truncate as TruncateOp}
 use Rattle.su_op.proofs.Public.{store_lawful}
-use Rattle.su_desk.specs.Rehearsal.{first_refusal}
+use Rattle.su_op.specs.Batch.{first_refusal}
 use Rattle.su_draft.specs.declared.commands.Command.{Command}
 use Rattle.su_draft.specs.declared.commands.Command.TheVariants.{Mkdir, Create, Write, Truncate, Link, Rename, Remove, Tidy}
 use Rattle.su_draft.specs.Command.{draft, draft_of}

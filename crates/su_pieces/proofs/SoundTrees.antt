@@ -3,9 +3,9 @@ use Rattle.std.proofs.Common.{◌≡◌, Bool, true, false, cond, List, [], ◌�
 use Rattle.std.specs.Option.{is_none, unwrap_or}
 use Rattle.su_bytes.specs.Membership.{Membership}
 use Rattle.su_table.specs.Tree.{Tree, genesis}
-use Rattle.su_op.specs.Operation.{why, effect}
+use Rattle.su_op.specs.Batch.{why, effect}
 use Rattle.su_op.specs.Soundness.{Sound}
-use Rattle.su_op.proofs.Public.{store_lawful}
+use Rattle.su_op.proofs.Public.{batches_lawful}
 use Rattle.su_desk.specs.declared.entries.Entry.{Entry}
 use Rattle.su_desk.specs.History.{NumberedAction, live, replay, tree}
 use Rattle.su_desk.specs.Applied.{tree_after}
@@ -22,12 +22,12 @@ sound_on : (ro : Membership) (ts : List NumberedAction) (S T : Tree) → Sound S
 sound_on ro [] S T sound e = subst Sound (some_same S T e) sound
 sound_on ro (t ∷ ts) S T sound e =
     let (ok, rest) = first_accepted (is_none (why ro S t.action)) (replay ro (effect ro S t.action) ts) T e in
-    sound_on ro ts (effect ro S t.action) T ((store_lawful ro).stays_sound S t.action sound ok) rest
+    sound_on ro ts (effect ro S t.action) T ((batches_lawful ro).stays_sound S t.action sound ok) rest
 
 pub sound_after : (ro : Membership) (h : List Entry) → Sound (tree_after ro h)
 unfolding tree
 sound_after ro h = go (replay ro genesis (live h)) refl
   where
     go : (o : Option Tree) → replay ro genesis (live h) ≡ o → Sound (unwrap_or o genesis)
-    go None is = (store_lawful ro).start_sound
-    go (Some T) is = sound_on ro (live h) genesis T (store_lawful ro).start_sound is
+    go None is = (batches_lawful ro).start_sound
+    go (Some T) is = sound_on ro (live h) genesis T (batches_lawful ro).start_sound is

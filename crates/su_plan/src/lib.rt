@@ -3,7 +3,7 @@
 
 mod plans;
 
-pub use plans::{find, plan};
+pub use plans::{find, plan, plan_all};
 pub use su_draft::{
     Command, files_are_taken_once, numbers_are_counted_through, numbers_are_least,
     paths_have_one_spelling,

@@ -1,23 +1,17 @@
 -- The entries of live operations, of a history and with undos behind it.
-use Rattle.std.proofs.Common.{◌≡◌, ℕ, zero, suc, ◌+◌, ◌-◌, ◌<◌, ◌≤◌, Bool, true, false, not, cond, List, [], ◌∷◌, ◌++◌, length, take, nat_eq, Option, Some, None, refl, sym, ap, ◌∙◌, subst, arith, slice_get, inl, inr}
-use Rattle.std.specs.Prelude.{All, Contains, ◌⊎◌}
-use Rattle.std.specs.List.{filter}
-use Rattle.std.specs.Option.{option_or}
+use Rattle.std.proofs.Common.{◌≡◌, ℕ, zero, suc, ◌+◌, ◌-◌, ◌<◌, ◌≤◌, Bool, true, false, not, cond, List, [], ◌∷◌, ◌++◌, length, nat_eq, Some, None, refl, ap, ◌∙◌, subst, arith, slice_get}
+use Rattle.std.specs.Prelude.{All, Contains}
 use Rattle.std.proofs.lemmas.List.{take-append-le}
-use Rattle.std.proofs.lemmas.List.Elements.{All-nil, All-cons, All-append, All-weaker, All-filter, All-contains, All-contains_itself}
+use Rattle.std.proofs.lemmas.List.Elements.{All-nil, All-cons, All-append, All-weaker, All-filter, All-contains}
 use Rattle.su_bytes.specs.Membership.{Membership}
-use Rattle.su_bytes.specs.declared.formats.Format.{Format}
-use Rattle.su_bytes.specs.declared.refusals.Refusal.{Refusal}
-use Rattle.su_bytes.specs.declared.refusals.Refusal.TheVariants.{NoOperation, NotOperation, AlreadyUndone}
-use Rattle.su_op.specs.Operation.{reads}
+use Rattle.su_op.specs.Batch.{reads}
 use Rattle.su_table.specs.Tree.{Tree}
 use Rattle.su_op.specs.declared.operations.Change.{Change}
 use Rattle.su_op.specs.declared.operations.Change.TheVariants.{Do, Undo, Rekey}
 use Rattle.su_desk.specs.declared.entries.Entry.{Entry}
-use Rattle.su_desk.specs.History.{NumberedAction, action_of, entry_at, is_undone, live, operation_by_change, operation_of, operations_from, undo_by, undoer, undoer_from, undoes}
+use Rattle.su_desk.specs.History.{NumberedAction, action_of, entry_at, is_undone, live, operation_by_change, operation_of, operations_from}
 use Rattle.su_desk.specs.Applied.{reads_where_applied, tree_after, tree_before, written_by, entry_writes}
 use Rattle.su_desk.specs.Blocker.{HaveCommonCell, ReadsCellOf}
-use Rattle.su_desk.specs.Answer.{change_refusal, entry_refusal, live_refusal, undone_refusal}
 
 -- ---- each live operation has an entry
 
@@ -49,9 +43,9 @@ operations_have k (e ∷ es) =
     (All-weaker (HasEntry (k + 1) es) (HasEntry k (e ∷ es)) (behind_one k e es) (operations_from (k + 1) es) (operations_have (k + 1) es))
   where
     own : (c : Change) → All (HasEntry k (e ∷ es)) (operation_by_change k e c)
-    own (Do op) =
+    own (Do ops) =
         let index : k - k ≡ 0 = omega arith in
-        All-cons (HasEntry k (e ∷ es)) (record { number = k; action = action_of e op }) []
+        All-cons (HasEntry k (e ∷ es)) (record { number = k; action = action_of e ops }) []
         (record { entry = e; there = ap (λ i. slice_get (e ∷ es) i) index; author = refl; least = omega arith; most = omega arith })
         (All-nil (HasEntry k (e ∷ es)))
     own (Undo n) = All-nil (HasEntry k (e ∷ es))

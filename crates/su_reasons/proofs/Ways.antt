@@ -1,5 +1,5 @@
 -- What stands in the way of an operation, and what undos of that leave.
-use Rattle.std.proofs.Common.{◌≡◌, ℕ, zero, suc, ◌+◌, ◌-◌, ◌<◌, ◌≤◌, Bool, true, false, not, cond, List, [], ◌∷◌, ◌++◌, length, take, drop, set, nat_eq, ◌&&◌, Option, Some, None, option_map, map, OnOk, Result, Ok, Err, IfErr, refl, sym, ap, ◌∙◌, subst, arith, slice_get, get_or, inl, inr}
+use Rattle.std.proofs.Common.{◌≡◌, ℕ, zero, suc, ◌+◌, ◌-◌, ◌<◌, ◌≤◌, Bool, true, false, cond, List, [], ◌∷◌, ◌++◌, length, take, drop, set, nat_eq, ◌&&◌, Option, Some, None, option_map, map, OnOk, Result, Ok, Err, IfErr, refl, sym, ap, ◌∙◌, subst, arith, slice_get, get_or, inl, inr}
 use Rattle.std.specs.Prelude.{All, Contains, ◌⊎◌, IsErrAnd}
 use Rattle.std.specs.List.{filter}
 use Rattle.std.specs.Option.{option_or}
@@ -10,7 +10,7 @@ use Rattle.su_bytes.specs.Membership.{Membership, has_user}
 use Rattle.su_table.specs.Tree.{Tree}
 use Rattle.su_bytes.specs.Format.{is_as_new}
 use Rattle.su_bytes.specs.declared.formats.Format.{Format}
-use Rattle.su_bytes.specs.declared.formats.Format.TheVariants.{V1, V2, V3}
+use Rattle.su_bytes.specs.declared.formats.Format.TheVariants.{V1, V2, V3, V4}
 use Rattle.su_bytes.specs.declared.formats.TheConstants.{NEWEST_FORMAT}
 use Rattle.su_bytes.specs.declared.refusals.Refusal.{Refusal}
 use Rattle.su_bytes.specs.declared.refusals.Refusal.TheVariants.{Blocked, NoMemory, NoOperation, NoUser, OldFormat, NotOperation, AlreadyUndone}
@@ -24,7 +24,7 @@ use Rattle.su_desk.specs.Desk.{Answers, DeskState, with_entry}
 use Rattle.su_desk.specs.Headline.{Headline}
 use Rattle.su_desk.specs.Answer.{author_refusal, blocked_refusal, format_refusal, change_refusal, entry_refusal, live_refusal, undone_refusal, undo_refusal, refusal_of, answer, reply, GoodAfter}
 use Rattle.su_reasons.specs.Reasons.{IsInTheWay, IsLive, author_in, undo_of, undos_of, IsInTheWay.of_itself, IsInTheWay.of_another}
-use Rattle.su_reasons.proofs.LiveEntries.{HasEntry, live_has, entry_front, reads_front, slice_front}
+use Rattle.su_reasons.proofs.LiveEntries.{live_has, entry_front, reads_front, slice_front}
 
 module _ (ro : Membership) (h : List Entry) (n : ℕ) where
   -- a live operation of that number, which comes behind n
@@ -232,6 +232,7 @@ newest_fits h n = go (format_after h)
     go V1 = refl
     go V2 = refl
     go V3 = refl
+    go V4 = refl
 
 pub undo_accepted : (ro : Membership) (h : List Entry) (T : Tree) → Headline ro h T → (n : ℕ) → IsLive h n → blocker ro h n ≡ None → refusal_of ro h (undo_of h n) ≡ None
 undo_accepted ro h T head n l free =

@@ -1,5 +1,5 @@
 // What has to be undone before an operation can be.
-ghost use Rattle.std.specs.Prelude.{◌≡◌, ◌⊎◌, ◌≤◌, ◌<◌, ◌++◌, ℕ, List, All, Contains, None, Some, map, length, IfOk, OnOk, IfErr, MatchOption};
+ghost use Rattle.std.specs.Prelude.{◌≡◌, ◌⊎◌, ◌≤◌, ◌<◌, ◌++◌, ℕ, List, [], All, Contains, None, Some, map, length, IfOk, OnOk, IfErr, MatchOption};
 ghost use Rattle.su_bytes.specs.declared.refusals.Refusal.TheVariants.{NoMemory};
 ghost use Rattle.su_desk.specs.Answer.{live_refusal, refusal_of};
 ghost use Rattle.su_desk.specs.Blocker.{blocker};
@@ -9,27 +9,29 @@ ghost use Rattle.su_reasons.specs.Reasons.{AreReasons, IsInTheWay, IsLive, undo_
 
 use std::alloc::Global;
 use su_bytes::{FileId, Refusal, User};
-use su_desk::Desk;
+use su_desk::TrialDesk;
 use su_op::Change;
 
 /// Finds the operations that have to be undone before that one can be, in an order in which they can
-/// be, and undoes them on the desk. `authors` are those of its entries. `NoOperation`,
-/// `NotOperation`, `AlreadyUndone` where the number isn't that of a live operation; else only
-/// `NoMemory`.
+/// be, and undoes them for good on the desk, where nothing stands ready. `authors` are those of its
+/// entries. `NoOperation`, `NotOperation`, `AlreadyUndone` where the number isn't that of a live
+/// operation; else only `NoMemory`.
 pub fn reasons(
     alloc: Global,
-    desk: &mut Desk,
+    desk: &mut TrialDesk,
     authors: &[User],
     number: u64,
 ) -> Result<Vec<u64>, Refusal>
-    requires { authors.now ≡ map (λ e. e.author) desk.old.history }
+    requires known { authors.now ≡ map (λ e. e.author) desk.old.settled.history }
+    requires none_ready { desk.old.ready ≡ [] }
     ensures reasons { IfOk result (λ ms.
-        AreReasons desk.old.roster desk.old.history number ms.items) }
-    ensures undone { IfOk result (λ ms. desk.new ≡ record desk.old {
-      history = desk.old.history ++ undos_of desk.old.history ms.items;
+        AreReasons desk.old.settled.roster desk.old.settled.history number ms.items) }
+    ensures undone { IfOk result (λ ms. desk.new.settled ≡ record desk.old.settled {
+      history = desk.old.settled.history ++ undos_of desk.old.settled.history ms.items;
     }) }
+    ensures still_none_ready { OnOk result (desk.new.ready ≡ []) }
     ensures refused { IfErr result (λ e.
-        (e ≡ NoMemory) ⊎ (live_refusal desk.old.history number ≡ Some e)) }
+        (e ≡ NoMemory) ⊎ (live_refusal desk.old.settled.history number ≡ Some e)) }
 {
     // names the type for the prover (docs/ARCHITECTURE.md, "Forms the kit wants")
     let _file: Option<FileId> = None;
@@ -43,14 +45,15 @@ pub fn reasons(
 }
 
 /// Finds an operation that stands in the way of an undo, and that nothing blocks: what blocks it, or
-/// what blocks that, and so on. None where the undo isn't blocked. The refusals are those of
-/// `Desk::blocker`.
-fn first_in_the_way(desk: &Desk, number: u64) -> Result<Option<u64>, Refusal>
+/// what blocks that, and so on, where nothing stands ready. None where the undo isn't blocked. The
+/// refusals are those of `TrialDesk::blocker`.
+fn first_in_the_way(desk: &TrialDesk, number: u64) -> Result<Option<u64>, Refusal>
+    requires { desk.now.ready ≡ [] }
     ensures found { IfOk result (λ first.
-        MatchOption first (blocker desk.now.roster desk.now.history number ≡ None)
-        (λ m. IsInTheWay desk.now.roster desk.now.history number m
-        × (blocker desk.now.roster desk.now.history m ≡ None))) }
-    ensures refused { IfErr result (λ e. live_refusal desk.now.history number ≡ Some e) }
+        MatchOption first (blocker desk.now.settled.roster desk.now.settled.history number ≡ None)
+        (λ m. IsInTheWay desk.now.settled.roster desk.now.settled.history number m
+        × (blocker desk.now.settled.roster desk.now.settled.history m ≡ None))) }
+    ensures refused { IfErr result (λ e. live_refusal desk.now.settled.history number ≡ Some e) }
 {
     // names the type for the prover (docs/ARCHITECTURE.md, "Forms the kit wants")
     let _file: Option<FileId> = None;
@@ -64,23 +67,25 @@ fn first_in_the_way(desk: &Desk, number: u64) -> Result<Option<u64>, Refusal>
     Ok(first)
 }
 
-/// Undoes a live operation that nothing blocks, by its author. `authors` are those of the first
-/// entries, that one's among them. Fails only with `NoMemory`.
-fn undo(desk: &mut Desk, authors: &[User], number: u64) -> Result<(), Refusal>
+/// Undoes a live operation that nothing blocks, by its author, where nothing stands ready. `authors`
+/// are those of the first entries, that one's among them. Fails only with `NoMemory`.
+fn undo(desk: &mut TrialDesk, authors: &[User], number: u64) -> Result<(), Refusal>
     requires known { (others : List ℕ)
-        × (map (λ e. e.author) desk.old.history ≡ authors.now ++ others) }
+        × (map (λ e. e.author) desk.old.settled.history ≡ authors.now ++ others) }
     requires among { number ≤ length authors.now }
-    requires is_live { IsLive desk.old.history number }
-    requires free { blocker desk.old.roster desk.old.history number ≡ None }
-    ensures undone { OnOk result (desk.new
-        ≡ with_entry desk.old (undo_of desk.old.history number)) }
-    ensures accepted { OnOk result (refusal_of desk.old.roster desk.old.history
-        (undo_of desk.old.history number) ≡ None) }
+    requires is_live { IsLive desk.old.settled.history number }
+    requires free { blocker desk.old.settled.roster desk.old.settled.history number ≡ None }
+    requires none_ready { desk.old.ready ≡ [] }
+    ensures undone { OnOk result (desk.new.settled
+        ≡ with_entry desk.old.settled (undo_of desk.old.settled.history number)) }
+    ensures accepted { OnOk result (refusal_of desk.old.settled.roster desk.old.settled.history
+        (undo_of desk.old.settled.history number) ≡ None) }
     // Of the live operations there is one less, and none is new.
     ensures fewer { OnOk result
-        (length (live desk.new.history) < length (live desk.old.history)) }
+        (length (live desk.new.settled.history) < length (live desk.old.settled.history)) }
     ensures none_new { OnOk result
-        (All (Contains (live desk.old.history)) (live desk.new.history)) }
+        (All (Contains (live desk.old.settled.history)) (live desk.new.settled.history)) }
+    ensures still_none_ready { OnOk result (desk.new.ready ≡ []) }
     ensures refused { IfErr result (λ e. e ≡ NoMemory) }
 {
     let _forest = desk.forest();

@@ -19,7 +19,7 @@ pub(crate) struct Commits {
 /// Makes these commits.
 pub(crate) fn new_commits(alloc: Global) -> Result<Commits, Fail> {
     let mut one = new_client(alloc, 1)?;
-    one.take(1)?;
+    one.take(alloc, 1)?;
     one.create(alloc, b"a", 2)?;
     let again = again(alloc, &one.commit_at(alloc, 2)?.version().encode(alloc)?)?;
     let (first, _item) = one.entry(1)?;

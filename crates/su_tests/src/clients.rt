@@ -86,16 +86,16 @@ impl Client {
             kind: Kind::File,
             name: Name::new(alloc, name)?,
         };
-        self.commit(Change::Do(Op::Create(create)))
+        self.commit(Change::of(alloc, Op::Create(create)))
     }
 
     /// Commits that its user takes this file of group 0 over.
-    pub(crate) fn take(&mut self, number: u64) -> Result<u64, Fail> {
+    pub(crate) fn take(&mut self, alloc: Global, number: u64) -> Result<u64, Fail> {
         let take = Take {
             file: file(number)?,
             body: Inum::new(number)?,
         };
-        self.commit(Change::Do(Op::Take(take)))
+        self.commit(Change::of(alloc, Op::Take(take)))
     }
 
     /// Commits that bytes are written to this file of group 0, from its first byte on.
@@ -105,7 +105,7 @@ impl Client {
             off: 0,
             bytes: Vec::from_slice(alloc, bytes)?,
         };
-        self.commit(Change::Do(Op::Write(write)))
+        self.commit(Change::of(alloc, Op::Write(write)))
     }
 
     /// Commits the undo of that entry.

@@ -19,7 +19,9 @@ fn an_item_is_read(rt: HostRuntime) -> Result<(), Fail> {
         kind: Kind::File,
         name: Name::new(alloc, b"f")?,
     };
-    assert!(rt; encode(alloc, &Change::Do(Op::Create(create)))?.as_slice() == ITEM.as_slice());
+    assert!(rt;
+        encode(alloc, &Change::of(alloc, Op::Create(create)))?.as_slice() == ITEM.as_slice()
+    );
     assert!(rt; encode(alloc, &decode(alloc, &ITEM)?)?.as_slice() == ITEM.as_slice());
     let short = ITEM.get(..20).ok_or("short")?;
     assert!(rt; matches!(decode(alloc, short), Err(Refusal::Malformed(_))));

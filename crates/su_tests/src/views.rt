@@ -27,7 +27,7 @@ fn two_views_agree(rt: HostRuntime) -> Result<(), Fail> {
 }
 
 fn agree(rt: &impl Abort, alloc: Global, zero: &mut Client, one: &mut Client) -> Result<(), Fail> {
-    assert_eq!(rt; one.take(2)?, 2);
+    assert_eq!(rt; one.take(alloc, 2)?, 2);
     assert_eq!(rt; one.write(alloc, 2, b"hello")?, 3);
     assert_eq!(rt; zero.follow(alloc, one, &[2, 3])?, Ok(2));
     assert_eq!(rt; zero.head().0, 3);
@@ -51,7 +51,7 @@ fn a_fork_stays_one(rt: HostRuntime) -> Result<(), Fail> {
 // Each makes a second commit that the other isn't shown in time.
 fn part(rt: &impl Abort, alloc: Global, zero: &mut Client, two: &mut Client) -> Result<(), Fail> {
     zero.create(alloc, b"b", 3)?;
-    two.take(2)?;
+    two.take(alloc, 2)?;
     let (one_way, other_way) = (zero.list(alloc, &[2])?, two.list(alloc, &[2])?);
     zero.get_items(alloc, two, &[2])?;
     two.get_items(alloc, zero, &[2])?;
@@ -68,7 +68,7 @@ fn go_on(
     two: &Client,
 ) -> Result<(), Fail> {
     assert_eq!(rt; one.follow(alloc, two, &[2])?, Ok(1));
-    assert_eq!(rt; one.take(2)?, 3);
+    assert_eq!(rt; one.take(alloc, 2)?, 3);
     zero.get_items(alloc, one, &[3])?;
     zero.refuses(rt, alloc, &one.list(alloc, &[3])?, wrong_prev(2))?;
     assert_eq!(rt; zero.create(alloc, b"c", 4)?, 3);
@@ -123,7 +123,7 @@ fn nobody_goes_back(rt: HostRuntime) -> Result<(), Fail> {
     let mut zero = new_client(rt.alloc(), 0)?;
     let mut one = new_client(rt.alloc(), 1)?;
     begin(rt.alloc(), &mut zero, &mut one)?;
-    one.take(2)?;
+    one.take(alloc, 2)?;
     zero.catch_up(rt.alloc(), &one, &[2])?;
     zero.create(rt.alloc(), b"c", 4)?;
     last_commits(&rt, rt.alloc(), &zero, &one)?;

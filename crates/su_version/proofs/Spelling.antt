@@ -3,7 +3,7 @@ use Rattle.std.proofs.Common.{◌≡◌, ◌<◌, ◌≤◌, ◌+◌, ◌^◌, �
 use Rattle.std.specs.List.{flat_map, AllByRecursion}
 use Rattle.std.specs.Option.{is_some, unwrap_or}
 use Rattle.su_bytes.specs.declared.formats.Format.{Format as CommitFormat}
-use Rattle.su_bytes.specs.declared.formats.Format.TheVariants.{V1, V2, V3}
+use Rattle.su_bytes.specs.declared.formats.Format.TheVariants.{V1, V2, V3, V4}
 use Rattle.su_bytes.specs.Principal.{is_group}
 use Rattle.su_format.specs.Format.{part, making, IsLawful, EachFrom, IsFormatOf}
 use Rattle.su_format.specs.Part.{u8_bytes, u64_bytes}
@@ -111,11 +111,20 @@ next_key_is : (k : Option (List ℕ)) → IsNextKey V3 k → (AnyFlag (is_some k
 next_key_is None is = ((tt, refl), refl, refl)
 next_key_is (Some key) is = ((tt, (refl, is)), refl, refl)
 
+is_next_key-V4 : (k : Option (List ℕ)) → AnyFlag (is_some k) × IsBehind (is_some k) k → IsNextKey V4 k × (k ≡ k) × (key_bytes V4 k ≡ flag_bytes (is_some k) ++ bytes_behind k)
+is_next_key-V4 None is = (tt, refl, refl)
+is_next_key-V4 (Some key) is = (is.1.1, refl, refl)
+
+next_key_is-V4 : (k : Option (List ℕ)) → IsNextKey V4 k → (AnyFlag (is_some k) × IsBehind (is_some k) k) × (k ≡ k) × (flag_bytes (is_some k) ++ bytes_behind k ≡ key_bytes V4 k)
+next_key_is-V4 None is = ((tt, refl), refl, refl)
+next_key_is-V4 (Some key) is = ((tt, (refl, is)), refl, refl)
+
 key_of : (f : CommitFormat) → Makes (key_format f) (λ k. k) (IsNextKey f) (key_bytes f)
 unfolding key_format
 key_of V1 = none_of
 key_of V2 = none_of
 key_of V3 = said_as (told_by is_some flag_of key_behind_of tells_flag) (λ k. k) (λ k. k) is_next_key next_key_is
+key_of V4 = said_as (told_by is_some flag_of key_behind_of tells_flag) (λ k. k) (λ k. k) is_next_key-V4 next_key_is-V4
 
 -- ---- version structures
 
@@ -130,6 +139,13 @@ format_told V3 V1 rest behind _ _ e = let fourth : ◌≡◌ {A = ℕ} 51 49 = a
 format_told V2 V3 rest behind _ _ e = let fourth : ◌≡◌ {A = ℕ} 50 51 = ap (λ l. get_or l 3 0) e in absurd (omega arith)
 format_told V3 V2 rest behind _ _ e = let fourth : ◌≡◌ {A = ℕ} 51 50 = ap (λ l. get_or l 3 0) e in absurd (omega arith)
 format_told V3 V3 rest behind _ _ e = (refl, cc)
+format_told V1 V4 rest behind _ _ e = let fourth : ◌≡◌ {A = ℕ} 49 52 = ap (λ l. get_or l 3 0) e in absurd (omega arith)
+format_told V4 V1 rest behind _ _ e = let fourth : ◌≡◌ {A = ℕ} 52 49 = ap (λ l. get_or l 3 0) e in absurd (omega arith)
+format_told V2 V4 rest behind _ _ e = let fourth : ◌≡◌ {A = ℕ} 50 52 = ap (λ l. get_or l 3 0) e in absurd (omega arith)
+format_told V4 V2 rest behind _ _ e = let fourth : ◌≡◌ {A = ℕ} 52 50 = ap (λ l. get_or l 3 0) e in absurd (omega arith)
+format_told V3 V4 rest behind _ _ e = let fourth : ◌≡◌ {A = ℕ} 51 52 = ap (λ l. get_or l 3 0) e in absurd (omega arith)
+format_told V4 V3 rest behind _ _ e = let fourth : ◌≡◌ {A = ℕ} 52 51 = ap (λ l. get_or l 3 0) e in absurd (omega arith)
+format_told V4 V4 rest behind _ _ e = (refl, cc)
 
 pub first_bytes_lawful : IsLawful (part AnyFormat first_bytes)
 first_bytes_lawful = part_lawful AnyFormat first_bytes format_told
@@ -139,12 +155,14 @@ pub length-first_bytes : (f : CommitFormat) → length (first_bytes f) ≡ 4
 length-first_bytes V1 = refl
 length-first_bytes V2 = refl
 length-first_bytes V3 = refl
+length-first_bytes V4 = refl
 
 -- the second isn't that of a roster
 pub second_byte : (f : CommitFormat) (body behind : List ℕ) → get_or ((first_bytes f ++ body) ++ behind) 1 0 ≡ 86
 second_byte V1 body behind = refl
 second_byte V2 body behind = refl
 second_byte V3 body behind = refl
+second_byte V4 body behind = refl
 
 first_bytes_of : Makes format_part (λ f. f) AnyFormat first_bytes
 unfolding format_part

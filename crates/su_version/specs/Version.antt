@@ -3,7 +3,7 @@
 use Rattle.std.specs.Prelude.{◌≡◌, ◌≤◌, ◌<◌, ◌+◌, ◌^◌, ℕ, Bool, true, false, Option, None, Some, List, [], ◌∷◌, ◌++◌, length, codes}
 use Rattle.std.specs.List.{flat_map, AllByRecursion}
 use Rattle.su_bytes.specs.declared.formats.Format.{Format as CommitFormat}
-use Rattle.su_bytes.specs.declared.formats.Format.TheVariants.{V1, V2, V3}
+use Rattle.su_bytes.specs.declared.formats.Format.TheVariants.{V1, V2, V3, V4}
 use Rattle.su_bytes.specs.declared.rosters.TheConstants.{KEY_LENGTH}
 use Rattle.su_bytes.specs.Principal.{is_user, is_group}
 use Rattle.su_format.specs.Format.{Format, part, making, ◌>>=◌, repeated, EachFrom}
@@ -38,6 +38,8 @@ IsNextKey V1 key = key ≡ None
 IsNextKey V2 key = key ≡ None
 IsNextKey V3 None = Unit {0}
 IsNextKey V3 (Some key) = length key ≡ KEY_LENGTH
+IsNextKey V4 None = Unit {0}
+IsNextKey V4 (Some key) = length key ≡ KEY_LENGTH
 
 -- a version structure that can be spelled
 pub record IsVersion (v : Version) : Type 0 where
@@ -62,18 +64,21 @@ abbrev pub first_bytes : CommitFormat → List ℕ
 first_bytes V1 = codes "SV01"
 first_bytes V2 = codes "SV02"
 first_bytes V3 = codes "SV03"
+first_bytes V4 = codes "SV04"
 
 -- whether something comes: 0 or 1
 abbrev pub flag_bytes : Bool → List ℕ
 flag_bytes false = 0 ∷ []
 flag_bytes true = 1 ∷ []
 
--- the next key: nothing in the first two formats; in the third whether there is one, and this
+-- the next key: nothing in the first two formats; in the others whether there is one, and this
 abbrev pub key_bytes : CommitFormat → Option (List ℕ) → List ℕ
 key_bytes V1 key = []
 key_bytes V2 key = []
 key_bytes V3 None = flag_bytes false
 key_bytes V3 (Some key) = flag_bytes true ++ key
+key_bytes V4 None = flag_bytes false
+key_bytes V4 (Some key) = flag_bytes true ++ key
 
 -- the rest: author, prev, change, i-handle; how many groups, and each with its i-handle; how many
 -- numbers, and these; the next key
@@ -141,6 +146,9 @@ unfoldable pub key_format : CommitFormat → Format (Option (List ℕ))
 key_format V1 = making None
 key_format V2 = making None
 key_format V3 = do
+  flag ← flag_part
+  key_behind flag
+key_format V4 = do
   flag ← flag_part
   key_behind flag
 

@@ -21,6 +21,7 @@ fn first_bytes(format: Format) -> &'static [u8]
         Format::V1 => b"SV01",
         Format::V2 => b"SV02",
         Format::V3 => b"SV03",
+        Format::V4 => b"SV04",
     }
 }
 
@@ -37,6 +38,9 @@ pub fn format_of(bytes: &[u8]) -> Option<Format>
     }
     if bytes == first_bytes(Format::V3) {
         return Some(Format::V3);
+    }
+    if bytes == first_bytes(Format::V4) {
+        return Some(Format::V4);
     }
     None
 }
@@ -327,12 +331,12 @@ fn key_size(format: Format, key: &Option<[u8; KEY_LENGTH]>) -> usize
 {
     match (format, key) {
         (Format::V1 | Format::V2, _) => 0,
-        (Format::V3, None) => 1,
-        (Format::V3, Some(_)) => 1 + KEY_LENGTH,
+        (Format::V3 | Format::V4, None) => 1,
+        (Format::V3 | Format::V4, Some(_)) => 1 + KEY_LENGTH,
     }
 }
 
-// In the third format whether there is a next key, and this.
+// From the third format on whether there is a next key, and this.
 fn write_key(
     writer: &mut Writer,
     format: Format,
@@ -342,8 +346,8 @@ fn write_key(
 {
     match (format, key) {
         (Format::V1 | Format::V2, _) => Ok(()),
-        (Format::V3, None) => writer.put_u8(0),
-        (Format::V3, Some(key)) => {
+        (Format::V3 | Format::V4, None) => writer.put_u8(0),
+        (Format::V3 | Format::V4, Some(key)) => {
             writer.put_u8(1)?;
             writer.put_bytes(key)
         }
@@ -491,7 +495,7 @@ fn read_key(reader: &mut Reader<'_>, format: Format) -> Result<Option<[u8; KEY_L
     let _file: Option<FileId> = None;
     match format {
         Format::V1 | Format::V2 => Ok(None),
-        Format::V3 => {
+        Format::V3 | Format::V4 => {
             let flag = read_flag(reader)?;
             read_key_behind(reader, flag)
         }

@@ -4,46 +4,44 @@ use Rattle.std.specs.List.{filter, AllByRecursion}
 use Rattle.std.proofs.lemmas.List.{length-map, map-append}
 use Rattle.std.proofs.lemmas.Bool.{eq-eqb}
 use Rattle.su_bytes.specs.Format.{is_as_new}
-use Rattle.su_bytes.proofs.Public.{newest}
 use Rattle.su_bytes.specs.Membership.{Membership, has_number, has_user}
 use Rattle.su_bytes.specs.Principal.{principals}
-use Rattle.su_bytes.specs.declared.formats.TheConstants.{NEWEST_FORMAT}
+use Rattle.su_bytes.specs.declared.formats.Format.{Format as CommitFormat}
+use Rattle.su_bytes.specs.declared.formats.Format.TheVariants.{V1, V2, V3, V4}
+use Rattle.su_bytes.specs.declared.formats.TheConstants.{FIRST_FORMAT}
+use Rattle.su_bytes.specs.Order.{RefusedBy}
 use Rattle.su_bytes.specs.declared.refusals.Refusal.{Refusal}
-use Rattle.su_bytes.specs.declared.refusals.Refusal.TheVariants.{BadKey, BadNumber, KeyReuse, NoMemory, NoUser}
+use Rattle.su_bytes.specs.declared.refusals.Refusal.TheVariants.{BadKey, BadNumber, KeyReuse, NoMemory, NoUser, OldFormat, TooBig}
 use Rattle.su_bytes.specs.declared.principals.Principal.{Principal}
 use Rattle.su_bytes.specs.declared.principals.Principal.TheVariants.{Group}
 use Rattle.su_bytes.specs.Keys.{is_among}
 use Rattle.su_format.specs.Format.{EachFrom}
-use Rattle.su_op.specs.declared.operations.Op.TheVariants as op
 use Rattle.su_op.specs.declared.operations.Change.{Change}
 use Rattle.su_op.specs.declared.operations.Change.TheVariants.{Do, Undo, Rekey}
-use Rattle.su_op.specs.Action.{named_key}
-use Rattle.su_op.specs.Operation.{why}
-use Rattle.su_op.specs.Limits.{largest_write}
-use Rattle.su_op.specs.Rule.{Rule, Rule.Demand, refusal}
+use Rattle.su_op.specs.Action.{change_format, named_key}
 use Rattle.su_op.specs.declared.areas.Area.{Area}
 use Rattle.su_table.specs.Handle.{handle}
 use Rattle.su_desk.specs.declared.entries.Entry.{Entry}
-use Rattle.su_desk.specs.Answer.{refusal_by_change, refusal_of, answer, rekey_refusal}
-use Rattle.su_desk.specs.History.{keys_after}
+use Rattle.su_desk.specs.Answer.{format_refusal, made_format, refusal_by_change, refusal_of, answer, rekey_refusal}
+use Rattle.su_desk.specs.History.{entry_by, format_after, keys_after, last_format as desk_last}
 use Rattle.su_desk.specs.Version.{cells_of, carried_groups, numbered, versions}
-use Rattle.su_desk.proofs.FormatLemmas.{by_change, newest_fits}
+use Rattle.su_desk.proofs.FormatLemmas.{by_change, made_fits, made_new}
 use Rattle.su_desk.proofs.VersionNumbers.{carried_ascend as groups_ascend}
 use Rattle.su_desk.specs.Trial.{Tells}
 use Rattle.su_desk.specs.declared.prepared.Prepared.{Prepared}
-use Rattle.su_change.specs.Item.{IsChange, HasItem, item_bytes, change_digest}
+use Rattle.su_change.specs.Item.{IsChange, HasItem, HasSpelling, IsTooLong, item_bytes, change_digest}
 use Rattle.su_lms.specs.Signature.{IsSigned, IsPublicKey, is_public_key, ots_of}
 use Rattle.su_lms.specs.ParameterSets.{chain_count}
 use Rattle.su_vector.specs.Vector.{bump}
 use Rattle.su_version.specs.Version.{Version, IsVersion, IsCarried, IsNextKey}
 use Rattle.su_version.specs.Commit.{Commit, IsCommit}
-use Rattle.su_version.specs.Chain.{ChainAfter, IsChain, IsNewKey, IsGoodKey, IsNewLeaf, IsSignedBy, last_leaf, tip, MayBeNext, chain_format, chain_head, chain_key, chain_keys}
+use Rattle.su_version.specs.Chain.{ChainAfter, IsChain, IsNewKey, IsGoodKey, IsNewLeaf, IsSignedBy, last_leaf, tip, MayBeNext, last_format as chain_last, chain_format, chain_head, chain_key, chain_keys}
 use Rattle.su_legal.specs.Legal.{Committed, commits_of, entry_made, history, head_of, vector_of, tree_with, author_handle, group_handles, MayJoin, LegalAfter, Legal}
 use Rattle.su_legal.proofs.Public.{vector_counts, bump_counts, groups_listed, keys_told}
 use Rattle.su_view.specs.Holding.{HoldingState}
 use Rattle.su_view.specs.Joining.{AscendFrom}
 use Rattle.su_view.specs.Keeping.{holding_of, IsKeeping}
-use Rattle.su_view.specs.Making.{own_entry, next_version, IsMade, IsDraft}
+use Rattle.su_view.specs.Making.{drafting_order, own_entry, own_format, next_version, IsMade, IsDraft}
 use Rattle.su_view.specs.declared.holdings.drafts.Draft.{Draft}
 use Rattle.su_view.specs.declared.records.Keeping.{Keeping}
 use Rattle.su_view.specs.declared.refusals.ViewRefusal.{ViewRefusal}
@@ -118,6 +116,24 @@ named_good ro h e (Do op) accepted = (tt, tt)
 named_good ro h e (Undo n) accepted = (tt, tt)
 named_good ro h e (Rekey k) accepted = let good = rekey_good ro h e.author k accepted in (good.0, good_key k good.1)
 
+-- ---- formats
+
+-- a list of commits and its history have one format
+formats_told : (f : CommitFormat) (cs : List Committed) → chain_last f (commits_of cs) ≡ desk_last f (history cs)
+formats_told f [] = refl
+formats_told f (c ∷ cs) = formats_told c.commit.version.format cs
+
+as_new_of : (h : List Entry) (f : CommitFormat) (change : Change) → format_refusal h f change ≡ None → is_as_new f (format_after h) ≡ true
+as_new_of h f change none = go (is_as_new f (format_after h)) (is_as_new f (change_format change)) none
+  where
+    go : (a b : Bool) → cond (a && b) None (Some OldFormat) ≡ None → a ≡ true
+    go true b e = refl
+    go false b e = absurd (let bad : Some OldFormat ≡ None = e in cc)
+
+made_as_new : (v : HoldingState) (change : Change) → is_as_new (own_format v change) (chain_format (commits_of v.held)) ≡ true
+unfolding chain_format
+made_as_new v change = ap (is_as_new (own_format v change)) (formats_told V1 v.held) ∙ as_new_of (history v.held) (own_format v change) change (made_fits (history v.held) change)
+
 -- ---- a commit that is made joins the list
 
 module _ (v : HoldingState) (change : Change) (leaf : ℕ) (c : Commit) (legal : Legal v.roster v.held) (member : has_user v.roster v.user ≡ true)
@@ -125,7 +141,7 @@ module _ (v : HoldingState) (change : Change) (leaf : ℕ) (c : Commit) (legal :
   made_key : IsNewKey (chain_keys v.roster (commits_of v.held)) c.version.next_key × IsGoodKey c.version.next_key
   made_key =
       let good = named_good v.roster (history v.held) (own_entry v change) change
-      (sym (by_change v.roster (history v.held) (own_entry v change) (newest_fits (history v.held) change)) ∙ made.accepted) in
+      (sym (by_change v.roster (history v.held) (own_entry v change) (made_fits (history v.held) change)) ∙ made.accepted) in
       subst (λ o. IsNewKey (chain_keys v.roster (commits_of v.held)) o × IsGoodKey o) (sym (ap (λ (s : Version). s.next_key) made.version))
       (subst (λ keys. IsNewKey keys (named_key change)) (keys_told v.roster v.held legal) good.0, good.1)
 
@@ -138,7 +154,7 @@ module _ (v : HoldingState) (change : Change) (leaf : ℕ) (c : Commit) (legal :
       (
         ap (λ (s : Version). s.prev) made.version,
         (
-          ap (λ (s : Version). is_as_new s.format (chain_format (commits_of v.held))) made.version ∙ newest (chain_format (commits_of v.held)),
+          ap (λ (s : Version). is_as_new s.format (chain_format (commits_of v.held))) made.version ∙ made_as_new v change,
           (
             record {
               groups = subst (λ (s : Version). AllByRecursion (λ (g : ℕ × List ℕ). has_number v.roster.groups g.0 ≡ true) s.groups) (sym made.version)
@@ -174,26 +190,14 @@ module _ (v : HoldingState) (change : Change) (leaf : ℕ) (c : Commit) (legal :
     };
   }
 
--- ---- a change without an item is refused
-
-demanded : (b : Bool) (r : Refusal) (k : Rule) → (b ≡ true → ⊥) → refusal (Demand b r k) ≡ Some r
-demanded true r k never = absurd (never refl)
-demanded false r k never = refl
-
-passed : (b : Bool) (r : Refusal) (k : Rule) → b ≡ true → refusal (Demand b r k) ≡ refusal k
-passed true r k is = refl
-passed false r k is = absurd cc
-
-length_in_range : (n : ℕ) → (nat_le 1 n && nat_le n largest_write) ≡ true → (1 ≤ n) × (n ≤ largest_write)
-length_in_range n is = grind (arith, is)
-
-pub without_item : (ro : Membership) (h : List Entry) (e : Entry) (change : Change) → has_user ro e.author ≡ true → (HasItem change → ⊥) → refusal_by_change ro h e change ≡ Some BadNumber
-unfolding why
-without_item ro h e (Do (op.Write w)) member none =
-    passed (has_user ro e.author) _ _ member ∙ demanded (nat_le 1 (length w.bytes) && nat_le (length w.bytes) largest_write) BadNumber _ (λ is. none (length_in_range (length w.bytes) is))
-without_item ro h e _ member none = absurd (none tt)
-
 -- ---- a draft, as it is kept
+
+spelled_long : (change : Change) → IsTooLong change → HasSpelling change
+spelled_long (Do []) long = absurd long
+spelled_long (Do (x ∷ [])) long = absurd long
+spelled_long (Do (x ∷ y ∷ ops)) long = long.0
+spelled_long (Undo n) long = absurd long
+spelled_long (Rekey key) long = absurd long
 
 module _ (k : Keeping) (kept : IsKeeping k) (change : Change) where
   abbrev w : HoldingState
@@ -205,10 +209,15 @@ module _ (k : Keeping) (kept : IsKeeping k) (change : Change) where
   pub draft_answered : (r : Result ℕ Refusal) → answer k.desk.settled.roster settled (own_entry w change) ≡ r → answer w.roster (history w.held) (own_entry w change) ≡ r
   draft_answered r is = (λ i. answer w.roster (kept.entries i) (own_entry w change)) ∙ is
 
-  pub drafted_so : (p : Prepared) (item : List ℕ) (d : Draft) → d.prepared ≡ p → d.item.items ≡ item
+  -- the entry that is made on trial is the user's own
+  pub entry_so : (f : CommitFormat) → f ≡ made_format settled change → entry_by k.user f change ≡ own_entry w change
+  entry_so f is = ap (λ (g : CommitFormat). entry_by k.user g change) (is ∙ ap (λ h. made_format h change) (sym kept.entries))
+
+  pub drafted_so : (p : Prepared) (item : List ℕ) (d : Draft) → d.prepared ≡ p → d.item.items ≡ item → d.format ≡ made_format settled change
       → answer k.desk.settled.roster settled (own_entry w change) ≡ Ok p.number → Tells k.desk.settled (own_entry w change) p
       → IsChange change → HasItem change → item ≡ item_bytes change → 1 ≤ length item → length item ≤ 70000 → d.next_key ≡ named_key change → IsDraft w change d
-  drafted_so p item d prepared item_is accepted told is_change has_item spelled some few key = record {
+  drafted_so p item d prepared item_is format accepted told is_change has_item spelled some few key = record {
+    format = format ∙ ap (λ h. made_format h change) (sym kept.entries);
     accepted = accepted_answer w.roster (history w.held) (own_entry w change) p.number (draft_answered (Ok p.number) accepted);
     is_change = is_change;
     has_item = has_item;
@@ -221,26 +230,25 @@ module _ (k : Keeping) (kept : IsKeeping k) (change : Change) where
     numbers = ap (λ (p : Prepared). p.versions.items) prepared ∙ told.versions ∙ (λ i. versions w.roster (sym kept.entries i ++ own_entry w change ∷ []));
   }
 
+  -- a change that the desk refuses
   pub draft_refused : (e : Refusal) → (e ≡ NoMemory) ⊎ (answer k.desk.settled.roster settled (own_entry w change) ≡ Err e) → (r : ViewRefusal)
       → (((e ≡ NoMemory) × (r ≡ Plain NoMemory)) ⊎ ((e ≢ NoMemory) × (r ≡ ChangeRefused e)))
-      → (r ≡ Plain NoMemory) ⊎ ((why : Refusal) × (r ≡ ChangeRefused why) × (refusal_of w.roster (history w.held) (own_entry w change) ≡ Some why))
+      → (r ≡ Plain NoMemory) ⊎ RefusedBy (drafting_order w change) r
   draft_refused e why r (inl (none, is)) = inl is
   draft_refused e (inl none) r (inr (other, is)) = absurd (other none)
-  draft_refused e (inr refused) r (inr (other, is)) = inr (e, is, refused_answer w.roster (history w.held) (own_entry w change) e (draft_answered (Err e) refused))
+  draft_refused e (inr refused) r (inr (other, is)) =
+      let some = refused_answer w.roster (history w.held) (own_entry w change) e (draft_answered (Err e) refused) in
+      inr (inl ((e, is, some), λ none. absurd (let bad : None ≡ Some e = sym none ∙ some in cc)))
 
-  -- a change without an item is refused for that
-  pub item_refused : (e : Refusal) → (((e ≡ BadNumber) × (HasItem change → ⊥)) ⊎ ((e ≡ NoMemory) × HasItem change)) → (r : ViewRefusal)
+  -- an accepted change without an item
+  pub item_refused : (e : Refusal) → refusal_of w.roster (history w.held) (own_entry w change) ≡ None
+      → ((e ≡ BadNumber) × (HasSpelling change → ⊥)) ⊎ ((e ≡ TooBig) × IsTooLong change) ⊎ ((e ≡ NoMemory) × HasItem change) → (r : ViewRefusal)
       → (((e ≡ NoMemory) × (r ≡ Plain NoMemory)) ⊎ ((e ≢ NoMemory) × (r ≡ ChangeRefused e)))
-      → (r ≡ Plain NoMemory) ⊎ ((why : Refusal) × (r ≡ ChangeRefused why) × (refusal_of w.roster (history w.held) (own_entry w change) ≡ Some why))
-  item_refused e (inr (none, has)) r so = draft_refused e (inl none) r so
-  item_refused e (inl (bad, lacks)) r (inl (none, is)) = inl is
-  item_refused e (inl (bad, lacks)) r (inr (other, is)) =
-      inr (
-        BadNumber,
-        is ∙ ap ChangeRefused bad,
-        by_change w.roster (history w.held) (own_entry w change) (newest_fits (history w.held) change)
-            ∙ without_item w.roster (history w.held) (own_entry w change) change kept.member lacks,
-      )
+      → (r ≡ Plain NoMemory) ⊎ RefusedBy (drafting_order w change) r
+  item_refused e accepted why r (inl (none, is)) = inl is
+  item_refused e accepted (inl (bad, lacks)) r (inr (other, is)) = inr (inr (accepted, inl (is ∙ ap ChangeRefused bad, lacks)))
+  item_refused e accepted (inr (inl (big, long))) r (inr (other, is)) = inr (inr (accepted, inr (spelled_long change long, inl (is ∙ ap ChangeRefused big, λ short. short long))))
+  item_refused e accepted (inr (inr (none, has))) r (inr (other, is)) = absurd (other none)
 
 -- ---- the parts of its version structure are in their ranges
 
@@ -259,10 +267,15 @@ handles_ascend_so k kept change =
     w : List Area
     w = cells_of (holding_of k).roster (history (holding_of k).held) (own_entry (holding_of k) change)
 
-named_in_range : (change : Change) → IsChange change → IsNextKey NEWEST_FORMAT (named_key change)
-named_in_range (Do op) is = tt
-named_in_range (Undo n) is = tt
-named_in_range (Rekey k) is = is
+named_in_range : (f : CommitFormat) (change : Change) → is_as_new f FIRST_FORMAT ≡ true → IsChange change → IsNextKey f (named_key change)
+named_in_range V1 change new is = absurd (let bad : false ≡ true = new in cc)
+named_in_range V2 change new is = absurd (let bad : false ≡ true = new in cc)
+named_in_range V3 (Do ops) new is = tt
+named_in_range V3 (Undo n) new is = tt
+named_in_range V3 (Rekey k) new is = is
+named_in_range V4 (Do ops) new is = tt
+named_in_range V4 (Undo n) new is = tt
+named_in_range V4 (Rekey k) new is = is
 
 pub versions_long : (ro : Membership) (h : List Entry) → length (map (λ v. v.1) (versions ro h)) ≡ length (principals ro)
 versions_long ro h = length-map (versions ro h) (λ v. v.1) ∙ length-map (principals ro) (numbered ro h)
@@ -274,7 +287,7 @@ module _ (k : Keeping) (kept : IsKeeping k) (v : HoldingState) (is : holding_of 
   -- the version structure that is made of it
   abbrev drafted : List ℕ → List ℕ → List ℕ → Version
   drafted head digest vector = record {
-    format = NEWEST_FORMAT;
+    format = d.format;
     author = k.user;
     prev = head;
     change = digest;
@@ -303,7 +316,7 @@ module _ (k : Keeping) (kept : IsKeeping k) (v : HoldingState) (is : holding_of 
     some_numbers = omega (arith, long, some);
     few_numbers = omega (arith, long, most);
     numbers = range;
-    next_key = subst (IsNextKey NEWEST_FORMAT) (sym kept_draft.next_key) (named_in_range change kept_draft.is_change);
+    next_key = subst (IsNextKey d.format) (sym kept_draft.next_key) (named_in_range d.format change (ap (λ f. is_as_new f FIRST_FORMAT) kept_draft.format ∙ made_new (history (holding_of k).held) change) kept_draft.is_change);
   }
     where
       ascend : AscendFrom 0 groups
@@ -326,7 +339,7 @@ module _ (k : Keeping) (kept : IsKeeping k) (v : HoldingState) (is : holding_of 
 
       made : drafted head digest vector ≡ next_version (holding_of k) change
       made = λ i. record {
-        format = NEWEST_FORMAT;
+        format = kept_draft.format i;
         author = k.user;
         prev = head_so i;
         change = digest_is i;

@@ -1,13 +1,13 @@
 -- What a client's user signs for a change of the user's own. (SUNDR, section 3.3.)
 use Rattle.std.specs.Prelude.{◌≡◌, ◌≤◌, ◌⊎◌, ℕ, length, List, ◌∷◌, [], ◌++◌, map, Option, Some, None}
 use Rattle.su_bytes.specs.Order.{Line, demand, Passes, RefusedBy}
-use Rattle.su_bytes.specs.declared.formats.TheConstants.{NEWEST_FORMAT}
-use Rattle.su_bytes.specs.declared.refusals.Refusal.TheVariants.{BadSignature, KeySpent, KeyFileFault}
+use Rattle.su_bytes.specs.declared.formats.Format.{Format as CommitFormat}
+use Rattle.su_bytes.specs.declared.refusals.Refusal.TheVariants.{BadNumber, BadSignature, KeySpent, KeyFileFault, TooBig}
 use Rattle.su_block.specs.declared.failures.Failures.{Failures}
 use Rattle.su_op.specs.declared.operations.Change.{Change}
 use Rattle.su_op.specs.Action.{named_key}
 use Rattle.su_desk.specs.declared.entries.Entry.{Entry}
-use Rattle.su_desk.specs.Answer.{refusal_of}
+use Rattle.su_desk.specs.Answer.{made_format, refusal_of}
 use Rattle.su_desk.specs.History.{entry_by}
 use Rattle.su_desk.specs.Version.{versions}
 use Rattle.su_lms.specs.Signature.{leaf_of}
@@ -15,23 +15,27 @@ use Rattle.su_vector.specs.Vector.{bump}
 use Rattle.su_version.specs.Version.{Version}
 use Rattle.su_version.specs.Commit.{Commit}
 use Rattle.su_version.specs.Chain.{IsSignedBy, chain_key}
-use Rattle.su_change.specs.Item.{IsChange, HasItem, item_bytes, change_digest}
+use Rattle.su_change.specs.Item.{IsChange, HasItem, HasSpelling, IsTooLong, item_bytes, change_digest}
 use Rattle.su_legal.specs.Legal.{commits_of, history, head_of, vector_of, author_handle, group_handles}
 use Rattle.su_view.specs.Holding.{HoldingState}
 use Rattle.su_view.specs.Joining.{HasFailed, accepting}
 use Rattle.su_view.specs.declared.refusals.ViewRefusal.{ViewRefusal}
-use Rattle.su_view.specs.declared.refusals.ViewRefusal.TheVariants.{Plain}
+use Rattle.su_view.specs.declared.refusals.ViewRefusal.TheVariants.{Plain, Change as ChangeRefused}
 use Rattle.su_view.specs.declared.holdings.drafts.Draft.{Draft}
 
--- the entry that the client's user makes of a change, in the newest format
+-- the format in which the client's user makes a change
+abbrev pub own_format : HoldingState → Change → CommitFormat
+own_format v change = made_format (history v.held) change
+
+-- the entry that the client's user makes of a change
 abbrev pub own_entry : HoldingState → Change → Entry
-own_entry v change = entry_by v.user NEWEST_FORMAT change
+own_entry v change = entry_by v.user (own_format v change) change
 
 -- the version structure of a change that comes next: it names the list's head and the change, has
 -- the i-handles and the numbers of the tree with it, and the next key that the change names
 abbrev pub next_version : HoldingState → Change → Version
 next_version v change = record {
-  format = NEWEST_FORMAT;
+  format = own_format v change;
   author = v.user;
   prev = head_of v.roster v.held;
   change = change_digest change;
@@ -53,13 +57,20 @@ pub record IsMade (v : HoldingState) (change : Change) (leaf : ℕ) (c : Commit)
   pub signed : IsSignedBy (own_key v) c
   pub leaf_is : leaf_of c.signature ≡ leaf
 
+-- What has to hold for a change to be drafted, in this order: it is accepted; it can be spelled; its
+-- item isn't too long. (One operation that is accepted always has an item; a batch may not.)
+abbrev pub drafting_order : HoldingState → Change → List (Line ViewRefusal)
+drafting_order v change =
+    accepting v (own_entry v change)
+    ∷ demand (HasSpelling change) (ChangeRefused BadNumber)
+    ∷ demand (¬ IsTooLong change) (ChangeRefused TooBig)
+    ∷ []
+
 -- What has to hold for a commit to be made of a change, in this order: the key is the one that the
--- user has then; the change is accepted.
+-- user has then; the change can be drafted.
 abbrev pub making_order : List ℕ → HoldingState → Change → List (Line ViewRefusal)
 making_order key v change =
-    demand (own_key v ≡ Some key) (Plain BadSignature)
-    ∷ accepting v (own_entry v change)
-    ∷ []
+    demand (own_key v ≡ Some key) (Plain BadSignature) ∷ drafting_order v change
 
 -- Why no commit is made of a change: that doesn't hold; or then the source failed when it was given
 -- the item; or each leaf has signed; or not each has, and the store of the next one's number failed.
@@ -71,10 +82,11 @@ IsRefusedMaking before after key Spent v change e =
     ⊎ ((e ≡ Plain KeySpent) × Spent)
     ⊎ ((e ≡ Plain KeyFileFault) × ¬ Spent)))
 
--- What is at hand of a change before it is signed: it is accepted, and these are its item, the next
--- key that it names, and the i-handles and numbers of the tree with it.
+-- What is at hand of a change before it is signed: it is accepted, and these are its format, its
+-- item, the next key that it names, and the i-handles and numbers of the tree with it.
 pub record IsDraft (v : HoldingState) (change : Change) (d : Draft) : Type 0 where
   pub accepted : refusal_of v.roster (history v.held) (own_entry v change) ≡ None
+  pub format : d.format ≡ own_format v change
   pub is_change : IsChange change
   pub has_item : HasItem change
   pub spelled : d.item.items ≡ item_bytes change

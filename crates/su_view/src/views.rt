@@ -8,7 +8,7 @@ ghost use Rattle.su_chain.specs.ChainEnd.{HasBadKey};
 ghost use Rattle.su_op.specs.declared.operations.Change.{Change as Change_};
 ghost use Rattle.su_table.specs.Query.{contents, contents_within, listing};
 ghost use Rattle.su_desk.specs.History.{live_numbers};
-ghost use Rattle.su_desk.specs.Rehearsal.{first_refusal};
+ghost use Rattle.su_op.specs.Batch.{first_refusal};
 ghost use Rattle.su_draft.specs.Walk.{found};
 ghost use Rattle.su_plan.specs.Plan.{plan};
 ghost use Rattle.su_desk.specs.Version.{versions};

@@ -2,6 +2,7 @@
 ghost use Rattle.std.specs.Prelude.{◌≡◌, ◌⊎◌, ◌<◌, Some, map, IfOk, IfErr};
 ghost use Rattle.su_bytes.specs.declared.refusals.Refusal.TheVariants.{MissingBlock, NoMemory};
 ghost use Rattle.su_desk.specs.Answer.{Good, live_refusal};
+ghost use Rattle.su_desk.specs.Trial.{nothing_ready};
 ghost use Rattle.su_legal.specs.Legal.{history};
 ghost use Rattle.su_reasons.specs.Reasons.{AreReasons};
 
@@ -9,7 +10,7 @@ use crate::entries::entries_of;
 use std::alloc::{AllocError, Global};
 use su_block::BlockSource;
 use su_bytes::{FileId, Refusal, Roster, User};
-use su_desk::{Desk, Entry};
+use su_desk::{Entry, TrialDesk};
 use su_reasons::reasons;
 use su_view::View;
 
@@ -52,15 +53,15 @@ fn authors_of(alloc: Global, entries: &[Entry]) -> Result<Vec<User>, AllocError>
 }
 
 /// Makes the desk of a good history. Fails only with `NoMemory`.
-fn desk_after(alloc: Global, roster: Roster, entries: Vec<Entry>) -> Result<Desk, Refusal>
+fn desk_after(alloc: Global, roster: Roster, entries: Vec<Entry>) -> Result<TrialDesk, Refusal>
     requires { Good roster entries.items }
     ensures value { IfOk result (λ desk.
-        desk ≡ record { roster = roster; history = entries.items }) }
+        desk ≡ nothing_ready (record { roster = roster; history = entries.items })) }
     ensures refused { IfErr result (λ e. e ≡ NoMemory) }
 {
     // names the type for the prover (docs/ARCHITECTURE.md, "Forms the kit wants")
     let _file: Option<FileId> = None;
-    let mut desk = Desk::new(alloc, roster)?;
+    let mut desk = TrialDesk::new(alloc, roster)?;
     for entry in entries {
         let Entry {
             author,

@@ -1,9 +1,10 @@
 // Changes that are made so that they can be taken back.
-ghost use Rattle.std.specs.Prelude.{◌≡◌, ◌⊎◌, ℕ, List, true, None, Some, Err, IfOk, IfErr, OnOk, OnErr};
+ghost use Rattle.std.specs.Prelude.{◌≡◌, ◌⊎◌, ℕ, List, true, false, None, Some, Err, IfOk, IfErr, OnOk, OnErr};
 ghost use Rattle.su_bytes.specs.declared.refusals.Refusal.TheVariants.{NoMemory};
 ghost use Rattle.su_op.specs.declared.operations.Change.TheVariants.{Undo, Rekey};
 ghost use Rattle.su_op.specs.Area.{has};
-ghost use Rattle.su_op.specs.Action.{Action};
+ghost use Rattle.su_op.specs.Action.{is_many};
+ghost use Rattle.su_op.specs.Batch.{Action};
 ghost use Rattle.su_table.specs.Cell.{Cell};
 ghost use Rattle.su_inverse.specs.Kept.{inverse_areas, IsKeptOf};
 ghost use Rattle.su_desk.specs.declared.entries.Entry.{Entry};
@@ -20,17 +21,20 @@ use crate::kept::undo_index;
 use crate::prepared::{Means, Prepared, Tried, Undone};
 use crate::versions::carried_handles;
 use su_bytes::{Format, KEY_LENGTH, Principal, Refusal, User};
-use su_inverse::{Inverse, build_whole};
+use su_inverse::Inverse;
 use su_op::{Area, Change};
 
 impl Desk {
-    /// Makes a change as `apply_as` does, and returns what takes it back.
+    /// Makes a change, of no more than one operation, in that format, and returns what takes it back.
+    /// A refusal changes nothing: `OldFormat` where the format is older than that of the last entry,
+    /// or has no such change; the first one in the order of the change; or `NoMemory`.
     pub(crate) fn attempt(
         &mut self,
         format: Format,
         author: User,
         change: Change,
     ) -> Result<Tried, Refusal>
+        requires { is_many change ≡ false }
         ensures accepted { OnOk result
             (refusal_of self.old.roster self.old.history (entry_by author format change) ≡ None) }
         ensures good { OnOk result (Good self.old.roster self.old.history) }
@@ -42,13 +46,13 @@ impl Desk {
             ⊎ (answer self.old.roster self.old.history (entry_by author format change) ≡ Err e)) }
         ensures err { OnErr result (self.new ≡ self.old) }
     {
-        if let Some(refusal) = self.format_refusal(format, &change) {
+        if let Some(refusal) = self.format_refusal(format, change.oldest_format()) {
             return Err(refusal);
         }
         let versions = Vec::from_slice(self.alloc, self.counters.as_slice())?;
         match change {
-            Change::Do(op) => {
-                self.operate(format, author, op)?;
+            Change::Do(batch) => {
+                self.operate(format, author, batch)?;
                 Ok(Tried {
                     versions,
                     means: Means::Kept,
@@ -88,7 +92,7 @@ impl Desk {
             ⊎ (undo_refusal self.now.roster self.now.history author number ≡ Some e)) }
     {
         let index = undo_index(&self.roster, &self.entries, &self.kept, author, number)?;
-        build_whole(self.alloc, &self.forest, &self.kept[index].footprint.writes)
+        self.keep_whole(&self.kept[index].footprint.writes)
     }
 
     /// Tells what holds with the last entry, a change of that author. Fails only with `NoMemory`.

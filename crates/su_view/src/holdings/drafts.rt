@@ -1,26 +1,23 @@
 // A change of the user's own, before it is signed.
 ghost use Rattle.std.specs.Prelude.{◌≡◌, ◌≢◌, ◌≤◌, ◌<◌, ◌+◌, ◌^◌, ◌⊎◌, ◌↔◌, ℕ, IsTrue, Some, None, true, length, map, IfOk, IfErr};
 ghost use Rattle.std.specs.List.{AllByRecursion};
-ghost use Rattle.su_bytes.specs.declared.refusals.Refusal.{Refusal as Refusal_};
+ghost use Rattle.su_bytes.specs.Order.{RefusedBy};
 ghost use Rattle.su_bytes.specs.declared.refusals.Refusal.TheVariants.{NoMemory};
 ghost use Rattle.su_bytes.specs.Principal.{principals};
 ghost use Rattle.su_format.specs.Format.{EachFrom};
 ghost use Rattle.su_op.specs.declared.operations.Change.{Change as Change_};
-ghost use Rattle.su_desk.specs.Answer.{refusal_of};
 ghost use Rattle.su_version.specs.Version.{IsCarried};
 ghost use Rattle.su_change.specs.Item.{change_digest};
 ghost use Rattle.su_legal.specs.Legal.{history, Legal};
 ghost use Rattle.su_bytes.specs.Membership.{has_user};
 ghost use Rattle.su_view.specs.Joining.{AscendFrom};
-ghost use Rattle.su_view.specs.Making.{own_entry, own_key, IsDraft, next_version};
-ghost use Rattle.su_view.specs.declared.refusals.ViewRefusal.TheVariants.{Plain, Change as ChangeRefused};
+ghost use Rattle.su_view.specs.Making.{drafting_order, own_key, IsDraft, next_version};
+ghost use Rattle.su_view.specs.declared.refusals.ViewRefusal.TheVariants.{Plain};
 
 use crate::holdings::{Holding, within};
 use crate::refusals::ViewRefusal;
 use std::alloc::Global;
-use su_bytes::{
-    Digest, FileId, Group, KEY_LENGTH, NEWEST_FORMAT, Principal, Refusal, Roster, User,
-};
+use su_bytes::{Digest, FileId, Format, Group, KEY_LENGTH, Principal, Refusal, Roster, User};
 use su_change::encode;
 use su_desk::{Prepared, TrialDesk};
 use su_lms::PublicKey;
@@ -28,10 +25,11 @@ use su_op::Change;
 use su_vector::Vector;
 use su_version::VersionStructure;
 
-/// A change of the user's own that stands ready: what is told of it, its item, and the user's next
-/// key, if it names one.
+/// A change of the user's own that stands ready: its format, what is told of it, its item, and the
+/// user's next key, if it names one.
 #[derive(Drop)]
 pub(crate) struct Draft {
+    pub(crate) format: Format,
     pub(crate) prepared: Prepared,
     pub(crate) item: Vec<u8>,
     pub(crate) next_key: Option<[u8; KEY_LENGTH]>,
@@ -48,26 +46,32 @@ impl Holding {
         self.key(self.keeping.user) == Some(key)
     }
 
-    /// Makes a change of the user's on trial, in the newest format, which isn't seen. `Change`
-    /// where it is refused; `NoMemory`.
+    /// Makes a change of the user's on trial, which isn't seen, in the format of the list, or the
+    /// oldest that has the change, where that is newer. `Change` where it is refused, and where it is
+    /// a batch without an item: of too many operations, or too long; `NoMemory`.
     pub fn draft(&mut self, change: Change) -> Result<Draft, ViewRefusal>
         ensures drafted { IfOk result (IsDraft self.old change) }
-        ensures refused { IfErr result (λ e. (e ≡ Plain NoMemory)
-            ⊎ ((why : Refusal_) × (e ≡ ChangeRefused why)
-            × (refusal_of self.old.roster (history self.old.held) (own_entry self.old change)
-            ≡ Some why))) }
+        ensures refused { IfErr result (λ e.
+            (e ≡ Plain NoMemory) ⊎ RefusedBy (drafting_order self.old change) e) }
         ensures same { self.new ≡ self.old }
     {
-        let item = match encode(self.alloc, &change) {
-            Ok(item) => item,
-            Err(refusal) => return Err(within(refusal)),
-        };
+        let item = encode(self.alloc, &change);
         let next_key = change.named_key();
-        let prepared = match self.keeping.desk.prepare(self.keeping.user, change) {
+        let format = self.keeping.desk.made_format(&change);
+        let prepared = match self
+            .keeping
+            .desk
+            .prepare_as(format, self.keeping.user, change)
+        {
             Ok(prepared) => prepared,
             Err(refusal) => return Err(within(refusal)),
         };
+        let item = match item {
+            Ok(item) => item,
+            Err(refusal) => return Err(within(refusal)),
+        };
         Ok(Draft {
+            format,
             prepared,
             item,
             next_key,
@@ -84,6 +88,7 @@ impl Holding {
         ensures refused { IfErr result (λ e. e ≡ NoMemory) }
     {
         let Draft {
+            format,
             prepared,
             item: _item,
             next_key,
@@ -99,7 +104,7 @@ impl Holding {
         has_digest_length(&prepared.author_handle);
         are_carried(prepared.groups.as_slice());
         Ok(VersionStructure::new(
-            NEWEST_FORMAT,
+            format,
             self.keeping.user,
             head,
             digest,

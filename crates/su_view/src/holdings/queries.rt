@@ -3,7 +3,7 @@ ghost use Rattle.std.specs.Prelude.{◌≡◌, ◌⊎◌, ◌≤◌, Ok, Err, If
 ghost use Rattle.su_bytes.specs.declared.formats.TheConstants.{NEWEST_FORMAT};
 ghost use Rattle.su_bytes.specs.declared.refusals.Refusal.TheVariants.{NoMemory};
 ghost use Rattle.su_desk.specs.History.{live_numbers};
-ghost use Rattle.su_desk.specs.Rehearsal.{first_refusal};
+ghost use Rattle.su_op.specs.Batch.{first_refusal};
 ghost use Rattle.su_desk.specs.Version.{versions};
 ghost use Rattle.su_version.specs.Commit.{commit_bytes};
 ghost use Rattle.su_draft.specs.Walk.{found};

@@ -1,17 +1,8 @@
-use Rattle.std.proofs.Common.{◌∷◌, inr, refl, rules, arith}
-use Rattle.su_change.specs.Item.{kinds}
-use Rattle.su_change.proofs.Items.{HasNoKind, no_kind_fails}
+use Rattle.std.proofs.Common.{rules}
+use Rattle.su_change.proofs.Items.{IsOther, takes_alone}
 use Rattle.su_change.proofs.decoder.read_fields.Goals as goal
 
 pub returns-in_default : goal.returns-in_default
 returns-in_default c =
-    let none : HasNoKind kinds c.args.number = search rules in
-    inr (
-      c.args.place,
-      refl,
-      record {
-        behind = c.args.number ∷ c.args.reader.now.left;
-        fails = no_kind_fails kinds c.args.number none c.args.reader.now.left;
-        place_is = omega (arith, c.requires);
-      },
-    )
+    let other : IsOther c.args.number = search rules in
+    takes_alone c.args.number other c.args.reader.now _ _ c.read_alone.ensures

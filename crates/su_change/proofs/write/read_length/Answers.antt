@@ -3,7 +3,7 @@ use Rattle.su_bytes.specs.declared.refusals.Refusal.TheVariants.{Malformed}
 use Rattle.su_format.specs.Part.{u32_bytes, u32_part}
 use Rattle.su_format.proofs.Public.{missing_too, another, taken_as, u32_lawful}
 use Rattle.su_change.specs.Write.{IsLength, length_part}
-use Rattle.su_change.proofs.Items.{length_is_u32}
+use Rattle.su_change.proofs.Operations.{length_is_u32}
 use Rattle.su_change.proofs.write.read_length.Goals as goal
 
 pub returns-in_default : goal.returns-in_default

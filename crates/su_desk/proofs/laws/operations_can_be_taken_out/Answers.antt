@@ -1,5 +1,5 @@
-use Rattle.su_op.specs.Store.{store}
-use Rattle.su_op.proofs.Public.{store_lawful}
+use Rattle.su_op.specs.Batch.{store}
+use Rattle.su_op.proofs.Public.{batches_lawful as store_lawful}
 use Rattle.su_undo.proofs.TakingOut.{undo_is_safe}
 use Rattle.su_desk.proofs.laws.operations_can_be_taken_out.Goals as goal
 

@@ -1,4 +1,4 @@
-use Rattle.std.proofs.Common.{◌≤◌, ◌-◌, ◌<◌, length, arith}
+use Rattle.std.proofs.Common.{◌<◌, arith}
 use Rattle.su_history.proofs.UndoerLemmas.{undo_noted}
 use Rattle.su_history.proofs.undoers.undoers.Goals as goal
 

@@ -26,14 +26,14 @@ returns-in_err-held-in-Undo-clause-refused c =
     let d = c.args.self.now in
     let x = c.in_err-held-in-Undo.field-0.0 in
     refused_by (λ e. (e ≡ NoMemory) ⊎ (answer d.roster d.history (entry_by c.args.author c.args.format c.args.change) ≡ Err e)) c.from_residual-in_err-held-in-Undo.result x c.from_residual-in_err-held-in-Undo.ensures.1
-    (undo_answer d (entry_by c.args.author c.args.format c.args.change) c.in-Undo.number x (sym c.format_refusal.ensures ∙ c.in_default.is) c.in-Undo.is c.in_err-held-in-Undo.ensures.refused)
+    (undo_answer d (entry_by c.args.author c.args.format c.args.change) c.in-Undo.number x (sym (c.format_refusal.ensures c.args.change (sym c.oldest_format.ensures)) ∙ c.in_default.is) c.in-Undo.is c.in_err-held-in-Undo.ensures.refused)
 
 pub returns-in_err-index-in-Undo-clause-refused : goal.returns-in_err-index-in-Undo-clause-refused
 returns-in_err-index-in-Undo-clause-refused c =
     let d = c.args.self.now in
     let x = c.in_err-index-in-Undo.field-0.0 in
     refused_by (λ e. (e ≡ NoMemory) ⊎ (answer d.roster d.history (entry_by c.args.author c.args.format c.args.change) ≡ Err e)) c.from_residual-in_err-index-in-Undo.result x c.from_residual-in_err-index-in-Undo.ensures.1
-    (undo_answer d (entry_by c.args.author c.args.format c.args.change) c.in-Undo.number x (sym c.format_refusal.ensures ∙ c.in_default.is) c.in-Undo.is c.in_err-index-in-Undo.ensures.refused)
+    (undo_answer d (entry_by c.args.author c.args.format c.args.change) c.in-Undo.number x (sym (c.format_refusal.ensures c.args.change (sym c.oldest_format.ensures)) ∙ c.in_default.is) c.in-Undo.is c.in_err-index-in-Undo.ensures.refused)
 
 pub returns-in_ok-operate-in-Do-clause-accepted : goal.returns-in_ok-operate-in-Do-clause-accepted
 returns-in_ok-operate-in-Do-clause-accepted c =
@@ -48,13 +48,13 @@ returns-in_ok-rekey-in-Rekey-clause-accepted c =
 pub returns-in_ok-index-in-Undo-clause-accepted : goal.returns-in_ok-index-in-Undo-clause-accepted
 returns-in_ok-index-in-Undo-clause-accepted c =
     let d = c.args.self.now in
-    by_change d.roster d.history (entry_by c.args.author c.args.format c.args.change) (sym c.format_refusal.ensures ∙ c.in_default.is)
+    by_change d.roster d.history (entry_by c.args.author c.args.format c.args.change) (sym (c.format_refusal.ensures c.args.change (sym c.oldest_format.ensures)) ∙ c.in_default.is)
     ∙ ap (refusal_by_change d.roster d.history (entry_by c.args.author c.args.format c.args.change)) c.in-Undo.is ∙ c.in_ok-index-in-Undo.ensures.accepted
 
 pub returns-in-Some-clause-refused : goal.returns-in-Some-clause-refused
 returns-in-Some-clause-refused c =
     let d = c.args.self.now in
-    inr (answer_refused d.roster d.history (entry_by c.args.author c.args.format c.args.change) _ (format_refused d.roster d.history (entry_by c.args.author c.args.format c.args.change) _ (sym c.format_refusal.ensures ∙ c.in-Some.is)))
+    inr (answer_refused d.roster d.history (entry_by c.args.author c.args.format c.args.change) _ (format_refused d.roster d.history (entry_by c.args.author c.args.format c.args.change) _ (sym (c.format_refusal.ensures c.args.change (sym c.oldest_format.ensures)) ∙ c.in-Some.is)))
 
 pub returns-in_ok-index-in-Undo-clause-tried : goal.returns-in_ok-index-in-Undo-clause-tried
 returns-in_ok-index-in-Undo-clause-tried c =

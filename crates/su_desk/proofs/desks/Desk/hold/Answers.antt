@@ -2,14 +2,11 @@ use Rattle.std.proofs.Common.{◌≡◌, ◌∙◌, true, sym, ap, subst, IfOk, 
 use Rattle.su_table.specs.Cell.{Cell}
 use Rattle.su_op.specs.declared.areas.Area.{Area}
 use Rattle.su_op.specs.Area.{has}
-use Rattle.su_inverse.specs.Kept.{inverse_areas, IsKeptOf}
+use Rattle.su_inverse.specs.Kept.{inverse_areas}
 use Rattle.su_desk.specs.Applied.{written_by}
 use Rattle.su_desk.specs.Keeping.{IsIndexOf}
-use Rattle.su_desk.specs.Trial.{tree_of}
 use Rattle.su_desk.proofs.KeptIndexes.{are_kept}
-use Rattle.su_desk.proofs.KeptOperations.{tree_kept}
 use Rattle.su_desk.proofs.Replies.{found, undone_written}
-use Rattle.su_desk.proofs.TakingBack.{left_by}
 use Rattle.su_desk.proofs.desks.Desk.hold.Goals as goal
 
 pub undo_index-requires : goal.undo_index-requires
@@ -23,11 +20,7 @@ returns-clause-covers c =
     let there = found s.roster s.entries.items s.kept.items k i c.args.number s.forest c.self.invariant.0 (subst (λ ks. IsIndexOf c.args.number ks i) c.deref-2.ensures.value c.in_ok-index.ensures.found) (sym c.index.ensures) in
     let written : c.deref-3.result.now ≡ written_by c.args.self.now.roster c.args.self.now.history c.args.number
     = c.deref-3.ensures.value ∙ undone_written s.roster s.entries.items s.kept.items k i c.args.number s.forest there ∙ ap (λ d. written_by d.roster d.history c.args.number) c.self.view_is in
-    subst (λ (w : List Area). IfOk c.build_whole.result (λ held. (x : Cell) → has w x ≡ true → has (inverse_areas held) x ≡ true)) written c.build_whole.ensures.covers
+    subst (λ (w : List Area). IfOk c.keep_whole.result (λ held. (x : Cell) → has w x ≡ true → has (inverse_areas held) x ≡ true)) written c.keep_whole.ensures.covers
 
 pub returns-clause-kept : goal.returns-clause-kept
-returns-clause-kept c =
-    let s = c.self.inside in
-    let same : s.forest ≡ tree_of c.args.self.now
-    = left_by s.roster s.entries.items s.forest (tree_kept s.roster s.entries.items s.kept.items s.forest c.self.invariant.0) ∙ ap tree_of c.self.view_is in
-    subst (λ T. IfOk c.build_whole.result (λ held. IsKeptOf held T)) same c.build_whole.ensures.kept
+returns-clause-kept c = c.keep_whole.ensures.kept

@@ -1,0 +1,37 @@
+use Rattle.std.proofs.Common.{◌≡◌, ◌∙◌, ◌+◌, ◌⊎◌, ⊎_elim, inl, inr, ◌++◌, ◌∷◌, [], take, drop, suc, Ok, Err, refl, sym, ap, add-one, append-nil}
+use Rattle.std.proofs.Math.Seq.{drop-cons}
+use Rattle.su_bytes.specs.declared.refusals.Refusal.TheVariants.{NoMemory}
+use Rattle.su_op.specs.Batch.{action_by, effect}
+use Rattle.su_bytes.specs.declared.formats.TheConstants.{NEWEST_FORMAT}
+use Rattle.su_desk.specs.Desk.{DeskState}
+use Rattle.su_desk.specs.Trial.{tree_with_ready}
+use Rattle.su_plan.specs.Plan.{and_behind, plan, plan_all}
+use Rattle.su_plan.proofs.PlanLemmas.{none_before, first_planned, first_refused}
+use Rattle.su_plan.proofs.plans.plan_on.Goals as goal
+
+pub loop-command-init : goal.loop-command-init
+loop-command-init c = record { settled = refl; planned = none_before _ }
+
+pub loop-command-preserved : goal.loop-command-preserved
+loop-command-preserved c =
+    let l = c.loop-command in
+    let all = c.args.commands.now in
+    let it = c.command-item.result in
+    let r = c.in_ok-next.ensures in
+    let ops = c.in_ok-next.field-0.items in
+    let ro = c.args.desk.now.settled.roster in
+    let T = tree_with_ready l.desk in
+    let a = c.args.user in
+    let rest = drop (l.command-index + 1) all in
+    let left : drop l.command-index all ≡ it ∷ rest
+    = drop-cons all l.command-index it c.loop-command-test.true ∙ ap (λ o. o ∷ drop (suc l.command-index) all) (sym c.command-item.is) ∙ ap (λ j. it ∷ drop j all) (sym (add-one l.command-index)) in
+    let is : plan ro T a it ≡ Ok ops = ap (λ (d : DeskState). plan d.roster T a it) (sym l.invariant.settled) ∙ r.planned in
+    let done : tree_with_ready c.plan_next.new.desk ≡ effect ro T (action_by a NEWEST_FORMAT ops) = r.effect ∙ ap (λ (d : DeskState). effect d.roster T (action_by a NEWEST_FORMAT ops)) l.invariant.settled in
+    record {
+      settled = r.settled ∙ l.invariant.settled;
+      planned = l.invariant.planned
+          ∙ ap (λ cs. and_behind l.planned.items (plan_all ro T a cs)) left
+          ∙ first_planned ro T a it rest l.planned.items ops is
+          ∙ ap (λ U. and_behind (l.planned.items ++ ops) (plan_all ro U a rest)) (sym done)
+          ∙ ap (λ os. and_behind os (plan_all ro (tree_with_ready c.plan_next.new.desk) a rest)) (sym c.in_ok-append.ensures.items);
+    }
