@@ -3,7 +3,7 @@
 ghost use Rattle.std.specs.Prelude.{◌≡◌, ◌⊎◌, Ok, Err, IfErr, IfOk, OnOk};
 ghost use Rattle.su_bytes.specs.declared.refusals.Refusal.TheVariants.{NoMemory};
 ghost use Rattle.su_draft.specs.Walk.{found};
-ghost use Rattle.su_plan.specs.Plan.{plan};
+ghost use Rattle.su_plan.specs.Plan.{plan_all};
 ghost use Rattle.su_table.specs.Query.{contents, listing};
 ghost use Rattle.su_view.specs.Holding.{tree_of_list};
 ghost use Rattle.su_view.specs.Stat.{stat_in};
@@ -134,16 +134,16 @@ impl<R: Read + Drop, W: Write + Drop, K: KeyStore + Drop> Member<R, W, K> {
         self.view.contents(file)
     }
 
-    /// Plans a command on paths on the tree of the list that is held. The server isn't asked. The
-    /// refusals of `View::plan`.
-    pub fn plan_held(&mut self, command: &Command) -> Result<Vec<Op>, Refusal>
+    /// Plans commands on paths, as one, on the tree of the list that is held. The server isn't asked.
+    /// The refusals of `View::plan_all`.
+    pub fn plan_held(&mut self, commands: &[Command]) -> Result<Vec<Op>, Refusal>
         ensures planned { let v = self.old.holding in IfOk result (λ operations.
-            plan v.roster (tree_of_list v) v.user command.now ≡ Ok operations.items) }
+            plan_all v.roster (tree_of_list v) v.user commands.now ≡ Ok operations.items) }
         ensures refused { let v = self.old.holding in IfErr result (λ e. (e ≡ NoMemory)
-            ⊎ (plan v.roster (tree_of_list v) v.user command.now ≡ Err e)) }
+            ⊎ (plan_all v.roster (tree_of_list v) v.user commands.now ≡ Err e)) }
         ensures same { self.new ≡ self.old }
     {
-        self.view.plan(command)
+        self.view.plan_all(commands)
     }
 
     /// Finds the number of the user's own last commit in the list; none where there is none. It is

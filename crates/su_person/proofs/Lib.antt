@@ -1,5 +1,4 @@
 pub mod Working
 pub mod StepLemmas
-pub mod CommandLemmas
 pub mod ChangeLemmas
 pub mod PutLemmas

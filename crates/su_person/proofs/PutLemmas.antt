@@ -1,5 +1,5 @@
 -- When a put may write, and what its rounds do.
-use Rattle.std.proofs.Common.{◌≡◌, ◌⊎◌, inl, inr, ◌++◌, ◌∙◌, ℕ, suc, Bool, true, List, Option, Result, Ok, IfOk, append_assoc, refl, sym, ap, subst}
+use Rattle.std.proofs.Common.{◌≡◌, ◌⊎◌, inl, inr, ◌++◌, ◌∷◌, [], ◌∙◌, ℕ, suc, Bool, true, List, Option, Result, Ok, IfOk, append_assoc, append-nil, refl, sym, ap, subst}
 use Rattle.su_bytes.specs.declared.file_ids.FileId.{FileId}
 use Rattle.su_desk.specs.declared.entries.Entry.{Entry}
 use Rattle.su_draft.specs.declared.commands.Command.{Command}
@@ -7,12 +7,14 @@ use Rattle.su_draft.specs.Walk.{found}
 use Rattle.su_legal.specs.Legal.{history}
 use Rattle.su_view.specs.Holding.{HoldingState, tree_of_list}
 use Rattle.su_client_work.specs.Member.{MemberState}
+use Rattle.su_person.specs.declared.carrying.Others.TheVariants.{Unwelcome}
 use Rattle.su_person.specs.declared.faults.Fault.{Fault}
 use Rattle.su_person.specs.declared.faults.Fault.TheVariants.{Refused, Shown, Changed, Unkept}
 use Rattle.su_person.specs.Carrying.{CarriesSome}
 use Rattle.su_person.specs.Fault.{TellsNoChange}
 use Rattle.su_person.specs.LastChange.{last_change}
-use Rattle.su_person.specs.Putting.{HasBytes, HasThere, IsStanding, KnowsBytes, MayWrite, PutsOver, Rounds, TellsUnseen, TellsWhy}
+use Rattle.su_person.specs.Putting.{HasBytes, HasThere, IsStanding, KnowsBytes, MayWrite, PutsAll, PutsOne, PutsOver, Rounds, TellsUnseen, TellsWhy}
+use Rattle.su_person.specs.declared.putting.NewContents.{NewContents}
 use Rattle.su_person.specs.declared.putting.Standing.{Standing}
 use Rattle.su_person.specs.declared.putting.Standing.TheVariants.{Nothing, File}
 use Rattle.su_pieces.specs.CarriedOut.{LeadsTo}
@@ -65,7 +67,7 @@ RoundsNoted seen over path new s olds m now = (k : ℕ) × (ns : List ℕ) × (n
 -- a round more, once it was looked at what stands there, which changes nothing
 pub round_more : (seen : Option ℕ) (over : Bool) (path new olds before now : List ℕ) (commands : List Command) (s m looked t : MemberState)
     → RoundsNoted seen over path new s olds m before → looked ≡ m → MayWrite seen over path looked.holding → PutsOver looked.holding path new commands
-    → (ms : List ℕ) × (now ≡ before ++ ms) × CarriesSome commands looked ms t → RoundsNoted seen over path new s olds t now
+    → (ms : List ℕ) × (now ≡ before ++ ms) × CarriesSome Unwelcome commands looked ms t → RoundsNoted seen over path new s olds t now
 round_more seen over path new olds before now commands s m looked t (k, ns, noted, rounds) same may puts (ms, more, carries) = (
   suc k,
   ns ++ ms,
@@ -85,3 +87,18 @@ pub rounds_still : (seen : Option ℕ) (over : Bool) (path new olds now : List �
     → RoundsNoted seen over path new s olds m now → looked ≡ m → RoundsNoted seen over path new s olds looked now
 rounds_still seen over path new olds now s m looked (k, ns, noted, rounds) same =
     (k, ns, noted, subst (λ (x : MemberState). Rounds seen over path new k s ns x) (sym same) rounds)
+
+-- ---- several files
+
+-- a file more
+pub puts_more : (v : HoldingState) (news : List NewContents) (new : NewContents) (commands next : List Command)
+    → PutsAll v news commands → PutsOne v new next → PutsAll v (news ++ new ∷ []) (commands ++ next)
+puts_more v [] new commands next none puts =
+    (next, [], ap (λ (l : List Command). l ++ next) none ∙ sym (append-nil next), puts, refl)
+puts_more v (first ∷ news) new commands next (front, back, is, puts_first, rest) puts = (
+  front,
+  back ++ next,
+  ap (λ (l : List Command). l ++ next) is ∙ append_assoc front back next,
+  puts_first,
+  puts_more v news new back next rest puts,
+)

@@ -1,20 +1,17 @@
--- A command that is carried out step by step: what holds once a further step is done, or refused.
-use Rattle.std.proofs.Common.{◌≡◌, ◌⊎◌, inl, inr, ℕ, List, [], ◌∷◌, ◌++◌, append_assoc, append-nil, refl, sym, ◌∙◌, ap, subst, Result, Ok, Err}
+-- Commands that are carried out step by step: what holds once a further step is made, or refused.
+use Rattle.std.proofs.Common.{◌≡◌, ◌≤◌, ◌⊎◌, inl, inr, ℕ, zero, suc, List, [], ◌∷◌, ◌++◌, length, take, drop, Option, None, Some, append_assoc, append-nil, refl, sym, ◌∙◌, ap, subst, Result, Ok, Err}
 use Rattle.std.specs.Prelude.{OnErr, OnOk}
+use Rattle.std.proofs.lemmas.List.{take-append-drop}
+use Rattle.su_op.specs.declared.operations.Op.{Op}
+use Rattle.su_op.specs.declared.operations.Change.TheVariants.{Do}
+use Rattle.su_op.specs.Action.{some_batch}
 use Rattle.su_draft.specs.declared.commands.Command.{Command}
-use Rattle.su_client_work.specs.Member.{MemberState, OnlyTakes}
-use Rattle.su_person.specs.declared.steps.Step.TheVariants.{Nothing, Last, First}
+use Rattle.su_view.specs.Holding.{HoldingState}
+use Rattle.su_client_work.specs.Member.{MemberState, OnlyTakes, Stays}
+use Rattle.su_client_work.specs.Publishing.{IsPublished, SignsAtMost}
 use Rattle.su_person.specs.declared.carrying.Others.{Others}
-use Rattle.su_person.specs.Carrying.{Before, CarriedInPart, CarriedOut, Steps, StepsOn, TakesThen, Tries}
-
--- the next step, behind which something is left
-abbrev pub NextStep : Others → Command → ℕ → MemberState → MemberState → Type 0
-NextStep others it n s t = TakesThen others (λ a b. Steps it a (First n) b) s t
-
-steps_more : (others : Others) (it : Command) (ns : List ℕ) (n : ℕ) (s m t : MemberState)
-    → StepsOn others it s ns m → NextStep others it n m t → StepsOn others it s (ns ++ n ∷ []) t
-steps_more others it [] n s m t same next = (t, subst (λ (x : MemberState). NextStep others it n x t) same next, refl)
-steps_more others it (k ∷ ns) n s m t (between, first, rest) next = (between, first, steps_more others it ns n between m t rest next)
+use Rattle.su_person.specs.declared.steps.Step.{Step}
+use Rattle.su_person.specs.Carrying.{Before, CarriedOut, Carries, CarriesSome, CommitsAll, GoesAlong, IsPlanned, IsPlannedStep, IsStepped, Steps, TakesThen, Tries, numbers_of}
 
 pub on_ok : {A E : Type 0} (r : Result A E) (X : Type 0) → X → OnOk r X
 on_ok (Ok a) X x = x
@@ -24,70 +21,149 @@ pub on_err : {A E : Type 0} (r : Result A E) (X : Type 0) → X → OnErr r X
 on_err (Ok a) X x = tt
 on_err (Err e) X x = x
 
--- from s, where these numbers were noted, on: the steps so far, what is done, and what is done in part
-module _ (others : Others) (it : Command) (s : MemberState) (olds : List ℕ) where
+-- ---- a step
+
+-- a batch of operations is these
+batch_is : (ops batch : List Op) → Some batch ≡ some_batch ops → batch ≡ ops
+batch_is [] batch e = absurd (let bad : Some batch ≡ None = e in cc)
+batch_is (op ∷ ops) batch e = let same : Some batch ≡ Some (op ∷ ops) = e in cc
+
+pub committed : (ops batch : List Op) (s t : MemberState) (n : ℕ) → Some batch ≡ some_batch ops → IsPublished (Do batch) s t n → CommitsAll ops s t (Some n)
+committed [] batch s t n e is = absurd (let bad : Some batch ≡ None = e in cc)
+committed (op ∷ ops) batch s t n e is =
+    (n, refl, subst (λ (x : List Op). IsPublished (Do x) s t n) (batch_is (op ∷ ops) batch e) is)
+
+pub uncommitted : (ops : List Op) (s t : MemberState) → None ≡ some_batch ops → Stays s t → CommitsAll ops s t None
+uncommitted [] s t e stays = (stays, refl)
+uncommitted (op ∷ ops) s t e stays = absurd (let bad : None ≡ Some (op ∷ ops) = e in cc)
+
+pub tries_batch : (its : List Command) (done : ℕ) (ops batch : List Op) (s t : MemberState) → Some batch ≡ some_batch ops → IsPlannedStep its s.holding done ops
+    → SignsAtMost s.holding (Do batch) s t → t.holding ≡ s.holding → Tries its s t
+tries_batch its done ops batch s t e planned signs same =
+    inr (done, ops, planned, subst (λ (x : List Op). SignsAtMost s.holding (Do x) s t) (batch_is ops batch e) signs, same)
+
+-- the first operations of a plan are some of its operations
+pub planned_in_part : (its : List Command) (v : HoldingState) (n : ℕ) (ops : List Op) → IsPlanned (take 1 its) v ops → IsPlannedStep its v 0 (take n ops)
+planned_in_part its v n ops is =
+    inr (refl, drop n ops, subst (IsPlanned (take 1 its) v) (sym (take-append-drop n ops)) is)
+
+-- ---- steps one after another
+
+-- steps, and then others
+joined : (others : Others) (k j : ℕ) (its mid left : List Command) (s m t : MemberState) (ns ms : List ℕ)
+    → Carries others k its s mid ns m → Carries others j mid m left ms t → (i : ℕ) × Carries others i its s left (ns ++ ms) t
+joined others k zero its mid left s m t ns ms first (same, none, still) = (
+  k,
+  subst (λ (x : MemberState). Carries others k its s left (ns ++ ms) x) (sym still)
+      (subst (λ (l : List ℕ). Carries others k its s left l m) (sym (ap (λ (l : List ℕ). ns ++ l) none ∙ append-nil ns))
+      (subst (λ (l : List Command). Carries others k its s l ns m) (sym same) first)),
+)
+joined others k (suc j) its mid left s m t ns ms first (mid2, before, between, step, carries, takes, is, more) =
+    let more_ = joined others k j its mid mid2 s m between ns before first carries in (
+      suc more_.0,
+      (
+        mid2,
+        ns ++ before,
+        between,
+        step,
+        more_.1,
+        takes,
+        is,
+        ap (λ (l : List ℕ). ns ++ l) more ∙ sym (append_assoc ns before (numbers_of step.number)),
+      ),
+    )
+
+-- one step
+one_step : (others : Others) (its : List Command) (s t : MemberState) (step : Step) (ns : List ℕ) → ns ≡ numbers_of step.number
+    → TakesThen others (λ a b. Steps its a step b) s t → Carries others 1 its s (drop step.done its) ns t
+one_step others its s t step ns is does = (its, [], s, step, (refl, refl, refl), does, refl, is)
+
+-- ---- the next step, from s on, where these numbers were noted
+
+module _ (others : Others) (its : List Command) (s : MemberState) (olds : List ℕ) where
   abbrev pub Noted : (List ℕ → Type 0) → List ℕ → Type 0
   Noted Done now = (ns : List ℕ) × (now ≡ olds ++ ns) × Done ns
 
-  abbrev pub SoFar : MemberState → List ℕ → Type 0
-  SoFar m now = Noted (λ ns. StepsOn others it s ns m) now
+  abbrev pub SomeNoted : MemberState → List ℕ → Type 0
+  SomeNoted t now = Noted (λ ns. CarriesSome others its s ns t) now
 
-  abbrev pub Part : MemberState → List ℕ → Type 0
-  Part t now = Noted (λ ns. CarriedInPart others it s ns t) now
+  -- no step is made, and the client goes along
+  pub goes_along : (t : MemberState) (now : List ℕ) → now ≡ olds → GoesAlong s t → SomeNoted t now
+  goes_along t now same along =
+      ([], same ∙ sym (append-nil olds), record { steps = 0; left = its; between = s; carries = (refl, refl, refl); ends = inl along })
 
-  abbrev pub Whole : MemberState → List ℕ → Type 0
-  Whole t now = Noted (λ ns. CarriedOut others it s ns t) now
+  -- the step is refused
+  pub refused : (b t : MemberState) (now : List ℕ) → now ≡ olds → Before others s b → Tries its b t → SomeNoted t now
+  refused b t now same before tries = (
+    [],
+    same ∙ sym (append-nil olds),
+    record { steps = 0; left = its; between = s; carries = (refl, refl, refl); ends = inr (record { turn = b; takes = before; does = tries }) },
+  )
 
-  abbrev pub Some_ : MemberState → List ℕ → Type 0
-  Some_ t now = Noted (λ ns. CarriedInPart others it s ns t ⊎ CarriedOut others it s ns t) now
-
-  pub of_part : (t : MemberState) (now : List ℕ) → Part t now → Some_ t now
-  of_part t now (ns, noted, part) = (ns, noted, inl part)
-
-  pub of_whole : (t : MemberState) (now : List ℕ) → Whole t now → Some_ t now
-  of_whole t now (ns, noted, whole) = (ns, noted, inr whole)
-
-  pub stops : (m : MemberState) (before now : List ℕ) → SoFar m before → now ≡ before → Part m now
-  stops m before now (ns, noted, steps) same = (ns, same ∙ noted, record { between = m; steps = steps; ends = inl refl })
-
-  pub stops_taking : (m t : MemberState) (before now : List ℕ) → SoFar m before → now ≡ before → OnlyTakes m t → Part t now
-  stops_taking m t before now (ns, noted, steps) same takes = (ns, same ∙ noted, record { between = m; steps = steps; ends = inr (inl takes) })
-
-  pub stops_trying : (m b t : MemberState) (before now : List ℕ) → SoFar m before → now ≡ before → Before others m b → Tries it b t → Part t now
-  stops_trying m b t before now (ns, noted, steps) same takes tries =
-      (ns, same ∙ noted, record { between = m; steps = steps; ends = inr (inr (record { turn = b; takes = takes; does = tries })) })
-
-  pub ends_none : (m b t : MemberState) (before now : List ℕ) → SoFar m before → now ≡ before → Before others m b → Steps it b Nothing t → Whole t now
-  ends_none m b t before now (ns, noted, steps) same takes does = (
-    ns,
-    same ∙ noted,
+  -- the step is made, and then nothing
+  pub made : (b t : MemberState) (step : Step) (now : List ℕ) → now ≡ olds ++ numbers_of step.number → Before others s b → Steps its b step t → SomeNoted t now
+  made b t step now more before does = (
+    numbers_of step.number,
+    more,
     record {
-      front = ns;
-      last = [];
-      all = sym (append-nil ns);
-      between = m;
-      steps = steps;
-      ends = record { turn = b; takes = takes; does = does };
+      steps = 1;
+      left = drop step.done its;
+      between = t;
+      carries = one_step others its s t step (numbers_of step.number) refl (record { turn = b; takes = before; does = does });
+      ends = inl (t, inl refl, inl refl);
     },
   )
 
-  one_more : (before now : List ℕ) (ns : List ℕ) (n : ℕ) → before ≡ olds ++ ns → now ≡ before ++ n ∷ [] → now ≡ olds ++ (ns ++ n ∷ [])
-  one_more before now ns n noted more = more ∙ ap (λ (l : List ℕ). l ++ n ∷ []) noted ∙ append_assoc olds ns (n ∷ [])
+-- ---- steps so far, from s on, where these numbers were noted
 
-  pub ends_last : (m b t : MemberState) (before now : List ℕ) (n : ℕ) → SoFar m before → now ≡ before ++ n ∷ [] → Before others m b → Steps it b (Last n) t → Whole t now
-  ends_last m b t before now n (ns, noted, steps) more takes does = (
-    ns ++ n ∷ [],
-    one_more before now ns n noted more,
-    record {
-      front = ns;
-      last = n ∷ [];
-      all = refl;
-      between = m;
-      steps = steps;
-      ends = record { turn = b; takes = takes; does = does };
-    },
-  )
+module _ (others : Others) (its : List Command) (s : MemberState) (olds : List ℕ) where
+  abbrev pub SoFar : MemberState → List Command → List ℕ → Type 0
+  SoFar m left now = (k : ℕ) × Noted others its s olds (λ ns. Carries others k its s left ns m) now
 
-  pub goes_on : (m b t : MemberState) (before now : List ℕ) (n : ℕ) → SoFar m before → now ≡ before ++ n ∷ [] → Before others m b → Steps it b (First n) t → SoFar t now
-  goes_on m b t before now n (ns, noted, steps) more takes does =
-      (ns ++ n ∷ [], one_more before now ns n noted more, steps_more others it ns n s m t steps (record { turn = b; takes = takes; does = does }))
+  pub begins : SoFar s its olds
+  begins = (0, [], sym (append-nil olds), (refl, refl, refl))
+
+  more_numbers : (ns ms before now : List ℕ) → before ≡ olds ++ ns → now ≡ before ++ ms → now ≡ olds ++ (ns ++ ms)
+  more_numbers ns ms before now noted more = more ∙ ap (λ (l : List ℕ). l ++ ms) noted ∙ append_assoc olds ns ms
+
+  pub goes_on : (m t : MemberState) (left : List Command) (before now : List ℕ) (step : Step) → SoFar m left before
+      → (ms : List ℕ) × (now ≡ before ++ ms) × IsStepped others left m (Some step) ms t → SoFar t (drop step.done left) now
+  goes_on m t left before now step (k, ns, noted, carries) (ms, more, (is, does)) =
+      let all = joined others k 1 its left (drop step.done left) s m t ns ms carries (one_step others left m t step ms is does) in
+      (all.0, ns ++ ms, more_numbers ns ms before now noted more, all.1)
+
+  -- all are carried out
+  pub all_done : (t : MemberState) (left : List Command) (now : List ℕ) → SoFar t left now → left ≡ [] → Noted others its s olds (λ ns. CarriedOut others its s ns t) now
+  all_done t left now (k, ns, noted, carries) none =
+      (ns, noted, (k, subst (λ (l : List Command). Carries others k its s l ns t) none carries))
+
+  -- it ends there
+  pub stops : (t : MemberState) (left : List Command) (now : List ℕ) → SoFar t left now → SomeNoted others its s olds t now
+  stops t left now (k, ns, noted, carries) =
+      (ns, noted, record { steps = k; left = left; between = t; carries = carries; ends = inl (t, inl refl, inl refl) })
+
+  -- or with what comes next
+  pub stops_behind : (m t : MemberState) (left : List Command) (before now : List ℕ) → SoFar m left before
+      → (ms : List ℕ) × (now ≡ before ++ ms) × CarriesSome others left m ms t → SomeNoted others its s olds t now
+  stops_behind m t left before now (k, ns, noted, carries) (ms, more, some) =
+      let all = joined others k some.steps its left some.left s m some.between ns ms carries some.carries in (
+        ns ++ ms,
+        more_numbers ns ms before now noted more,
+        record { steps = all.0; left = some.left; between = some.between; carries = all.1; ends = some.ends },
+      )
+
+  -- or where others come in between, or another key is used
+  pub stops_along : (m t : MemberState) (left : List Command) (before now : List ℕ) → SoFar m left before
+      → (ms : List ℕ) × (now ≡ before ++ ms) × IsStepped others left m None ms t → SomeNoted others its s olds t now
+  stops_along m t left before now so_far (ms, more, (none, along)) =
+      stops_behind m t left before now so_far (
+        ms,
+        more,
+        record {
+          steps = 0;
+          left = left;
+          between = m;
+          carries = (refl, none, refl);
+          ends = inl along;
+        },
+      )

@@ -1,7 +1,7 @@
 -- A client that does acts, and then stays as it is.
 use Rattle.std.proofs.Common.{◌≡◌, sym, ◌∙◌, subst, ap, length, refl, List, [], ◌∷◌, ◌++◌, append-nil, length-append, arith}
 use Rattle.su_legal.specs.Legal.{Committed}
-use Rattle.su_view.specs.Acting.{Does}
+use Rattle.su_view.specs.Acting.{Does, TakesSome}
 use Rattle.su_view.specs.Holding.{HoldingState, Took}
 use Rattle.su_client_work.specs.Member.{MemberState, OnlyTakes, Stays}
 use Rattle.su_client_work.specs.Work.{LeavesUsed, Works}
@@ -41,3 +41,11 @@ takes_none s t takes same = record {
         let longer : length t.holding.held ≡ length (s.holding.held ++ c ∷ more) = ap (λ (v : HoldingState). length v.held) took.becomes in
         let none_ : ⊥ = omega (arith, length-append s.holding.held (c ∷ more), longer, same) in
         elim none_ [ ]
+
+-- what was taken before stays taken
+pub takes_then_stays : (s m t : MemberState) → OnlyTakes s m → Stays m t → OnlyTakes s t
+takes_then_stays s m t takes stays = record {
+  takes = subst (TakesSome s.holding) (sym stays.holding) takes.takes;
+  signed = stays.signed ∙ takes.signed;
+  next = stays.next ∙ takes.next;
+}

@@ -1,9 +1,10 @@
--- How a command on paths is carried out: commit by commit, each planned anew on the tree as it is then.
-use Rattle.std.specs.Prelude.{◌≡◌, ◌≢◌, ◌⊎◌, ◌++◌, ℕ, Bool, true, false, List, [], ◌∷◌, Ok}
+-- How commands on paths are carried out: commit by commit, each of as many of them as one item has
+-- room for, which are planned on the tree as it is then.
+use Rattle.std.specs.Prelude.{◌≡◌, ◌≤◌, ◌⊎◌, ◌++◌, ℕ, zero, suc, List, [], ◌∷◌, take, drop, length, Option, None, Some, Ok}
 use Rattle.su_op.specs.declared.operations.Op.{Op}
 use Rattle.su_op.specs.declared.operations.Change.TheVariants.{Do}
 use Rattle.su_draft.specs.declared.commands.Command.{Command}
-use Rattle.su_plan.specs.Plan.{plan}
+use Rattle.su_plan.specs.Plan.{plan_all}
 use Rattle.su_view.specs.Holding.{HoldingState, tree_of_list}
 use Rattle.su_client_work.specs.Member.{MemberState, OnlyTakes, Stays}
 use Rattle.su_client_work.specs.Publishing.{IsPublished, SignsAtMost}
@@ -11,107 +12,93 @@ use Rattle.su_person.specs.Moving.{MovesOn}
 use Rattle.su_person.specs.declared.carrying.Others.{Others}
 use Rattle.su_person.specs.declared.carrying.Others.TheVariants.{Welcome, Unwelcome}
 use Rattle.su_person.specs.declared.steps.Step.{Step}
-use Rattle.su_person.specs.declared.steps.Step.TheVariants.{Nothing, Last, First}
 
--- on the tree that is held these operations carry the command out
-abbrev pub IsPlanned : Command → HoldingState → List Op → Type 0
-IsPlanned it v ops = plan v.roster (tree_of_list v) v.user it ≡ Ok ops
+-- ---- a step
 
--- The first operation of the plan, which has others behind it, is committed: number n.
-pub record CommitsFirst (it : Command) (s : MemberState) (others : List Op) (t : MemberState) (n : ℕ)
+-- on the tree that is held these operations carry the commands out, one after another
+abbrev pub IsPlanned : List Command → HoldingState → List Op → Type 0
+IsPlanned its v ops = plan_all v.roster (tree_of_list v) v.user its ≡ Ok ops
+
+-- The operations of a step: all that carry out the first commands, so many of them; or the first ones
+-- of those that carry out the first command, which isn't done then.
+abbrev pub IsPlannedStep : List Command → HoldingState → ℕ → List Op → Type 0
+IsPlannedStep its v done ops = ((1 ≤ done) × IsPlanned (take done its) v ops)
+    ⊎ ((done ≡ 0) × ((later : List Op) × IsPlanned (take 1 its) v (ops ++ later)))
+
+-- one commit is made of these operations, if there are any: its number
+abbrev pub CommitsAll : List Op → MemberState → MemberState → Option ℕ → Type 0
+CommitsAll [] s t number = Stays s t × (number ≡ None)
+CommitsAll (op ∷ ops) s t number =
+    (n : ℕ) × (number ≡ Some n) × IsPublished (Do (op ∷ ops)) s t n
+
+-- A step: of the commands so many are carried out, by one commit at most.
+pub record Steps (its : List Command) (s : MemberState) (step : Step) (t : MemberState)
     : Type 0 where
-  pub first : Op
-  pub planned : IsPlanned it s.holding (first ∷ others)
-  pub published : IsPublished (Do (first ∷ [])) s t n
+  pub few : step.done ≤ length its
+  pub operations : List Op
+  pub planned : IsPlannedStep its s.holding step.done operations
+  pub commits : CommitsAll operations s t step.number
 
--- what a client that has the turn does in a step
-abbrev pub Steps : Command → MemberState → Step → MemberState → Type 0
-Steps it s Nothing t = IsPlanned it s.holding [] × Stays s t
-Steps it s (Last n) t = CommitsFirst it s [] t n
-Steps it s (First n) t = (others : List Op) × (others ≢ []) × CommitsFirst it s others t n
+-- where a step is refused: it signs one commit at most, of the operations of a step, and takes nothing
+abbrev pub Tries : List Command → MemberState → MemberState → Type 0
+Tries its s t = Stays s t
+    ⊎ ((done : ℕ) × (ops : List Op) × IsPlannedStep its s.holding done ops
+    × SignsAtMost s.holding (Do ops) s t × (t.holding ≡ s.holding))
 
--- where a step is refused: it signs at most one commit, of the first operation of the plan, and takes
--- nothing
-abbrev pub Tries : Command → MemberState → MemberState → Type 0
-Tries it s t = Stays s t
-    ⊎ ((first : Op) × (others : List Op) × IsPlanned it s.holding (first ∷ others)
-    × SignsAtMost s.holding (Do (first ∷ [])) s t × (t.holding ≡ s.holding))
+-- ---- what comes before a step
 
--- what may come before a step: commits of others, or none
+-- the client goes on to another key, or does nothing; and then it takes commits, or does nothing
+abbrev pub GoesAlong : MemberState → MemberState → Type 0
+GoesAlong s t = (moved : MemberState) × MovesOn s moved × ((t ≡ moved) ⊎ OnlyTakes moved t)
+
+-- that comes, or nothing where it is unwelcome
 abbrev pub Before : Others → MemberState → MemberState → Type 0
-Before Welcome = OnlyTakes
+Before Welcome = GoesAlong
 Before Unwelcome = Stays
 
--- the client takes what may come before, and then this holds of what it has and what it has
--- afterwards
+-- that comes, and then this holds of what the client has and what it has afterwards
 pub record TakesThen (others : Others) (Then : MemberState → MemberState → Type 0)
     (s t : MemberState) : Type 0 where
   pub turn : MemberState
   pub takes : Before others s turn
   pub does : Then turn t
 
--- Steps of the command, one after another, each but the last of a plan with further operations: the
--- numbers of their commits.
-abbrev pub StepsOn : Others → Command → MemberState → List ℕ → MemberState → Type 0
-StepsOn others it s [] t = t ≡ s
-StepsOn others it s (n ∷ ns) t =
-    (between : MemberState) × TakesThen others (λ a b. Steps it a (First n) b) s between
-    × StepsOn others it between ns t
+-- ---- steps one after another
 
--- the last step, behind which nothing is left of the command
-abbrev pub StepsOff : Others → Command → MemberState → List ℕ → MemberState → Type 0
-StepsOff others it s [] t = TakesThen others (λ a b. Steps it a Nothing b) s t
-StepsOff others it s (n ∷ []) t = TakesThen others (λ a b. Steps it a (Last n) b) s t
-StepsOff others it s (n ∷ m ∷ ns) t = ⊥
+-- the number of a commit, if one was made
+abbrev pub numbers_of : Option ℕ → List ℕ
+numbers_of None = []
+numbers_of (Some n) = n ∷ []
 
--- The command is carried out by the commits of these numbers.
-pub record CarriedOut (others : Others) (it : Command) (s : MemberState) (ns : List ℕ)
+-- so many steps of commands, one after another: which commands are left then, and the numbers of the
+-- commits
+abbrev pub Carries
+    : Others → ℕ → List Command → MemberState → List Command → List ℕ → MemberState → Type 0
+Carries others zero its s left ns t = (left ≡ its) × (ns ≡ []) × (t ≡ s)
+Carries others (suc k) its s left ns t =
+    (mid : List Command) × (before : List ℕ) × (between : MemberState) × (step : Step)
+    × Carries others k its s mid before between
+    × TakesThen others (λ a b. Steps mid a step b) between t
+    × (left ≡ drop step.done mid) × (ns ≡ before ++ numbers_of step.number)
+
+-- the commands are carried out by the commits of these numbers
+abbrev pub CarriedOut
+    : Others → List Command → MemberState → List ℕ → MemberState → Type 0
+CarriedOut others its s ns t = (k : ℕ) × Carries others k its s [] ns t
+
+-- The first of the commands are carried out by the commits of these numbers. Then the next step is
+-- refused; or none is made, and the client goes on to another key, takes commits, or does nothing.
+pub record CarriesSome (others : Others) (its : List Command) (s : MemberState) (ns : List ℕ)
     (t : MemberState) : Type 0 where
-  pub front : List ℕ
-  pub last : List ℕ
-  pub all : ns ≡ front ++ last
-  pub between : MemberState
-  pub steps : StepsOn others it s front between
-  pub ends : StepsOff others it between last t
-
--- It is carried out in part: by the commits of these numbers, behind which the next step was refused,
--- or the client took commits and made none, or nothing was done.
-pub record CarriedInPart (others : Others) (it : Command) (s : MemberState) (ns : List ℕ)
-    (t : MemberState) : Type 0 where
-  pub between : MemberState
-  pub steps : StepsOn others it s ns between
-  pub ends : (t ≡ between) ⊎ (OnlyTakes between t ⊎ TakesThen others (Tries it) between t)
-
--- it is carried out, or in part
-abbrev pub IsCarriedSo : Bool → Others → Command → MemberState → List ℕ → MemberState → Type 0
-IsCarriedSo true others it s ns t = CarriedOut others it s ns t
-IsCarriedSo false others it s ns t = CarriedInPart others it s ns t
-
--- ---- commands one after another, between which no commit of others comes
-
--- each is carried out
-abbrev pub AllCarriedOut : List Command → MemberState → List ℕ → MemberState → Type 0
-AllCarriedOut [] s ns t = (ns ≡ []) × (t ≡ s)
-AllCarriedOut (it ∷ its) s ns t =
-    (between : MemberState) × (front last : List ℕ) × (ns ≡ front ++ last)
-    × CarriedOut Unwelcome it s front between × AllCarriedOut its between last t
-
--- the next of them is carried out in part; or the client goes on to another key before it; or none
--- is left
-abbrev pub EndsBefore : List Command → MemberState → List ℕ → MemberState → Type 0
-EndsBefore [] s ns t = (ns ≡ []) × (t ≡ s)
-EndsBefore (it ∷ its) s ns t =
-    CarriedInPart Unwelcome it s ns t ⊎ ((ns ≡ []) × MovesOn s t)
-
--- The first of these commands are carried out, and then it ends, by the commits of these numbers.
-pub record CarriesSome (its : List Command) (s : MemberState) (ns : List ℕ) (t : MemberState)
-    : Type 0 where
-  pub done : List Command
+  pub steps : ℕ
   pub left : List Command
-  pub all : its ≡ done ++ left
-  pub front : List ℕ
-  pub last : List ℕ
-  pub numbers : ns ≡ front ++ last
   pub between : MemberState
-  pub carried : AllCarriedOut done s front between
-  pub ends : EndsBefore left between last t
+  pub carries : Carries others steps its s left ns between
+  pub ends : GoesAlong between t ⊎ TakesThen others (Tries left) between t
+
+-- a step was made, by the commit of this number; or none, as others came or another key is used
+abbrev pub IsStepped
+    : Others → List Command → MemberState → Option Step → List ℕ → MemberState → Type 0
+IsStepped others its s (Some step) ns t =
+    (ns ≡ numbers_of step.number) × TakesThen others (λ a b. Steps its a step b) s t
+IsStepped others its s None ns t = (ns ≡ []) × GoesAlong s t

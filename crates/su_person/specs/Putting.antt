@@ -13,8 +13,10 @@ use Rattle.su_view.specs.Holding.{HoldingState, tree_of_list}
 use Rattle.su_client_work.specs.Member.{MemberState}
 use Rattle.su_person.specs.Carrying.{CarriesSome}
 use Rattle.su_person.specs.LastChange.{last_change}
+use Rattle.su_person.specs.declared.carrying.Others.TheVariants.{Unwelcome}
 use Rattle.su_person.specs.declared.faults.Fault.{Fault}
 use Rattle.su_person.specs.declared.faults.Fault.TheVariants.{Changed}
+use Rattle.su_person.specs.declared.putting.NewContents.{NewContents}
 use Rattle.su_person.specs.declared.putting.Standing.{Standing}
 use Rattle.su_person.specs.declared.putting.Standing.TheVariants.{Nothing, File}
 
@@ -59,7 +61,7 @@ pub record Round (seen : Option ℕ) (over : Bool) (path new : List ℕ) (s : Me
   pub may : MayWrite seen over path s.holding
   pub commands : List Command
   pub puts : PutsOver s.holding path new commands
-  pub carries : CarriesSome commands s ns t
+  pub carries : CarriesSome Unwelcome commands s ns t
 
 -- so many rounds, one after another
 abbrev pub Rounds : Option ℕ → Bool → List ℕ → List ℕ → ℕ → MemberState → List ℕ → MemberState
@@ -68,6 +70,29 @@ Rounds seen over path new zero s ns t = (ns ≡ []) × (t ≡ s)
 Rounds seen over path new (suc k) s ns t =
     (between : MemberState) × (front last : List ℕ) × (ns ≡ front ++ last)
     × Rounds seen over path new k s front between × Round seen over path new between last t
+
+-- the commands put the new contents of a file at its path, where the user may write, by what the
+-- client holds; or there are none
+abbrev pub PutsOne : HoldingState → NewContents → List Command → Type 0
+PutsOne v new commands = (commands ≡ [])
+    ⊎ (MayWrite new.seen new.over new.path.now v × PutsOver v new.path.now new.bytes.now commands)
+
+-- they do so file after file
+abbrev pub PutsAll : HoldingState → List NewContents → List Command → Type 0
+PutsAll v [] commands = commands ≡ []
+PutsAll v (new ∷ news) commands =
+    (front back : List Command) × (commands ≡ front ++ back)
+    × PutsOne v new front × PutsAll v news back
+
+-- A round of a put of several files: of some commands, and behind them those that put each file by
+-- what the client holds, the first are carried out by the commits of these numbers, while no others
+-- come; or none are.
+pub record RoundTogether (its : List Command) (news : List NewContents) (s : MemberState)
+    (ns : List ℕ) (t : MemberState) : Type 0 where
+  pub commands : List Command
+  pub puts : (commands ≡ []) ⊎ ((more : List Command) × (commands ≡ its ++ more)
+      × PutsAll s.holding news more)
+  pub carries : CarriesSome Unwelcome commands s ns t
 
 -- ---- refusals
 

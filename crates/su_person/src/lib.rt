@@ -1,5 +1,5 @@
-//! What a person does with a folder of a store, over a client at work: commands that are planned
-//! anew for each of their commits, contents that are put at a path, and operations that are taken
+//! What a person does with a folder of a store, over a client at work: commands that are committed
+//! together as far as an item has room, and planned anew for each commit, contents that are put at a path, and operations that are taken
 //! back.
 #![tactic(auto)]
 
@@ -17,5 +17,5 @@ pub use changes::last_change;
 pub use faults::Fault;
 pub use keys::move_on;
 pub use persons::Person;
-pub use putting::{NewContents, put};
+pub use putting::{NewContents, put, put_together};
 pub use undoing::undo;

@@ -2,19 +2,17 @@
 ghost use Rattle.std.specs.Prelude.{◌≡◌, ◌<◌, ◌≤◌, ◌⊎◌, ◌++◌, ◌↔◌, ℕ, List, true, Err, length, IfErr, IfOk, IsTrue, OnOk};
 ghost use Rattle.su_bytes.specs.declared.formats.TheConstants.{NEWEST_FORMAT};
 ghost use Rattle.su_bytes.specs.declared.refusals.Refusal.TheVariants.{TooBig};
+ghost use Rattle.su_draft.specs.declared.commands.Command.{Command as Command_};
 ghost use Rattle.su_op.specs.Limits.{largest_file};
 ghost use Rattle.su_view.specs.declared.refusals.ViewRefusal.TheVariants.{Plain};
 ghost use Rattle.su_client_work.specs.Work.{Works};
-ghost use Rattle.su_person.specs.Carrying.{CarriesSome};
-ghost use Rattle.su_person.specs.Fault.{TellsNoChange};
 ghost use Rattle.su_person.specs.LastChange.{last_change};
-ghost use Rattle.su_person.specs.Putting.{HasBytes, HasThere, IsFileWith, IsStanding, KnowsBytes, MayWrite, PutsOver, Rounds, TellsUnseen, TellsWhy};
+ghost use Rattle.su_person.specs.Putting.{HasBytes, HasThere, IsFileWith, IsStanding, KnowsBytes, MayWrite, PutsAll, PutsOne, PutsOver, Rounds, RoundTogether, TellsUnseen, TellsWhy};
 ghost use Rattle.su_person.specs.declared.faults.Fault.TheVariants.{Refused};
 
 use crate::carrying::{Others, carry, kept};
 use crate::changes::last_change;
 use crate::faults::Fault;
-use crate::keys::move_on;
 use crate::persons::Person;
 use std::alloc::Global;
 use std::io::{Read, Write};
@@ -91,9 +89,101 @@ where
             return kept(person, member);
         }
         let commands = commands_for(alloc, member, new, &standing)?;
-        write_all(alloc, person, member, &commands, numbers)?;
+        carry(
+            person,
+            member,
+            commands.as_slice(),
+            Others::Unwelcome,
+            numbers,
+        )?;
     }
     Err(Fault::from(Refusal::Busy(ANY_SEAT)))
+}
+
+/// Carries out commands, and behind them puts new contents at several paths, in as few commits as their
+/// items have room for, and appends the numbers of the commits to `numbers`. What stands at the paths is
+/// looked at once, before: where others commit something in between, or the client goes on to another
+/// key, it ends there. So `put` of each is to follow, which finds what came of it. The refusals are
+/// those of `put`, by the first of the paths that meets one, before anything is committed; and then
+/// those of `carry_out`.
+pub fn put_together<P, R, W, K>(
+    person: &mut P,
+    alloc: Global,
+    member: &mut Member<R, W, K>,
+    first: Vec<Command>,
+    files: &[NewContents<'_>],
+    numbers: &mut Vec<u64>,
+) -> Result<(), Fault>
+where
+    P: Person<R, W, K>,
+    R: Read + Drop,
+    W: Write + Drop,
+    K: KeyStore + Drop,
+    ensures works { Works member.old member.new }
+    // It commits nothing else than these commands, and those of puts, each where the author may write
+    // by what the client holds before.
+    ensures round { (ns : List ℕ) × (numbers.new.items ≡ numbers.old.items ++ ns)
+        × RoundTogether first.items files.now member.old ns member.new }
+{
+    let commands = commands_for_all(alloc, member, first, files)?;
+    carry(
+        person,
+        member,
+        commands.as_slice(),
+        Others::Unwelcome,
+        numbers,
+    )?;
+    Ok(())
+}
+
+/// Returns commands, and behind them those that put new contents at several paths, one file after
+/// another, where they aren't there yet. Refused as `put` is.
+fn commands_for_all<R, W, K>(
+    alloc: Global,
+    member: &mut Member<R, W, K>,
+    first: Vec<Command>,
+    files: &[NewContents<'_>],
+) -> Result<Vec<Command>, Fault>
+where
+    R: Read + Drop,
+    W: Write + Drop,
+    K: KeyStore + Drop,
+    ensures same { member.new ≡ member.old }
+    ensures puts { IfOk result (λ commands. (more : List Command_)
+        × (commands.items ≡ first.items ++ more)
+        × PutsAll member.old.holding files.now more) }
+{
+    let mut commands = first;
+    for new in files {
+        let mut next = commands_if_lacking(alloc, member, new)?;
+        commands.append(&mut next)?;
+    }
+    Ok(commands)
+}
+
+/// Returns the commands that put new contents at a path; none where they are there. Refused as `put`
+/// is.
+fn commands_if_lacking<R, W, K>(
+    alloc: Global,
+    member: &mut Member<R, W, K>,
+    new: &NewContents<'_>,
+) -> Result<Vec<Command>, Fault>
+where
+    R: Read + Drop,
+    W: Write + Drop,
+    K: KeyStore + Drop,
+    ensures same { member.new ≡ member.old }
+    ensures puts { IfOk result (λ commands.
+        PutsOne member.old.holding new.now commands.items) }
+{
+    if is_too_big(new.bytes) {
+        return Err(Fault::from(Refusal::TooBig));
+    }
+    let standing = standing_at(member, new.path)?;
+    if standing.has(new.bytes) {
+        return Ok(Vec::new(alloc));
+    }
+    commands_for(alloc, member, new, &standing)
 }
 
 /// Tells whether so many bytes are more than a file can have.
@@ -206,34 +296,4 @@ fn check_seen(
         return Ok(());
     }
     Err(Fault::Changed { number, author })
-}
-
-/// Carries out commands one after another, up to where the client goes on to another key, or others
-/// committed something in between. The refusals of `carry_out`.
-fn write_all<P, R, W, K>(
-    alloc: Global,
-    person: &mut P,
-    member: &mut Member<R, W, K>,
-    commands: &[Command],
-    numbers: &mut Vec<u64>,
-) -> Result<(), Fault>
-where
-    P: Person<R, W, K>,
-    R: Read + Drop,
-    W: Write + Drop,
-    K: KeyStore + Drop,
-    ensures works { Works member.old member.new }
-    ensures carries { (ns : List ℕ) × (numbers.new.items ≡ numbers.old.items ++ ns)
-        × CarriesSome commands.now member.old ns member.new }
-    ensures faults { IfErr result TellsNoChange }
-{
-    for command in commands {
-        if move_on(person, member) {
-            return Ok(());
-        }
-        if !carry(alloc, person, member, command, Others::Unwelcome, numbers)? {
-            return Ok(());
-        }
-    }
-    Ok(())
 }

@@ -10,7 +10,7 @@ ghost use Rattle.su_table.specs.Query.{contents, contents_within, listing};
 ghost use Rattle.su_desk.specs.History.{live_numbers};
 ghost use Rattle.su_op.specs.Batch.{first_refusal};
 ghost use Rattle.su_draft.specs.Walk.{found};
-ghost use Rattle.su_plan.specs.Plan.{plan};
+ghost use Rattle.su_plan.specs.Plan.{plan, plan_all};
 ghost use Rattle.su_desk.specs.Version.{versions};
 ghost use Rattle.su_lms.specs.PrivateKey.{key_of, leaf_count};
 ghost use Rattle.su_change.specs.Item.{item_bytes};
@@ -497,6 +497,20 @@ impl<S: BlockSource + Drop> View<S> {
         ensures same { self.new ≡ self.old }
     {
         self.holding.plan(command)
+    }
+
+    /// Plans commands of the view's user one after another, as one: returns operations that carry
+    /// them out, each command planned on the tree that the operations before it leave. Each is
+    /// accepted in the newest format after those before it, where no other commit comes between. The
+    /// refusals are those of `su_plan::plan_all`.
+    pub fn plan_all(&mut self, commands: &[Command]) -> Result<Vec<Op>, Refusal>
+        ensures planned { let v = self.old.holding in IfOk result (λ operations.
+            plan_all v.roster (tree_of_list v) v.user commands.now ≡ Ok operations.items) }
+        ensures refused { let v = self.old.holding in IfErr result (λ e. (e ≡ NoMemory)
+            ⊎ (plan_all v.roster (tree_of_list v) v.user commands.now ≡ Err e)) }
+        ensures same { self.new ≡ self.old }
+    {
+        self.holding.plan_all(commands)
     }
 
     /// Finds the file that a path leads to. The refusals are those of `su_plan::find`.

@@ -7,7 +7,7 @@ ghost use Rattle.su_op.specs.Batch.{first_refusal};
 ghost use Rattle.su_desk.specs.Version.{versions};
 ghost use Rattle.su_version.specs.Commit.{commit_bytes};
 ghost use Rattle.su_draft.specs.Walk.{found};
-ghost use Rattle.su_plan.specs.Plan.{plan};
+ghost use Rattle.su_plan.specs.Plan.{plan, plan_all};
 ghost use Rattle.su_legal.specs.Legal.{head_of, history, Legal};
 ghost use Rattle.su_table.specs.Query.{contents, contents_within, listing};
 ghost use Rattle.su_view.specs.Holding.{tree_of_list};
@@ -19,7 +19,7 @@ use crate::stats::{Stat, stat_in};
 use su_bytes::{Digest, FileId, Name, Principal, Refusal, Roster, User};
 use su_desk::KeptEntry;
 use su_op::Op;
-use su_plan::{Command, find, plan};
+use su_plan::{Command, find, plan, plan_all};
 
 impl Holding {
     /// Lends who belongs to the store.
@@ -173,6 +173,24 @@ impl Holding {
             &mut self.keeping.desk,
             self.keeping.user,
             command,
+        )
+    }
+
+    /// Plans commands of the client's user as one, as `su_plan::plan_all` does.
+    pub fn plan_all(&mut self, commands: &[Command]) -> Result<Vec<Op>, Refusal>
+        ensures planned { IfOk result (λ operations.
+            plan_all self.old.roster (tree_of_list self.old) self.old.user commands.now
+            ≡ Ok operations.items) }
+        ensures refused { IfErr result (λ e. (e ≡ NoMemory)
+            ⊎ (plan_all self.old.roster (tree_of_list self.old) self.old.user commands.now
+            ≡ Err e)) }
+        ensures same { self.new ≡ self.old }
+    {
+        plan_all(
+            self.alloc,
+            &mut self.keeping.desk,
+            self.keeping.user,
+            commands,
         )
     }
 
