@@ -3,5 +3,6 @@ pub mod KindLemmas
 pub mod Operations
 pub mod Batches
 pub mod Items
+pub mod Fillings
 pub mod Public
 mod Examples

@@ -10,3 +10,4 @@ pub mod Operation
 pub mod Batch
 pub mod Rekey
 pub mod Item
+pub mod Filling

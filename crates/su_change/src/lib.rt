@@ -6,6 +6,7 @@ mod create;
 mod decoder;
 mod drop_body;
 mod encoder;
+mod filling;
 mod laws;
 mod name_at;
 mod operation;
@@ -17,5 +18,6 @@ mod write;
 
 pub use decoder::decode;
 pub use encoder::{digest, encode};
+pub use filling::longest_head;
 pub use laws::no_item_begins_another;
 pub use name_at::NameAt;
