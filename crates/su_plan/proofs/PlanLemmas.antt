@@ -1,5 +1,5 @@
 -- Plans of several commands, command by command.
-use Rattle.std.proofs.Common.{◌≡◌, ◌∙◌, ℕ, List, [], ◌∷◌, ◌++◌, Result, Ok, Err, refl, ap, sym, append_assoc, append-nil}
+use Rattle.std.proofs.Common.{◌≡◌, ◌∙◌, ℕ, List, [], ◌∷◌, ◌++◌, Result, Ok, Err, refl, ap, sym, append_assoc}
 use Rattle.su_bytes.specs.Membership.{Membership}
 use Rattle.su_bytes.specs.declared.formats.TheConstants.{NEWEST_FORMAT}
 use Rattle.su_bytes.specs.declared.refusals.Refusal.{Refusal}
@@ -24,9 +24,3 @@ pub first_planned : (ro : Membership) (T : Tree) (a : ℕ) (command : Command) (
 first_planned ro T a command commands xs ops is =
     ap (λ r. and_behind xs (r >>= λ os. and_behind os (plan_all ro (effect ro T (action_by a NEWEST_FORMAT os)) a commands))) is
     ∙ both_before xs ops (plan_all ro (effect ro T (action_by a NEWEST_FORMAT ops)) a commands)
-
--- it has no plan
-pub first_refused : (ro : Membership) (T : Tree) (a : ℕ) (command : Command) (commands : List Command) (xs : List Op) (e : Refusal) → plan ro T a command ≡ Err e
-    → and_behind xs (plan_all ro T a (command ∷ commands)) ≡ Err e
-first_refused ro T a command commands xs e is =
-    ap (λ r. and_behind xs (r >>= λ os. and_behind os (plan_all ro (effect ro T (action_by a NEWEST_FORMAT os)) a commands))) is

@@ -1,16 +1,17 @@
-use Rattle.std.proofs.Common.{◌≡◌, ◌∙◌, ◌+◌, ◌⊎◌, ⊎_elim, inl, inr, ◌++◌, ◌∷◌, [], take, drop, suc, Ok, Err, refl, sym, ap, add-one, append-nil}
+use Rattle.std.proofs.Common.{◌≡◌, ◌∙◌, ◌+◌, ◌++◌, ◌∷◌, drop, suc, Ok, refl, sym, ap, add-one}
 use Rattle.std.proofs.Math.Seq.{drop-cons}
-use Rattle.su_bytes.specs.declared.refusals.Refusal.TheVariants.{NoMemory}
 use Rattle.su_op.specs.Batch.{action_by, effect}
 use Rattle.su_bytes.specs.declared.formats.TheConstants.{NEWEST_FORMAT}
 use Rattle.su_desk.specs.Desk.{DeskState}
 use Rattle.su_desk.specs.Trial.{tree_with_ready}
 use Rattle.su_plan.specs.Plan.{and_behind, plan, plan_all}
-use Rattle.su_plan.proofs.PlanLemmas.{none_before, first_planned, first_refused}
+use Rattle.su_plan.proofs.PlanLemmas.{none_before, first_planned}
 use Rattle.su_plan.proofs.plans.plan_on.Goals as goal
 
 pub loop-command-init : goal.loop-command-init
-loop-command-init c = record { settled = refl; planned = none_before _ }
+loop-command-init c =
+    let r = plan_all c.args.desk.now.settled.roster (tree_with_ready c.args.desk.now) c.args.user c.args.commands.now in
+    record { settled = refl; planned = none_before r ∙ ap (λ ops. and_behind ops r) (sym c.new-planned.ensures.items) }
 
 pub loop-command-preserved : goal.loop-command-preserved
 loop-command-preserved c =
@@ -18,7 +19,7 @@ loop-command-preserved c =
     let all = c.args.commands.now in
     let it = c.command-item.result in
     let r = c.in_ok-next.ensures in
-    let ops = c.in_ok-next.field-0.items in
+    let ops = c.in_ok-next.next.items in
     let ro = c.args.desk.now.settled.roster in
     let T = tree_with_ready l.desk in
     let a = c.args.user in
