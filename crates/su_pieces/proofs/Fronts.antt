@@ -13,8 +13,8 @@ use Rattle.su_pieces.proofs.PieceLemmas.{differs_past}
 -- ---- one piece
 
 -- from a block that differs up to the end of its run
-pub piece_is : (old new : List ℕ) (first end : ℕ) → 4096 * first < length new → first < end → end ≤ first + 16 → end ≤ block_count (length new)
-    → ((n : ℕ) → first ≤ n → n < end → differs old new n ≡ true) → (end ≡ first + 16) ⊎ (differs old new end ≡ false)
+pub piece_is : (old new : List ℕ) (first end : ℕ) → 4096 * first < length new → first < end → end ≤ first + 4 → end ≤ block_count (length new)
+    → ((n : ℕ) → first ≤ n → n < end → differs old new n ≡ true) → (end ≡ first + 4) ⊎ (differs old new end ≡ false)
     → (p : Piece) → p.off ≡ 4096 * first → p.len ≡ min (length new) (4096 * end) - 4096 * first → IsPiece old new p
 piece_is old new first end there above few inside differ longest p off_is len_is = record {
   some = omega arith;
@@ -26,8 +26,8 @@ piece_is old new first end there above few inside differ longest p off_is len_is
   longest = ⊎_elim (λ e. inr (λ n at. differs_past old new n (omega arith))) (λ e. whole e longest) (cases_lt (length new) (4096 * end));
 }
   where
-    whole : 4096 * end ≤ length new → (end ≡ first + 16) ⊎ (differs old new end ≡ false)
-        → (p.len ≡ 65536) ⊎ ((n : ℕ) → p.off + p.len ≡ 4096 * n → differs old new n ≡ false)
+    whole : 4096 * end ≤ length new → (end ≡ first + 4) ⊎ (differs old new end ≡ false)
+        → (p.len ≡ 16384) ⊎ ((n : ℕ) → p.off + p.len ≡ 4096 * n → differs old new n ≡ false)
     whole le (inl e) = inl (omega arith)
     whole le (inr same) = inr (λ n at. let e : n ≡ end = omega arith in ap (differs old new) e ∙ same)
 

@@ -6,7 +6,7 @@ use Rattle.su_node.specs.declared.blocks.TheConstants.{BLOCK_SIZE}
 use Rattle.su_node.specs.Field.{block}
 use Rattle.su_node.specs.Inode.{within}
 use Rattle.su_node.specs.InodeChange.{with_size, with_bytes_at}
-use Rattle.su_op.specs.Limits.{largest_write}
+use Rattle.su_pieces.specs.declared.blocks.TheConstants.{MOST_BLOCKS}
 use Rattle.su_pieces.specs.declared.pieces.Piece.{Piece}
 
 -- ---- which blocks differ
@@ -27,16 +27,20 @@ HasByte i p = (p.off ≤ i) × (i < p.off + p.len)
 
 -- ---- which pieces there are
 
+-- bytes of one piece
+abbrev pub largest_piece : ℕ
+largest_piece = BLOCK_SIZE * MOST_BLOCKS
+
 -- A run of whole blocks of the new contents, of which the last one may be short: all of them
--- differ, and the one behind them does only where they have as many bytes as a write can have.
+-- differ, and the one behind them does only where they have as many bytes as a piece can have.
 pub record IsPiece (old new : List ℕ) (p : Piece) : Type 0 where
   pub some : 1 ≤ p.len
-  pub most : p.len ≤ largest_write
+  pub most : p.len ≤ largest_piece
   pub inside : p.off + p.len ≤ length new
   pub begins : p.off % BLOCK_SIZE ≡ 0
   pub ends : ((p.off + p.len) % BLOCK_SIZE ≡ 0) ⊎ (p.off + p.len ≡ length new)
   pub differ : (n : ℕ) → HasBlock n p → differs old new n ≡ true
-  pub longest : (p.len ≡ largest_write)
+  pub longest : (p.len ≡ largest_piece)
       ⊎ ((n : ℕ) → p.off + p.len ≡ BLOCK_SIZE * n → differs old new n ≡ false)
 
 -- The pieces of new contents that are written over old ones: they ascend, none overlaps another,

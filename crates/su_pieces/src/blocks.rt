@@ -7,8 +7,9 @@ ghost use Rattle.su_pieces.specs.Piece.{differs};
 use su_node::BLOCK_SIZE;
 use su_op::LARGEST_WRITE;
 
-/// The most blocks of one write.
-const MOST_BLOCKS: usize = LARGEST_WRITE / BLOCK_SIZE;
+/// The most blocks of one write: a quarter of those that one may have, so that an item has room for
+/// several, and its last one is filled.
+const MOST_BLOCKS: usize = LARGEST_WRITE / BLOCK_SIZE / 4;
 
 /// Returns those bytes of a range that are there.
 pub(crate) fn within(bytes: &[u8], off: usize, len: usize) -> &[u8]

@@ -11,4 +11,4 @@ returns-clause-longest c =
     let most = c.min-most.ensures in
     let all = c.block_count.ensures in
     ⊎_elim (λ lt. inr (differs_past c.args.old.now c.args.new.now c.min-most.result (omega (arith, most, all)))) (λ ge. inl (omega (arith, most, all)))
-    (cases_lt c.block_count.result (c.args.first + 16))
+    (cases_lt c.block_count.result (c.args.first + 4))
