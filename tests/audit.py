@@ -178,7 +178,7 @@ def extremes(room):
 
 def by_chance(room):
     """Lines of the second desk's dice: those that are accepted make a log, and some that aren't come at the end of one. Some logs are
-    of the first format to their end, and some to their middle."""
+    of the first format to their end, and some to their middle; the others are of the newest, or reach it at their middle."""
     refused = {}
     for seed in range(CHANCE_LOGS):
         users = 1 + seed % 3
@@ -186,7 +186,7 @@ def by_chance(room):
         dice = SigningDice(f"audit {seed}", maker.desk)
         maker.ring = {key.public(): key for key in next_keys()}
         for n in range(CHANCE_LINES):
-            maker.desk.form = 1 if seed % 4 == 1 or seed % 4 == 2 and n < CHANCE_LINES // 2 else desk_model.NEWEST
+            maker.desk.form = form_of(seed, n)
             line = dice.line()
             if line[0].isdigit() and is_spelled(*maker.read(line), users):
                 say(maker, line, refused)
@@ -194,6 +194,12 @@ def by_chance(room):
     for number, (line, publics, log, place, why) in refused.items():
         yield f"chance_refused_{number}: {line}", is_so(room, publics, log, (place, f"39 Change {why}"))
     yield f"chance_meets_most_refusals: {sorted(refused)}", len(refused) >= 10
+
+
+def form_of(seed, n):
+    """In which format the log of a seed has the commit of line n."""
+    is_begun = n < CHANCE_LINES // 2
+    return (desk_model.NEWEST, 1, 1 if is_begun else desk_model.NEWEST, desk_model.FIRST_FORMAT if is_begun else desk_model.NEWEST)[seed % 4]
 
 
 class SigningDice(desk_model.Dice):
@@ -243,15 +249,15 @@ class Next:
     """A list of four commits by users 0 and 1 of three, and the commit of a change that comes next: it carries group 0."""
 
     FIRST = "0 create G0:1 a G0:2 2; 0 write G0:2 0 41; 1 take G0:1 1; 1 create G0:1 b U1:2"
-    CHANGE = "1 create G0:1 c G0:3 3"
 
-    def __init__(self):
+    def __init__(self, line="1 create G0:1 c G0:3 3", form=desk_model.FIRST_FORMAT):
         self.before = script(logs.Maker([logs.key_of(n, width=4) for n in range(3)]), self.FIRST)
+        self.before.desk.form, self.line = form, line
 
-    def of(self, line=CHANGE):
-        """A maker of its own, and the version structure and the item of the change of a line."""
+    def of(self):
+        """A maker of its own, and the version structure and the item of the change of the line."""
         maker = self.before.copy()
-        user, change = maker.read(line)
+        user, change = maker.read(self.line)
         return maker, maker.version(user, change), logs.item_of(change)
 
     def log(self, maker, version, item, **how):
@@ -311,8 +317,7 @@ def other_item(maker, version, item, how):
 def carried(*groups):
     """Another list of carried groups, each with its i-handle after the change, and the vector that goes with it."""
     def make(maker, version, item, how):
-        user, change = maker.read(Next.CHANGE)
-        maker.desk.history.append((user, maker.desk.form, change))
+        maker.desk.history.append((version.author, version.form, audit_model.change_in(item)))
         handles = logs.Handles(maker.desk)
         maker.desk.history.pop()
         version.groups = [(group, handles.of("G", group)) for group in groups]
@@ -372,7 +377,7 @@ UNFIT = {
 WRITE, TAKE = "0502" + "010000000002" + "00000000", "0507" + "010000000001"
 LINK = "0504" + "010000000001"
 NO_ITEMS = {
-    "00": 0, "06": 0, "05": 1, "050a": 1, "05ff": 1, "0509": 2, "0509" + "00" * 55: 2, "0509" + "00" * 57: 58, "0508": 2, "0508000000": 2, "050800000000": 2, "0508000f4241": 2, "05080000000100": 6,
+    "00": 0, "06": 0, "05": 1, "050b": 1, "05ff": 1, "0509": 2, "0509" + "00" * 55: 2, "0509" + "00" * 57: 58, "0508": 2, "0508000000": 2, "050800000000": 2, "0508000f4241": 2, "05080000000100": 6,
     "0500" + "00" * 7: 2, "0500" + "00" * 9: 10, "0503": 2,
     "0507" + "020000000001": 2, "0507" + "004000000001": 2, "0507" + "011000000001": 2, "0507" + "010000000000": 2,
     "0507" + "0100000f4241": 2, "0507" + "0100000000": 2, TAKE + "00000000": 8, TAKE + "000f4241": 8, TAKE + "000000": 8,
@@ -427,7 +432,7 @@ def spellings(room, next_):
         yield f"commit_of_{length}", refused(commit[:length], f"1 Malformed {place}")
     yield "commit_of_a_byte_more", refused(commit + b"\0", f"1 Malformed {len(commit)}")
     for name, at, part in (
-            ("later_format", 0, b"SV04"), ("no_format", 0, b"SV00"), ("author_out_of_range", 4, b"\x40"), ("group_out_of_range", 102, b"\x10"),
+            ("later_format", 0, b"SV05"), ("no_format", 0, b"SV00"), ("author_out_of_range", 4, b"\x40"), ("group_out_of_range", 102, b"\x10"),
             ("one_number", 135, b"\1"), ("too_many_numbers", 135, b"\x51"), ("no_signature", start, bytes(4)),
             ("too_long_a_signature", start, (9325).to_bytes(4, "big"))):
         yield name, refused(commit[:at] + part + commit[at + len(part):], f"1 Malformed {at}")
@@ -545,10 +550,10 @@ def rekeys(room):
     it = Rekeyed()
     publics, third, unknown = it.publics, it.third.public(), bytes(56)
     yield "lengths_of_version_structures", [len(logs.Version(0, *[bytes(32)] * 3, [], [0] * 80, form, key).encode())
-                                            for form, key in ((1, None), (2, None), (3, None), (3, third))] == [743, 743, 744, 800]
+                                            for form, key in ((1, None), (2, None), (3, None), (3, third), (4, None), (4, third))] == [743, 743, 744, 800, 744, 800]
     signature = logs.key_of(0, 5, 8).sign(0, b"")
     yield "lengths_of_commits_of_two_users", [len(logs.commit_of(logs.Version(0, *[bytes(32)] * 3, [], [0] * 4, form, key), signature))
-                                              for form, key in ((1, None), (2, None), (3, None), (3, third))] == [1431, 1431, 1432, 1488]
+                                              for form, key in ((1, None), (2, None), (3, None), (3, third), (4, None), (4, third))] == [1431, 1431, 1432, 1488, 1432, 1488]
     yield "two_with_a_rekey", is_so(room, publics, it.maker.log(), 2)
     named = dict(change=("rekey", third))
     for name, log, wanted in (
@@ -604,6 +609,122 @@ def rekeys_within_many(room, it):
     version, item = maker.version(user, change), logs.item_of(change)
     commit = logs.commit_of(version, keys[-2].sign(30, version.encode()))
     yield "and_one_by_an_old_key", is_so(room, it.publics, maker.log() + logs.log_bytes([(commit, item)]), (count + 1, "33 BadSignature"))
+
+
+# ---- batches
+
+# four operations, of which two write pointers of group 0
+BATCH = "1 batch create G0:1 c G0:3 3 + write U1:2 0 6869 + create G0:1 d G0:4 4 + write G0:3 0 41"
+
+
+def as_behind(count, field):
+    """The i-handle of the author, or of the group, of the tree behind so many of the operations."""
+    def make(maker, version, item, how):
+        desk = maker.desk.copy()
+        desk.history += [(version.author, version.form, it) for it in audit_model.change_in(item)[1][:count]]
+        handles = logs.Handles(desk)
+        if field == "handle":
+            version.handle = handles.of("U", version.author)
+        else:
+            version.groups = [(group, handles.of("G", group)) for group, _ in version.groups]
+    return make
+
+
+def numbers_raised(user, group):
+    """Those of user 1 and of group 0, so often."""
+    return other("vector", lambda _, maker: [number + {1: user, 3: group}.get(n, 0) for n, number in enumerate(maker.vector)])
+
+
+BATCH_FIELDS = {
+    "numbers_for_each_operation": ([numbers_raised(4, 2)], "35 WrongVector"),
+    "author_for_each_operation": ([numbers_raised(4, 1)], "35 WrongVector"),
+    "group_for_each_operation": ([numbers_raised(1, 2)], "35 WrongVector"),
+    "no_group_and_no_number_of_it": ([carried(), numbers_raised(1, 0)], "38 WrongHandle G0"),
+    "no_group_but_its_number": ([carried(), numbers_raised(1, 1)], "35 WrongVector"),
+    "handle_of_no_operation": ([as_behind(0, "handle")], "38 WrongHandle U1"),
+    "handle_of_the_first_operation": ([as_behind(1, "handle")], "38 WrongHandle U1"),
+    "handle_of_all_but_the_last": ([as_behind(3, "handle")], "38 WrongHandle U1"),
+    "group_handle_of_no_operation": ([as_behind(0, "groups")], "38 WrongHandle G0"),
+    "group_handle_of_the_first_operation": ([as_behind(1, "groups")], "38 WrongHandle G0"),
+    "third_format": ([other("form", lambda _, maker: 3)], "39 Change 44 OldFormat"),
+    "first_format": ([other("form", lambda _, maker: 1)], "44 OldFormat"),
+}
+
+# batches that the desk refuses after the first four commits, and how
+UNFIT_BATCHES = {
+    "1 batch create G0:1 x G0:3 3 + create G0:1 x G0:4 4": "19 Exists", "1 batch create G0:1 x G0:3 3 + create G0:1 y G0:4 3": "17 Held",
+    "1 batch create G0:1 x U1:3 + write U1:2 0 41 + truncate U1:9 1": "14 NoFile U1:9", "1 batch truncate U1:9 1 + create G0:1 b U1:3": "14 NoFile U1:9",
+    "1 batch truncate U1:2 1 + truncate U1:2 16777217": "22 TooBig", "1 batch unlink G0:1 b U1:2 + write U1:2 0 41": "14 NoFile U1:2",
+    "2 batch create G0:1 x U2:3 + create G0:1 y U2:4": "16 NotHolder 1", "0 batch take G0:1 9 + create G0:1 x G1:1 8 + create G0:1 x G1:2 7": "19 Exists",
+    "2 batch take G0:1 9 + create G0:1 x G1:1 8": "13 NotMember 1", "1 batch mkdir G0:1 x U1:3 + create U1:3 y U1:4 + unlink G0:1 x U1:3": "20 NotEmpty",
+}
+
+TRUNCATE, DROP = "03" + "000100000002" + "00000007", "08" + "00000009"
+# bytes that are no batch, and the place that is refused
+NO_BATCHES = {
+    "no_count": ("", 2), "half_a_count": ("00", 2), "none": ("0000", 2), "none_and_one": ("0000" + DROP, 2), "one": ("0001" + DROP, 2),
+    "257": ("0101" + DROP * 257, 2), "many": ("ffff" + DROP * 2, 2), "two_of_none": ("0002", 4), "two_of_one": ("0002" + DROP, 9),
+    "three_of_two": ("0003" + DROP + TRUNCATE, 20), "two_of_three": ("0002" + DROP * 3, 14), "a_byte_more": ("0002" + TRUNCATE + DROP + "00", 20),
+    "an_undo": ("0002" + DROP + "00" + "0000000000000001", 9), "an_undo_in_front": ("0002" + "00" + "0000000000000001" + DROP, 4),
+    "a_rekey": ("0002" + DROP + "09" + "0000000500000004" + "00" * 48, 9), "a_batch": ("0002" + DROP + "0a" + "0002" + DROP * 2, 9),
+    "a_batch_in_front": ("0002" + "0a" + "0002" + DROP * 2 + DROP, 4), "an_unknown_kind": ("0002" + DROP + "0b", 9), "a_whole_item": ("0002" + DROP + "05" + DROP, 10),
+    "a_cut_operation": ("0002" + DROP + TRUNCATE[:-2], 16), "a_cut_first_operation": ("0002" + DROP[:-2], 5),
+    "a_body_out_of_range": ("0002" + TRUNCATE + "0800000000", 16), "a_write_of_no_bytes": ("0002" + DROP + "02" + "000100000002" + "00000000" * 2, 20),
+}
+
+
+def batches(room):
+    """Commits of several operations, behind those of older formats: what is taken, and each part that may be another one."""
+    next_ = Next(BATCH, form=4)
+    publics = next_.before.publics
+    yield "a_batch_behind_the_third_format", is_so(room, publics, next_.log(*next_.of()), 5)
+    for name, (changes, wanted) in (*FIELDS.items(), *BATCH_FIELDS.items()):
+        yield f"batch_{name}", tried(room, next_, changes, wanted)
+    for line, wanted in UNFIT_BATCHES.items():
+        log = unfit(next_.before, *next_.before.read(line))
+        yield f"batch_refused_{line}", is_so(room, publics, log, (5, f"39 Change {wanted}"))
+    for name, (fields_, place) in NO_BATCHES.items():
+        log = next_.with_item(1, bytes.fromhex("050a" + fields_))
+        yield f"no_batch_of_{name}", is_so(room, publics, log, (5, f"39 Change 1 Malformed {place}"))
+    yield from sizes_of_batches(room, next_)
+    yield from formats_of_batches(room)
+
+
+def sizes_of_batches(room, next_):
+    """The most operations, and the longest item."""
+    file, maker = ("U", 1, 2), next_.before
+    cases = {f"a_batch_of_{count}": [("truncate", file, n) for n in range(count)] for count in (2, 255, 256)}
+    for length in (4429, 4430, 4431):  # 4 bytes stand before the operations, and in each write 15 before its own
+        cases[f"a_batch_of_{65570 + length}_bytes"] = [("write", file, 0, b"A" * 65536), ("write", file, 65536, b"B" * length)]
+    for name, operations in cases.items():
+        change = ("batch", tuple(operations))
+        log = next_.log(maker.copy(), maker.version(1, change), logs.item_of(change))
+        yield name, is_so(room, maker.publics, log, (5, "22 TooBig") if name == "a_batch_of_70001_bytes" else 5)
+
+
+def formats_of_batches(room):
+    """A log of all formats; behind a batch there is none that is older, and an older one has no batch."""
+    maker = Mixed().maker
+    script(maker, "1 truncate U1:2 1", form=3)
+    batch = "1 batch truncate U1:2 2 + create G0:1 c U1:3 + rename G0:1 b G0:1 d U1:2"
+    for form in (1, 2, 3):
+        user, change = maker.read(batch)
+        version = logs.Version(user, maker.prev, sha256(logs.item_of(change)), bytes(32), [], maker.raised(user, []), form)
+        log = maker.log() + logs.log_bytes([(maker.sign(version), logs.item_of(change))])
+        yield f"a_batch_in_format_{form}", is_so(room, maker.publics, log, (6, "44 OldFormat" if form < 3 else "39 Change 44 OldFormat"))
+    script(maker, f"{batch}; 1 write U1:3 0 41", form=4)
+    yield "a_log_of_four_formats", is_so(room, maker.publics, maker.log(), 7)
+    for form in (1, 2, 3):
+        later = maker.copy()
+        user, change = later.read("1 undo 7")
+        version = later.version(user, change, 4)
+        version.form = form
+        log = later.log() + logs.log_bytes([(later.sign(version), logs.item_of(change))])
+        yield f"format_{form}_behind_a_batch", is_so(room, maker.publics, log, (8, "44 OldFormat"))
+    maker.desk.form = 4
+    yield "a_batch_that_is_blocked", is_so(room, maker.publics, unfit(maker, *maker.read("1 undo 6")), (8, "39 Change 28 Blocked 7"))
+    script(maker, "1 undo 7; 1 undo 6; 1 undo 5; 1 batch truncate U1:2 3 + truncate U1:2 4")
+    yield "batches_are_undone", is_so(room, maker.publics, maker.log(), 11)
 
 
 def short():
@@ -792,7 +913,7 @@ def main():
     results = {}
     if not tally.is_there("audit", PROGRAM):
         return 1
-    for part in (keys, signatures, many_keys, good, by_chance, fields, formats, rekeys, each_byte, orders, ahead, faults, example):
+    for part in (keys, signatures, many_keys, good, by_chance, fields, formats, rekeys, batches, each_byte, orders, ahead, faults, example):
         with tempfile.TemporaryDirectory() as at:
             results.update(part(Room(at)))
     return tally.told("audit", results)

@@ -9,6 +9,7 @@ import logs
 from desk_model import Refused, demand, sha256
 
 LONGEST_ITEM = 70000
+MOST_OPERATIONS = 256  # of a batch
 LONGEST_SIGNATURE = 9324
 MOST_NUMBERS = 80
 
@@ -48,15 +49,29 @@ def file_in(part):
     return "UG"[part[0]], part[1], int.from_bytes(part[2:], "big")
 
 
+OPERATIONS = {1: "create", 2: "write", 3: "truncate", 4: "link", 5: "rename", 6: "unlink", 7: "take", 8: "drop"}
+CHANGES = {0: "undo", **OPERATIONS, 9: "rekey", 10: "batch"}
+
+
 def change_in(item):
     """The change of an item."""
     reader = Reader(item)
     reader.part(1, lambda part: part == b"\5")
-    words = ("undo", "create", "write", "truncate", "link", "rename", "unlink", "take", "drop", "rekey")
-    word = words[reader.number(1, 0, len(words) - 1)]
-    change = globals().get(word + "_in", link_in)(word, reader)
+    change = one_of(CHANGES, reader)
+    demand(reader.at <= LONGEST_ITEM, "1 Malformed 0")
     reader.end()
     return change
+
+
+def one_of(kinds, reader):
+    """A change of one of these kinds, each of which has a number that stands before its fields."""
+    word = kinds[reader.part(1, lambda part: part[0] in kinds)[0]]
+    return globals().get(word + "_in", link_in)(word, reader)
+
+
+def batch_in(word, reader):
+    count = reader.number(2, 2, MOST_OPERATIONS)
+    return word, tuple(one_of(OPERATIONS, reader) for _ in range(count))
 
 
 def undo_in(word, reader):

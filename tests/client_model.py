@@ -218,14 +218,40 @@ CHANGES = ("mkdir", "create", "write", "truncate", "link", "rename", "remove", "
 
 
 def plan(desk, user, word, arguments):
-    """The operations of a command, which are accepted one after the other; or raises their first refusal."""
+    """The operations of a command, which are accepted one after the other in the newest format; or raises their first refusal."""
     demand(user in desk.roster.users, f"12 NoUser {user}")
     tree = desk.tree(desk.history)
     draft = Draft(tree, user)
     globals()["draft_" + word](draft, *arguments)
     for operation in draft.operations:
-        tree, _, _ = desk_model.check(desk.roster, tree, user, desk.form, operation)
+        tree, _, _ = desk_model.check(desk.roster, tree, user, desk_model.NEWEST, operation)
     return draft.operations
+
+
+def item_for(change):
+    """The item of a change. Raises `Refused` where it has none, as a batch of too many operations, or of too many bytes."""
+    demand(change[0] != "batch" or len(change[1]) <= audit_model.MOST_OPERATIONS, "3 BadNumber")
+    item = audit_model.logs.item_of(change)
+    demand(len(item) <= audit_model.LONGEST_ITEM, "22 TooBig")
+    return item
+
+
+def longest_head(operations):
+    """How many of the first operations one item has room for; one in any case."""
+    size = len(audit_model.logs.batch_item(0))
+    for count, operation in enumerate(operations[:audit_model.MOST_OPERATIONS]):
+        size += len(audit_model.logs.spelled_operation(operation))
+        if count and size > audit_model.LONGEST_ITEM:
+            return count
+    return min(len(operations), audit_model.MOST_OPERATIONS)
+
+
+def in_batches(operations):
+    """The operations as changes, each as many of them as one item has room for. One alone is no batch."""
+    while operations:
+        count = longest_head(operations)
+        yield operations[0] if count == 1 else ("batch", tuple(operations[:count]))
+        operations = operations[count:]
 
 
 # ---- what is printed
@@ -263,10 +289,10 @@ def publish_plan(member, word, arguments):
     operations = member.in_turn(lambda: plan(member.desk(), member.user, word, arguments))
     if not operations:
         member.give()
-    for n, operation in enumerate(operations):
+    for n, change in enumerate(in_batches(operations) if member.batches else operations):
         if n:
             member.begin()
-        yield b"ok %d" % member.publish(operation)
+        yield b"ok %d" % member.publish(change)
 
 
 def answer_undo(member, number):
@@ -329,7 +355,10 @@ def answer_save(member, file):
 
 
 class Member:
-    """One who takes turns, as far as a desk and a server are alike."""
+    """One who takes turns, as far as a desk and a server are alike. With `batches` the operations of a command are one change, as far as
+    an item has room for them."""
+
+    batches = False
 
     def look(self):
         """The tree, once all commits are taken."""
@@ -351,27 +380,29 @@ class Member:
 
 class Team:
     """The desk, how many leaves the key of each user has left, and how many commits there may be; of each user the public key, if they
-    are given, and the key file to which the user has gone on."""
+    are given, and the key file to which the user has gone on. With `batches` their commands are made in batches."""
 
-    def __init__(self, users, leaves=10 ** 9, capacity=10 ** 9, publics=()):
+    def __init__(self, users, leaves=10 ** 9, capacity=10 ** 9, publics=(), batches=False):
         self.desk = KeptDesk(users)
         self.desk.roster.keys = set(publics)
         self.files = [None] * users
-        self.leaves, self.capacity = [leaves] * users, capacity
+        self.leaves, self.capacity, self.batches = [leaves] * users, capacity, batches
 
     def member(self, user):
         return TeamMember(self, user)
 
     def apply(self, user, change):
+        form = self.desk.made_format(change)
         try:
-            number = self.desk.apply(user, change)
+            number = self.desk.apply(user, change, form)
+            self.desk.history.pop()
+            item_for(change)
         except Refused as why:
             raise Refused(f"39 Change {why}") from None
-        self.desk.history.pop()
         demand(self.leaves[user] > 0, "8 KeySpent")
         self.leaves[user] -= 1
         demand(number <= self.capacity, "37 BookFull")
-        self.desk.history.append((user, self.desk.form, change))
+        self.desk.history.append((user, form, change))
         return number
 
 
@@ -387,7 +418,7 @@ class OpenKey:
 
 class TeamMember(Member):
     def __init__(self, team, user):
-        self.team, self.user = team, user
+        self.team, self.user, self.batches = team, user, team.batches
 
     def desk(self):
         return self.team.desk
@@ -585,10 +616,11 @@ class Client(Member):
     def make(self, change):
         demand(self.key.public() == self.view.chain.publics[self.user], "33 BadSignature")
         try:
-            version = self.view.maker.version(self.user, change)
+            version = self.view.maker.version(self.user, change, self.desk().made_format(change))
+            item = item_for(change)
         except Refused as why:
             raise Refused(f"39 Change {why}") from None
-        self.view.put(audit_model.logs.item_of(change))
+        self.view.put(item)
         demand(self.leaf < self.key.leaves, "8 KeySpent")
         leaf, self.leaf = self.leaf, self.leaf + 1
         self.store(self.leaf)

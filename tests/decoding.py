@@ -70,7 +70,11 @@ class Spelling:
 LINES = {
     "undo": "0 undo 1", "create": "0 create G0:1 abc G0:9 3", "write": "0 write U0:2 70000 " + "7a" * 20, "truncate": "0 truncate U0:2 5",
     "link": "0 link G0:1 l U0:2", "rename": "0 rename G0:1 a G0:1 bc U0:2", "unlink": "0 unlink G0:1 a U0:2", "take": "1 take G0:1 7",
-    "drop": "0 drop 3", "rekey": None}
+    "drop": "0 drop 3", "rekey": None,
+    "batch": "0 batch create G0:1 abc G0:9 4 + write G0:9 7 7a7a + rename G0:1 a G0:1 bc U0:2 + take G0:2 5 + drop 3"}
+# the places of an item at which each byte is tried: what says its kind, and of a batch how many operations there are, and the kind of
+# the first
+KINDS = {"batch": (0, 1, 2, 3, 4)}
 
 
 class Lists:
@@ -94,7 +98,7 @@ class Lists:
         """The list before a change of that name, its author, and the change."""
         if name == "rekey":
             return self.before, 0, ("rekey", self.next_key.public())
-        before = self.stale if name == "drop" else self.before
+        before = self.stale if name in ("drop", "batch") else self.before
         return before, *before.read(LINES[name])
 
 
@@ -103,14 +107,14 @@ def commit_places(version):
     count = 101 + 1
     numbers = count + 33 * len(version.groups)
     places = [3, 4, count - 1, *([count] if version.groups else []), numbers]
-    return places + ([numbers + 1 + 8 * len(version.vector)] if version.form == 3 else [])
+    return places + ([numbers + 1 + 8 * len(version.vector)] if version.form >= 3 else [])
 
 
 def commits_of(lists):
     """Good commits, of each format: the list before, the version structure, the item, and the signing key."""
     for name, form, change in (
             ("of_the_first_format", 1, "write"), ("of_the_second_format_with_a_group", 2, "create"), ("without_a_key", 3, "create"),
-            ("with_a_key", 3, "rekey")):
+            ("with_a_key", 3, "rekey"), ("of_the_fourth_format", 4, "create"), ("of_a_batch", 4, "batch"), ("of_the_fourth_format_with_a_key", 4, "rekey")):
         before, user, change = lists.change(change)
         if form < 3:
             before = lists.of("0 create G0:1 a U0:2", form)
@@ -154,7 +158,7 @@ def spellings(lists):
         yield Spelling(f"commit_{name}", commit, audit_model.commit_in, lambda it: logs.commit_of(*it), len(version.encode()) + 8, commit_places(version))
     for name in LINES:
         _, _, change = lists.change(name)
-        yield Spelling(f"change_{name}", logs.item_of(change), audit_model.change_in, logs.item_of, kinds=(0, 1))
+        yield Spelling(f"change_{name}", logs.item_of(change), audit_model.change_in, logs.item_of, kinds=KINDS.get(name, (0, 1)))
     for name, data in requests(lists).items():
         yield Spelling(f"request_{name}", data, wire.request_in, spelled_request, kinds=(0,))
     for name, (data, _, _) in replies(lists).items():
@@ -215,7 +219,7 @@ def changes(at):
     audits = Auditing(at, lists.publics)
     for name in LINES:
         before, user, change = lists.change(name)
-        items = Spelling(f"change {name}", logs.item_of(change), None, None, kinds=(0, 1)).near(3, EACH if name == "take" else 20)
+        items = Spelling(f"change {name}", logs.item_of(change), None, None, kinds=KINDS.get(name, (0, 1))).near(3, EACH if name == "take" else 20)
         wrong = audits.wrong([(item.hex(), log_with(before, user, item)) for item in items])
         yield f"changes_{name}: {wrong[:2]}", wrong == [] and audit_model.audit(lists.publics, log_with(before, user, items[0]))[1] == 0
 
@@ -223,7 +227,8 @@ def changes(at):
 def log_with(before, user, item):
     """The log with the commit of an item behind it."""
     try:
-        version = before.copy().version(user, audit_model.change_in(item))
+        change = audit_model.change_in(item)
+        version = before.copy().version(user, change, before.desk.made_format(change))
     except (Refused, OverflowError):
         version = logs.Version(user, before.prev, sha256(item), bytes(32), [], before.raised(user, []))
     return before.log() + logs.log_bytes([(signed(before, version.encode(), user), item)])

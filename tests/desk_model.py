@@ -7,6 +7,7 @@ usage: desk_model.py FOLDER COUNT LINES    writes COUNT scripts of LINES lines e
                                            each fourth also asks for all handles after each line; of twelve, three each are in one format
        desk_model.py --run USERS [FORMAT]  reads a script of good lines on standard input, and prints what it answers
 """
+import copy
 import functools
 import hashlib
 import random
@@ -14,8 +15,9 @@ import sys
 
 BLOCK = 4096
 NEWEST = 4  # of the formats, which are numbers
+FIRST_FORMAT = 3  # in which a list of commits is begun; it goes on in it, until there is a commit in a newer one
 LARGEST_FILE = {1: 1048576, 2: 16777216, 3: 16777216, 4: 16777216}  # in each format
-FIRST_FORMAT = {"drop": 2, "rekey": 3, "batch": 4}  # of the changes that not all formats have
+OLDEST_FORMAT = {"drop": 2, "rekey": 3, "batch": 4}  # that has the change; others are in all formats
 KEY_LENGTH = 56
 LARGEST_WRITE = 65536
 MOST_LINKS = 255
@@ -104,7 +106,8 @@ def check(roster, tree, a, form, op):
 
 
 def check_batch(roster, tree, a, form, operations):
-    """Each operation comes behind those before it; the cells are those of all of them."""
+    """Each operation comes behind those before it, and the first refusal is the batch's; the cells are those of all of them, each in the
+    tree where it comes."""
     reads, writes = set(), set()
     for op in operations:
         tree, besides, written = check(roster, tree, a, form, op)
@@ -340,10 +343,22 @@ class Desk:
         readers = [m for m in self.live(self.history) if m > n and share(self.cells(m)[0], writes)]
         return max(readers, default=None)
 
+    def copy(self):
+        """Another one that stands where this one does."""
+        other = copy.copy(self)
+        other.history = list(self.history)
+        return other
+
+    def last_format(self):
+        return self.history[-1][1] if self.history else 1
+
+    def made_format(self, change):
+        """In which a client makes a change: that of the list, or the oldest that has the change, where that is newer."""
+        return max(FIRST_FORMAT, self.last_format(), OLDEST_FORMAT.get(change[0], 1))
+
     def check_form(self, form, change):
         """No entry is of an older format than the one before it, and each format has its changes."""
-        before = self.history[-1][1] if self.history else 1
-        demand(form >= before and form >= FIRST_FORMAT.get(change[0], 1), "44 OldFormat")
+        demand(form >= self.last_format() and form >= OLDEST_FORMAT.get(change[0], 1), "44 OldFormat")
 
     def check_undo(self, a, n):
         demand(a in self.roster.users, f"12 NoUser {a}")
@@ -491,7 +506,12 @@ def file_of(word):
 
 
 def change_of(word, rest):
-    """The change of a user's line, its names, its file ids, and whether its other numbers are in their ranges."""
+    """The change of a user's line, its names, its file ids, and whether its other numbers are in their ranges. A batch of one operation
+    is the operation."""
+    if word == "batch":
+        changes, said, files, numbers = zip(*(change_of(part[0], part[1:]) for part in operations_of(rest)))
+        change = changes[0] if len(changes) == 1 else (word, changes)
+        return change, sum(said, []), sum(files, []), all(numbers)
     if word in ("mkdir", "create"):
         d, f = file_of(rest[0]), file_of(rest[2])
         number = int(rest[3]) if len(rest) == 4 else f[2]
@@ -545,9 +565,6 @@ def carry_out_change(desk, a, words):
     if words[0] == "undo_last":
         demand(a <= 63, "3 BadNumber")
         return f"ok {desk.undo_last(a)}"
-    if words[0] == "batch":
-        changes = [in_range(desk, a, part) for part in operations_of(words[1:])]
-        return f"ok {desk.apply(a, changes[0] if len(changes) == 1 else ('batch', tuple(changes)))}"
     return f"ok {desk.apply(a, in_range(desk, a, words))}"
 
 
@@ -636,14 +653,17 @@ class Dice:
         kinds = self.rarely(self.pick("0000000000000000", "0000000a00000004", "0000000500000000"), self.pick("0000000500000004", "0000000900000001"))
         return kinds + self.pick("00", "01", "fe", "FF") * (KEY_LENGTH - 8)
 
-    def any_change(self):
+    def any_operation(self):
         f, d, x = self.file(), self.file(), self.name()
-        change = self.pick(
+        operation = self.pick(
             f"mkdir {d} {x} {f} {self.number()}", f"create {d} {x} {f}", f"write {f} {self.size()} {self.data()}",
             f"truncate {f} {self.size()}", f"link {d} {x} {f}", f"unlink {d} {x} {f}",
-            f"rename {d} {x} {self.file()} {self.name()} {f}", f"take {f} {self.number()}", f"drop {self.number()}",
-            f"undo {self.number()}", "undo_last", f"rekey {self.key()}")
-        return change if "G" not in change or not change.startswith("create") else change + f" {self.number()}"
+            f"rename {d} {x} {self.file()} {self.name()} {f}", f"take {f} {self.number()}", f"drop {self.number()}")
+        return operation if "G" not in operation or not operation.startswith("create") else operation + f" {self.number()}"
+
+    def any_change(self):
+        batch = "batch " + " + ".join(self.any_operation() for _ in range(self.random.randint(1, 3)))
+        return self.pick(*(self.any_operation() for _ in range(9)), batch, f"undo {self.number()}", "undo_last", f"rekey {self.key()}")
 
     # ---- what fits the tree, mostly
 
@@ -705,20 +725,19 @@ class Dice:
             f"ihandle {self.pick('U0', 'U1', 'G0', 'G1', 'G15', 'U63')}", "mark", "same", "same")
 
     def batch(self):
-        """A user, and a batch of changes of his, each of which fits what those before it leave, but for a detail."""
-        desk, said, user = self.desk, [], None
-        self.desk = type(desk)(self.users, desk.form)
-        self.desk.history = list(desk.history)
-        for _ in range(self.random.randint(2, 12)):
-            author, change = self.fitting_change()
-            if change.split(" ")[0] in ("undo", "undo_last", "rekey") or (user is not None and author != user):
+        """A user, and 2 to 6 operations of his as a batch: most fit what those before them leave, some but for a detail, and a few are
+        anything, so that batches are refused at each of their places."""
+        desk, count, said, user = self.desk, self.random.randint(2, 6), [], None
+        self.desk = desk.copy()
+        for _ in range(10 * count):
+            if len(said) == count:
+                break
+            author, operation = self.fitting_change()
+            if operation.split(" ")[0] in ("undo", "undo_last", "rekey") or user not in (None, author):
                 continue
-            before = len(self.desk.history)
-            refused = answer(self.desk, f"{author} {change}")[0].startswith("no")
-            if not refused or self.random.random() < 0.05:
-                said, user = said + [change], author
-            if refused:
-                self.desk.history = self.desk.history[:before]
+            is_refused = answer(self.desk, f"{author} {operation}")[0].startswith("no")
+            if not is_refused or self.random.random() < 0.1:
+                said, user = said + [self.rarely(self.any_operation(), operation)], author
         self.desk = desk
         return (user, "batch " + " + ".join(said)) if said else self.fitting_change()
 
@@ -726,7 +745,7 @@ class Dice:
         chance = self.random.random()
         if chance < 0.2:
             return self.question()
-        if self.desk.form >= FIRST_FORMAT["batch"] and chance > 0.8:
+        if self.desk.form >= OLDEST_FORMAT["batch"] and chance > 0.84:  # a fifth of the changes
             user, change = self.batch()
             return f"{self.rarely(self.user(), user)} {change}"
         if chance < 0.35:

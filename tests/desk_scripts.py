@@ -59,7 +59,13 @@ NO_COMMANDS = (
     b"0 write U0:2 0 4", b"0 write U0:2 0 4g", b"0 write U0:2 0", b"versions U0", b"0 write U0:2 0 41 42", b"ls U0", b"ls U0:2:3",
     b"ls u0:2", b"LS G0:1", b"ihandle U0:1", b"cat U0:2 0", b"0", b"\xff\xfe",
     b"0 drop", b"0 drop U0:2", b"0 drop 1 2", b"drop 1", b"0 tidy", b"0 rekey", b"0 rekey " + b"00" * 55, b"0 rekey " + b"00" * 57,
-    b"0 rekey " + b"0" * 111, b"0 rekey " + b"0" * 111 + b"g", b"0 rekey " + b"00" * 56 + b" 1", b"rekey " + b"00" * 56)
+    b"0 rekey " + b"0" * 111, b"0 rekey " + b"0" * 111 + b"g", b"0 rekey " + b"00" * 56 + b" 1", b"rekey " + b"00" * 56,
+    b"0 batch", b"0 batch +", b"0 batch drop 1 +", b"0 batch + drop 1", b"0 batch drop 1 + + drop 2", b"0 batch drop 1 drop 2", b"0 batch drop 1+drop 2",
+    b"0 batch drop 1 +drop 2", b"0 batch drop 1 - drop 2", b"0 batch drop 1 + undo 1", b"0 batch undo 1 + drop 1", b"0 batch undo 1",
+    b"0 batch drop 1 + undo_last", b"0 batch drop 1 + rekey " + b"00" * 56, b"0 batch rekey " + b"00" * 56, b"0 batch drop 1 + batch drop 1 + drop 2",
+    b"0 batch batch drop 1", b"0 batch drop 1 + 0 drop 2", b"0 batch drop 1 + drop", b"0 batch drop + drop 1", b"0 batch drop 1 + create G0:1 a G0:2",
+    b"0 batch drop 1 + ls G0:1", b"0 batch versions + drop 1", b"0 batch drop 1 + hello", b"0 batch drop 1  + drop 2", b"0 batch drop 1 + drop 2 ",
+    b"0 drop 1 + drop 2", b"batch drop 1 + drop 2", b"0 Batch drop 1 + drop 2", b"+ drop 1")
 
 MISTAKES = (
     ("hello", "an unknown command"),
@@ -94,6 +100,21 @@ def of_lines():
     longest = begin + b"n" * (LONGEST_LINE + 1 - len(begin) - len(end)) + end
     yield "the_longest_line", Case(longest, "no 2 BadName\n")
     yield "a_line_of_a_byte_more", Case(b"0" + longest, "line 1: bad\n")
+    yield from of_long_batches()
+
+
+def of_long_batches():
+    """Lines of as many operations as an item of a batch has, and of many bytes."""
+    creates = [f"create G0:1 n{number} U0:{number}" for number in range(2, 258)]
+    batch, refused = ("0 batch " + " + ".join(it) + "\n" for it in (creates, [*creates[:-1], "truncate U0:300 1"]))
+    yield "a_batch_of_256", Case(
+        f"{batch}versions\nstat U0:257\n0 create G0:1 z U0:258\n0 write U0:257 0 41\n0 undo 1\n0 undo_last\n0 undo_last\n0 undo_last\nls G0:1\n",
+        "ok 1\nU0=1 U1=0 G0=0 G1=0\nfile size 0 links 1 at U0:257\nok 2\nok 3\nno 28 Blocked 3\nok 4\nok 5\nok 6\n")
+    yield "a_batch_whose_last_is_refused", Case(f"{refused}ls G0:1\nversions\n", "no 14 NoFile U0:300\nU0=0 U1=0 G0=0 G1=0\n")
+    data = "41" * 30000
+    yield "a_long_batch", Case(
+        f"0 batch create G0:1 a U0:2 + write U0:2 0 {data} + write U0:2 29999 {data}\nstat U0:2\n0 undo 1\nls G0:1\n",
+        "ok 1\nfile size 59999 links 1 at U0:2\nok 2\n")
 
 
 # ---- long scripts

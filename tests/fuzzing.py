@@ -302,7 +302,10 @@ def stories():
     first = "0 create G0:1 a U0:2; 0 write U0:2 0 41; 1 take G0:1 1; 1 create G0:1 b U1:2; 0 undo 2; 1 rename G0:1 b G0:1 c U1:2"
     second = f"{first}; 0 drop 1; 1 mkdir G0:1 d G0:2 3; 1 create G0:2 e G0:3 4; 1 link G0:2 f G0:3; 1 unlink G0:2 e G0:3; 1 truncate G0:3 16777216"
     third = "1 take G0:1 1; 1 mkdir G0:1 d G0:2 2; 0 take G0:2 2; 0 create G0:2 e G0:3 3; 0 write G0:3 4000 " + "7a" * 300
-    return [Story("first", 1, first), Story("second", 2, second), Story("third", 3, third, rekeys=True)]
+    fourth = (
+        "0 batch create G0:1 a G0:2 2 + write G0:2 0 41 + create G0:1 b U0:3; 1 batch take G0:2 1 + write G0:2 1 42 + truncate G0:2 1; "
+        "0 batch link G0:1 c U0:3 + rename G0:1 a G0:1 d G0:2 + unlink G0:1 b U0:3 + mkdir G0:1 e U0:4; 0 drop 2; 0 undo 4")
+    return [Story("first", 1, first), Story("second", 2, second), Story("third", 3, third, rekeys=True), Story("fourth", 4, fourth, rekeys=True)]
 
 
 def audited(chance, ground, room):

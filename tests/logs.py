@@ -18,6 +18,10 @@ def u8(x):
     return x.to_bytes(1, "big")
 
 
+def u16(x):
+    return x.to_bytes(2, "big")
+
+
 def u32(x):
     return x.to_bytes(4, "big")
 
@@ -35,25 +39,38 @@ def item_of(change):
     word, *rest = change
     if word == "undo":
         return b"\5\0" + u64(rest[0])
-    if word == "create":
-        kind, directory, name, file, body = rest
-        return b"\5\1" + file_bytes(directory) + spelled_name(name) + file_bytes(file) + u32(body) + u8(kind == "mkdir")
-    if word == "write":
-        file, off, data = rest
-        return b"\5\2" + file_bytes(file) + u32(off) + u32(len(data)) + data
-    if word == "truncate":
-        return b"\5\3" + file_bytes(rest[0]) + u32(rest[1])
-    if word == "rename":
-        source, old, target, new, file = rest
-        return b"\5\5" + file_bytes(source) + spelled_name(old) + file_bytes(target) + spelled_name(new) + file_bytes(file)
-    if word == "take":
-        return b"\5\7" + file_bytes(rest[0]) + u32(rest[1])
-    if word == "drop":
-        return b"\5\x08" + u32(rest[0])
     if word == "rekey":
         return b"\5\x09" + rest[0]
+    if word == "batch":
+        return batch_item(len(rest[0]), *map(spelled_operation, rest[0]))
+    return b"\5" + spelled_operation(change)
+
+
+def batch_item(count, *operations):
+    """The item of a batch that says that there are so many operations, of which these are the bytes."""
+    return b"\5\x0a" + u16(count) + b"".join(operations)
+
+
+def spelled_operation(operation):
+    """The byte that says what an operation is, and its fields."""
+    word, *rest = operation
+    if word == "create":
+        kind, directory, name, file, body = rest
+        return b"\1" + file_bytes(directory) + spelled_name(name) + file_bytes(file) + u32(body) + u8(kind == "mkdir")
+    if word == "write":
+        file, off, data = rest
+        return b"\2" + file_bytes(file) + u32(off) + u32(len(data)) + data
+    if word == "truncate":
+        return b"\3" + file_bytes(rest[0]) + u32(rest[1])
+    if word == "rename":
+        source, old, target, new, file = rest
+        return b"\5" + file_bytes(source) + spelled_name(old) + file_bytes(target) + spelled_name(new) + file_bytes(file)
+    if word == "take":
+        return b"\7" + file_bytes(rest[0]) + u32(rest[1])
+    if word == "drop":
+        return b"\x08" + u32(rest[0])
     directory, name, file = rest
-    return {"link": b"\5\4", "unlink": b"\5\6"}[word] + file_bytes(directory) + spelled_name(name) + file_bytes(file)
+    return {"link": b"\4", "unlink": b"\6"}[word] + file_bytes(directory) + spelled_name(name) + file_bytes(file)
 
 
 def roster_bytes(publics):
@@ -63,14 +80,14 @@ def roster_bytes(publics):
     return b"SR01" + u8(len(publics)) + users + u8(2) + u8(0) + members + u8(1) + u8(1) + u8(0)
 
 
-FIRST_BYTES = {1: b"SV01", 2: b"SV02", 3: b"SV03"}  # of a version structure, in each format
+FIRST_BYTES = {1: b"SV01", 2: b"SV02", 3: b"SV03", 4: b"SV04"}  # of a version structure, in each format
 
 
 class Version:
     """A version structure; `groups` is pairs of a group and its i-handle, `vector` the numbers, `form` its format, `next_key` the key that
     it names, if it names one."""
 
-    def __init__(self, author, prev, change, handle, groups, vector, form=desk_model.NEWEST, next_key=None):
+    def __init__(self, author, prev, change, handle, groups, vector, form=desk_model.FIRST_FORMAT, next_key=None):
         self.author, self.prev, self.change, self.handle = author, prev, change, handle
         self.groups, self.vector, self.form, self.next_key = groups, vector, form, next_key
 
@@ -112,10 +129,10 @@ class Handles:
 
 
 class Maker:
-    """Makes a list of commits, in a format unless a change comes with one. The users' keys sign with one leaf after the other; a user who
+    """Makes a list of commits, in a format (that in which lists are begun) unless a change comes with one. The users' keys sign with one leaf after the other; a user who
     names a key of the ring signs with that from the next commit on."""
 
-    def __init__(self, keys, form=desk_model.NEWEST):
+    def __init__(self, keys, form=desk_model.FIRST_FORMAT):
         self.keys = keys
         self.publics = [key.public() for key in keys]
         self.desk = desk_model.KeptDesk(len(keys), form)

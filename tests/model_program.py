@@ -46,6 +46,7 @@ def arguments():
     client.add_argument("--tries", type=in_range(1, 1000000), default=1000)
     client.add_argument("--leaves-ahead", type=in_range(1, 16), default=16)
     client.add_argument("--stop", action="store_true")
+    client.add_argument("--batch", action="store_true")
     audit = programs.add_parser("audit")
     audit.add_argument("--log", required=True)
     for program in (serve, client, audit):
@@ -162,6 +163,7 @@ def client(words):
     member = client_model.Client(
         link, publics, words.user, kept.key, kept.next, words.tries, kept.store, lambda: wire.connect(words.port),
         kept, lambda path: other_key(path, words.leaves_ahead))
+    member.batches = words.batch
     try:
         member.take_log(log)
         return run(member, words.stop)

@@ -31,6 +31,7 @@ CHANCE_SCRIPTS, CHANCE_LINES = 60, 120
 
 
 NEXT_KEY = "0000000500000004" + 96 * "0"
+TWO_TOGETHER = "0 batch create G0:1 a U0:2 + create G0:1 b U0:3\nversions\n"
 
 
 def keygen(height, width, entropy="entropy", out="key"):
@@ -55,8 +56,11 @@ CASES = {
     "the_second_format_without_a_word": (["desk"], "0 drop 1\n", "no 17 Held\n", 0),
     "the_third_format": (["desk", "--format", "3"], f"1 rekey {NEXT_KEY}\nversions\n", "ok 1\nU0=0 U1=1 G0=0 G1=0\n", 0),
     "the_third_format_without_a_word": (["desk"], f"0 rekey {NEXT_KEY}\n1 rekey {NEXT_KEY}\n", "ok 1\nno 36 KeyReuse\n", 0),
+    "the_third_format_has_no_batch": (["desk", "--format", "3"], TWO_TOGETHER, "no 44 OldFormat\nU0=0 U1=0 G0=0 G1=0\n", 0),
+    "the_fourth_format": (["desk", "--format=4"], TWO_TOGETHER, "ok 1\nU0=1 U1=0 G0=0 G1=0\n", 0),
+    "the_fourth_format_without_a_word": (["desk"], TWO_TOGETHER, "ok 1\nU0=1 U1=0 G0=0 G1=0\n", 0),
     "no_format": (["desk", "--format", "0"], "", "", 2),
-    "a_later_format": (["desk", "--format", "4"], "", "", 2),
+    "a_later_format": (["desk", "--format", "5"], "", "", 2),
     "a_format_that_is_no_number": (["desk", "--format", "SV02"], "", "", 2),
     "a_bad_line": (["desk"], "ls G0:1\n\nhello\nls G0:1\n", "line 3: bad\n", 2),
     "no_command": ([], "", "", 2),
@@ -91,11 +95,11 @@ CASES = {
     "idle_minutes_and_no_such_key": (served("--idle-minutes", "1440"), "", "", 1),
     "a_cache_and_no_such_key": (served("--store", "store", "--cache", "1000000"), "", "", 1),
     "help": (["--help"], "", ("desk", "keygen", "audit", "serve", "client", "backup"), 0),
-    "help_of_the_desk": (["desk", "--help"], "", ("undo_last", "drop BODY", "rekey", "--users", "--format"), 0),
+    "help_of_the_desk": (["desk", "--help"], "", ("undo_last", "drop BODY", "rekey", "batch", "--users", "--format"), 0),
     "help_of_keys": (["keygen", "--help"], "", ("--entropy <FILE>",), 0),
     "help_of_the_server": (["serve", "--help"], "", ("--port", "--workers", "--capacity", "--sessions", "--store", "--cache"), 0),
     "help_of_backups": (["backup", "--help"], "", ("--port", "--to", "ok N new M"), 0),
-    "help_of_the_client": (["client", "--help"], "", ("undo_last", "save FILE", "--user", "--key", "--log", "--tries", "--leaves-ahead", "--next-key", "rekey FILE", "--stop"), 0),
+    "help_of_the_client": (["client", "--help"], "", ("undo_last", "save FILE", "--user", "--key", "--log", "--tries", "--leaves-ahead", "--next-key", "rekey FILE", "--stop", *["--batch"] * serving.CLIENT_BATCHES), 0),
     "version": (["-V"], "", "sundr 0.1.0\n", 0),
 }
 

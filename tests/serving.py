@@ -44,6 +44,7 @@ CHANCE_SCRIPTS, CHANCE_LINES = 30, 30
 KILLS = 24
 KILLS_AHEAD = 200  # with leaves in blocks
 MOST_CALLS = 100  # at which a client is killed
+CLIENT_BATCHES = False  # whether the program's client knows --batch
 # What a client tells beside its answers, on which nothing rests: each by a name, as a line of standard error matches it.
 ASIDES = {
     "without_log": rb"without --log the client believes the first list that the server shows it: `save FILE` keeps what it has seen, and "
@@ -210,7 +211,7 @@ class Room:
             client.write(script)
             return client.end()
 
-    def log(self, text, form=desk_model.NEWEST):
+    def log(self, text, form=desk_model.FIRST_FORMAT):
         """The maker of a log of these lines of a desk script."""
         maker = logs.Maker(self.keys, form)
         for line in text.split("; "):
@@ -240,9 +241,9 @@ def history_of(log):
 
 
 def changes_of(log):
-    """The authors and changes of a log whose commits are all of the newest format."""
+    """The authors and changes of a log whose commits are all of the format in which lists are begun."""
     history = history_of(log)
-    return [(author, change) for author, form, change in history if form == desk_model.NEWEST]
+    return [(author, change) for author, form, change in history if form == desk_model.FIRST_FORMAT]
 
 
 def audit(room, log):
@@ -1231,7 +1232,7 @@ def lies(at):
     }
     for name, (ended, wanted) in cases.items():
         yield f"lie_{name}: {ended}", ended == (wanted, [], 0)
-    for name, (ended, wanted) in (*lying_vectors(room, show).items(), *lying_formats(room, show).items()):
+    for name, (ended, wanted) in (*lying_vectors(room, show).items(), *lying_formats(room, show).items(), *lying_batches(room, show).items()):
         yield f"lie_{name}: {ended}", ended == (wanted, [], 0)
     yield from lying_items(publics, records, told)
     yield from lying_on_the_turn(publics, records, told)
@@ -1275,6 +1276,47 @@ def lying_formats(room, show):
         "a_format_that_falls_for_one_of_the_second": (show(behind(new, drops)), [b"no 44 OldFormat"] * 2),
         "a_change_of_the_second_format_in_the_first": (show(behind(old, drops)), [b"no 39 Change 44 OldFormat"] * 2),
         "a_size_of_the_second_format_in_the_first": (show(behind(old, grows)), [b"no 39 Change 22 TooBig"] * 2),
+    }
+
+
+def lying_batches(room, show):
+    """Lists with a batch that isn't as it should be, or a commit behind it."""
+    begun = room.log("0 create G0:1 a G0:2 2; 1 take G0:1 1; 1 create G0:1 b U1:2")
+    lines = {
+        "good": "1 batch take G0:2 3 + write G0:2 0 42 + unlink G0:1 b U1:2", "refused": "1 batch unlink G0:1 b U1:2 + create G0:1 a U1:3",
+        "undone": "1 undo 3"}
+    good, refused, undone = (begun.read(line)[1] for line in lines.values())
+
+    def behind(change, form=4, item=None, maker=begun, **fields):
+        """The list with a commit of a change behind it, whose item, format and fields may be others than they should be."""
+        maker = maker.copy()
+        item = item or logs.item_of(change)
+        try:
+            version = maker.version(1, change, 4)
+        except desk_model.Refused:
+            version = logs.Version(1, maker.prev, sha256(item), bytes(32), [], maker.raised(1, []))
+        for field, value in {"change": sha256(item), "form": form, **fields}.items():
+            setattr(version, field, value)
+        return [*maker.records, (maker.sign(version), item)]
+
+    lifted = begun.copy()
+    lifted.add(1, good, 4)
+    first, *_ = operations = [logs.spelled_operation(it) for it in good[1]]
+    each = [number + {1: 3, 2: 1}.get(n, 0) for n, number in enumerate(begun.vector)]
+    return {
+        "a_batch": (show(behind(good)), [b"a G0:2", b"42"]),
+        "a_batch_of_the_third_format": (show(behind(good, 3)), [b"no 39 Change 44 OldFormat"] * 2),
+        "a_batch_of_one": (show(behind(good, item=logs.batch_item(1, first))), [b"no 39 Change 1 Malformed 2"] * 2),
+        "a_batch_of_two_that_has_three": (
+            show(behind(good, item=logs.batch_item(2, *operations))), [b"no 39 Change 1 Malformed %d" % len(logs.batch_item(2, *operations[:2]))] * 2),
+        "a_batch_with_an_undo": (
+            show(behind(good, item=logs.batch_item(2, first, b"\0" + bytes(8)))), [b"no 39 Change 1 Malformed %d" % len(logs.batch_item(2, first))] * 2),
+        "a_batch_that_is_refused": (show(behind(refused)), [b"no 39 Change 19 Exists"] * 2),
+        "a_batch_without_its_group": (show(behind(good, groups=[], vector=begun.raised(1, []))), [b"no 38 WrongHandle G0"] * 2),
+        "a_batch_with_another_handle": (show(behind(good, handle=bytes(32))), [b"no 38 WrongHandle U1"] * 2),
+        "a_batch_with_a_number_for_each_operation": (show(behind(good, vector=each)), [b"no 35 WrongVector"] * 2),
+        "the_third_format_behind_a_batch": (show(behind(undone, 3, maker=lifted)), [b"no 44 OldFormat"] * 2),
+        "the_fourth_format_behind_a_batch": (show(behind(undone, maker=lifted)), [b"no 39 Change 28 Blocked 4"] * 2),
     }
 
 
@@ -1590,7 +1632,8 @@ EXCHANGES = {
     "a_commit_whose_author_is_none": (b"\0\0\0\6\2SV01\x40", b"\0\0\0\x0a\xff\1" + bytes(7) + b"\4"),
     "a_commit_of_the_second_format": (b"\0\0\0\6\2SV02\x40", b"\0\0\0\x0a\xff\1" + bytes(7) + b"\4"),
     "a_commit_of_the_third_format": (b"\0\0\0\6\2SV03\x40", b"\0\0\0\x0a\xff\1" + bytes(7) + b"\4"),
-    "a_commit_of_a_later_format": (b"\0\0\0\6\2SV04\x40", b"\0\0\0\x0a\xff\1" + bytes(8)),
+    "a_commit_of_the_fourth_format": (b"\0\0\0\6\2SV04\x40", b"\0\0\0\x0a\xff\1" + bytes(7) + b"\4"),
+    "a_commit_of_a_later_format": (b"\0\0\0\6\2SV05\x40", b"\0\0\0\x0a\xff\1" + bytes(8)),
     "a_record_that_isnt_there": (b"\0\0\0\x09\4" + bytes(7) + b"\1", b"\0\0\0\1\x85"),
     "an_item": (b"\0\0\0\4\5abc", b"\0\0\0\x21\x86" + bytes.fromhex(ABC)),
     "the_same_item_by_its_digest": (b"\0\0\0\x21\6" + bytes.fromhex(ABC), b"\0\0\0\4\x87abc"),
@@ -1703,8 +1746,7 @@ def stored_bytes(at):
 # ---- formats
 
 def formats(at):
-    """A server takes commits of each format, and none whose format falls; clients go on in the newest format with a list of the
-    first."""
+    """A server takes commits of each format, and none whose format falls; clients go on with a list of the first format in the third."""
     room, saved = Room(at), f"{at}/saved"
     old = room.log("0 create G0:1 a U0:2; 1 take G0:1 1", form=1)
     keys_ = [room.file(key.file(8)) for key in room.keys]
@@ -1714,7 +1756,7 @@ def formats(at):
             told = [reply_to(link, request)[0] for request in (wire.put(item), wire.GRANT, wire.commit(commit))]
             yield f"a_server_takes_the_first_format: {told}", told == ["put_done", "granted", "stored"]
         ended = room.run(server.port, 0, b"tidy\nls /\nsave %b\n" % saved.encode(), key=keys_[0])
-        yield f"a_client_goes_on_in_the_newest: {ended}", ended == ([b"ok 3", b"a U0:2"], [], 0)
+        yield f"a_client_goes_on_in_the_third: {ended}", ended == ([b"ok 3", b"a U0:2"], [], 0)
         forms = [form for _, form, _ in history_of(saved)]
         yield f"and_saves_both: {forms}", forms == [1, 1, 3] and audit(room, saved) == ([b"ok 3"], [], 0)
         for name, told, wanted in falling(room, link, read(saved)):
@@ -1755,6 +1797,164 @@ def falling(room, link, log):
         commit = logs.commit_of(version, room.keys[signer].sign(leaf_, version.encode()))
         yield name, reply_to(link, wire.commit(commit)), ("refused", why)
     yield "keeps_the_turn", reply_to(link, wire.GIVE), ("given", None)
+
+
+# ---- batches
+
+def hand_in(link, commit, item):
+    """What a server replies to a commit in a turn of its own."""
+    reply_to(link, wire.put(item))
+    reply_to(link, wire.GRANT)
+    reply = reply_to(link, wire.commit(commit))
+    if reply[0] == "refused":
+        reply_to(link, wire.GIVE)
+    return reply
+
+
+def batches(at):
+    """Batches that another implementation makes: the server and the clients take them, and the list goes on in the fourth format."""
+    room, saved = Room(at), f"{at}/saved"
+    maker = room.log("0 create G0:1 a G0:2 2")
+    keys_ = [room.file(key.file(16)) for key in room.keys]
+    user, change = maker.read("0 batch create G0:1 b U0:3 + write U0:3 0 6869 + create G0:1 c G0:3 4 + write G0:2 0 41")
+    version, item = maker.version(user, change, 4), logs.item_of(change)
+    with Server(room) as server:
+        link = raw(server.port)
+        yield "before_a_batch", hand_in(link, *maker.records[0]) == ("stored", 1)
+        for name, numbers in (("each_operation", (4, 2)), ("each_operation_of_the_author", (4, 1)), ("each_operation_of_the_group", (1, 2)),
+                              ("the_author_alone", (1, 0))):
+            other = logs.Version(user, maker.prev, version.change, version.handle, version.groups, list(maker.vector), 4)
+            other.vector[0], other.vector[2] = (maker.vector[n] + more for n, more in zip((0, 2), numbers))
+            replied = hand_in(link, maker.sign(other), item)
+            yield f"numbers_raised_for_{name}: {replied}", replied == ("refused", "35 WrongVector")
+        commit = maker.sign(version)
+        maker.take(user, change, version, commit)
+        replied = hand_in(link, commit, item)
+        yield f"a_batch_is_stored: {replied}", replied == ("stored", 2)
+        for form in (1, 2, 3):
+            other = maker.version(0, ("undo", 2), 4)
+            other.form = form
+            replied = hand_in(link, maker.sign(other), logs.item_of(("undo", 2)))
+            yield f"none_of_format_{form}_behind_it: {replied}", replied == ("refused", "44 OldFormat")
+        for name, user, line, wanted in (
+                ("lists", 1, b"ls /", [b"a G0:2", b"b U0:3", b"c G0:3"]), ("shows", 1, b"cat /b 0 9", [b"6869"]),
+                ("goes_on", 1, b"write /a 1 42", [b"ok 3", b"ok 4"]), ("may_not_undo_it", 1, b"undo 2", [b"no 39 Change 27 NotAuthor 0"]),
+                ("has_it_blocked", 0, b"undo 2", [b"no 39 Change 28 Blocked 3"]), ("undoes_the_write", 1, b"undo 4", [b"ok 5"]),
+                ("has_it_blocked_still", 0, b"undo 2", [b"no 39 Change 28 Blocked 3"]), ("undoes_the_take", 1, b"undo_last", [b"ok 6"]),
+                ("undoes_it", 0, b"undo 2", [b"ok 7"]), ("lists_what_was_before", 1, b"ls /", [b"a G0:2"]), ("shows_it", 0, b"cat /a 0 9", [b""]),
+                ("undoes_it_once", 0, b"undo 2", [b"no 39 Change 26 AlreadyUndone 2 7"]), ("saves", 0, b"save " + saved.encode(), [])):
+            ended = room.run(server.port, user, line, key=keys_[user])
+            yield f"who_takes_a_batch_{name}: {ended}", ended == (wanted, [], 0)
+        link.close()
+    forms = [form for _, form, _ in history_of(saved)]
+    yield f"formats_with_a_batch: {forms}", forms == [3] + [4] * 6
+    yield "a_log_with_a_batch_audits", audit(room, saved) == ([b"ok 7"], [], 0) and audit_model.audit(room.public_keys, read(saved)) == ("ok 7\n", 0)
+    with Server(room) as server:
+        ended = room.run(server.port, 1, b"ls /\n", "--log", saved, key=keys_[1])
+        yield f"a_log_with_a_batch_is_gone_on_with: {ended}", ended == ([b"no 40 OwnMissing"], [], 0)
+
+
+# what clients with --batch are told, by whom, and what is printed
+LINES_IN_BATCHES = (
+    (0, "mkdir /d", "ok 1"), (1, "create /d/f", "ok 2"), (1, "write /d/f 0 68656c6c6f", "ok 3"), (0, "rename /d/f /f", "ok 4"),
+    (0, "ls /", "d G0:2|f G0:3"), (0, "undo 4", "ok 5"), (0, "ls /d", "f G0:3"), (0, "write /d/f 5 21", "ok 6"), (1, "cat /d/f 0 9", "68656c6c6f21"),
+    # blocked by what came between, by the take in the batch and by the write alike
+    (1, "undo 3", "no 39 Change 28 Blocked 6"), (1, "undo 2", "no 39 Change 28 Blocked 6"), (1, "undo 6", "no 39 Change 27 NotAuthor 0"),
+    (0, "undo 6", "ok 7"), (1, "undo 3", "ok 8"), (0, "cat /d/f 0 9", ""), (1, "undo 2", "ok 9"), (0, "ls /d", ""),
+    # a batch that is refused makes nothing, not the take in it either
+    (1, "create /d", "no 19 Exists"), (1, "create /g/x", "no 18 NoName"), (1, "truncate /d 1", "no 15 WrongKind G0:2"), (0, "mkdir /e", "ok 10"),
+    (1, "remove /e", "ok 11"), (1, "tidy", ""), (0, "tidy", "ok 12"), (0, "tidy", ""), (0, "rename /d /d", ""), (0, "undo_last", "ok 13"),
+    (1, "undo_last", "ok 14"), (0, "ls /", "d G0:2|e G0:3"),
+)
+
+
+def commands_in_batches(at):
+    """A client with --batch makes each command one commit; one without makes one of each operation, also in a list that has batches."""
+    if not knows_batches():
+        return
+    room, saved, team = Room(at), f"{at}/saved", client_model.Team(2, batches=True)
+    with Server(room) as server:
+        with room.client(server.port, 0, "--batch") as zero, room.client(server.port, 1, "--batch") as one:
+            for number, (user, line, wanted) in enumerate(LINES_IN_BATCHES):
+                wanted = [it.encode() for it in wanted.split("|") if it or line.startswith("cat")]
+                by_model = list(client_model.answers(team.member(user), line.encode()))
+                said = (zero, one)[user].say(line.encode())
+                yield f"in_batches_{number}: {line} {said}, and not {wanted} {by_model}", said == wanted == by_model
+            zero.say(b"save " + saved.encode())
+            yield "in_batches_ends", [it.end() for it in (zero, one)] == [([], [], 0)] * 2
+        history = history_of(saved)
+        yield f"in_batches_history: {[it for it in zip(history, team.desk.history) if it[0] != it[1]][:1]}", history == team.desk.history
+        count = len(history)
+        yield f"in_batches_formats: {history}", [form for _, form, _ in history] == [3] + [4] * (count - 1) and history[1][2][0] == "batch"
+        yield "in_batches_audits", audit(room, saved) == ([b"ok %d" % count], [], 0)
+        ended = room.run(server.port, 1, b"rename /d /c\n")
+        wanted = [b"ok %d" % (count + n) for n in (1, 2)]
+        yield f"without_the_word_each_operation_is_one: {ended}", ended == (wanted, [], 0)
+        ended = room.run(server.port, 0, b"rename /c /b\nmkdir /b\n", "--batch", "--stop")
+        wanted = [b"ok %d" % (count + 3), b"no 19 Exists"]
+        yield f"it_goes_with_other_options: {ended}", (ended[0], ended[2]) == (wanted, 1) and is_told(ended[1], "line 2 ")
+    yield from long_batches(at)
+    yield from batches_between(at)
+    yield from batches_in_a_full_book(at)
+
+
+def knows_batches():
+    return program == MODEL or CLIENT_BATCHES
+
+
+def long_batches(at):
+    """A command with more operations than an item has room for becomes as few commits as can be."""
+    os.mkdir(f"{at}/long")
+    room, saved, count = Room(f"{at}/long"), f"{at}/long/saved", 300
+    maker = room.log("; ".join([f"0 batch {' + '.join(f'create G0:1 {n} G0:{n} {n}' for n in range(2 + first, 2 + last))}"
+                                for first, last in ((0, 256), (256, count))]), form=4)
+    for first, last in ((0, 256), (256, count)):
+        maker.say(f"1 batch {' + '.join(f'take G0:{n} {n}' for n in range(2 + first, 2 + last))}")
+    keys_ = [room.file(key.file(16)) for key in room.keys]
+    with Server(room) as server:
+        link = raw(server.port)
+        stored = [hand_in(link, commit, item) for commit, item in maker.records]
+        yield f"long_batches_are_stored: {stored}", stored == [("stored", n) for n in range(1, 5)]
+        link.close()
+        ended = room.run(server.port, 0, b"tidy\ntidy\nsave %b\n" % saved.encode(), "--batch", key=keys_[0])
+        yield f"a_long_command_is_cut: {ended}", ended == ([b"ok 5", b"ok 6"], [], 0)
+    made = [(author, form, len(change[1])) for author, form, change in history_of(saved)[4:]]
+    yield f"as_late_as_can_be: {made}", made == [(0, 4, 256), (0, 4, count - 256)] and audit(room, saved) == ([b"ok 6"], [], 0)
+
+
+def batches_between(at):
+    """Nothing of another user comes between the operations of a command; what came before its turn is seen, and what comes behind too."""
+    os.mkdir(f"{at}/between")
+    room = Room(f"{at}/between")
+    zero, one = ([*room.words(0, user, "--batch")] for user in range(2))
+
+    def told(port, words, script):
+        with Running([*words[:2], port, *words[3:]]) as client:
+            client.write(script)
+            return client.end()
+
+    with Server(room) as server:
+        ended = told(server.port, zero, b"mkdir /a\nmkdir /b\n")
+        yield f"before_another_comes_between: {ended}", ended == ([b"ok 1", b"ok 2"], [], 0)
+        seen = []
+        between = Between(server.port, lambda: seen.append(told(server.port, zero, b"rename /a /z\nls /\n")))
+        ended = told(between.port, one, b"create /c\nls /\ncreate /d\n")
+        yield f"another_finds_the_whole_command: {seen}", seen == [([b"ok 4", b"b G0:3", b"c G0:4", b"z G0:2"], [], 0)]
+        yield f"and_comes_behind_it: {ended}", ended == ([b"ok 3", b"b G0:3", b"c G0:4", b"z G0:2", b"ok 5"], [], 0)
+
+
+def batches_in_a_full_book(at):
+    """A command of several operations needs room for one commit, and one leaf."""
+    os.mkdir(f"{at}/full")
+    room = Room(f"{at}/full")
+    last = room.file(room.keys[1].file(31))
+    with Server(room, capacity=3) as server:
+        ended = room.run(server.port, 0, b"mkdir /a\n", "--batch")
+        yield f"full_book_begins: {ended}", ended == ([b"ok 1"], [], 0)
+        ended = room.run(server.port, 1, b"create /b\ncreate /c\n", "--batch", key=last)
+        yield f"one_leaf_is_enough: {ended}", ended == ([b"ok 2", b"no 8 KeySpent"], [], 0)
+        ended = room.run(server.port, 0, b"create /d\ncreate /e\nls /\n", "--batch")
+        yield f"and_room_for_one_commit: {ended}", ended == ([b"ok 3", b"no 37 BookFull", b"a G0:2", b"b G0:3", b"d G0:4"], [], 0)
 
 
 def is_ended(link):
@@ -1918,20 +2118,20 @@ class Dice:
 
 
 def by_chance(at):
-    """Of two users at once, one line after the other. Some books get full, and some keys are spent."""
+    """Of two users at once, one line after the other. Some books get full, and some keys are spent; some clients make batches."""
     seen = set()
     for seed in range(CHANCE_SCRIPTS):
-        folder = f"{at}/{seed}"
+        folder, more = f"{at}/{seed}", ["--batch"] if knows_batches() and seed % 3 == 2 else []
         os.mkdir(folder)
         room = Room(folder)
         others = [logs.key_of(f"serving, another {n}") for n in range(3)]
         dice = Dice(seed, [room.file(it) for it in (others[0].file(), others[1].file(30), others[2].file(5), b"no key")] + [f"{folder}/none"])
         capacity, left = (8 if seed % 5 == 0 else 1000), (5 if seed % 5 == 1 else 32)
         keys = [room.file(key.file(32 - left)) for key in room.keys]
-        team = client_model.Team(2, left, capacity, room.public_keys)
+        team = client_model.Team(2, left, capacity, room.public_keys, bool(more))
         script = []
         with Server(room, capacity=capacity) as server:
-            with room.client(server.port, 0, key=keys[0]) as zero, room.client(server.port, 1, key=keys[1]) as one:
+            with room.client(server.port, 0, *more, key=keys[0]) as zero, room.client(server.port, 1, *more, key=keys[1]) as one:
                 for _ in range(CHANCE_LINES):
                     user, line = dice.random.randrange(2), dice.line(len(team.desk.history))
                     script.append((user, line[:80]))
@@ -1956,7 +2156,7 @@ def same_log(seed, folder, room, client, team):
 PARTS = (
     walk, logs_taken_up, little_room, operations, at_once, many_users, at_a_keyboard, lines, stops, saves, streams, faults, keys, leaves_ahead, signatures, kills,
     kills_ahead, kills_at_calls, busy, silent, deaf, crowded, unanswered, turns, many_turns, lies, sessions, ended_sessions, asides, bytes_of_sessions,
-    stored_bytes, formats, book, rekeys, next_keys, example, by_chance)
+    stored_bytes, formats, batches, commands_in_batches, book, rekeys, next_keys, example, by_chance)
 
 
 def main():
