@@ -1,6 +1,6 @@
 #!/usr/bin/env python3
 """Tries what `sundr` does for people: state folders of two users at one server, a tree of files put and got back, a conflict, an undo
-and one that is blocked, heads that are compared, puts that are killed, and a server that was set back.
+and one that is blocked, heads that are compared, commands that are one commit, puts that are killed, and a server that was set back.
 
 usage: people.py [PART..]
 
@@ -25,6 +25,7 @@ PROGRAM = os.environ.get("SUNDR", f"{TOP}/crates/sundr/out/sundr")
 FILES = int(os.environ.get("PEOPLE_FILES", "200"))
 KILLS = int(os.environ.get("PEOPLE_KILLS", "50"))
 WAIT = 120  # seconds that a command may take at most
+BATCHES = False  # whether the operations of a command are as few commits as their items have room for, and a put knows --each
 
 passed = failed = 0
 
@@ -52,8 +53,15 @@ class Ended:
         return f"status {self.status}, printed {self.text[-600:]!r}, told {self.told[-600:]!r}"
 
 
+def started(*words, at=None):
+    return subprocess.Popen([PROGRAM, *map(str, words)], cwd=at, stdin=subprocess.DEVNULL, stdout=subprocess.PIPE, stderr=subprocess.PIPE)
+
+
 def run(*words, at=None):
-    process = subprocess.Popen([PROGRAM, *map(str, words)], cwd=at, stdin=subprocess.DEVNULL, stdout=subprocess.PIPE, stderr=subprocess.PIPE)
+    return ended_of(started(*words, at=at))
+
+
+def ended_of(process):
     try:
         printed, told = process.communicate(timeout=WAIT)
     except subprocess.TimeoutExpired:
@@ -290,7 +298,8 @@ def progress(room, team):
             it.write(bytes([number]) * 200000)
     told = told_on_terminal("put", "--in", team.at("ann"), "-r", f"{room}/large", "/large")
     check("a terminal is told of each file", all(f"put  {n}/5 files" in told for n in range(1, 6)), told)
-    check("of bytes and commits", "1.0/1.0 MB  26 commits" in told, told)
+    found = re.findall(r"1\.0/1\.0 MB  (\d+) commits", told)
+    check("of bytes and commits", found and (int(found[-1]) < 26 if BATCHES else found[-1] == "26"), told)
     check("on one line that is cleared", "\n" not in told and told.endswith("\r\x1b[K"), told)
     ended = team.do("bob", "get", "-r", "/large", f"{room}/large of bob")
     check("nothing else is", ended.status == 0 and ended.told == "", ended)
@@ -335,14 +344,16 @@ def undos(room, team):
     ended = team.do("bob", "show", "--json", last)
     shown = json.loads(ended.printed or b"{}")
     check("as JSON", (shown.get("number"), shown.get("author"), shown.get("lines", [{}])[0].get("last")) == (last, "bob", last), ended)
-    # ann's change is blocked by bob's take, which read all of it
+    # ann's change is blocked by bob's take, which read all of it; where it is one commit with his write, that was taken back with it
+    if BATCHES:
+        check("he changes it again", team.do("bob", "put", "--over", f"{room}/plan of bob", "/report/plan").status == 0)
     ended = team.do("ann", "history", "/report/plan")
     mine = [int(it) for it in re.findall(r"^(?:\d+\.\.| *)(\d+) +ann  wrote", ended.text, re.M)]
     check("ann's own change is in the history", mine, ended)
     ended = team.do("ann", "undo", mine[0])
     check("a blocked undo is refused", ended.status == 1 and "Blocked" in ended.told, ended)
     ended = team.do("ann", "undo", "--why", mine[0])
-    check("why is told", ended.status == 0 and "bob" in ended.text and "took" in ended.text, ended)
+    check("why is told", ended.status == 0 and "bob" in ended.text and ("wrote" if BATCHES else "took") in ended.text, ended)
     ended = team.do("ann", "undo", "--why", "--json", mine[0])
     check("as JSON", ended.status == 0 and json.loads(ended.printed or b"[]")[-1]["author"] == "bob", ended)
     ended = team.do("bob", "undo", "--with-blockers", mine[0])
@@ -398,6 +409,195 @@ def forgets(room, team):
     check("who lacks nothing goes on", ended.status == 0, ended)
 
 
+# ---- commands that are one commit
+
+def together(room):
+    if not BATCHES:
+        return
+    team = team_of(room)
+    try:
+        many_files(room, team)
+        names_together(team)
+        edited_by_another(room, team)
+        each_file(room, team)
+        large_together(room, team)
+        at_once(room, team)
+    finally:
+        team.end()
+
+
+def make_files(at, count, size, mark):
+    """A folder of so many files of so many bytes, which all differ."""
+    os.makedirs(at)
+    for number in range(count):
+        with open(f"{at}/f{number}", "wb") as it:
+            it.write(f"{mark} {number} ".encode().ljust(size, b".")[:size])
+
+
+def head_of(team, name):
+    return json.loads(team.do(name, "status", "--json").printed or b"{}").get("head")
+
+
+def commits_of(team, name, *words):
+    """What a command of a user ended with, and how many commits it made."""
+    before = head_of(team, name)
+    ended = team.do(name, *words)
+    return ended, (head_of(team, name) or 0) - (before or 0)
+
+
+def lines_of(team, name, *words):
+    """The lines of a history, the newest first."""
+    return json.loads(team.do(name, "history", "--json", *words).printed or b"[]")
+
+
+def many_files(room, team):
+    """A put of 100 small files is one commit, one line of the history, and one undo."""
+    make_files(f"{room}/many", 100, 100, "many")
+    ended = team.do("ann", "put", "-n", "-r", f"{room}/many", "/many")
+    check("a dry run of many files makes no commit", ended.status == 0 and "would put" in ended.text and not head_of(team, "ann"), ended)
+    ended, made = commits_of(team, "ann", "put", "-r", f"{room}/many", "/many")
+    check("a put of 100 files is one commit", ended.status == 0 and made == 1, (made, ended))
+    check("which it tells", "100 files, 10000 bytes, 1 commit (1 to 1)" in ended.text, ended)
+    ended, made = commits_of(team, "ann", "put", "-r", f"{room}/many", "/many")
+    check("they aren't put again", ended.status == 0 and made == 0 and "100 files there already" in ended.text, (made, ended))
+    ended = team.do("bob", "get", "-r", "/many", f"{room}/many of bob")
+    check("all of them are got", ended.status == 0 and tree_of(f"{room}/many") == tree_of(f"{room}/many of bob"), ended)
+    ended = team.do("bob", "history")
+    shown = r" *1 +ann +did 201 operations together \(10000 bytes\)\n"
+    check("the history has one line of them", ended.status == 0 and re.fullmatch(shown, ended.text), ended)
+    told = lines_of(team, "bob")
+    check("as JSON too", [(it["first"], it["last"], it["author"], it["bytes"], it["undone_by"]) for it in told] == [(1, 1, "ann", 10000, None)], told)
+    ended = team.do("bob", "ls", "-l", "/many/f7")
+    check("each file tells the commit", re.search(r"f7 +100  commit 1 ann", ended.text), ended)
+    ended = team.do("bob", "undo", 1)
+    check("only who put them takes them back", ended.status == 1 and "NotAuthor" in ended.told, ended)
+    ended, made = commits_of(team, "ann", "undo", 1)
+    check("one undo takes all of them back", ended.status == 0 and made == 1, (made, ended))
+    check("so nothing is left", team.do("bob", "ls", "/").text == "")
+    told = lines_of(team, "bob")
+    check("the history says so", [it["undone_by"] for it in told if it["last"] == 1] == [2], told)
+    ended = team.do("ann", "undo", 1)
+    check("they are taken back once", ended.status == 1 and "AlreadyUndone" in ended.told, ended)
+    ended, made = commits_of(team, "ann", "put", "-r", f"{room}/many", "/many")
+    check("they can be put once more", ended.status == 0 and made == 1, (made, ended))
+    ended = team.do("bob", "get", "-r", "/many", f"{room}/many of bob")
+    check("and are the same", ended.status == 0 and "100 files there already" in ended.text, ended)
+
+
+def names_together(team):
+    """Other commands are one commit each too, with the takes that they need."""
+    for name, words, shown in (
+            ("a move", ("mv", "/many/f0", "/many/g0"), "g0"), ("a move by another", ("mv", "/many/f1", "/many/g1"), "g1"),
+            ("a move onto a name", ("mv", "/many/f2", "/many/g1"), "g1"), ("a further name", ("ln", "/many/f3", "/many/h3"), "h3"),
+            ("folders in folders", ("mkdir", "-p", "/many/in/and/in"), "in")):
+        user = "bob" if name.endswith("another") else "ann"
+        ended, made = commits_of(team, user, *words)
+        check(f"{name} is one commit", ended.status == 0 and made == 1, (made, ended))
+        ended = team.do("bob", "ls", "/many")
+        check(f"{name} is seen", any(it.rstrip("/") == shown for it in ended.text.splitlines()), ended)
+    before = team.do("bob", "ls", "/many").text
+    ended, made = commits_of(team, "bob", "rm", "-r", "/many")
+    check("a folder is removed by one commit", ended.status == 0 and made == 1, (made, ended))
+    check("and is gone", team.do("ann", "ls", "/").text == "")
+    ended, made = commits_of(team, "bob", "undo", head_of(team, "bob"))
+    check("which one undo takes back", ended.status == 0 and made == 1, (made, ended))
+    ended = team.do("ann", "ls", "/many")
+    check("with each name", ended.text == before and len(before.splitlines()) == 101, ended)
+
+
+def edited_by_another(room, team):
+    """An edit of one file of many stands in the way of the undo of all."""
+    make_files(f"{room}/some", 20, 100, "some")
+    ended, made = commits_of(team, "ann", "put", "-r", f"{room}/some", "/some")
+    check("some files are put", ended.status == 0 and made == 1, (made, ended))
+    put = head_of(team, "ann")
+    with open(f"{room}/edit", "w") as it:
+        it.write("bob's words\n")
+    ended, made = commits_of(team, "bob", "put", "--over", f"{room}/edit", "/some/f7")
+    check("one of them is taken over and written by one commit", ended.status == 0 and made == 1, (made, ended))
+    edit = head_of(team, "bob")
+    ended = team.do("ann", "undo", put)
+    check("that blocks the undo of all of them", ended.status == 1 and f"Blocked {edit}" in ended.told, ended)
+    check("of which none is gone", len(team.do("ann", "ls", "/some").text.splitlines()) == 20)
+    ended = team.do("ann", "undo", "--why", put)
+    check("why is told", ended.status == 0 and re.search(rf"^ *{edit} +bob +wrote 12 bytes", ended.text, re.M), ended)
+    check("he takes it back", team.do("bob", "undo", edit).status == 0)
+    ended = team.do("bob", "cat", "/some/f7")
+    check("so the file is as it was put", ended.printed == open(f"{room}/some/f7", "rb").read(), ended)
+    ended, made = commits_of(team, "ann", "undo", put)
+    check("then all of them are taken back", ended.status == 0 and made == 1, (made, ended))
+    ended = team.do("bob", "ls", "/some")
+    check("and are gone", ended.status == 1 and "NoName" in ended.told, ended)
+
+
+def each_file(room, team):
+    """With --each every file has a commit of its own, which is taken back alone."""
+    make_files(f"{room}/single", 100, 100, "single")
+    ended, made = commits_of(team, "ann", "put", "--each", "-r", f"{room}/single", "/single")
+    check("with --each there are as many commits as files", ended.status == 0 and made >= 100, (made, ended))
+    ended = team.do("bob", "get", "-r", "/single", f"{room}/single of bob")
+    check("all of them are got", ended.status == 0 and tree_of(f"{room}/single") == tree_of(f"{room}/single of bob"), ended)
+    told = lines_of(team, "bob", "/single/f7")
+    check("each has a line of its own", len(told) == 1 and told[0]["bytes"] == 100, told)
+    ended = team.do("ann", "undo", told[0]["last"] if told else 0)
+    check("one of them is taken back", ended.status == 0, ended)
+    ended, left = team.do("bob", "cat", "/single/f7"), team.do("bob", "ls", "/single").text.splitlines()
+    check("and no other one", ended.printed == b"" and len(left) >= 99 and "f8" in left, (ended, left))
+
+
+def large_together(room, team):
+    """What an item has no room for is put by more commits, each as full as it goes; in the end it is all there."""
+    make_files(f"{room}/more", 300, 100, "more")
+    ended, made = commits_of(team, "ann", "put", "-r", f"{room}/more", "/more")
+    check("a put of 300 files is a few commits", ended.status == 0 and 3 <= made <= 4, (made, ended))
+    make_files(f"{room}/long", 20, 20_000, "long")
+    ended, made = commits_of(team, "ann", "put", "-r", f"{room}/long", "/long")
+    check("a put of 20 files of 20 kB is several", ended.status == 0 and 6 <= made <= 8, (made, ended))
+    make_files(f"{room}/huge", 1, 1_048_576, "huge")
+    ended, made = commits_of(team, "ann", "put", f"{room}/huge/f0", "/huge")
+    check("a put of a large file is many", ended.status == 0 and 16 <= made <= 17, (made, ended))
+    for name in ("more", "long"):
+        ended = team.do("bob", "get", "-r", f"/{name}", f"{room}/{name} of bob")
+        check(f"all of it is got ({name})", ended.status == 0 and tree_of(f"{room}/{name}") == tree_of(f"{room}/{name} of bob"), ended)
+    ended = team.do("bob", "cat", "/huge")
+    check("the large file too", ended.printed == open(f"{room}/huge/f0", "rb").read(), (ended.status, len(ended.printed), ended.told))
+
+
+def at_once(room, team):
+    """Two users put files at the same time, into folders of their own and into one: nothing is lost."""
+    check("a folder for both", team.do("ann", "mkdir", "/both").status == 0)
+    for turn in range(3):
+        going = []
+        for name in team.names:
+            make_files(f"{room}/{turn}/{name}", 60, 100, f"{turn} {name}")
+            os.makedirs(f"{room}/{turn}/of both", exist_ok=True)
+            for number in range(60):
+                shutil.copy(f"{room}/{turn}/{name}/f{number}", f"{room}/{turn}/of both/{name}{number}")
+            going += [started("put", "--in", team.at(name), "-r", f"{room}/{turn}/{name}", f"/own{turn}{name}")]
+        for name, ended in zip(team.names, map(ended_of, going)):
+            check(f"{name} puts while the other does ({turn})", ended.status == 0, ended)
+        going = []
+        for name in team.names:
+            files = [f"{room}/{turn}/of both/{name}{number}" for number in range(60)]
+            going += [started("put", "--in", team.at(name), *files, "/both/")]
+        for name, ended in zip(team.names, map(ended_of, going)):
+            check(f"{name} puts where the other does ({turn})", ended.status == 0, ended)
+        for name in team.names:
+            ended = team.do("ann", "get", "-r", f"/own{turn}{name}", f"{room}/{turn}/got {name}")
+            is_whole = tree_of(f"{room}/{turn}/{name}") == tree_of(f"{room}/{turn}/got {name}")
+            check(f"what {name} put is there ({turn})", ended.status == 0 and is_whole, ended)
+        ended = team.do("bob", "get", "--over", "-r", "/both", f"{room}/{turn}/got both")
+        check(f"what both put is there ({turn})", ended.status == 0 and tree_of(f"{room}/{turn}/of both") == tree_of(f"{room}/{turn}/got both"), ended)
+        ended, made = commits_of(team, "bob", "rm", "-r", "/both")
+        check(f"one of them removes it ({turn})", ended.status == 0 and made <= 2, (made, ended))
+        check(f"and makes it anew ({turn})", team.do("bob", "mkdir", "/both").status == 0)
+    check("both see one head", head_of(team, "ann") == head_of(team, "bob"), [head_of(team, name) for name in team.names])
+    ended = team.do("ann", "verify")
+    check("the log is verified", ended.status == 0 and ended.text == f"ok {head_of(team, 'ann')}\n", ended)
+
+
+# ---- logs that are cut, and puts that are killed
+
 def cut_log(room):
     """A log whose last entry was cut is cut there; one that is damaged is refused."""
     team = team_of(room)
@@ -451,7 +651,7 @@ def example(room):
     check("the example", (ended.stdout, ended.stderr, ended.returncode) == (wanted, b"", 0), (ended.stdout[-3000:], ended.stderr, ended.returncode))
 
 
-PARTS = {"walk": walk, "cut_log": cut_log, "kills": kills, "example": example}
+PARTS = {"walk": walk, "together": together, "cut_log": cut_log, "kills": kills, "example": example}
 
 
 def main():
