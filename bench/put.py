@@ -52,7 +52,7 @@ MEGABYTE = 1_000_000
 # ---- commands, servers and files
 
 def fail(why):
-    sys.exit(f"bench/put.py: {why}")
+    sys.exit(f"bench/{os.path.basename(sys.argv[0])}: {why}")
 
 
 def run(words, **how):
