@@ -616,7 +616,7 @@ class Client(Member):
     def make(self, change):
         demand(self.key.public() == self.view.chain.publics[self.user], "33 BadSignature")
         try:
-            version = self.view.maker.version(self.user, change, self.desk().made_format(change))
+            version = self.view.maker.client_version(self.user, change)
             item = item_for(change)
         except Refused as why:
             raise Refused(f"39 Change {why}") from None

@@ -227,8 +227,7 @@ def changes(at):
 def log_with(before, user, item):
     """The log with the commit of an item behind it."""
     try:
-        change = audit_model.change_in(item)
-        version = before.copy().version(user, change, before.desk.made_format(change))
+        version = before.copy().client_version(user, audit_model.change_in(item))
     except (Refused, OverflowError):
         version = logs.Version(user, before.prev, sha256(item), bytes(32), [], before.raised(user, []))
     return before.log() + logs.log_bytes([(signed(before, version.encode(), user), item)])

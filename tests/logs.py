@@ -168,6 +168,10 @@ class Maker:
         next_key = change[1] if change[0] == "rekey" else None
         return Version(user, self.prev, sha256(item_of(change)), handles.of("U", user), groups, vector, form, next_key)
 
+    def client_version(self, user, change):
+        """The same, in the format in which a client makes the change."""
+        return self.version(user, change, self.desk.made_format(change))
+
     def raised(self, user, groups):
         return raised(self.vector, len(self.keys), user, groups)
 

@@ -1769,9 +1769,9 @@ def formats(at):
     yield "both_are_audited", audit(room, saved) == ([b"ok 6"], [], 0)
 
 
-def falling(room, link, log):
-    """What a server that holds this log replies to commits of user 1, who holds the root, and what it should: to one of the second format,
-    and then to some of the first, which have other reasons to be refused too, before the format in their order or behind it."""
+def falling(room, link, log, older=1):
+    """What a server that holds this log replies to commits of user 1, who holds the root, and what it should: to one that a client makes,
+    and then to some of an older format, which have other reasons to be refused too, before the format in their order or behind it."""
     view = audit_model.View(room.public_keys)
     for commit, item in audit_model.pieces(log):
         view.put(item)
@@ -1780,7 +1780,7 @@ def falling(room, link, log):
     pointers = view.maker.desk.tree(view.maker.desk.history)[1]
     file = desk_model.group_file(0, client_model.least_free(1, lambda n: (0, n) not in pointers))
     made = ("create", "create", desk_model.group_file(0, 1), b"z", file, 9)
-    version, item = view.maker.version(1, made), logs.item_of(made)
+    version, item = view.maker.client_version(1, made), logs.item_of(made)
     commit = logs.commit_of(version, room.keys[1].sign(leaf, version.encode()))
     told = [reply_to(link, request) for request in (wire.put(item), wire.GRANT, wire.commit(commit))]
     yield "not", told[-1], ("stored", number + 1)
@@ -1791,8 +1791,8 @@ def falling(room, link, log):
             ("alone", {}, 1, leaf + 1, "44 OldFormat"), ("unsigned", {}, 0, leaf + 1, "33 BadSignature"),
             ("elsewhere", {"prev": bytes(32)}, 1, leaf + 1, f"34 WrongPrev {number + 1}"),
             ("with_another_vector", {"vector": [0] * 4}, 1, leaf + 1, "44 OldFormat"), ("with_a_leaf_again", {}, 1, leaf, "44 OldFormat")):
-        version = view.maker.version(1, ("undo", number + 1))
-        for field, value in {**fields, "form": 1}.items():
+        version = view.maker.client_version(1, ("undo", number + 1))
+        for field, value in {**fields, "form": older}.items():
             setattr(version, field, value)
         commit = logs.commit_of(version, room.keys[signer].sign(leaf_, version.encode()))
         yield name, reply_to(link, wire.commit(commit)), ("refused", why)

@@ -751,6 +751,38 @@ def still_there(room, folder, saved):
     yield f"are_both_saved: {forms}", forms == [1] * 9 + [3] * 9 and serving.audit(room, saved) == ([b"ok 18"], [], 0)
 
 
+def with_batches(at):
+    """A store with commits of the third format, and batches behind them: another server shows all of it, and takes no more of the third; so
+    does a copy."""
+    room, store, saved, copy = serving.Room(at), f"{at}/store", f"{at}/saved", f"{at}/copy"
+    maker = room.log("1 take G0:1 1; 1 create G0:1 a G0:2 2")
+    maker.add(*maker.read("1 batch create G0:1 b U1:3 + write U1:3 0 6869 + write G0:2 0 41"), 4)
+    with Keeping(room, store) as server:
+        link = serving.raw(server.port)
+        told = [serving.hand_in(link, commit, item) for commit, item in maker.records]
+        yield f"a_batch_is_stored: {told}", told == [("stored", n) for n in (1, 2, 3)]
+        for name, told, right in serving.falling(room, link, maker.log(), older=3):
+            yield f"format_falls_behind_a_batch_{name}: {told}", told == right
+        link.close()
+        ended = room.run(server.port, 0, b"write /a 0 42\n")
+        yield f"a_client_goes_on_behind_a_batch: {ended}", ended == ([b"ok 5", b"ok 6"], [], 0)
+        yield f"a_store_with_a_batch_is_copied: {copy}", copied(backup(room, server.port, copy)) == (6, 6)
+        server.write(b"stop\n")
+        server.end()
+    for folder in (store, copy):
+        with Keeping(room, folder) as server:
+            yield f"has_a_batch: {server.said}", b" with 6 records" in server.said
+            ended = room.run(server.port, 0, b"ls /\ncat /a 0 9\ncat /b 0 9\nundo 3\nsave %b\n" % saved.encode())
+            wanted = [b"a G0:2", b"b U1:3", b"z G0:3", b"42", b"6869", b"no 39 Change 27 NotAuthor 1"]
+            yield f"shows_what_a_batch_made: {ended}", ended == (wanted, [], 0)
+            link = serving.raw(server.port)
+            again = maker.sign(maker.version(1, ("undo", 3), 4))
+            yield "a_commit_of_before_is_refused", serving.hand_in(link, again, logs.item_of(("undo", 3))) == ("refused", "34 WrongPrev 6")
+            link.close()
+        forms = [form for _, form, _ in serving.history_of(saved)]
+        yield f"formats_of_a_store_with_a_batch: {forms}", forms == [3, 3, 4, 4, 4, 4] and serving.audit(room, saved) == ([b"ok 6"], [], 0)
+
+
 def filled(at):
     """A store with three commits, and the room of its users."""
     room, store = Room(at), f"{at}/store"
@@ -992,7 +1024,7 @@ def lacking_items(at, room, records, copy_of):
 
 PARTS = (
     ends, asked_to_end, two_servers, kills, damage, no_room, small_cache, room_of_items, items_of_sessions, tiny_items, strangers,
-    several_files, earlier, bad_files,
+    several_files, earlier, with_batches, bad_files,
     backs_up, backup_kills, bad_backups, copies_of_lies)
 
 
