@@ -552,7 +552,7 @@ def large_together(room, team):
     check("a put of 300 files is a few commits", ended.status == 0 and 3 <= made <= 4, (made, ended))
     make_files(f"{room}/long", 20, 20_000, "long")
     ended, made = commits_of(team, "ann", "put", "-r", f"{room}/long", "/long")
-    check("a put of 20 files of 20 kB is several", ended.status == 0 and 6 <= made <= 8, (made, ended))
+    check("a put of 20 files of 20 kB is several", ended.status == 0 and 6 <= made <= 10, (made, ended))
     make_files(f"{room}/huge", 1, 1_048_576, "huge")
     ended, made = commits_of(team, "ann", "put", f"{room}/huge/f0", "/huge")
     check("a put of a large file is many", ended.status == 0 and 16 <= made <= 17, (made, ended))
