@@ -22,6 +22,7 @@ PROGRAM = os.path.abspath(os.environ.get("SUNDR", f"{TOP}/crates/sundr/out/sundr
 INIT = ["init", "team", "--server", "localhost:7000", "--team", "team.txt", "--user", "ann", "--key", "key"]
 DIGEST = "3f1a77c0 9be04d52 00010203 04050607 08090a0b 0c0d0e0f f0f1f2f3 f4f5f6f7"
 LARGEST = str(2 ** 64 - 1)
+EACH = False  # whether a put knows --each
 
 
 def with_server(place):
@@ -145,6 +146,9 @@ RIGHT = {
     "a_place": ["where"],
     "another_place": ["where", "localhost:7001"],
 }
+if EACH:
+    WRONG |= {"each_with_a_value": ["put", "--each=yes", "local", "/"], "each_of_a_get": ["get", "--each", "/path", "local"], "each_twice": ["put", "--each", "--each", "local", "/"]}
+    RIGHT |= {"a_put_of_each": ["put", "-r", "--each", "--over", "-n", "one", "two", "/path"], "a_put_of_one_and_each": ["put", "one", "/path", "--each"]}
 
 # The files of the state folder that the page of the manual tells of.
 STATE = {".sundr/" + it for it in ("team", "where", "me", "log", "times", "seen", "lock")}

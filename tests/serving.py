@@ -1303,7 +1303,11 @@ def lying_batches(room, show):
     lifted.add(1, good, 4)
     first, *_ = operations = [logs.spelled_operation(it) for it in good[1]]
     each = [number + {1: 3, 2: 1}.get(n, 0) for n, number in enumerate(begun.vector)]
+    longest, longer = (("batch", (("write", ("U", 1, 2), 0, b"A" * 65536), ("write", ("U", 1, 2), 65536, b"B" * count))) for count in (4430, 4431))
     return {
+        "a_batch_of_70000_bytes": (show(behind(longest)), [b"a G0:2", b"b U1:2", b""]),
+        "a_batch_of_70001_bytes": (show(behind(longer)), [b"no 39 Change 1 Malformed 0"] * 2),
+        "a_batch_of_70000_bytes_and_one_more": (show(behind(longest, item=logs.item_of(longest) + b"\0")), [b"no 39 Change 1 Malformed 70000"] * 2),
         "a_batch": (show(behind(good)), [b"a G0:2", b"42"]),
         "a_batch_of_the_third_format": (show(behind(good, 3)), [b"no 39 Change 44 OldFormat"] * 2),
         "a_batch_of_one": (show(behind(good, item=logs.batch_item(1, first))), [b"no 39 Change 1 Malformed 2"] * 2),
