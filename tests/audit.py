@@ -653,10 +653,13 @@ BATCH_FIELDS = {
 # batches that the desk refuses after the first four commits, and how
 UNFIT_BATCHES = {
     "1 batch create G0:1 x G0:3 3 + create G0:1 x G0:4 4": "19 Exists", "1 batch create G0:1 x G0:3 3 + create G0:1 y G0:4 3": "17 Held",
-    "1 batch create G0:1 x U1:3 + write U1:2 0 41 + truncate U1:9 1": "14 NoFile U1:9", "1 batch truncate U1:9 1 + create G0:1 b U1:3": "14 NoFile U1:9",
+    "1 batch create G0:1 x U1:3 + write U1:2 0 41 + truncate U1:9 1": "14 NoFile U1:9",
+    "1 batch truncate U1:9 1 + create G0:1 b U1:3": "14 NoFile U1:9",
     "1 batch truncate U1:2 1 + truncate U1:2 16777217": "22 TooBig", "1 batch unlink G0:1 b U1:2 + write U1:2 0 41": "14 NoFile U1:2",
-    "2 batch create G0:1 x U2:3 + create G0:1 y U2:4": "16 NotHolder 1", "0 batch take G0:1 9 + create G0:1 x G1:1 8 + create G0:1 x G1:2 7": "19 Exists",
-    "2 batch take G0:1 9 + create G0:1 x G1:1 8": "13 NotMember 1", "1 batch mkdir G0:1 x U1:3 + create U1:3 y U1:4 + unlink G0:1 x U1:3": "20 NotEmpty",
+    "2 batch create G0:1 x U2:3 + create G0:1 y U2:4": "16 NotHolder 1",
+    "0 batch take G0:1 9 + create G0:1 x G1:1 8 + create G0:1 x G1:2 7": "19 Exists",
+    "2 batch take G0:1 9 + create G0:1 x G1:1 8": "13 NotMember 1",
+    "1 batch mkdir G0:1 x U1:3 + create U1:3 y U1:4 + unlink G0:1 x U1:3": "20 NotEmpty",
 }
 
 TRUNCATE, DROP = "03" + "000100000002" + "00000007", "08" + "00000009"
@@ -667,7 +670,8 @@ NO_BATCHES = {
     "three_of_two": ("0003" + DROP + TRUNCATE, 20), "two_of_three": ("0002" + DROP * 3, 14), "a_byte_more": ("0002" + TRUNCATE + DROP + "00", 20),
     "an_undo": ("0002" + DROP + "00" + "0000000000000001", 9), "an_undo_in_front": ("0002" + "00" + "0000000000000001" + DROP, 4),
     "a_rekey": ("0002" + DROP + "09" + "0000000500000004" + "00" * 48, 9), "a_batch": ("0002" + DROP + "0a" + "0002" + DROP * 2, 9),
-    "a_batch_in_front": ("0002" + "0a" + "0002" + DROP * 2 + DROP, 4), "an_unknown_kind": ("0002" + DROP + "0b", 9), "a_whole_item": ("0002" + DROP + "05" + DROP, 10),
+    "a_batch_in_front": ("0002" + "0a" + "0002" + DROP * 2 + DROP, 4), "an_unknown_kind": ("0002" + DROP + "0b", 9),
+    "a_whole_item": ("0002" + DROP + "05" + DROP, 10),
     "a_cut_operation": ("0002" + DROP + TRUNCATE[:-2], 16), "a_cut_first_operation": ("0002" + DROP[:-2], 5),
     "a_body_out_of_range": ("0002" + TRUNCATE + "0800000000", 16), "a_write_of_no_bytes": ("0002" + DROP + "02" + "000100000002" + "00000000" * 2, 20),
 }

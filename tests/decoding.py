@@ -114,7 +114,8 @@ def commits_of(lists):
     """Good commits, of each format: the list before, the version structure, the item, and the signing key."""
     for name, form, change in (
             ("of_the_first_format", 1, "write"), ("of_the_second_format_with_a_group", 2, "create"), ("without_a_key", 3, "create"),
-            ("with_a_key", 3, "rekey"), ("of_the_fourth_format", 4, "create"), ("of_a_batch", 4, "batch"), ("of_the_fourth_format_with_a_key", 4, "rekey")):
+            ("with_a_key", 3, "rekey"), ("of_the_fourth_format", 4, "create"), ("of_a_batch", 4, "batch"),
+            ("of_the_fourth_format_with_a_key", 4, "rekey")):
         before, user, change = lists.change(change)
         if form < 3:
             before = lists.of("0 create G0:1 a U0:2", form)

@@ -65,7 +65,7 @@ NO_COMMANDS = (
     b"0 batch drop 1 + undo_last", b"0 batch drop 1 + rekey " + b"00" * 56, b"0 batch rekey " + b"00" * 56, b"0 batch drop 1 + batch drop 1 + drop 2",
     b"0 batch batch drop 1", b"0 batch drop 1 + 0 drop 2", b"0 batch drop 1 + drop", b"0 batch drop + drop 1", b"0 batch drop 1 + create G0:1 a G0:2",
     b"0 batch drop 1 + ls G0:1", b"0 batch versions + drop 1", b"0 batch drop 1 + hello", b"0 batch drop 1  + drop 2", b"0 batch drop 1 + drop 2 ",
-    b"0 drop 1 + drop 2", b"batch drop 1 + drop 2", b"0 Batch drop 1 + drop 2", b"+ drop 1")
+    b"0 batch create G0:1 + U0:2 + drop 1", b"0 drop 1 + drop 2", b"batch drop 1 + drop 2", b"0 Batch drop 1 + drop 2", b"+ drop 1")
 
 MISTAKES = (
     ("hello", "an unknown command"),

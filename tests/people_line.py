@@ -147,8 +147,10 @@ RIGHT = {
     "another_place": ["where", "localhost:7001"],
 }
 if EACH:
-    WRONG |= {"each_with_a_value": ["put", "--each=yes", "local", "/"], "each_of_a_get": ["get", "--each", "/path", "local"], "each_twice": ["put", "--each", "--each", "local", "/"]}
-    RIGHT |= {"a_put_of_each": ["put", "-r", "--each", "--over", "-n", "one", "two", "/path"], "a_put_of_one_and_each": ["put", "one", "/path", "--each"]}
+    WRONG |= {"each_with_a_value": ["put", "--each=yes", "local", "/"], "each_of_a_get": ["get", "--each", "/path", "local"]}
+    RIGHT |= {
+        "a_put_of_each": ["put", "-r", "--each", "--over", "-n", "one", "two", "/path"],
+        "a_put_of_one_and_each": ["put", "one", "/path", "--each"]}
 
 # The files of the state folder that the page of the manual tells of.
 STATE = {".sundr/" + it for it in ("team", "where", "me", "log", "times", "seen", "lock")}

@@ -45,7 +45,7 @@ tries_batch its done ops batch s t e planned signs same =
 -- the first operations of a plan are some of its operations
 pub planned_in_part : (its : List Command) (v : HoldingState) (n : ℕ) (ops : List Op) → IsPlanned (take 1 its) v ops → IsPlannedStep its v 0 (take n ops)
 planned_in_part its v n ops is =
-    inr (refl, drop n ops, subst (IsPlanned (take 1 its) v) (sym (take-append-drop n ops)) is)
+    inr (refl, (drop n ops, subst (IsPlanned (take 1 its) v) (sym (take-append-drop n ops)) is))
 
 -- ---- steps one after another
 
@@ -121,31 +121,31 @@ module _ (others : Others) (its : List Command) (s : MemberState) (olds : List �
   SoFar m left now = (k : ℕ) × Noted others its s olds (λ ns. Carries others k its s left ns m) now
 
   pub begins : SoFar s its olds
-  begins = (0, [], sym (append-nil olds), (refl, refl, refl))
+  begins = (0, ([], sym (append-nil olds), (refl, refl, refl)))
 
   more_numbers : (ns ms before now : List ℕ) → before ≡ olds ++ ns → now ≡ before ++ ms → now ≡ olds ++ (ns ++ ms)
   more_numbers ns ms before now noted more = more ∙ ap (λ (l : List ℕ). l ++ ms) noted ∙ append_assoc olds ns ms
 
   pub goes_on : (m t : MemberState) (left : List Command) (before now : List ℕ) (step : Step) → SoFar m left before
       → (ms : List ℕ) × (now ≡ before ++ ms) × IsStepped others left m (Some step) ms t → SoFar t (drop step.done left) now
-  goes_on m t left before now step (k, ns, noted, carries) (ms, more, (is, does)) =
+  goes_on m t left before now step (k, (ns, noted, carries)) (ms, more, (is, does)) =
       let all = joined others k 1 its left (drop step.done left) s m t ns ms carries (one_step others left m t step ms is does) in
-      (all.0, ns ++ ms, more_numbers ns ms before now noted more, all.1)
+      (all.0, (ns ++ ms, more_numbers ns ms before now noted more, all.1))
 
   -- all are carried out
   pub all_done : (t : MemberState) (left : List Command) (now : List ℕ) → SoFar t left now → left ≡ [] → Noted others its s olds (λ ns. CarriedOut others its s ns t) now
-  all_done t left now (k, ns, noted, carries) none =
+  all_done t left now (k, (ns, noted, carries)) none =
       (ns, noted, (k, subst (λ (l : List Command). Carries others k its s l ns t) none carries))
 
   -- it ends there
   pub stops : (t : MemberState) (left : List Command) (now : List ℕ) → SoFar t left now → SomeNoted others its s olds t now
-  stops t left now (k, ns, noted, carries) =
+  stops t left now (k, (ns, noted, carries)) =
       (ns, noted, record { steps = k; left = left; between = t; carries = carries; ends = inl (t, inl refl, inl refl) })
 
   -- or with what comes next
   pub stops_behind : (m t : MemberState) (left : List Command) (before now : List ℕ) → SoFar m left before
       → (ms : List ℕ) × (now ≡ before ++ ms) × CarriesSome others left m ms t → SomeNoted others its s olds t now
-  stops_behind m t left before now (k, ns, noted, carries) (ms, more, some) =
+  stops_behind m t left before now (k, (ns, noted, carries)) (ms, more, some) =
       let all = joined others k some.steps its left some.left s m some.between ns ms carries some.carries in (
         ns ++ ms,
         more_numbers ns ms before now noted more,

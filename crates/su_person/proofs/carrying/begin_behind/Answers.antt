@@ -2,12 +2,12 @@ use Rattle.std.proofs.Common.{inr}
 use Rattle.su_person.proofs.Working.{works_then_takes}
 use Rattle.su_person.proofs.carrying.begin_behind.Goals as goal
 
-pub returns-in_err-clause-works : goal.returns-in_err-clause-works
-returns-in_err-clause-works g c =
+pub returns-in_err-take_turn-clause-works : goal.returns-in_err-take_turn-clause-works
+returns-in_err-take_turn-clause-works g c =
     works_then_takes c.args.member.now c.move_on.new.member c.take_turn.new.member c.move_on.ensures.works c.take_turn.ensures.takes
 
-pub returns-in_err-clause-takes : goal.returns-in_err-clause-takes
-returns-in_err-clause-takes g c = (c.move_on.new.member, c.move_on.ensures.moves, inr c.take_turn.ensures.takes)
+pub returns-in_err-take_turn-clause-takes : goal.returns-in_err-take_turn-clause-takes
+returns-in_err-take_turn-clause-takes g c = (c.move_on.new.member, c.move_on.ensures.moves, inr c.take_turn.ensures.takes)
 
 pub returns-clause-works : goal.returns-clause-works
 returns-clause-works g c =
