@@ -4,4 +4,5 @@ pub mod Bytes
 pub mod Broken
 pub mod FoundForms
 pub mod ReadingValues
+pub mod ReadingBatches
 pub mod CheckingValues

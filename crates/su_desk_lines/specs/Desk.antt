@@ -1,11 +1,12 @@
 -- A desk script: which command a line is.
-use Rattle.std.specs.Prelude.{ℕ, List, [], ◌∷◌, length, map, Option, Some, None, cond, nat_lt}
+use Rattle.std.specs.Prelude.{ℕ, Bool, true, false, List, [], ◌∷◌, length, map, codes, Option, Some, None, cond, nat_lt}
+use Rattle.std.specs.Global.{Vec}
+use Rattle.std.specs.List.{flat_map, slice_split}
 use Rattle.std.specs.Option.{option_map}
+use Rattle.su_op.specs.declared.operations.Op.{Op}
 use Rattle.su_op.specs.declared.operations.Op.TheVariants.{Create, Unlink, Write, Truncate, Take, Link, Rename, Drop}
 use Rattle.su_op.specs.declared.operations.Change.{Change}
-use Rattle.su_op.specs.declared.operations.Change.TheVariants as made
-use Rattle.su_desk_lines.specs.declared.ranges.LineChange.{LineChange}
-use Rattle.su_desk_lines.specs.declared.ranges.LineChange.TheVariants.{Do, Undo, Rekey}
+use Rattle.su_op.specs.declared.operations.Change.TheVariants.{Do, Undo, Rekey}
 use Rattle.su_desk_lines.specs.declared.ranges.Command.{Command}
 use Rattle.su_desk_lines.specs.declared.ranges.Command.TheVariants as command
 use Rattle.su_desk_lines.specs.declared.ranges.Question.{Question}
@@ -19,55 +20,63 @@ use Rattle.su_desk_lines.specs.declared.verbs.ChangeVerb.TheVariants as change
 use Rattle.su_desk_lines.specs.declared.verbs.QuestionVerb.{QuestionVerb}
 use Rattle.su_desk_lines.specs.declared.verbs.QuestionVerb.TheVariants as question
 use Rattle.su_desk_lines.specs.Form.{Row, Value, Value.User, Value.Number, Value.Size, Value.Body, Value.Name, Value.File, Value.Principal, Value.Bytes, Value.Key, form_of, read_values}
-use Rattle.su_desk_lines.specs.Script.{has_empty_word, longest_line, read_number, words_of}
+use Rattle.su_desk_lines.specs.Script.{each_given, given, has_empty_word, is_word, longest_line, read_number, words_of}
 use Rattle.su_desk_lines.specs.Value.{value_of}
+use Rattle.su_desk_lines.specs.declared.values.Value.{Value as HeldValue}
 
--- which command it is, and what its words say
+-- which command it is, or which operations a batch has, in their order; and what all its words say
 pub record Spoken (V : Type 0) : Type 0 where
-  pub verb : V
+  pub verbs : List V
   pub values : List Value
 
+-- one command
 abbrev pub spoken : {V : Type 0} → V → List Value → Spoken V
-spoken v values = record { verb = v; values = values }
+spoken v values = record { verbs = v ∷ []; values = values }
 
 abbrev pub spoken_of : Held → Spoken Verb
-spoken_of held = spoken held.verb (map value_of held.values.items)
+spoken_of held = record { verbs = held.verbs.items; values = map value_of held.values.items }
 
 -- ---- the words of a command
 
-abbrev pub change_said : LineChange → Spoken ChangeVerb
-change_said (Do (Create c)) =
-    spoken (change.Create c.kind) (File c.dir ∷ Name c.name ∷ File c.file ∷ Body c.body ∷ [])
-change_said (Do (Unlink u)) =
-    spoken change.Unlink (File u.dir ∷ Name u.name ∷ File u.file ∷ [])
-change_said (Do (Write w)) = spoken change.Write (File w.file ∷ Size w.off ∷ Bytes w.bytes ∷ [])
-change_said (Do (Truncate t)) = spoken change.Truncate (File t.file ∷ Size t.size ∷ [])
-change_said (Do (Take t)) = spoken change.Take (File t.file ∷ Body t.body ∷ [])
-change_said (Do (Link l)) = spoken change.Link (File l.dir ∷ Name l.name ∷ File l.file ∷ [])
-change_said (Do (Rename r)) =
-    spoken change.Rename (File r.from_ ∷ Name r.old_ ∷ File r.to_ ∷ Name r.new_ ∷ File r.file ∷ [])
-change_said (Do (Drop d)) = spoken change.Drop (Body d.body ∷ [])
+-- which operation it is, and what its words say
+abbrev pub operation_said : Op → ChangeVerb × List Value
+operation_said (Create c) =
+    (change.Create c.kind, File c.dir ∷ Name c.name ∷ File c.file ∷ Body c.body ∷ [])
+operation_said (Unlink u) = (change.Unlink, File u.dir ∷ Name u.name ∷ File u.file ∷ [])
+operation_said (Write w) = (change.Write, File w.file ∷ Size w.off ∷ Bytes w.bytes ∷ [])
+operation_said (Truncate t) = (change.Truncate, File t.file ∷ Size t.size ∷ [])
+operation_said (Take t) = (change.Take, File t.file ∷ Body t.body ∷ [])
+operation_said (Link l) = (change.Link, File l.dir ∷ Name l.name ∷ File l.file ∷ [])
+operation_said (Rename r) =
+    (change.Rename, File r.from_ ∷ Name r.old_ ∷ File r.to_ ∷ Name r.new_ ∷ File r.file ∷ [])
+operation_said (Drop d) = (change.Drop, Body d.body ∷ [])
+
+-- operations, one after another
+abbrev pub batch_said : List Op → Spoken ChangeVerb
+batch_said ops = record {
+  verbs = map (λ op. (operation_said op).0) ops;
+  values = flat_map (λ op. (operation_said op).1) ops;
+}
+
+abbrev pub change_said : Change → Spoken ChangeVerb
+change_said (Do ops) = batch_said ops
 change_said (Undo n) = spoken change.Undo (Number n ∷ [])
 change_said (Rekey k) = spoken change.Rekey (Key k ∷ [])
 
--- the change that it is
-abbrev pub change_of_line : LineChange → Change
-change_of_line (Do op) = made.Do (op ∷ [])
-change_of_line (Undo n) = made.Undo n
-change_of_line (Rekey k) = made.Rekey k
-
-abbrev pub question_said : Question → Spoken QuestionVerb
-question_said (Listing dir) = spoken question.List (File dir ∷ [])
-question_said (Read f off len) = spoken question.Read (File f ∷ Number off ∷ Number len ∷ [])
-question_said (Describe f) = spoken question.Describe (File f ∷ [])
-question_said (Handle p) = spoken question.Handle (Principal p ∷ [])
+abbrev pub question_said : Question → QuestionVerb × List Value
+question_said (Listing dir) = (question.List, File dir ∷ [])
+question_said (Read f off len) = (question.Read, File f ∷ Number off ∷ Number len ∷ [])
+question_said (Describe f) = (question.Describe, File f ∷ [])
+question_said (Handle p) = (question.Handle, Principal p ∷ [])
 
 -- a user's command begins with the user
 abbrev pub command_said : Command → Spoken Verb
-command_said (command.Apply a c) =
-    spoken (verb.Change (change_said c).verb) (User a ∷ (change_said c).values)
+command_said (command.Apply a c) = record {
+  verbs = map (λ v. verb.Change v) (change_said c).verbs;
+  values = User a ∷ (change_said c).values;
+}
 command_said (command.UndoLast a) = spoken verb.UndoLast (User a ∷ [])
-command_said (command.Ask q) = spoken (verb.Ask (question_said q).verb) (question_said q).values
+command_said (command.Ask q) = spoken (verb.Ask (question_said q).0) (question_said q).1
 command_said command.Versions = spoken verb.Versions []
 command_said command.Mark = spoken verb.Mark []
 command_said command.Same = spoken verb.Same []
@@ -84,23 +93,68 @@ other_rows =
     map (λ form. record { word = form.0.now; verb = form.1; kinds = form.2.now }) OTHER_FORMS
 
 -- the words after a command's own, which has this row, if any has it
-abbrev pub read_row : Option (Row Verb) → List (List ℕ) → Option (Spoken Verb)
+abbrev pub read_row : Option (Row Verb) → List (List ℕ) → Option (Verb × List Value)
 read_row None arguments = None
 read_row (Some row) arguments =
-    option_map (λ values. spoken row.verb values) (read_values row.kinds arguments)
+    option_map (λ values. (row.verb, values)) (read_values row.kinds arguments)
+
+-- what code holds of such words
+abbrev pub row_said : Verb × Vec HeldValue → Verb × List Value
+row_said (v, values) = (v, map value_of values.items)
+
+-- such words as a line of their own
+abbrev pub read_alone : Option (Row Verb) → List (List ℕ) → Option (Spoken Verb)
+read_alone row arguments = option_map (λ said. spoken said.0 said.1) (read_row row arguments)
+
+-- it makes an operation, as each command of a batch does
+abbrev pub makes_operation : ChangeVerb → Bool
+makes_operation change.Undo = false
+makes_operation change.Rekey = false
+makes_operation _ = true
+
+abbrev pub is_operation : Verb → Bool
+is_operation (verb.Change v) = makes_operation v
+is_operation _ = false
+
+abbrev pub if_operation : Verb × List Value → Option (Verb × List Value)
+if_operation said = cond (is_operation said.0) (Some said) None
+
+-- the words of one operation of a batch; nothing where they are none of an operation
+abbrev pub read_operation : List (List ℕ) → Option (Verb × List Value)
+read_operation [] = None
+read_operation (word ∷ arguments) =
+    given (read_row (form_of user_rows word) arguments) if_operation
+
+-- the words of each operation of a batch, between which the word `+` stands
+abbrev pub operations_of : List (List ℕ) → List (List (List ℕ))
+operations_of words = slice_split (is_word (codes "+")) words
+
+-- what they say, one after another
+abbrev pub together : List (Verb × List Value) → Spoken Verb
+together all = record { verbs = map (λ said. said.0) all; values = flat_map (λ said. said.1) all }
+
+-- the words after `batch`
+abbrev pub read_batch : List (List ℕ) → Option (Spoken Verb)
+read_batch words = option_map together (each_given read_operation (operations_of words))
 
 abbrev pub by_user : ℕ → Spoken Verb → Spoken Verb
-by_user a said = spoken said.verb (User a ∷ said.values)
+by_user a said = record { verbs = said.verbs; values = User a ∷ said.values }
+
+-- a user's command, by its own word and those after it
+abbrev pub read_command : List ℕ → List (List ℕ) → Option (Spoken Verb)
+read_command word arguments =
+    cond (is_word (codes "batch") word) (read_batch arguments)
+    (read_alone (form_of user_rows word) arguments)
 
 -- a user's command, after the user's number
 abbrev pub read_user : ℕ → List (List ℕ) → Option (Spoken Verb)
 read_user a [] = None
-read_user a (word ∷ arguments) = option_map (by_user a) (read_row (form_of user_rows word) arguments)
+read_user a (word ∷ arguments) = option_map (by_user a) (read_command word arguments)
 
 -- a command of the user whose number the first word is, or of no user where it is none
 abbrev pub read_first : Option ℕ → List ℕ → List (List ℕ) → Option (Spoken Verb)
 read_first (Some a) first others = read_user a others
-read_first None first others = read_row (form_of other_rows first) others
+read_first None first others = read_alone (form_of other_rows first) others
 
 -- words of which none is empty
 abbrev pub read_words : List (List ℕ) → Option (Spoken Verb)

@@ -40,6 +40,11 @@ is_word word text = pointwise nat_eq word text
 abbrev pub given : {A B : Type 0} → Option A → (A → Option B) → Option B
 given first next = option_and_then next first
 
+-- what each one gives, where all give something
+abbrev pub each_given : {A B : Type 0} → (A → Option B) → List A → Option (List B)
+each_given f [] = Some []
+each_given f (x ∷ xs) = given (f x) (λ y. option_map (λ ys. y ∷ ys) (each_given f xs))
+
 -- 1 to 20 decimal digits, whose value fits 64 bits
 abbrev pub is_number : List ℕ → Bool
 is_number word =

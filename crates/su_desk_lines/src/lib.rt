@@ -18,7 +18,7 @@ pub use mistakes::{Mistake, mistake_in, mistake_in_command, words_in};
 pub use parse::{
     RawFile, RawPrincipal, Spoken, has_empty_word, parse_line, read_bytes, read_number, split_words,
 };
-pub use ranges::{Command, LineChange, Question, check_ranges};
+pub use ranges::{Command, Question, check_ranges};
 pub use values::{Value, read_values};
 pub use verbs::{ChangeVerb, DESK_WORDS, QuestionVerb, Verb};
 pub use words::{Word, Words, check_values};

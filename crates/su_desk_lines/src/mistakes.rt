@@ -5,8 +5,11 @@ use crate::forms::WordKind::{
 };
 use crate::forms::{Form, WordKind, find_form};
 use crate::lines::LONGEST_LINE;
-use crate::parse::{has_empty_word, read_file, read_key, read_number, read_principal, split_words};
-use crate::verbs::{OTHER_FORMS, USER_FORMS};
+use crate::parse::{
+    has_empty_word, is_operation, read_file, read_key, read_number, read_operation, read_principal,
+    split_words,
+};
+use crate::verbs::{BATCH, NEXT_OPERATION, OTHER_FORMS, USER_FORMS};
 use std::alloc::{AllocError, Global};
 use std::fmt;
 
@@ -27,13 +30,15 @@ pub enum Mistake {
     ManyWords,
     /// It makes a file of a group, and doesn't say where the body stands.
     NoBody,
+    /// The word with that number, from 1, begins no operation of a batch, though it is a command's.
+    NoOperation(usize),
 }
 
 /// Tells the first mistake in a line that is no command of a desk script. Fails where there is no
 /// memory for the list of words.
 pub fn mistake_in(alloc: Global, line: &[u8]) -> Result<Mistake, AllocError> {
     match words_in(alloc, line)? {
-        Ok(words) => Ok(mistake_in_words(words.as_slice())),
+        Ok(words) => mistake_in_words(alloc, words.as_slice()),
         Err(mistake) => Ok(mistake),
     }
 }
@@ -57,15 +62,44 @@ pub fn words_in<'a>(
     Ok(Ok(words))
 }
 
-/// Tells the first mistake in words of which none is empty.
-fn mistake_in_words(words: &[&[u8]]) -> Mistake {
+/// Tells the first mistake in words of which none is empty. Fails where there is no memory for what
+/// the operations of a batch say.
+fn mistake_in_words(alloc: Global, words: &[&[u8]]) -> Result<Mistake, AllocError> {
     match words {
-        [] => Mistake::FewWords,
-        [user] if read_number(user).is_some() => Mistake::FewWords,
+        [] => Ok(Mistake::FewWords),
+        [user] if read_number(user).is_some() => Ok(Mistake::FewWords),
         [user, command, arguments @ ..] if read_number(user).is_some() => {
-            mistake_in_command(&USER_FORMS, command, arguments, 3)
+            if BATCH.as_bytes() == *command {
+                return mistake_in_batch(alloc, arguments, 3);
+            }
+            Ok(mistake_in_command(&USER_FORMS, command, arguments, 3))
         }
-        [command, arguments @ ..] => mistake_in_command(&OTHER_FORMS, command, arguments, 2),
+        [command, arguments @ ..] => Ok(mistake_in_command(&OTHER_FORMS, command, arguments, 2)),
+    }
+}
+
+/// Tells the first mistake in the operations of a batch, of which the first word has the number
+/// `first` in its line. Fails where there is no memory for what they say.
+fn mistake_in_batch(alloc: Global, words: &[&[u8]], first: usize) -> Result<Mistake, AllocError> {
+    let mut place = first;
+    for operation in words.split(|word| NEXT_OPERATION.as_bytes() == *word) {
+        if read_operation(alloc, operation)?.is_none() {
+            return Ok(mistake_in_operation(operation, place));
+        }
+        place = place.saturating_add(operation.len()).saturating_add(1);
+    }
+    Ok(Mistake::FewWords)
+}
+
+/// Tells the first mistake in the words of one operation of a batch, of which the first has the
+/// number `place` in its line.
+fn mistake_in_operation(words: &[&[u8]], place: usize) -> Mistake {
+    let [command, arguments @ ..] = words else {
+        return Mistake::FewWords;
+    };
+    match find_form(&USER_FORMS, command) {
+        Some(form) if !is_operation(form.1) => Mistake::NoOperation(place),
+        _ => mistake_in_command(&USER_FORMS, command, arguments, place.saturating_add(1)),
     }
 }
 
@@ -119,6 +153,7 @@ impl fmt::Display for Mistake {
             Mistake::FewWords => write!(f, "too few words"),
             Mistake::ManyWords => write!(f, "too many words"),
             Mistake::NoBody => write!(f, "a file of a group needs a BODY"),
+            Mistake::NoOperation(number) => write!(f, "word {number} begins no operation"),
         }
     }
 }

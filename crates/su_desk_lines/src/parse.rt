@@ -1,8 +1,8 @@
 // From the bytes of a line to what it says, by the form of its command. Its numbers and names may
 // still be outside their ranges.
-ghost use Rattle.std.specs.Prelude.{◌≡◌, IfOk, length, nat_eq, option_map};
+ghost use Rattle.std.specs.Prelude.{◌≡◌, IfOk, length, map, nat_eq, option_map};
 ghost use Rattle.std.specs.List.{list_any, position};
-ghost use Rattle.su_desk_lines.specs.Desk.{line_said, read_row, read_user, read_words, spoken_of};
+ghost use Rattle.su_desk_lines.specs.Desk.{is_operation, line_said, operations_of, read_alone, read_batch, read_command, read_operation, read_row, read_user, read_words, row_said, spoken_of};
 ghost use Rattle.su_desk_lines.specs.Form.{row_of};
 ghost use Rattle.su_desk_lines.specs.Raw.{file_of, principal_of, texts};
 ghost use Rattle.su_desk_lines.specs.Script.{read_bytes, read_file, read_key, read_number, read_principal, words_of};
@@ -10,7 +10,7 @@ ghost use Rattle.su_desk_lines.specs.Script.{read_bytes, read_file, read_key, re
 use crate::forms::{Form, find_form};
 use crate::lines::LONGEST_LINE;
 use crate::values::{Value, read_values};
-use crate::verbs::{OTHER_FORMS, USER_FORMS, Verb};
+use crate::verbs::{BATCH, ChangeVerb, NEXT_OPERATION, OTHER_FORMS, USER_FORMS, Verb};
 use hex::{FromHex, FromHexError};
 use memchr::memchr;
 use std::alloc::{AllocError, Global};
@@ -33,11 +33,11 @@ pub struct RawFile {
     pub number: u64,
 }
 
-/// A command as a line says it: which it is, and what its words say; the first is the user of a
-/// command that is a user's.
+/// A command as a line says it: which it is, or which operations a batch has, in their order; and
+/// what its words say, of which the first is the user of a command that is a user's.
 #[derive(Drop)]
 pub struct Spoken<'a> {
-    pub verb: Verb,
+    pub verbs: Vec<Verb>,
     pub values: Vec<Value<'a>>,
 }
 
@@ -79,7 +79,7 @@ fn read_words<'a>(alloc: Global, words: &[&'a [u8]]) -> Result<Option<Spoken<'a>
     };
     match read_number(first) {
         Some(user) => read_user(alloc, user, others),
-        None => read_row(alloc, find_form(&OTHER_FORMS, first), others),
+        None => read_alone(alloc, find_form(&OTHER_FORMS, first), others),
     }
 }
 
@@ -94,12 +94,111 @@ fn read_user<'a>(
     let [word, arguments @ ..] = words else {
         return Ok(None);
     };
-    let Some(said) = read_row(alloc, find_form(&USER_FORMS, word), arguments)? else {
+    let Some(said) = read_command(alloc, word, arguments)? else {
         return Ok(None);
     };
-    let Spoken { verb, mut values } = said;
+    let Spoken { verbs, mut values } = said;
     values.insert(0, Value::User(user))?;
-    Ok(Some(Spoken { verb, values }))
+    Ok(Some(Spoken { verbs, values }))
+}
+
+/// Reads a command of a user by its own word, and the words after it. `None` where no command has
+/// them.
+fn read_command<'a>(
+    alloc: Global,
+    word: &[u8],
+    arguments: &[&'a [u8]],
+) -> Result<Option<Spoken<'a>>, AllocError>
+    ensures { IfOk result (λ said.
+        option_map spoken_of said ≡ read_command word.now (texts arguments.now)) }
+{
+    if BATCH.as_bytes() == word {
+        read_batch(alloc, arguments)
+    } else {
+        read_alone(alloc, find_form(&USER_FORMS, word), arguments)
+    }
+}
+
+/// Reads the operations of a batch, between which the word `+` stands. `None` where one of them is
+/// no operation. Fails where there is no memory for what they say.
+fn read_batch<'a>(alloc: Global, words: &[&'a [u8]]) -> Result<Option<Spoken<'a>>, AllocError>
+    ensures { IfOk result (λ said. option_map spoken_of said ≡ read_batch (texts words.now)) }
+{
+    let operations = operations_in(alloc, words)?;
+    let mut verbs = Vec::new(alloc);
+    let mut values = Vec::new(alloc);
+    for operation in &operations {
+        let Some((verb, mut said)) = read_operation(alloc, operation)? else {
+            return Ok(None);
+        };
+        verbs.push(verb)?;
+        values.append(&mut said)?;
+    }
+    Ok(Some(Spoken { verbs, values }))
+}
+
+/// Splits the words of a batch into those of each of its operations, between which the word `+`
+/// stands. Fails where there is no memory for the list.
+fn operations_in<'b, 'a>(
+    alloc: Global,
+    words: &'b [&'a [u8]],
+) -> Result<Vec<&'b [&'a [u8]]>, AllocError>
+    ensures { IfOk result (λ operations.
+        map (λ part. texts part.now) operations.items ≡ operations_of (texts words.now)) }
+{
+    words
+        .split(|word| NEXT_OPERATION.as_bytes() == *word)
+        .collect(alloc)
+}
+
+/// Reads the words of one operation of a batch. `None` where no operation has them.
+pub(crate) fn read_operation<'a>(
+    alloc: Global,
+    words: &[&'a [u8]],
+) -> Result<Option<(Verb, Vec<Value<'a>>)>, AllocError>
+    ensures { IfOk result (λ said. option_map row_said said ≡ read_operation (texts words.now)) }
+{
+    let [word, arguments @ ..] = words else {
+        return Ok(None);
+    };
+    let Some((verb, values)) = read_row(alloc, find_form(&USER_FORMS, word), arguments)? else {
+        return Ok(None);
+    };
+    if is_operation(verb) {
+        Ok(Some((verb, values)))
+    } else {
+        Ok(None)
+    }
+}
+
+/// Tells whether a command makes an operation, as each one of a batch does.
+pub(crate) fn is_operation(verb: Verb) -> bool
+    ensures { result ≡ is_operation verb }
+{
+    match verb {
+        Verb::Change(ChangeVerb::Undo) => false,
+        Verb::Change(ChangeVerb::Rekey) => false,
+        Verb::Change(_) => true,
+        _ => false,
+    }
+}
+
+/// Reads the words after a command's own by its row, as those of a whole line. `None` where no
+/// command has one.
+fn read_alone<'a>(
+    alloc: Global,
+    row: Option<&Form<Verb>>,
+    arguments: &[&'a [u8]],
+) -> Result<Option<Spoken<'a>>, AllocError>
+    ensures { IfOk result (λ said. option_map spoken_of said
+        ≡ read_alone (option_map (λ form. row_of form.now) row.entry) (texts arguments.now)) }
+{
+    let Some((verb, values)) = read_row(alloc, row, arguments)? else {
+        return Ok(None);
+    };
+    let mut verbs = Vec::new(alloc);
+    verbs.push(verb)?;
+    Ok(Some(Spoken { verbs, values }))
 }
 
 /// Reads the words after a command's own by its row. `None` where no command has one.
@@ -107,18 +206,15 @@ fn read_row<'a>(
     alloc: Global,
     row: Option<&Form<Verb>>,
     arguments: &[&'a [u8]],
-) -> Result<Option<Spoken<'a>>, AllocError>
-    ensures { IfOk result (λ said. option_map spoken_of said
+) -> Result<Option<(Verb, Vec<Value<'a>>)>, AllocError>
+    ensures { IfOk result (λ said. option_map row_said said
         ≡ read_row (option_map (λ form. row_of form.now) row.entry) (texts arguments.now)) }
 {
     let Some(form) = row else {
         return Ok(None);
     };
     match read_values(alloc, form.2, arguments)? {
-        Some(values) => Ok(Some(Spoken {
-            verb: form.1,
-            values,
-        })),
+        Some(values) => Ok(Some((form.1, values))),
         None => Ok(None),
     }
 }

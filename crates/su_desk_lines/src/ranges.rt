@@ -1,9 +1,9 @@
 // From what a line says to its command, whose words are within their ranges.
-ghost use Rattle.std.specs.Prelude.{◌≡◌, ◌≢◌, ◌⊎◌, ◌++◌, true, false, cond, None, Some, IfOk, IfErr, IfSome, OnOk, map};
+ghost use Rattle.std.specs.Prelude.{◌≡◌, ◌≢◌, ◌⊎◌, [], ◌∷◌, ◌++◌, true, false, cond, None, Some, IfOk, IfErr, IfSome, OnOk, map};
 ghost use Rattle.su_bytes.specs.declared.refusals.Refusal.TheVariants.{NoMemory, BadNumber};
 ghost use Rattle.su_bytes.specs.FileId.{is_file_id};
 ghost use Rattle.su_bytes.specs.Principal.{is_principal};
-ghost use Rattle.su_desk_lines.specs.Desk.{change_of_line, change_said, command_said, question_said, spoken, spoken_of};
+ghost use Rattle.su_desk_lines.specs.Desk.{batch_said, change_said, command_said, operation_said, question_said, spoken_of};
 ghost use Rattle.su_desk_lines.specs.Form.{value_refusal};
 ghost use Rattle.su_desk_lines.specs.Raw.{file_of, principal_of};
 ghost use Rattle.su_desk_lines.specs.Range.{is_stranger, stranger, stranger_first, word_refusal};
@@ -14,14 +14,14 @@ use crate::values::Value;
 use crate::verbs::{ChangeVerb, QuestionVerb, Verb};
 use crate::words::{Words, check_values};
 use std::alloc::Global;
-use su_bytes::{FileId, Group, Inum, KEY_LENGTH, Kind, Principal, Refusal, Roster, User};
-use su_op::{Change, Create, DropBody, Link, Op, Rename, Take, Truncate, Unlink, Write};
+use su_bytes::{FileId, Group, Inum, Kind, Principal, Refusal, Roster, User};
+use su_op::{Batch, Change, Create, DropBody, Link, Op, Rename, Take, Truncate, Unlink, Write};
 
 /// A command of a script, each of its words within its range.
 #[derive(Drop)]
 pub enum Command {
     /// A change by a user.
-    Apply(User, LineChange),
+    Apply(User, Change),
     /// The undo of the last live operation, by a user.
     UndoLast(User),
     /// A question about the tree.
@@ -32,28 +32,6 @@ pub enum Command {
     Mark,
     /// Whether all i-tables have the digests that were kept.
     Same,
-}
-
-/// A change as a line says it: one operation, the undo of the entry of that number, or the next key
-/// of its author.
-#[derive(Drop)]
-pub enum LineChange {
-    Do(Op),
-    Undo(u64),
-    Rekey([u8; KEY_LENGTH]),
-}
-
-impl LineChange {
-    /// Returns the change that it is. Takes no memory.
-    pub fn into_change(self, alloc: Global) -> Change
-        ensures { result ≡ change_of_line self }
-    {
-        match self {
-            LineChange::Do(operation) => Change::of(alloc, operation),
-            LineChange::Undo(number) => Change::Undo(number),
-            LineChange::Rekey(key) => Change::Rekey(key),
-        }
-    }
 }
 
 /// A question about the tree, which changes nothing.
@@ -79,13 +57,13 @@ pub fn check_ranges(alloc: Global, roster: &Roster, said: Spoken<'_>) -> Result<
     ensures refused { IfErr result (λ e. (e ≡ NoMemory)
         ⊎ (word_refusal roster.now (spoken_of said.entry).values ≡ Some e)) }
 {
-    let Spoken { verb, values } = said;
+    let Spoken { verbs, values } = said;
     let user = stranger(roster, values.as_slice());
     let words = match check_values(alloc, values) {
         Ok(words) => words,
         Err(refusal) => return Err(stranger_first(user, refusal)),
     };
-    match whole_command(verb, words) {
+    match whole_command(alloc, verbs.as_slice(), words) {
         Some(command) => Ok(command),
         None => Err(Refusal::NoMemory),
     }
@@ -130,11 +108,13 @@ fn stranger_first(user: Option<User>, refusal: Refusal) -> Refusal
     }
 }
 
-/// Makes a command of its words. `None` where they are not those of its form.
-fn whole_command(verb: Verb, mut words: Words) -> Option<Command>
-    ensures { IfSome result (λ c. command_said c ≡ spoken verb (left_of words)) }
+/// Makes a command of its words. `None` where they are not those of its form, or where there is no
+/// room for the operations of a batch.
+fn whole_command(alloc: Global, verbs: &[Verb], mut words: Words) -> Option<Command>
+    ensures { IfSome result (λ c.
+        command_said c ≡ record { verbs = verbs.now; values = left_of words }) }
 {
-    let command = take_command(verb, &mut words)?;
+    let command = take_command(alloc, verbs, &mut words)?;
     if words.is_empty() {
         Some(command)
     } else {
@@ -142,16 +122,33 @@ fn whole_command(verb: Verb, mut words: Words) -> Option<Command>
     }
 }
 
-/// Takes the words of a command. `None` where other words come.
-fn take_command(verb: Verb, words: &mut Words) -> Option<Command>
-    ensures verb { IfSome result (λ c. (command_said c).verb ≡ verb) }
+/// Takes the words of a command, or of a batch of several operations. `None` where other words come,
+/// or where there is no room for the operations.
+fn take_command(alloc: Global, verbs: &[Verb], words: &mut Words) -> Option<Command>
+    ensures verbs { IfSome result (λ c. (command_said c).verbs ≡ verbs.now) }
+    ensures words { IfSome result (λ c.
+        left_of words.old ≡ (command_said c).values ++ left_of words.new) }
+{
+    match verbs {
+        [verb] => take_alone(alloc, *verb, words),
+        _ => {
+            let user = words.take_user()?;
+            let batch = take_batch(alloc, verbs, words)?;
+            Some(Command::Apply(user, Change::Do(batch)))
+        }
+    }
+}
+
+/// Takes the words of one command. `None` where other words come.
+fn take_alone(alloc: Global, verb: Verb, words: &mut Words) -> Option<Command>
+    ensures verb { IfSome result (λ c. (command_said c).verbs ≡ verb ∷ []) }
     ensures words { IfSome result (λ c.
         left_of words.old ≡ (command_said c).values ++ left_of words.new) }
 {
     match verb {
         Verb::Change(verb) => {
             let user = words.take_user()?;
-            let change = take_change(verb, words)?;
+            let change = take_change(alloc, verb, words)?;
             Some(Command::Apply(user, change))
         }
         Verb::UndoLast => {
@@ -168,11 +165,43 @@ fn take_command(verb: Verb, words: &mut Words) -> Option<Command>
     }
 }
 
+/// Takes the words of operations, one after another. `None` where there are none, where other words
+/// come, or where there is no room for them.
+fn take_batch(alloc: Global, verbs: &[Verb], words: &mut Words) -> Option<Batch>
+    ensures verbs { IfSome result (λ ops.
+        map (λ v. Verb.Change v) (batch_said ops).verbs ≡ verbs.now) }
+    ensures words { IfSome result (λ ops.
+        left_of words.old ≡ (batch_said ops).values ++ left_of words.new) }
+{
+    let mut operations = Vec::new(alloc);
+    for verb in verbs {
+        let Verb::Change(verb) = *verb else {
+            return None;
+        };
+        let operation = take_operation(verb, words)?;
+        operations.push(operation).ok()?;
+    }
+    Batch::of_operations(operations)
+}
+
 /// Takes the words of a change. `None` where other words come.
-fn take_change(verb: ChangeVerb, words: &mut Words) -> Option<LineChange>
-    ensures verb { IfSome result (λ c. (change_said c).verb ≡ verb) }
+fn take_change(alloc: Global, verb: ChangeVerb, words: &mut Words) -> Option<Change>
+    ensures verb { IfSome result (λ c. (change_said c).verbs ≡ verb ∷ []) }
     ensures words { IfSome result (λ c.
         left_of words.old ≡ (change_said c).values ++ left_of words.new) }
+{
+    match verb {
+        ChangeVerb::Undo => Some(Change::Undo(words.take_number()?)),
+        ChangeVerb::Rekey => Some(Change::Rekey(words.take_key()?)),
+        _ => Some(Change::of(alloc, take_operation(verb, words)?)),
+    }
+}
+
+/// Takes the words of an operation. `None` where other words come, or where the command makes none.
+fn take_operation(verb: ChangeVerb, words: &mut Words) -> Option<Op>
+    ensures verb { IfSome result (λ op. (operation_said op).0 ≡ verb) }
+    ensures words { IfSome result (λ op.
+        left_of words.old ≡ (operation_said op).1 ++ left_of words.new) }
 {
     match verb {
         ChangeVerb::Create(kind) => take_create(kind, words),
@@ -180,84 +209,97 @@ fn take_change(verb: ChangeVerb, words: &mut Words) -> Option<LineChange>
             let file = words.take_file()?;
             let off = words.take_size()?;
             let bytes = words.take_bytes()?;
-            Some(LineChange::Do(Op::Write(Write { file, off, bytes })))
+            Some(Op::Write(Write { file, off, bytes }))
         }
         ChangeVerb::Truncate => {
             let file = words.take_file()?;
             let size = words.take_size()?;
-            Some(LineChange::Do(Op::Truncate(Truncate { file, size })))
+            Some(Op::Truncate(Truncate { file, size }))
         }
-        ChangeVerb::Unlink => {
-            let dir = words.take_file()?;
-            let name = words.take_name()?;
-            let file = words.take_file()?;
-            Some(LineChange::Do(Op::Unlink(Unlink { dir, name, file })))
-        }
+        ChangeVerb::Unlink => take_unlink(words),
         ChangeVerb::Take => {
             let file = words.take_file()?;
             let body = words.take_body()?;
-            Some(LineChange::Do(Op::Take(Take { file, body })))
+            Some(Op::Take(Take { file, body }))
         }
-        ChangeVerb::Link => {
-            let dir = words.take_file()?;
-            let name = words.take_name()?;
-            let file = words.take_file()?;
-            Some(LineChange::Do(Op::Link(Link { dir, name, file })))
-        }
+        ChangeVerb::Link => take_link(words),
         ChangeVerb::Rename => take_rename(words),
         ChangeVerb::Drop => {
             let body = words.take_body()?;
-            Some(LineChange::Do(Op::Drop(DropBody { body })))
+            Some(Op::Drop(DropBody { body }))
         }
-        ChangeVerb::Undo => Some(LineChange::Undo(words.take_number()?)),
-        ChangeVerb::Rekey => Some(LineChange::Rekey(words.take_key()?)),
+        ChangeVerb::Undo | ChangeVerb::Rekey => None,
     }
 }
 
 /// Takes the words of a create. `None` where other words come.
-fn take_create(kind: Kind, words: &mut Words) -> Option<LineChange>
-    ensures verb { IfSome result (λ c. (change_said c).verb ≡ ChangeVerb.Create kind) }
-    ensures words { IfSome result (λ c.
-        left_of words.old ≡ (change_said c).values ++ left_of words.new) }
+fn take_create(kind: Kind, words: &mut Words) -> Option<Op>
+    ensures verb { IfSome result (λ op. (operation_said op).0 ≡ ChangeVerb.Create kind) }
+    ensures words { IfSome result (λ op.
+        left_of words.old ≡ (operation_said op).1 ++ left_of words.new) }
 {
     let dir = words.take_file()?;
     let name = words.take_name()?;
     let file = words.take_file()?;
     let body = words.take_body()?;
-    Some(LineChange::Do(Op::Create(Create {
+    Some(Op::Create(Create {
         dir,
         name,
         file,
         body,
         kind,
-    })))
+    }))
+}
+
+/// Takes the words of an unlink. `None` where other words come.
+fn take_unlink(words: &mut Words) -> Option<Op>
+    ensures verb { IfSome result (λ op. (operation_said op).0 ≡ ChangeVerb.Unlink) }
+    ensures words { IfSome result (λ op.
+        left_of words.old ≡ (operation_said op).1 ++ left_of words.new) }
+{
+    let dir = words.take_file()?;
+    let name = words.take_name()?;
+    let file = words.take_file()?;
+    Some(Op::Unlink(Unlink { dir, name, file }))
+}
+
+/// Takes the words of a link. `None` where other words come.
+fn take_link(words: &mut Words) -> Option<Op>
+    ensures verb { IfSome result (λ op. (operation_said op).0 ≡ ChangeVerb.Link) }
+    ensures words { IfSome result (λ op.
+        left_of words.old ≡ (operation_said op).1 ++ left_of words.new) }
+{
+    let dir = words.take_file()?;
+    let name = words.take_name()?;
+    let file = words.take_file()?;
+    Some(Op::Link(Link { dir, name, file }))
 }
 
 /// Takes the words of a rename. `None` where other words come.
-fn take_rename(words: &mut Words) -> Option<LineChange>
-    ensures verb { IfSome result (λ c. (change_said c).verb ≡ ChangeVerb.Rename) }
-    ensures words { IfSome result (λ c.
-        left_of words.old ≡ (change_said c).values ++ left_of words.new) }
+fn take_rename(words: &mut Words) -> Option<Op>
+    ensures verb { IfSome result (λ op. (operation_said op).0 ≡ ChangeVerb.Rename) }
+    ensures words { IfSome result (λ op.
+        left_of words.old ≡ (operation_said op).1 ++ left_of words.new) }
 {
     let from_ = words.take_file()?;
     let old_ = words.take_name()?;
     let to_ = words.take_file()?;
     let new_ = words.take_name()?;
     let file = words.take_file()?;
-    Some(LineChange::Do(Op::Rename(Rename {
+    Some(Op::Rename(Rename {
         from_,
         old_,
         to_,
         new_,
         file,
-    })))
+    }))
 }
 
 /// Takes the words of a question. `None` where other words come.
 fn take_question(verb: QuestionVerb, words: &mut Words) -> Option<Question>
-    ensures verb { IfSome result (λ q. (question_said q).verb ≡ verb) }
+    ensures verb { IfSome result (λ q. (question_said q).0 ≡ verb) }
     ensures words { IfSome result (λ q.
-        left_of words.old ≡ (question_said q).values ++ left_of words.new) }
+        left_of words.old ≡ (question_said q).1 ++ left_of words.new) }
 {
     match verb {
         QuestionVerb::List => Some(Question::List(words.take_file()?)),

@@ -40,7 +40,8 @@ pub enum QuestionVerb {
 }
 
 // The commands: first those of a user, which stand after the user's number, then those that are no
-// user's. Of each its own word, which it is, the words after it, and its line of help.
+// user's. Of each its own word, which it is, the words after it, and its line of help. A batch has
+// no row, as the words after it are those of its operations.
 macro_rules! desk_rows {
     ($table:ident) => {
         $table!(
@@ -182,15 +183,23 @@ macro_rules! desk_help {
         concat!(
             "Commands:\n",
             $("  ", $user_help, "\n",)*
+            "  U batch OP + OP ..             make several operations as one\n",
             $("  ", $other_help, "\n",)*
             "
 U is the number of a user. DIR, FROM, TO and FILE are file ids: U0:2 is number 2
 of user 0, G0:1 number 1 of group 0, which is the root directory. BODY is the
 number of the user at which the file stands then, or the body that goes; a file
-of a user has its own number. PRINCIPAL is a user as U0 or a group as G0."
+of a user has its own number. OP is an operation, with its words, as it stands
+above behind U: from mkdir to drop. PRINCIPAL is a user as U0 or a group as G0."
         )
     };
 }
+
+/// The word of a batch, which stands after the user's number.
+pub const BATCH: &str = "batch";
+
+/// The word that stands between the operations of a batch.
+pub const NEXT_OPERATION: &str = "+";
 
 /// The commands of a user, which stand after the user's number, and the words after each.
 pub const USER_FORMS: [Form<Verb>; 12] = desk_rows!(user_forms);

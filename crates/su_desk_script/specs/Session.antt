@@ -17,7 +17,6 @@ use Rattle.su_table.specs.Handle.{handle}
 use Rattle.su_desk.specs.History.{entry_by, undo_by, tree, last_live}
 use Rattle.su_desk.specs.Version.{versions}
 use Rattle.su_desk.specs.Desk.{DeskState, Answers}
-use Rattle.su_desk_lines.specs.Desk.{change_of_line}
 use Rattle.su_desk_lines.specs.declared.ranges.Command.{Command}
 use Rattle.su_desk_lines.specs.declared.ranges.Command.TheVariants.{Apply, UndoLast, Ask, Versions, Mark, Same}
 use Rattle.su_desk_lines.specs.declared.ranges.Question.{Question}
@@ -78,7 +77,7 @@ KeepsRest s s' = (s'.format ≡ s.format) × (s'.mark ≡ s.mark)
 abbrev pub Does : SessionState → Command → List ℕ → SessionState → Type 0
 Does s (Apply a c) out s' =
     (r : Result ℕ Refusal)
-    × Answers s.desk (entry_by a s.format (change_of_line c)) r s'.desk
+    × Answers s.desk (entry_by a s.format c) r s'.desk
     × KeepsRest s s' × (out ≡ answer_text r)
 Does s (UndoLast a) out s' =
     (r : Result ℕ Refusal)

@@ -61,7 +61,6 @@ impl Session {
     {
         match command {
             Command::Apply(user, change) => {
-                let change = change.into_change(alloc);
                 answered(alloc, self.desk.apply_as(self.format, user, change))
             }
             Command::UndoLast(user) => answered(alloc, self.desk.undo_last_as(self.format, user)),
