@@ -54,7 +54,7 @@ _sundr() {
     case $before in
         --in | --store | --to) _sundr_files -d ;;
         --team | --key | --entropy | --out | --log | --next-key) _sundr_files -f ;;
-        --format) _sundr_words "1 2 3" ;;
+        --format) _sundr_words "1 2 3 4" ;;
         --height) _sundr_words "5 10" ;;
         --width) _sundr_words "4 8" ;;
         --server | --count | --users | --port | --listen | --workers | --capacity | --turn-seconds | --idle-minutes) ;;

@@ -61,7 +61,7 @@ Refusals:
   36 KeyReuse           a user has or had this key
   44 OldFormat          the format has no such change
 In format 1 files have at most 1,048,576 bytes, and nothing is dropped; in
-formats 1 and 2 no key is named.";
+formats 1 and 2 no key is named; in formats 1 to 3 there is no batch.";
 
 pub const KEYGEN_ABOUT: &str = "Makes a key, and prints its public key in hex
 

@@ -128,8 +128,8 @@ fn desk_command<'a>(alloc: Global, help: &'a str) -> Result<Command<'a>, AllocEr
     let users = option(alloc, "users", "N", help_of_users)
         .value_parser(clap::value_parser!(u8).range(1..65))
         .default_value("2");
-    let help_of_format = "Of the changes: 3 has all of them";
-    let format = option(alloc, "format", "1|2|3", help_of_format).default_value("3");
+    let help_of_format = "Of the changes: 4 has all of them";
+    let format = option(alloc, "format", "1|2|3|4", help_of_format).default_value("4");
     let command = Command::new(alloc, "desk")
         .about("Runs a script from standard input")
         .long_about(DESK_ABOUT)
@@ -172,7 +172,7 @@ fn audit_command<'a>(alloc: Global) -> Result<Command<'a>, AllocError> {
         .finish()
 }
 
-const FORMATS: [&str; 3] = ["1", "2", "3"];
+const FORMATS: [&str; 4] = ["1", "2", "3", "4"];
 
 const HEIGHTS: [&str; 2] = ["5", "10"];
 
@@ -192,7 +192,7 @@ fn shown(alloc: Global, error: &clap::Error) -> Result<Line, LineFault>
     }
 }
 
-/// `desk [--users N] [--format 1|2|3]`
+/// `desk [--users N] [--format 1|2|3|4]`
 fn desk(alloc: Global, values: &ArgMatches<'_>) -> Result<Line, LineFault>
     ensures { IfOk result HasGoodNumbers }
 {
@@ -201,7 +201,7 @@ fn desk(alloc: Global, values: &ArgMatches<'_>) -> Result<Line, LineFault>
         (Some(users), Some(format)) if (1..=64).contains(&users) => {
             Ok(Line::Desk { users, format })
         }
-        (_, None) => Err(usage(alloc, "error: the format is 1, 2 or 3")),
+        (_, None) => Err(usage(alloc, "error: the format is 1, 2, 3 or 4")),
         _ => Err(usage(alloc, "error: the number of users is 1 to 64")),
     }
 }
@@ -215,6 +215,7 @@ fn format_of(number: &str) -> Option<Format>
         "1" => Some(Format::V1),
         "2" => Some(Format::V2),
         "3" => Some(Format::V3),
+        "4" => Some(Format::V4),
         _ => None,
     }
 }
