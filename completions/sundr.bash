@@ -21,7 +21,7 @@ _sundr() {
     fi
     case $command in
         init) options="--server --team --user --key" files=-d ;;
-        put) options="--recursive --over --dry-run --in" files=-f ;;
+        put) options="--recursive --over --each --dry-run --in" files=-f ;;
         get) options="--recursive --over --in" files=-f ;;
         ls) options="--long --in --json" ;;
         cat) options="--in" ;;

@@ -57,6 +57,7 @@ complete -c sundr -n '__sundr_at init' -l server -x -d 'Where the server listens
 complete -c sundr -n '__sundr_at init' -l team -r -F -d 'The names and public keys of the team'
 complete -c sundr -n '__sundr_at init' -l user -x -d 'Who of the team works here'
 complete -c sundr -n '__sundr_at init' -l key -r -F -d 'The key file'
+complete -c sundr -n '__sundr_at put' -l each -d 'Each file in a commit of its own'
 complete -c sundr -n '__sundr_at put' -s n -l dry-run -d 'Tell what would be written'
 complete -c sundr -n '__sundr_at ls' -s l -l long -d 'Also sizes, last commits and who made them'
 complete -c sundr -n '__sundr_at mkdir' -s p -l parents -d 'Also those above that are lacking'

@@ -41,6 +41,7 @@ Says f (Put args) =
     × IsWord f (codes "path") (string_bytes args.path)
     × IsFlag f (codes "recursive") args.recursive
     × IsFlag f (codes "over") args.over
+    × IsFlag f (codes "each") args.each
     × IsFlag f (codes "dry-run") args.dry_run
 Says f (Get args) =
     IsWord f (codes "path") (string_bytes args.path)

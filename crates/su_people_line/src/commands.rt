@@ -63,6 +63,7 @@ fn put_command<'a>(alloc: Global) -> Result<Command<'a>, AllocError> {
     .required(true)
     .num_args(1..);
     let over = "Also what another user has changed since it was got";
+    let each = "Each file in a commit of its own";
     let dry_run = "Tells what would be written, and writes nothing";
     begun(
         alloc,
@@ -74,6 +75,7 @@ fn put_command<'a>(alloc: Global) -> Result<Command<'a>, AllocError> {
     .arg(word(alloc, "path", "PATH", "Where they go in the store").required(true))
     .arg(recursive(alloc))
     .arg(flag(alloc, "over", over))
+    .arg(flag(alloc, "each", each))
     .arg(flag(alloc, "dry-run", dry_run).short('n'))
     .arg(folder(alloc))
     .finish()

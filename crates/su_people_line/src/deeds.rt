@@ -105,14 +105,15 @@ pub struct InitArgs {
 }
 
 /// Local files, at least one, and folders where it is recursive, that are written to a path of the
-/// store: over what another changed since, too, where that is said, and not at all where it is a
-/// dry run.
+/// store: over what another changed since, too, where that is said; each file in a commit of its
+/// own, or together; and not at all where it is a dry run.
 #[derive(Debug, Drop)]
 pub struct PutArgs {
     pub locals: Vec<String>,
     pub path: String,
     pub recursive: bool,
     pub over: bool,
+    pub each: bool,
     pub dry_run: bool,
 }
 

@@ -116,7 +116,7 @@ fn server_of(alloc: Global, text: &str) -> Result<Server, LineFault>
     }
 }
 
-/// `put [-r] [--over] [-n] LOCAL.. PATH`
+/// `put [-r] [--over] [--each] [-n] LOCAL.. PATH`
 fn put_of(alloc: Global, values: &ArgMatches<'_>) -> Result<Deed, LineFault>
     ensures numbers { IfOk result HasGoodNumbers }
     ensures said { IfOk result (Says (found_of values.now)) }
@@ -128,6 +128,7 @@ fn put_of(alloc: Global, values: &ArgMatches<'_>) -> Result<Deed, LineFault>
         path,
         recursive: values.get_flag("recursive"),
         over: values.get_flag("over"),
+        each: values.get_flag("each"),
         dry_run: values.get_flag("dry-run"),
     }))
 }
