@@ -22,9 +22,9 @@ A folder is put as PATH, and a file too, but into PATH where that is a folder.
 With / behind PATH, and where there are several, all go into PATH.
 What is there already isn't written again, so a put that was broken off goes on
 when it is given once more. A file that another user has changed since it was
-last got here is left as it is, unless --over is given. Small files go together
-into one commit, which an undo takes back as a whole; with --each every file has
-a commit of its own. So
+last got here is left as it is, unless --over is given. Small files go together,
+up to 120 in one commit, which an undo takes back as a whole; with --each every
+file has a commit of its own. So
 
     sundr put -n -r report /
 
