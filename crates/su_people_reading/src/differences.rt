@@ -24,22 +24,21 @@ pub fn diff<T>(session: &mut Session<'_, T, Keyless>, number: u64) -> Result<Str
     let Some(entry) = entries.get(place) else {
         return Err(Trouble::from(Refusal::NoOperation(number)));
     };
-    let mut text = String::new(alloc);
-    if let Change::Do(batch) = &entry.change {
-        let author = name_of(alloc, team, entry.author)?;
-        let mut desk = desk_after(alloc, team.roster(alloc)?, &entries[..place])?;
-        let (first, more) = batch.parts();
-        push_operation(&mut text, alloc, &mut desk, entry, first, &names, &author)?;
-        for operation in more {
-            push_operation(
-                &mut text, alloc, &mut desk, entry, operation, &names, &author,
-            )?;
-        }
-    }
-    if text.is_empty() {
-        return Err(Trouble::told(format!(in alloc;
+    let batch = match &entry.change {
+        Change::Do(batch) if 0 < batch.written() => batch,
+        _ => return Err(Trouble::told(format!(in alloc;
             "commit {number} wrote no bytes: `sundr show {number}` tells what it did"
-        )));
+        ))),
+    };
+    let author = name_of(alloc, team, entry.author)?;
+    let mut desk = desk_after(alloc, team.roster(alloc)?, &entries[..place])?;
+    let mut text = String::new(alloc);
+    let (first, more) = batch.parts();
+    push_operation(&mut text, alloc, &mut desk, entry, first, &names, &author)?;
+    for operation in more {
+        push_operation(
+            &mut text, alloc, &mut desk, entry, operation, &names, &author,
+        )?;
     }
     Ok(text)
 }
@@ -54,8 +53,8 @@ fn desk_after(alloc: Global, roster: Roster, entries: &[Entry]) -> Result<TrialD
     Ok(desk)
 }
 
-/// Appends what an operation of an entry does to the bytes of a file, where it writes some, and
-/// makes the operation on the desk.
+/// Appends how an operation of an entry changes the bytes of a file, where it writes some, and makes
+/// it on the desk of what is before it.
 fn push_operation(
     text: &mut String,
     alloc: Global,
@@ -85,7 +84,8 @@ fn push_write(
     let off = write.off;
     let length = write.bytes.len() as u64;
     let end = u64::from(off) + length;
-    let old = desk.forest().read_at(write.file, u64::from(off), length)?;
+    let forest = desk.forest_on_trial();
+    let old = forest.read_at(write.file, u64::from(off), length)?;
     let path = shown_file(alloc, names, &write.file)?;
     let line = format!(in alloc; "{path}  bytes {off} to {end}, by {author}\n")?;
     text.push_str(line.as_str())?;

@@ -1,15 +1,17 @@
 // Names are made, given and taken away.
-use crate::putting::do_command;
 use std::alloc::{AllocError, Global};
 use std::net::{Net, TcpListener, TcpStream};
+use std::slice;
 use std::thread::Threads;
-use su_bytes::Kind;
+use su_bytes::{Kind, Refusal};
 use su_kept_key::KeptKey;
-use su_people_session::{Session, Trouble, found_at, last_name, named, path_in, walked};
+use su_people_session::{Found, Session, Trouble, found_at, last_name, named, path_in, walked};
+use su_person::{Fault, carry_out};
 use su_plan::Command;
 
-/// Makes folders, those above first where these are to be made too; one that is there is left
-/// then. Appends the numbers of the commits. The refusals of `su_person::carry_out`; what was
+/// Makes a folder; with those above that are lacking, where these are to be made too, and one that is
+/// there is left then. Appends the numbers of the commits, of which there is one, mostly. `WrongKind`
+/// where one of these paths leads to a file; the refusals of `su_person::carry_out`; what was
 /// committed before stays.
 pub fn make_folders<'a, T>(
     session: &mut Session<'a, T, KeptKey<'a>>,
@@ -20,19 +22,40 @@ pub fn make_folders<'a, T>(
 where
     T: Net<Listener = TcpListener, Stream = TcpStream> + Threads + Sync,
 {
-    if !parents {
-        return make_folder(session, path, numbers);
+    let alloc = session.helper.rt.alloc();
+    let mut commands = Vec::new(alloc);
+    if parents {
+        add_parents(session, path, &mut commands)?;
     }
+    if !parents || lacks_folder(session, path)? {
+        commands.push(folder_command(alloc, path)?)?;
+    }
+    do_commands(session, &commands, path, numbers)
+}
+
+/// Adds the commands that make the folders above a path that are lacking, the highest first.
+fn add_parents<'a, T>(
+    session: &mut Session<'a, T, KeptKey<'a>>,
+    path: &[u8],
+    commands: &mut Vec<Command>,
+) -> Result<(), Trouble> {
+    let alloc = session.helper.rt.alloc();
     for end in 1..path.len() {
-        if path[end] == b'/' {
-            make_lacking(session, &path[..end], numbers)?;
+        if path[end] == b'/' && lacks_folder(session, &path[..end])? {
+            commands.push(folder_command(alloc, &path[..end])?)?;
         }
     }
-    make_lacking(session, path, numbers)
+    Ok(())
 }
 
-/// Makes a folder, unless one is there.
-fn make_lacking<'a, T>(
+/// Returns the command that makes a folder.
+fn folder_command(alloc: Global, path: &[u8]) -> Result<Command, AllocError> {
+    let path = Vec::from_slice(alloc, path)?;
+    Ok(Command::Mkdir { path })
+}
+
+/// Makes a folder, unless one is there. `WrongKind` where a file is.
+pub(crate) fn make_lacking<'a, T>(
     session: &mut Session<'a, T, KeptKey<'a>>,
     path: &[u8],
     numbers: &mut Vec<u64>,
@@ -40,29 +63,33 @@ fn make_lacking<'a, T>(
 where
     T: Net<Listener = TcpListener, Stream = TcpStream> + Threads + Sync,
 {
+    if !lacks_folder(session, path)? {
+        return Ok(());
+    }
+    make_folders(session, path, false, numbers)
+}
+
+/// Tells whether a path leads to nothing, so that a folder may be made there. `WrongKind` where it
+/// leads to a file.
+pub(crate) fn lacks_folder<'a, T>(
+    session: &mut Session<'a, T, KeptKey<'a>>,
+    path: &[u8],
+) -> Result<bool, Trouble> {
     let alloc = session.helper.rt.alloc();
     match found_at(alloc, &mut session.member, path) {
-        Ok(found) if found.stat.kind == Kind::Dir => Ok(()),
-        _ => make_folder(session, path, numbers),
+        Ok(found) if found.stat.kind == Kind::Dir => Ok(false),
+        Ok(found) => {
+            let refusal = Refusal::WrongKind(found.file);
+            Err(Trouble::at(path, alloc, Fault::from(refusal)))
+        }
+        Err(_) => Ok(true),
     }
-}
-
-/// Makes a folder.
-fn make_folder<'a, T>(
-    session: &mut Session<'a, T, KeptKey<'a>>,
-    path: &[u8],
-    numbers: &mut Vec<u64>,
-) -> Result<(), Trouble>
-where
-    T: Net<Listener = TcpListener, Stream = TcpStream> + Threads + Sync,
-{
-    let copy = Vec::from_slice(session.helper.rt.alloc(), path)?;
-    do_command(session, &Command::Mkdir { path: copy }, path, numbers)
 }
 
 /// Takes a name away: a folder's with all that is in it, where that is asked for, the deepest
-/// first. Appends the numbers of the commits. Refuses a path that leads to nothing; the refusals
-/// of `su_person::carry_out`; what was committed before stays.
+/// first. Appends the numbers of the commits, of which there is one, where it has room for all names.
+/// Refuses a path that leads to nothing; the refusals of `su_person::carry_out`; what was committed
+/// before stays.
 pub fn remove<'a, T>(
     session: &mut Session<'a, T, KeptKey<'a>>,
     path: &[u8],
@@ -73,27 +100,17 @@ where
     T: Net<Listener = TcpListener, Stream = TcpStream> + Threads + Sync,
 {
     let alloc = session.helper.rt.alloc();
-    if !is_recursive {
-        return remove_one(session, path, numbers);
+    let mut commands = Vec::new(alloc);
+    if is_recursive {
+        let all = walked(alloc, &mut session.member, path)?;
+        for Found { path, .. } in all.into_iter().rev() {
+            commands.push(Command::Remove { path })?;
+        }
+    } else {
+        let path = Vec::from_slice(alloc, path)?;
+        commands.push(Command::Remove { path })?;
     }
-    let all = walked(alloc, &mut session.member, path)?;
-    for found in all.iter().rev() {
-        remove_one(session, found.path.as_slice(), numbers)?;
-    }
-    Ok(())
-}
-
-/// Takes a name away.
-fn remove_one<'a, T>(
-    session: &mut Session<'a, T, KeptKey<'a>>,
-    path: &[u8],
-    numbers: &mut Vec<u64>,
-) -> Result<(), Trouble>
-where
-    T: Net<Listener = TcpListener, Stream = TcpStream> + Threads + Sync,
-{
-    let copy = Vec::from_slice(session.helper.rt.alloc(), path)?;
-    do_command(session, &Command::Remove { path: copy }, path, numbers)
+    do_commands(session, &commands, path, numbers)
 }
 
 /// Gives what a path leads to another name; within a folder, where that is one, its own. Appends
@@ -114,7 +131,7 @@ where
         new_: target_of(session, old, new)?,
     };
     named(alloc, old, session.member.find_held(old))?;
-    do_command(session, &command, new, numbers)
+    do_commands(session, slice::from_ref(&command), new, numbers)
 }
 
 /// Gives a file one name more; within a folder, where that is one, its own. Appends the numbers of
@@ -134,7 +151,25 @@ where
         new_: target_of(session, old, new)?,
     };
     named(alloc, old, session.member.find_held(old))?;
-    do_command(session, &command, new, numbers)
+    do_commands(session, slice::from_ref(&command), new, numbers)
+}
+
+/// Carries out commands, in as few commits as have room for them. A refusal is told of the path.
+fn do_commands<'a, T>(
+    session: &mut Session<'a, T, KeptKey<'a>>,
+    commands: &[Command],
+    path: &[u8],
+    numbers: &mut Vec<u64>,
+) -> Result<(), Trouble>
+where
+    T: Net<Listener = TcpListener, Stream = TcpStream> + Threads + Sync,
+{
+    let alloc = session.helper.rt.alloc();
+    let done = carry_out(&mut session.helper, &mut session.member, commands, numbers);
+    match done {
+        Ok(()) => Ok(()),
+        Err(fault) => Err(Trouble::at(path, alloc, fault)),
+    }
 }
 
 /// Returns the path that a new name has: within a folder, where the path leads to one.

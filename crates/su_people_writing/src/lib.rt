@@ -1,13 +1,17 @@
-//! The commands for people that sign or make: local files are put to a store, names are made,
-//! given and taken away, operations are taken back, a client goes on to a next key, and a state
-//! folder is made.
+//! The commands for people that sign or make: local files are put to a store, many of them in one
+//! commit, names are made, given and taken away, operations are taken back, a client goes on to a
+//! next key, and a state folder is made.
 #![tactic(auto)]
 
 mod changing;
+mod groups;
 mod initializing;
 mod items;
+mod planning;
 mod putting;
 mod rekeying;
+mod tallies;
+mod together;
 mod undoing;
 
 pub use changing::{done_line, link, make_folders, remove, rename};
