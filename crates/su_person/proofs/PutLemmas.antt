@@ -1,5 +1,6 @@
 -- When a put may write, and what its rounds do.
-use Rattle.std.proofs.Common.{◌≡◌, ◌⊎◌, inl, inr, ◌++◌, ◌∷◌, [], ◌∙◌, ℕ, suc, Bool, true, List, Option, Result, Ok, IfOk, append_assoc, append-nil, refl, sym, ap, subst}
+use Rattle.std.proofs.Common.{◌≡◌, ◌⊎◌, inl, inr, ◌++◌, ◌∷◌, [], ◌∙◌, ℕ, suc, ◌+◌, ◌<◌, Bool, true, List, length, take, get_or, Option, Result, Ok, IfOk, append_assoc, append-nil, refl, sym, ap, subst}
+use Rattle.std.proofs.lemmas.List.{take_more}
 use Rattle.su_bytes.specs.declared.file_ids.FileId.{FileId}
 use Rattle.su_desk.specs.declared.entries.Entry.{Entry}
 use Rattle.su_draft.specs.declared.commands.Command.{Command}
@@ -13,7 +14,7 @@ use Rattle.su_person.specs.declared.faults.Fault.TheVariants.{Refused, Shown, Ch
 use Rattle.su_person.specs.Carrying.{CarriesSome}
 use Rattle.su_person.specs.Fault.{TellsNoChange}
 use Rattle.su_person.specs.LastChange.{last_change}
-use Rattle.su_person.specs.Putting.{HasBytes, HasThere, IsStanding, KnowsBytes, MayWrite, PutsAll, PutsOne, PutsOver, Rounds, TellsUnseen, TellsWhy}
+use Rattle.su_person.specs.Putting.{HasBytes, HasThere, IsStanding, KnowsBytes, MayWrite, PutsAll, PutsOne, PutsOver, Rounds, RoundTogether, TellsUnseen, TellsWhy}
 use Rattle.su_person.specs.declared.putting.NewContents.{NewContents}
 use Rattle.su_person.specs.declared.putting.Standing.{Standing}
 use Rattle.su_person.specs.declared.putting.Standing.TheVariants.{Nothing, File}
@@ -102,3 +103,39 @@ puts_more v (first ∷ news) new commands next (front, back, is, puts_first, res
   puts_first,
   puts_more v news new back next rest puts,
 )
+
+-- nothing is put
+pub no_round : (its : List Command) (news : List NewContents) (s t : MemberState) (olds : List ℕ) → t ≡ s
+    → (ns : List ℕ) × (olds ≡ olds ++ ns) × RoundTogether its news s ns t
+no_round its news s t olds same = (
+  [],
+  sym (append-nil olds),
+  record {
+    commands = [];
+    puts = inl refl;
+    carries = record { steps = 0; left = []; between = s; carries = (refl, refl, refl); ends = inl (s, inl refl, inl same) };
+  },
+)
+
+-- a round of these commands
+pub round_of : (its : List Command) (news : List NewContents) (commands : List Command) (s looked t : MemberState) (olds now : List ℕ) → looked ≡ s
+    → (more : List Command) × (commands ≡ its ++ more) × PutsAll s.holding news more
+    → (ns : List ℕ) × (now ≡ olds ++ ns) × CarriesSome Unwelcome commands looked ns t
+    → (ns : List ℕ) × (now ≡ olds ++ ns) × RoundTogether its news s ns t
+round_of its news commands s looked t olds now same puts (ns, noted, carries) = (
+  ns,
+  noted,
+  record {
+    commands = commands;
+    puts = inr puts;
+    carries = subst (λ (m : MemberState). CarriesSome Unwelcome commands m ns t) same carries;
+  },
+)
+
+-- the commands of the first files, and those of the next one
+pub puts_next : (all : List NewContents) (i : ℕ) (none : NewContents) (s m : MemberState) (commands next : List Command) → i < length all → m ≡ s
+    → PutsAll s.holding (take i all) commands → PutsOne m.holding (get_or all i none) next → PutsAll s.holding (take (i + 1) all) (commands ++ next)
+puts_next all i none s m commands next inside same so_far puts =
+    subst (λ (news : List NewContents). PutsAll s.holding news (commands ++ next)) (sym (take_more all i none inside))
+    (puts_more s.holding (take i all) (get_or all i none) commands next so_far
+    (subst (λ (x : MemberState). PutsOne x.holding (get_or all i none) next) same puts))

@@ -1,13 +1,14 @@
 -- Commands that are carried out step by step: what holds once a further step is made, or refused.
-use Rattle.std.proofs.Common.{◌≡◌, ◌≤◌, ◌⊎◌, inl, inr, ℕ, zero, suc, List, [], ◌∷◌, ◌++◌, length, take, drop, Option, None, Some, append_assoc, append-nil, refl, sym, ◌∙◌, ap, subst, Result, Ok, Err}
+use Rattle.std.proofs.Common.{◌≡◌, ◌≤◌, inl, inr, ℕ, zero, suc, List, [], ◌∷◌, ◌++◌, length, take, drop, Option, None, Some, append_assoc, append-nil, refl, sym, ◌∙◌, ap, subst, Result, Ok, Err}
 use Rattle.std.specs.Prelude.{OnErr, OnOk}
+use Rattle.std.specs.Option.{IfSome}
 use Rattle.std.proofs.lemmas.List.{take-append-drop}
 use Rattle.su_op.specs.declared.operations.Op.{Op}
 use Rattle.su_op.specs.declared.operations.Change.TheVariants.{Do}
 use Rattle.su_op.specs.Action.{some_batch}
 use Rattle.su_draft.specs.declared.commands.Command.{Command}
 use Rattle.su_view.specs.Holding.{HoldingState}
-use Rattle.su_client_work.specs.Member.{MemberState, OnlyTakes, Stays}
+use Rattle.su_client_work.specs.Member.{MemberState, Stays}
 use Rattle.su_client_work.specs.Publishing.{IsPublished, SignsAtMost}
 use Rattle.su_person.specs.declared.carrying.Others.{Others}
 use Rattle.su_person.specs.declared.steps.Step.{Step}
@@ -46,6 +47,10 @@ tries_batch its done ops batch s t e planned signs same =
 pub planned_in_part : (its : List Command) (v : HoldingState) (n : ℕ) (ops : List Op) → IsPlanned (take 1 its) v ops → IsPlannedStep its v 0 (take n ops)
 planned_in_part its v n ops is =
     inr (refl, (drop n ops, subst (IsPlanned (take 1 its) v) (sym (take-append-drop n ops)) is))
+
+-- a step carries out no more commands than there are
+pub few_of : (found : Option Step) (step : Step) (its : List Command) → found ≡ Some step → IfSome found (λ it. it.done ≤ length its) → step.done ≤ length its
+few_of found step its is few = subst (λ (o : Option Step). IfSome o (λ it. it.done ≤ length its)) is few
 
 -- ---- steps one after another
 

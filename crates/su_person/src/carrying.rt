@@ -1,5 +1,5 @@
 // How commands on paths are carried out.
-ghost use Rattle.std.specs.Prelude.{◌≡◌, ◌≤◌, ◌<◌, ◌++◌, ℕ, List, true, length, IfErr, IfOk, OnErr, OnOk};
+ghost use Rattle.std.specs.Prelude.{◌≡◌, ◌≤◌, ◌<◌, ◌++◌, ℕ, List, true, drop, length, IfErr, IfOk, OnErr, OnOk};
 ghost use Rattle.std.specs.Option.{IfSome, IsSome};
 ghost use Rattle.std.specs.Vec.{vec_capacity, vec_len};
 ghost use Rattle.su_client_work.specs.Member.{OnlyTakes, Stays};
@@ -99,9 +99,17 @@ where
         let Some(step) = step(person, member, left, others, numbers)? else {
             return Ok(false);
         };
-        left = &left[step.done..];
+        left = behind(left, step.done);
     }
     Err(Fault::from(Refusal::Busy(ANY_SEAT)))
+}
+
+/// Returns the commands behind the first ones, so many.
+fn behind(commands: &[Command], done: usize) -> &[Command]
+    requires { done ≤ length commands.now }
+    ensures { result.now ≡ drop done commands.now }
+{
+    &commands[done..]
 }
 
 /// Makes the next step of commands, of which there are some, in a turn of its own, appends the number

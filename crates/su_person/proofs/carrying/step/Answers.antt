@@ -1,5 +1,5 @@
-use Rattle.std.proofs.Common.{◌≡◌, ◌∙◌, ◌++◌, [], List, ℕ, inl, refl, sym, ap, append-nil}
-use Rattle.su_client_work.proofs.Public.{works_then}
+use Rattle.std.proofs.Common.{◌∙◌, ◌++◌, [], List, ℕ, inl, refl, sym, ap, append-nil}
+use Rattle.su_client_work.proofs.Public.{works_same, works_then}
 use Rattle.su_person.specs.Carrying.{numbers_of}
 use Rattle.su_person.proofs.StepLemmas.{goes_along, made, on_err, refused}
 use Rattle.su_person.proofs.carrying.step.Goals as goal
@@ -58,3 +58,6 @@ returns-clause-steps g c = (
     },
   ),
 )
+
+pub returns-in_err-reserve-clause-works : goal.returns-in_err-reserve-clause-works
+returns-in_err-reserve-clause-works g c = works_same c.args.member.now c.args.member.now refl

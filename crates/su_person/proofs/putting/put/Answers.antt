@@ -17,28 +17,28 @@ loop-init g c = record {
   rounds = (zero, [], sym (append-nil c.args.numbers.now.items), (refl, refl));
 }
 
-pub returns-in_err-write_all-clause-works : goal.returns-in_err-write_all-clause-works
-returns-in_err-write_all-clause-works g c =
-    works_then c.args.member.now c.loop.member c.write_all.new.member c.loop.invariant.works
-    (subst (λ (m : MemberState). Works m c.write_all.new.member) c.standing_at.ensures.same c.write_all.ensures.works)
+pub returns-in_err-carry-clause-works : goal.returns-in_err-carry-clause-works
+returns-in_err-carry-clause-works g c =
+    works_then c.args.member.now c.loop.member c.carry.new.member c.loop.invariant.works
+    (subst (λ (m : MemberState). Works m c.carry.new.member) c.standing_at.ensures.same c.carry.ensures.works)
 
-pub returns-in_err-write_all-clause-rounds : goal.returns-in_err-write_all-clause-rounds
-returns-in_err-write_all-clause-rounds g c =
+pub returns-in_err-carry-clause-rounds : goal.returns-in_err-carry-clause-rounds
+returns-in_err-carry-clause-rounds g c =
     round_more c.args.new.now.seen c.args.new.now.over c.args.new.now.path.now c.args.new.now.bytes.now c.args.numbers.now.items c.loop.numbers.items
-    c.write_all.new.numbers.items c.deref.result.now c.args.member.now c.loop.member c.standing_at.new.member c.write_all.new.member c.loop.invariant.rounds
+    c.carry.new.numbers.items c.as_slice.result.now c.args.member.now c.loop.member c.standing_at.new.member c.carry.new.member c.loop.invariant.rounds
     c.standing_at.ensures.same c.in_ok-commands.ensures.may
-    (subst (λ (l : List Command). PutsOver c.standing_at.new.member.holding c.args.new.now.path.now c.args.new.now.bytes.now l) (sym c.deref.ensures.value) c.in_ok-commands.ensures.puts) c.write_all.ensures.carries
+    (subst (λ (l : List Command). PutsOver c.standing_at.new.member.holding c.args.new.now.path.now c.args.new.now.bytes.now l) (sym c.as_slice.ensures.value) c.in_ok-commands.ensures.puts) c.carry.ensures.some
 
 pub loop-preserved : goal.loop-preserved
 loop-preserved g c = record {
   works =
-      works_then c.args.member.now c.loop.member c.write_all.new.member c.loop.invariant.works
-      (subst (λ (m : MemberState). Works m c.write_all.new.member) c.standing_at.ensures.same c.write_all.ensures.works);
+      works_then c.args.member.now c.loop.member c.carry.new.member c.loop.invariant.works
+      (subst (λ (m : MemberState). Works m c.carry.new.member) c.standing_at.ensures.same c.carry.ensures.works);
   rounds =
       round_more c.args.new.now.seen c.args.new.now.over c.args.new.now.path.now c.args.new.now.bytes.now c.args.numbers.now.items c.loop.numbers.items
-      c.write_all.new.numbers.items c.deref.result.now c.args.member.now c.loop.member c.standing_at.new.member c.write_all.new.member c.loop.invariant.rounds
+      c.carry.new.numbers.items c.as_slice.result.now c.args.member.now c.loop.member c.standing_at.new.member c.carry.new.member c.loop.invariant.rounds
       c.standing_at.ensures.same c.in_ok-commands.ensures.may
-      (subst (λ (l : List Command). PutsOver c.standing_at.new.member.holding c.args.new.now.path.now c.args.new.now.bytes.now l) (sym c.deref.ensures.value) c.in_ok-commands.ensures.puts) c.write_all.ensures.carries;
+      (subst (λ (l : List Command). PutsOver c.standing_at.new.member.holding c.args.new.now.path.now c.args.new.now.bytes.now l) (sym c.as_slice.ensures.value) c.in_ok-commands.ensures.puts) c.carry.ensures.some;
 }
 
 pub returns-then-has-clause-there : goal.returns-then-has-clause-there

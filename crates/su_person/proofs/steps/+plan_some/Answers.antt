@@ -1,0 +1,12 @@
+use Rattle.std.proofs.Common.{ℕ, take, sym, subst}
+use Rattle.su_person.specs.Carrying.{IsPlanned, IsPlannedStep}
+use Rattle.su_person.proofs.StepLemmas.{planned_in_part}
+use Rattle.su_person.proofs.steps.+plan_some.Goals as goal
+
+pub returns-then-count-eq1-clause-planned : goal.returns-then-count-eq1-clause-planned
+returns-then-count-eq1-clause-planned g t c =
+    let its = c.args.commands.now in
+    let v = c.args.member.now.holding in
+    let ops = c.in_ok-operations.operations.items in
+    subst (IsPlannedStep its v 0) (sym c.truncate.ensures.items)
+    (planned_in_part its v c.max.result ops (subst (λ (n : ℕ). IsPlanned (take n its) v ops) c.if-count-eq1.true c.in_ok-operations.ensures.planned))
