@@ -53,8 +53,8 @@ fn desk_after(alloc: Global, roster: Roster, entries: &[Entry]) -> Result<TrialD
     Ok(desk)
 }
 
-/// Appends how an operation of an entry changes the bytes of a file, where it writes some, and makes
-/// it on the desk of what is before it.
+/// Appends how an operation of an entry changes the bytes of a file, where it writes some, and
+/// makes it on the desk of what is before it.
 fn push_operation(
     text: &mut String,
     alloc: Global,

@@ -9,10 +9,10 @@ use su_people_session::{Found, Session, Trouble, found_at, last_name, named, pat
 use su_person::{Fault, carry_out};
 use su_plan::Command;
 
-/// Makes a folder; with those above that are lacking, where these are to be made too, and one that is
-/// there is left then. Appends the numbers of the commits, of which there is one, mostly. `WrongKind`
-/// where one of these paths leads to a file; the refusals of `su_person::carry_out`; what was
-/// committed before stays.
+/// Makes a folder; with those above that are lacking, where these are to be made too, and one that
+/// is there is left then. Appends the numbers of the commits, of which there is one, mostly.
+/// `WrongKind` where one of these paths leads to a file; the refusals of `su_person::carry_out`;
+/// what was committed before stays.
 pub fn make_folders<'a, T>(
     session: &mut Session<'a, T, KeptKey<'a>>,
     path: &[u8],
@@ -87,7 +87,7 @@ pub(crate) fn lacks_folder<'a, T>(
 }
 
 /// Takes a name away: a folder's with all that is in it, where that is asked for, the deepest
-/// first. Appends the numbers of the commits, of which there is one, where it has room for all names.
+/// first. Appends the numbers of the commits, of which there is one where it has room for all.
 /// Refuses a path that leads to nothing; the refusals of `su_person::carry_out`; what was committed
 /// before stays.
 pub fn remove<'a, T>(

@@ -13,8 +13,8 @@ use su_person::Fault;
 const MOST_PLACED: usize = 120;
 
 /// How many bytes the paths and the contents in a group have at most, unless it has one file alone:
-/// fewer than one commit has room for, beside what each operation takes.
-const MOST_BYTES: usize = 60_000;
+/// those of some fifteen commits, each of which is filled but the last.
+const MOST_BYTES: usize = 1_000_000;
 
 /// What is put at a path.
 #[derive(Debug, Drop)]
@@ -104,8 +104,8 @@ fn length_of(item: &Item) -> usize {
     bytes.saturating_add(item.path.len())
 }
 
-/// Reads an item. `Local` of a file that can't be read, and `TooBig` of one that has more bytes by now
-/// than one can have.
+/// Reads an item. `Local` of a file that can't be read, and `TooBig` of one that has more bytes by
+/// now than one can have.
 pub(crate) fn placed_of<T>(helper: &Helper<'_, T>, item: &Item) -> Result<Placed, Trouble> {
     let alloc = helper.rt.alloc();
     let path = Vec::from_slice(alloc, item.path.as_slice())?;

@@ -12,8 +12,8 @@ use su_op::largest_file;
 use su_people_session::{Session, Trouble, named};
 use su_pieces::put_commands;
 
-/// Finds what a put of a folder or a file would take, by what is held, and counts it. `WrongKind` of a
-/// folder where a file is; `TooBig` of more bytes than a file can have.
+/// Finds what a put of a folder or a file would take, by what is held, and counts it. `WrongKind`
+/// of a folder where a file is; `TooBig` of more bytes than a file can have.
 pub(crate) fn plan_placed<'a, T>(
     session: &mut Session<'a, T, KeptKey<'a>>,
     placed: &Placed,

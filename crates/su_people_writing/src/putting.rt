@@ -13,11 +13,11 @@ use su_people_session::{Answer, Helper, Progress, Session, Trouble, is_of_path};
 use su_person::{NewContents, put};
 
 /// Puts local files and folders to the store: below the path where `is_into` tells so. What differs
-/// alone is written, in as few commits as have room for it, unless each file is to have its own; the
-/// numbers of the commits are appended. What can't be put is told, and the others go on. Refuses
-/// before anything is put what can't be found or is no file, a folder where folders aren't asked for,
-/// and with `TooBig` a file of more bytes than one can have; later what would stop the others too, as
-/// a server that can't be reached; `NoMemory`. What was committed before stays.
+/// alone is written, in as few commits as have room for it, unless each file is to have its own;
+/// the numbers of the commits are appended. What can't be put is told, and the others go on.
+/// Refuses before anything is put what can't be found or is no file, a folder where folders aren't
+/// asked for, and with `TooBig` a file of more bytes than one can have; later what would stop the
+/// others too, as a server that can't be reached; `NoMemory`. What was committed before stays.
 pub fn put_all<'a, T>(
     session: &mut Session<'a, T, KeptKey<'a>>,
     args: &PutArgs,
@@ -88,8 +88,8 @@ fn is_of_item(trouble: &Trouble) -> bool {
     }
 }
 
-/// Puts what a group has, and takes it out of it: together, where there are several, and then what is
-/// left of that one by one, or finds what it would take. What can't be put is told.
+/// Puts what a group has, and takes it out of that: together, where there are several, and then
+/// what is left of them one by one; or finds what it would take. What can't be put is told.
 fn put_gathered<'a, T>(
     session: &mut Session<'a, T, KeptKey<'a>>,
     group: &mut Group,

@@ -20,9 +20,10 @@ pub(crate) fn note_lacking<'a, T>(session: &mut Session<'a, T, KeptKey<'a>>, all
 }
 
 /// Puts folders and files together, each folder before what it has, and appends the numbers of the
-/// commits. Where one of them is refused, each half is put by itself: so what is refused is left, and
-/// isn't told. Where others commit something again and again, some may be left too. Refuses what
-/// would stop each of them, as a server that can't be reached. What was committed before stays.
+/// commits. Where one of them is refused, each half is put by itself: so what is refused is left,
+/// and isn't told. Where others commit something again and again, some may be left too. Refuses
+/// what would stop each of them, as a server that can't be reached. What was committed before
+/// stays.
 pub(crate) fn put_group<'a, T>(
     session: &mut Session<'a, T, KeptKey<'a>>,
     all: &[Placed],
@@ -149,7 +150,8 @@ fn is_there<'a, T>(session: &mut Session<'a, T, KeptKey<'a>>, placed: &Placed) -
     has_there(session, placed).unwrap_or(false)
 }
 
-/// Tells whether a folder is there, or a file with its contents. Refuses a path that leads to nothing.
+/// Tells whether a folder is there, or a file with its contents. Refuses a path that leads to
+/// nothing.
 fn has_there<'a, T>(
     session: &mut Session<'a, T, KeptKey<'a>>,
     placed: &Placed,
