@@ -25,7 +25,7 @@ PROGRAM = os.environ.get("SUNDR", f"{TOP}/crates/sundr/out/sundr")
 FILES = int(os.environ.get("PEOPLE_FILES", "200"))
 KILLS = int(os.environ.get("PEOPLE_KILLS", "50"))
 WAIT = 120  # seconds that a command may take at most
-BATCHES = False  # whether the operations of a command are as few commits as their items have room for, and a put knows --each
+BATCHES = True  # whether the operations of a command are as few commits as their items have room for, and a put knows --each
 
 passed = failed = 0
 

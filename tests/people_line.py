@@ -22,7 +22,7 @@ PROGRAM = os.path.abspath(os.environ.get("SUNDR", f"{TOP}/crates/sundr/out/sundr
 INIT = ["init", "team", "--server", "localhost:7000", "--team", "team.txt", "--user", "ann", "--key", "key"]
 DIGEST = "3f1a77c0 9be04d52 00010203 04050607 08090a0b 0c0d0e0f f0f1f2f3 f4f5f6f7"
 LARGEST = str(2 ** 64 - 1)
-EACH = False  # whether a put knows --each
+EACH = True  # whether a put knows --each
 
 
 def with_server(place):
