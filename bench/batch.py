@@ -3,13 +3,13 @@
 other programs that people use for it. Run by hand: `bench/batch.py [--rounds 3]`, some minutes. --small is for a trial.
 
 Files, state folders, keys and stores, those of the other programs too, lie in TMPDIR's folder, and so on one disk. All servers run on
-this machine, behind a relay (relay.py) that holds nothing back and counts the bytes each way, without the headers of packets. The
-contents are 1,000 files of 100 bytes and 1,000 files of 5,000, of random bytes, in 10 folders; in each round each program puts and gets
-them at a server, a store and a repository of its own, which are new, after a tiny folder. What was got is compared with what was put. Of
-each the best of the rounds, by the clock, is printed:
+this machine, behind a relay (relay.py) that counts the bytes each way, without the headers of packets, and holds back nothing, or each
+direction by 10 ms. The contents are 1,000 files of 1,000 bytes and 100 files of 48,000, of random bytes, in 10 folders; in each round
+each program puts and gets them at a server, a store and a repository of its own, which are new, after a tiny folder. What was got is
+compared with what was put. Of each the best of the rounds, by the clock, is printed:
 - of ann, who puts with and without --each, and bob, who gets, at a server with a store: seconds, files a second, how many commits there
-  were and how many of them a second, bytes each way, and how many bytes ann's log has for each file; and the seconds of an `undo` of the
-  last of ann's commits, and of bob's `ls` behind it;
+  were, each with a signature, and how many of them a second, bytes each way, and how many bytes ann's log has for each file; and the
+  seconds of an `undo` of each of the put's commits, from the last on (with --each of the last 20 alone), and of bob's `ls` behind it;
 - of git, which adds, commits with a signature by an ssh key, and pushes to `git daemon`, with both repositories synced, and clones; and
   of rsync to and from its daemon, which syncs nothing. What isn't installed is told and left out.
 
@@ -31,7 +31,9 @@ sys.path.insert(0, HERE)
 import put  # noqa: E402
 import serving  # noqa: E402
 
-SIZES, SMALL = {"files": 1000, "bytes": (100, 5_000)}, {"files": 30, "bytes": (100, 5_000)}
+SIZES, SMALL = ((1000, 1_000), (100, 48_000)), ((30, 1_000), (10, 48_000))  # how many files, of how many bytes
+AWAY = 0.01  # seconds that each direction is held back by, of a server that is away
+MOST_UNDONE = 20  # commits of a put with --each that are taken back
 
 
 class Row:
@@ -61,10 +63,10 @@ def warm_up(peer, tiny, got):
 
 # ---- each of these yields a deed, of how many files it was, and its row
 
-def by_sundr(room, tiny, contents, got, *more):
-    """Ann puts and bob gets; then ann takes the last commit back, and bob lists what is there."""
+def by_sundr(room, tiny, contents, got, seconds, *more):
+    """Ann puts and bob gets, at a server that is so many seconds away; then ann takes her commits back, and bob lists what is there."""
     with contextlib.ExitStack() as closing:
-        team = put.Sundr(room, closing)
+        team = put.Sundr(room, closing, seconds)
         warm_up(team, tiny, got)
         state, log, before = ["--in", f"{room}/ann"], f"{room}/ann/.sundr/log", team.head()
         length = os.path.getsize(log)
@@ -75,8 +77,9 @@ def by_sundr(room, tiny, contents, got, *more):
         words = [*serving.program, "get", "--in", f"{room}/bob", "-r", f"/{contents.name}", f"{got}/{contents.name}"]
         yield " ".join(["get, put", *more]), contents.files, Row(*put.timed([words], team.relay))
         contents.compare(got)
-        undo = [*serving.program, "undo", *state, team.head()]
-        yield " ".join(["undo of the last commit, put", *more]), None, Row(*put.timed([undo], team.relay), 1)
+        undone = min(commits, MOST_UNDONE) if more else commits
+        undos = [[*serving.program, "undo", *state, before + commits - n] for n in range(undone)]
+        yield " ".join(["undos, put", *more]), None, Row(*put.timed(undos, team.relay), undone)
         words = [*serving.program, "ls", "--in", f"{room}/bob", "/"]
         yield " ".join(["ls behind it, put", *more]), None, Row(*put.timed([words], team.relay))
 
@@ -91,8 +94,9 @@ def by_another(peer, room, tiny, contents, got):
 
 
 PEERS = {
-    "sundr": by_sundr, "sundr --each": lambda *room: by_sundr(*room, "--each"), "git": lambda *room: by_another(put.Git, *room),
-    "rsync": lambda *room: by_another(put.Rsync, *room)}
+    "sundr": lambda *room: by_sundr(*room, 0), "sundr --each": lambda *room: by_sundr(*room, 0, "--each"),
+    "sundr, away": lambda *room: by_sundr(*room, AWAY), "sundr, away --each": lambda *room: by_sundr(*room, AWAY, "--each"),
+    "git": lambda *room: by_another(put.Git, *room), "rsync": lambda *room: by_another(put.Rsync, *room)}
 
 
 class Files(put.Contents):
@@ -105,7 +109,7 @@ class Files(put.Contents):
 
 def lacking(name):
     """Whether the program of that name can't be run here; tells what is lacking."""
-    if name == "sundr --each" and "--each" not in put.sundr("put", "--help"):
+    if name.endswith("--each") and "--each" not in put.sundr("put", "--help"):
         print(f"{name} is left out, as the program doesn't know it", flush=True)
         return True
     needs = {"git": put.Git.needs, "rsync": put.Rsync.needs}.get(name, ())
@@ -121,15 +125,15 @@ def measure(room, sizes, rounds):
         if name in peers:
             print(put.run([name, "--version"]).splitlines()[0], flush=True)
     tiny, rows = Files(f"{room}/contents", "tiny", 100, 10), {}
-    for size in sizes["bytes"]:
-        contents = Files(f"{room}/contents", f"of{size}", size, sizes["files"])
+    for files, size in sizes:
+        contents = Files(f"{room}/contents", f"of{size}", size, files)
         for turn in range(rounds):
             for name, peer in peers.items():
-                at, got = f"{room}/{name.replace(' ', '')}_{size}_{turn}", f"{room}/got"
+                at, got = f"{room}/{name.replace(' ', '').replace(',', '')}_{size}_{turn}", f"{room}/got"
                 os.makedirs(at)
                 os.makedirs(got)
                 for deed, files, row in peer(at, tiny, contents, got):
-                    rows.setdefault((name.split()[0], deed, contents.told, files), []).append(row)
+                    rows.setdefault((name.removesuffix(" --each"), deed, contents.told, files), []).append(row)
                 shutil.rmtree(at)
                 shutil.rmtree(got)
     show_head()

@@ -142,14 +142,15 @@ class Sundr:
 
     needs, version = (), []
 
-    def __init__(self, room, closing):
+    def __init__(self, room, closing, seconds=0):
+        """At a server that is so many seconds away each way."""
         self.room, self.publics, lines = room, [], ["sundr team 1\n"]
         for name in ("ann", "bob"):
             printed = sundr("keygen", "--out", f"{room}/{name}.key", "--height", 10, "--width", 4)
             self.publics.append(f"{room}/{name}.key.pub")
             lines.append(f"{name} {printed.strip()}\n")
         server = closing.enter_context(storing.Keeping(self, f"{room}/store"))
-        self.relay = closing.enter_context(relay.Relay(server.port, 0))
+        self.relay = closing.enter_context(relay.Relay(server.port, seconds))
         with open(f"{room}/team", "w", encoding="utf-8") as file:
             file.writelines(lines)
         for name in ("ann", "bob"):
