@@ -1,12 +1,13 @@
 -- What is carried out for a command, and for a line.
-use Rattle.std.proofs.Common.{◌≡◌, ℕ, List, [], Option, Result, Ok, Err, inl, inr, refl, sym, subst, append-nil}
+use Rattle.std.proofs.Common.{◌≡◌, ◌∙◌, ℕ, Bool, List, [], Option, Result, Ok, Err, inl, inr, refl, sym, subst, append-nil}
 use Rattle.std.specs.Prelude.{OnOk, OnErr, IfOk, MatchResult}
 use Rattle.std.specs.Io.KnownBytes.{Appends}
 use Rattle.su_op.specs.declared.operations.Op.{Op}
 use Rattle.su_draft.specs.declared.commands.Command.{Command}
 use Rattle.su_view.specs.declared.refusals.ViewRefusal.{ViewRefusal}
 use Rattle.su_client.specs.Link.{LinkState}
-use Rattle.su_client_work.specs.Member.{MemberState, OnlyTakes}
+use Rattle.su_view.specs.Acting.{TakesSome}
+use Rattle.su_client_work.specs.Member.{MemberState, OnlyTakes, Stays}
 use Rattle.su_client_work.specs.Turn.{Looks}
 use Rattle.su_client_lines.specs.Said.{Said, asked_of}
 use Rattle.su_client_lines.specs.Said as said
@@ -36,6 +37,15 @@ prints_so old new D E so (text, done, printed) = (text, so text done, printed)
 pub saved_so : {P : Type 0} (saves : P → List ℕ → List ℕ → P → Type 0) (before after : P) (f file l log : List ℕ) → f ≡ file → l ≡ log → saves before f l after → IsSaved saves file log
 saved_so saves before after f file l log same_file same_log is = (before, after, subst (λ x. saves before x log after) same_file (subst (λ x. saves before f x after) same_log is))
 
+-- ---- what is only taken
+
+pub takes_stays : (s m t : MemberState) → OnlyTakes s m → Stays m t → OnlyTakes s t
+takes_stays s m t p q = record {
+  takes = subst (λ v. TakesSome s.holding v) (sym q.holding) p.takes;
+  signed = q.signed ∙ p.signed;
+  next = q.next ∙ p.next;
+}
+
 -- ---- questions
 
 pub asks_so : {A : Type 0} (r : Result A ViewRefusal) (M : LinkState → Type 0) (s t : MemberState) (old new : Option (List ℕ)) (Answers : List ℕ → Type 0) (shown : A → List ℕ) (Holds : A → Type 0)
@@ -46,31 +56,30 @@ asks_so (Err e) M s t old new Answers shown Holds takes looks holds so printed =
 
 -- ---- what is done at most
 
-commits_some : (M : LinkState → Type 0) (s t : MemberState) (text : List ℕ) (ops : List Op) → CommitsUntil M ops s t text → CommitsSome M ops s t
-commits_some M s t text ops until = (ops, [], sym (append-nil ops), text, until)
+commits_some : (M : LinkState → Type 0) (s t : MemberState) (text : List ℕ) (parts : List (List Op)) → CommitsUntil M parts s t text → CommitsSome M parts s t
+commits_some M s t text parts until = (parts, [], sym (append-nil parts), text, until)
 
-change_some : (M : LinkState → Type 0) (it : Command) (s t : MemberState) (text : List ℕ) → CarriesChange M it s t text → CarriesSomeChange M it s t
-change_some M it s t text (inl (takes, refused)) = inl takes
-change_some M it s t text (inr plan) = inr (record {
+change_some : (M : LinkState → Type 0) (batches : Bool) (it : Command) (s t : MemberState) (text : List ℕ) → CarriesChange M batches it s t text → CarriesSomeChange M batches it s t
+change_some M batches it s t text (inl (takes, refused)) = inl takes
+change_some M batches it s t text (inr plan) = inr (record {
   turn = plan.turn;
-  operations = plan.operations;
-  takes = plan.takes;
-  takes_turn = plan.takes_turn;
-  planned = plan.planned;
-  committed = commits_some M plan.turn t text plan.operations plan.committed;
+  parts = plan.parts;
+  plans = plan.plans;
+  committed = commits_some M plan.turn t text plan.parts plan.committed;
 })
 
 -- what is carried out is no more than that
-pub carries_some : (M : LinkState → Type 0) (Files : FileCalls) (it : ClientCommand) (s t : MemberState) (text : List ℕ) → Carries M Files it s t text → CarriesSome M it s t
-carries_some M Files (command.Change it) s t text (ready, moves, done) = (ready, moves, change_some M it ready t text done)
-carries_some M Files (command.Undo number) s t text (r, commits, is) = (r, commits)
-carries_some M Files command.UndoLast s t text (r, commits, is) = (r, commits)
-carries_some M Files (command.Rekey file) s t text (inl (same, refused)) = inl same
-carries_some M Files (command.Rekey file) s t text (inr (key, leaf, r, opens, rekeys, is)) = inr (key, leaf, r, rekeys)
-carries_some M Files (command.List path) s t text done = done.takes
-carries_some M Files (command.Read path off len) s t text done = done.takes
-carries_some M Files (command.Save file) s t text done = done.takes
+pub carries_some : (M : LinkState → Type 0) (Files : FileCalls) (batches : Bool) (it : ClientCommand) (s t : MemberState) (text : List ℕ)
+    → Carries M Files batches it s t text → CarriesSome M batches it s t
+carries_some M Files batches (command.Change it) s t text (ready, moves, done) = (ready, moves, change_some M batches it ready t text done)
+carries_some M Files batches (command.Undo number) s t text (r, commits, is) = (r, commits)
+carries_some M Files batches command.UndoLast s t text (r, commits, is) = (r, commits)
+carries_some M Files batches (command.Rekey file) s t text (inl (same, refused)) = inl same
+carries_some M Files batches (command.Rekey file) s t text (inr (key, leaf, r, opens, rekeys, is)) = inr (key, leaf, r, rekeys)
+carries_some M Files batches (command.List path) s t text done = done.takes
+carries_some M Files batches (command.Read path off len) s t text done = done.takes
+carries_some M Files batches (command.Save file) s t text done = done.takes
 
-pub line_some : (M : LinkState → Type 0) (x : Said) (it : ClientCommand) (s t : MemberState) → x ≡ said.Said.Asks (asked_of it) → CarriesSome M it s t
-    → SaidIsDone (λ it. CarriesSome M it s t) (λ shown. t ≡ s) x
-line_some M x it s t is done = subst (λ x. SaidIsDone (λ it. CarriesSome M it s t) (λ shown. t ≡ s) x) (sym is) (it, refl, done)
+pub line_some : (M : LinkState → Type 0) (batches : Bool) (x : Said) (it : ClientCommand) (s t : MemberState) → x ≡ said.Said.Asks (asked_of it) → CarriesSome M batches it s t
+    → SaidIsDone (λ it. CarriesSome M batches it s t) (λ shown. t ≡ s) x
+line_some M batches x it s t is done = subst (λ x. SaidIsDone (λ it. CarriesSome M batches it s t) (λ shown. t ≡ s) x) (sym is) (it, refl, done)

@@ -1,4 +1,4 @@
--- Operations that are committed, one more behind others.
+-- Parts that are committed, one more behind others.
 use Rattle.std.proofs.Common.{◌≡◌, ℕ, Bool, true, false, List, [], ◌∷◌, ◌++◌, inl, inr, refl, sym, ap, ◌∙◌, subst, append_assoc, append-nil, Result, Ok, Err, Option}
 use Rattle.std.specs.Io.KnownBytes.{Appends}
 use Rattle.su_op.specs.declared.operations.Op.{Op}
@@ -13,40 +13,40 @@ use Rattle.su_client_script.specs.Step.{IsOutcome, is_refused}
 use Rattle.su_client_script.specs.declared.answers.Outcome.{Outcome}
 use Rattle.su_client_script.proofs.Adding.{appends_then}
 
-pub not_behind : (held : Bool) (ops : List Op) (op : Op) → held_behind held (ops ++ op ∷ []) ≡ false
-not_behind held [] op = refl
-not_behind held (x ∷ ops) op = refl
+pub not_behind : (held : Bool) (parts : List (List Op)) (part : List Op) → held_behind held (parts ++ part ∷ []) ≡ false
+not_behind held [] part = refl
+not_behind held (x ∷ parts) part = refl
 
 module _ (M : LinkState → Type 0) where
-  pub commits_more : (held : Bool) (ops : List Op) (op : Op) (s m t : MemberState) (text : List ℕ) (n : ℕ)
-      → CommitsAll M held ops s m text → CommitsIn M (held_behind held ops) op m t (Ok n)
-      → CommitsAll M held (ops ++ op ∷ []) s t (text ++ answer_text (Ok n))
-  commits_more held [] op s m t text n (same, none) one = (
+  pub commits_more : (held : Bool) (parts : List (List Op)) (part : List Op) (s m t : MemberState) (text : List ℕ) (n : ℕ)
+      → CommitsAll M held parts s m text → CommitsIn M (held_behind held parts) part m t (Ok n)
+      → CommitsAll M held (parts ++ part ∷ []) s t (text ++ answer_text (Ok n))
+  commits_more held [] part s m t text n (same, none) one = (
     n,
     t,
     [],
-    subst (λ (x : MemberState). CommitsIn M held op x t (Ok n)) same one,
+    subst (λ (x : MemberState). CommitsIn M held part x t (Ok n)) same one,
     (refl, refl),
     (λ i. none i ++ answer_text (Ok n)) ∙ sym (append-nil (answer_text (Ok n))),
   )
-  commits_more held (x ∷ ops) op s m t text n (k, between, rest, first, others, is) one = (
+  commits_more held (x ∷ parts) part s m t text n (k, between, rest, first, others, is) one = (
     k,
     between,
     rest ++ answer_text (Ok n),
     first,
-    commits_more false ops op between m t rest n others (behind ops one),
+    commits_more false parts part between m t rest n others (behind parts one),
     ap (λ l. l ++ answer_text (Ok n)) is ∙ append_assoc (answer_text (Ok k)) rest (answer_text (Ok n)),
   )
     where
-      behind : (ops : List Op) → CommitsIn M false op m t (Ok n) → CommitsIn M (held_behind false ops) op m t (Ok n)
+      behind : (parts : List (List Op)) → CommitsIn M false part m t (Ok n) → CommitsIn M (held_behind false parts) part m t (Ok n)
       behind [] one = one
-      behind (x ∷ ops) one = one
+      behind (x ∷ parts) one = one
 
-  pub stops_at : (ops others : List Op) (op : Op) (s m t : MemberState) (text : List ℕ) (e : ViewRefusal)
-      → CommitsAll M true ops s m text → CommitsIn M (held_behind true ops) op m t (Err e) → StopsAt M true (ops ++ op ∷ others) s t (text ++ refusal_shown e)
-  stops_at ops others op s m t text e done one = record {
-    done = ops;
-    next = op;
+  pub stops_at : (parts others : List (List Op)) (part : List Op) (s m t : MemberState) (text : List ℕ) (e : ViewRefusal)
+      → CommitsAll M true parts s m text → CommitsIn M (held_behind true parts) part m t (Err e) → StopsAt M true (parts ++ part ∷ others) s t (text ++ refusal_shown e)
+  stops_at parts others part s m t text e done one = record {
+    done = parts;
+    next = part;
     others = others;
     all = refl;
     between = m;
@@ -67,43 +67,43 @@ pub was_done : (a : Bool) (r : Result ℕ ViewRefusal) (out : Outcome) → IsOut
 was_done a (Ok n) out is refused = (n, refl)
 was_done a (Err e) out is refused = absurd (let clash : true ≡ false = ap is_refused (sym is) ∙ refused in cc)
 
-module _ (M : LinkState → Type 0) (old mid : Option (List ℕ)) (all done others : List Op) (op : Op) (s m t : MemberState) (first : Bool) (whole : done ++ op ∷ others ≡ all)
+module _ (M : LinkState → Type 0) (old mid : Option (List ℕ)) (all done others : List (List Op)) (part : List Op) (s m t : MemberState) (first : Bool) (whole : done ++ part ∷ others ≡ all)
     (place : first ≡ held_behind true done) (so_far : Prints old mid (CommitsAll M true done s m)) where
-  in_place : (r : Result ℕ ViewRefusal) → CommitsIn M first op m t r → CommitsIn M (held_behind true done) op m t r
-  in_place r one = subst (λ b. CommitsIn M b op m t r) place one
+  in_place : (r : Result ℕ ViewRefusal) → CommitsIn M first part m t r → CommitsIn M (held_behind true done) part m t r
+  in_place r one = subst (λ b. CommitsIn M b part m t r) place one
 
-  pub goes_on : (new : Option (List ℕ)) (r : Result ℕ ViewRefusal) (n : ℕ) → r ≡ Ok n → CommitsIn M first op m t r → Appends mid new (number_shown r)
-      → Prints old new (CommitsAll M true (done ++ op ∷ []) s t)
+  pub goes_on : (new : Option (List ℕ)) (r : Result ℕ ViewRefusal) (n : ℕ) → r ≡ Ok n → CommitsIn M first part m t r → Appends mid new (number_shown r)
+      → Prints old new (CommitsAll M true (done ++ part ∷ []) s t)
   goes_on new r n is one printed =
       let (text, commits, before) = so_far in (
         text ++ answer_text (Ok n),
-        commits_more M true done op s m t text n commits (subst (λ r. CommitsIn M (held_behind true done) op m t r) is (in_place r one)),
+        commits_more M true done part s m t text n commits (subst (λ r. CommitsIn M (held_behind true done) part m t r) is (in_place r one)),
         appends_then old mid new text (answer_text (Ok n)) before (subst (λ r. Appends mid new (number_shown r)) is printed),
       )
 
-  pub ends : (new : Option (List ℕ)) (r : Result ℕ ViewRefusal) (e : ViewRefusal) → r ≡ Err e → CommitsIn M first op m t r → Appends mid new (number_shown r)
+  pub ends : (new : Option (List ℕ)) (r : Result ℕ ViewRefusal) (e : ViewRefusal) → r ≡ Err e → CommitsIn M first part m t r → Appends mid new (number_shown r)
       → Prints old new (CommitsUntil M all s t)
   ends new r e is one printed =
       let (text, commits, before) = so_far in (
         text ++ refusal_shown e,
-        inr (subst (λ ops. StopsAt M true ops s t (text ++ refusal_shown e)) whole (stops_at M done others op s m t text e commits (subst (λ r. CommitsIn M (held_behind true done) op m t r) is (in_place r one)))),
+        inr (subst (λ parts. StopsAt M true parts s t (text ++ refusal_shown e)) whole (stops_at M done others part s m t text e commits (subst (λ r. CommitsIn M (held_behind true done) part m t r) is (in_place r one)))),
         appends_then old mid new text (refusal_shown e) before (subst (λ r. Appends mid new (number_shown r)) is printed),
       )
 
-  pub fails : (r : Result ℕ ViewRefusal) → CommitsIn M first op m t r → CommitsSome M all s t
+  pub fails : (r : Result ℕ ViewRefusal) → CommitsIn M first part m t r → CommitsSome M all s t
   fails (Ok n) one =
       let (text, commits, before) = so_far in (
-        done ++ op ∷ [],
+        done ++ part ∷ [],
         others,
-        sym whole ∙ sym (append_assoc done (op ∷ []) others),
+        sym whole ∙ sym (append_assoc done (part ∷ []) others),
         text ++ answer_text (Ok n),
-        inl (commits_more M true done op s m t text n commits (in_place (Ok n) one)),
+        inl (commits_more M true done part s m t text n commits (in_place (Ok n) one)),
       )
   fails (Err e) one =
       let (text, commits, before) = so_far in (
-        done ++ op ∷ [],
+        done ++ part ∷ [],
         others,
-        sym whole ∙ sym (append_assoc done (op ∷ []) others),
+        sym whole ∙ sym (append_assoc done (part ∷ []) others),
         text ++ refusal_shown e,
-        inr (stops_at M done [] op s m t text e commits (in_place (Err e) one)),
+        inr (stops_at M done [] part s m t text e commits (in_place (Err e) one)),
       )

@@ -18,6 +18,7 @@ use Rattle.su_client_lines.specs.declared.commands.ClientCommand.{ClientCommand}
 use Rattle.su_client_lines.specs.declared.commands.ClientCommand.TheVariants as command
 use Rattle.su_desk_script.specs.Answer.{answer_text, bytes_text}
 use Rattle.su_client_script.specs.Calls.{FileCalls}
+use Rattle.su_client_script.specs.Parts.{IsCut}
 use Rattle.su_client_script.specs.KeyMoves.{MovesOnThen, RekeysTo}
 use Rattle.su_client_script.specs.Text.{IsRefusal, listing_shown, number_shown, refusal_shown}
 
@@ -35,36 +36,36 @@ pub record CommitsNow (it : Change) (s t : MemberState) (r : Result ℕ ViewRefu
   pub signs : SignsAtMost s.holding it s t
   pub published : IfOk r (IsPublished it s t)
 
--- an operation is committed, in the turn that is held or one of its own, before which the client may
--- go on to another key
-abbrev pub CommitsIn : (LinkState → Type 0) → Bool → Op → MemberState → MemberState
+-- a part of the operations is committed as one change, in the turn that is held or one of its own,
+-- before which the client may go on to another key
+abbrev pub CommitsIn : (LinkState → Type 0) → Bool → List Op → MemberState → MemberState
     → Result ℕ ViewRefusal → Type 0
-CommitsIn MayConnect true op s t r = CommitsNow (change.Do (op ∷ [])) s t r
-CommitsIn MayConnect false op s t r =
-    MovesOnThen MayConnect (λ ready. Commits MayConnect (always (change.Do (op ∷ []))) ready t r) s
+CommitsIn MayConnect true part s t r = CommitsNow (change.Do part) s t r
+CommitsIn MayConnect false part s t r =
+    MovesOnThen MayConnect (λ ready. Commits MayConnect (always (change.Do part)) ready t r) s
 
--- Operations are committed, one after the other, and of each its number is printed; for the first
--- the turn may be held.
-abbrev pub CommitsAll : (LinkState → Type 0) → Bool → List Op → MemberState → MemberState
+-- Parts are committed, one after the other, and of each its number is printed; for the first the
+-- turn may be held.
+abbrev pub CommitsAll : (LinkState → Type 0) → Bool → List (List Op) → MemberState → MemberState
     → List ℕ → Type 0
 CommitsAll MayConnect held [] s t text = (t ≡ s) × (text ≡ [])
-CommitsAll MayConnect held (op ∷ ops) s t text =
+CommitsAll MayConnect held (part ∷ parts) s t text =
     (n : ℕ) × (between : MemberState) × (rest : List ℕ)
-    × CommitsIn MayConnect held op s between (Ok n)
-    × CommitsAll MayConnect false ops between t rest × (text ≡ answer_text (Ok n) ++ rest)
+    × CommitsIn MayConnect held part s between (Ok n)
+    × CommitsAll MayConnect false parts between t rest × (text ≡ answer_text (Ok n) ++ rest)
 
--- whether a turn that is held for the first operation is held for what comes behind these
-abbrev pub held_behind : Bool → List Op → Bool
+-- whether a turn that is held for the first part is held for what comes behind these
+abbrev pub held_behind : Bool → List (List Op) → Bool
 held_behind held [] = held
-held_behind held (op ∷ ops) = false
+held_behind held (part ∷ parts) = false
 
--- The first of some operations are committed, and the next one is refused, which is printed.
-pub record StopsAt (MayConnect : LinkState → Type 0) (held : Bool) (ops : List Op)
+-- The first of some parts are committed, and the next one is refused, which is printed.
+pub record StopsAt (MayConnect : LinkState → Type 0) (held : Bool) (parts : List (List Op))
     (s t : MemberState) (text : List ℕ) : Type 0 where
-  pub done : List Op
-  pub next : Op
-  pub others : List Op
-  pub all : ops ≡ done ++ next ∷ others
+  pub done : List (List Op)
+  pub next : List Op
+  pub others : List (List Op)
+  pub all : parts ≡ done ++ next ∷ others
   pub between : MemberState
   pub first : List ℕ
   pub commits : CommitsAll MayConnect held done s between first
@@ -72,42 +73,52 @@ pub record StopsAt (MayConnect : LinkState → Type 0) (held : Bool) (ops : List
   pub refused : CommitsIn MayConnect (held_behind held done) next between t (Err refusal)
   pub text_is : text ≡ first ++ refusal_shown refusal
 
--- operations are committed until one is refused; the turn is held for the first
-abbrev pub CommitsUntil : (LinkState → Type 0) → List Op → MemberState → MemberState → List ℕ
-    → Type 0
-CommitsUntil MayConnect ops s t text =
-    CommitsAll MayConnect true ops s t text ⊎ StopsAt MayConnect true ops s t text
+-- parts are committed until one is refused; the turn is held for the first
+abbrev pub CommitsUntil : (LinkState → Type 0) → List (List Op) → MemberState → MemberState
+    → List ℕ → Type 0
+CommitsUntil MayConnect parts s t text =
+    CommitsAll MayConnect true parts s t text ⊎ StopsAt MayConnect true parts s t text
 
--- so it is with the first of some operations, where something else may have failed then
-abbrev pub CommitsSome : (LinkState → Type 0) → List Op → MemberState → MemberState → Type 0
-CommitsSome MayConnect ops s t =
-    (front others : List Op) × (ops ≡ front ++ others)
+-- so it is with the first of some parts, where something else may have failed then
+abbrev pub CommitsSome : (LinkState → Type 0) → List (List Op) → MemberState → MemberState → Type 0
+CommitsSome MayConnect parts s t =
+    (front others : List (List Op)) × (parts ≡ front ++ others)
     × (text : List ℕ) × CommitsUntil MayConnect front s t text
 
 -- ---- commands on paths
 
--- The client takes a turn, plans a command on the tree that it has then, and commits its operations.
-pub record CarriesPlan (MayConnect : LinkState → Type 0) (it : Command)
-    (Committed : List Op → MemberState → MemberState → Type 0) (s t : MemberState) : Type 0 where
-  pub turn : MemberState
-  pub operations : List Op
+-- The client takes a turn, plans a command on the tree that it has then, and cuts its operations
+-- into these parts.
+pub record PlansParts (MayConnect : LinkState → Type 0) (batches : Bool) (it : Command)
+    (s turn : MemberState) (parts : List (List Op)) : Type 0 where
   pub takes : OnlyTakes s turn
   pub takes_turn : TakesTurn MayConnect s.link turn.holding turn.link
+  pub operations : List Op
   pub planned : let v = turn.holding in
       plan v.roster (tree_of_list v) v.user it ≡ Ok operations
-  pub committed : Committed operations turn t
+  pub cut : IsCut batches operations parts
 
--- it does so until an operation is refused, or it is refused to plan; a refusal is printed
-abbrev pub CarriesChange : (LinkState → Type 0) → Command → MemberState → MemberState → List ℕ
-    → Type 0
-CarriesChange MayConnect it s t text =
+-- so it does, and commits the parts
+pub record CarriesPlan (MayConnect : LinkState → Type 0) (batches : Bool) (it : Command)
+    (Committed : List (List Op) → MemberState → MemberState → Type 0) (s t : MemberState) : Type 0
+  where
+    pub turn : MemberState
+    pub parts : List (List Op)
+    pub plans : PlansParts MayConnect batches it s turn parts
+    pub committed : Committed parts turn t
+
+-- it does so until a part is refused, or it is refused before the first; a refusal is printed
+abbrev pub CarriesChange : (LinkState → Type 0) → Bool → Command → MemberState → MemberState
+    → List ℕ → Type 0
+CarriesChange MayConnect batches it s t text =
     (OnlyTakes s t × IsRefusal text)
-    ⊎ CarriesPlan MayConnect it (λ ops s t. CommitsUntil MayConnect ops s t text) s t
+    ⊎ CarriesPlan MayConnect batches it (λ parts s t. CommitsUntil MayConnect parts s t text) s t
 
 -- so it does at most, where something else fails
-abbrev pub CarriesSomeChange : (LinkState → Type 0) → Command → MemberState → MemberState → Type 0
-CarriesSomeChange MayConnect it s t =
-    OnlyTakes s t ⊎ CarriesPlan MayConnect it (CommitsSome MayConnect) s t
+abbrev pub CarriesSomeChange : (LinkState → Type 0) → Bool → Command → MemberState → MemberState
+    → Type 0
+CarriesSomeChange MayConnect batches it s t =
+    OnlyTakes s t ⊎ CarriesPlan MayConnect batches it (CommitsSome MayConnect) s t
 
 -- ---- commands
 
@@ -134,36 +145,47 @@ CarriesRekey MayConnect Files file s t text =
     ⊎ ((key : List ℕ) × (leaf : ℕ) × (r : Result ℕ ViewRefusal) × Files.opens file key
     × RekeysTo MayConnect key leaf s t r × (text ≡ number_shown r))
 
--- What a client does for a command, and what is printed.
-abbrev pub Carries : (LinkState → Type 0) → FileCalls → ClientCommand
-    → MemberState → MemberState → List ℕ → Type 0
-Carries MayConnect Files (command.Change it) s t text =
-    MovesOnThen MayConnect (λ ready. CarriesChange MayConnect it ready t text) s
-Carries MayConnect Files (command.Undo number) s t text =
-    CarriesUndo MayConnect (always (change.Undo number)) s t text
-Carries MayConnect Files command.UndoLast s t text = CarriesUndo MayConnect last_undo s t text
-Carries MayConnect Files (command.Rekey file) s t text =
-    CarriesRekey MayConnect Files file.items s t text
-Carries MayConnect Files (command.List path) s t text =
-    Tells MayConnect ((names : List (Name × FileId)) × Lists t.holding path.items names
-    × (text ≡ listing_shown names)) s t text
-Carries MayConnect Files (command.Read path off len) s t text =
-    Tells MayConnect ((bytes : List ℕ) × Shows t.holding path.items off len bytes
-    × (text ≡ bytes_text (Ok bytes))) s t text
-Carries MayConnect Files (command.Save file) s t text =
-    Tells MayConnect (Files.saves file.items (saved_log t.holding.held) × (text ≡ [])) s t text
-
--- What it does at most, where something else fails.
-abbrev pub CarriesSome : (LinkState → Type 0) → ClientCommand → MemberState → MemberState → Type 0
-CarriesSome MayConnect (command.Change it) s t =
-    MovesOnThen MayConnect (λ ready. CarriesSomeChange MayConnect it ready t) s
-CarriesSome MayConnect (command.Undo number) s t =
-    (r : Result ℕ ViewRefusal) × MovesOnThen MayConnect
-    (λ ready. Commits MayConnect (always (change.Undo number)) ready t r) s
-CarriesSome MayConnect command.UndoLast s t =
-    (r : Result ℕ ViewRefusal) × MovesOnThen MayConnect
-    (λ ready. Commits MayConnect last_undo ready t r) s
-CarriesSome MayConnect (command.Rekey file) s t =
+-- so it does at most, where something else fails
+abbrev pub CarriesSomeRekey : (LinkState → Type 0) → MemberState → MemberState → Type 0
+CarriesSomeRekey MayConnect s t =
     (t ≡ s) ⊎ ((key : List ℕ) × (leaf : ℕ) × (r : Result ℕ ViewRefusal)
     × RekeysTo MayConnect key leaf s t r)
-CarriesSome MayConnect _ s t = OnlyTakes s t
+
+-- The log is saved as that file.
+abbrev pub CarriesSave : (LinkState → Type 0) → FileCalls → List ℕ → MemberState → MemberState
+    → List ℕ → Type 0
+CarriesSave MayConnect Files file s t text =
+    Tells MayConnect (Files.saves file (saved_log t.holding.held) × (text ≡ [])) s t text
+
+-- What a client does for a command, and what is printed.
+abbrev pub Carries : (LinkState → Type 0) → FileCalls → Bool → ClientCommand
+    → MemberState → MemberState → List ℕ → Type 0
+Carries MayConnect Files batches (command.Change it) s t text =
+    MovesOnThen MayConnect (λ ready. CarriesChange MayConnect batches it ready t text) s
+Carries MayConnect Files batches (command.Undo number) s t text =
+    CarriesUndo MayConnect (always (change.Undo number)) s t text
+Carries MayConnect Files batches command.UndoLast s t text = CarriesUndo MayConnect last_undo s t text
+Carries MayConnect Files batches (command.Rekey file) s t text =
+    CarriesRekey MayConnect Files file.items s t text
+Carries MayConnect Files batches (command.List path) s t text =
+    Tells MayConnect ((names : List (Name × FileId)) × Lists t.holding path.items names
+    × (text ≡ listing_shown names)) s t text
+Carries MayConnect Files batches (command.Read path off len) s t text =
+    Tells MayConnect ((bytes : List ℕ) × Shows t.holding path.items off len bytes
+    × (text ≡ bytes_text (Ok bytes))) s t text
+Carries MayConnect Files batches (command.Save file) s t text =
+    CarriesSave MayConnect Files file.items s t text
+
+-- What it does at most, where something else fails.
+abbrev pub CarriesSome : (LinkState → Type 0) → Bool → ClientCommand → MemberState → MemberState
+    → Type 0
+CarriesSome MayConnect batches (command.Change it) s t =
+    MovesOnThen MayConnect (λ ready. CarriesSomeChange MayConnect batches it ready t) s
+CarriesSome MayConnect batches (command.Undo number) s t =
+    (r : Result ℕ ViewRefusal) × MovesOnThen MayConnect
+    (λ ready. Commits MayConnect (always (change.Undo number)) ready t r) s
+CarriesSome MayConnect batches command.UndoLast s t =
+    (r : Result ℕ ViewRefusal) × MovesOnThen MayConnect
+    (λ ready. Commits MayConnect last_undo ready t r) s
+CarriesSome MayConnect batches (command.Rekey file) s t = CarriesSomeRekey MayConnect s t
+CarriesSome MayConnect batches _ s t = OnlyTakes s t

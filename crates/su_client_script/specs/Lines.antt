@@ -26,56 +26,56 @@ SaidIsDone Done OnlyPrints (OutOfRange e) = OnlyPrints (refusal_shown (Plain e))
 SaidIsDone Done OnlyPrints Bad = ⊥
 
 -- A line is carried out, and this is printed of it; or it is refused for want of memory.
-abbrev pub LineDoes : (LinkState → Type 0) → FileCalls → List ℕ
+abbrev pub LineDoes : (LinkState → Type 0) → FileCalls → Bool → List ℕ
     → MemberState → MemberState → List ℕ → Type 0
-LineDoes MayConnect Files line s t text =
+LineDoes MayConnect Files batches line s t text =
     ((t ≡ s) × (text ≡ refusal_shown (Plain NoMemory)))
-    ⊎ SaidIsDone (λ it. Carries MayConnect Files it s t text)
+    ⊎ SaidIsDone (λ it. Carries MayConnect Files batches it s t text)
     (λ shown. (t ≡ s) × (text ≡ shown)) (line_said line)
 
 -- what is done for it at most, where something else fails
-abbrev pub LineDoesSome : (LinkState → Type 0) → List ℕ → MemberState → MemberState → Type 0
-LineDoesSome MayConnect line s t =
-    (t ≡ s) ⊎ SaidIsDone (λ it. CarriesSome MayConnect it s t) (λ shown. t ≡ s) (line_said line)
+abbrev pub LineDoesSome : (LinkState → Type 0) → Bool → List ℕ → MemberState → MemberState → Type 0
+LineDoesSome MayConnect batches line s t =
+    (t ≡ s) ⊎ SaidIsDone (λ it. CarriesSome MayConnect batches it s t) (λ shown. t ≡ s) (line_said line)
 
 -- ---- lines
 
 -- Lines are carried out, one after the other; an empty one does nothing.
-abbrev pub LinesDo : (LinkState → Type 0) → FileCalls → List (List ℕ)
+abbrev pub LinesDo : (LinkState → Type 0) → FileCalls → Bool → List (List ℕ)
     → MemberState → MemberState → List ℕ → Type 0
-LinesDo MayConnect Files [] s t text = (t ≡ s) × (text ≡ [])
-LinesDo MayConnect Files ([] ∷ lines) s t text = LinesDo MayConnect Files lines s t text
-LinesDo MayConnect Files ((b ∷ bs) ∷ lines) s t text =
+LinesDo MayConnect Files batches [] s t text = (t ≡ s) × (text ≡ [])
+LinesDo MayConnect Files batches ([] ∷ lines) s t text = LinesDo MayConnect Files batches lines s t text
+LinesDo MayConnect Files batches ((b ∷ bs) ∷ lines) s t text =
     (between : MemberState) × (first rest : List ℕ)
-    × LineDoes MayConnect Files (b ∷ bs) s between first
-    × LinesDo MayConnect Files lines between t rest × (text ≡ first ++ rest)
+    × LineDoes MayConnect Files batches (b ∷ bs) s between first
+    × LinesDo MayConnect Files batches lines between t rest × (text ≡ first ++ rest)
 
 -- The first lines are carried out; then a fault ends the run, in a line or before one.
-pub record LinesFail (MayConnect : LinkState → Type 0) (Files : FileCalls)
+pub record LinesFail (MayConnect : LinkState → Type 0) (Files : FileCalls) (batches : Bool)
     (lines : List (List ℕ)) (s t : MemberState) : Type 0 where
   pub done : List (List ℕ)
   pub others : List (List ℕ)
   pub all : lines ≡ done ++ others
   pub between : MemberState
   pub text : List ℕ
-  pub lines_do : LinesDo MayConnect Files done s between text
+  pub lines_do : LinesDo MayConnect Files batches done s between text
   pub last : (t ≡ between)
       ⊎ ((line : List ℕ) × (after : List (List ℕ)) × (others ≡ line ∷ after)
-      × LineDoesSome MayConnect line between t)
+      × LineDoesSome MayConnect batches line between t)
 
 -- How a run of these lines ends, and what it printed: all are carried out; or all before the one of
 -- that number, which is no command; or all up to the one of that number, which is refused.
-abbrev pub Runs : (LinkState → Type 0) → FileCalls → List (List ℕ)
+abbrev pub Runs : (LinkState → Type 0) → FileCalls → Bool → List (List ℕ)
     → MemberState → MemberState → List ℕ → Ending → Type 0
-Runs MayConnect Files lines s t text Finished = LinesDo MayConnect Files lines s t text
-Runs MayConnect Files lines s t text (BadLine number mistake) =
+Runs MayConnect Files batches lines s t text Finished = LinesDo MayConnect Files batches lines s t text
+Runs MayConnect Files batches lines s t text (BadLine number mistake) =
     (done others : List (List ℕ)) × (line first : List ℕ) × (lines ≡ done ++ line ∷ others)
-    × (number ≡ length done + 1) × LinesDo MayConnect Files done s t first
+    × (number ≡ length done + 1) × LinesDo MayConnect Files batches done s t first
     × (line_said line ≡ Bad) × (text ≡ first ++ bad_text number)
-Runs MayConnect Files lines s t text (Refused number) =
+Runs MayConnect Files batches lines s t text (Refused number) =
     (done others : List (List ℕ)) × (lines ≡ done ++ others) × (number ≡ length done)
-    × LinesDo MayConnect Files done s t text
-Runs MayConnect Files lines s t text (Failed fault) = LinesFail MayConnect Files lines s t
+    × LinesDo MayConnect Files batches done s t text
+Runs MayConnect Files batches lines s t text (Failed fault) = LinesFail MayConnect Files batches lines s t
 
 -- ---- what is printed
 

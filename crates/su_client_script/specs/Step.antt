@@ -40,30 +40,30 @@ IsOutcome after_take (Ok x) out = out ≡ outcome.Done
 IsOutcome after_take (Err e) out = out ≡ outcome.Refused e after_take
 
 -- what came of a line that isn't empty, which has that number
-abbrev pub LineSteps : (LinkState → Type 0) → FileCalls → ℕ → List ℕ
+abbrev pub LineSteps : (LinkState → Type 0) → FileCalls → Bool → ℕ → List ℕ
     → MemberState → MemberState → Option (List ℕ) → Option (List ℕ) → Step → Type 0
-LineSteps MayConnect Files number line s t old new (step.Bad mistake) =
+LineSteps MayConnect Files batches number line s t old new (step.Bad mistake) =
     (line_said line ≡ Bad) × (t ≡ s) × Appends old new (bad_text number)
-LineSteps MayConnect Files number line s t old new step.Over = ⊥
-LineSteps MayConnect Files number line s t old new _ =
-    Prints old new (LineDoes MayConnect Files line s t)
+LineSteps MayConnect Files batches number line s t old new step.Over = ⊥
+LineSteps MayConnect Files batches number line s t old new _ =
+    Prints old new (LineDoes MayConnect Files batches line s t)
 
 -- what came of the next line of an input, of which this much is left then
-abbrev pub Steps : (LinkState → Type 0) → FileCalls → ℕ → List ℕ
+abbrev pub Steps : (LinkState → Type 0) → FileCalls → Bool → ℕ → List ℕ
     → MemberState → MemberState → Option (List ℕ) → Option (List ℕ) → Option (List ℕ)
     → Result Step Fault → Type 0
-Steps MayConnect Files number input s t known old new (Ok step.Over) =
+Steps MayConnect Files batches number input s t known old new (Ok step.Over) =
     (lines_of input ≡ []) × (t ≡ s) × Appends old new []
-Steps MayConnect Files number input s t known old new (Ok (step.Bad mistake)) =
+Steps MayConnect Files batches number input s t known old new (Ok (step.Bad mistake)) =
     (line : List ℕ) × (others : List (List ℕ)) × (lines_of input ≡ line ∷ others)
     × (line_said line ≡ Bad) × (t ≡ s) × Appends old new (bad_text number)
-Steps MayConnect Files number input s t known old new (Ok _) =
+Steps MayConnect Files batches number input s t known old new (Ok _) =
     (line rest : List ℕ) × (known ≡ Some rest) × (lines_of input ≡ line ∷ lines_of rest)
-    × Prints old new (LinesDo MayConnect Files (line ∷ []) s t)
-Steps MayConnect Files number input s t known old new (Err fault) =
+    × Prints old new (LinesDo MayConnect Files batches (line ∷ []) s t)
+Steps MayConnect Files batches number input s t known old new (Err fault) =
     (t ≡ s)
     ⊎ ((line : List ℕ) × (others : List (List ℕ)) × (lines_of input ≡ line ∷ others)
-    × LineDoesSome MayConnect line s t)
+    × LineDoesSome MayConnect batches line s t)
 
 -- how the run ends with a step of that number, if it does
 abbrev pub EndsWith : ℕ → Step → Option Ending → Type 0

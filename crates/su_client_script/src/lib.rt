@@ -4,6 +4,7 @@
 mod answers;
 mod endings;
 mod keys;
+mod parts;
 mod programs;
 mod scripts;
 mod steps;
@@ -11,4 +12,4 @@ mod texts;
 
 pub use endings::{Ending, Fault};
 pub use programs::{Cause, Program};
-pub use scripts::run_client;
+pub use scripts::{Manner, run_client};

@@ -18,6 +18,15 @@ use su_client_work::Member;
 use su_desk_lines::{LineReader, Mistake, NextLine};
 use su_lms::KeyStore;
 
+/// How a run goes.
+#[derive(Clone, Copy, Debug)]
+pub struct Manner {
+    /// Whether it ends at the first command that is refused.
+    pub stops: bool,
+    /// Whether the operations of a command are committed in batches, and not each by itself.
+    pub batches: bool,
+}
+
 /// Carries out the commands of a script, line by line, and prints what comes of each before the next
 /// line is read. An empty line is passed over; a line that is no command ends the run, and so does
 /// one that is refused, if the run is to stop there. Where the link to the server fails, the run ends
@@ -29,7 +38,7 @@ pub fn run_client<P, I, O, R, W, K>(
     input: I,
     output: &mut O,
     member: &mut Member<R, W, K>,
-    stops: bool,
+    manner: Manner,
 ) -> Ending
 where
     P: Program<R, W, K>,
@@ -40,18 +49,18 @@ where
     K: KeyStore + Drop,
     ensures works { Works member.old member.new }
     ensures adds { AddsUnlessFault (O.contents output.old) (O.contents output.new) result }
-    ensures stops { StopsIfAsked stops result }
+    ensures stops { StopsIfAsked manner.stops result }
     // What is done and printed for the lines, where it is known which they are.
     ensures runs { (script : List ℕ) → I.remaining input ≡ Some script
         → PrintsUnlessFault (O.contents output.old) (O.contents output.new)
-        (λ text. Runs P.may_connect (files_of P.saves P.opens) (lines_of script) member.old member.new
-        text result) result }
+        (λ text. Runs P.may_connect (files_of P.saves P.opens) manner.batches (lines_of script)
+        member.old member.new text result) result }
 {
     let mut lines = LineReader::new(alloc, input);
     for number in 1..u64::MAX {
-        match next_step(program, alloc, &mut lines, output, member, number) {
+        match next_step(program, alloc, &mut lines, output, member, number, manner.batches) {
             Ok(step) => {
-                if let Some(ending) = ending_of(step, number, stops) {
+                if let Some(ending) = ending_of(step, number, manner.stops) {
                     return ending;
                 }
             }
@@ -82,6 +91,7 @@ fn next_step<P, I, O, R, W, K>(
     output: &mut O,
     member: &mut Member<R, W, K>,
     number: u64,
+    batches: bool,
 ) -> Result<Step, Fault>
 where
     P: Program<R, W, K>,
@@ -93,13 +103,13 @@ where
     ensures works { Works member.old member.new }
     ensures adds { OnOk result (Adds (O.contents output.old) (O.contents output.new)) }
     ensures steps { (input : List ℕ) → unread I.remaining lines.old ≡ Some input
-        → Steps P.may_connect (files_of P.saves P.opens) number input member.old member.new
+        → Steps P.may_connect (files_of P.saves P.opens) batches number input member.old member.new
         (unread I.remaining lines.new) (O.contents output.old) (O.contents output.new) result }
 {
     match lines.next_line() {
         Ok(NextLine::Line(line)) => match line.as_slice() {
             [] => Ok(Step::Done),
-            line => line_step(program, alloc, output, member, line, number),
+            line => line_step(program, alloc, output, member, line, number, batches),
         },
         Ok(NextLine::TooLong) => bad_step(alloc, output, number, Some(Mistake::LongLine)),
         Ok(NextLine::End) => Ok(Step::Over),

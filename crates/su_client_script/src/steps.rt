@@ -5,9 +5,8 @@ ghost use Rattle.su_view.specs.declared.refusals.ViewRefusal.{ViewRefusal as Ref
 ghost use Rattle.su_view.specs.declared.refusals.ViewRefusal.TheVariants.{Plain};
 ghost use Rattle.su_client_work.specs.Member.{OnlyTakes};
 ghost use Rattle.su_client_work.specs.Work.{Works};
-ghost use Rattle.su_client_lines.specs.declared.commands.ClientCommand.TheVariants as command_;
 ghost use Rattle.su_desk_script.specs.Answer.{bad_text};
-ghost use Rattle.su_client_script.specs.Carrying.{Carries, CarriesChange, CarriesSome, CarriesSomeChange, CommitsIn, CommitsSome, CommitsUntil};
+ghost use Rattle.su_client_script.specs.Carrying.{Carries, CarriesChange, CarriesRekey, CarriesSave, CarriesSome, CarriesSomeChange, CarriesSomeRekey, CommitsIn, CommitsSome, CommitsUntil, PlansParts};
 ghost use Rattle.su_client_script.specs.Calls.{files_of};
 ghost use Rattle.su_client_script.specs.KeyMoves.{MovesOnThen};
 ghost use Rattle.su_client_script.specs.Lines.{LineDoesSome, Prints};
@@ -18,6 +17,7 @@ ghost use Rattle.su_client_script.specs.declared.steps.Step.TheVariants as step;
 use crate::answers::{Outcome, print_text, tell_bytes, tell_names, tell_number, tell_refusal};
 use crate::endings::Fault;
 use crate::keys::{change, move_on, rekey, undo_last};
+use crate::parts::cut;
 use crate::programs::{Cause, Program};
 use std::alloc::Global;
 use std::io::{Read, Write};
@@ -27,7 +27,7 @@ use su_client_work::Member;
 use su_desk_lines::Mistake;
 use su_desk_script::bad;
 use su_lms::KeyStore;
-use su_op::{Change, Op};
+use su_op::{Batch, Change, Op};
 use su_plan::Command;
 use su_view::ViewRefusal;
 
@@ -44,27 +44,33 @@ pub(crate) enum Step {
     Over,
 }
 
-/// Where an operation stands in its command.
+/// Where a part stands in its command.
 #[derive(Clone, Copy)]
 enum Place {
     /// It is the first one, for which the turn is held.
     First,
     /// It comes behind others, and takes a turn of its own.
     Later,
-    /// So it does, and one of them was a take.
+    /// So it does, and one of them has a take.
     AfterTake,
 }
 
 impl Place {
-    /// Returns where the operation stands that follows this one.
-    fn after(self, operation: &Op) -> Place
+    /// Returns where the part stands that follows this one.
+    fn after(self, part: &Batch) -> Place
         ensures { is_first result ≡ false }
     {
-        match (self, operation) {
-            (Place::AfterTake, _) | (_, Op::Take(_)) => Place::AfterTake,
-            _ => Place::Later,
+        match self {
+            Place::First | Place::Later if !has_take(part) => Place::Later,
+            _ => Place::AfterTake,
         }
     }
+}
+
+/// Tells whether one of its operations is a take.
+fn has_take(part: &Batch) -> bool {
+    let (first, more) = part.parts();
+    matches!(first, Op::Take(_)) || more.iter().any(|operation| matches!(operation, Op::Take(_)))
 }
 
 /// Carries out a line that is not empty, which has that number, and prints what comes of it.
@@ -75,6 +81,7 @@ pub(crate) fn line_step<P, O, R, W, K>(
     member: &mut Member<R, W, K>,
     line: &[u8],
     number: u64,
+    batches: bool,
 ) -> Result<Step, Fault>
 where
     P: Program<R, W, K>,
@@ -83,14 +90,14 @@ where
     W: Write + Drop,
     K: KeyStore + Drop,
     ensures works { Works member.old member.new }
-    ensures steps { IfOk result (LineSteps P.may_connect (files_of P.saves P.opens) number line.now
-        member.old member.new (O.contents output.old) (O.contents output.new)) }
+    ensures steps { IfOk result (LineSteps P.may_connect (files_of P.saves P.opens) batches number
+        line.now member.old member.new (O.contents output.old) (O.contents output.new)) }
     ensures some { OnErr result
-        (LineDoesSome P.may_connect line.now member.old member.new) }
+        (LineDoesSome P.may_connect batches line.now member.old member.new) }
 {
     match read_line(alloc, line) {
         Ok(ClientLine::Command(command)) => {
-            let outcome = command_step(program, alloc, output, member, command)?;
+            let outcome = command_step(program, alloc, output, member, command, batches)?;
             settle(program, member, &outcome)
         }
         Ok(ClientLine::OutOfRange(refusal)) => refused_step(alloc, output, refusal),
@@ -171,6 +178,7 @@ fn command_step<P, O, R, W, K>(
     output: &mut O,
     member: &mut Member<R, W, K>,
     command: ClientCommand,
+    batches: bool,
 ) -> Result<Outcome, Fault>
 where
     P: Program<R, W, K>,
@@ -180,12 +188,14 @@ where
     K: KeyStore + Drop,
     ensures works { Works member.old member.new }
     ensures carries { OnOk result (Prints (O.contents output.old) (O.contents output.new)
-        (Carries P.may_connect (files_of P.saves P.opens) command member.old member.new)) }
+        (Carries P.may_connect (files_of P.saves P.opens) batches command member.old member.new)) }
     ensures some { OnErr result
-        (CarriesSome P.may_connect command member.old member.new) }
+        (CarriesSome P.may_connect batches command member.old member.new) }
 {
     match command {
-        ClientCommand::Change(command) => change_step(program, alloc, output, member, &command),
+        ClientCommand::Change(command) => {
+            change_step(program, alloc, output, member, &command, batches)
+        }
         ClientCommand::Undo(number) => {
             let undone = change(program, member, Change::Undo(number), false);
             tell_number(alloc, output, undone, false)
@@ -214,6 +224,7 @@ fn change_step<P, O, R, W, K>(
     output: &mut O,
     member: &mut Member<R, W, K>,
     command: &Command,
+    batches: bool,
 ) -> Result<Outcome, Fault>
 where
     P: Program<R, W, K>,
@@ -224,22 +235,25 @@ where
     ensures works { Works member.old member.new }
     ensures carries { OnOk result (Prints (O.contents output.old) (O.contents output.new)
         (λ text. MovesOnThen P.may_connect
-        (λ ready. CarriesChange P.may_connect command.now ready member.new text) member.old)) }
+        (λ ready. CarriesChange P.may_connect batches command.now ready member.new text)
+        member.old)) }
     ensures some { OnErr result (MovesOnThen P.may_connect
-        (λ ready. CarriesSomeChange P.may_connect command.now ready member.new) member.old) }
+        (λ ready. CarriesSomeChange P.may_connect batches command.now ready member.new)
+        member.old) }
 {
     move_on(program, member);
-    plan_step(program, alloc, output, member, command)
+    plan_step(program, alloc, output, member, command, batches)
 }
 
-/// Plans a command on paths, and commits its operations one after the other; the first refusal ends
-/// it, and what was committed before stays.
+/// Plans a command on paths, and commits its operations in parts, one after the other; the first
+/// refusal ends it, and what was committed before stays.
 fn plan_step<P, O, R, W, K>(
     program: &mut P,
     alloc: Global,
     output: &mut O,
     member: &mut Member<R, W, K>,
     command: &Command,
+    batches: bool,
 ) -> Result<Outcome, Fault>
 where
     P: Program<R, W, K>,
@@ -249,23 +263,52 @@ where
     K: KeyStore + Drop,
     ensures works { Works member.old member.new }
     ensures carries { OnOk result (Prints (O.contents output.old) (O.contents output.new)
-        (CarriesChange P.may_connect command.now member.old member.new)) }
+        (CarriesChange P.may_connect batches command.now member.old member.new)) }
     ensures some { OnErr result
-        (CarriesSomeChange P.may_connect command.now member.old member.new) }
+        (CarriesSomeChange P.may_connect batches command.now member.old member.new) }
 {
-    match member.plan(program, command) {
-        Ok(operations) => commit_all(program, alloc, output, member, operations),
+    match plan_parts(program, alloc, member, command, batches) {
+        Ok(parts) => commit_all(program, alloc, output, member, parts),
         Err(refusal) => tell_refusal(alloc, output, refusal, false),
     }
 }
 
-/// Commits operations, each with a turn of its own but for the first, for which the turn is held.
+/// Takes a turn, and plans a command on paths as the parts in which its operations are committed.
+/// Where there is nothing to commit, or on a refusal, the turn is given back. The refusals are those
+/// of `Member::plan`, and `NoMemory`.
+fn plan_parts<P, R, W, K>(
+    program: &mut P,
+    alloc: Global,
+    member: &mut Member<R, W, K>,
+    command: &Command,
+    batches: bool,
+) -> Result<Vec<Batch>, ViewRefusal>
+where
+    P: Program<R, W, K>,
+    R: Read + Drop,
+    W: Write + Drop,
+    K: KeyStore + Drop,
+    ensures takes { OnlyTakes member.old member.new }
+    ensures plans { IfOk result (λ parts.
+        PlansParts P.may_connect batches command.now member.old member.new parts.items) }
+{
+    let operations = member.plan(program, command)?;
+    match cut(alloc, operations, batches) {
+        Ok(parts) => Ok(parts),
+        Err(refusal) => {
+            member.give_up();
+            Err(ViewRefusal::Plain(refusal))
+        }
+    }
+}
+
+/// Commits parts, each in a turn of its own but for the first, for which the turn is held.
 fn commit_all<P, O, R, W, K>(
     program: &mut P,
     alloc: Global,
     output: &mut O,
     member: &mut Member<R, W, K>,
-    operations: Vec<Op>,
+    parts: Vec<Batch>,
 ) -> Result<Outcome, Fault>
 where
     P: Program<R, W, K>,
@@ -275,17 +318,17 @@ where
     K: KeyStore + Drop,
     ensures works { Works member.old member.new }
     ensures commits { OnOk result (Prints (O.contents output.old) (O.contents output.new)
-        (CommitsUntil P.may_connect operations.items member.old member.new)) }
+        (CommitsUntil P.may_connect parts.items member.old member.new)) }
     ensures some { OnErr result
-        (CommitsSome P.may_connect operations.items member.old member.new) }
+        (CommitsSome P.may_connect parts.items member.old member.new) }
 {
     let mut place = Place::First;
-    let mut left = operations.len();
-    for operation in operations {
-        let next = place.after(&operation);
+    let mut left = parts.len();
+    for part in parts {
+        let next = place.after(&part);
         left = left.saturating_sub(1);
         let ahead = 0 < left;
-        let outcome = commit_one(program, alloc, output, member, operation, place, ahead)?;
+        let outcome = commit_one(program, alloc, output, member, part, place, ahead)?;
         if outcome.is_refused() {
             return Ok(outcome);
         }
@@ -294,14 +337,14 @@ where
     Ok(Outcome::Done)
 }
 
-/// Commits an operation, and prints what comes of it. The next turn is asked for ahead of its time,
+/// Commits a part, and prints what comes of it. The next turn is asked for ahead of its time,
 /// where that is told.
 fn commit_one<P, O, R, W, K>(
     program: &mut P,
     alloc: Global,
     output: &mut O,
     member: &mut Member<R, W, K>,
-    operation: Op,
+    part: Batch,
     place: Place,
     ahead: bool,
 ) -> Result<Outcome, Fault>
@@ -313,20 +356,19 @@ where
     K: KeyStore + Drop,
     ensures works { Works member.old member.new }
     ensures commits { (r : Result ℕ Refusal_)
-        × CommitsIn P.may_connect (is_first place) operation member.old member.new r
+        × CommitsIn P.may_connect (is_first place) part member.old member.new r
         × IfOk result (λ out. IsOutcome (is_after_take place) r out
         × Appends (O.contents output.old) (O.contents output.new) (number_shown r)) }
 {
-    let stored = commit(program, alloc, member, operation, place, ahead);
+    let stored = commit(program, member, part, place, ahead);
     tell_number(alloc, output, stored, matches!(place, Place::AfterTake))
 }
 
-/// Commits an operation, in the turn that is held or one of its own.
+/// Commits a part, in the turn that is held or one of its own.
 fn commit<P, R, W, K>(
     program: &mut P,
-    alloc: Global,
     member: &mut Member<R, W, K>,
-    operation: Op,
+    part: Batch,
     place: Place,
     ahead: bool,
 ) -> Result<u64, ViewRefusal>
@@ -336,12 +378,12 @@ where
     W: Write + Drop,
     K: KeyStore + Drop,
     ensures works { Works member.old member.new }
-    ensures commits { CommitsIn P.may_connect (is_first place) operation member.old member.new result }
+    ensures commits { CommitsIn P.may_connect (is_first place) part member.old member.new result }
 {
     if matches!(place, Place::First) {
-        return member.publish(Change::of(alloc, operation), ahead);
+        return member.publish(Change::Do(part), ahead);
     }
-    change(program, member, Change::of(alloc, operation), ahead)
+    change(program, member, Change::Do(part), ahead)
 }
 
 /// Goes on to the key in a key file, and prints the number of the commit, or a refusal.
@@ -360,10 +402,8 @@ where
     K: KeyStore + Drop,
     ensures works { Works member.old member.new }
     ensures carries { OnOk result (Prints (O.contents output.old) (O.contents output.new)
-        (Carries P.may_connect (files_of P.saves P.opens) (command_.Rekey file) member.old
-        member.new)) }
-    ensures some { OnErr result
-        (CarriesSome P.may_connect (command_.Rekey file) member.old member.new) }
+        (CarriesRekey P.may_connect (files_of P.saves P.opens) file.items member.old member.new)) }
+    ensures some { OnErr result (CarriesSomeRekey P.may_connect member.old member.new) }
 {
     match program.open_key(program.host(), file.as_slice()) {
         Ok(signer) => {
@@ -390,7 +430,7 @@ where
     K: KeyStore + Drop,
     ensures works { Works member.old member.new }
     ensures carries { OnOk result (Prints (O.contents output.old) (O.contents output.new)
-        (Carries P.may_connect (files_of P.saves P.opens) (command_.Save file) member.old member.new)) }
+        (CarriesSave P.may_connect (files_of P.saves P.opens) file.items member.old member.new)) }
     ensures takes { OnlyTakes member.old member.new }
 {
     match member.log(program) {

@@ -9,7 +9,7 @@ pub loop-number-init : goal.loop-number-init
 loop-number-init g c = record {
   works = works_same c.args.member.now c.args.member.now refl;
   adds = adds_none (g.O.Write.contents c.args.output.now) (g.O.Write.contents c.args.output.now) refl;
-  carried = λ script is. none_carried g.P.Surroundings.may_connect (files_of g.P.Program.saves g.P.Program.opens) script _ c.args.member.now (g.O.Write.contents c.args.output.now) (c.new-lines.ensures ∙ is);
+  carried = λ script is. none_carried g.P.Surroundings.may_connect (files_of g.P.Program.saves g.P.Program.opens) c.args.manner.batches script _ c.args.member.now (g.O.Write.contents c.args.output.now) (c.new-lines.ensures ∙ is);
 }
 
 pub returns-in-Some-clause-works : goal.returns-in-Some-clause-works
@@ -27,7 +27,7 @@ loop-number-preserved g c = record {
       c.loop-number.invariant.adds c.in-Ok.ensures.adds;
   carried = λ script is.
       let so_far = c.loop-number.invariant.carried script is in
-      goes_on g.P.Surroundings.may_connect (files_of g.P.Program.saves g.P.Program.opens) script c.loop-number.number _ c.args.member.now c.loop-number.member c.next_step.new.member
+      goes_on g.P.Surroundings.may_connect (files_of g.P.Program.saves g.P.Program.opens) c.args.manner.batches script c.loop-number.number _ c.args.member.now c.loop-number.member c.next_step.new.member
       (g.O.Write.contents c.args.output.now) (g.O.Write.contents c.loop-number.output) so_far _ (g.O.Write.contents c.next_step.new.output) c.in-Ok.step
       (c.in-Ok.ensures.steps so_far.rest so_far.left) c.in_default.ensures.ends;
 }
@@ -35,7 +35,7 @@ loop-number-preserved g c = record {
 pub returns-in-Some-clause-runs : goal.returns-in-Some-clause-runs
 returns-in-Some-clause-runs g c = λ script is.
     let so_far = c.loop-number.invariant.carried script is in
-    ends g.P.Surroundings.may_connect (files_of g.P.Program.saves g.P.Program.opens) script c.loop-number.number _ c.args.member.now c.loop-number.member c.next_step.new.member
+    ends g.P.Surroundings.may_connect (files_of g.P.Program.saves g.P.Program.opens) c.args.manner.batches script c.loop-number.number _ c.args.member.now c.loop-number.member c.next_step.new.member
     (g.O.Write.contents c.args.output.now) (g.O.Write.contents c.loop-number.output) so_far _ (g.O.Write.contents c.next_step.new.output) c.in-Ok.step c.in-Some.ending
     (c.in-Ok.ensures.steps so_far.rest so_far.left) c.in-Some.ensures.ends
 
@@ -43,7 +43,7 @@ pub returns-in-Err-clause-runs : goal.returns-in-Err-clause-runs
 returns-in-Err-clause-runs g c = λ script is.
     let so_far = c.loop-number.invariant.carried script is in (
       [],
-      fails g.P.Surroundings.may_connect (files_of g.P.Program.saves g.P.Program.opens) script c.loop-number.number _ c.args.member.now c.loop-number.member c.next_step.new.member
+      fails g.P.Surroundings.may_connect (files_of g.P.Program.saves g.P.Program.opens) c.args.manner.batches script c.loop-number.number _ c.args.member.now c.loop-number.member c.next_step.new.member
           (g.O.Write.contents c.args.output.now) (g.O.Write.contents c.loop-number.output) so_far (c.in-Err.ensures.steps so_far.rest so_far.left),
     )
 
@@ -51,6 +51,6 @@ pub returns-clause-runs : goal.returns-clause-runs
 returns-clause-runs g c = λ script is.
     let so_far = c.loop-number.invariant.carried script is in (
       [],
-      fails g.P.Surroundings.may_connect (files_of g.P.Program.saves g.P.Program.opens) script c.loop-number.number _ c.args.member.now c.loop-number.member c.loop-number.member
+      fails g.P.Surroundings.may_connect (files_of g.P.Program.saves g.P.Program.opens) c.args.manner.batches script c.loop-number.number _ c.args.member.now c.loop-number.member c.loop-number.member
           (g.O.Write.contents c.args.output.now) (g.O.Write.contents c.loop-number.output) so_far (inl refl),
     )

@@ -11,6 +11,6 @@ invariant-loop-number g l = record {
   works : Works l.fn.member l.member;
   adds : Adds (g.O.Write.contents l.fn.output) (g.O.Write.contents l.output);
   carried : (script : List ℕ) → g.I.Read.remaining l.fn.input ≡ Some script
-      → IsCarriedTo g.P.Surroundings.may_connect (files_of g.P.Program.saves g.P.Program.opens) script l.number (unread g.I.Read.remaining l.lines) l.fn.member l.member
+      → IsCarriedTo g.P.Surroundings.may_connect (files_of g.P.Program.saves g.P.Program.opens) l.fn.manner.batches script l.number (unread g.I.Read.remaining l.lines) l.fn.member l.member
       (g.O.Write.contents l.fn.output) (g.O.Write.contents l.output);
 }

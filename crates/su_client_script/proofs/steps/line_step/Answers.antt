@@ -17,5 +17,5 @@ returns-in-Err-clause-works g c = works_same c.args.member.now c.args.member.now
 pub returns-in_ok-outcome-in-Ok-Command-clause-some : goal.returns-in_ok-outcome-in-Ok-Command-clause-some
 returns-in_ok-outcome-in-Ok-Command-clause-some g c =
     let (text, carries, printed) = c.in_ok-outcome-in-Ok-Command.ensures.carries in
-    on_err c.settle.result _ (rw c.settle.ensures.same (inr (line_some g.P.Surroundings.may_connect (line_said c.args.line.now) c.in-Ok-Command.command c.args.member.now c.command_step.new.member (sym (rw c.in-Ok-Command.field-0-is at c.in-Ok-Command.ensures))
-    (carries_some g.P.Surroundings.may_connect (files_of g.P.Program.saves g.P.Program.opens) c.in-Ok-Command.command c.args.member.now c.command_step.new.member text carries))))
+    on_err c.settle.result _ (rw c.settle.ensures.same (inr (line_some g.P.Surroundings.may_connect c.args.batches (line_said c.args.line.now) c.in-Ok-Command.command c.args.member.now c.command_step.new.member (sym (rw c.in-Ok-Command.field-0-is at c.in-Ok-Command.ensures))
+    (carries_some g.P.Surroundings.may_connect (files_of g.P.Program.saves g.P.Program.opens) c.args.batches c.in-Ok-Command.command c.args.member.now c.command_step.new.member text carries))))
