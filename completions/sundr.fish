@@ -66,7 +66,7 @@ complete -c sundr -n '__sundr_at undo' -l why -d 'Tell what blocks it, and undo 
 complete -c sundr -n '__sundr_at undo' -l with-blockers -d 'Also what blocks it'
 
 complete -c sundr -n '__sundr_at desk' -l users -x -d 'How many users'
-complete -c sundr -n '__sundr_at desk' -l format -x -a '1 2 3' -d 'Of the changes'
+complete -c sundr -n '__sundr_at desk' -l format -x -a '1 2 3 4' -d 'Of the changes'
 complete -c sundr -n '__sundr_at keygen' -l entropy -r -F -d '48 random bytes'
 complete -c sundr -n '__sundr_at keygen' -l out -r -F -d 'The key file'
 complete -c sundr -n '__sundr_at keygen' -l height -x -a '5 10' -d 'Of the tree'
