@@ -186,6 +186,10 @@ standard error tells so. `rekey FILE` goes on to another key. With --next-key
 the client makes the next one by itself, as often as need be, and finds it when
 it is started again with the first one.
 
+Each operation that a command comes to is a commit. With --batch all that an
+item has room for are one, which is taken back as one: 256 operations, with
+70,000 bytes, at most.
+
 A script has a command a line. Each is answered before the next line is read. A
 run knows no commits but those of its `--log`: without one any list that follows
 the rules is taken, and with one a server is refused that lacks the user's own
@@ -197,7 +201,8 @@ pub const CLIENT_ANSWERS: &str =
     "OFF, LEN and SIZE are numbers of bytes. An empty line is passed over.
 
 Answers:
-  ok N               commit N is stored, which is one operation of the command
+  ok N               commit N is stored: one operation of the command, or with
+                     --batch several
   no NUMBER NAME ..  the command is refused here, and what is stored stays
   line N: bad        line N is no command, and the script ends
 ls prints a line NAME FILE for each name, for example `f G0:3`; of a name each

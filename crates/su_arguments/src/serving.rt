@@ -39,7 +39,8 @@ pub struct ServeArgs {
 /// with the public keys in these files, 1 to 64 of them. The commits of a log are taken first. So often,
 /// 1 to 1,000,000 times, a turn that another has is asked for. One write of the key file serves so many
 /// signatures, 1 to 16. Near the end of a key the client makes the next one, in a file whose name begins
-/// so, if that is given. The script ends at the first refusal, or goes on.
+/// so, if that is given. The script ends at the first refusal, or goes on. The operations of a command
+/// are committed in batches, or each by itself.
 #[derive(Debug, Drop)]
 pub struct ClientArgs {
     pub port: u16,
@@ -50,6 +51,7 @@ pub struct ClientArgs {
     pub leaves_ahead: u32,
     pub next_key: Option<String>,
     pub stop: bool,
+    pub batch: bool,
     pub keys: Vec<String>,
 }
 
@@ -135,6 +137,7 @@ pub(crate) fn client_command<'a>(alloc: Global, help: &'a str) -> Result<Command
     let log = "A saved log, whose commits are taken first";
     let next_key = "Near a key's end the next one is made, in a file PREFIX-..";
     let stop = "It ends at the first command that is refused, with status 1";
+    let batch = "Commits a command as one, as far as an item has room";
     Draft::of(command)
         .arg(needed_port(alloc, SERVER_PORT))
         .arg(user(alloc))
@@ -144,6 +147,7 @@ pub(crate) fn client_command<'a>(alloc: Global, help: &'a str) -> Result<Command
         .arg(leaves_ahead(alloc))
         .arg(option(alloc, "next-key", "PREFIX", next_key))
         .arg(flag(alloc, "stop", stop))
+        .arg(flag(alloc, "batch", batch))
         .arg(needed_keys(alloc))
         .finish()
 }
@@ -243,7 +247,7 @@ pub(crate) fn backup_of(alloc: Global, values: &ArgMatches<'_>) -> Result<Line, 
 }
 
 /// `client --port P --user U --key FILE [--log FILE] [--tries T] [--leaves-ahead N]
-/// [--next-key PREFIX] [--stop] PUB..`
+/// [--next-key PREFIX] [--stop] [--batch] PUB..`
 pub(crate) fn client_of(alloc: Global, values: &ArgMatches<'_>) -> Result<Line, LineFault>
     ensures { IfOk result HasGoodNumbers }
 {
@@ -269,6 +273,7 @@ pub(crate) fn client_of(alloc: Global, values: &ArgMatches<'_>) -> Result<Line, 
         leaves_ahead,
         next_key: copy(alloc, values.get_str("next-key"))?,
         stop: values.get_flag("stop"),
+        batch: values.get_flag("batch"),
         keys,
     }))
 }

@@ -1,4 +1,5 @@
 pub mod Adding
 pub mod Carrying
 pub mod Committing
+pub mod Cutting
 pub mod Stepping

@@ -10,7 +10,7 @@ use std::{io, thread};
 use su_block::Checked;
 use su_bytes::{KEY_LENGTH, Refusal, Roster, User};
 use su_client::{Client, Outbox};
-use su_client_script::{Cause, Ending, Fault, Program, run_client};
+use su_client_script::{Cause, Ending, Fault, Manner, Program, run_client};
 use su_client_work::{Member, Surroundings, take_log};
 use su_lms::{NoStore, Params, Signer};
 use su_view::{View, ViewRefusal};
@@ -201,13 +201,17 @@ impl Person {
             at: self.at,
             saved: self.take_saved(alloc),
         };
+        let manner = Manner {
+            stops: false,
+            batches: false,
+        };
         let ending = run_client(
             &mut runner,
             alloc,
             script,
             &mut printed,
             &mut self.member,
-            false,
+            manner,
         );
         self.saved = runner.into_saved();
         match ending {

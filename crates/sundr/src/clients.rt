@@ -21,7 +21,7 @@ use su_audit::tell_refused;
 use su_block::{BlockSource, Checked, MemoryBlocks};
 use su_bytes::{Roster, User};
 use su_client::Outbox;
-use su_client_script::{Ending, Fault, run_client};
+use su_client_script::{Ending, Fault, Manner, run_client};
 use su_client_work::{LogFault, Member, take_log};
 use su_desk_script::Status;
 use su_host::{Link, connect};
@@ -78,7 +78,11 @@ where
     if let Err(fault) = take_present_key(rt, host, args, &mut program, &mut member) {
         return tell_fault(rt, fault);
     }
-    let ending = run_client(&mut program, alloc, reader, writer, &mut member, args.stop);
+    let manner = Manner {
+        stops: args.stop,
+        batches: args.batch,
+    };
+    let ending = run_client(&mut program, alloc, reader, writer, &mut member, manner);
     put_leaf_back(rt, member.store());
     tell_ending(rt, &ending);
     ending.status()
