@@ -44,7 +44,7 @@ CHANCE_SCRIPTS, CHANCE_LINES = 30, 30
 KILLS = 24
 KILLS_AHEAD = 200  # with leaves in blocks
 MOST_CALLS = 100  # at which a client is killed
-CLIENT_BATCHES = False  # whether the program's client knows --batch
+CLIENT_BATCHES = True  # whether the program's client knows --batch
 # What a client tells beside its answers, on which nothing rests: each by a name, as a line of standard error matches it.
 ASIDES = {
     "without_log": rb"without --log the client believes the first list that the server shows it: `save FILE` keeps what it has seen, and "

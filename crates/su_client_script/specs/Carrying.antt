@@ -164,7 +164,8 @@ Carries MayConnect Files batches (command.Change it) s t text =
     MovesOnThen MayConnect (λ ready. CarriesChange MayConnect batches it ready t text) s
 Carries MayConnect Files batches (command.Undo number) s t text =
     CarriesUndo MayConnect (always (change.Undo number)) s t text
-Carries MayConnect Files batches command.UndoLast s t text = CarriesUndo MayConnect last_undo s t text
+Carries MayConnect Files batches command.UndoLast s t text =
+    CarriesUndo MayConnect last_undo s t text
 Carries MayConnect Files batches (command.Rekey file) s t text =
     CarriesRekey MayConnect Files file.items s t text
 Carries MayConnect Files batches (command.List path) s t text =

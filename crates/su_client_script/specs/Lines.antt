@@ -1,6 +1,6 @@
 -- What the lines of a client's script do, one after the other, and what is printed of them. (This
 -- project's own.)
-use Rattle.std.specs.Prelude.{◌≡◌, ◌⊎◌, ◌+◌, ℕ, List, [], ◌∷◌, ◌++◌, length, Option}
+use Rattle.std.specs.Prelude.{◌≡◌, ◌⊎◌, ◌+◌, ℕ, Bool, List, [], ◌∷◌, ◌++◌, length, Option}
 use Rattle.std.specs.Io.KnownBytes.{Appends}
 use Rattle.su_bytes.specs.declared.refusals.Refusal.TheVariants.{NoMemory}
 use Rattle.su_view.specs.declared.refusals.ViewRefusal.TheVariants.{Plain}
@@ -36,7 +36,8 @@ LineDoes MayConnect Files batches line s t text =
 -- what is done for it at most, where something else fails
 abbrev pub LineDoesSome : (LinkState → Type 0) → Bool → List ℕ → MemberState → MemberState → Type 0
 LineDoesSome MayConnect batches line s t =
-    (t ≡ s) ⊎ SaidIsDone (λ it. CarriesSome MayConnect batches it s t) (λ shown. t ≡ s) (line_said line)
+    (t ≡ s)
+    ⊎ SaidIsDone (λ it. CarriesSome MayConnect batches it s t) (λ shown. t ≡ s) (line_said line)
 
 -- ---- lines
 
@@ -44,7 +45,8 @@ LineDoesSome MayConnect batches line s t =
 abbrev pub LinesDo : (LinkState → Type 0) → FileCalls → Bool → List (List ℕ)
     → MemberState → MemberState → List ℕ → Type 0
 LinesDo MayConnect Files batches [] s t text = (t ≡ s) × (text ≡ [])
-LinesDo MayConnect Files batches ([] ∷ lines) s t text = LinesDo MayConnect Files batches lines s t text
+LinesDo MayConnect Files batches ([] ∷ lines) s t text =
+    LinesDo MayConnect Files batches lines s t text
 LinesDo MayConnect Files batches ((b ∷ bs) ∷ lines) s t text =
     (between : MemberState) × (first rest : List ℕ)
     × LineDoes MayConnect Files batches (b ∷ bs) s between first
@@ -67,7 +69,8 @@ pub record LinesFail (MayConnect : LinkState → Type 0) (Files : FileCalls) (ba
 -- that number, which is no command; or all up to the one of that number, which is refused.
 abbrev pub Runs : (LinkState → Type 0) → FileCalls → Bool → List (List ℕ)
     → MemberState → MemberState → List ℕ → Ending → Type 0
-Runs MayConnect Files batches lines s t text Finished = LinesDo MayConnect Files batches lines s t text
+Runs MayConnect Files batches lines s t text Finished =
+    LinesDo MayConnect Files batches lines s t text
 Runs MayConnect Files batches lines s t text (BadLine number mistake) =
     (done others : List (List ℕ)) × (line first : List ℕ) × (lines ≡ done ++ line ∷ others)
     × (number ≡ length done + 1) × LinesDo MayConnect Files batches done s t first
@@ -75,7 +78,8 @@ Runs MayConnect Files batches lines s t text (BadLine number mistake) =
 Runs MayConnect Files batches lines s t text (Refused number) =
     (done others : List (List ℕ)) × (lines ≡ done ++ others) × (number ≡ length done)
     × LinesDo MayConnect Files batches done s t text
-Runs MayConnect Files batches lines s t text (Failed fault) = LinesFail MayConnect Files batches lines s t
+Runs MayConnect Files batches lines s t text (Failed fault) =
+    LinesFail MayConnect Files batches lines s t
 
 -- ---- what is printed
 

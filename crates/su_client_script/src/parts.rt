@@ -11,11 +11,7 @@ use su_op::{Batch, Op};
 /// Cuts operations into parts, in their order: each of one operation, or batches of as many as one
 /// item has room for. An operation that no item has room for is a part by itself. Fails only with
 /// `NoMemory`.
-pub(crate) fn cut(
-    alloc: Global,
-    operations: Vec<Op>,
-    batches: bool,
-) -> Result<Vec<Batch>, Refusal>
+pub(crate) fn cut(alloc: Global, operations: Vec<Op>, batches: bool) -> Result<Vec<Batch>, Refusal>
     ensures cut { IfOk result (λ parts. IsCut batches operations.items parts.items) }
     ensures refused { IfErr result (λ e. e ≡ NoMemory) }
 {
@@ -28,12 +24,9 @@ pub(crate) fn cut(
     Ok(parts)
 }
 
-/// Cuts off the first part of operations. Returns it, and the operations behind it; `None` where there
-/// are no operations. Fails only with `NoMemory`.
-fn cut_first(
-    mut operations: Vec<Op>,
-    batches: bool,
-) -> Result<Option<(Batch, Vec<Op>)>, Refusal>
+/// Cuts off the first part of operations. Returns it, and the operations behind it; `None` where
+/// there are no operations. Fails only with `NoMemory`.
+fn cut_first(mut operations: Vec<Op>, batches: bool) -> Result<Option<(Batch, Vec<Op>)>, Refusal>
     ensures first { IfOk result (λ first. MatchOption first (operations.items ≡ [])
         (λ cut. IsFirstPart batches operations.items (length cut.0)
         × (operations.items ≡ cut.0 ++ cut.1.items))) }

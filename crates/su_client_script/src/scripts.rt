@@ -58,7 +58,15 @@ where
 {
     let mut lines = LineReader::new(alloc, input);
     for number in 1..u64::MAX {
-        match next_step(program, alloc, &mut lines, output, member, number, manner.batches) {
+        match next_step(
+            program,
+            alloc,
+            &mut lines,
+            output,
+            member,
+            number,
+            manner.batches,
+        ) {
             Ok(step) => {
                 if let Some(ending) = ending_of(step, number, manner.stops) {
                     return ending;

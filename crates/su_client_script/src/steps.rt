@@ -70,7 +70,10 @@ impl Place {
 /// Tells whether one of its operations is a take.
 fn has_take(part: &Batch) -> bool {
     let (first, more) = part.parts();
-    matches!(first, Op::Take(_)) || more.iter().any(|operation| matches!(operation, Op::Take(_)))
+    matches!(first, Op::Take(_))
+        || more
+            .iter()
+            .any(|operation| matches!(operation, Op::Take(_)))
 }
 
 /// Carries out a line that is not empty, which has that number, and prints what comes of it.
@@ -274,8 +277,8 @@ where
 }
 
 /// Takes a turn, and plans a command on paths as the parts in which its operations are committed.
-/// Where there is nothing to commit, or on a refusal, the turn is given back. The refusals are those
-/// of `Member::plan`, and `NoMemory`.
+/// Where there is nothing to commit, or on a refusal, the turn is given back. The refusals are
+/// those of `Member::plan`, and `NoMemory`.
 fn plan_parts<P, R, W, K>(
     program: &mut P,
     alloc: Global,

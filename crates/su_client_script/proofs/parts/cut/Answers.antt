@@ -1,4 +1,4 @@
-use Rattle.std.proofs.Common.{◌≡◌, [], refl, sym, rules}
+use Rattle.std.proofs.Common.{◌≡◌, [], rules}
 use Rattle.su_client_script.proofs.Cutting.{all_cut}
 use Rattle.su_client_script.proofs.parts.cut.Goals as goal
 
