@@ -123,7 +123,7 @@ fn nobody_goes_back(rt: HostRuntime) -> Result<(), Fail> {
     let mut zero = new_client(rt.alloc(), 0)?;
     let mut one = new_client(rt.alloc(), 1)?;
     begin(rt.alloc(), &mut zero, &mut one)?;
-    one.take(alloc, 2)?;
+    one.take(rt.alloc(), 2)?;
     zero.catch_up(rt.alloc(), &one, &[2])?;
     zero.create(rt.alloc(), b"c", 4)?;
     last_commits(&rt, rt.alloc(), &zero, &one)?;
