@@ -34,6 +34,7 @@ SHIM = r"""
 #include <stdio.h>
 #include <stdlib.h>
 #include <string.h>
+#include <sys/syscall.h>
 #include <unistd.h>
 
 extern void *__libc_malloc(size_t), *__libc_calloc(size_t, size_t), *__libc_realloc(void *, size_t), *__libc_memalign(size_t, size_t);
@@ -75,12 +76,20 @@ int posix_memalign(void **to, size_t align, size_t size)
     return 0;
 }
 
-__attribute__((destructor)) static void tell(void)
+static void tell(void)
 {
     char text[32];
     int length = snprintf(text, sizeof text, "%lu", calls);
     if (write((int)number("TELLING"), text, length) != length)
-        _exit(99);
+        abort();
+}
+
+/* the program ends so, and no destructor is called */
+void _exit(int status)
+{
+    tell();
+    for (;;)
+        syscall(SYS_exit_group, status);
 }
 """
 
