@@ -20,12 +20,15 @@ use su_tree::{TreeKey, TreeValue, first_difference};
 /// itself, so what isn't needed on the way stands in functions of its own, which aren't inlined: a
 /// path can have 2,296 nodes.)
 #[derive(Drop)]
-pub(crate) enum Node<K: TreeKey, V: TreeValue> {
-    /// A part of which only the digest is known. (No tree has one yet: it stands in for a node that
-    /// is being changed.)
+pub enum Node<K: TreeKey, V: TreeValue> {
+    /// A part of which only the digest is known. (A [`HashTree`](crate::HashTree) has none: in it,
+    /// it stands in for a node that is being changed.)
     Stub(Digest),
+    /// No pair.
     Empty(Digest),
+    /// One pair.
     Leaf(K, V, Digest),
+    /// Two sides, and the position of the bit in which their keys differ.
     Split(u16, Box<Node<K, V>>, Box<Node<K, V>>, Digest),
 }
 

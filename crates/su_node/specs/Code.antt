@@ -36,7 +36,9 @@ content_back (Bytes bs) = refl
 content_back (Names m) = refl
 
 abbrev pub content_code : Coded Content
-content_code = code_by (List ℕ ⊎ FinMap name_cmp FileId) (coded⊎ (coded_list coded_ℕ) (code (coded_list coded_ℕ) file_code)) content_to content_from content_back
+content_code = code_by (List ℕ ⊎ FinMap name_cmp FileId)
+    (coded⊎ (coded_list coded_ℕ) (code (coded_list coded_ℕ) file_code)) content_to content_from content_back
 
 abbrev pub inode_code : Coded Inode
-inode_code = code_by (FileId × (ℕ × Content)) (coded× file_code (coded× coded_ℕ content_code)) (λ i. (i.home, (i.links, i.content))) (λ p. record { home = p.0; links = p.1.0; content = p.1.1 }) (λ _. refl)
+inode_code = code_by (FileId × (ℕ × Content)) (coded× file_code (coded× coded_ℕ content_code))
+    (λ i. (i.home, (i.links, i.content))) (λ p. record { home = p.0; links = p.1.0; content = p.1.1 }) (λ _. refl)

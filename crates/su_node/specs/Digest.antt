@@ -39,7 +39,8 @@ kind_byte Dir = 1
 -- what is hashed of an inode: the file id that it was made for, its kind, its links, its size as four bytes, and the
 -- digest of its content
 abbrev pub inode_item : Inode → List ℕ
-inode_item i = 3 ∷ file_id_bytes i.home ++ kind_byte (kind_of i.content) ∷ i.links ∷ to_be_bytes w32 (size_of i.content) ++ content_digest i.content
+inode_item i =
+    3 ∷ file_id_bytes i.home ++ kind_byte (kind_of i.content) ∷ i.links ∷ to_be_bytes w32 (size_of i.content) ++ content_digest i.content
 
 unfoldable pub inode_digest : Inode → List ℕ
 inode_digest i = sha256 (inode_item i)

@@ -36,8 +36,10 @@ AreBelow bound pairs = AllByRecursion (λ e. e.0 < bound) pairs
 abbrev pub with_padded : ℕ → ℕ → List (List ℕ) → List (List ℕ)
 with_padded count size blocks =
     let last = count - 1 in
-    cond (nat_eq count 0) blocks (slice_set blocks last (with_size (min BLOCK_SIZE (size - BLOCK_SIZE * last)) (slice_index_or blocks last [])))
+    cond (nat_eq count 0) blocks
+    (slice_set blocks last (with_size (min BLOCK_SIZE (size - BLOCK_SIZE * last)) (slice_index_or blocks last [])))
 
 -- what one block holds of the zeros in a file of that size: the block numbers begin at `first`
 abbrev pub AreZeroBlocks : List (List ℕ) → ℕ → ℕ → Type 0
-AreZeroBlocks blocks first size = (k : ℕ) → k < length blocks → slice_index_or blocks k [] ≡ with_size (min BLOCK_SIZE (size - BLOCK_SIZE * (first + k))) []
+AreZeroBlocks blocks first size = (k : ℕ) → k < length blocks
+    → slice_index_or blocks k [] ≡ with_size (min BLOCK_SIZE (size - BLOCK_SIZE * (first + k))) []

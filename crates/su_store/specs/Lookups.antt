@@ -29,4 +29,4 @@ TellsHeld digest held db = (kept : Kept) → Stands kept db → held ≡ has_blo
 abbrev pub IsFirst : Option (List ℕ) → List Row → Type 0
 IsFirst None rows = rows ≡ []
 IsFirst (Some bytes) rows =
-    (row : Row) × (more : List Row) × (rows ≡ row ∷ more) × (column row 0 ≡ Blob bytes)
+    (first : Row) × (others : List Row) × (rows ≡ first ∷ others) × (column first 0 ≡ Blob bytes)

@@ -11,4 +11,6 @@ abbrev pub place_code : Coded Place
 place_code = coded× coded_ℕ coded_ℕ
 
 abbrev pub tree_code : Coded Tree
-tree_code = code_by (FinMap place_cmp Inode × FinMap place_cmp Place) (coded× (code place_code inode_code) (code place_code place_code)) (λ T. (T.inodes, T.pointers)) (λ p. record { inodes = p.0; pointers = p.1 }) (λ _. refl)
+tree_code = code_by (FinMap place_cmp Inode × FinMap place_cmp Place)
+    (coded× (code place_code inode_code) (code place_code place_code))
+    (λ T. (T.inodes, T.pointers)) (λ p. record { inodes = p.0; pointers = p.1 }) (λ _. refl)
