@@ -121,7 +121,7 @@ an_overwrite = refl
 
 -- shorter contents of two files, after which one more write to the second is a line of its own
 two_files : lines (does 1 (write plan (7 ∷ 8 ∷ []) ∷ cut plan 2 ∷ write list (9 ∷ []) ∷ cut list 1 ∷ []) ∷ entry_by 1 V4 (Do (write list (5 ∷ []) ∷ [])) ∷ [])
-    ≡ line 1 1 1 (Together 4 3) Live ∷ line 2 2 1 (Wrote list 1) Live ∷ []
+    ≡ line 1 1 1 (Together (record { operations = 4; bytes = 3; files = plan ∷ plan ∷ list ∷ list ∷ [] })) Live ∷ line 2 2 1 (Wrote list 1) Live ∷ []
 unfolding place_eq
 two_files = refl
 
@@ -137,6 +137,12 @@ unfolding place_eq
 cut_twice = refl
 
 -- takes alone
-takes_alone : lines (does 1 (take plan ∷ take list ∷ []) ∷ []) ≡ line 1 1 1 (Together 2 0) Live ∷ []
+takes_alone : lines (does 1 (take plan ∷ take list ∷ []) ∷ []) ≡ line 1 1 1 (Together (record { operations = 2; bytes = 0; files = plan ∷ list ∷ [] })) Live ∷ []
 unfolding place_eq
 takes_alone = refl
+
+-- what was done to several files at once is among the lines of each of them
+those_of_the_second : filter (names list) (lines (does 1 (write plan (7 ∷ []) ∷ write list (9 ∷ []) ∷ []) ∷ writes_it 2 (8 ∷ []) ∷ []))
+    ≡ line 1 1 1 (Together (record { operations = 2; bytes = 2; files = plan ∷ list ∷ [] })) Live ∷ []
+unfolding place_eq
+those_of_the_second = refl

@@ -1,5 +1,5 @@
 -- What the lines say of a change is said of it without its bytes.
-use Rattle.std.proofs.Common.{◌≡◌, ◌∙◌, ℕ, ◌&&◌, Bool, true, false, not, cond, List, [], ◌∷◌, length, map, min, nat_eq, Option, None, Some, refl, sym, ap, arith}
+use Rattle.std.proofs.Common.{◌≡◌, ◌∙◌, ℕ, ◌&&◌, Bool, true, false, not, cond, List, [], ◌∷◌, ◌++◌, length, map, min, nat_eq, Option, None, Some, refl, sym, ap, arith}
 use Rattle.std.specs.List.{filter, list_all, sum_by}
 use Rattle.std.specs.Option.{is_some}
 use Rattle.std.proofs.lemmas.Bool.{eqb-true}
@@ -13,9 +13,10 @@ use Rattle.su_op.specs.declared.operations.Change.{Change}
 use Rattle.su_op.specs.declared.operations.Change.TheVariants.{Do, Undo, Rekey}
 use Rattle.su_op.specs.Action.{batch_bytes, bytes_by, only_of, op_without_bytes}
 use Rattle.su_desk.specs.KeptEntry.{without_bytes, written}
+use Rattle.su_history.specs.Several.{SeveralOperations}
 use Rattle.su_history.specs.declared.line.Deed.{Deed}
 use Rattle.su_history.specs.declared.line.Deed.TheVariants.{Wrote, Together}
-use Rattle.su_history.specs.Line.{are_one, deed_beside_takes, deed_of, deed_of_batch, deed_of_op, deed_of_row, edited, edited_by, edits, fate_of, filled, filled_by, is_no_take, is_row, is_same_file, last_op}
+use Rattle.su_history.specs.Line.{are_one, deed_beside_takes, deed_of, deed_of_batch, deed_of_op, deed_of_row, edited, edited_by, edits, fate_of, files_named, files_of, filled, filled_by, is_no_take, is_row, is_same_file, last_op, several}
 
 -- ---- of operations
 
@@ -143,19 +144,42 @@ row_deed_so (Truncate t) last last' n same = go (nat_eq n 0) refl
     go true is = same (eqb-true n 0 is)
     go false is = refl
 
-beside_takes_so : (count n : ℕ) (ops : List Op) → (n ≡ 0 → sum_by bytes_by ops ≡ 0) → deed_beside_takes count n (map op_without_bytes ops) ≡ deed_beside_takes count n ops
-beside_takes_so count n [] empty = refl
-beside_takes_so count n (op ∷ ops) empty =
-    ap (λ (b : Bool). cond b (deed_of_row (op_without_bytes op) (deed_of_op (last_op (op_without_bytes op) (map op_without_bytes ops))) n) (Together count n)) (row_so op ops)
-    ∙ ap (λ (d : Deed). cond (is_row op ops) d (Together count n))
-    (row_deed_so op (deed_of_op (last_op (op_without_bytes op) (map op_without_bytes ops))) (deed_of_op (last_op op ops)) n
+-- the files that operations name
+files_so : (op : Op) → files_of (deed_of_op (op_without_bytes op)) ≡ files_of (deed_of_op op)
+files_so (Create c) = refl
+files_so (Unlink u) = refl
+files_so (Write w) = refl
+files_so (Truncate t) = refl
+files_so (Take t) = refl
+files_so (Link l) = refl
+files_so (Rename r) = refl
+files_so (Drop d) = refl
+
+named_so : (ops : List Op) → files_named (map op_without_bytes ops) ≡ files_named ops
+named_so [] = refl
+named_so (op ∷ ops) =
+    ap (λ (fs : List FileId). fs ++ files_named (map op_without_bytes ops)) (files_so op) ∙ ap (λ (fs : List FileId). files_of (deed_of_op op) ++ fs) (named_so ops)
+
+several_so : (ops : List Op) (n : ℕ) → several (map op_without_bytes ops) n ≡ several ops n
+several_so ops n =
+    ap (λ (k : ℕ). told k n (files_named (map op_without_bytes ops))) (length-map ops op_without_bytes) ∙ ap (told (length ops) n) (named_so ops)
+  where
+    told : ℕ → ℕ → List FileId → SeveralOperations
+    told k bytes fs = record { operations = k; bytes = bytes; files = fs }
+
+beside_takes_so : (s : SeveralOperations) (ops : List Op) → (s.bytes ≡ 0 → sum_by bytes_by ops ≡ 0) → deed_beside_takes s (map op_without_bytes ops) ≡ deed_beside_takes s ops
+beside_takes_so s [] empty = refl
+beside_takes_so s (op ∷ ops) empty =
+    ap (λ (b : Bool). cond b (deed_of_row (op_without_bytes op) (deed_of_op (last_op (op_without_bytes op) (map op_without_bytes ops))) s.bytes) (Together s)) (row_so op ops)
+    ∙ ap (λ (d : Deed). cond (is_row op ops) d (Together s))
+    (row_deed_so op (deed_of_op (last_op (op_without_bytes op) (map op_without_bytes ops))) (deed_of_op (last_op op ops)) s.bytes
     (λ none. ap deed_of_op (last_so op ops) ∙ empty_deed_so (last_op op ops) (last_empty op ops (empty none))))
 
 many_deed_so : (ops : List Op) → deed_of_batch (map op_without_bytes ops) (batch_bytes ops) ≡ deed_of_batch ops (batch_bytes ops)
 many_deed_so ops =
-    ap (λ (k : ℕ). deed_beside_takes k (batch_bytes ops) (filter is_no_take (map op_without_bytes ops))) (length-map ops op_without_bytes)
-    ∙ ap (deed_beside_takes (length ops) (batch_bytes ops)) (no_takes_so ops)
-    ∙ beside_takes_so (length ops) (batch_bytes ops) (filter is_no_take ops) (λ none. no_takes_empty ops (all_empty ops none))
+    ap (λ (s : SeveralOperations). deed_beside_takes s (filter is_no_take (map op_without_bytes ops))) (several_so ops (batch_bytes ops))
+    ∙ ap (deed_beside_takes (several ops (batch_bytes ops))) (no_takes_so ops)
+    ∙ beside_takes_so (several ops (batch_bytes ops)) (filter is_no_take ops) (λ none. no_takes_empty ops (all_empty ops none))
 
 -- what was read of an entry of several without its bytes tells its deed
 pub many_told : (c : Change) (batch : List Op) (n : ℕ) → Do batch ≡ without_bytes c → None ≡ only_of batch → n ≡ written c → deed_of_batch batch n ≡ deed_of c

@@ -1,5 +1,5 @@
 -- What a history is for people, line by line: entries that belong together are one line.
-use Rattle.std.specs.Prelude.{◌≡◌, ℕ, ◌+◌, ◌-◌, ◌<◌, Bool, true, false, ◌&&◌, List, [], ◌∷◌, map, length, get_or, Option, None, Some, nat_eq, if◌then◌else◌}
+use Rattle.std.specs.Prelude.{◌≡◌, ℕ, ◌+◌, ◌-◌, ◌<◌, Bool, true, false, ◌&&◌, List, [], ◌∷◌, map, ◌++◌, length, get_or, Option, None, Some, nat_eq, if◌then◌else◌}
 use Rattle.std.specs.List.{filter, list_all, list_any, range_with_len, sum_by}
 use Rattle.std.proofs.Math.Bool.{beq}
 use Rattle.std.specs.Option.{is_some, option_and_then}
@@ -15,6 +15,7 @@ use Rattle.su_op.specs.Action.{batch_bytes, operation_of_change}
 use Rattle.su_desk.specs.declared.entries.Entry.{Entry}
 use Rattle.su_desk.specs.History.{undoer}
 use Rattle.su_desk.specs.KeptEntry.{written}
+use Rattle.su_history.specs.Several.{SeveralOperations}
 use Rattle.su_history.specs.declared.line.Line.{Line}
 use Rattle.su_history.specs.declared.line.Deed.{Deed}
 use Rattle.su_history.specs.declared.line.Deed.TheVariants.{Made, Put, Wrote, Cut, Linked, Renamed, Removed, TookOver, Dropped, Together, Undid, NamedKey}
@@ -119,6 +120,24 @@ deed_of_op (Link l) = Linked l
 deed_of_op (Rename r) = Renamed r
 deed_of_op (Drop d) = Dropped d
 
+-- the files and directories that a deed names
+abbrev pub files_of : Deed → List FileId
+files_of (Made c) = c.dir ∷ c.file ∷ []
+files_of (Put c n) = c.dir ∷ c.file ∷ []
+files_of (Wrote f n) = f ∷ []
+files_of (Cut t) = t.file ∷ []
+files_of (Linked l) = l.dir ∷ l.file ∷ []
+files_of (Renamed r) = r.from_ ∷ r.to_ ∷ r.file ∷ []
+files_of (Removed u) = u.dir ∷ u.file ∷ []
+files_of (TookOver t) = t.file ∷ []
+files_of (Together s) = s.files
+files_of _ = []
+
+-- the files and directories that operations name, one operation after another
+abbrev pub files_named : List Op → List FileId
+files_named [] = []
+files_named (op ∷ ops) = files_of (deed_of_op op) ++ files_named ops
+
 -- What operations in a row on one file did, which write so many bytes in all, from the first of them
 -- and what the last one did: those behind the making of a file put its bytes there, others wrote to
 -- a file; where no bytes are written, the file was made, or cut to the last size.
@@ -146,17 +165,21 @@ abbrev pub last_op : Op → List Op → Op
 last_op op [] = op
 last_op op (next ∷ ops) = last_op next ops
 
--- What a batch did that has so many operations, which write n bytes in all, from those of them that
--- are no takes: where these are a row on one file, what such a row did.
-abbrev pub deed_beside_takes : ℕ → ℕ → List Op → Deed
-deed_beside_takes count n [] = Together count n
-deed_beside_takes count n (op ∷ others) =
-    if is_row op others then deed_of_row op (deed_of_op (last_op op others)) n
-    else Together count n
+-- operations of one entry, which write n bytes in all
+abbrev pub several : List Op → ℕ → SeveralOperations
+several ops n = record { operations = length ops; bytes = n; files = files_named ops }
+
+-- What a batch did, from those of its operations that are no takes: where these are a row on one
+-- file, what such a row did.
+abbrev pub deed_beside_takes : SeveralOperations → List Op → Deed
+deed_beside_takes s [] = Together s
+deed_beside_takes s (op ∷ others) =
+    if is_row op others then deed_of_row op (deed_of_op (last_op op others)) s.bytes
+    else Together s
 
 -- what the operations of a batch did, which write n bytes in all
 abbrev pub deed_of_batch : List Op → ℕ → Deed
-deed_of_batch ops n = deed_beside_takes (length ops) n (filter is_no_take ops)
+deed_of_batch ops n = deed_beside_takes (several ops n) (filter is_no_take ops)
 
 -- what a change did
 abbrev pub deed_of : Change → Deed
@@ -193,18 +216,6 @@ abbrev pub lines : List Entry → List Line
 lines h = map line_of (runs (numbered h))
 
 -- ---- those of a file
-
--- the files and directories that a deed names
-abbrev pub files_of : Deed → List FileId
-files_of (Made c) = c.dir ∷ c.file ∷ []
-files_of (Put c n) = c.dir ∷ c.file ∷ []
-files_of (Wrote f n) = f ∷ []
-files_of (Cut t) = t.file ∷ []
-files_of (Linked l) = l.dir ∷ l.file ∷ []
-files_of (Renamed r) = r.from_ ∷ r.to_ ∷ r.file ∷ []
-files_of (Removed u) = u.dir ∷ u.file ∷ []
-files_of (TookOver t) = t.file ∷ []
-files_of _ = []
 
 -- a line names that file
 abbrev pub names : FileId → Line → Bool

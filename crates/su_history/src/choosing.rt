@@ -38,7 +38,8 @@ fn names(deed: &Deed, file: FileId) -> bool
         Deed::Renamed(rename) => is_one_of(file, &[rename.from_, rename.to_, rename.file]),
         Deed::Removed(unlink) => is_one_of(file, &[unlink.dir, unlink.file]),
         Deed::TookOver(take) => is_same(file, take.file),
-        Deed::Dropped(_) | Deed::Together { .. } | Deed::Undid(_) | Deed::NamedKey => false,
+        Deed::Together(several) => is_one_of(file, several.files.as_slice()),
+        Deed::Dropped(_) | Deed::Undid(_) | Deed::NamedKey => false,
     }
 }
 

@@ -1,11 +1,11 @@
 // What operations did, and an entry alone.
-ghost use Rattle.std.specs.Prelude.{◌≡◌, ◌||◌, not, [], ◌∷◌, Some, IfOk, MatchOption};
+ghost use Rattle.std.specs.Prelude.{◌≡◌, ◌||◌, ◌++◌, not, [], ◌∷◌, Some, IfOk, OnOk, MatchOption};
 ghost use Rattle.std.specs.List.{filter, list_all};
 ghost use Rattle.su_bytes.specs.Place.{file_eq};
-ghost use Rattle.su_history.specs.Line.{deed_of, deed_of_batch, deed_of_op, deed_of_row, edited_by, edits, filled_by, is_no_take, is_row, last_op};
+ghost use Rattle.su_history.specs.Line.{deed_of, deed_of_batch, deed_of_op, deed_of_row, edited_by, edits, files_named, files_of, filled_by, is_no_take, is_row, last_op};
 
-use crate::line::Deed;
-use std::alloc::AllocError;
+use crate::line::{Deed, Several};
+use std::alloc::{AllocError, Global};
 use su_bytes::{FileId, Kind};
 use su_desk::KeptEntry;
 use su_op::{Batch, Change, Op};
@@ -39,13 +39,13 @@ pub(crate) fn is_same(file: FileId, other: FileId) -> bool
 }
 
 /// Returns what an entry alone did.
-pub(crate) fn deed_of(entry: &KeptEntry) -> Result<Deed, AllocError>
+pub(crate) fn deed_of(alloc: Global, entry: &KeptEntry) -> Result<Deed, AllocError>
     ensures { IfOk result (λ deed. deed ≡ deed_of entry.now.change) }
 {
     match entry.change() {
         Change::Do(batch) => match batch.only() {
             Some(op) => deed_of_row(op, op, entry.written()),
-            None => deed_of_batch(batch, entry.written()),
+            None => deed_of_batch(alloc, batch, entry.written()),
         },
         Change::Undo(number) => Ok(Deed::Undid(*number)),
         Change::Rekey(_) => Ok(Deed::NamedKey),
@@ -95,7 +95,7 @@ pub(crate) fn deed_of_row(first: &Op, last: &Op, bytes: u64) -> Result<Deed, All
 }
 
 /// Returns what the operations of a batch did, which write so many bytes in all.
-fn deed_of_batch(batch: &Batch, bytes: u64) -> Result<Deed, AllocError>
+fn deed_of_batch(alloc: Global, batch: &Batch, bytes: u64) -> Result<Deed, AllocError>
     ensures { IfOk result (λ deed. deed ≡ deed_of_batch batch.now bytes) }
 {
     if let Some((first, behind)) = beside_takes(batch) {
@@ -103,10 +103,41 @@ fn deed_of_batch(batch: &Batch, bytes: u64) -> Result<Deed, AllocError>
             return deed_of_row(first, last_op(first, behind), bytes);
         }
     }
-    Ok(Deed::Together {
+    Ok(Deed::Together(Several {
         operations: batch.count() as u64,
         bytes,
-    })
+        files: files_named(alloc, batch)?,
+    }))
+}
+
+/// Returns the files and directories that the operations of a batch name, one operation after
+/// another.
+fn files_named(alloc: Global, batch: &Batch) -> Result<Vec<FileId>, AllocError>
+    ensures { IfOk result (λ files. files.items ≡ files_named batch.now) }
+{
+    let (first, more) = batch.parts();
+    let mut files = Vec::new(alloc);
+    add_named(&mut files, first)?;
+    for op in more {
+        add_named(&mut files, op)?;
+    }
+    Ok(files)
+}
+
+/// Appends the files and directories that an operation names.
+fn add_named(files: &mut Vec<FileId>, op: &Op) -> Result<(), AllocError>
+    ensures { OnOk result (files.new.items ≡ files.old.items ++ files_of (deed_of_op op.now)) }
+{
+    match op {
+        Op::Create(create) => files.extend_from_slice(&[create.dir, create.file]),
+        Op::Unlink(unlink) => files.extend_from_slice(&[unlink.dir, unlink.file]),
+        Op::Write(write) => files.extend_from_slice(&[write.file]),
+        Op::Truncate(truncate) => files.extend_from_slice(&[truncate.file]),
+        Op::Take(take) => files.extend_from_slice(&[take.file]),
+        Op::Link(link) => files.extend_from_slice(&[link.dir, link.file]),
+        Op::Rename(rename) => files.extend_from_slice(&[rename.from_, rename.to_, rename.file]),
+        Op::Drop(_) => Ok(()),
+    }
 }
 
 /// Returns the first operation of a batch that is no take, and all those behind it.

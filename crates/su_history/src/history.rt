@@ -20,7 +20,7 @@ pub fn lines(alloc: Global, entries: &[KeptEntry]) -> Result<Vec<Line>, AllocErr
     let mut first = 0;
     while first < entries.len() {
         let end = end_of_run(entries, undoers.as_slice(), first);
-        lines.push(line(entries, undoers.as_slice(), first, end)?)?;
+        lines.push(line(alloc, entries, undoers.as_slice(), first, end)?)?;
         first = end;
     }
     Ok(lines)
@@ -28,6 +28,7 @@ pub fn lines(alloc: Global, entries: &[KeptEntry]) -> Result<Vec<Line>, AllocErr
 
 /// Returns the line of the run from the entry of one index up to that of another, which isn't in it.
 fn line(
+    alloc: Global,
     entries: &[KeptEntry],
     undoers: &[Option<u64>],
     first: usize,
@@ -50,7 +51,7 @@ fn line(
         first: first as u64 + 1,
         last: end as u64,
         author: opening.author(),
-        deed: deed_of_run(opening, closing, bytes)?,
+        deed: deed_of_run(alloc, opening, closing, bytes)?,
         fate: fate_of(closing.change(), undoer),
     })
 }

@@ -12,4 +12,4 @@ mod undoers;
 pub use choosing::{newest, of_file};
 pub use history::lines;
 pub use laws::{each_entry_is_in_one_line, live_lines_are_live};
-pub use line::{Deed, Fate, Line};
+pub use line::{Deed, Fate, Line, Several};

@@ -1,4 +1,5 @@
 // What a line of a history says.
+use std::marker::Model;
 use su_bytes::{FileId, User};
 use su_op::{Create, DropBody, Link, Rename, Take, Truncate, Unlink};
 
@@ -40,16 +41,30 @@ pub enum Deed {
     TookOver(Take),
     Dropped(DropBody),
     /// Did several operations together that no other deed tells of.
-    Together {
-        /// How many operations these are.
-        operations: u64,
-        /// How many bytes all their writes have; `u64::MAX` where they have more.
-        bytes: u64,
-    },
+    Together(Several),
     /// Undid the operation with that number.
     Undid(u64),
     /// Named the author's next key.
     NamedKey,
+}
+
+/// Several operations of one entry.
+#[derive(Debug, Drop)]
+pub struct Several {
+    /// How many they are.
+    pub operations: u64,
+    /// How many bytes all their writes have; `u64::MAX` where they have more.
+    pub bytes: u64,
+    /// The files and directories that they name, each as often as it is named.
+    pub files: Vec<FileId>,
+}
+
+impl Model for Several {
+    ghost use Rattle.su_history.specs.Several.{SeveralOperations};
+
+    ghost Value = { SeveralOperations };
+
+    ghost view = { λ s. record { operations = s.operations; bytes = s.bytes; files = s.files.items } };
 }
 
 /// What became of the entries of a line.

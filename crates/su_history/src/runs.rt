@@ -6,7 +6,7 @@ ghost use Rattle.su_history.specs.Line.{AreUndoers, NumberedEntry, deed_of_run, 
 
 use crate::deeds::{deed_of, deed_of_row, edited_by, filled_by, is_same};
 use crate::line::{Deed, Fate};
-use std::alloc::AllocError;
+use std::alloc::{AllocError, Global};
 use su_bytes::FileId;
 use su_desk::KeptEntry;
 use su_op::{Change, Op};
@@ -91,6 +91,7 @@ pub(crate) fn all_written(entries: &[KeptEntry]) -> Option<u64>
 
 /// Returns what the entries of a run did, from its first to its last, which write so many bytes.
 pub(crate) fn deed_of_run(
+    alloc: Global,
     first: &KeptEntry,
     last: &KeptEntry,
     bytes: u64,
@@ -98,9 +99,9 @@ pub(crate) fn deed_of_run(
     ensures { IfOk result (λ deed. deed ≡ deed_of_run first.now.change last.now.change bytes) }
 {
     match first.change().operation() {
-        Some(Op::Truncate(_)) if bytes == 0 => deed_of(last),
+        Some(Op::Truncate(_)) if bytes == 0 => deed_of(alloc, last),
         Some(op) => deed_of_row(op, op, bytes),
-        None => deed_of(first),
+        None => deed_of(alloc, first),
     }
 }
 

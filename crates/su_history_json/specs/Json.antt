@@ -21,7 +21,7 @@ what_word (Renamed r) = codes "renamed"
 what_word (Removed u) = codes "removed"
 what_word (TookOver t) = codes "took"
 what_word (Dropped d) = codes "dropped"
-what_word (Together n bytes) = codes "together"
+what_word (Together s) = codes "together"
 what_word (Undid n) = codes "undid"
 what_word NamedKey = codes "rekeyed"
 
@@ -41,7 +41,7 @@ file_of _ = None
 abbrev pub bytes_of : Deed → Option ℕ
 bytes_of (Put c n) = Some n
 bytes_of (Wrote f n) = Some n
-bytes_of (Together n bytes) = Some bytes
+bytes_of (Together s) = Some s.bytes
 bytes_of (Cut t) = Some t.size
 bytes_of _ = None
 

@@ -23,7 +23,7 @@ pub(crate) fn what_word(deed: &Deed) -> &'static str
         Deed::Removed(_) => "removed",
         Deed::TookOver(_) => "took",
         Deed::Dropped(_) => "dropped",
-        Deed::Together { .. } => "together",
+        Deed::Together(_) => "together",
         Deed::Undid(_) => "undid",
         Deed::NamedKey => "rekeyed",
     }
@@ -41,7 +41,7 @@ fn file_of(deed: &Deed) -> Option<FileId>
         Deed::Renamed(rename) => Some(rename.file),
         Deed::Removed(unlink) => Some(unlink.file),
         Deed::TookOver(take) => Some(take.file),
-        Deed::Dropped(_) | Deed::Together { .. } | Deed::Undid(_) | Deed::NamedKey => None,
+        Deed::Dropped(_) | Deed::Together(_) | Deed::Undid(_) | Deed::NamedKey => None,
     }
 }
 
@@ -50,9 +50,8 @@ pub(crate) fn bytes_of(deed: &Deed) -> Option<u64>
     ensures { result ≡ bytes_of deed.now }
 {
     match deed {
-        Deed::Put { bytes, .. } | Deed::Wrote { bytes, .. } | Deed::Together { bytes, .. } => Some(
-            *bytes,
-        ),
+        Deed::Put { bytes, .. } | Deed::Wrote { bytes, .. } => Some(*bytes),
+        Deed::Together(several) => Some(several.bytes),
         Deed::Cut(truncate) => Some(u64::from(truncate.size)),
         _ => None,
     }

@@ -89,7 +89,7 @@ deed_text names (Renamed r) = renamed_text names r
 deed_text names (Removed u) = removed_text names u
 deed_text names (TookOver t) = took_text names t
 deed_text names (Dropped d) = dropped_text d
-deed_text names (Together n bytes) = together_text n bytes
+deed_text names (Together s) = together_text s.operations s.bytes
 deed_text names (Undid n) = codes "undid " ++ decimal n
 deed_text names NamedKey = codes "went on to another key"
 

@@ -28,7 +28,7 @@ pub(crate) fn deed_text(alloc: Global, deed: &Deed, names: &FileNames) -> Result
         Deed::Removed(unlink) => removed_text(alloc, unlink, names),
         Deed::TookOver(take) => took_text(alloc, take, names),
         Deed::Dropped(dropped) => dropped_text(alloc, dropped),
-        Deed::Together { operations, bytes } => together_text(alloc, *operations, *bytes),
+        Deed::Together(several) => together_text(alloc, several.operations, several.bytes),
         Deed::Undid(number) => undid_text(alloc, *number),
         Deed::NamedKey => format!(in alloc; "went on to another key"),
     }
