@@ -1,0 +1,184 @@
+-- Rules refuse alike, and have one plan, in trees that agree on the cells that are asked for.
+use Rattle.std.proofs.Common.{◌≡◌, ◌∙◌, sym, ap, refl, subst, ℕ, Bool, true, false, not, ◌&&◌, ◌||◌, nat_eq, nat_lt, List, [], ◌∷◌, Option, Some, None}
+use Rattle.su_op.specs.Limits.{most_links}
+use Rattle.std.specs.Option.{is_some}
+use Rattle.std.specs.Bool.{if◌then◌else◌}
+use Rattle.su_bytes.specs.Membership.{Membership}
+use Rattle.su_bytes.specs.declared.file_ids.FileId.{FileId}
+use Rattle.su_bytes.specs.declared.file_ids.FileId.TheVariants.{User, Group}
+use Rattle.su_bytes.specs.declared.formats.Format.{Format}
+use Rattle.su_bytes.specs.declared.refusals.Refusal.{Refusal}
+use Rattle.su_bytes.specs.Place.{Place, GroupFile}
+use Rattle.su_node.specs.Field.{Field.KindOf}
+use Rattle.su_table.specs.Tree.{Tree}
+use Rattle.su_table.specs.Cell.{Cell.At, val}
+use Rattle.su_table.specs.Query.{body, home_body, pointer_body, is_nothing, is_dir_kind, is_file_kind, value_number, is_link_to, is_pointer_free, is_free_at, is_dir_at}
+use Rattle.su_op.specs.declared.areas.Area.{Area}
+use Rattle.su_op.specs.declared.operations.Op.{Op}
+use Rattle.su_op.specs.declared.operations.Op.TheVariants as op
+use Rattle.su_op.specs.declared.create.Create.{Create}
+use Rattle.su_op.specs.declared.unlink.Unlink.{Unlink}
+use Rattle.su_op.specs.declared.truncate.Truncate.{Truncate}
+use Rattle.su_op.specs.declared.take.Take.{Take}
+use Rattle.su_op.specs.declared.link.Link.{Link}
+use Rattle.su_op.specs.declared.rename.Rename.{Rename}
+use Rattle.su_op.specs.Writing.{Writing}
+use Rattle.su_op.specs.declared.drop_body.DropBody.{DropBody}
+use Rattle.su_op.specs.DropBody.{drop_rule, group_home, leads_here, unless_led}
+use Rattle.su_op.specs.Area.{kind_cell, name_cell}
+use Rattle.su_op.specs.Rule.{Plan, Rule, Rule.Accept, Rule.Demand, Rule.Find, refusal, plan_of, pointer_areas}
+use Rattle.su_op.specs.Create.{create_rule}
+use Rattle.su_op.specs.Unlink.{unlink_rule, unlink_plan}
+use Rattle.su_op.specs.Write.{write_rule, write_plan}
+use Rattle.su_op.specs.Truncate.{truncate_rule, truncate_plan}
+use Rattle.su_op.specs.Take.{take_rule, take_plan}
+use Rattle.su_op.specs.Link.{link_rule, link_plan}
+use Rattle.su_op.specs.Rename.{rename_rule, rename_plan, moved, moves_directory, stays}
+use Rattle.su_op.specs.Action.{Action}
+use Rattle.su_op.specs.Operation.{rule_by_user, why}
+use Rattle.su_op.proofs.RuleLemmas.{AgreeOn, later, left, right, kind_same, links_same, size_same, name_same, pointer_same, whole_same}
+use Rattle.su_asked.specs.Asked.{home_areas, at_body, pointer_of, asked, SameBare, RefusalsAreLocal}
+
+-- two rules refuse alike, and have one plan
+pub record Alike (r s : Rule) : Type 0 where
+  pub refusals : refusal r ≡ refusal s
+  pub plans : plan_of r ≡ plan_of s
+
+pub same_plan : {p q : Plan} → p ≡ q → Alike (Accept p) (Accept q)
+same_plan e = record { refusals = refl; plans = e }
+
+pub same_demand : {b c : Bool} {e : Refusal} {k l : Rule} → b ≡ c → Alike k l → Alike (Demand b e k) (Demand c e l)
+same_demand {b} {c} {e} {k} {l} s h = subst (λ x. Alike (Demand b e k) (Demand x e l)) s (here b)
+  where
+    here : (x : Bool) → Alike (Demand x e k) (Demand x e l)
+    here true = record { refusals = h.refusals; plans = h.plans }
+    here false = record { refusals = refl; plans = h.plans }
+
+pub same_find : {o : Option Place} {q : Option Place} {e : Refusal} {k l : Place → Rule} → o ≡ q → ((p : Place) → q ≡ Some p → Alike (k p) (l p)) → Alike (Find o e k) (Find q e l)
+same_find {o} {q} {e} {k} {l} s h = subst (λ x. Alike (Find x e k) (Find q e l)) (sym s) (here q h)
+  where
+    here : (x : Option Place) → ((p : Place) → x ≡ Some p → Alike (k p) (l p)) → Alike (Find x e k) (Find x e l)
+    here None g = record { refusals = refl; plans = refl }
+    here (Some p) g = let a = g p refl in record { refusals = a.refusals; plans = a.plans }
+
+moved_same : (V T : Tree) (r : Rename) → body V r.file ≡ body T r.file → moved V r ≡ moved T r
+moved_same V T r e = ap (λ o. if stays r then None else o) e
+
+moving_same : (V T : Tree) (o : Option Place) → ((f : Place) → o ≡ Some f → is_dir_at V f ≡ is_dir_at T f) → moves_directory V o ≡ moves_directory T o
+moving_same V T None at = refl
+moving_same V T (Some f) at = at f refl
+
+moved_is : (T : Tree) (r : Rename) (f : Place) → moved T r ≡ Some f → body T r.file ≡ Some f
+moved_is T r f = go (stays r)
+  where
+    go : (b : Bool) → (if b then None else body T r.file) ≡ Some f → body T r.file ≡ Some f
+    go true e = absurd cc
+    go false e = e
+
+module _ {T V : Tree} where
+  home_same : (f : FileId) → AgreeOn (home_areas f) T V → body V f ≡ body T f
+  unfolding body
+  home_same (User u i) agree = ap (λ v. home_body v (User u i) (u, i)) (kind_same agree)
+  home_same (Group g k) agree = ap pointer_body (pointer_same agree)
+
+  free_same : (f : FileId) → AgreeOn (pointer_areas f) T V → is_pointer_free V f ≡ is_pointer_free T f
+  free_same (User u i) agree = refl
+  free_same (Group g k) agree = ap is_nothing (pointer_same agree)
+
+  here : (o : Option Place) (areas : Place → List Area) (p : Place) → o ≡ Some p → AgreeOn (at_body o areas) T V → AgreeOn (areas p) T V
+  here o areas p is agree = subst (λ x. AgreeOn (at_body x areas) T V) is agree
+
+  create_alike : (ro : Membership) (a : ℕ) (c : Create) → AgreeOn (asked T a (op.Create c)) T V → Alike (create_rule ro V a c) (create_rule ro T a c)
+  create_alike ro a c agree =
+      let rest = right (home_areas c.dir) _ agree in
+      let more = right (pointer_areas c.file) _ rest in
+      let pointer = free_same c.file (left (pointer_areas c.file) _ rest) in
+      let place = ap is_nothing (kind_same more) in
+      same_demand refl (same_demand refl (same_demand refl (same_find (home_same c.dir (left (home_areas c.dir) _ agree)) (λ d is.
+      let at = here (body T c.dir) _ d is (later more) in
+      same_demand (ap is_dir_kind (kind_same at)) (same_demand refl (same_demand (ap (λ x. x && is_free_at V (a, c.body)) pointer ∙ ap (λ x. is_pointer_free T c.file && x) place)
+      (same_demand (ap is_nothing (name_same (later at))) (same_plan refl))))))))
+
+  unlink_alike : (ro : Membership) (a : ℕ) (u : Unlink) → AgreeOn (asked T a (op.Unlink u)) T V → SameBare (op.Unlink u) V T → Alike (unlink_rule ro V a u) (unlink_rule ro T a u)
+  unlink_alike ro a u agree bare =
+      let rest = right (home_areas u.dir) _ agree in
+      let more = right (home_areas u.file) _ rest in
+      let dirs : Place → List Area = λ d. kind_cell d ∷ (name_cell u.name d ∷ []) in
+      same_demand refl (same_demand refl (same_find (home_same u.dir (left (home_areas u.dir) _ agree)) (λ d is. same_find (home_same u.file (left (home_areas u.file) _ rest)) (λ f at_f.
+      let at = here (body T u.dir) dirs d is (left (at_body (body T u.dir) dirs) _ more) in
+      let links = ap value_number (links_same (here (body T u.file) _ f at_f (right (at_body (body T u.dir) dirs) _ more))) in
+      same_demand (ap is_dir_kind (kind_same at)) (same_demand refl (same_demand refl (same_demand (ap (λ v. is_link_to v u.file) (name_same (later at)))
+      (same_demand (bare f at_f) (same_plan (ap (λ n. unlink_plan n u d f) links))))))))))
+
+  write_alike : (ro : Membership) (a : ℕ) (v : Format) (w : Writing) → AgreeOn (asked T a (op.Write w)) T V → Alike (write_rule ro V a v w) (write_rule ro T a v w)
+  write_alike ro a v w agree =
+      same_demand refl (same_demand refl (same_find (home_same w.file (left (home_areas w.file) _ agree)) (λ f is.
+      let at = here (body T w.file) _ f is (right (home_areas w.file) _ agree) in
+      same_demand (ap is_file_kind (kind_same at)) (same_demand refl (same_demand refl (same_plan (ap (λ n. write_plan n w f) (ap value_number (size_same (later at))))))))))
+
+  truncate_alike : (ro : Membership) (a : ℕ) (v : Format) (t : Truncate) → AgreeOn (asked T a (op.Truncate t)) T V → Alike (truncate_rule ro V a v t) (truncate_rule ro T a v t)
+  truncate_alike ro a v t agree =
+      same_demand refl (same_find (home_same t.file (left (home_areas t.file) _ agree)) (λ f is.
+      let at = here (body T t.file) _ f is (right (home_areas t.file) _ agree) in
+      same_demand (ap is_file_kind (kind_same at)) (same_demand refl (same_demand refl (same_plan (ap (λ n. truncate_plan n t f) (ap value_number (size_same (later at)))))))))
+
+  take_alike : (ro : Membership) (a : ℕ) (t : Take) → AgreeOn (asked T a (op.Take t)) T V → Alike (take_rule ro V a t) (take_rule ro T a t)
+  take_alike ro a t agree =
+      let rest = right (home_areas t.file) _ agree in
+      same_demand refl (same_demand refl (same_find (home_same t.file (left (home_areas t.file) _ agree)) (λ f is.
+      let whole = whole_same (here (body T t.file) _ f is (later rest)) in
+      same_demand (ap (λ x. not (nat_eq f.0 a) && x) (ap is_nothing (kind_same rest))) (same_plan (ap (λ o. take_plan o a t f) whole)))))
+
+  link_alike : (ro : Membership) (a : ℕ) (l : Link) → AgreeOn (asked T a (op.Link l)) T V → Alike (link_rule ro V a l) (link_rule ro T a l)
+  link_alike ro a l agree =
+      let rest = right (home_areas l.dir) _ agree in
+      let more = right (home_areas l.file) _ rest in
+      let dirs : Place → List Area = λ d. kind_cell d ∷ (name_cell l.name d ∷ []) in
+      same_demand refl (same_demand refl (same_find (home_same l.dir (left (home_areas l.dir) _ agree)) (λ d is. same_find (home_same l.file (left (home_areas l.file) _ rest)) (λ f at_f.
+      let at = here (body T l.dir) dirs d is (left (at_body (body T l.dir) dirs) _ more) in
+      let file = here (body T l.file) _ f at_f (right (at_body (body T l.dir) dirs) _ more) in
+      let links = ap value_number (links_same (later file)) in
+      same_demand (ap is_dir_kind (kind_same at)) (same_demand (ap is_file_kind (kind_same file)) (same_demand refl (same_demand refl (same_demand (ap is_nothing (name_same (later at)))
+      (same_demand (ap (λ n. nat_lt n most_links) links) (same_plan (ap (λ n. link_plan n l d f) links)))))))))))
+
+  rename_alike : (ro : Membership) (a : ℕ) (r : Rename) → AgreeOn (asked T a (op.Rename r)) T V → Alike (rename_rule ro V a r) (rename_rule ro T a r)
+  rename_alike ro a r agree =
+      let rest = right (home_areas r.from_) _ agree in
+      let more = right (home_areas r.to_) _ rest in
+      let bodies = right (home_areas r.file) _ more in
+      let froms : Place → List Area = λ d. kind_cell d ∷ (name_cell r.old_ d ∷ []) in
+      let tos : Place → List Area = λ t. kind_cell t ∷ (name_cell r.new_ t ∷ []) in
+      let others = right (at_body (body T r.from_) froms) _ bodies in
+      let files = right (at_body (body T r.to_) tos) _ others in
+      let goes = moved_same V T r (home_same r.file (left (home_areas r.file) _ more)) in
+      let directory = ap (moves_directory V) goes ∙ moving_same V T (moved T r) (λ f is. ap is_dir_kind (kind_same (here (body T r.file) _ f (moved_is T r f is) files))) in
+      same_demand refl (same_demand refl (same_find (home_same r.from_ (left (home_areas r.from_) _ agree)) (λ d is. same_find (home_same r.to_ (left (home_areas r.to_) _ rest)) (λ t at_t.
+      let at = here (body T r.from_) froms d is (left (at_body (body T r.from_) froms) _ bodies) in
+      let to = here (body T r.to_) tos t at_t (left (at_body (body T r.to_) tos) _ others) in
+      same_demand (ap (λ o. stays r || is_some o) goes)
+      (same_demand (ap is_dir_kind (kind_same at)) (same_demand (ap is_dir_kind (kind_same to)) (same_demand refl (same_demand refl (same_demand (ap (λ v. is_link_to v r.file) (name_same (later at)))
+      (same_demand (ap is_nothing (name_same (later to))) (same_demand (ap not directory) (same_plan (ap (λ o. rename_plan o r d t) goes)))))))))))))
+
+  led_same : (p : Place) (o : Option GroupFile) → AgreeOn (pointer_of o) T V → unless_led V p o ≡ unless_led T p o
+  led_same p None agree = refl
+  led_same p (Some home) agree = ap (λ v. if leads_here v p then None else Some home) (pointer_same agree)
+
+  drop_alike : (a : ℕ) (d : DropBody) → AgreeOn (asked T a (op.Drop d)) T V → Alike (drop_rule V a d) (drop_rule T a d)
+  drop_alike a d agree =
+      let kind = kind_same agree in
+      same_demand (ap (λ v. not (is_nothing v)) kind)
+      (same_find (ap (λ v. unless_led V (a, d.body) (group_home v)) kind ∙ led_same (a, d.body) (group_home (val T (At (a, d.body) KindOf))) (later agree)) (λ home is. same_plan refl))
+
+  alike_of : (ro : Membership) (x : Action) (o : Op) → AgreeOn (asked T x.author o) T V → SameBare o V T → Alike (rule_by_user ro V x o) (rule_by_user ro T x o)
+  alike_of ro x (op.Create c) agree bare = create_alike ro x.author c agree
+  alike_of ro x (op.Unlink u) agree bare = unlink_alike ro x.author u agree bare
+  alike_of ro x (op.Write w) agree bare = write_alike ro x.author x.format w agree
+  alike_of ro x (op.Truncate t) agree bare = truncate_alike ro x.author x.format t agree
+  alike_of ro x (op.Take t) agree bare = take_alike ro x.author t agree
+  alike_of ro x (op.Link l) agree bare = link_alike ro x.author l agree
+  alike_of ro x (op.Rename r) agree bare = rename_alike ro x.author r agree
+  alike_of ro x (op.Drop d) agree bare = drop_alike x.author d agree
+
+pub refusals_are_local : RefusalsAreLocal
+unfolding why
+refusals_are_local ro V T x agree bare = let alike = same_demand refl (alike_of {T = T} {V = V} ro x x.op (record { each = agree }) bare) in (alike.refusals, alike.plans)

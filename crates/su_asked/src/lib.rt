@@ -1,0 +1,7 @@
+//! Which cells the check of an operation may ask for, whatever it answers: refusals are as local as
+//! acceptance is. And how what is done to the loaded part of a tree is done to the tree.
+#![tactic(auto)]
+
+mod laws;
+
+pub use laws::{changes_follow, refusals_are_local};
