@@ -418,6 +418,7 @@ def together(room):
     try:
         many_files(room, team)
         names_together(team)
+        one_file_twice(room, team)
         edited_by_another(room, team)
         each_file(room, team)
         large_together(room, team)
@@ -457,7 +458,7 @@ def many_files(room, team):
     check("a dry run of many files makes no commit", ended.status == 0 and "would put" in ended.text and not head_of(team, "ann"), ended)
     ended, made = commits_of(team, "ann", "put", "-r", f"{room}/many", "/many")
     check("a put of 100 files is one commit", ended.status == 0 and made == 1, (made, ended))
-    check("which it tells", "100 files, 10000 bytes, 1 commit (1 to 1)" in ended.text, ended)
+    check("which it tells", "100 files, 10000 bytes, commit 1;" in ended.text, ended)
     ended, made = commits_of(team, "ann", "put", "-r", f"{room}/many", "/many")
     check("they aren't put again", ended.status == 0 and made == 0 and "100 files there already" in ended.text, (made, ended))
     ended = team.do("bob", "get", "-r", "/many", f"{room}/many of bob")
@@ -467,6 +468,10 @@ def many_files(room, team):
     check("the history has one line of them", ended.status == 0 and re.fullmatch(shown, ended.text), ended)
     told = lines_of(team, "bob")
     check("as JSON too", [(it["first"], it["last"], it["author"], it["bytes"], it["undone_by"]) for it in told] == [(1, 1, "ann", 10000, None)], told)
+    told = lines_of(team, "bob", "/many/f7")
+    check("the commit is in the history of each file", [(it["first"], it["what"]) for it in told] == [(1, "together")], told)
+    told = lines_of(team, "bob", "/many")
+    check("and in that of their folder", [it["first"] for it in told] == [1], told)
     ended = team.do("bob", "ls", "-l", "/many/f7")
     check("each file tells the commit", re.search(r"f7 +100  commit 1 ann", ended.text), ended)
     ended = team.do("bob", "undo", 1)
@@ -495,6 +500,17 @@ def names_together(team):
         check(f"{name} is one commit", ended.status == 0 and made == 1, (made, ended))
         ended = team.do("bob", "ls", "/many")
         check(f"{name} is seen", any(it.rstrip("/") == shown for it in ended.text.splitlines()), ended)
+    ended, made = commits_of(team, "ann", "mkdir", "/many/x", "/many/x/in", "/many/y")
+    check("several folders are made by one commit", ended.status == 0 and made == 1, (made, ended))
+    ended, made = commits_of(team, "bob", "mkdir", "-p", "/many/x/p/q", "/many/y", "/many/x/p/r")
+    check("also with one above them both that is lacking", ended.status == 0 and made == 1, (made, ended))
+    ended, made = commits_of(team, "bob", "rm", "/many/y", "/many/x/in", "/many/x", "/many/x/p")
+    check("names go together or not at all", ended.status == 1 and made == 0, (made, ended))
+    check("and the one that is refused is told", "/many/x: " in ended.told and "NotEmpty" in ended.told, ended)
+    ended, made = commits_of(team, "bob", "rm", "/many/y", "/many/none", "/many/x/in")
+    check("one that isn't there too", ended.status == 1 and made == 0 and "/many/none: " in ended.told, (made, ended))
+    ended, made = commits_of(team, "bob", "rm", "/many/y", "/many/x/p/q", "/many/x/p/r", "/many/x/p", "/many/x/in", "/many/x")
+    check("several names are taken away by one commit", ended.status == 0 and made == 1, (made, ended))
     before = team.do("bob", "ls", "/many").text
     ended, made = commits_of(team, "bob", "rm", "-r", "/many")
     check("a folder is removed by one commit", ended.status == 0 and made == 1, (made, ended))
@@ -503,6 +519,19 @@ def names_together(team):
     check("which one undo takes back", ended.status == 0 and made == 1, (made, ended))
     ended = team.do("ann", "ls", "/many")
     check("with each name", ended.text == before and len(before.splitlines()) == 101, ended)
+
+
+def one_file_twice(room, team):
+    """Two paths of one file can't both have their contents: each is put by itself, once, and the last one stays."""
+    make_files(f"{room}/twice", 2, 100, "twice")
+    check("a folder is put", team.do("ann", "put", "-r", f"{room}/twice", "/twice").status == 0)
+    check("and a name in it goes", team.do("ann", "rm", "/twice/f1").status == 0)
+    check("which becomes one of the other file", team.do("ann", "ln", "/twice/f0", "/twice/f1").status == 0)
+    ended, made = commits_of(team, "ann", "put", "-r", f"{room}/twice", "/twice")
+    check("two contents of one file take few commits", ended.status == 0 and 1 <= made <= 3, (made, ended))
+    ended = team.do("bob", "cat", "/twice/f0")
+    check("of which the last one stays", ended.status == 0 and ended.printed.startswith(b"twice 1"), ended)
+    check("and it goes", team.do("ann", "rm", "-r", "/twice").status == 0)
 
 
 def edited_by_another(room, team):

@@ -275,13 +275,13 @@ where
     let alloc = session.helper.rt.alloc();
     match deed {
         Deed::MakeFolders { paths, parents } => {
-            for path in paths {
-                let path = path_of(alloc, path.as_str())?;
-                make_folders(session, &path, *parents, numbers)?;
-            }
-            Ok(())
+            let paths = paths_of(alloc, paths)?;
+            make_folders(session, paths.as_slice(), *parents, numbers)
         }
-        Deed::Remove { paths, recursive } => remove_all(session, paths, *recursive, numbers),
+        Deed::Remove { paths, recursive } => {
+            let paths = paths_of(alloc, paths)?;
+            remove(session, paths.as_slice(), *recursive, numbers)
+        }
         Deed::Move { path, other } => {
             let (path, other) = (
                 path_of(alloc, path.as_str())?,
@@ -318,21 +318,13 @@ where
     Ok(())
 }
 
-/// Takes names away, one after another.
-fn remove_all<'a, T>(
-    session: &mut Session<'a, T, KeptKey<'a>>,
-    paths: &[String],
-    is_recursive: bool,
-    numbers: &mut Vec<u64>,
-) -> Result<(), Trouble>
-where
-    T: Net<Listener = TcpListener, Stream = TcpStream> + Threads + Sync,
-{
-    for path in paths {
-        let path = path_of(session.helper.rt.alloc(), path.as_str())?;
-        remove(session, &path, is_recursive, numbers)?;
+/// Reads paths of the store, as they are given.
+fn paths_of(alloc: Global, given: &[String]) -> Result<Vec<Vec<u8>>, Trouble> {
+    let mut paths = Vec::new(alloc);
+    for path in given {
+        paths.push(path_of(alloc, path.as_str())?)?;
     }
-    Ok(())
+    Ok(paths)
 }
 
 /// Returns the text of `where`, once another server is taken, if one is given.

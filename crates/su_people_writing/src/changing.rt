@@ -9,13 +9,13 @@ use su_people_session::{Found, Session, Trouble, found_at, last_name, named, pat
 use su_person::{Fault, carry_out};
 use su_plan::Command;
 
-/// Makes a folder; with those above that are lacking, where these are to be made too, and one that
-/// is there is left then. Appends the numbers of the commits, of which there is one, mostly.
-/// `WrongKind` where one of these paths leads to a file; the refusals of `su_person::carry_out`;
-/// what was committed before stays.
+/// Makes folders, in as few commits as have room for them; with those above that are lacking, where
+/// these are to be made too, and those that are there are left then. Appends the numbers of the
+/// commits. `WrongKind` where one of these paths leads to a file; the refusals of
+/// `su_person::carry_out`; what was committed before stays.
 pub fn make_folders<'a, T>(
     session: &mut Session<'a, T, KeptKey<'a>>,
-    path: &[u8],
+    paths: &[Vec<u8>],
     parents: bool,
     numbers: &mut Vec<u64>,
 ) -> Result<(), Trouble>
@@ -23,35 +23,54 @@ where
     T: Net<Listener = TcpListener, Stream = TcpStream> + Threads + Sync,
 {
     let alloc = session.helper.rt.alloc();
-    let mut commands = Vec::new(alloc);
+    let mut wanted = Vec::new(alloc);
+    for path in paths {
+        if parents {
+            add_lacking(session, path.as_slice(), &mut wanted)?;
+        } else {
+            wanted.push(Vec::from_slice(alloc, path.as_slice())?)?;
+        }
+    }
     if parents {
-        add_parents(session, path, &mut commands)?;
+        // (a folder comes before those in it)
+        wanted.sort_unstable();
+        wanted.dedup();
     }
-    if !parents || lacks_folder(session, path)? {
-        commands.push(folder_command(alloc, path)?)?;
-    }
-    do_commands(session, &commands, path, numbers)
+    let commands = folder_commands(alloc, wanted)?;
+    do_commands(session, &commands, only(paths), numbers)
 }
 
-/// Adds the commands that make the folders above a path that are lacking, the highest first.
-fn add_parents<'a, T>(
+/// Adds the path of a folder, and those of the folders above it, as far as they are lacking.
+fn add_lacking<'a, T>(
     session: &mut Session<'a, T, KeptKey<'a>>,
     path: &[u8],
-    commands: &mut Vec<Command>,
+    lacking: &mut Vec<Vec<u8>>,
 ) -> Result<(), Trouble> {
     let alloc = session.helper.rt.alloc();
-    for end in 1..path.len() {
-        if path[end] == b'/' && lacks_folder(session, &path[..end])? {
-            commands.push(folder_command(alloc, &path[..end])?)?;
+    for end in 1..path.len() + 1 {
+        let is_end = end == path.len() || path[end] == b'/';
+        if is_end && lacks_folder(session, &path[..end])? {
+            lacking.push(Vec::from_slice(alloc, &path[..end])?)?;
         }
     }
     Ok(())
 }
 
-/// Returns the command that makes a folder.
-fn folder_command(alloc: Global, path: &[u8]) -> Result<Command, AllocError> {
-    let path = Vec::from_slice(alloc, path)?;
-    Ok(Command::Mkdir { path })
+/// Returns the commands that make folders at these paths, in their order.
+fn folder_commands(alloc: Global, paths: Vec<Vec<u8>>) -> Result<Vec<Command>, AllocError> {
+    let mut commands = Vec::new(alloc);
+    for path in paths {
+        commands.push(Command::Mkdir { path })?;
+    }
+    Ok(commands)
+}
+
+/// Returns the path, where it is the only one.
+fn only(paths: &[Vec<u8>]) -> Option<&[u8]> {
+    match paths {
+        [path] => Some(path.as_slice()),
+        _ => None,
+    }
 }
 
 /// Makes a folder, unless one is there. `WrongKind` where a file is.
@@ -66,7 +85,9 @@ where
     if !lacks_folder(session, path)? {
         return Ok(());
     }
-    make_folders(session, path, false, numbers)
+    let path_ = Vec::from_slice(session.helper.rt.alloc(), path)?;
+    let command = Command::Mkdir { path: path_ };
+    do_commands(session, slice::from_ref(&command), Some(path), numbers)
 }
 
 /// Tells whether a path leads to nothing, so that a folder may be made there. `WrongKind` where it
@@ -86,31 +107,43 @@ pub(crate) fn lacks_folder<'a, T>(
     }
 }
 
-/// Takes a name away: a folder's with all that is in it, where that is asked for, the deepest
-/// first. Appends the numbers of the commits, of which there is one where it has room for all.
-/// Refuses a path that leads to nothing; the refusals of `su_person::carry_out`; what was committed
-/// before stays.
+/// Takes names away, in as few commits as have room for that: a folder's with all that is in it,
+/// where that is asked for, the deepest first. Appends the numbers of the commits. Refuses a path
+/// that leads to nothing; the refusals of `su_person::carry_out`; what was committed before stays.
 pub fn remove<'a, T>(
     session: &mut Session<'a, T, KeptKey<'a>>,
-    path: &[u8],
+    paths: &[Vec<u8>],
     is_recursive: bool,
     numbers: &mut Vec<u64>,
 ) -> Result<(), Trouble>
 where
     T: Net<Listener = TcpListener, Stream = TcpStream> + Threads + Sync,
 {
+    let mut commands = Vec::new(session.helper.rt.alloc());
+    for path in paths {
+        add_removals(session, path.as_slice(), is_recursive, &mut commands)?;
+    }
+    do_commands(session, &commands, only(paths), numbers)
+}
+
+/// Adds the commands that take a name away, with all that is in a folder where that is asked for.
+fn add_removals<'a, T>(
+    session: &mut Session<'a, T, KeptKey<'a>>,
+    path: &[u8],
+    is_recursive: bool,
+    commands: &mut Vec<Command>,
+) -> Result<(), Trouble> {
     let alloc = session.helper.rt.alloc();
-    let mut commands = Vec::new(alloc);
-    if is_recursive {
-        let all = walked(alloc, &mut session.member, path)?;
-        for Found { path, .. } in all.into_iter().rev() {
-            commands.push(Command::Remove { path })?;
-        }
-    } else {
+    if !is_recursive {
         let path = Vec::from_slice(alloc, path)?;
         commands.push(Command::Remove { path })?;
+        return Ok(());
     }
-    do_commands(session, &commands, path, numbers)
+    let all = walked(alloc, &mut session.member, path)?;
+    for Found { path, .. } in all.into_iter().rev() {
+        commands.push(Command::Remove { path })?;
+    }
+    Ok(())
 }
 
 /// Gives what a path leads to another name; within a folder, where that is one, its own. Appends
@@ -131,7 +164,7 @@ where
         new_: target_of(session, old, new)?,
     };
     named(alloc, old, session.member.find_held(old))?;
-    do_commands(session, slice::from_ref(&command), new, numbers)
+    do_commands(session, slice::from_ref(&command), Some(new), numbers)
 }
 
 /// Gives a file one name more; within a folder, where that is one, its own. Appends the numbers of
@@ -151,24 +184,57 @@ where
         new_: target_of(session, old, new)?,
     };
     named(alloc, old, session.member.find_held(old))?;
-    do_commands(session, slice::from_ref(&command), new, numbers)
+    do_commands(session, slice::from_ref(&command), Some(new), numbers)
 }
 
-/// Carries out commands, in as few commits as have room for them. A refusal is told of the path.
+/// Carries out commands, in as few commits as have room for them. A refusal is told of the path of
+/// the command that is refused; where commits were made before it, of that one path which all of
+/// the commands are about, if they are.
 fn do_commands<'a, T>(
     session: &mut Session<'a, T, KeptKey<'a>>,
     commands: &[Command],
-    path: &[u8],
+    only: Option<&[u8]>,
     numbers: &mut Vec<u64>,
 ) -> Result<(), Trouble>
 where
     T: Net<Listener = TcpListener, Stream = TcpStream> + Threads + Sync,
 {
     let alloc = session.helper.rt.alloc();
+    let before = numbers.len();
     let done = carry_out(&mut session.helper, &mut session.member, commands, numbers);
-    match done {
-        Ok(()) => Ok(()),
-        Err(fault) => Err(Trouble::at(path, alloc, fault)),
+    let Err(fault) = done else {
+        return Ok(());
+    };
+    let mut path = only;
+    if 1 < commands.len() && numbers.len() == before {
+        path = refused_path(session, commands);
+    }
+    match path {
+        Some(path) => Err(Trouble::at(path, alloc, fault)),
+        None => Err(Trouble::from(fault)),
+    }
+}
+
+/// Returns the path of the first of the commands that can't be carried out behind those before it,
+/// where it is one that makes a folder or takes a name away.
+fn refused_path<'a, 'c, T>(
+    session: &mut Session<'a, T, KeptKey<'a>>,
+    commands: &'c [Command],
+) -> Option<&'c [u8]> {
+    let mut planned = 0;
+    let mut refused = commands.len();
+    while 1 < refused - planned {
+        let middle = planned + (refused - planned) / 2;
+        if session.member.plan_held(&commands[..middle]).is_ok() {
+            planned = middle;
+        } else {
+            refused = middle;
+        }
+    }
+    match commands.get(planned) {
+        Some(Command::Mkdir { path }) => Some(path.as_slice()),
+        Some(Command::Remove { path }) => Some(path.as_slice()),
+        _ => None,
     }
 }
 

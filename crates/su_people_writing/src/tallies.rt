@@ -65,13 +65,24 @@ pub(crate) fn summary(
     let Amount { files, bytes } = tally.written;
     let files = counted(alloc, files, "file")?;
     let bytes = counted(alloc, bytes, "byte")?;
-    let commits = counted(alloc, numbers.len() as u64, "commit")?;
     let same = counted(alloc, tally.same, "file")?;
-    match (numbers.first(), numbers.last()) {
-        (Some(first), Some(last)) => format!(in alloc;
-            "put {path}: {files}, {bytes}, {commits} ({first} to {last}); {same} there already\n"
+    match commits_text(alloc, numbers)? {
+        Some(commits) => format!(in alloc;
+            "put {path}: {files}, {bytes}, {commits}; {same} there already\n"
         ),
         _ if tally.same == 0 => format!(in alloc; "{path}: nothing is put\n"),
         _ => format!(in alloc; "{path}: {same} there already\n"),
     }
+}
+
+/// Spells which commits these are, if there are any.
+fn commits_text(alloc: Global, numbers: &[u64]) -> Result<Option<String>, AllocError> {
+    let (Some(first), Some(last)) = (numbers.first(), numbers.last()) else {
+        return Ok(None);
+    };
+    if numbers.len() == 1 {
+        return Ok(Some(format!(in alloc; "commit {first}")?));
+    }
+    let commits = counted(alloc, numbers.len() as u64, "commit")?;
+    Ok(Some(format!(in alloc; "{commits} ({first} to {last})")?))
 }

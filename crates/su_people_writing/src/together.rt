@@ -56,7 +56,8 @@ fn is_of_one(fault: &Fault) -> bool {
     }
 }
 
-/// Puts folders and files together until none is lacking, or others have come in between too often.
+/// Puts folders and files together until none is lacking, unless others come in between too often;
+/// and once where nobody does: two paths of one file can't both have their contents.
 fn put_rounds<'a, T>(
     session: &mut Session<'a, T, KeptKey<'a>>,
     all: &[Placed],
@@ -67,25 +68,27 @@ where
     T: Net<Listener = TcpListener, Stream = TcpStream> + Threads + Sync,
 {
     for _ in 0..MOST_ROUNDS {
-        if are_there(session, all) {
+        if are_there(session, all) || put_round(session, all, over, numbers)? {
             break;
         }
-        put_round(session, all, over, numbers)?;
     }
     Ok(())
 }
 
-/// Puts what is lacking of folders and files together, until others come in between.
+/// Puts what is lacking of folders and files together, until others come in between. Tells whether
+/// something was committed for that, and nothing else was.
 fn put_round<'a, T>(
     session: &mut Session<'a, T, KeptKey<'a>>,
     all: &[Placed],
     over: bool,
     numbers: &mut Vec<u64>,
-) -> Result<(), Fault>
+) -> Result<bool, Fault>
 where
     T: Net<Listener = TcpListener, Stream = TcpStream> + Threads + Sync,
 {
     let alloc = session.helper.rt.alloc();
+    let (before, _) = session.member.view().head();
+    let first = numbers.len();
     let folders = folder_commands(session, all)?;
     let files = new_contents(session, all, over)?;
     put_together(
@@ -95,7 +98,10 @@ where
         folders,
         files.as_slice(),
         numbers,
-    )
+    )?;
+    let (after, _) = session.member.view().head();
+    let made = numbers.len().saturating_sub(first) as u64;
+    Ok(0 < made && after.saturating_sub(before) == made)
 }
 
 /// Returns the commands that make those of the folders that are lacking.
