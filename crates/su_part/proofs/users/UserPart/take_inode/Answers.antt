@@ -1,0 +1,28 @@
+use Rattle.std.proofs.Common.{◌≡◌, false}
+use Rattle.std.specs.BTreeMap.{is_at}
+use Rattle.std.specs.Ordering.{nat_cmp}
+use Rattle.std.proofs.Common.{sym, subst, inl, IsTrue, ◌∙◌, ap}
+use Rattle.std.specs.FinMap.{get}
+use Rattle.su_tree.specs.Number.{number_bits}
+use Rattle.su_part_tree.specs.Part.{reaches}
+use Rattle.su_node.specs.InodeChange.{InodeChange.Gone}
+use Rattle.su_table.specs.Edit.{Edit.Inodes, edit}
+use Rattle.su_part.specs.Part.{StandsJust, StandsUser, at_number}
+use Rattle.su_part.proofs.UserLemmas.{small_number, gone_user, taken_out}
+use Rattle.su_part.proofs.users.UserPart.take_inode.Goals as goal
+
+pub returns-clause-value : goal.returns-clause-value
+returns-clause-value c u T h there =
+    let was = c.remove.ensures.value ∙ ap (at_number c.args.self.now.inodes.entries) c.number-key.ensures.value in
+    subst (λ v. StandsJust v (get T.inodes (u, c.args.number))) (sym was) (taken_out (get T.inodes (u, c.args.number)) (at_number c.args.self.now.inodes.entries c.args.number) (h.inodes c.args.number) there)
+
+pub returns-clause-stands : goal.returns-clause-stands
+returns-clause-stands c u T h =
+    let key = c.number-key.result in
+    let small = small_number key c.number-key.ensures.range.1 in
+    let path = subst (λ n. IsTrue (reaches number_bits n c.args.self.now.table)) (sym c.number-key.ensures.value) c.requires in
+    subst (λ n. StandsUser u (record { table = c.take.new.self; inodes = c.remove.new.self; alloc = c.args.self.now.alloc }) (edit T (Inodes (u, n) Gone))) c.number-key.ensures.value
+    (gone_user u key T c.args.self.now (record { table = c.take.new.self; inodes = c.remove.new.self; alloc = c.args.self.now.alloc }) h small (λ m s. c.take.ensures m s (inl path)) c.remove.ensures.updates.0)
+
+pub returns-clause-others : goal.returns-clause-others
+returns-clause-others c m e = c.remove.ensures.updates.2 m (subst (λ n. is_at (nat_cmp n) m ≡ false) (sym c.number-key.ensures.value) e)

@@ -1,0 +1,369 @@
+// The bytes of a file of which blocks may be left on a store.
+ghost use Rattle.std.specs.Prelude.{◌≡◌, ◌≢◌, ◌+◌, ◌-◌, ◌*◌, ◌/◌, ◌<◌, ◌≤◌, ◌^◌, ℕ, List, IsSome, Some, true, Err, OnOk, OnErr, IfOk, MatchOption, None, IsTrue, cond, max, [], length, take, drop};
+ghost use Rattle.std.specs.BTreeMap.{is_at};
+ghost use Rattle.std.specs.Ordering.{nat_cmp};
+ghost use Rattle.sha2.specs.Sha256.{sha256};
+ghost use Rattle.su_bytes.specs.declared.refusals.Refusal.TheVariants.{Malformed};
+ghost use Rattle.su_node.specs.Inode.{Content.Bytes, within};
+ghost use Rattle.su_node.specs.Digest.{block_item, block_count, content_digest};
+ghost use Rattle.su_node.specs.Field.{block};
+ghost use Rattle.su_node.specs.InodeChange.{with_size, with_bytes_at};
+ghost use Rattle.su_part_tree.specs.Part.{reaches};
+ghost use Rattle.su_tree.specs.Number.{number_bits};
+ghost use Rattle.su_part.specs.Bytes.{loaded_block, loaded_bytes, HasWrite, IsRewritten, StandsBytes, HasAllBlocks, HasBlock, HasBlocks, HasBytes, BytesItem, NoneClash};
+
+use sha2::{Digest as _, Sha256};
+use std::alloc::{AllocError, Global};
+use std::collections::BTreeMap;
+use std::marker::Model;
+use su_block::BlockSource;
+use su_bytes::{Digest, Refusal};
+use su_node::BLOCK_SIZE;
+use su_part_tree::PartTree;
+
+/// The bytes of a block.
+#[derive(Drop)]
+pub(crate) struct Block {
+    bytes: Vec<u8>,
+}
+
+impl Model for Block {
+    ghost use Rattle.std.specs.Prelude.{ℕ, List};
+
+    ghost Value = { List ℕ };
+
+    ghost view = { λ b. b.bytes.items };
+}
+
+impl Block {
+    /// Makes the block of which the item was hashed; none where it is no block's.
+    fn of_item(item: Vec<u8>) -> Option<Block>
+        ensures { MatchOption result ((bytes : List ℕ) → item.items ≢ block_item bytes)
+            (λ block. item.items ≡ block_item block) }
+    {
+        let mut item = item;
+        if item.is_empty() {
+            return None;
+        }
+        if item.remove(0) != 4 {
+            return None;
+        }
+        Some(Block { bytes: item })
+    }
+
+    /// Makes a block of no bytes.
+    fn empty(alloc: Global) -> Block
+        ensures { result ≡ [] }
+    {
+        Block {
+            bytes: Vec::new(alloc),
+        }
+    }
+
+    fn as_slice(&self) -> &[u8]
+        ensures { result.now ≡ self.now }
+    {
+        self.bytes.as_slice()
+    }
+
+    /// Returns the digest of the block. It makes one hash.
+    fn digest(&self) -> Digest
+        ensures { result ≡ sha256 (block_item self.now) }
+    {
+        let mut hasher = Sha256::new();
+        hasher.update([4]);
+        hasher.update(self.as_slice());
+        Digest::new(hasher.finalize())
+    }
+
+    /// Cuts the block, or fills it with zeros up to a size.
+    fn resize(&mut self, size: usize) -> Result<(), AllocError>
+        ensures { OnOk result (self.new ≡ with_size size self.old) }
+    {
+        self.bytes.resize(size, 0)?;
+        Ok(())
+    }
+
+    /// Puts these bytes in the place of those that stand there.
+    fn overwrite(&mut self, start: usize, bytes: &[u8])
+        requires { start + length bytes.now ≤ length self.old }
+        ensures { self.new ≡ with_bytes_at start bytes.now self.old }
+    {
+        self.bytes[start..start + bytes.len()].copy_from_slice(bytes);
+    }
+
+    /// Makes the block, which begins at `start` in its file, what it is after the bytes are written
+    /// from the offset `off` on and the file has that size.
+    fn write(
+        &mut self,
+        start: usize,
+        size: usize,
+        off: usize,
+        bytes: &[u8],
+    ) -> Result<(), AllocError>
+        requires there { start < size }
+        requires within { off + length bytes.now ≤ size }
+        requires small { size < 2 ^ 33 }
+        ensures { (n : ℕ) (bs : List ℕ) → start ≡ n * BLOCK_SIZE → self.old ≡ block n bs
+            → size ≡ max (off + length bytes.now) (length bs)
+            → OnOk result (self.new ≡ block n (with_bytes_at off bytes.now bs)) }
+    {
+        self.resize(BLOCK_SIZE.min(size - start))?;
+        let first = off.max(start);
+        let last = (off + bytes.len()).min(start + BLOCK_SIZE);
+        if last <= first {
+            return Ok(());
+        }
+        self.overwrite(first - start, &bytes[first - off..last - off]);
+        Ok(())
+    }
+}
+
+/// The bytes of a file: how many, the digests of its blocks, and those blocks that are loaded.
+#[derive(Drop)]
+pub(crate) struct PartBytes {
+    size: u32,
+    digests: PartTree<u32, Digest>,
+    blocks: BTreeMap<u32, Block>,
+    alloc: Global,
+}
+
+impl PartBytes {
+    /// Makes the bytes of which only the size and the digest of the blocks are known.
+    pub fn stub(alloc: Global, size: u32, digest: Digest) -> PartBytes
+        ensures { (bs : List ℕ) → size ≡ length bs → digest ≡ content_digest (Bytes bs)
+            → StandsBytes result bs }
+    {
+        PartBytes {
+            size,
+            digests: PartTree::stub(alloc, digest),
+            blocks: BTreeMap::new(alloc),
+            alloc,
+        }
+    }
+
+    /// Returns the number of bytes.
+    pub fn size(&self) -> u32
+        ensures { (bs : List ℕ) → StandsBytes self.now bs → result ≡ length bs }
+    {
+        self.size
+    }
+
+    /// Returns the digest of the blocks by their numbers. It makes no hash.
+    pub fn digest(&self) -> Digest
+        ensures { (bs : List ℕ) → StandsBytes self.now bs → result ≡ content_digest (Bytes bs) }
+    {
+        self.digests.digest()
+    }
+
+    /// Loads the path of a block's number, and the block where the file has it. Refused by the
+    /// source, by want of memory, or with `Malformed` where an item spells nothing that belongs
+    /// there.
+    fn fetch_block<S: BlockSource>(&mut self, number: u32, source: &mut S) -> Result<(), Refusal>
+        requires { S.is_checked ≡ true }
+        ensures stands { (bs : List ℕ) → StandsBytes self.old bs
+            → NoneClash (BytesItem bs) (S.may_give source.old) → StandsBytes self.new bs }
+        ensures malformed { result ≡ Err (Malformed 0) → (bs : List ℕ) → StandsBytes self.old bs
+            → NoneClash (BytesItem bs) (S.may_give source.old) → ⊥ }
+        ensures has { OnOk result (HasBlock number self.new) }
+        ensures keeps { HasAllBlocks self.old self.new }
+        ensures no_more { (s : List ℕ) → S.may_give source.new s → S.may_give source.old s }
+    {
+        self.digests.reach(&number, source)?;
+        let start = u64::from(number) * BLOCK_SIZE as u64;
+        if u64::from(self.size) <= start || self.blocks.contains_key(&number) {
+            return Ok(());
+        }
+        let digest = match self.digests.get(&number) {
+            Some(digest) => *digest,
+            None => return Err(Refusal::Malformed(0)),
+        };
+        let item = source.get(self.alloc, digest)?;
+        let Some(block) = Block::of_item(item) else {
+            return Err(Refusal::Malformed(0));
+        };
+        self.blocks.insert(number, block)?;
+        Ok(())
+    }
+
+    /// Loads the paths of the block numbers from `first` on and before `until`, and the blocks that
+    /// the file has there. Refused as the load of one block is.
+    pub fn fetch<S: BlockSource>(
+        &mut self,
+        first: u32,
+        until: u32,
+        source: &mut S,
+    ) -> Result<(), Refusal>
+        requires { S.is_checked ≡ true }
+        ensures stands { (bs : List ℕ) → StandsBytes self.old bs
+            → NoneClash (BytesItem bs) (S.may_give source.old) → StandsBytes self.new bs }
+        ensures malformed { result ≡ Err (Malformed 0) → (bs : List ℕ) → StandsBytes self.old bs
+            → NoneClash (BytesItem bs) (S.may_give source.old) → ⊥ }
+        ensures has { OnOk result (HasBlocks first until self.new) }
+        ensures keeps { HasAllBlocks self.old self.new }
+        ensures no_more { (s : List ℕ) → S.may_give source.new s → S.may_give source.old s }
+    {
+        for number in first..until {
+            self.fetch_block(number, source)?;
+        }
+        Ok(())
+    }
+}
+
+impl PartBytes {
+    /// Loads the blocks of the file that have bytes in a range, which may reach past the end.
+    /// Refused as the load of one block is.
+    pub fn fetch_range<S: BlockSource>(
+        &mut self,
+        off: u64,
+        len: u64,
+        source: &mut S,
+    ) -> Result<(), Refusal>
+        requires { S.is_checked ≡ true }
+        ensures stands { (bs : List ℕ) → StandsBytes self.old bs
+            → NoneClash (BytesItem bs) (S.may_give source.old) → StandsBytes self.new bs }
+        ensures malformed { result ≡ Err (Malformed 0) → (bs : List ℕ) → StandsBytes self.old bs
+            → NoneClash (BytesItem bs) (S.may_give source.old) → ⊥ }
+        ensures has { OnOk result (HasBytes off len self.new) }
+        ensures keeps { HasAllBlocks self.old self.new }
+        ensures no_more { (s : List ℕ) → S.may_give source.new s → S.may_give source.old s }
+    {
+        let size = self.size as usize;
+        let start = (off as usize).min(size);
+        let until = start + (len as usize).min(size - start);
+        self.fetch((start / BLOCK_SIZE) as u32, count_for(until) as u32, source)
+    }
+
+    /// Reads the bytes within a range, which may reach past the end and is loaded.
+    pub fn read(&self, off: u64, len: u64) -> Result<Vec<u8>, AllocError>
+        requires { HasBytes off len self.now }
+        ensures { (bs : List ℕ) → StandsBytes self.now bs
+            → IfOk result (λ bytes. bytes.items ≡ within off len bs) }
+    {
+        let size = self.size as usize;
+        let start = (off as usize).min(size);
+        let until = start + (len as usize).min(size - start);
+        let mut bytes = Vec::new(self.alloc);
+        if until <= start {
+            return Ok(bytes);
+        }
+        for number in start / BLOCK_SIZE..count_for(until) {
+            let first = number * BLOCK_SIZE;
+            let part = self.part(
+                number as u32,
+                start.max(first) - first,
+                until.min(first + BLOCK_SIZE) - first,
+            );
+            bytes.extend_from_slice(part)?;
+        }
+        Ok(bytes)
+    }
+
+    /// Returns the bytes from one place to another of a block that is loaded, as far as it has
+    /// them.
+    fn part(&self, number: u32, from_: usize, until: usize) -> &[u8]
+        requires { IsSome (loaded_block self.now number) }
+        ensures { (bytes : List ℕ) → loaded_block self.now number ≡ Some bytes
+            → result.now ≡ take (until - from_) (drop from_ bytes) }
+    {
+        match self.blocks.get(&number) {
+            None => unreachable!(),
+            Some(block) => {
+                let bytes = block.as_slice();
+                let last = until.min(bytes.len());
+                &bytes[from_.min(last)..last]
+            }
+        }
+    }
+}
+
+impl PartBytes {
+    /// Loads what a write of `len` bytes from an offset on needs: the blocks that it touches, of
+    /// those that it adds the paths, and where the file grows its last block. Refused as the load
+    /// of one block is.
+    pub fn fetch_write<S: BlockSource>(
+        &mut self,
+        off: u32,
+        len: u32,
+        source: &mut S,
+    ) -> Result<(), Refusal>
+        requires { S.is_checked ≡ true }
+        ensures stands { (bs : List ℕ) → StandsBytes self.old bs
+            → NoneClash (BytesItem bs) (S.may_give source.old) → StandsBytes self.new bs }
+        ensures malformed { result ≡ Err (Malformed 0) → (bs : List ℕ) → StandsBytes self.old bs
+            → NoneClash (BytesItem bs) (S.may_give source.old) → ⊥ }
+        ensures has { OnOk result (HasWrite off len self.new) }
+        ensures keeps { HasAllBlocks self.old self.new }
+        ensures no_more { (s : List ℕ) → S.may_give source.new s → S.may_give source.old s }
+    {
+        let first = off.min(self.size) as usize / BLOCK_SIZE;
+        let until = count_for(off as usize + len as usize);
+        self.fetch(first as u32, until as u32, source)
+    }
+
+    /// Writes bytes from an offset on, and fills a gap before them with zeros. What it needs is
+    /// loaded. Where memory is wanting, the bytes are to be dropped.
+    pub fn write_at(&mut self, off: u32, bytes: &[u8]) -> Result<(), AllocError>
+        requires small { off + length bytes.now < 2 ^ 32 }
+        requires there { HasWrite off (length bytes.now) self.old }
+        ensures { (bs : List ℕ) → StandsBytes self.old bs
+            → OnOk result (StandsBytes self.new (with_bytes_at off bytes.now bs)) }
+    {
+        let end = off as usize + bytes.len();
+        let size = end.max(self.size as usize);
+        let first = off.min(self.size) as usize / BLOCK_SIZE;
+        for number in first..count_for(end) {
+            self.write_block(number as u32, size, off as usize, bytes)?;
+        }
+        self.size = size as u32;
+        Ok(())
+    }
+
+    /// Makes a block, which is loaded or new, what it is after the bytes are written from the
+    /// offset `off` on and the file has that size.
+    fn write_block(
+        &mut self,
+        number: u32,
+        size: usize,
+        off: usize,
+        bytes: &[u8],
+    ) -> Result<(), AllocError>
+        requires path { IsTrue (reaches number_bits number self.old.digests) }
+        requires there { BLOCK_SIZE * number < size }
+        requires within { off + length bytes.now ≤ size }
+        requires small { size < 2 ^ 33 }
+        ensures ok { (bs : List ℕ) → loaded_bytes self.old number ≡ block number bs
+            → size ≡ max (off + length bytes.now) (length bs)
+            → OnOk result (IsRewritten number (block number (with_bytes_at off bytes.now bs))
+            self.old self.new) }
+        ensures paths { (n : ℕ) → IsTrue (reaches number_bits n self.old.digests)
+            → IsTrue (reaches number_bits n self.new.digests) }
+    {
+        let mut block = self.take_block(number);
+        block.write(number as usize * BLOCK_SIZE, size, off, bytes)?;
+        let digest = block.digest();
+        self.blocks.insert(number, block)?;
+        self.digests.put(number, digest)?;
+        Ok(())
+    }
+
+    /// Takes out the block that is loaded at a number; one of no bytes where none is.
+    fn take_block(&mut self, number: u32) -> Block
+        ensures value { result ≡ loaded_bytes self.old number }
+        ensures blocks { (q : ℕ) → loaded_block self.new q
+            ≡ cond (is_at (nat_cmp number) q) None (loaded_block self.old q) }
+        ensures digests { self.new.digests ≡ self.old.digests }
+        ensures size { self.new.size ≡ self.old.size }
+    {
+        let empty = Block::empty(self.alloc);
+        self.blocks.remove(&number).unwrap_or(empty)
+    }
+}
+
+/// How many blocks a file of that size has.
+fn count_for(size: usize) -> usize
+    requires { size < 2 ^ 33 }
+    ensures { result ≡ block_count size }
+{
+    (size + (BLOCK_SIZE - 1)) / BLOCK_SIZE
+}

@@ -1,0 +1,298 @@
+// Inodes of which parts may be left on a store.
+ghost use Rattle.std.specs.Prelude.{◌≡◌, ◌+◌, ◌<◌, ◌^◌, ℕ, List, length, true, Err, OnOk, OnErr, IfOk, IfErr, Some, None, option_map};
+ghost use Rattle.su_bytes.specs.declared.refusals.Refusal.TheVariants.{Malformed, NoMemory};
+ghost use Rattle.su_node.specs.Inode.{Inode, Content, kind_of, size_of, bytes_of, within};
+ghost use Rattle.su_node.specs.Digest.{content_digest, inode_digest, kind_byte};
+ghost use Rattle.su_node.specs.Field.{Field.NameOf, file_value, field_value};
+ghost use Rattle.su_part.specs.Item.{MeantInode, item_of};
+ghost use Rattle.su_part.specs.Part.{StandsContent, StandsInode, FreeInode, HasAllIn, HasName, HasBlocksIn, HasBytesIn, HasWriteIn, with_named, with_links, with_written};
+
+use crate::blocks::PartBytes;
+use crate::items::InodeItem;
+use sha2::{Digest as _, Sha256};
+use std::alloc::Global;
+use su_block::BlockSource;
+use su_bytes::{Digest, FileId, Kind, Name, Refusal};
+use su_part_tree::PartTree;
+use su_tree::{TreeKey, TreeValue};
+
+/// What a file or a directory has, of which parts may be left on a store.
+#[derive(Drop)]
+pub(crate) enum PartContent {
+    Bytes(PartBytes),
+    Names(PartTree<Name, FileId>),
+}
+
+impl PartContent {
+    /// What of an item tells the kind.
+    fn kind_byte(&self) -> u8
+        ensures { (c : Content) → StandsContent self.now c → result ≡ kind_byte (kind_of c) }
+    {
+        match self {
+            PartContent::Bytes(_) => 0,
+            PartContent::Names(_) => 1,
+        }
+    }
+
+    fn size(&self) -> u32
+        ensures { (c : Content) → StandsContent self.now c → result ≡ size_of c }
+    {
+        match self {
+            PartContent::Bytes(bytes) => bytes.size(),
+            PartContent::Names(_) => 0,
+        }
+    }
+
+    /// The digest is at hand.
+    fn digest(&self) -> Digest
+        ensures { (c : Content) → StandsContent self.now c → result ≡ content_digest c }
+    {
+        match self {
+            PartContent::Bytes(bytes) => bytes.digest(),
+            PartContent::Names(names) => names.digest(),
+        }
+    }
+}
+
+/// An inode of which parts may be left on a store.
+#[derive(Drop)]
+pub struct PartInode {
+    pub(crate) home: FileId,
+    pub(crate) links: u8,
+    pub(crate) content: PartContent,
+}
+
+impl PartInode {
+    /// Returns the file id that it was made for.
+    pub fn home(&self) -> FileId
+        ensures { (i : Inode) → StandsInode self.now i → result ≡ i.home }
+    {
+        self.home
+    }
+
+    /// Tells a file from a directory.
+    pub fn kind(&self) -> Kind
+        ensures { (i : Inode) → StandsInode self.now i → result ≡ kind_of i.content }
+    {
+        match &self.content {
+            PartContent::Bytes(_) => Kind::File,
+            PartContent::Names(_) => Kind::Dir,
+        }
+    }
+
+    /// Returns the number of names that lead to it.
+    pub fn links(&self) -> u8
+        ensures { (i : Inode) → StandsInode self.now i → result ≡ i.links }
+    {
+        self.links
+    }
+
+    /// Returns the size of a file in bytes; 0 for a directory.
+    pub fn size(&self) -> u32
+        ensures { (i : Inode) → StandsInode self.now i → result ≡ size_of i.content }
+    {
+        self.content.size()
+    }
+
+    /// The inode of an item; of its content only the digest is known.
+    pub(crate) fn of_item(alloc: Global, item: &InodeItem) -> PartInode
+        ensures { (i : Inode) → MeantInode i → item.now ≡ item_of i → StandsInode result i }
+    {
+        let content = match item.kind {
+            Kind::File => PartContent::Bytes(PartBytes::stub(alloc, item.size, item.content)),
+            Kind::Dir => PartContent::Names(PartTree::stub(alloc, item.content)),
+        };
+        PartInode {
+            home: item.home,
+            links: item.links,
+            content,
+        }
+    }
+
+    /// Loads what the path of a name needs; a file has none.
+    pub(crate) fn fetch_name<S: BlockSource>(
+        &mut self,
+        name: &Name,
+        source: &mut S,
+    ) -> Result<(), Refusal>
+        requires { S.is_checked ≡ true }
+        ensures stands { (i : Inode) → StandsInode self.old i
+            → FreeInode i (S.may_give source.old) → StandsInode self.new i }
+        ensures malformed { result ≡ Err (Malformed 0) → (i : Inode) → StandsInode self.old i
+            → FreeInode i (S.may_give source.old) → ⊥ }
+        ensures has { OnOk result (HasName name.now self.new) }
+        ensures keeps { HasAllIn self.old.content self.new.content }
+        ensures no_more { (s : List ℕ) → S.may_give source.new s → S.may_give source.old s }
+    {
+        match &mut self.content {
+            PartContent::Bytes(_) => Ok(()),
+            PartContent::Names(names) => names.reach(name, source),
+        }
+    }
+
+    /// Loads the paths of the block numbers from `first` on and before `until`, and the blocks that
+    /// a file has there; a directory has none. Refused by the source, by want of memory, or with
+    /// `Malformed` where an item spells nothing that belongs there.
+    pub(crate) fn fetch_blocks<S: BlockSource>(
+        &mut self,
+        first: u32,
+        until: u32,
+        source: &mut S,
+    ) -> Result<(), Refusal>
+        requires { S.is_checked ≡ true }
+        ensures stands { (i : Inode) → StandsInode self.old i
+            → FreeInode i (S.may_give source.old) → StandsInode self.new i }
+        ensures malformed { result ≡ Err (Malformed 0) → (i : Inode) → StandsInode self.old i
+            → FreeInode i (S.may_give source.old) → ⊥ }
+        ensures has { OnOk result (HasBlocksIn first until self.new.content) }
+        ensures keeps { HasAllIn self.old.content self.new.content }
+        ensures no_more { (s : List ℕ) → S.may_give source.new s → S.may_give source.old s }
+    {
+        match &mut self.content {
+            PartContent::Bytes(bytes) => bytes.fetch(first, until, source),
+            PartContent::Names(_) => Ok(()),
+        }
+    }
+
+    /// Loads the blocks of a file that have bytes in a range, which may reach past the end; a
+    /// directory has none. Refused as the load of blocks is.
+    pub(crate) fn fetch_bytes<S: BlockSource>(
+        &mut self,
+        off: u64,
+        len: u64,
+        source: &mut S,
+    ) -> Result<(), Refusal>
+        requires { S.is_checked ≡ true }
+        ensures stands { (i : Inode) → StandsInode self.old i
+            → FreeInode i (S.may_give source.old) → StandsInode self.new i }
+        ensures malformed { result ≡ Err (Malformed 0) → (i : Inode) → StandsInode self.old i
+            → FreeInode i (S.may_give source.old) → ⊥ }
+        ensures has { OnOk result (HasBytesIn off len self.new.content) }
+        ensures keeps { HasAllIn self.old.content self.new.content }
+        ensures no_more { (s : List ℕ) → S.may_give source.new s → S.may_give source.old s }
+    {
+        match &mut self.content {
+            PartContent::Bytes(bytes) => bytes.fetch_range(off, len, source),
+            PartContent::Names(_) => Ok(()),
+        }
+    }
+
+    /// Loads what a write of `len` bytes into a file from an offset on needs; a directory needs
+    /// nothing. Refused as the load of blocks is.
+    pub(crate) fn fetch_write<S: BlockSource>(
+        &mut self,
+        off: u32,
+        len: u32,
+        source: &mut S,
+    ) -> Result<(), Refusal>
+        requires { S.is_checked ≡ true }
+        ensures stands { (i : Inode) → StandsInode self.old i
+            → FreeInode i (S.may_give source.old) → StandsInode self.new i }
+        ensures malformed { result ≡ Err (Malformed 0) → (i : Inode) → StandsInode self.old i
+            → FreeInode i (S.may_give source.old) → ⊥ }
+        ensures has { OnOk result (HasWriteIn off len self.new.content) }
+        ensures keeps { HasAllIn self.old.content self.new.content }
+        ensures no_more { (s : List ℕ) → S.may_give source.new s → S.may_give source.old s }
+    {
+        match &mut self.content {
+            PartContent::Bytes(bytes) => bytes.fetch_write(off, len, source),
+            PartContent::Names(_) => Ok(()),
+        }
+    }
+
+    /// Reads the bytes of a file within a range, which may reach past the end and is loaded; none
+    /// for a directory. Fails only with `NoMemory`.
+    pub fn read_at(&self, off: u64, len: u64) -> Result<Option<Vec<u8>>, Refusal>
+        requires { HasBytesIn off len self.now.content }
+        ensures value { (i : Inode) → StandsInode self.now i → IfOk result (λ bytes.
+            option_map (λ v. v.items) bytes ≡ option_map (within off len) (bytes_of (Some i))) }
+        ensures refused { IfErr result (λ e. e ≡ NoMemory) }
+    {
+        match &self.content {
+            PartContent::Bytes(bytes) => Ok(Some(bytes.read(off, len)?)),
+            PartContent::Names(_) => Ok(None),
+        }
+    }
+
+    /// Returns the file that a name of a directory leads to, if it has the name; none for a file.
+    /// The name's path is loaded.
+    pub fn name_get(&self, name: &Name) -> Option<FileId>
+        requires { HasName name.now self.now }
+        ensures { (i : Inode) → StandsInode self.now i
+            → file_value result ≡ field_value (Some i) (NameOf name.now) }
+    {
+        // names the key for the prover (docs/ARCHITECTURE.md, "Forms the kit wants")
+        let _bytes = name.byte_count();
+        match &self.content {
+            PartContent::Bytes(_) => None,
+            PartContent::Names(names) => names.get(name).copied(),
+        }
+    }
+
+    /// Makes a name lead to `file`; does nothing to a file. The name's path is loaded. Fails only
+    /// with `NoMemory`, and then changes nothing.
+    pub(crate) fn name_set(&mut self, name: Name, file: FileId) -> Result<(), Refusal>
+        requires { HasName name self.old }
+        ensures ok { (i : Inode) → StandsInode self.old i
+            → OnOk result (StandsInode self.new (with_named name (Some file) i)) }
+        ensures refused { IfErr result (λ e. e ≡ NoMemory) }
+        ensures err { OnErr result (self.new ≡ self.old) }
+    {
+        // names the key for the prover (docs/ARCHITECTURE.md, "Forms the kit wants")
+        let _bytes = name.byte_count();
+        match &mut self.content {
+            PartContent::Bytes(_) => Ok(()),
+            PartContent::Names(names) => Ok(names.put(name, file)?),
+        }
+    }
+
+    /// Takes away a name, whose path is loaded; does nothing to a file. It takes no memory.
+    pub(crate) fn name_remove(&mut self, name: &Name)
+        requires { HasName name.now self.old }
+        ensures { (i : Inode) → StandsInode self.old i
+            → StandsInode self.new (with_named name.now None i) }
+    {
+        // names the key for the prover (docs/ARCHITECTURE.md, "Forms the kit wants")
+        let _bytes = name.byte_count();
+        match &mut self.content {
+            PartContent::Bytes(_) => {}
+            PartContent::Names(names) => names.take(name),
+        }
+    }
+
+    /// Sets the number of names that lead to it.
+    pub(crate) fn set_links(&mut self, links: u8)
+        ensures { (i : Inode) → StandsInode self.old i → StandsInode self.new (with_links links i) }
+    {
+        self.links = links;
+    }
+
+    /// Writes bytes into a file from an offset on, and fills a gap before them with zeros; does
+    /// nothing to a directory. What it needs is loaded. Fails only with `NoMemory`; then the inode
+    /// is to be dropped.
+    pub(crate) fn write_at(&mut self, off: u32, bytes: &[u8]) -> Result<(), Refusal>
+        requires small { off + length bytes.now < 2 ^ 32 }
+        requires there { HasWriteIn off (length bytes.now) self.old.content }
+        ensures ok { (i : Inode) → StandsInode self.old i
+            → OnOk result (StandsInode self.new (with_written off bytes.now i)) }
+        ensures refused { IfErr result (λ e. e ≡ NoMemory) }
+    {
+        match &mut self.content {
+            PartContent::Bytes(blocks) => Ok(blocks.write_at(off, bytes)?),
+            PartContent::Names(_) => Ok(()),
+        }
+    }
+
+    /// Returns the digest of the inode. It makes one hash.
+    pub(crate) fn digest(&self) -> Digest
+        ensures { (i : Inode) → StandsInode self.now i → result ≡ inode_digest i }
+    {
+        let mut hasher = Sha256::new();
+        hasher.update([3]);
+        self.home.feed(&mut hasher);
+        hasher.update([self.content.kind_byte(), self.links]);
+        hasher.update(self.content.size().to_be_bytes());
+        hasher.update(self.content.digest().as_bytes());
+        Digest::new(hasher.finalize())
+    }
+}

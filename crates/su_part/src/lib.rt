@@ -1,0 +1,11 @@
+//! A user's i-table of which parts may be left on a store: the table, inodes, and their names or
+//! the digests of their blocks.
+#![tactic(auto)]
+
+mod blocks;
+mod inodes;
+mod items;
+mod users;
+
+pub use inodes::PartInode;
+pub use users::UserPart;

@@ -1,0 +1,411 @@
+// A user's i-table of which parts may be left on a store.
+ghost use Rattle.std.specs.Prelude.{false, ◌≡◌, ◌&&◌, ◌+◌, ◌<◌, ◌≤◌, ◌^◌, ℕ, List, length, IsTrue, true, Err, OnOk, OnErr, IfOk, IfErr, Some, None, option_map, option_copied};
+ghost use Rattle.su_bytes.specs.FileId.{is_file_id};
+ghost use Rattle.su_bytes.specs.Name.{is_name};
+ghost use Rattle.std.specs.BTreeMap.{is_at};
+ghost use Rattle.std.specs.FinMap.{get};
+ghost use Rattle.std.specs.Ordering.{nat_cmp};
+ghost use Rattle.su_node.specs.Inode.{Inode, bytes_of, within};
+ghost use Rattle.su_node.specs.InodeChange.{InodeChange.Named, InodeChange.Linked, InodeChange.Written, InodeChange.Resized, InodeChange.Copied, InodeChange.Gone};
+ghost use Rattle.su_node.specs.Field.{Field.NameOf, file_value};
+ghost use Rattle.su_table.specs.Cell.{Cell.At, val};
+ghost use Rattle.su_table.specs.Edit.{Edit.Inodes, edit};
+ghost use Rattle.su_bytes.specs.declared.refusals.Refusal.TheVariants.{Malformed, NoMemory};
+ghost use Rattle.su_bytes.specs.declared.principals.Principal.TheVariants.{User};
+ghost use Rattle.su_table.specs.Handle.{handle};
+ghost use Rattle.su_table.specs.Query.{size_at};
+ghost use Rattle.su_table.specs.Tree.{Tree};
+ghost use Rattle.su_part.specs.Item.{MeantInode};
+ghost use Rattle.su_part_tree.specs.Part.{reaches};
+ghost use Rattle.su_tree.specs.Number.{number_bits};
+ghost use Rattle.su_part.specs.Part.{MeantUser, StandsInode, StandsJust, StandsUser, Free, HasAll, HasInode, HasName, HasNameAt, HasWriteOf, HasBlocksAt, HasBytesAt, HasWriteAt, IsOpenAt, IsThere, StaysLoaded, at_number};
+
+use crate::inodes::PartInode;
+use crate::items::decode;
+use std::alloc::Global;
+use std::collections::BTreeMap;
+use su_block::BlockSource;
+use su_bytes::{Digest, FileId, Inum, Name, Refusal};
+use su_part_tree::PartTree;
+
+/// A user's i-table, and those of the user's inodes that are loaded.
+#[derive(Drop)]
+pub struct UserPart {
+    table: PartTree<u32, Digest>,
+    inodes: BTreeMap<u32, PartInode>,
+    alloc: Global,
+}
+
+impl UserPart {
+    /// Makes the part of which only the i-handle is known: all else is left on the store.
+    pub fn stub(alloc: Global, i_handle: Digest) -> UserPart
+        ensures { (u : ℕ) (T : Tree) → MeantUser u T → i_handle ≡ handle T (User u)
+            → StandsUser u result T }
+    {
+        UserPart {
+            table: PartTree::stub(alloc, i_handle),
+            inodes: BTreeMap::new(alloc),
+            alloc,
+        }
+    }
+
+    /// Returns the user's i-handle. It makes no hash.
+    pub fn i_handle(&self) -> Digest
+        ensures { (u : ℕ) (T : Tree) → StandsUser u self.now T
+            → result ≡ handle T (User u) }
+    {
+        self.table.digest()
+    }
+
+    /// Returns the inode of a number, which is loaded, if one stands there.
+    pub fn inode(&self, number: Inum) -> Option<&PartInode>
+        ensures { (u : ℕ) (T : Tree) → StandsUser u self.now T → IsThere u T number self.now
+            → StandsJust (option_copied result) (get T.inodes (u, number)) }
+    {
+        self.inodes.get(&number.number())
+    }
+
+    /// Loads the inode of a number, with no part of its content. Refused by the source, by want of
+    /// memory, or with `Malformed` where an item spells nothing that belongs there.
+    pub fn fetch_inode<S: BlockSource>(
+        &mut self,
+        number: Inum,
+        source: &mut S,
+    ) -> Result<(), Refusal>
+        requires { S.is_checked ≡ true }
+        ensures stands { (u : ℕ) (T : Tree) → StandsUser u self.old T
+            → Free u T (S.may_give source.old) → StandsUser u self.new T }
+        ensures malformed { result ≡ Err (Malformed 0) → (u : ℕ) (T : Tree)
+            → StandsUser u self.old T → Free u T (S.may_give source.old) → ⊥ }
+        ensures has { OnOk result (HasInode number self.new) }
+        ensures keeps { HasAll self.old self.new }
+        ensures no_more { (s : List ℕ) → S.may_give source.new s → S.may_give source.old s }
+    {
+        let key = number.number();
+        self.table.reach(&key, source)?;
+        if self.inodes.contains_key(&key) {
+            return Ok(());
+        }
+        let digest = match self.table.get(&key) {
+            Some(digest) => *digest,
+            None => return Ok(()),
+        };
+        let item = source.get(self.alloc, digest)?;
+        let item = decode(item.as_slice())?;
+        self.inodes
+            .insert(key, PartInode::of_item(self.alloc, &item))?;
+        Ok(())
+    }
+}
+
+impl UserPart {
+    /// Loads the inode of a number, and what the path of one of its names needs. Refused as
+    /// `fetch_inode` is.
+    pub fn fetch_name<S: BlockSource>(
+        &mut self,
+        number: Inum,
+        name: &Name,
+        source: &mut S,
+    ) -> Result<(), Refusal>
+        requires { S.is_checked ≡ true }
+        ensures stands { (u : ℕ) (T : Tree) → StandsUser u self.old T
+            → Free u T (S.may_give source.old) → StandsUser u self.new T }
+        ensures malformed { result ≡ Err (Malformed 0) → (u : ℕ) (T : Tree)
+            → StandsUser u self.old T → Free u T (S.may_give source.old) → ⊥ }
+        ensures has { OnOk result (HasNameAt number name.now self.new) }
+        ensures keeps { HasAll self.old self.new }
+        ensures no_more { (s : List ℕ) → S.may_give source.new s → S.may_give source.old s }
+    {
+        self.fetch_inode(number, source)?;
+        match self.inodes.get_mut(&number.number()) {
+            Some(inode) => inode.fetch_name(name, source),
+            None => Ok(()),
+        }
+    }
+}
+
+impl UserPart {
+    /// Loads the inode of a number, the paths of its block numbers from `first` on and before
+    /// `until`, and the blocks that it has there. Refused as `fetch_inode` is.
+    pub fn fetch_blocks<S: BlockSource>(
+        &mut self,
+        number: Inum,
+        first: u32,
+        until: u32,
+        source: &mut S,
+    ) -> Result<(), Refusal>
+        requires { S.is_checked ≡ true }
+        ensures stands { (u : ℕ) (T : Tree) → StandsUser u self.old T
+            → Free u T (S.may_give source.old) → StandsUser u self.new T }
+        ensures malformed { result ≡ Err (Malformed 0) → (u : ℕ) (T : Tree)
+            → StandsUser u self.old T → Free u T (S.may_give source.old) → ⊥ }
+        ensures has { OnOk result (HasBlocksAt number first until self.new) }
+        ensures keeps { HasAll self.old self.new }
+        ensures no_more { (s : List ℕ) → S.may_give source.new s → S.may_give source.old s }
+    {
+        self.fetch_inode(number, source)?;
+        match self.inodes.get_mut(&number.number()) {
+            Some(inode) => inode.fetch_blocks(first, until, source),
+            None => Ok(()),
+        }
+    }
+
+    /// Loads the inode of a number, and the blocks of it that have bytes in a range, which may
+    /// reach past the end. Refused as `fetch_inode` is.
+    pub fn fetch_bytes<S: BlockSource>(
+        &mut self,
+        number: Inum,
+        off: u64,
+        len: u64,
+        source: &mut S,
+    ) -> Result<(), Refusal>
+        requires { S.is_checked ≡ true }
+        ensures stands { (u : ℕ) (T : Tree) → StandsUser u self.old T
+            → Free u T (S.may_give source.old) → StandsUser u self.new T }
+        ensures malformed { result ≡ Err (Malformed 0) → (u : ℕ) (T : Tree)
+            → StandsUser u self.old T → Free u T (S.may_give source.old) → ⊥ }
+        ensures has { OnOk result (HasBytesAt number off len self.new) }
+        ensures keeps { HasAll self.old self.new }
+        ensures no_more { (s : List ℕ) → S.may_give source.new s → S.may_give source.old s }
+    {
+        self.fetch_inode(number, source)?;
+        match self.inodes.get_mut(&number.number()) {
+            Some(inode) => inode.fetch_bytes(off, len, source),
+            None => Ok(()),
+        }
+    }
+}
+
+impl UserPart {
+    /// Loads the inode of a number, and what a write of `len` bytes into it from an offset on
+    /// needs. Refused as `fetch_inode` is.
+    pub fn fetch_write<S: BlockSource>(
+        &mut self,
+        number: Inum,
+        off: u32,
+        len: u32,
+        source: &mut S,
+    ) -> Result<(), Refusal>
+        requires { S.is_checked ≡ true }
+        ensures stands { (u : ℕ) (T : Tree) → StandsUser u self.old T
+            → Free u T (S.may_give source.old) → StandsUser u self.new T }
+        ensures malformed { result ≡ Err (Malformed 0) → (u : ℕ) (T : Tree)
+            → StandsUser u self.old T → Free u T (S.may_give source.old) → ⊥ }
+        ensures has { OnOk result (HasWriteAt number off len self.new) }
+        ensures keeps { HasAll self.old self.new }
+        ensures no_more { (s : List ℕ) → S.may_give source.new s → S.may_give source.old s }
+    {
+        self.fetch_inode(number, source)?;
+        match self.inodes.get_mut(&number.number()) {
+            Some(inode) => inode.fetch_write(off, len, source),
+            None => Ok(()),
+        }
+    }
+}
+
+impl UserPart {
+    /// Makes a name of the directory of a number lead to the file. What it needs is loaded. Does
+    /// nothing where no directory stands. Fails only with `NoMemory`; then it stands for what it
+    /// stood for.
+    pub fn add_name(&mut self, number: Inum, name: Name, file: FileId) -> Result<(), Refusal>
+        requires loaded { IsOpenAt number (HasName name) self.old }
+        requires meant { IsTrue (is_name name && is_file_id file) }
+        ensures ok { (u : ℕ) (T : Tree) → StandsUser u self.old T → IsThere u T number self.old
+            → OnOk result (StandsUser u self.new
+            (edit T (Inodes (u, number) (Named name (Some file))))) }
+        ensures stays { OnOk result (StaysLoaded number self.old self.new) }
+        ensures refused { IfErr result (λ e. e ≡ NoMemory) }
+        ensures err { (u : ℕ) (T : Tree) → StandsUser u self.old T
+            → OnErr result (StandsUser u self.new T) }
+    {
+        let key = number.number();
+        if let Some(inode) = self.inodes.get_mut(&key) {
+            inode.name_set(name, file)?;
+            let digest = inode.digest();
+            // the number is there, so without memory
+            let _done = self.table.put(key, digest);
+        }
+        Ok(())
+    }
+}
+
+impl UserPart {
+    /// Takes a name away from the directory of a number. What it needs is loaded. Does nothing
+    /// where no directory stands. It takes no memory.
+    pub fn remove_name(&mut self, number: Inum, name: &Name)
+        requires { IsOpenAt number (HasName name.now) self.old }
+        ensures stands { (u : ℕ) (T : Tree) → StandsUser u self.old T → IsThere u T number self.old
+            → StandsUser u self.new (edit T (Inodes (u, number) (Named name.now None))) }
+        ensures stays { StaysLoaded number self.old self.new }
+    {
+        let key = number.number();
+        if let Some(inode) = self.inodes.get_mut(&key) {
+            inode.name_remove(name);
+            let digest = inode.digest();
+            // the number is there, so without memory
+            let _done = self.table.put(key, digest);
+        }
+    }
+
+    /// Sets how many names lead to the inode of a number, which is loaded. Does nothing where none
+    /// stands. It takes no memory.
+    pub fn set_links(&mut self, number: Inum, links: u8)
+        requires { IsTrue (reaches number_bits number self.old.table) }
+        ensures stands { (u : ℕ) (T : Tree) → StandsUser u self.old T → IsThere u T number self.old
+            → StandsUser u self.new (edit T (Inodes (u, number) (Linked links))) }
+        ensures stays { StaysLoaded number self.old self.new }
+    {
+        let key = number.number();
+        if let Some(inode) = self.inodes.get_mut(&key) {
+            inode.set_links(links);
+            let digest = inode.digest();
+            // the number is there, so without memory
+            let _done = self.table.put(key, digest);
+        }
+    }
+
+    /// Writes bytes into the file of a number from an offset on, and fills a gap before them with
+    /// zeros. What it needs is loaded. Does nothing where no file stands. Fails only with
+    /// `NoMemory`; then the inode is left on the store, as the table has it.
+    pub fn write_at(&mut self, number: Inum, off: u32, bytes: &[u8]) -> Result<(), Refusal>
+        requires small { off + length bytes.now < 2 ^ 32 }
+        requires loaded { IsOpenAt number (HasWriteOf off (length bytes.now)) self.old }
+        ensures ok { (u : ℕ) (T : Tree) → StandsUser u self.old T → IsThere u T number self.old
+            → OnOk result (StandsUser u self.new (edit T (Inodes (u, number)
+            (Written (size_at T (u, number)) off bytes.now)))) }
+        ensures stays { OnOk result (StaysLoaded number self.old self.new) }
+        ensures refused { IfErr result (λ e. e ≡ NoMemory) }
+        ensures err { (u : ℕ) (T : Tree) → StandsUser u self.old T
+            → OnErr result (StandsUser u self.new T) }
+    {
+        let key = number.number();
+        if let Some(inode) = self.inodes.get_mut(&key) {
+            if let Err(refused) = inode.write_at(off, bytes) {
+                self.inodes.remove(&key);
+                return Err(refused);
+            }
+            let digest = inode.digest();
+            // the number is there, so without memory
+            let _done = self.table.put(key, digest);
+        }
+        Ok(())
+    }
+
+    /// Fills the file of a number with zeros up to a size in bytes, which is not below its own.
+    /// What a write of no bytes at that offset needs is loaded. Does nothing where no file stands.
+    /// Fails only with `NoMemory`; then the inode is left on the store, as the table has it.
+    pub fn grow(&mut self, number: Inum, size: u32) -> Result<(), Refusal>
+        requires { IsOpenAt number (HasWriteOf size 0) self.old }
+        ensures ok { (u : ℕ) (T : Tree) → StandsUser u self.old T → IsThere u T number self.old
+            → size_at T (u, number) ≤ size
+            → OnOk result (StandsUser u self.new (edit T (Inodes (u, number)
+            (Resized (size_at T (u, number)) size)))) }
+        ensures stays { OnOk result (StaysLoaded number self.old self.new) }
+        ensures refused { IfErr result (λ e. e ≡ NoMemory) }
+        ensures err { (u : ℕ) (T : Tree) → StandsUser u self.old T
+            → OnErr result (StandsUser u self.new T) }
+    {
+        self.write_at(number, size, &[])
+    }
+
+    /// Puts an inode at a number, whose path is loaded, in the place of what stands there. Fails
+    /// only with `NoMemory`; then what stood there is left on the store, as the table has it.
+    pub fn put_inode(&mut self, number: Inum, inode: PartInode) -> Result<(), Refusal>
+        requires { IsTrue (reaches number_bits number self.old.table) }
+        ensures ok { (u : ℕ) (T : Tree) (i : Inode) → StandsUser u self.old T → StandsInode inode i
+            → MeantInode i
+            → OnOk result (StandsUser u self.new (edit T (Inodes (u, number) (Copied i)))) }
+        ensures stays { OnOk result (StaysLoaded number self.old self.new) }
+        ensures refused { IfErr result (λ e. e ≡ NoMemory) }
+        ensures err { (u : ℕ) (T : Tree) → StandsUser u self.old T
+            → OnErr result (StandsUser u self.new T) }
+    {
+        let key = number.number();
+        let digest = inode.digest();
+        self.inodes.insert(key, inode)?;
+        if self.table.put(key, digest).is_err() {
+            self.inodes.remove(&key);
+            return Err(Refusal::NoMemory);
+        }
+        Ok(())
+    }
+
+    /// Takes out the inode of a number, which is loaded, if one stands there. It takes no memory.
+    pub fn take_inode(&mut self, number: Inum) -> Option<PartInode>
+        requires { IsTrue (reaches number_bits number self.old.table) }
+        ensures value { (u : ℕ) (T : Tree) → StandsUser u self.old T → IsThere u T number self.old
+            → StandsJust result (get T.inodes (u, number)) }
+        ensures stands { (u : ℕ) (T : Tree) → StandsUser u self.old T
+            → StandsUser u self.new (edit T (Inodes (u, number) Gone)) }
+        ensures others { (m : ℕ) → is_at (nat_cmp number) m ≡ false
+            → at_number self.new.inodes.entries m ≡ at_number self.old.inodes.entries m }
+    {
+        let key = number.number();
+        self.table.take(&key);
+        self.inodes.remove(&key)
+    }
+}
+
+impl UserPart {
+    /// Looks up where a name of the directory of a number leads; nowhere where no directory stands,
+    /// or it lacks the name. Loads what it needs, and is refused as `fetch_inode` is.
+    pub fn name_at<S: BlockSource>(
+        &mut self,
+        number: Inum,
+        name: &Name,
+        source: &mut S,
+    ) -> Result<Option<FileId>, Refusal>
+        requires { S.is_checked ≡ true }
+        ensures value { (u : ℕ) (T : Tree) → StandsUser u self.old T
+            → Free u T (S.may_give source.old)
+            → IfOk result (λ o. file_value o ≡ val T (At (u, number) (NameOf name.now))) }
+        ensures stands { (u : ℕ) (T : Tree) → StandsUser u self.old T
+            → Free u T (S.may_give source.old) → StandsUser u self.new T }
+        ensures malformed { result ≡ Err (Malformed 0) → (u : ℕ) (T : Tree)
+            → StandsUser u self.old T → Free u T (S.may_give source.old) → ⊥ }
+        ensures keeps { HasAll self.old self.new }
+        ensures no_more { (s : List ℕ) → S.may_give source.new s → S.may_give source.old s }
+    {
+        self.fetch_name(number, name, source)?;
+        match self.inodes.get(&number.number()) {
+            Some(inode) => Ok(inode.name_get(name)),
+            None => Ok(None),
+        }
+    }
+
+    /// Reads the bytes of the file of a number within a range, which may reach past the end; none
+    /// where no file stands. Loads what it needs, and is refused as `fetch_inode` is.
+    pub fn read_at<S: BlockSource>(
+        &mut self,
+        number: Inum,
+        off: u64,
+        len: u64,
+        source: &mut S,
+    ) -> Result<Option<Vec<u8>>, Refusal>
+        requires { S.is_checked ≡ true }
+        ensures value { (u : ℕ) (T : Tree) → StandsUser u self.old T
+            → Free u T (S.may_give source.old)
+            → IfOk result (λ bytes. option_map (λ v. v.items) bytes
+            ≡ option_map (within off len) (bytes_of (get T.inodes (u, number)))) }
+        ensures stands { (u : ℕ) (T : Tree) → StandsUser u self.old T
+            → Free u T (S.may_give source.old) → StandsUser u self.new T }
+        ensures malformed { result ≡ Err (Malformed 0) → (u : ℕ) (T : Tree)
+            → StandsUser u self.old T → Free u T (S.may_give source.old) → ⊥ }
+        ensures keeps { HasAll self.old self.new }
+        ensures no_more { (s : List ℕ) → S.may_give source.new s → S.may_give source.old s }
+    {
+        self.fetch_bytes(number, off, len, source)?;
+        match self.inodes.get(&number.number()) {
+            Some(inode) => inode.read_at(off, len),
+            None => Ok(None),
+        }
+    }
+
+    /// Leaves all on the store: of the table only the digest stays, and of the inodes nothing.
+    pub fn leave(&mut self)
+        ensures { (u : ℕ) (T : Tree) → StandsUser u self.old T → StandsUser u self.new T }
+    {
+        self.table.forget();
+        self.inodes = BTreeMap::new(self.alloc);
+    }
+}

@@ -1,0 +1,5 @@
+pub mod Spelling
+pub mod Items
+pub mod Loading
+pub mod Putting
+pub mod Part

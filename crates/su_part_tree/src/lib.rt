@@ -1,0 +1,12 @@
+//! Finite maps of which parts may be left on a store that isn't trusted: of such a part only the
+//! digest is kept, and what is loaded of it is compared with that.
+#![tactic(auto)]
+
+mod copies;
+mod items;
+mod loads;
+mod parts;
+mod sheds;
+
+pub use items::{ReadKey, ReadValue};
+pub use parts::PartTree;
