@@ -4,6 +4,7 @@ use Rattle.su_bytes.specs.declared.file_ids.FileId.{FileId}
 use Rattle.su_bytes.specs.declared.file_ids.FileId.TheVariants.{User, Group}
 use Rattle.su_bytes.specs.Membership.{Membership}
 use Rattle.su_bytes.specs.Place.{Place, GroupFile}
+use Rattle.su_node.specs.Name.{Name}
 use Rattle.su_node.specs.Field.{Field.KindOf}
 use Rattle.su_table.specs.Tree.{Tree}
 use Rattle.su_table.specs.Cell.{Cell, Cell.At, val}
@@ -13,7 +14,7 @@ use Rattle.su_op.specs.declared.areas.Area.TheVariants.{Pointer as PointerArea}
 use Rattle.su_op.specs.declared.operations.Op.{Op}
 use Rattle.su_op.specs.declared.operations.Op.TheVariants.{Create, Unlink, Write, Truncate, Take, Link, Rename, Drop}
 use Rattle.su_op.specs.Area.{kind_cell, links_cell, size_cell, name_cell, all_cells, has}
-use Rattle.su_op.specs.Rule.{pointer_areas, plan_of}
+use Rattle.su_op.specs.Rule.{plan_of}
 use Rattle.su_op.specs.Action.{Action}
 use Rattle.su_op.specs.DropBody.{group_home}
 use Rattle.su_op.specs.Operation.{rule_of, why}
@@ -22,6 +23,22 @@ use Rattle.su_op.specs.Operation.{rule_of, why}
 abbrev pub home_areas : FileId → List Area
 home_areas (User u i) = kind_cell (u, i) ∷ []
 home_areas (Group g k) = PointerArea (g, k) ∷ []
+
+-- what is asked of a directory about a name
+abbrev pub named : Name → Place → List Area
+named x d = kind_cell d ∷ name_cell x d ∷ []
+
+-- what is asked of what goes, gets a name or moves
+abbrev pub linked : Place → List Area
+linked f = kind_cell f ∷ links_cell f ∷ []
+
+-- what is asked of a file that is written or cut
+abbrev pub sized : Place → List Area
+sized f = kind_cell f ∷ size_cell f ∷ []
+
+-- what is asked of what is taken over
+abbrev pub whole : Place → List Area
+whole f = all_cells f ∷ []
 
 -- areas at a body, if there is one
 abbrev pub at_body : Option Place → (Place → List Area) → List Area
@@ -33,37 +50,55 @@ abbrev pub pointer_of : Option GroupFile → List Area
 pointer_of None = []
 pointer_of (Some home) = PointerArea home ∷ []
 
--- The areas that the check of an operation by user a may ask for in T: where the files that it names
--- stand; of what stands there the kind, a name, the links or the size; where what it makes will
--- stand; and of what is taken over, all.
+-- the files that an operation names
+abbrev pub files_named : Op → List FileId
+files_named (Create c) = c.dir ∷ c.file ∷ []
+files_named (Unlink u) = u.dir ∷ u.file ∷ []
+files_named (Write w) = w.file ∷ []
+files_named (Truncate t) = t.file ∷ []
+files_named (Take t) = t.file ∷ []
+files_named (Link l) = l.dir ∷ l.file ∷ []
+files_named (Rename r) = r.from_ ∷ r.to_ ∷ r.file ∷ []
+files_named (Drop d) = []
+
+-- the place of its author's at which an operation makes an inode, or drops one
+abbrev pub own_place : ℕ → Op → Option Place
+own_place a (Create c) = Some (a, c.body)
+own_place a (Take t) = Some (a, t.body)
+own_place a (Drop d) = Some (a, d.body)
+own_place a _ = None
+
+-- where files stand
+abbrev pub homes : List FileId → List Area
+homes [] = []
+homes (f ∷ fs) = home_areas f ++ homes fs
+
+-- what is asked of a place of one's own
+abbrev pub own : Place → List Area
+own p = kind_cell p ∷ []
+
+-- The areas that the check of an operation by user a asks for first, whatever stands in the tree:
+-- where the files stand that it names, and what stands at the place of the author's.
+abbrev pub asked_first : ℕ → Op → List Area
+asked_first a op = homes (files_named op) ++ at_body (own_place a op) own
+
+-- Those that it may ask for then in T: of what stands there the kind, a name, the links or the size,
+-- of what is taken over all; and the pointer of the group file that a body was made for.
+abbrev pub asked_then : Tree → ℕ → Op → List Area
+asked_then T a (Create c) = at_body (body T c.dir) (named c.name)
+asked_then T a (Unlink u) = at_body (body T u.dir) (named u.name) ++ at_body (body T u.file) linked
+asked_then T a (Write w) = at_body (body T w.file) sized
+asked_then T a (Truncate t) = at_body (body T t.file) sized
+asked_then T a (Take t) = at_body (body T t.file) whole
+asked_then T a (Link l) = at_body (body T l.dir) (named l.name) ++ at_body (body T l.file) linked
+asked_then T a (Rename r) =
+    at_body (body T r.from_) (named r.old_)
+    ++ (at_body (body T r.to_) (named r.new_) ++ at_body (body T r.file) linked)
+asked_then T a (Drop d) = pointer_of (group_home (val T (At (a, d.body) KindOf)))
+
+-- all that it may ask for
 abbrev pub asked : Tree → ℕ → Op → List Area
-asked T a (Create c) =
-    home_areas c.dir
-    ++ (pointer_areas c.file
-    ++ (kind_cell (a, c.body)
-    ∷ at_body (body T c.dir) (λ d. kind_cell d ∷ (name_cell c.name d ∷ []))))
-asked T a (Unlink u) =
-    home_areas u.dir
-    ++ (home_areas u.file
-    ++ (at_body (body T u.dir) (λ d. kind_cell d ∷ (name_cell u.name d ∷ []))
-    ++ at_body (body T u.file) (λ f. links_cell f ∷ [])))
-asked T a (Write w) = home_areas w.file ++ at_body (body T w.file) (λ f. kind_cell f ∷ (size_cell f ∷ []))
-asked T a (Truncate t) = home_areas t.file ++ at_body (body T t.file) (λ f. kind_cell f ∷ (size_cell f ∷ []))
-asked T a (Take t) =
-    home_areas t.file ++ (kind_cell (a, t.body) ∷ at_body (body T t.file) (λ f. all_cells f ∷ []))
-asked T a (Link l) =
-    home_areas l.dir
-    ++ (home_areas l.file
-    ++ (at_body (body T l.dir) (λ d. kind_cell d ∷ (name_cell l.name d ∷ []))
-    ++ at_body (body T l.file) (λ f. kind_cell f ∷ (links_cell f ∷ []))))
-asked T a (Rename r) =
-    home_areas r.from_
-    ++ (home_areas r.to_
-    ++ (home_areas r.file
-    ++ (at_body (body T r.from_) (λ d. kind_cell d ∷ (name_cell r.old_ d ∷ []))
-    ++ (at_body (body T r.to_) (λ t. kind_cell t ∷ (name_cell r.new_ t ∷ []))
-    ++ at_body (body T r.file) (λ f. kind_cell f ∷ [])))))
-asked T a (Drop d) = kind_cell (a, d.body) ∷ pointer_of (group_home (val T (At (a, d.body) KindOf)))
+asked T a op = asked_first a op ++ asked_then T a op
 
 -- the trees have the same values in the areas
 abbrev pub AgreeIn : List Area → Tree → Tree → Type 0
@@ -81,3 +116,9 @@ RefusalsAreLocal =
     (ro : Membership) (V T : Tree) (x : Action)
     → AgreeIn (asked T x.author x.op) V T → SameBare x.op V T
     → (why ro V x ≡ why ro T x) × (plan_of (rule_of ro V x) ≡ plan_of (rule_of ro T x))
+
+-- What may be asked for then is known from what is asked for first.
+abbrev pub AskedInTwoRounds : Type 0
+AskedInTwoRounds =
+    (V T : Tree) (a : ℕ) (op : Op)
+    → AgreeIn (asked_first a op) V T → asked_then V a op ≡ asked_then T a op

@@ -2,6 +2,8 @@
 //! acceptance is. And how what is done to the loaded part of a tree is done to the tree.
 #![tactic(auto)]
 
+mod asking;
 mod laws;
 
-pub use laws::{changes_follow, refusals_are_local};
+pub use asking::{asked_first, asked_then};
+pub use laws::{asked_in_two_rounds, changes_follow, refusals_are_local};
