@@ -113,6 +113,11 @@ left_bytes b bs d size small is stands none = record {
   blocks = none_loaded bs b.blocks.entries none;
 }
 
+-- no bytes
+pub empty_bytes : (b : PartBytes) → b.size ≡ 0 → StandsFor number_sort b.digests [] → b.blocks.entries ≡ [] → StandsBytes b []
+unfolding block_digests
+empty_bytes b size stands none = record { size = size; digests = stands; blocks = none_loaded [] b.blocks.entries none }
+
 -- ---- a block that was got
 
 -- an item that was got with a block's digest is the block's

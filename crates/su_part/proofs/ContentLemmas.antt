@@ -4,16 +4,20 @@ use Rattle.std.specs.declared.cmp.Ordering.TheVariants.{Less, Equal, Greater}
 use Rattle.std.specs.List.{AllByRecursion as Each}
 use Rattle.std.specs.List.Sorted.{IsStrictlySortedBy}
 use Rattle.std.specs.Map.{keys_of}
-use Rattle.std.specs.FinMap.{FinMap, entries, entries_sorted, entries-insert, get-entries}
+use Rattle.std.specs.FinMap.{FinMap, empty, len-empty, len-entries, entries, entries_sorted, entries-insert, get-entries}
 use Rattle.su_bytes.specs.declared.file_ids.FileId.{FileId}
+use Rattle.su_bytes.specs.declared.file_ids.Kind.{Kind}
 use Rattle.su_bytes.specs.declared.file_ids.Kind.TheVariants.{File, Dir}
+use Rattle.std.proofs.lemmas.Bool.Decides.{nat_tests}
+use Rattle.std.proofs.lemmas.List.{nil_from_length}
+use Rattle.std.specs.Prelude.{◌↔◌, nat_eq}
 use Rattle.su_bytes.specs.FileId.{is_file_id}
 use Rattle.su_bytes.specs.Name.{is_name}
 use Rattle.su_tree.specs.Name.{name_bits}
 use Rattle.su_tree.proofs.Sorted.{sorted_entries, Rising, tree_of_rising}
 use Rattle.su_hash_tree.specs.Stands.{IsMap}
 use Rattle.su_node.specs.Name.{Name, name_cmp}
-use Rattle.su_node.specs.Inode.{Inode, Content, Content.Bytes, Content.Names, kind_of, size_of, bytes_of, within}
+use Rattle.su_node.specs.Inode.{Inode, Content, Content.Bytes, Content.Names, kind_of, size_of, bytes_of, within, has_no_names, new_inode}
 use Rattle.su_node.specs.Digest.{content_digest}
 use Rattle.su_part.specs.Item.{MeantContent, MeantInode, item_of}
 use Rattle.su_part.proofs.BytesLemmas.{all_blocks_itself, all_blocks_on}
@@ -287,6 +291,34 @@ meant_unnamed x i m = record {
   content = unnamed_content x i.content m.content;
 }
 
+-- ---- a new inode
+
+no_entries : entries (empty {X = FileId} {R = name_cmp}) ≡ []
+no_entries = nil_from_length (entries empty) (sym (len-entries empty) ∙ len-empty name_cmp FileId)
+
+pub empty_names : (t : PartTree (List ℕ) FileId) → StandsFor name_sort t [] → StandsFor name_sort t (entries (empty {X = FileId} {R = name_cmp}))
+empty_names t h = subst (StandsFor name_sort t) (sym no_entries) h
+
+pub meant_new : (home : FileId) (kind : Kind) → IsTrue (is_file_id home) → MeantInode (new_inode home kind)
+meant_new home File is = record { home = is; links = omega arith; size = omega arith; content = tt }
+meant_new home Dir is = record { home = is; links = omega arith; size = omega arith; content = subst (Each (λ e. IsTrue (is_name e.0 && is_file_id e.1))) (sym no_entries) tt }
+
+-- ---- a directory without names
+
+none_is : {X : Type 0} (r : Bool) (xs : List X) → IsTrue r ↔ (xs ≡ []) → r ≡ nat_eq (length xs) 0
+none_is r [] h = h.1 refl
+none_is false (x ∷ xs) h = sym (grind (arith, nat_tests))
+none_is true (x ∷ xs) h = absurd (omega (arith, ap length (h.0 refl)))
+
+bare_content : (c : Content) (l : ℕ) (home : FileId) (t : PartTree (List ℕ) FileId) (r : Bool) → StandsContent (PartNames t) c → ((m : List (List ℕ × FileId)) → StandsFor name_sort t m → IsTrue r ↔ (m ≡ []))
+    → r ≡ has_no_names (Some (record { home = home; links = l; content = c }))
+bare_content (Bytes bs) l home t r h got = absurd h
+bare_content (Names m) l home t r h got = none_is r (entries m) (got (entries m) h) ∙ ap (λ n. nat_eq n 0) (sym (len-entries m))
+
+pub bare_got : (p : PartInode) (i : Inode) → StandsInode p i → (t : PartTree (List ℕ) FileId) → p.content ≡ PartNames t → (r : Bool) → ((m : List (List ℕ × FileId)) → StandsFor name_sort t m → IsTrue r ↔ (m ≡ []))
+    → r ≡ has_no_names (Some i)
+bare_got p i h t is r got = bare_content i.content i.links i.home t r (subst (λ c. StandsContent c i.content) is h.content) got
+
 -- ---- links
 
 pub meant_linked : (n : ℕ) (i : Inode) → n < 256 → MeantInode i → MeantInode (with_links n i)
@@ -305,6 +337,19 @@ bytes_written p i h b is b' off xs new = record {
   home = h.home;
   links = h.links;
   content = written_content i.content b b' off xs (subst (λ c. StandsContent c i.content) is h.content) new;
+}
+
+same_content : (c : Content) (b b' : PartBytes) → StandsContent (LoadedBytes b) c → ((bs : List ℕ) → StandsBytes b bs → StandsBytes b' bs) → StandsContent (LoadedBytes b') c
+same_content (Bytes bs) b b' h same = same bs h
+same_content (Names m) b b' h same = h
+
+-- bytes that stand for what they stood for
+pub bytes_same : (p : PartInode) (i : Inode) → StandsInode p i → (b : PartBytes) → p.content ≡ LoadedBytes b → (b' : PartBytes) → ((bs : List ℕ) → StandsBytes b bs → StandsBytes b' bs)
+    → StandsInode (record { home = p.home; links = p.links; content = LoadedBytes b' }) i
+bytes_same p i h b is b' same = record {
+  home = h.home;
+  links = h.links;
+  content = same_content i.content b b' (subst (λ c. StandsContent c i.content) is h.content) same;
 }
 
 written_meant : (off : ℕ) (xs : List ℕ) (c : Content) → MeantContent c → MeantContent (map_bytes (with_bytes_at off xs) c)

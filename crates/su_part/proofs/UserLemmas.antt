@@ -14,11 +14,12 @@ use Rattle.su_tree.specs.Number.{number_bits, is_u32}
 use Rattle.su_tree.specs.Value.{is_digest}
 use Rattle.su_part_tree.specs.declared.parts.PartTree.{PartTree}
 use Rattle.su_hash_tree.specs.Edits.{value_at, with_value, without_key}
-use Rattle.su_part_tree.specs.Part.{StandsFor, reaches}
+use Rattle.su_part_tree.specs.Part.{StandsFor, reaches, IsKnown}
 use Rattle.su_part_tree.specs.Loading.{NoClash}
 use Rattle.su_hash_tree.proofs.Compared.{find_by_order, keys_meant, put_by_order, without_by_order}
 use Rattle.su_hash_tree.proofs.Standing.{stands_map}
-use Rattle.su_node.specs.Inode.{Inode, Content, Content.Bytes, Content.Names}
+use Rattle.su_bytes.specs.declared.file_ids.Kind.{Kind}
+use Rattle.su_node.specs.Inode.{Inode, new_inode, Content, Content.Bytes, Content.Names}
 use Rattle.su_bytes.specs.Place.{Place}
 use Rattle.su_node.specs.Field.{Field.SizeOf, content_value}
 use Rattle.su_table.specs.Query.{size_at, value_number}
@@ -43,7 +44,7 @@ use Rattle.su_part.proofs.ItemLemmas.{read_back}
 use Rattle.su_table.specs.Table.{with_pair}
 use Rattle.su_bytes.specs.Place.{place_cmp}
 use Rattle.su_bytes.specs.declared.file_ids.FileId.{FileId}
-use Rattle.su_node.specs.InodeChange.{InodeChange, InodeChange.Gone, InodeChange.Written, InodeChange.Resized, inode_after, set_key, map_bytes, with_size, with_bytes_at}
+use Rattle.su_node.specs.InodeChange.{InodeChange, InodeChange.Made, InodeChange.Copied, InodeChange.Gone, InodeChange.Written, InodeChange.Resized, inode_after, set_key, map_bytes, with_size, with_bytes_at}
 use Rattle.su_node.proofs.Public.{get-set_key, get-set_key_here, set_key-get, eq_by_cmp-same}
 use Rattle.su_table.specs.Edit.{Edit.Inodes, edit}
 use Rattle.su_table.proofs.Places.{place_cmp_total, place_cmp_exact}
@@ -219,14 +220,11 @@ stays_itself n p = record { paths = λ m h. h; there = λ m h. h; others = λ m 
 
 -- ---- an inode that is left out
 
--- it is no longer loaded
-pub unloaded_user : (u n : ℕ) (T : Tree) (p q : UserPart) → StandsUser u p T → q.table ≡ p.table → ((k : ℕ) → at_number q.inodes.entries k ≡ cond (is_at (nat_cmp n) k) None (at_number p.inodes.entries k))
-    → StandsUser u q T
-unloaded_user u n T p q h same updates = record {
-  table = subst (λ t. StandsFor number_sort t (user_table T u)) (sym same) h.table;
-  meant = h.meant;
-  inodes = updated (λ k v. StandsAt v (get T.inodes (u, k))) p.inodes.entries q.inodes.entries n None updates h.inodes tt;
-}
+-- the table without it
+gone_table : (u n : ℕ) (T : Tree) (t : PartTree ℕ (List ℕ)) → StandsFor number_sort t (user_table T u) → IsTrue (is_u32 n) → without_key number_bits n (user_table T u) ≡ user_table (edit T (Inodes (u, n) Gone)) u
+gone_table u n T t h small =
+    without_by_order is_u32 number_bits nat_cmp number.ordered n (user_table T u) small (keys_meant is_u32 is_digest (user_table T u) (stands_map number_sort t.root (user_table T u) h).good)
+    ∙ sym (edits_change_one_table.of_user T (u, n) Gone u ∙ ap (λ b. cond b (with_pair n None (user_table T u)) (user_table T u)) (eq_itself u))
 
 -- it is gone
 pub gone_user : (u n : ℕ) (T : Tree) (p q : UserPart) → StandsUser u p T → IsTrue (is_u32 n) → ((m : List (ℕ × List ℕ)) → StandsFor number_sort p.table m → StandsFor number_sort q.table (without_key number_bits n m))
@@ -238,9 +236,7 @@ gone_user u n T p q h small table updates = record {
 }
   where
     same : without_key number_bits n (user_table T u) ≡ user_table (edit T (Inodes (u, n) Gone)) u
-    same =
-        without_by_order is_u32 number_bits nat_cmp number.ordered n (user_table T u) small (keys_meant is_u32 is_digest (user_table T u) (stands_map number_sort p.table.root (user_table T u) h.table).good)
-        ∙ sym (edits_change_one_table.of_user T (u, n) Gone u ∙ ap (λ b. cond b (with_pair n None (user_table T u)) (user_table T u)) (eq_itself u))
+    same = gone_table u n T p.table h.table small
 
     meant : (k : ℕ) (b : Bool) → is_at (nat_cmp n) k ≡ b → MeantAt (get (edit T (Inodes (u, n) Gone)).inodes (u, k))
     meant k true e = subst (λ j. MeantAt (get (edit T (Inodes (u, n) Gone)).inodes (u, j))) (same_number n k e) (subst MeantAt (sym (edit_here T u n Gone)) tt)
@@ -249,6 +245,16 @@ gone_user u n T p q h small table updates = record {
     each : (k : ℕ) (b : Bool) → is_at (nat_cmp n) k ≡ b → StandsAt (cond b None (at_number p.inodes.entries k)) (get (edit T (Inodes (u, n) Gone)).inodes (u, k))
     each k true e = tt
     each k false e = subst (StandsAt (at_number p.inodes.entries k)) (sym (edit_there T u n k Gone e)) (h.inodes k)
+
+-- the paths of the others stay
+pub gone_path : (u n : ℕ) (T : Tree) (t v : PartTree ℕ (List ℕ)) → StandsFor number_sort t (user_table T u) → IsTrue (is_u32 n) → StandsFor number_sort v (without_key number_bits n (user_table T u))
+    → (m : ℕ) → IsTrue (is_u32 m) → is_at (nat_cmp n) m ≡ false → get T.inodes (u, m) ≢ None → IsKnown number_bits m v (without_key number_bits n (user_table T u)) → IsTrue (reaches number_bits m v)
+gone_path u n T t v h small stands m is other there (inl x) = x
+gone_path u n T t v h small stands m is other there (inr e) =
+    let same = gone_table u n T t h small in
+    let none : None ≡ option_map inode_digest (get T.inodes (u, m)) =
+    sym e ∙ ap (value_at number_bits m) same ∙ table_value u m (edit T (Inodes (u, n) Gone)) v (subst (StandsFor number_sort v) same stands) is ∙ ap (option_map inode_digest) (edit_there T u n m Gone other) in
+    absurd (there (none_there (get T.inodes (u, m)) none))
 
 -- ---- an inode that is put
 
@@ -279,6 +285,11 @@ put_user ch i here good u n T p q j h small stands table updates = record {
     each k true e = subst (λ l. StandsAt (Some j) (get (edit T (Inodes (u, n) ch)).inodes (u, l))) (same_number n k e) (subst (StandsAt (Some j)) (sym at) stands)
     each k false e = subst (StandsAt (at_number p.inodes.entries k)) (sym (edit_there T u n k ch e)) (h.inodes k)
 
+-- a new one
+pub made_edit : (T : Tree) (p : Place) (home : FileId) (kind : Kind) → edit T (Inodes p (Copied (new_inode home kind))) ≡ edit T (Inodes p (Made home kind))
+unfolding edit
+made_edit T p home kind = refl
+
 -- what is taken out is just what was there
 pub taken_out : (o : Option Inode) (v : Option PartInode) → StandsAt v o → (o ≢ None → IsSome v) → StandsJust v o
 taken_out None None h there = refl
@@ -303,11 +314,6 @@ grown_edit T p s t le = ap (λ o. record T { inodes = set_key T.inodes p o }) (g
     go : (o : Option Inode) → value_number (field_value o SizeOf) ≤ t → inode_after (Written s t []) o ≡ inode_after (Resized s t) o
     go None h = refl
     go (Some i) h = ap (λ c. Some (record i { content = c })) (same i.content i.links i.home h)
-
--- what is set at a number and taken out there
-pub out_again : {X : Type 0} (b : Bool) (x o : Option X) → cond b None (cond b x o) ≡ cond b None o
-out_again true x o = refl
-out_again false x o = refl
 
 pub ok_of : {X E A B : Type 0} (r : Result X E) → OnOk r A → OnErr r B → (B → ⊥) → A
 ok_of (Ok x) a b none = a

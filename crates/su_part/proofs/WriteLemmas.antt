@@ -8,8 +8,8 @@ use Rattle.std.specs.FinMap.Entries as by
 use Rattle.std.proofs.lemmas.Bool.{leb-true, leb-false}
 use Rattle.std.proofs.lemmas.Bool.Decides.{nat_tests}
 use Rattle.std.proofs.lemmas.List.{length-drop, length-take, get_or-take, get_or-drop}
-use Rattle.std.specs.Prelude.{IsSome}
-use Rattle.std.specs.Option.{unwrap_or}
+use Rattle.std.specs.Prelude.{IsSome, IsTrue, Result, Ok, Err, OnErr}
+use Rattle.std.specs.Option.{option_map}
 use Rattle.std.proofs.lemmas.List.{nil_from_length}
 use Rattle.sha2.specs.Sha256.{sha256}
 use Rattle.su_tree.specs.Number.{number_bits, is_u32}
@@ -17,11 +17,12 @@ use Rattle.su_tree.specs.Value.{is_digest}
 use Rattle.su_hash_tree.specs.Edits.{with_value}
 use Rattle.su_hash_tree.proofs.Compared.{put_by_order, keys_meant}
 use Rattle.su_hash_tree.proofs.Standing.{stands_map}
-use Rattle.su_part_tree.specs.Part.{StandsFor}
+use Rattle.su_part_tree.specs.Part.{StandsFor, reaches}
 use Rattle.su_node.specs.Digest.{block_item, block_count, block_digests}
 use Rattle.su_part.specs.declared.blocks.PartBytes.{PartBytes}
-use Rattle.su_part.specs.Bytes.{number_sort, StandsBytes, IsBlockOf, IsRewritten, loaded_block, loaded_bytes}
-use Rattle.su_part.proofs.Numbers.{same_number}
+use Rattle.su_part.specs.declared.blocks.Ready.{Ready}
+use Rattle.su_part.specs.Bytes.{number_sort, StandsBytes, IsBlockOf, IsRewritten, HasBlock, WithPlaces, HasPlaces, AreReady, ready_at, loaded_block}
+use Rattle.su_part.proofs.Numbers.{same_number, found_at}
 use Rattle.su_part.proofs.BytesLemmas.{is_number}
 use Rattle.su_tree.specs.Laws.Numbers as number
 use Rattle.su_node.specs.Field.{block}
@@ -159,12 +160,12 @@ mixed bs new k n = cond (leb k n) (block n bs) (block n new)
 abbrev pub mixed_digest : List ℕ → List ℕ → ℕ → ℕ → List ℕ
 mixed_digest bs new k n = sha256 (block_item (mixed bs new k n))
 
--- the part c, which was b as the write began, stands for that file but for its size
-pub record Midway (bs new : List ℕ) (k : ℕ) (b c : PartBytes) : Type 0 where
+-- the part c stands for that file but for its size
+pub record Midway (bs new : List ℕ) (k : ℕ) (c : PartBytes) : Type 0 where
   pub size : c.size ≡ length bs
   pub digests : StandsFor number_sort c.digests (numbered (mixed_digest bs new k) 0 (max (block_count (length bs)) k))
   pub done : (n : ℕ) → n < k → IsBlockOf new n (loaded_block c n)
-  pub rest : (n : ℕ) → k ≤ n → loaded_block c n ≡ loaded_block b n
+  pub rest : (n : ℕ) → k ≤ n → IsBlockOf bs n (loaded_block c n)
 
 mixed_done : (bs new : List ℕ) (k n : ℕ) → n < k → mixed bs new k n ≡ block n new
 mixed_done bs new k n lt = go (leb k n) refl
@@ -185,7 +186,7 @@ same_block bs new n None e is = tt
 same_block bs new n (Some x) e is = is ∙ sym e
 
 -- nothing is written yet
-pub begun : (b : PartBytes) (off : ℕ) (xs bs : List ℕ) (k : ℕ) → StandsBytes b bs → k ≡ min off b.size / 4096 → Midway bs (with_bytes_at off xs bs) k b b
+pub begun : (b : PartBytes) (off : ℕ) (xs bs : List ℕ) (k : ℕ) → StandsBytes b bs → k ≡ min off b.size / 4096 → Midway bs (with_bytes_at off xs bs) k b
 unfolding block_digests
 begun b off xs bs k h k_is = record {
   size = h.size;
@@ -193,7 +194,7 @@ begun b off xs bs k h k_is = record {
       (numbered_alike (λ n. sha256 (block_item (block n bs))) (mixed_digest bs (with_bytes_at off xs bs) k) 0 (block_count (length bs)) (λ n low. ap (λ x. sha256 (block_item x)) (sym (alike n (leb k n) refl)))
       ∙ ap (numbered (mixed_digest bs (with_bytes_at off xs bs) k) 0) count) h.digests;
   done = λ n lt. same_block bs (with_bytes_at off xs bs) n (loaded_block b n) (before n lt) (h.blocks n);
-  rest = λ n le. refl;
+  rest = λ n le. h.blocks n;
 }
   where
     count : block_count (length bs) ≡ max (block_count (length bs)) k
@@ -207,12 +208,12 @@ begun b off xs bs k h k_is = record {
     alike n false e = let lt = leb-false k n e in mixed_done bs (with_bytes_at off xs bs) k n lt ∙ before n lt
 
 -- one block more
-pub stepped : (bs new : List ℕ) (k : ℕ) (b c d : PartBytes) → Midway bs new k b c → IsRewritten k (block k new) c d → k < 2 ^ 32 → Midway bs new (k + 1) b d
-stepped bs new k b c d m r small = record {
+pub stepped : (bs new : List ℕ) (k : ℕ) (c d : PartBytes) → Midway bs new k c → IsRewritten k (block k new) c d → k < 2 ^ 32 → Midway bs new (k + 1) d
+stepped bs new k c d m r small = record {
   size = r.size ∙ m.size;
   digests = subst (StandsFor number_sort d.digests) put (r.digests was m.digests);
   done = λ n lt. subst (IsBlockOf new n) (sym (r.blocks n)) (there n lt (is_at (nat_cmp k) n) refl);
-  rest = λ n le. r.blocks n ∙ ap (λ t. cond t (Some (block k new)) (loaded_block c n)) (apart n le) ∙ m.rest n (omega (arith, le));
+  rest = λ n le. subst (IsBlockOf bs n) (sym (r.blocks n ∙ ap (λ t. cond t (Some (block k new)) (loaded_block c n)) (apart n le))) (m.rest n (omega (arith, le)));
 }
   where
     was : List (ℕ × List ℕ)
@@ -238,23 +239,36 @@ stepped bs new k b c d m r small = record {
     there n lt true e = ap (λ j. block j new) (same_number k n e)
     there n lt false e = m.done n (grind (arith, nat_tests, e, lt))
 
--- the bytes of a block that is not written yet
-pub not_yet : (bs new : List ℕ) (k : ℕ) (b c : PartBytes) → StandsBytes b bs → Midway bs new k b c → (4096 * k < b.size → IsSome (loaded_block b k)) → loaded_bytes c k ≡ block k bs
-not_yet bs new k b c h m some = ap (λ o. unwrap_or o []) (m.rest k (omega arith)) ∙ held (loaded_block b k) (h.blocks k) (λ lt. some (omega (arith, h.size, lt)))
+-- blocks that are ready are put, and each has a place
+pub record Writing (bs new : List ℕ) (k until : ℕ) (c : PartBytes) (es : List (ℕ × Ready)) : Type 0 where
+  pub midway : Midway bs new k c
+  pub places : HasPlaces k until c
+  pub ready : AreReady k until new es
+
+-- one more is put
+pub written_on : (bs new : List ℕ) (k until : ℕ) (c d : PartBytes) (es fs : List (ℕ × Ready)) → Writing bs new k until c es → k < until → k < 2 ^ 32
+    → ((x : List ℕ) → IsSome (loaded_block c k) → ready_at es k ≡ Some x → IsRewritten k x c d) → ((n : ℕ) → is_at (nat_cmp k) n ≡ false → ready_at fs n ≡ ready_at es n) → Writing bs new (k + 1) until d fs
+written_on bs new k until c d es fs w lt small put others = record {
+  midway = stepped bs new k c d w.midway r small;
+  places = λ n low high. subst IsSome (sym (r.blocks n)) (kept (is_at (nat_cmp k) n) (loaded_block c n) (w.places n (omega (arith, low)) high));
+  ready = λ n low high. others n (apart n low) ∙ w.ready n (omega (arith, low)) high;
+}
   where
-    held : (o : Option (List ℕ)) → IsBlockOf bs k o → (4096 * k < length bs → IsSome o) → unwrap_or o [] ≡ block k bs
-    held (Some x) is there = is
-    held None is there = sym (nil_from_length (block k bs) (length-block k bs ∙ go (leb (length bs) (4096 * k)) refl))
-      where
-        go : (t : Bool) → leb (length bs) (4096 * k) ≡ t → min 4096 (length bs - 4096 * k) ≡ 0
-        go true e = let past = leb-true (length bs) (4096 * k) e in omega (arith, past)
-        go false e = absurd (let z : false ≡ true = there (leb-false (length bs) (4096 * k) e) in cc)
+    r : IsRewritten k (block k new) c d
+    r = put (block k new) (w.places k (omega arith) lt) (w.ready k (omega arith) lt)
+
+    kept : (t : Bool) (o : Option (List ℕ)) → IsSome o → IsSome (cond t (Some (block k new)) o)
+    kept true o some = refl
+    kept false o some = some
+
+    apart : (n : ℕ) → k + 1 ≤ n → is_at (nat_cmp k) n ≡ false
+    apart n le = grind (arith, nat_tests, le)
 
 -- all is written
-pub finished : (b c : PartBytes) (off : ℕ) (xs bs : List ℕ) (k size : ℕ) → StandsBytes b bs → Midway bs (with_bytes_at off xs bs) k b c → k ≡ block_count (off + length xs) → size ≡ max (off + length xs) (length bs)
+pub finished : (c : PartBytes) (off : ℕ) (xs bs : List ℕ) (k size : ℕ) → Midway bs (with_bytes_at off xs bs) k c → k ≡ block_count (off + length xs) → size ≡ max (off + length xs) (length bs)
     → StandsBytes (record c { size = size }) (with_bytes_at off xs bs)
 unfolding block_digests
-finished b c off xs bs k size h m k_is size_is = record {
+finished c off xs bs k size m k_is size_is = record {
   size = size_is ∙ sym long;
   digests = subst (StandsFor number_sort c.digests)
       (numbered_alike (mixed_digest bs (with_bytes_at off xs bs) k) (λ n. sha256 (block_item (block n (with_bytes_at off xs bs)))) 0 (max (block_count (length bs)) k) (λ n low. ap (λ x. sha256 (block_item x)) (all n (leb k n) refl))
@@ -278,10 +292,56 @@ finished b c off xs bs k size h m k_is size_is = record {
     each : (n : ℕ) (t : Bool) → leb k n ≡ t → IsBlockOf (with_bytes_at off xs bs) n (loaded_block c n)
     each n true e =
         let le = leb-true k n e in
-        subst (IsBlockOf (with_bytes_at off xs bs) n) (sym (m.rest n le)) (same_block bs (with_bytes_at off xs bs) n (loaded_block b n) (behind n le) (h.blocks n))
+        same_block bs (with_bytes_at off xs bs) n (loaded_block c n) (behind n le) (m.rest n le)
     each n false e = m.done n (leb-false k n e)
 
--- a block that is taken out and put back
-pub put_back : {X : Type 0} (t : Bool) (x y : X) (o : Option X) → x ≡ y → cond t (Some x) (cond t None o) ≡ cond t (Some y) o
-put_back true x y o e = ap Some e
-put_back false x y o e = refl
+-- ---- places for blocks that are new
+
+pub places_itself : (b : PartBytes) → WithPlaces b b
+places_itself b = record { size = refl; digests = refl; blocks = λ n. inl refl }
+
+pub places_on : (b c d : PartBytes) → WithPlaces b c → WithPlaces c d → WithPlaces b d
+places_on b c d h k = record {
+  size = k.size ∙ h.size;
+  digests = k.digests ∙ h.digests;
+  blocks = λ n. elim (k.blocks n) [ inl e ↦ elim (h.blocks n) [ inl f ↦ inl (e ∙ f) | inr f ↦ inr (e ∙ f.0, f.1) ] | inr e ↦ inr (e.0, omega (arith, e.1, h.size)) ];
+}
+
+-- they change nothing
+pub places_stand : (b c : PartBytes) (bs : List ℕ) → WithPlaces b c → StandsBytes b bs → StandsBytes c bs
+places_stand b c bs w h = record {
+  size = w.size ∙ h.size;
+  digests = subst (λ t. StandsFor number_sort t (block_digests bs)) (sym w.digests) h.digests;
+  blocks = λ n. elim (w.blocks n) [ inl e ↦ subst (IsBlockOf bs n) (sym e) (h.blocks n) | inr e ↦ subst (IsBlockOf bs n) (sym e.0) (sym (nothing n (omega (arith, e.1, h.size)))) ];
+}
+  where
+    nothing : (n : ℕ) → length bs ≤ 4096 * n → block n bs ≡ []
+    nothing n past = nil_from_length (block n bs) (length-block n bs ∙ omega (arith, past))
+
+places_some : (b c : PartBytes) → WithPlaces b c → (n : ℕ) → IsSome (loaded_block b n) → IsSome (loaded_block c n)
+places_some b c w n some = elim (w.blocks n) [ inl e ↦ subst IsSome (sym e) some | inr e ↦ subst IsSome (sym e.0) refl ]
+
+pub places_block : (b c : PartBytes) → WithPlaces b c → (n : ℕ) → HasBlock n b → HasBlock n c
+places_block b c w n h = record {
+  path = subst (λ t. IsTrue (reaches number_bits n t)) (sym w.digests) h.path;
+  there = λ lt. places_some b c w n (h.there (subst (λ s. 4096 * n < s) w.size lt));
+}
+
+pub places_more : (b c : PartBytes) → WithPlaces b c → (first end_ : ℕ) → HasPlaces first end_ b → HasPlaces first end_ c
+places_more b c w first end_ h n low high = places_some b c w n (h n low high)
+
+-- one block more is ready
+pub ready_more : (first k : ℕ) (new : List ℕ) (es fs : List (ℕ × Ready)) (r : Ready) → AreReady first k new es → r.block ≡ block k new
+    → ((n : ℕ) → found_at fs n ≡ cond (is_at (nat_cmp k) n) (Some r) (found_at es n)) → AreReady first (k + 1) new fs
+ready_more first k new es fs r was is updates n low high = ap (option_map (λ (x : Ready). x.block)) (updates n) ∙ go (is_at (nat_cmp k) n) refl
+  where
+    below : is_at (nat_cmp k) n ≡ false → n < k
+    below e = grind (arith, nat_tests, e, high)
+
+    go : (t : Bool) → is_at (nat_cmp k) n ≡ t → option_map (λ (x : Ready). x.block) (cond t (Some r) (found_at es n)) ≡ Some (block n new)
+    go true e = ap Some (is ∙ ap (λ j. block j new) (same_number k n e))
+    go false e = was n low (below e)
+
+pub on_err : {X E A : Type 0} (r : Result X E) → A → OnErr r A
+on_err (Ok x) a = tt
+on_err (Err e) a = a

@@ -1,6 +1,6 @@
 -- What a part of a file's bytes stands for, of which blocks may be left on a store.
 use Rattle.std.specs.Prelude.{◌≡◌, ℕ, ◌+◌, ◌*◌, ◌/◌, ◌<◌, ◌≤◌, ◌⊎◌, IsTrue, IsSome, List, [], Option, Some, None, cond, length, min, ⊤}
-use Rattle.std.specs.Option.{unwrap_or}
+use Rattle.std.specs.Option.{option_map}
 use Rattle.su_hash_tree.specs.Edits.{with_value}
 use Rattle.std.specs.List.{Contains}
 use Rattle.std.specs.Map.{lookup}
@@ -16,6 +16,7 @@ use Rattle.su_node.specs.declared.blocks.TheConstants.{BLOCK_SIZE}
 use Rattle.su_node.specs.Field.{block}
 use Rattle.su_node.specs.Digest.{block_item, block_count, block_digests}
 use Rattle.su_part.specs.declared.blocks.PartBytes.{PartBytes}
+use Rattle.su_part.specs.declared.blocks.Ready.{Ready}
 
 -- maps from numbers to digests
 abbrev pub number_sort : Sort ℕ (List ℕ)
@@ -24,10 +25,6 @@ number_sort = sort number_bits number_bytes is_u32 (λ d. d) is_digest
 -- the block that is loaded at a number
 abbrev pub loaded_block : PartBytes → ℕ → Option (List ℕ)
 loaded_block b n = lookup (is_at (nat_cmp n)) b.blocks.entries
-
--- its bytes; none where none is loaded
-abbrev pub loaded_bytes : PartBytes → ℕ → List ℕ
-loaded_bytes b n = unwrap_or (loaded_block b n) []
 
 -- a block that is loaded is the one of its number
 abbrev pub IsBlockOf : List ℕ → ℕ → Option (List ℕ) → Type 0
@@ -72,6 +69,24 @@ pub record IsRewritten (number : ℕ) (bytes : List ℕ) (b c : PartBytes) : Typ
   pub digests : (m : List (ℕ × List ℕ)) → StandsFor number_sort b.digests m
       → StandsFor number_sort c.digests (with_value number_bits number (sha256 (block_item bytes)) m)
   pub blocks : (n : ℕ) → loaded_block c n ≡ cond (is_at (nat_cmp number) n) (Some bytes) (loaded_block b n)
+
+-- c is b with blocks of no bytes loaded behind the end of the file
+pub record WithPlaces (b c : PartBytes) : Type 0 where
+  pub size : c.size ≡ b.size
+  pub digests : c.digests ≡ b.digests
+  pub blocks : (n : ℕ) → (loaded_block c n ≡ loaded_block b n) ⊎ ((loaded_block c n ≡ Some []) × (b.size ≤ BLOCK_SIZE * n))
+
+-- a block, if only one of no bytes, is loaded at each number from `first` on and before `end`
+abbrev pub HasPlaces : ℕ → ℕ → PartBytes → Type 0
+HasPlaces first end_ b = (n : ℕ) → first ≤ n → n < end_ → IsSome (loaded_block b n)
+
+-- the block that is ready for a number
+abbrev pub ready_at : List (ℕ × Ready) → ℕ → Option (List ℕ)
+ready_at es n = option_map (λ r. r.block) (lookup (is_at (nat_cmp n)) es)
+
+-- for each number from `first` on and before `end` the block of these bytes is ready
+abbrev pub AreReady : ℕ → ℕ → List ℕ → List (ℕ × Ready) → Type 0
+AreReady first end_ bs es = (n : ℕ) → first ≤ n → n < end_ → ready_at es n ≡ Some (block n bs)
 
 -- a byte string that is hashed for the bytes: for the tree of their blocks' digests, or for a block
 abbrev pub BytesItem : List ℕ → List ℕ → Type 0

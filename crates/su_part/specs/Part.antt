@@ -13,7 +13,7 @@ use Rattle.su_tree.specs.Collision.{encodings}
 use Rattle.su_tree.specs.Number.{numbers}
 use Rattle.su_tree.specs.Name.{names}
 use Rattle.su_hash_tree.specs.Sort.{Sort, sort}
-use Rattle.su_part_tree.specs.Part.{StandsFor, reaches}
+use Rattle.su_part_tree.specs.Part.{StandsFor, reaches, HasRoot, HasAll as HasTree}
 use Rattle.su_node.specs.Name.{Name}
 use Rattle.su_bytes.specs.declared.file_ids.FileId.{FileId}
 use Rattle.su_node.specs.Inode.{Inode, Content, Content.Bytes, Content.Names}
@@ -22,7 +22,7 @@ use Rattle.su_node.specs.InodeChange.{with_name, map_bytes, with_bytes_at}
 use Rattle.su_table.specs.Tree.{Tree}
 use Rattle.su_table.specs.Handle.{user_table}
 use Rattle.su_part.specs.Item.{MeantInode}
-use Rattle.su_part.specs.Bytes.{number_sort, NoneClash, StandsBytes, BytesItem, HasAllBlocks, HasBlocks, HasBytes, HasWrite}
+use Rattle.su_part.specs.Bytes.{number_sort, NoneClash, StandsBytes, BytesItem, HasAllBlocks, HasBlock, HasBlocks, HasBytes, HasWrite}
 use Rattle.su_part.specs.declared.inodes.PartInode.{PartInode}
 use Rattle.su_part.specs.declared.inodes.PartContent.{PartContent}
 use Rattle.su_part.specs.declared.inodes.PartContent.TheVariants.{Bytes as PartBytes, Names as PartNames}
@@ -56,6 +56,21 @@ HasNameIn x (PartBytes b) = ⊤
 
 abbrev pub HasName : Name → PartInode → Type 0
 HasName x p = HasNameIn x p.content
+
+-- the root's node of a directory's names is loaded; a file has none
+abbrev pub HasRootIn : PartContent → Type 0
+HasRootIn (PartNames t) = HasRoot t
+HasRootIn (PartBytes b) = ⊤
+
+-- all names of a directory are loaded; a file has none
+abbrev pub HasNamesIn : PartContent → Type 0
+HasNamesIn (PartNames t) = HasTree t
+HasNamesIn (PartBytes b) = ⊤
+
+-- no stub stands on the path of any name, or of any block's number, and each block is loaded
+abbrev pub IsAllIn : PartContent → Type 0
+IsAllIn (PartNames t) = (x : Name) → IsTrue (reaches name_bits x t)
+IsAllIn (PartBytes b) = (n : ℕ) → HasBlock n b
 
 -- of these block numbers the paths are loaded, and the blocks that the file has; a directory has none
 abbrev pub HasBlocksIn : ℕ → ℕ → PartContent → Type 0
@@ -185,6 +200,14 @@ pub record StaysLoaded (n : ℕ) (p q : UserPart) : Type 0 where
 -- the inode, and the path of a name of it
 abbrev pub HasNameAt : ℕ → Name → UserPart → Type 0
 HasNameAt n x p = HasAt n (HasName x) p
+
+-- the inode, and the root's node of its names
+abbrev pub HasRootAt : ℕ → UserPart → Type 0
+HasRootAt n p = HasAt n (λ i. HasRootIn i.content) p
+
+-- the inode, and all of its names
+abbrev pub HasNamesAt : ℕ → UserPart → Type 0
+HasNamesAt n p = HasAt n (λ i. HasNamesIn i.content) p
 
 -- the inode, the paths of these block numbers, and the blocks that it has there
 abbrev pub HasBlocksAt : ℕ → ℕ → ℕ → UserPart → Type 0

@@ -1,5 +1,5 @@
 // The bytes of a file of which blocks may be left on a store.
-ghost use Rattle.std.specs.Prelude.{◌≡◌, ◌≢◌, ◌+◌, ◌-◌, ◌*◌, ◌/◌, ◌<◌, ◌≤◌, ◌^◌, ℕ, List, IsSome, Some, true, Err, OnOk, OnErr, IfOk, MatchOption, None, IsTrue, cond, max, [], length, take, drop};
+ghost use Rattle.std.specs.Prelude.{◌≡◌, ◌≢◌, ◌+◌, ◌-◌, ◌*◌, ◌/◌, ◌<◌, ◌≤◌, ◌^◌, ℕ, List, IsSome, Some, true, false, Err, OnOk, OnErr, IfOk, MatchOption, None, IsTrue, cond, max, [], length, take, drop};
 ghost use Rattle.std.specs.BTreeMap.{is_at};
 ghost use Rattle.std.specs.Ordering.{nat_cmp};
 ghost use Rattle.sha2.specs.Sha256.{sha256};
@@ -10,7 +10,7 @@ ghost use Rattle.su_node.specs.Field.{block};
 ghost use Rattle.su_node.specs.InodeChange.{with_size, with_bytes_at};
 ghost use Rattle.su_part_tree.specs.Part.{reaches};
 ghost use Rattle.su_tree.specs.Number.{number_bits};
-ghost use Rattle.su_part.specs.Bytes.{loaded_block, loaded_bytes, HasWrite, IsRewritten, StandsBytes, HasAllBlocks, HasBlock, HasBlocks, HasBytes, BytesItem, NoneClash};
+ghost use Rattle.su_part.specs.Bytes.{loaded_block, ready_at, AreReady, HasPlaces, WithPlaces, HasWrite, IsRewritten, StandsBytes, HasAllBlocks, HasBlock, HasBlocks, HasBytes, BytesItem, NoneClash};
 
 use sha2::{Digest as _, Sha256};
 use std::alloc::{AllocError, Global};
@@ -19,7 +19,7 @@ use std::marker::Model;
 use su_block::BlockSource;
 use su_bytes::{Digest, Refusal};
 use su_node::BLOCK_SIZE;
-use su_part_tree::PartTree;
+use su_part_tree::{PartTree, Room};
 
 /// The bytes of a block.
 #[derive(Drop)]
@@ -33,6 +33,18 @@ impl Model for Block {
     ghost Value = { List ℕ };
 
     ghost view = { λ b. b.bytes.items };
+}
+
+impl Clone for Block {
+    ghost use Rattle.std.specs.Prelude.{◌≡◌};
+
+    ghost is_clone = { λ block copy. copy ≡ block };
+
+    fn clone(&self) -> Result<Block, AllocError> {
+        let mut bytes = Vec::with_capacity(*self.bytes.allocator(), BLOCK_SIZE)?;
+        bytes.extend_from_slice(self.as_slice())?;
+        Ok(Block { bytes })
+    }
 }
 
 impl Block {
@@ -119,6 +131,13 @@ impl Block {
     }
 }
 
+/// A block that is to be put at a number, and room for its digest.
+#[derive(Drop)]
+pub(crate) struct Ready {
+    block: Block,
+    room: Room<u32, Digest>,
+}
+
 /// The bytes of a file: how many, the digests of its blocks, and those blocks that are loaded.
 #[derive(Drop)]
 pub(crate) struct PartBytes {
@@ -140,6 +159,34 @@ impl PartBytes {
             blocks: BTreeMap::new(alloc),
             alloc,
         }
+    }
+
+    /// Makes no bytes, of which all is loaded.
+    pub fn empty(alloc: Global) -> PartBytes
+        ensures stands { StandsBytes result [] }
+        ensures has { (n : ℕ) → HasBlock n result }
+    {
+        PartBytes {
+            size: 0,
+            digests: PartTree::empty(alloc),
+            blocks: BTreeMap::new(alloc),
+            alloc,
+        }
+    }
+
+    /// Copies the bytes; what is left on the store is left there in the copy. Fails where memory is
+    /// wanting.
+    pub fn copy(&self) -> Result<PartBytes, AllocError>
+        ensures stands { (bs : List ℕ) → StandsBytes self.now bs
+            → IfOk result (λ copy. StandsBytes copy bs) }
+        ensures all { IfOk result (λ copy. HasAllBlocks self.now copy) }
+    {
+        Ok(PartBytes {
+            size: self.size,
+            digests: self.digests.copy()?,
+            blocks: self.blocks.clone()?,
+            alloc: self.alloc,
+        })
     }
 
     /// Returns the number of bytes.
@@ -302,61 +349,129 @@ impl PartBytes {
     }
 
     /// Writes bytes from an offset on, and fills a gap before them with zeros. What it needs is
-    /// loaded. Where memory is wanting, the bytes are to be dropped.
+    /// loaded. Fails where memory is wanting; then it stands for what it stood for, and what was
+    /// loaded is loaded.
     pub fn write_at(&mut self, off: u32, bytes: &[u8]) -> Result<(), AllocError>
         requires small { off + length bytes.now < 2 ^ 32 }
         requires there { HasWrite off (length bytes.now) self.old }
-        ensures { (bs : List ℕ) → StandsBytes self.old bs
+        ensures ok { (bs : List ℕ) → StandsBytes self.old bs
             → OnOk result (StandsBytes self.new (with_bytes_at off bytes.now bs)) }
+        ensures err { (bs : List ℕ) → StandsBytes self.old bs
+            → OnErr result (StandsBytes self.new bs) }
+        ensures keeps { OnErr result (HasAllBlocks self.old self.new) }
     {
         let end = off as usize + bytes.len();
         let size = end.max(self.size as usize);
         let first = off.min(self.size) as usize / BLOCK_SIZE;
-        for number in first..count_for(end) {
-            self.write_block(number as u32, size, off as usize, bytes)?;
+        let until = count_for(end);
+        let mut ready = self.make_ready(first as u32, until as u32, size, off as usize, bytes)?;
+        for number in first..until {
+            self.put_ready(number as u32, &mut ready);
         }
         self.size = size as u32;
         Ok(())
     }
 
-    /// Makes a block, which is loaded or new, what it is after the bytes are written from the
-    /// offset `off` on and the file has that size.
-    fn write_block(
+    /// Makes the blocks of these numbers, each loaded or new, as they are after the bytes are
+    /// written from the offset `off` on and the file has that size, and a place for each. Fails
+    /// where memory is wanting.
+    fn make_ready(
+        &mut self,
+        first: u32,
+        until: u32,
+        size: usize,
+        off: usize,
+        bytes: &[u8],
+    ) -> Result<BTreeMap<u32, Ready>, AllocError>
+        requires there { HasBlocks first until self.old }
+        requires last { BLOCK_SIZE * until < size + BLOCK_SIZE }
+        requires within { off + length bytes.now ≤ size }
+        requires small { size < 2 ^ 33 }
+        ensures ready { (bs : List ℕ) → StandsBytes self.old bs
+            → size ≡ max (off + length bytes.now) (length bs)
+            → IfOk result (λ ready.
+            AreReady first until (with_bytes_at off bytes.now bs) ready.entries) }
+        ensures places { OnOk result (HasPlaces first until self.new) }
+        ensures same { WithPlaces self.old self.new }
+    {
+        let mut all = BTreeMap::new(self.alloc);
+        for number in first..until {
+            let ready = self.ready_block(number, size, off, bytes)?;
+            all.insert(number, ready)?;
+        }
+        Ok(all)
+    }
+
+    /// Makes one such block, and its place. Fails where memory is wanting.
+    fn ready_block(
         &mut self,
         number: u32,
         size: usize,
         off: usize,
         bytes: &[u8],
-    ) -> Result<(), AllocError>
-        requires path { IsTrue (reaches number_bits number self.old.digests) }
-        requires there { BLOCK_SIZE * number < size }
+    ) -> Result<Ready, AllocError>
+        requires there { HasBlock number self.old }
+        requires start { BLOCK_SIZE * number < size }
         requires within { off + length bytes.now ≤ size }
         requires small { size < 2 ^ 33 }
-        ensures ok { (bs : List ℕ) → loaded_bytes self.old number ≡ block number bs
+        ensures ready { (bs : List ℕ) → StandsBytes self.old bs
             → size ≡ max (off + length bytes.now) (length bs)
-            → OnOk result (IsRewritten number (block number (with_bytes_at off bytes.now bs))
-            self.old self.new) }
-        ensures paths { (n : ℕ) → IsTrue (reaches number_bits n self.old.digests)
-            → IsTrue (reaches number_bits n self.new.digests) }
+            → IfOk result (λ ready. ready.block ≡ block number (with_bytes_at off bytes.now bs)) }
+        ensures place { OnOk result (IsSome (loaded_block self.new number)) }
+        ensures same { WithPlaces self.old self.new }
     {
-        let mut block = self.take_block(number);
+        self.make_place(number)?;
+        let mut block = self.copy_block(number)?;
         block.write(number as usize * BLOCK_SIZE, size, off, bytes)?;
-        let digest = block.digest();
-        self.blocks.insert(number, block)?;
-        self.digests.put(number, digest)?;
+        let room = self.digests.room()?;
+        Ok(Ready { block, room })
+    }
+
+    /// Loads a block of no bytes where none is loaded, as behind the end of the file. Fails where
+    /// memory is wanting.
+    fn make_place(&mut self, number: u32) -> Result<(), AllocError>
+        requires { HasBlock number self.old }
+        ensures place { OnOk result (IsSome (loaded_block self.new number)) }
+        ensures same { WithPlaces self.old self.new }
+    {
+        if self.blocks.contains_key(&number) {
+            return Ok(());
+        }
+        self.blocks.insert(number, Block::empty(self.alloc))?;
         Ok(())
     }
 
-    /// Takes out the block that is loaded at a number; one of no bytes where none is.
-    fn take_block(&mut self, number: u32) -> Block
-        ensures value { result ≡ loaded_bytes self.old number }
-        ensures blocks { (q : ℕ) → loaded_block self.new q
-            ≡ cond (is_at (nat_cmp number) q) None (loaded_block self.old q) }
-        ensures digests { self.new.digests ≡ self.old.digests }
-        ensures size { self.new.size ≡ self.old.size }
+    /// Copies a block that is loaded. Fails where memory is wanting.
+    fn copy_block(&self, number: u32) -> Result<Block, AllocError>
+        requires { IsSome (loaded_block self.now number) }
+        ensures { (bytes : List ℕ) → loaded_block self.now number ≡ Some bytes
+            → IfOk result (λ block. block ≡ bytes) }
     {
-        let empty = Block::empty(self.alloc);
-        self.blocks.remove(&number).unwrap_or(empty)
+        match self.blocks.get(&number) {
+            None => unreachable!(),
+            Some(block) => block.clone(),
+        }
+    }
+
+    /// Puts the block that is ready for a number, where one is, in the place of the one that is
+    /// loaded. It takes no memory.
+    fn put_ready(&mut self, number: u32, all: &mut BTreeMap<u32, Ready>)
+        requires { IsTrue (reaches number_bits number self.old.digests) }
+        ensures put { (bytes : List ℕ) → IsSome (loaded_block self.old number)
+            → ready_at all.old.entries number ≡ Some bytes
+            → IsRewritten number bytes self.old self.new }
+        ensures paths { (n : ℕ) → IsTrue (reaches number_bits n self.old.digests)
+            → IsTrue (reaches number_bits n self.new.digests) }
+        ensures others { (n : ℕ) → is_at (nat_cmp number) n ≡ false
+            → ready_at all.new.entries n ≡ ready_at all.old.entries n }
+    {
+        let Some(Ready { block, room }) = all.remove(&number) else {
+            return;
+        };
+        let digest = block.digest();
+        // a block is there, so without memory
+        let _done = self.blocks.insert(number, block);
+        self.digests.put_in(number, digest, room);
     }
 }
 

@@ -1,16 +1,16 @@
 // Inodes of which parts may be left on a store.
 ghost use Rattle.std.specs.Prelude.{◌≡◌, ◌+◌, ◌<◌, ◌^◌, ℕ, List, length, true, Err, OnOk, OnErr, IfOk, IfErr, Some, None, option_map};
 ghost use Rattle.su_bytes.specs.declared.refusals.Refusal.TheVariants.{Malformed, NoMemory};
-ghost use Rattle.su_node.specs.Inode.{Inode, Content, kind_of, size_of, bytes_of, within};
+ghost use Rattle.su_node.specs.Inode.{Inode, Content, kind_of, size_of, bytes_of, within, has_no_names, names_of, new_inode};
 ghost use Rattle.su_node.specs.Digest.{content_digest, inode_digest, kind_byte};
 ghost use Rattle.su_node.specs.Field.{Field.NameOf, file_value, field_value};
 ghost use Rattle.su_part.specs.Item.{MeantInode, item_of};
-ghost use Rattle.su_part.specs.Part.{StandsContent, StandsInode, FreeInode, HasAllIn, HasName, HasBlocksIn, HasBytesIn, HasWriteIn, with_named, with_links, with_written};
+ghost use Rattle.su_part.specs.Part.{StandsContent, StandsInode, FreeInode, HasAllIn, HasName, HasRootIn, HasNamesIn, IsAllIn, HasBlocksIn, HasBytesIn, HasWriteIn, with_named, with_links, with_written};
 
 use crate::blocks::PartBytes;
 use crate::items::InodeItem;
 use sha2::{Digest as _, Sha256};
-use std::alloc::Global;
+use std::alloc::{AllocError, Global};
 use su_block::BlockSource;
 use su_bytes::{Digest, FileId, Kind, Name, Refusal};
 use su_part_tree::PartTree;
@@ -43,6 +43,19 @@ impl PartContent {
         }
     }
 
+    /// Copies the content; what is left on the store is left there in the copy. Fails where memory
+    /// is wanting.
+    fn copy(&self) -> Result<PartContent, AllocError>
+        ensures stands { (c : Content) → StandsContent self.now c
+            → IfOk result (λ copy. StandsContent copy c) }
+        ensures all { IfOk result (λ copy. HasAllIn self.now copy) }
+    {
+        match self {
+            PartContent::Bytes(bytes) => Ok(PartContent::Bytes(bytes.copy()?)),
+            PartContent::Names(names) => Ok(PartContent::Names(names.copy()?)),
+        }
+    }
+
     /// The digest is at hand.
     fn digest(&self) -> Digest
         ensures { (c : Content) → StandsContent self.now c → result ≡ content_digest c }
@@ -63,6 +76,22 @@ pub struct PartInode {
 }
 
 impl PartInode {
+    /// Makes a new inode: empty, with one link. All of it is loaded.
+    pub(crate) fn new(alloc: Global, home: FileId, kind: Kind) -> PartInode
+        ensures stands { StandsInode result (new_inode home kind) }
+        ensures all { IsAllIn result.content }
+    {
+        let content = match kind {
+            Kind::File => PartContent::Bytes(PartBytes::empty(alloc)),
+            Kind::Dir => PartContent::Names(PartTree::empty(alloc)),
+        };
+        PartInode {
+            home,
+            links: 1,
+            content,
+        }
+    }
+
     /// Returns the file id that it was made for.
     pub fn home(&self) -> FileId
         ensures { (i : Inode) → StandsInode self.now i → result ≡ i.home }
@@ -109,6 +138,21 @@ impl PartInode {
         }
     }
 
+    /// Copies the inode; what is left on the store is left there in the copy. Fails only with
+    /// `NoMemory`.
+    pub fn copy(&self) -> Result<PartInode, Refusal>
+        ensures stands { (i : Inode) → StandsInode self.now i
+            → IfOk result (λ copy. StandsInode copy i) }
+        ensures all { IfOk result (λ copy. HasAllIn self.now.content copy.content) }
+        ensures refused { IfErr result (λ e. e ≡ NoMemory) }
+    {
+        Ok(PartInode {
+            home: self.home,
+            links: self.links,
+            content: self.content.copy()?,
+        })
+    }
+
     /// Loads what the path of a name needs; a file has none.
     pub(crate) fn fetch_name<S: BlockSource>(
         &mut self,
@@ -127,6 +171,41 @@ impl PartInode {
         match &mut self.content {
             PartContent::Bytes(_) => Ok(()),
             PartContent::Names(names) => names.reach(name, source),
+        }
+    }
+
+    /// Loads the root's node of a directory's names; a file has none. Refused as the load of a name
+    /// is.
+    pub(crate) fn fetch_root<S: BlockSource>(&mut self, source: &mut S) -> Result<(), Refusal>
+        requires { S.is_checked ≡ true }
+        ensures stands { (i : Inode) → StandsInode self.old i
+            → FreeInode i (S.may_give source.old) → StandsInode self.new i }
+        ensures malformed { result ≡ Err (Malformed 0) → (i : Inode) → StandsInode self.old i
+            → FreeInode i (S.may_give source.old) → ⊥ }
+        ensures has { OnOk result (HasRootIn self.new.content) }
+        ensures keeps { HasAllIn self.old.content self.new.content }
+        ensures no_more { (s : List ℕ) → S.may_give source.new s → S.may_give source.old s }
+    {
+        match &mut self.content {
+            PartContent::Bytes(_) => Ok(()),
+            PartContent::Names(names) => names.load(source),
+        }
+    }
+
+    /// Loads all names of a directory; a file has none. Refused as the load of a name is.
+    pub(crate) fn fetch_names<S: BlockSource>(&mut self, source: &mut S) -> Result<(), Refusal>
+        requires { S.is_checked ≡ true }
+        ensures stands { (i : Inode) → StandsInode self.old i
+            → FreeInode i (S.may_give source.old) → StandsInode self.new i }
+        ensures malformed { result ≡ Err (Malformed 0) → (i : Inode) → StandsInode self.old i
+            → FreeInode i (S.may_give source.old) → ⊥ }
+        ensures has { OnOk result (HasNamesIn self.new.content) }
+        ensures keeps { HasAllIn self.old.content self.new.content }
+        ensures no_more { (s : List ℕ) → S.may_give source.new s → S.may_give source.old s }
+    {
+        match &mut self.content {
+            PartContent::Bytes(_) => Ok(()),
+            PartContent::Names(names) => names.reach_all(source),
         }
     }
 
@@ -229,6 +308,31 @@ impl PartInode {
         }
     }
 
+    /// Tells whether it has no names, as a file; the root's node of a directory's names is loaded.
+    pub fn is_bare(&self) -> bool
+        requires { HasRootIn self.now.content }
+        ensures { (i : Inode) → StandsInode self.now i → result ≡ has_no_names (Some i) }
+    {
+        match &self.content {
+            PartContent::Bytes(_) => true,
+            PartContent::Names(names) => names.is_empty(),
+        }
+    }
+
+    /// Lists the names of a directory by their bytes, and where they lead; none for a file. All
+    /// names are loaded. Fails only with `NoMemory`.
+    pub fn names(&self) -> Result<Option<Vec<(Name, FileId)>>, Refusal>
+        requires { HasNamesIn self.now.content }
+        ensures value { (i : Inode) → StandsInode self.now i → IfOk result (λ list.
+            option_map (λ v. v.items) list ≡ names_of (Some i)) }
+        ensures refused { IfErr result (λ e. e ≡ NoMemory) }
+    {
+        match &self.content {
+            PartContent::Bytes(_) => Ok(None),
+            PartContent::Names(names) => Ok(Some(names.entries()?)),
+        }
+    }
+
     /// Makes a name lead to `file`; does nothing to a file. The name's path is loaded. Fails only
     /// with `NoMemory`, and then changes nothing.
     pub(crate) fn name_set(&mut self, name: Name, file: FileId) -> Result<(), Refusal>
@@ -268,14 +372,17 @@ impl PartInode {
     }
 
     /// Writes bytes into a file from an offset on, and fills a gap before them with zeros; does
-    /// nothing to a directory. What it needs is loaded. Fails only with `NoMemory`; then the inode
-    /// is to be dropped.
+    /// nothing to a directory. What it needs is loaded. Fails only with `NoMemory`; then it stands
+    /// for what it stood for, and what was loaded is loaded.
     pub(crate) fn write_at(&mut self, off: u32, bytes: &[u8]) -> Result<(), Refusal>
         requires small { off + length bytes.now < 2 ^ 32 }
         requires there { HasWriteIn off (length bytes.now) self.old.content }
         ensures ok { (i : Inode) → StandsInode self.old i
             → OnOk result (StandsInode self.new (with_written off bytes.now i)) }
         ensures refused { IfErr result (λ e. e ≡ NoMemory) }
+        ensures err { (i : Inode) → StandsInode self.old i
+            → OnErr result (StandsInode self.new i) }
+        ensures keeps { OnErr result (HasAllIn self.old.content self.new.content) }
     {
         match &mut self.content {
             PartContent::Bytes(blocks) => Ok(blocks.write_at(off, bytes)?),

@@ -1,31 +1,31 @@
 // A user's i-table of which parts may be left on a store.
-ghost use Rattle.std.specs.Prelude.{false, ◌≡◌, ◌&&◌, ◌+◌, ◌<◌, ◌≤◌, ◌^◌, ℕ, List, length, IsTrue, true, Err, OnOk, OnErr, IfOk, IfErr, Some, None, option_map, option_copied};
+ghost use Rattle.std.specs.Prelude.{false, ◌≡◌, ◌≢◌, ◌&&◌, ◌+◌, ◌<◌, ◌≤◌, ◌^◌, ℕ, List, length, IsTrue, true, Err, OnOk, OnErr, IfOk, IfErr, Some, None, option_map, option_copied};
 ghost use Rattle.su_bytes.specs.FileId.{is_file_id};
 ghost use Rattle.su_bytes.specs.Name.{is_name};
 ghost use Rattle.std.specs.BTreeMap.{is_at};
 ghost use Rattle.std.specs.FinMap.{get};
 ghost use Rattle.std.specs.Ordering.{nat_cmp};
-ghost use Rattle.su_node.specs.Inode.{Inode, bytes_of, within};
-ghost use Rattle.su_node.specs.InodeChange.{InodeChange.Named, InodeChange.Linked, InodeChange.Written, InodeChange.Resized, InodeChange.Copied, InodeChange.Gone};
+ghost use Rattle.su_node.specs.Inode.{Inode, bytes_of, within, names_of};
+ghost use Rattle.su_node.specs.InodeChange.{InodeChange.Made, InodeChange.Named, InodeChange.Linked, InodeChange.Written, InodeChange.Resized, InodeChange.Copied, InodeChange.Gone};
 ghost use Rattle.su_node.specs.Field.{Field.NameOf, file_value};
 ghost use Rattle.su_table.specs.Cell.{Cell.At, val};
 ghost use Rattle.su_table.specs.Edit.{Edit.Inodes, edit};
 ghost use Rattle.su_bytes.specs.declared.refusals.Refusal.TheVariants.{Malformed, NoMemory};
 ghost use Rattle.su_bytes.specs.declared.principals.Principal.TheVariants.{User};
 ghost use Rattle.su_table.specs.Handle.{handle};
-ghost use Rattle.su_table.specs.Query.{size_at};
+ghost use Rattle.su_table.specs.Query.{size_at, is_bare_at};
 ghost use Rattle.su_table.specs.Tree.{Tree};
 ghost use Rattle.su_part.specs.Item.{MeantInode};
 ghost use Rattle.su_part_tree.specs.Part.{reaches};
 ghost use Rattle.su_tree.specs.Number.{number_bits};
-ghost use Rattle.su_part.specs.Part.{MeantUser, StandsInode, StandsJust, StandsUser, Free, HasAll, HasInode, HasName, HasNameAt, HasWriteOf, HasBlocksAt, HasBytesAt, HasWriteAt, IsOpenAt, IsThere, StaysLoaded, at_number};
+ghost use Rattle.su_part.specs.Part.{MeantUser, StandsInode, StandsJust, StandsUser, Free, HasAll, HasInode, HasName, HasNameAt, HasRootAt, HasNamesAt, HasWriteOf, HasBlocksAt, HasBytesAt, HasWriteAt, IsOpenAt, IsThere, StaysLoaded, at_number};
 
 use crate::inodes::PartInode;
 use crate::items::decode;
 use std::alloc::Global;
 use std::collections::BTreeMap;
 use su_block::BlockSource;
-use su_bytes::{Digest, FileId, Inum, Name, Refusal};
+use su_bytes::{Digest, FileId, Inum, Kind, Name, Refusal};
 use su_part_tree::PartTree;
 
 /// A user's i-table, and those of the user's inodes that are loaded.
@@ -125,6 +125,52 @@ impl UserPart {
 }
 
 impl UserPart {
+    /// Loads the inode of a number, and the root's node of its names. Refused as `fetch_inode` is.
+    pub fn fetch_root<S: BlockSource>(
+        &mut self,
+        number: Inum,
+        source: &mut S,
+    ) -> Result<(), Refusal>
+        requires { S.is_checked ≡ true }
+        ensures stands { (u : ℕ) (T : Tree) → StandsUser u self.old T
+            → Free u T (S.may_give source.old) → StandsUser u self.new T }
+        ensures malformed { result ≡ Err (Malformed 0) → (u : ℕ) (T : Tree)
+            → StandsUser u self.old T → Free u T (S.may_give source.old) → ⊥ }
+        ensures has { OnOk result (HasRootAt number self.new) }
+        ensures keeps { HasAll self.old self.new }
+        ensures no_more { (s : List ℕ) → S.may_give source.new s → S.may_give source.old s }
+    {
+        self.fetch_inode(number, source)?;
+        match self.inodes.get_mut(&number.number()) {
+            Some(inode) => inode.fetch_root(source),
+            None => Ok(()),
+        }
+    }
+
+    /// Loads the inode of a number, and all of its names. Refused as `fetch_inode` is.
+    pub fn fetch_names<S: BlockSource>(
+        &mut self,
+        number: Inum,
+        source: &mut S,
+    ) -> Result<(), Refusal>
+        requires { S.is_checked ≡ true }
+        ensures stands { (u : ℕ) (T : Tree) → StandsUser u self.old T
+            → Free u T (S.may_give source.old) → StandsUser u self.new T }
+        ensures malformed { result ≡ Err (Malformed 0) → (u : ℕ) (T : Tree)
+            → StandsUser u self.old T → Free u T (S.may_give source.old) → ⊥ }
+        ensures has { OnOk result (HasNamesAt number self.new) }
+        ensures keeps { HasAll self.old self.new }
+        ensures no_more { (s : List ℕ) → S.may_give source.new s → S.may_give source.old s }
+    {
+        self.fetch_inode(number, source)?;
+        match self.inodes.get_mut(&number.number()) {
+            Some(inode) => inode.fetch_names(source),
+            None => Ok(()),
+        }
+    }
+}
+
+impl UserPart {
     /// Loads the inode of a number, the paths of its block numbers from `first` on and before
     /// `until`, and the blocks that it has there. Refused as `fetch_inode` is.
     pub fn fetch_blocks<S: BlockSource>(
@@ -206,7 +252,7 @@ impl UserPart {
 impl UserPart {
     /// Makes a name of the directory of a number lead to the file. What it needs is loaded. Does
     /// nothing where no directory stands. Fails only with `NoMemory`; then it stands for what it
-    /// stood for.
+    /// stood for, and what was loaded is loaded.
     pub fn add_name(&mut self, number: Inum, name: Name, file: FileId) -> Result<(), Refusal>
         requires loaded { IsOpenAt number (HasName name) self.old }
         requires meant { IsTrue (is_name name && is_file_id file) }
@@ -217,6 +263,7 @@ impl UserPart {
         ensures refused { IfErr result (λ e. e ≡ NoMemory) }
         ensures err { (u : ℕ) (T : Tree) → StandsUser u self.old T
             → OnErr result (StandsUser u self.new T) }
+        ensures keeps { OnErr result (HasAll self.old self.new) }
     {
         let key = number.number();
         if let Some(inode) = self.inodes.get_mut(&key) {
@@ -266,7 +313,7 @@ impl UserPart {
 
     /// Writes bytes into the file of a number from an offset on, and fills a gap before them with
     /// zeros. What it needs is loaded. Does nothing where no file stands. Fails only with
-    /// `NoMemory`; then the inode is left on the store, as the table has it.
+    /// `NoMemory`; then it stands for what it stood for, and what was loaded is loaded.
     pub fn write_at(&mut self, number: Inum, off: u32, bytes: &[u8]) -> Result<(), Refusal>
         requires small { off + length bytes.now < 2 ^ 32 }
         requires loaded { IsOpenAt number (HasWriteOf off (length bytes.now)) self.old }
@@ -277,13 +324,11 @@ impl UserPart {
         ensures refused { IfErr result (λ e. e ≡ NoMemory) }
         ensures err { (u : ℕ) (T : Tree) → StandsUser u self.old T
             → OnErr result (StandsUser u self.new T) }
+        ensures keeps { OnErr result (HasAll self.old self.new) }
     {
         let key = number.number();
         if let Some(inode) = self.inodes.get_mut(&key) {
-            if let Err(refused) = inode.write_at(off, bytes) {
-                self.inodes.remove(&key);
-                return Err(refused);
-            }
+            inode.write_at(off, bytes)?;
             let digest = inode.digest();
             // the number is there, so without memory
             let _done = self.table.put(key, digest);
@@ -293,7 +338,8 @@ impl UserPart {
 
     /// Fills the file of a number with zeros up to a size in bytes, which is not below its own.
     /// What a write of no bytes at that offset needs is loaded. Does nothing where no file stands.
-    /// Fails only with `NoMemory`; then the inode is left on the store, as the table has it.
+    /// Fails only with `NoMemory`; then it stands for what it stood for, and what was loaded is
+    /// loaded.
     pub fn grow(&mut self, number: Inum, size: u32) -> Result<(), Refusal>
         requires { IsOpenAt number (HasWriteOf size 0) self.old }
         ensures ok { (u : ℕ) (T : Tree) → StandsUser u self.old T → IsThere u T number self.old
@@ -304,12 +350,13 @@ impl UserPart {
         ensures refused { IfErr result (λ e. e ≡ NoMemory) }
         ensures err { (u : ℕ) (T : Tree) → StandsUser u self.old T
             → OnErr result (StandsUser u self.new T) }
+        ensures keeps { OnErr result (HasAll self.old self.new) }
     {
         self.write_at(number, size, &[])
     }
 
     /// Puts an inode at a number, whose path is loaded, in the place of what stands there. Fails
-    /// only with `NoMemory`; then what stood there is left on the store, as the table has it.
+    /// only with `NoMemory`; then it stands for what it stood for, and what was loaded is loaded.
     pub fn put_inode(&mut self, number: Inum, inode: PartInode) -> Result<(), Refusal>
         requires { IsTrue (reaches number_bits number self.old.table) }
         ensures ok { (u : ℕ) (T : Tree) (i : Inode) → StandsUser u self.old T → StandsInode inode i
@@ -319,15 +366,37 @@ impl UserPart {
         ensures refused { IfErr result (λ e. e ≡ NoMemory) }
         ensures err { (u : ℕ) (T : Tree) → StandsUser u self.old T
             → OnErr result (StandsUser u self.new T) }
+        ensures keeps { OnErr result (HasAll self.old self.new) }
     {
         let key = number.number();
         let digest = inode.digest();
-        self.inodes.insert(key, inode)?;
-        if self.table.put(key, digest).is_err() {
-            self.inodes.remove(&key);
-            return Err(Refusal::NoMemory);
+        if let Some(place) = self.inodes.get_mut(&key) {
+            self.table.put(key, digest)?;
+            *place = inode;
+            return Ok(());
         }
+        let room = self.table.room()?;
+        self.inodes.insert(key, inode)?;
+        self.table.put_in(key, digest, room);
         Ok(())
+    }
+
+    /// Makes a new inode of a number, whose path is loaded, in the place of what stands there: empty,
+    /// with one link. Fails only with `NoMemory`; then it stands for what it stood for, and what was
+    /// loaded is loaded.
+    pub fn make_inode(&mut self, number: Inum, home: FileId, kind: Kind) -> Result<(), Refusal>
+        requires path { IsTrue (reaches number_bits number self.old.table) }
+        requires meant { IsTrue (is_file_id home) }
+        ensures ok { (u : ℕ) (T : Tree) → StandsUser u self.old T
+            → OnOk result (StandsUser u self.new (edit T (Inodes (u, number) (Made home kind)))) }
+        ensures stays { OnOk result (StaysLoaded number self.old self.new) }
+        ensures refused { IfErr result (λ e. e ≡ NoMemory) }
+        ensures err { (u : ℕ) (T : Tree) → StandsUser u self.old T
+            → OnErr result (StandsUser u self.new T) }
+        ensures keeps { OnErr result (HasAll self.old self.new) }
+    {
+        let inode = PartInode::new(self.alloc, home, kind);
+        self.put_inode(number, inode)
     }
 
     /// Takes out the inode of a number, which is loaded, if one stands there. It takes no memory.
@@ -339,6 +408,10 @@ impl UserPart {
             → StandsUser u self.new (edit T (Inodes (u, number) Gone)) }
         ensures others { (m : ℕ) → is_at (nat_cmp number) m ≡ false
             → at_number self.new.inodes.entries m ≡ at_number self.old.inodes.entries m }
+        ensures paths { (u : ℕ) (T : Tree) → StandsUser u self.old T → (m : ℕ) → m < 2 ^ 32
+            → is_at (nat_cmp number) m ≡ false → get T.inodes (u, m) ≢ None
+            → IsTrue (reaches number_bits m self.old.table)
+            → IsTrue (reaches number_bits m self.new.table) }
     {
         let key = number.number();
         self.table.take(&key);
@@ -397,6 +470,55 @@ impl UserPart {
         self.fetch_bytes(number, off, len, source)?;
         match self.inodes.get(&number.number()) {
             Some(inode) => inode.read_at(off, len),
+            None => Ok(None),
+        }
+    }
+}
+
+impl UserPart {
+    /// Tells whether the directory of a number has no names; so is a file, and a number where
+    /// nothing stands. Loads what it needs, and is refused as `fetch_inode` is.
+    pub fn is_bare<S: BlockSource>(&mut self, number: Inum, source: &mut S) -> Result<bool, Refusal>
+        requires { S.is_checked ≡ true }
+        ensures value { (u : ℕ) (T : Tree) → StandsUser u self.old T
+            → Free u T (S.may_give source.old)
+            → IfOk result (λ b. b ≡ is_bare_at T (u, number)) }
+        ensures stands { (u : ℕ) (T : Tree) → StandsUser u self.old T
+            → Free u T (S.may_give source.old) → StandsUser u self.new T }
+        ensures malformed { result ≡ Err (Malformed 0) → (u : ℕ) (T : Tree)
+            → StandsUser u self.old T → Free u T (S.may_give source.old) → ⊥ }
+        ensures keeps { HasAll self.old self.new }
+        ensures no_more { (s : List ℕ) → S.may_give source.new s → S.may_give source.old s }
+    {
+        self.fetch_root(number, source)?;
+        match self.inodes.get(&number.number()) {
+            Some(inode) => Ok(inode.is_bare()),
+            None => Ok(true),
+        }
+    }
+
+    /// Lists the names of the directory of a number by their bytes, and where they lead; none where
+    /// no directory stands. Loads what it needs, and is refused as `fetch_inode` is.
+    pub fn names<S: BlockSource>(
+        &mut self,
+        number: Inum,
+        source: &mut S,
+    ) -> Result<Option<Vec<(Name, FileId)>>, Refusal>
+        requires { S.is_checked ≡ true }
+        ensures value { (u : ℕ) (T : Tree) → StandsUser u self.old T
+            → Free u T (S.may_give source.old)
+            → IfOk result (λ list. option_map (λ v. v.items) list
+            ≡ names_of (get T.inodes (u, number))) }
+        ensures stands { (u : ℕ) (T : Tree) → StandsUser u self.old T
+            → Free u T (S.may_give source.old) → StandsUser u self.new T }
+        ensures malformed { result ≡ Err (Malformed 0) → (u : ℕ) (T : Tree)
+            → StandsUser u self.old T → Free u T (S.may_give source.old) → ⊥ }
+        ensures keeps { HasAll self.old self.new }
+        ensures no_more { (s : List ℕ) → S.may_give source.new s → S.may_give source.old s }
+    {
+        self.fetch_names(number, source)?;
+        match self.inodes.get(&number.number()) {
+            Some(inode) => inode.names(),
             None => Ok(None),
         }
     }

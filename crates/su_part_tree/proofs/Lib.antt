@@ -1,3 +1,5 @@
 pub mod Loading
 pub mod Seeing
 pub mod Putting
+pub mod Changed
+pub mod Staying

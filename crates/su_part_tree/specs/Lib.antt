@@ -3,3 +3,4 @@ pub mod Items
 pub mod Loading
 pub mod Putting
 pub mod Part
+pub mod Taking

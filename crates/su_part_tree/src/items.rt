@@ -3,11 +3,13 @@ ghost use Rattle.std.specs.Prelude.{◌≡◌, ◌≢◌, ◌≤◌, ℕ, ◌∷
 ghost use Rattle.std.specs.Int.{w32, to_be_bytes};
 ghost use Rattle.su_bytes.specs.FileId.{is_file_id, file_id_bytes};
 ghost use Rattle.su_bytes.specs.declared.file_ids.FileId.{FileId as File};
+ghost use Rattle.su_bytes.specs.Place.{is_place};
+ghost use Rattle.su_tree.specs.Value.{place_bytes};
 ghost use Rattle.su_part_tree.specs.Spelling.{IsRead};
 
 use crate::loads::digest_at;
 use std::alloc::{AllocError, Global};
-use su_bytes::{Digest, FileId, Group, Inum, Name, Refusal, User};
+use su_bytes::{Digest, FileId, Group, Inum, Name, Place, Refusal, User};
 use su_tree::{TreeKey, TreeValue};
 
 /// A node of a tree, as an item spells it.
@@ -126,5 +128,38 @@ fn file_id_of(kind: u8, number: u8, inum: u32) -> Option<FileId>
             Err(_) => None,
         },
         _ => None,
+    }
+}
+
+impl ReadValue for Place {
+    fn read(_alloc: Global, bytes: &[u8]) -> Result<Option<Place>, AllocError> {
+        match bytes {
+            [user, a, b, c, d] => {
+                let inum = u32::from_be_bytes([*a, *b, *c, *d]);
+                Ok(place_of(*user, inum))
+            }
+            _ => Ok(None),
+        }
+    }
+
+    fn spell(&self, item: &mut Vec<u8>) -> Result<(), AllocError> {
+        let (user, number) = *self;
+        item.extend_from_slice(&[user.number()])?;
+        item.extend_from_slice(&number.number().to_be_bytes())
+    }
+}
+
+/// The place of that user and number, if there is one.
+fn place_of(user: u8, inum: u32) -> Option<Place>
+    ensures { MatchOption result
+        ((p : ℕ × ℕ) → IsTrue (is_place p) → place_bytes p ≢ user ∷ to_be_bytes w32 inum)
+        (λ p. IsTrue (is_place p) × (place_bytes p ≡ user ∷ to_be_bytes w32 inum)) }
+{
+    let Ok(inum) = Inum::new(u64::from(inum)) else {
+        return None;
+    };
+    match User::new(u64::from(user)) {
+        Ok(user) => Some((user, inum)),
+        Err(_) => None,
     }
 }

@@ -6,7 +6,10 @@ mod copies;
 mod items;
 mod loads;
 mod parts;
+mod rooms;
 mod sheds;
+mod takes;
 
 pub use items::{ReadKey, ReadValue};
 pub use parts::PartTree;
+pub use rooms::Room;

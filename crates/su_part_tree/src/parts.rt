@@ -1,5 +1,5 @@
 // Finite maps of which parts may be left on a store.
-ghost use Rattle.std.specs.Prelude.{◌≡◌, ◌⊎◌, ℕ, List, Contains, IsTrue, true, Err, OnOk, OnErr, IfErr, IfOk, None};
+ghost use Rattle.std.specs.Prelude.{◌≡◌, ◌⊎◌, ◌↔◌, ℕ, List, [], Contains, IsTrue, true, Err, OnOk, OnErr, IfErr, IfOk, None};
 ghost use Rattle.std.specs.Option.{option_copied};
 ghost use Rattle.su_tree.specs.MapKind.{map_kind};
 ghost use Rattle.sha2.specs.Sha256.{sha256};
@@ -17,7 +17,9 @@ ghost use Rattle.su_bytes.specs.declared.refusals.Refusal.TheVariants.{SourceFai
 use crate::copies::copy_node;
 use crate::items::{ReadKey, ReadValue};
 use crate::loads::{load_node, reach_all_nodes, reach_node};
+use crate::rooms::{Room, add_node, make_room};
 use crate::sheds::shed_node;
+use crate::takes::take_node;
 use std::alloc::{AllocError, Global};
 use su_block::BlockSource;
 use su_bytes::{Digest, Refusal};
@@ -53,6 +55,31 @@ impl<K: ReadKey, V: ReadValue> PartTree<K, V> {
             made: Hashes { count: 0 },
             alloc,
         }
+    }
+
+    /// The map with no pairs, all of it loaded.
+    pub fn empty(alloc: Global) -> PartTree<K, V>
+        ensures stands { let t = sort K.bits K.bytes K.is_key V.bytes V.is_value in
+            StandsFor t result [] }
+        ensures reached { (k : K) → IsTrue (reaches K.bits k result) }
+        ensures all { HasAll result }
+    {
+        let mut made = Hashes { count: 0 };
+        let digest = made.empty();
+        PartTree {
+            root: Node::Empty(digest),
+            made,
+            alloc,
+        }
+    }
+
+    /// Tells whether the map has no pairs. The root's node is loaded.
+    pub fn is_empty(&self) -> bool
+        requires { HasRoot self.now }
+        ensures { let t = sort K.bits K.bytes K.is_key V.bytes V.is_value in
+            (m : List (K × V)) → StandsFor t self.now m → IsTrue result ↔ (m ≡ []) }
+    {
+        self.root.is_empty()
     }
 
     /// Loads the root's node, where it is a stub. Refused with `MissingBlock`, `WrongBlock` or
@@ -173,14 +200,46 @@ impl<K: ReadKey, V: ReadValue> PartTree<K, V> {
         }
     }
 
+    /// Makes room for one pair more, with which `put_in` puts it. Fails where memory is wanting.
+    pub fn room(&self) -> Result<Room<K, V>, AllocError> {
+        make_room(self.alloc, self.root.kept())
+    }
+
+    /// Puts a value at a key whose path is loaded. It takes no memory but that of the room.
+    pub fn put_in(&mut self, key: K, value: V, room: Room<K, V>)
+        requires { IsTrue (reaches K.bits key self.old) }
+        ensures stands { let t = sort K.bits K.bytes K.is_key V.bytes V.is_value in
+            (m : List (K × V)) → StandsFor t self.old m
+            → StandsFor t self.new (with_value K.bits key value m) }
+        ensures keeps { (k : K) → IsTrue (reaches K.bits k self.old)
+            → IsTrue (reaches K.bits k self.new) }
+    {
+        if self.root.is_empty() {
+            let digest = self.made.pair(&key, &value);
+            self.root = Node::Leaf(key, value, digest);
+            return;
+        }
+        match self.root.parting(&key) {
+            None => {
+                let made = &mut self.made;
+                self.root.replace(&key, value, made);
+            }
+            Some(bit) => add_node(&mut self.root, bit, key, value, room, &mut self.made),
+        }
+    }
+
     /// Takes out the pair of a key, if it is there; where the key's path isn't loaded, the map
-    /// lacks it. It takes no memory.
+    /// lacks it. What is known of the other keys stays known. It takes no memory.
     pub fn take(&mut self, key: &K)
-        ensures { let t = sort K.bits K.bytes K.is_key V.bytes V.is_value in
+        ensures stands { let t = sort K.bits K.bytes K.is_key V.bytes V.is_value in
             (m : List (K × V)) → StandsFor t self.old m → IsKnown K.bits key.now self.old m
             → StandsFor t self.new (without_key K.bits key.now m) }
+        ensures stays { let t = sort K.bits K.bytes K.is_key V.bytes V.is_value in
+            (m : List (K × V)) → StandsFor t self.old m → IsKnown K.bits key.now self.old m
+            → (k : K) → IsKnown K.bits k self.old m
+            → IsKnown K.bits k self.new (without_key K.bits key.now m) }
     {
-        self.root.remove(key, &mut self.made);
+        take_node(&mut self.root, key, &mut self.made);
     }
 
     /// Returns the digest of the map. It makes no hash.

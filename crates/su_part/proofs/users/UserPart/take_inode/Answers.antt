@@ -8,7 +8,9 @@ use Rattle.su_part_tree.specs.Part.{reaches}
 use Rattle.su_node.specs.InodeChange.{InodeChange.Gone}
 use Rattle.su_table.specs.Edit.{Edit.Inodes, edit}
 use Rattle.su_part.specs.Part.{StandsJust, StandsUser, at_number}
-use Rattle.su_part.proofs.UserLemmas.{small_number, gone_user, taken_out}
+use Rattle.su_part.proofs.UserLemmas.{small_number, gone_user, gone_path, taken_out}
+use Rattle.su_part.proofs.BytesLemmas.{is_number}
+use Rattle.su_table.specs.Handle.{user_table}
 use Rattle.su_part.proofs.users.UserPart.take_inode.Goals as goal
 
 pub returns-clause-value : goal.returns-clause-value
@@ -22,7 +24,15 @@ returns-clause-stands c u T h =
     let small = small_number key c.number-key.ensures.range.1 in
     let path = subst (λ n. IsTrue (reaches number_bits n c.args.self.now.table)) (sym c.number-key.ensures.value) c.requires in
     subst (λ n. StandsUser u (record { table = c.take.new.self; inodes = c.remove.new.self; alloc = c.args.self.now.alloc }) (edit T (Inodes (u, n) Gone))) c.number-key.ensures.value
-    (gone_user u key T c.args.self.now (record { table = c.take.new.self; inodes = c.remove.new.self; alloc = c.args.self.now.alloc }) h small (λ m s. c.take.ensures m s (inl path)) c.remove.ensures.updates.0)
+    (gone_user u key T c.args.self.now (record { table = c.take.new.self; inodes = c.remove.new.self; alloc = c.args.self.now.alloc }) h small (λ m s. c.take.ensures.stands m s (inl path)) c.remove.ensures.updates.0)
 
 pub returns-clause-others : goal.returns-clause-others
 returns-clause-others c m e = c.remove.ensures.updates.2 m (subst (λ n. is_at (nat_cmp n) m ≡ false) (sym c.number-key.ensures.value) e)
+
+pub returns-clause-paths : goal.returns-clause-paths
+returns-clause-paths c u T h m low other there reached =
+    let key = c.number-key.result in
+    let small = small_number key c.number-key.ensures.range.1 in
+    let path = subst (λ n. IsTrue (reaches number_bits n c.args.self.now.table)) (sym c.number-key.ensures.value) c.requires in
+    gone_path u key T c.args.self.now.table c.take.new.self h.table small (c.take.ensures.stands (user_table T u) h.table (inl path)) m (is_number m low)
+    (subst (λ n. is_at (nat_cmp n) m ≡ false) (sym c.number-key.ensures.value) other) there (c.take.ensures.stays (user_table T u) h.table (inl path) m (inl reached))

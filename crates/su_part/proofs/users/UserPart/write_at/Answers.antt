@@ -4,10 +4,10 @@ use Rattle.std.specs.FinMap.{get}
 use Rattle.su_node.specs.InodeChange.{InodeChange.Written}
 use Rattle.su_table.specs.Edit.{Edit.Inodes, edit}
 use Rattle.su_table.specs.Query.{size_at}
-use Rattle.su_part.specs.Part.{StandsUser, StaysLoaded, at_number, with_written}
+use Rattle.su_part.specs.Part.{StandsUser, at_number, with_written}
 use Rattle.su_part.proofs.ContentLemmas.{meant_written}
-use Rattle.su_part.proofs.UserLemmas.{small_number, stays_edited, stays_itself, edited_user, edit_nothing, not_loaded, ok_of}
-use Rattle.su_part.proofs.users.UserPart.write_at.Goals.{in-Some+in_default-write_at, in_default}
+use Rattle.su_part.proofs.UserLemmas.{small_number, edited_user, edit_nothing, not_loaded, ok_of}
+use Rattle.su_part.proofs.users.UserPart.write_at.Goals.{in-Some+in_ok-write_at, in_default}
 use Rattle.su_part.proofs.users.UserPart.write_at.Goals as goal
 
 pub returns-clause-ok : goal.returns-clause-ok
@@ -17,11 +17,11 @@ returns-clause-ok c u T h there =
     let size = size_at T (u, c.args.number) in
     let small = small_number c.number-key.result c.number-key.ensures.range.1 in
     elim c.match-get_mut.branch [
-      | in-Some+in_default-write_at w ↦
+      | in-Some+in_ok-write_at w ↦
           let found = w.in-Some.ensures.value in
           let done = edited_user (Written size off xs) (with_written off xs) (λ k. refl) refl (λ k m. meant_written off xs k c.requires.small m)
           u c.number-key.result T c.args.self.now (record { table = w.put-done.new.self; inodes = c.get_mut.follows.lender w.write_at.new.self; alloc = c.args.self.now.alloc })
-          w.in-Some.inode.now w.digest-digest.result h small found w.write_at.new.self w.in_default-write_at.ensures.ok w.digest-digest.ensures
+          w.in-Some.inode.now w.digest-digest.result h small found w.write_at.new.self w.in_ok-write_at.ensures.ok w.digest-digest.ensures
           (λ m s none. ok_of w.put-done.result (w.put-done.ensures.ok m s) (w.put-done.ensures.absent m s) none)
           ((c.get_mut.follows.holds w.write_at.new.self).3 (ap is_some (sym found))).0 in
           subst (λ s. StandsUser u s (edit T (Inodes (u, c.args.number) (Written size off xs)))) (sym w.self-is)
@@ -31,13 +31,3 @@ returns-clause-ok c u T h there =
           let same = edit_nothing (Written size off xs) (with_written off xs) (λ k. refl) refl T u c.args.number (not_loaded (get T.inodes (u, c.args.number)) _ there none) in
           rw (w.self-is, c.get_mut.follows.holds-at-none) (subst (StandsUser u c.args.self.now) (sym same) h)
     ]
-
-pub returns-clause-stays : goal.returns-clause-stays
-returns-clause-stays c = elim c.match-get_mut.branch [
-  | in-Some+in_default-write_at w ↦
-      subst (StaysLoaded c.args.number c.args.self.now) (sym w.self-is)
-      (subst (λ n. StaysLoaded n c.args.self.now (record { table = w.put-done.new.self; inodes = c.get_mut.follows.lender w.write_at.new.self; alloc = c.args.self.now.alloc })) c.number-key.ensures.value
-      (stays_edited c.number-key.result c.args.self.now (record { table = w.put-done.new.self; inodes = c.get_mut.follows.lender w.write_at.new.self; alloc = c.args.self.now.alloc }) w.write_at.new.self w.put-done.ensures.keeps
-      ((c.get_mut.follows.holds w.write_at.new.self).3 (ap is_some (sym w.in-Some.ensures.value))).0))
-  | in_default w ↦ rw (w.self-is, c.get_mut.follows.holds-at-none) (stays_itself c.args.number c.args.self.now)
-]

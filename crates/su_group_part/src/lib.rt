@@ -1,0 +1,6 @@
+//! A group's i-table of which parts may be left on a store: the table of its pointers.
+#![tactic(auto)]
+
+mod groups;
+
+pub use groups::GroupPart;
