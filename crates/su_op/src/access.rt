@@ -5,7 +5,7 @@ ghost use Rattle.su_op.specs.Rule.{may_touch, group_of};
 use su_bytes::{FileId, Group, Roster, User};
 
 /// Returns the group of a group file that the author is no member of, if it is one.
-pub(crate) fn closed_group(roster: &Roster, author: User, file: FileId) -> Option<Group>
+pub fn closed_group(roster: &Roster, author: User, file: FileId) -> Option<Group>
     ensures { MatchOption result
         (may_touch roster.now author file ≡ true)
         (λ group. (may_touch roster.now author file ≡ false) × (group ≡ group_of file)) }

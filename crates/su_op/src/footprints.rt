@@ -19,7 +19,7 @@ pub struct Footprint {
 
 impl Footprint {
     /// Makes one of what is read besides, and what is written. Fails only with `NoMemory`.
-    pub(crate) fn new(besides: Vec<Area>, writes: Vec<Area>) -> Result<Footprint, Refusal>
+    pub fn new(besides: Vec<Area>, writes: Vec<Area>) -> Result<Footprint, Refusal>
         ensures reads { IfOk result (λ footprint.
             footprint.reads.items ≡ besides.items ++ writes.items) }
         ensures writes { IfOk result (λ footprint. footprint.writes.items ≡ writes.items) }
@@ -32,8 +32,8 @@ impl Footprint {
     }
 }
 
-/// Adds the pointer of a group file; a user's file has none.
-pub(crate) fn push_pointer(areas: &mut Vec<Area>, file: FileId) -> Result<(), Refusal>
+/// Adds the pointer of a group file; a user's file has none. Fails only with `NoMemory`.
+pub fn push_pointer(areas: &mut Vec<Area>, file: FileId) -> Result<(), Refusal>
     ensures ok { OnOk result (areas.new.items ≡ areas.old.items ++ pointer_areas file) }
     ensures refused { IfErr result (λ e. e ≡ NoMemory) }
 {
@@ -46,8 +46,8 @@ pub(crate) fn push_pointer(areas: &mut Vec<Area>, file: FileId) -> Result<(), Re
     }
 }
 
-/// Adds the cells that show that the file's body stands at `place`.
-pub(crate) fn push_file(areas: &mut Vec<Area>, file: FileId, place: Place) -> Result<(), Refusal>
+/// Adds the cells that show that the file's body stands at `place`. Fails only with `NoMemory`.
+pub fn push_file(areas: &mut Vec<Area>, file: FileId, place: Place) -> Result<(), Refusal>
     ensures ok { OnOk result (areas.new.items ≡ areas.old.items ++ file_areas file place) }
     ensures refused { IfErr result (λ e. e ≡ NoMemory) }
 {
@@ -56,7 +56,7 @@ pub(crate) fn push_file(areas: &mut Vec<Area>, file: FileId, place: Place) -> Re
 }
 
 /// Returns the blocks that have the bytes from an offset up to an end.
-pub(crate) fn blocks_between(off: u32, end_: u32) -> BlockRun
+pub fn blocks_between(off: u32, end_: u32) -> BlockRun
     ensures { result ≡ blocks_between off end_ }
 {
     let first = off / BLOCK_SIZE as u32;

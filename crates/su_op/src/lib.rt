@@ -18,11 +18,12 @@ mod truncate;
 mod unlink;
 mod write;
 
+pub use access::closed_group;
 pub use areas::{Area, BlockRun, Part};
 pub use batches::Batch;
 pub use create::Create;
 pub use drop_body::{DropBody, stale_home};
-pub use footprints::Footprint;
+pub use footprints::{Footprint, blocks_between, push_file, push_pointer};
 pub use laws::{
     batches_are_local, batches_are_their_operations, batches_change_whole, kinds_change_whole,
     operations_are_local, table_of_cells,
