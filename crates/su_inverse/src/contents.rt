@@ -12,17 +12,17 @@ use su_table::Forest;
 
 /// How many bytes a file had.
 #[derive(Drop)]
-pub(crate) struct KeptSize {
-    pub(crate) place: Place,
-    pub(crate) size: u32,
+pub struct KeptSize {
+    pub place: Place,
+    pub size: u32,
 }
 
 /// The bytes that a file had in a run of blocks.
 #[derive(Drop)]
-pub(crate) struct KeptBlocks {
-    pub(crate) place: Place,
-    pub(crate) run: BlockRun,
-    pub(crate) bytes: Vec<u8>,
+pub struct KeptBlocks {
+    pub place: Place,
+    pub run: BlockRun,
+    pub bytes: Vec<u8>,
 }
 
 impl KeptBlocks {

@@ -9,7 +9,7 @@ use su_table::Forest;
 
 /// What an area held that is restored without memory: nothing, or a number of links.
 #[derive(Drop)]
-pub(crate) enum Reset {
+pub enum Reset {
     /// Nothing was in the area.
     Nothing(Area),
     Links(Place, u8),
