@@ -13,11 +13,10 @@ use Rattle.su_op.specs.declared.areas.Area.{Area}
 use Rattle.su_op.specs.declared.areas.Area.TheVariants.{Pointer as PointerArea}
 use Rattle.su_op.specs.declared.operations.Op.{Op}
 use Rattle.su_op.specs.declared.operations.Op.TheVariants.{Create, Unlink, Write, Truncate, Take, Link, Rename, Drop}
-use Rattle.su_op.specs.Area.{kind_cell, links_cell, size_cell, name_cell, all_cells, has}
-use Rattle.su_op.specs.Rule.{plan_of}
+use Rattle.su_op.specs.Area.{kind_cell, links_cell, size_cell, name_cell, has}
 use Rattle.su_op.specs.Action.{Action}
 use Rattle.su_op.specs.DropBody.{group_home}
-use Rattle.su_op.specs.Operation.{rule_of, why}
+use Rattle.su_op.specs.Operation.{why}
 
 -- the cell that tells where a file's body stands
 abbrev pub home_areas : FileId → List Area
@@ -28,17 +27,18 @@ home_areas (Group g k) = PointerArea (g, k) ∷ []
 abbrev pub named : Name → Place → List Area
 named x d = kind_cell d ∷ name_cell x d ∷ []
 
--- what is asked of what goes, gets a name or moves
+-- what is asked of what gets a name or moves
 abbrev pub linked : Place → List Area
 linked f = kind_cell f ∷ links_cell f ∷ []
+
+-- What is asked of what goes. The name is one of the directory that lost it: of what goes, any name
+-- tells whether it has some.
+abbrev pub leaving : Name → Place → List Area
+leaving x f = kind_cell f ∷ links_cell f ∷ name_cell x f ∷ []
 
 -- what is asked of a file that is written or cut
 abbrev pub sized : Place → List Area
 sized f = kind_cell f ∷ size_cell f ∷ []
-
--- what is asked of what is taken over
-abbrev pub whole : Place → List Area
-whole f = all_cells f ∷ []
 
 -- areas at a body, if there is one
 abbrev pub at_body : Option Place → (Place → List Area) → List Area
@@ -73,23 +73,24 @@ abbrev pub homes : List FileId → List Area
 homes [] = []
 homes (f ∷ fs) = home_areas f ++ homes fs
 
--- what is asked of a place of one's own
-abbrev pub own : Place → List Area
-own p = kind_cell p ∷ []
+-- what is asked of a place of one's own, and of what is taken over
+abbrev pub kind_of : Place → List Area
+kind_of p = kind_cell p ∷ []
 
 -- The areas that the check of an operation by user a asks for first, whatever stands in the tree:
 -- where the files stand that it names, and what stands at the place of the author's.
 abbrev pub asked_first : ℕ → Op → List Area
-asked_first a op = homes (files_named op) ++ at_body (own_place a op) own
+asked_first a op = homes (files_named op) ++ at_body (own_place a op) kind_of
 
--- Those that it may ask for then in T: of what stands there the kind, a name, the links or the size,
--- of what is taken over all; and the pointer of the group file that a body was made for.
+-- Those that it may ask for then in T: of what stands there the kind, a name, the links or the size;
+-- and the pointer of the group file that a body was made for.
 abbrev pub asked_then : Tree → ℕ → Op → List Area
 asked_then T a (Create c) = at_body (body T c.dir) (named c.name)
-asked_then T a (Unlink u) = at_body (body T u.dir) (named u.name) ++ at_body (body T u.file) linked
+asked_then T a (Unlink u) =
+    at_body (body T u.dir) (named u.name) ++ at_body (body T u.file) (leaving u.name)
 asked_then T a (Write w) = at_body (body T w.file) sized
 asked_then T a (Truncate t) = at_body (body T t.file) sized
-asked_then T a (Take t) = at_body (body T t.file) whole
+asked_then T a (Take t) = at_body (body T t.file) kind_of
 asked_then T a (Link l) = at_body (body T l.dir) (named l.name) ++ at_body (body T l.file) linked
 asked_then T a (Rename r) =
     at_body (body T r.from_) (named r.old_)
@@ -110,12 +111,11 @@ SameBare (Unlink u) V T = (f : Place) → body T u.file ≡ Some f → is_bare_a
 SameBare _ V T = ⊤
 
 -- In each tree that agrees with T on the cells that the check of an action may ask for, the action is
--- accepted or refused alike, with the same refusal, and has the same plan.
+-- accepted or refused alike, with the same refusal.
 abbrev pub RefusalsAreLocal : Type 0
 RefusalsAreLocal =
     (ro : Membership) (V T : Tree) (x : Action)
-    → AgreeIn (asked T x.author x.op) V T → SameBare x.op V T
-    → (why ro V x ≡ why ro T x) × (plan_of (rule_of ro V x) ≡ plan_of (rule_of ro T x))
+    → AgreeIn (asked T x.author x.op) V T → SameBare x.op V T → why ro V x ≡ why ro T x
 
 -- What may be asked for then is known from what is asked for first.
 abbrev pub AskedInTwoRounds : Type 0

@@ -6,11 +6,11 @@ ghost use Rattle.su_table.specs.Cell.{Cell.At, val};
 ghost use Rattle.su_table.specs.Query.{body};
 ghost use Rattle.su_op.specs.DropBody.{group_home};
 ghost use Rattle.su_op.specs.declared.areas.Area.TheVariants.{Inode as InodeArea};
-ghost use Rattle.su_asked.specs.Asked.{asked_first, asked_then, at_body, files_named, home_areas, homes, linked, named, own_place, pointer_of, sized, whole};
+ghost use Rattle.su_asked.specs.Asked.{asked_first, asked_then, at_body, files_named, home_areas, homes, kind_of, leaving, linked, named, own_place, pointer_of, sized};
 
 use std::alloc::Global;
 use su_bytes::{FileId, GroupFile, Name, Place, Refusal, User};
-use su_op::{Area, Op, Part, Rename};
+use su_op::{Area, Op, Part, Rename, Unlink};
 use su_table::Forest;
 
 /// Returns the areas that the check of an operation by `author` asks for first, whatever stands in
@@ -31,8 +31,8 @@ pub fn asked_first(alloc: Global, author: User, op: &Op) -> Result<Vec<Area>, Re
 }
 
 /// Returns the areas that the check of an operation by `author` may ask for then, as the bodies
-/// stand: their kinds, a name, the links or the size, of what is taken over all; and the pointer of
-/// the group file that a body was made for. Fails only with `NoMemory`.
+/// stand: their kinds, a name, the links or the size; and the pointer of the group file that a body
+/// was made for. Fails only with `NoMemory`.
 pub fn asked_then(
     alloc: Global,
     author: User,
@@ -44,10 +44,10 @@ pub fn asked_then(
 {
     match op {
         Op::Create(create) => about_name(alloc, forest, create.dir, &create.name),
-        Op::Unlink(unlink) => about_link(alloc, forest, unlink.dir, &unlink.name, unlink.file),
+        Op::Unlink(unlink) => about_unlink(alloc, forest, unlink),
         Op::Write(write) => about_bytes(alloc, forest, write.file),
         Op::Truncate(truncate) => about_bytes(alloc, forest, truncate.file),
-        Op::Take(take) => about_all(alloc, forest, take.file),
+        Op::Take(take) => about_kind(alloc, forest, take.file),
         Op::Link(link) => about_link(alloc, forest, link.dir, &link.name, link.file),
         Op::Rename(rename) => about_move(alloc, forest, rename),
         Op::Drop(dropped) => about_home(alloc, forest, &(author, dropped.body)),
@@ -139,6 +139,19 @@ fn about_link(
     Ok(areas)
 }
 
+/// Returns what is asked of a directory about a name that it loses, and of what goes with it.
+fn about_unlink(alloc: Global, forest: &Forest, unlink: &Unlink) -> Result<Vec<Area>, Refusal>
+    ensures value { IfOk result (λ areas. areas.items
+        ≡ at_body (body forest.now unlink.now.dir) (named unlink.now.name)
+        ++ at_body (body forest.now unlink.now.file) (leaving unlink.now.name)) }
+    ensures refused { IfErr result (λ e. e ≡ NoMemory) }
+{
+    let mut areas = Vec::new(alloc);
+    push_named(&mut areas, forest.body(unlink.dir), &unlink.name)?;
+    push_leaving(&mut areas, forest.body(unlink.file), &unlink.name)?;
+    Ok(areas)
+}
+
 /// Returns what is asked of two directories about the names that a rename takes and gives, and of
 /// the file.
 fn about_move(alloc: Global, forest: &Forest, rename: &Rename) -> Result<Vec<Area>, Refusal>
@@ -171,16 +184,16 @@ fn about_bytes(alloc: Global, forest: &Forest, file: FileId) -> Result<Vec<Area>
 }
 
 /// Returns what is asked of what is taken over.
-fn about_all(alloc: Global, forest: &Forest, file: FileId) -> Result<Vec<Area>, Refusal>
+fn about_kind(alloc: Global, forest: &Forest, file: FileId) -> Result<Vec<Area>, Refusal>
     ensures value { IfOk result (λ areas.
-        areas.items ≡ at_body (body forest.now file) whole) }
+        areas.items ≡ at_body (body forest.now file) kind_of) }
     ensures refused { IfErr result (λ e. e ≡ NoMemory) }
 {
     let mut areas = Vec::new(alloc);
     let Some(place) = forest.body(file) else {
         return Ok(areas);
     };
-    areas.push(Area::Inode(place, Part::Whole))?;
+    areas.push(part_of(&place, Part::Kind))?;
     Ok(areas)
 }
 
@@ -225,7 +238,22 @@ fn push_named(areas: &mut Vec<Area>, place: Option<Place>, name: &Name) -> Resul
     Ok(())
 }
 
-/// Adds what is asked of what goes, gets a name or moves, if it is there.
+/// Adds what is asked of what goes when a directory loses a name, if it is there.
+fn push_leaving(areas: &mut Vec<Area>, place: Option<Place>, name: &Name) -> Result<(), Refusal>
+    ensures ok { OnOk result
+        (areas.new.items ≡ areas.old.items ++ at_body place (leaving name.now)) }
+    ensures refused { IfErr result (λ e. e ≡ NoMemory) }
+{
+    let Some(place) = place else {
+        return Ok(());
+    };
+    areas.push(part_of(&place, Part::Kind))?;
+    areas.push(part_of(&place, Part::Links))?;
+    areas.push(part_of(&place, Part::Name(name.clone()?)))?;
+    Ok(())
+}
+
+/// Adds what is asked of what gets a name or moves, if it is there.
 fn push_linked(areas: &mut Vec<Area>, place: Option<Place>) -> Result<(), Refusal>
     ensures ok { OnOk result (areas.new.items ≡ areas.old.items ++ at_body place linked) }
     ensures refused { IfErr result (λ e. e ≡ NoMemory) }

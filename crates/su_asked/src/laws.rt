@@ -3,7 +3,7 @@ ghost use Rattle.su_asked.specs.Asked.{AskedInTwoRounds, RefusalsAreLocal};
 ghost use Rattle.su_asked.specs.Following.{ChangesFollow};
 
 /// Refusals are local: in each tree that agrees on the cells that its check may ask for, an action
-/// is accepted or refused alike, with the same refusal, and has the same plan.
+/// is accepted or refused alike, with the same refusal.
 pub fn refusals_are_local()
     ensures { RefusalsAreLocal }
 {}
