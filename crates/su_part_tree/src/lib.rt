@@ -6,6 +6,7 @@ mod copies;
 mod items;
 mod loads;
 mod parts;
+mod paths;
 mod rooms;
 mod sheds;
 mod takes;
