@@ -5,6 +5,4 @@ pub mod ItemLemmas
 pub mod ContentLemmas
 pub mod UserLemmas
 pub mod TableLemmas
-pub mod SeenLemmas
-pub mod FreshLemmas
 pub mod Public

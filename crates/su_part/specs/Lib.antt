@@ -1,4 +1,3 @@
 pub mod Item
 pub mod Bytes
 pub mod Part
-pub mod Seen

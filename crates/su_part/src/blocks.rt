@@ -141,9 +141,9 @@ pub(crate) struct Ready {
 /// The bytes of a file: how many, the digests of its blocks, and those blocks that are loaded.
 #[derive(Drop)]
 pub(crate) struct PartBytes {
-    size: u32,
-    digests: PartTree<u32, Digest>,
-    blocks: BTreeMap<u32, Block>,
+    pub(crate) size: u32,
+    pub(crate) digests: PartTree<u32, Digest>,
+    pub(crate) blocks: BTreeMap<u32, Block>,
     alloc: Global,
 }
 
@@ -476,7 +476,7 @@ impl PartBytes {
 }
 
 /// How many blocks a file of that size has.
-fn count_for(size: usize) -> usize
+pub(crate) fn count_for(size: usize) -> usize
     requires { size < 2 ^ 33 }
     ensures { result ≡ block_count size }
 {

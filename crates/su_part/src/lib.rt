@@ -3,10 +3,9 @@
 #![tactic(auto)]
 
 mod blocks;
-mod fresh;
 mod inodes;
 mod items;
-mod seen;
+mod opens;
 mod users;
 
 pub use inodes::PartInode;
