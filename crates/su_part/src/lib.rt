@@ -3,8 +3,11 @@
 #![tactic(auto)]
 
 mod blocks;
+mod cuts;
+mod exchanges;
 mod inodes;
 mod items;
+mod overwrites;
 mod users;
 
 pub use inodes::PartInode;

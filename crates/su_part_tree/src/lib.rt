@@ -7,6 +7,7 @@ mod items;
 mod loads;
 mod parts;
 mod rooms;
+mod sets;
 mod sheds;
 mod takes;
 
