@@ -190,14 +190,15 @@ read_on bs blk was new start last n first f u blk_is low high reached within fir
 -- ---- what stays loaded
 
 pub all_blocks_itself : (b : PartBytes) → HasAllBlocks b b
-all_blocks_itself b = record { size = refl; blocks = λ n h. h; loaded = λ n h. h }
+all_blocks_itself b = record { size = refl; paths = λ n h. h; blocks = λ n h. h; loaded = λ n h. h }
 
 pub all_blocks_on : (b c d : PartBytes) → HasAllBlocks b c → HasAllBlocks c d → HasAllBlocks b d
-all_blocks_on b c d h k = record { size = k.size ∙ h.size; blocks = λ n x. k.blocks n (h.blocks n x); loaded = λ n x. k.loaded n (h.loaded n x) }
+all_blocks_on b c d h k = record { size = k.size ∙ h.size; paths = λ n x. k.paths n (h.paths n x); blocks = λ n x. k.blocks n (h.blocks n x); loaded = λ n x. k.loaded n (h.loaded n x) }
 
 all_with : (b c : PartBytes) → c.size ≡ b.size → ((n : ℕ) → IsTrue (reaches number_bits n b.digests) → IsTrue (reaches number_bits n c.digests)) → ((n : ℕ) → IsSome (loaded_block b n) → IsSome (loaded_block c n)) → HasAllBlocks b c
 all_with b c size keeps more = record {
   size = size;
+  paths = keeps;
   blocks = λ n h. record { path = keeps n h.path; there = λ lt. more n (h.there (subst (λ s. 4096 * n < s) size lt)) };
   loaded = more;
 }

@@ -1,5 +1,5 @@
 -- What a content's digest stands for.
-use Rattle.std.proofs.Common.{◌≡◌, ◌∙◌, ℕ, ◌+◌, ◌<◌, ◌^◌, ◌&&◌, true, false, Bool, IsTrue, List, [], ◌∷◌, length, refl, sym, ap, subst, arith, inr, Option, Some, None, option_map, cond, not}
+use Rattle.std.proofs.Common.{◌≡◌, ◌∙◌, ℕ, ◌+◌, ◌<◌, ◌≤◌, ◌^◌, ◌&&◌, true, false, Bool, IsTrue, List, [], ◌∷◌, length, refl, sym, ap, subst, arith, inr, Option, Some, None, option_map, cond, not}
 use Rattle.std.specs.declared.cmp.Ordering.TheVariants.{Less, Equal, Greater}
 use Rattle.std.specs.List.{AllByRecursion as Each}
 use Rattle.std.specs.List.Sorted.{IsStrictlySortedBy}
@@ -38,8 +38,9 @@ use Rattle.std.specs.declared.cmp.Ordering.{Ordering}
 use Rattle.su_hash_tree.specs.Edits.{with_value, without_key, value_at}
 use Rattle.su_hash_tree.proofs.Compared.{keys_meant, put_by_order, without_by_order, find_by_order}
 use Rattle.su_hash_tree.proofs.Standing.{stands_map}
-use Rattle.su_node.specs.InodeChange.{with_name, map_bytes, with_bytes_at}
-use Rattle.su_node.proofs.Contents.{length-with_bytes_at}
+use Rattle.su_node.specs.InodeChange.{with_name, map_bytes, with_size, with_bytes_at}
+use Rattle.su_part.specs.Cut.{with_resized}
+use Rattle.su_node.proofs.Contents.{length-with_size, length-with_bytes_at}
 use Rattle.std.specs.FinMap.{remove, get-remove}
 use Rattle.std.specs.Ordering.{eq_by_cmp}
 use Rattle.std.specs.Cmp.{eq_by_cmp_equiv}
@@ -235,7 +236,7 @@ name_got p i h t is x r name got = content_got i.content i.links i.home t x r na
 
 -- ---- a name that is taken away
 
-entries_without : (m : FinMap name_cmp FileId) (k : Name) → entries (remove m k) ≡ without name_cmp k (entries m)
+pub entries_without : (m : FinMap name_cmp FileId) (k : Name) → entries (remove m k) ≡ without name_cmp k (entries m)
 entries_without m k =
     by.same_entries name_cmp name_cmp_total name_cmp_exact (entries (remove m k)) (by.where_key name_cmp others (entries m)) (entries_sorted (remove m k)) (by.is_sorted-where_key name_cmp others (entries m) (entries_sorted m))
     (λ q.
@@ -362,6 +363,43 @@ written_size off xs (Names m) small was = was
 
 pub meant_written : (off : ℕ) (xs : List ℕ) (i : Inode) → off + length xs < 2 ^ 32 → MeantInode i → MeantInode (with_written off xs i)
 meant_written off xs i small m = record { home = m.home; links = m.links; size = written_size off xs i.content small m.size; content = written_meant off xs i.content m.content }
+
+-- ---- bytes that are cut
+
+cut_content : (c : Content) (b b' : PartBytes) (size : ℕ) → StandsContent (LoadedBytes b) c → size ≤ size_of c → ((bs : List ℕ) → StandsBytes b bs → size ≤ length bs → StandsBytes b' (with_size size bs))
+    → StandsContent (LoadedBytes b') (map_bytes (with_size size) c)
+cut_content (Bytes bs) b b' size h le new = new bs h le
+cut_content (Names m) b b' size h le new = h
+
+pub bytes_cut : (p : PartInode) (i : Inode) → StandsInode p i → (b : PartBytes) → p.content ≡ LoadedBytes b → (b' : PartBytes) (size : ℕ) → size ≤ size_of i.content
+    → ((bs : List ℕ) → StandsBytes b bs → size ≤ length bs → StandsBytes b' (with_size size bs)) → StandsInode (record { home = p.home; links = p.links; content = LoadedBytes b' }) (with_resized size i)
+bytes_cut p i h b is b' size le new = record {
+  home = h.home;
+  links = h.links;
+  content = cut_content i.content b b' size (subst (λ c. StandsContent c i.content) is h.content) le new;
+}
+
+names_uncut : (c : Content) (t : PartTree (List ℕ) FileId) (size : ℕ) → StandsContent (PartNames t) c → StandsContent (PartNames t) (map_bytes (with_size size) c)
+names_uncut (Bytes bs) t size h = h
+names_uncut (Names m) t size h = h
+
+pub names_not_cut : (p : PartInode) (i : Inode) → StandsInode p i → (t : PartTree (List ℕ) FileId) → p.content ≡ PartNames t → (size : ℕ) → StandsInode p (with_resized size i)
+names_not_cut p i h t is size = record {
+  home = h.home;
+  links = h.links;
+  content = subst (λ c. StandsContent c (map_bytes (with_size size) i.content)) (sym is) (names_uncut i.content t size (subst (λ c. StandsContent c i.content) is h.content));
+}
+
+resized_meant : (size : ℕ) (c : Content) → MeantContent c → MeantContent (map_bytes (with_size size) c)
+resized_meant size (Bytes bs) a = a
+resized_meant size (Names m) a = a
+
+resized_size : (size : ℕ) (c : Content) → size < 2 ^ 32 → size_of c < 2 ^ 32 → size_of (map_bytes (with_size size) c) < 2 ^ 32
+resized_size size (Bytes bs) small was = let l = length-with_size size bs in omega (arith, l, small)
+resized_size size (Names m) small was = was
+
+pub meant_resized : (size : ℕ) (i : Inode) → size < 2 ^ 32 → MeantInode i → MeantInode (with_resized size i)
+meant_resized size i small m = record { home = m.home; links = m.links; size = resized_size size i.content small m.size; content = resized_meant size i.content m.content }
 
 -- ---- what stays loaded
 

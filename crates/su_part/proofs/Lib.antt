@@ -1,8 +1,10 @@
 pub mod Numbers
 pub mod BytesLemmas
 pub mod WriteLemmas
+pub mod InPlaceLemmas
 pub mod ItemLemmas
 pub mod ContentLemmas
 pub mod UserLemmas
 pub mod TableLemmas
+pub mod KnownLemmas
 pub mod Public

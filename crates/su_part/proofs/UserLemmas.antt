@@ -179,27 +179,35 @@ module _ (ch : InodeChange) (after : Inode → Inode) (here : (i : Inode) → in
         go false e = subst MeantAt (sym (edit_there T u n q ch e)) (were q)
 
     -- an inode that is loaded is changed, and the table gets its digest
-    pub edited_user : (u n : ℕ) (T : Tree) (p q : UserPart) (i : PartInode) (d : List ℕ) → StandsUser u p T → IsTrue (is_u32 n) → Some i ≡ at_number p.inodes.entries n
-        → (j : PartInode) → ((k : Inode) → StandsInode i k → StandsInode j (after k)) → ((k : Inode) → StandsInode j k → d ≡ inode_digest k)
-        → ((m : List (ℕ × List ℕ)) → StandsFor number_sort p.table m → (value_at number_bits n m ≡ None → ⊥) → StandsFor number_sort q.table (with_value number_bits n d m))
+    pub edited_at : (u n : ℕ) (T : Tree) (p q : UserPart) (i : PartInode) (d : List ℕ) → StandsUser u p T → IsTrue (is_u32 n) → Some i ≡ at_number p.inodes.entries n
+        → (j : PartInode) → ((k : Inode) → get T.inodes (u, n) ≡ Some k → StandsInode i k → StandsInode j (after k)) → ((k : Inode) → StandsInode j k → d ≡ inode_digest k)
+        → ((value_at number_bits n (user_table T u) ≡ None → ⊥) → StandsFor number_sort q.table (with_value number_bits n d (user_table T u)))
         → ((k : ℕ) → at_number q.inodes.entries k ≡ cond (is_at (nat_cmp n) k) (Some j) (at_number p.inodes.entries k))
         → StandsUser u q (edit T (Inodes (u, n) ch))
-    edited_user u n T p q i d h small found j changed digest table updates =
+    edited_at u n T p q i d h small found j changed digest table updates =
         go (get T.inodes (u, n)) refl (subst (λ y. StandsAt y (get T.inodes (u, n))) (sym found) (h.inodes n))
       where
         go : (o : Option Inode) → get T.inodes (u, n) ≡ o → StandsAt (Some i) o → StandsUser u q (edit T (Inodes (u, n) ch))
         go None at stands = absurd stands
         go (Some k) at stands = record {
-          table = subst (StandsFor number_sort q.table) (table_after T u n k d p.table h.table small at (digest _ (changed k stands)))
-              (table (user_table T u) h.table (λ absent. absurd (let z : None ≡ option_map inode_digest (Some k) = sym absent ∙ table_value u n T p.table h.table small ∙ ap (option_map inode_digest) at in cc)));
+          table = subst (StandsFor number_sort q.table) (table_after T u n k d p.table h.table small at (digest _ (changed k at stands)))
+              (table (λ absent. absurd (let z : None ≡ option_map inode_digest (Some k) = sym absent ∙ table_value u n T p.table h.table small ∙ ap (option_map inode_digest) at in cc)));
           meant = meant_after T u n h.meant;
           inodes = λ r. subst (λ y. StandsAt y (get (edit T (Inodes (u, n) ch)).inodes (u, r))) (sym (updates r)) (each r (is_at (nat_cmp n) r) refl);
         }
           where
             each : (r : ℕ) (b : Bool) → is_at (nat_cmp n) r ≡ b → StandsAt (cond b (Some j) (at_number p.inodes.entries r)) (get (edit T (Inodes (u, n) ch)).inodes (u, r))
             each r true e = subst (λ y. StandsAt (Some j) (get (edit T (Inodes (u, n) ch)).inodes (u, y))) (same_number n r e)
-                (subst (StandsAt (Some j)) (sym (edit_here T u n ch ∙ ap (inode_after ch) at ∙ here k)) (changed k stands))
+                (subst (StandsAt (Some j)) (sym (edit_here T u n ch ∙ ap (inode_after ch) at ∙ here k)) (changed k at stands))
             each r false e = subst (StandsAt (at_number p.inodes.entries r)) (sym (edit_there T u n r ch e)) (h.inodes r)
+
+    -- whatever it stands for
+    pub edited_user : (u n : ℕ) (T : Tree) (p q : UserPart) (i : PartInode) (d : List ℕ) → StandsUser u p T → IsTrue (is_u32 n) → Some i ≡ at_number p.inodes.entries n
+        → (j : PartInode) → ((k : Inode) → StandsInode i k → StandsInode j (after k)) → ((k : Inode) → StandsInode j k → d ≡ inode_digest k)
+        → ((m : List (ℕ × List ℕ)) → StandsFor number_sort p.table m → (value_at number_bits n m ≡ None → ⊥) → StandsFor number_sort q.table (with_value number_bits n d m))
+        → ((k : ℕ) → at_number q.inodes.entries k ≡ cond (is_at (nat_cmp n) k) (Some j) (at_number p.inodes.entries k))
+        → StandsUser u q (edit T (Inodes (u, n) ch))
+    edited_user u n T p q i d h small found j changed digest table updates = edited_at u n T p q i d h small found j (λ k at s. changed k s) digest (table (user_table T u) h.table) updates
 
 -- ---- what an edit leaves loaded
 
@@ -221,16 +229,16 @@ stays_itself n p = record { paths = λ m h. h; there = λ m h. h; others = λ m 
 -- ---- an inode that is left out
 
 -- the table without it
-gone_table : (u n : ℕ) (T : Tree) (t : PartTree ℕ (List ℕ)) → StandsFor number_sort t (user_table T u) → IsTrue (is_u32 n) → without_key number_bits n (user_table T u) ≡ user_table (edit T (Inodes (u, n) Gone)) u
+pub gone_table : (u n : ℕ) (T : Tree) (t : PartTree ℕ (List ℕ)) → StandsFor number_sort t (user_table T u) → IsTrue (is_u32 n) → without_key number_bits n (user_table T u) ≡ user_table (edit T (Inodes (u, n) Gone)) u
 gone_table u n T t h small =
     without_by_order is_u32 number_bits nat_cmp number.ordered n (user_table T u) small (keys_meant is_u32 is_digest (user_table T u) (stands_map number_sort t.root (user_table T u) h).good)
     ∙ sym (edits_change_one_table.of_user T (u, n) Gone u ∙ ap (λ b. cond b (with_pair n None (user_table T u)) (user_table T u)) (eq_itself u))
 
 -- it is gone
-pub gone_user : (u n : ℕ) (T : Tree) (p q : UserPart) → StandsUser u p T → IsTrue (is_u32 n) → ((m : List (ℕ × List ℕ)) → StandsFor number_sort p.table m → StandsFor number_sort q.table (without_key number_bits n m))
+pub gone_user : (u n : ℕ) (T : Tree) (p q : UserPart) → StandsUser u p T → IsTrue (is_u32 n) → StandsFor number_sort q.table (without_key number_bits n (user_table T u))
     → ((k : ℕ) → at_number q.inodes.entries k ≡ cond (is_at (nat_cmp n) k) None (at_number p.inodes.entries k)) → StandsUser u q (edit T (Inodes (u, n) Gone))
 gone_user u n T p q h small table updates = record {
-  table = subst (StandsFor number_sort q.table) same (table (user_table T u) h.table);
+  table = subst (StandsFor number_sort q.table) same table;
   meant = λ k. meant k (is_at (nat_cmp n) k) refl;
   inodes = λ k. subst (λ v. StandsAt v (get (edit T (Inodes (u, n) Gone)).inodes (u, k))) (sym (updates k)) (each k (is_at (nat_cmp n) k) refl);
 }
@@ -382,3 +390,18 @@ all_with_more p q k x y same found more updates = record {
     go : (n : ℕ) (b : Bool) → is_at (nat_cmp k) n ≡ b → HasAllOf (at_number p.inodes.entries n) (cond b (Some y) (at_number p.inodes.entries n))
     go n true e = subst (λ o. HasAllOf o (Some y)) (found ∙ ap (at_number p.inodes.entries) (same_number k n e)) more
     go n false e = all_of_itself (at_number p.inodes.entries n)
+
+-- another inode, of which as much is loaded
+pub all_edited : (p q : UserPart) (k : ℕ) (x y : PartInode) → ((n : ℕ) → IsTrue (reaches number_bits n p.table) → IsTrue (reaches number_bits n q.table)) → Some x ≡ at_number p.inodes.entries k → HasAllIn x.content y.content
+    → ((n : ℕ) → at_number q.inodes.entries n ≡ cond (is_at (nat_cmp k) n) (Some y) (at_number p.inodes.entries n)) → HasAll p q
+all_edited p q k x y keeps found more updates = record {
+  paths = keeps;
+  inodes = λ n. subst (HasAllOf (at_number p.inodes.entries n)) (sym (updates n)) (go n (is_at (nat_cmp k) n) refl);
+}
+  where
+    go : (n : ℕ) (b : Bool) → is_at (nat_cmp k) n ≡ b → HasAllOf (at_number p.inodes.entries n) (cond b (Some y) (at_number p.inodes.entries n))
+    go n true e = subst (λ o. HasAllOf o (Some y)) (found ∙ ap (at_number p.inodes.entries) (same_number k n e)) more
+    go n false e = all_of_itself (at_number p.inodes.entries n)
+
+pub all_itself : (p : UserPart) → HasAll p p
+all_itself p = record { paths = λ n h. h; inodes = λ n. all_of_itself (at_number p.inodes.entries n) }

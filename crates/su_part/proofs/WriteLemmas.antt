@@ -208,12 +208,14 @@ begun b off xs bs k h k_is = record {
     alike n false e = let lt = leb-false k n e in mixed_done bs (with_bytes_at off xs bs) k n lt ∙ before n lt
 
 -- one block more
-pub stepped : (bs new : List ℕ) (k : ℕ) (c d : PartBytes) → Midway bs new k c → IsRewritten k (block k new) c d → k < 2 ^ 32 → Midway bs new (k + 1) d
-stepped bs new k c d m r small = record {
-  size = r.size ∙ m.size;
-  digests = subst (StandsFor number_sort d.digests) put (r.digests was m.digests);
-  done = λ n lt. subst (IsBlockOf new n) (sym (r.blocks n)) (there n lt (is_at (nat_cmp k) n) refl);
-  rest = λ n le. subst (IsBlockOf bs n) (sym (r.blocks n ∙ ap (λ t. cond t (Some (block k new)) (loaded_block c n)) (apart n le))) (m.rest n (omega (arith, le)));
+pub stepped_by : (bs new : List ℕ) (k : ℕ) (c d : PartBytes) → Midway bs new k c → k < 2 ^ 32 → d.size ≡ c.size
+    → StandsFor number_sort d.digests (with_value number_bits k (sha256 (block_item (block k new))) (numbered (mixed_digest bs new k) 0 (max (block_count (length bs)) k)))
+    → ((n : ℕ) → loaded_block d n ≡ cond (is_at (nat_cmp k) n) (Some (block k new)) (loaded_block c n)) → Midway bs new (k + 1) d
+stepped_by bs new k c d m small size digests blocks = record {
+  size = size ∙ m.size;
+  digests = subst (StandsFor number_sort d.digests) put digests;
+  done = λ n lt. subst (IsBlockOf new n) (sym (blocks n)) (there n lt (is_at (nat_cmp k) n) refl);
+  rest = λ n le. subst (IsBlockOf bs n) (sym (blocks n ∙ ap (λ t. cond t (Some (block k new)) (loaded_block c n)) (apart n le))) (m.rest n (omega (arith, le)));
 }
   where
     was : List (ℕ × List ℕ)
@@ -238,6 +240,9 @@ stepped bs new k c d m r small = record {
     there : (n : ℕ) → n < k + 1 → (t : Bool) → is_at (nat_cmp k) n ≡ t → IsBlockOf new n (cond t (Some (block k new)) (loaded_block c n))
     there n lt true e = ap (λ j. block j new) (same_number k n e)
     there n lt false e = m.done n (grind (arith, nat_tests, e, lt))
+
+pub stepped : (bs new : List ℕ) (k : ℕ) (c d : PartBytes) → Midway bs new k c → IsRewritten k (block k new) c d → k < 2 ^ 32 → Midway bs new (k + 1) d
+stepped bs new k c d m r small = stepped_by bs new k c d m small r.size (r.digests (numbered (mixed_digest bs new k) 0 (max (block_count (length bs)) k)) m.digests) r.blocks
 
 -- blocks that are ready are put, and each has a place
 pub record Writing (bs new : List ℕ) (k until : ℕ) (c : PartBytes) (es : List (ℕ × Ready)) : Type 0 where
@@ -318,7 +323,7 @@ places_stand b c bs w h = record {
     nothing : (n : ℕ) → length bs ≤ 4096 * n → block n bs ≡ []
     nothing n past = nil_from_length (block n bs) (length-block n bs ∙ omega (arith, past))
 
-places_some : (b c : PartBytes) → WithPlaces b c → (n : ℕ) → IsSome (loaded_block b n) → IsSome (loaded_block c n)
+pub places_some : (b c : PartBytes) → WithPlaces b c → (n : ℕ) → IsSome (loaded_block b n) → IsSome (loaded_block c n)
 places_some b c w n some = elim (w.blocks n) [ inl e ↦ subst IsSome (sym e) some | inr e ↦ subst IsSome (sym e.0) refl ]
 
 pub places_block : (b c : PartBytes) → WithPlaces b c → (n : ℕ) → HasBlock n b → HasBlock n c

@@ -43,9 +43,10 @@ pub record HasBlock (n : ℕ) (b : PartBytes) : Type 0 where
   pub path : IsTrue (reaches number_bits n b.digests)
   pub there : BLOCK_SIZE * n < b.size → IsSome (loaded_block b n)
 
--- q has each block that p has, and the same size
+-- q has each path and each block that p has, and the same size
 pub record HasAllBlocks (p q : PartBytes) : Type 0 where
   pub size : q.size ≡ p.size
+  pub paths : (n : ℕ) → IsTrue (reaches number_bits n p.digests) → IsTrue (reaches number_bits n q.digests)
   pub blocks : (n : ℕ) → HasBlock n p → HasBlock n q
   pub loaded : (n : ℕ) → IsSome (loaded_block p n) → IsSome (loaded_block q n)
 

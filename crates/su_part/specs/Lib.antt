@@ -1,3 +1,6 @@
 pub mod Item
 pub mod Bytes
+pub mod InPlace
 pub mod Part
+pub mod Cut
+pub mod Known

@@ -1,5 +1,5 @@
 // The bytes of a file of which blocks may be left on a store.
-ghost use Rattle.std.specs.Prelude.{◌≡◌, ◌≢◌, ◌+◌, ◌-◌, ◌*◌, ◌/◌, ◌<◌, ◌≤◌, ◌^◌, ℕ, List, IsSome, Some, true, false, Err, OnOk, OnErr, IfOk, MatchOption, None, IsTrue, cond, max, [], length, take, drop};
+ghost use Rattle.std.specs.Prelude.{◌≡◌, ◌≢◌, ◌+◌, ◌-◌, ◌*◌, ◌/◌, ◌<◌, ◌≤◌, ◌^◌, ℕ, List, IsSome, Some, true, false, Err, OnOk, OnErr, IfOk, IsOk, MatchOption, None, IsTrue, cond, max, [], length, take, drop};
 ghost use Rattle.std.specs.BTreeMap.{is_at};
 ghost use Rattle.std.specs.Ordering.{nat_cmp};
 ghost use Rattle.sha2.specs.Sha256.{sha256};
@@ -10,6 +10,7 @@ ghost use Rattle.su_node.specs.Field.{block};
 ghost use Rattle.su_node.specs.InodeChange.{with_size, with_bytes_at};
 ghost use Rattle.su_part_tree.specs.Part.{reaches};
 ghost use Rattle.su_tree.specs.Number.{number_bits};
+ghost use Rattle.su_part.specs.Known.{BytesStayKnown};
 ghost use Rattle.su_part.specs.Bytes.{loaded_block, ready_at, AreReady, HasPlaces, WithPlaces, HasWrite, IsRewritten, StandsBytes, HasAllBlocks, HasBlock, HasBlocks, HasBytes, BytesItem, NoneClash};
 
 use sha2::{Digest as _, Sha256};
@@ -24,7 +25,7 @@ use su_part_tree::{PartTree, Room};
 /// The bytes of a block.
 #[derive(Drop)]
 pub(crate) struct Block {
-    bytes: Vec<u8>,
+    pub(crate) bytes: Vec<u8>,
 }
 
 impl Model for Block {
@@ -72,14 +73,14 @@ impl Block {
         }
     }
 
-    fn as_slice(&self) -> &[u8]
+    pub(crate) fn as_slice(&self) -> &[u8]
         ensures { result.now ≡ self.now }
     {
         self.bytes.as_slice()
     }
 
     /// Returns the digest of the block. It makes one hash.
-    fn digest(&self) -> Digest
+    pub(crate) fn digest(&self) -> Digest
         ensures { result ≡ sha256 (block_item self.now) }
     {
         let mut hasher = Sha256::new();
@@ -97,7 +98,7 @@ impl Block {
     }
 
     /// Puts these bytes in the place of those that stand there.
-    fn overwrite(&mut self, start: usize, bytes: &[u8])
+    pub(crate) fn overwrite(&mut self, start: usize, bytes: &[u8])
         requires { start + length bytes.now ≤ length self.old }
         ensures { self.new ≡ with_bytes_at start bytes.now self.old }
     {
@@ -144,7 +145,7 @@ pub(crate) struct PartBytes {
     pub(crate) size: u32,
     pub(crate) digests: PartTree<u32, Digest>,
     pub(crate) blocks: BTreeMap<u32, Block>,
-    alloc: Global,
+    pub(crate) alloc: Global,
 }
 
 impl PartBytes {
@@ -349,8 +350,8 @@ impl PartBytes {
     }
 
     /// Writes bytes from an offset on, and fills a gap before them with zeros. What it needs is
-    /// loaded. Fails where memory is wanting; then it stands for what it stood for, and what was
-    /// loaded is loaded.
+    /// loaded. Takes memory only where the file grows, and fails where that is wanting; then it
+    /// stands for what it stood for, and what was loaded is loaded.
     pub fn write_at(&mut self, off: u32, bytes: &[u8]) -> Result<(), AllocError>
         requires small { off + length bytes.now < 2 ^ 32 }
         requires there { HasWrite off (length bytes.now) self.old }
@@ -359,16 +360,23 @@ impl PartBytes {
         ensures err { (bs : List ℕ) → StandsBytes self.old bs
             → OnErr result (StandsBytes self.new bs) }
         ensures keeps { OnErr result (HasAllBlocks self.old self.new) }
+        ensures succeeds { off + length bytes.now ≤ self.old.size → IsOk result }
+        ensures all { off + length bytes.now ≤ self.old.size → HasAllBlocks self.old self.new }
+        ensures known { (bs : List ℕ) → StandsBytes self.old bs → OnOk result
+            (BytesStayKnown self.old bs self.new (with_bytes_at off bytes.now bs)) }
     {
         let end = off as usize + bytes.len();
-        let size = end.max(self.size as usize);
+        if end <= self.size as usize {
+            self.overwrite(off, bytes);
+            return Ok(());
+        }
         let first = off.min(self.size) as usize / BLOCK_SIZE;
         let until = count_for(end);
-        let mut ready = self.make_ready(first as u32, until as u32, size, off as usize, bytes)?;
+        let mut ready = self.make_ready(first as u32, until as u32, end, off as usize, bytes)?;
         for number in first..until {
             self.put_ready(number as u32, &mut ready);
         }
-        self.size = size as u32;
+        self.size = end as u32;
         Ok(())
     }
 
@@ -462,6 +470,8 @@ impl PartBytes {
             → IsRewritten number bytes self.old self.new }
         ensures paths { (n : ℕ) → IsTrue (reaches number_bits n self.old.digests)
             → IsTrue (reaches number_bits n self.new.digests) }
+        ensures loaded { (n : ℕ) → IsSome (loaded_block self.old n)
+            → IsSome (loaded_block self.new n) }
         ensures others { (n : ℕ) → is_at (nat_cmp number) n ≡ false
             → ready_at all.new.entries n ≡ ready_at all.old.entries n }
     {

@@ -1,10 +1,11 @@
 // Inodes of which parts may be left on a store.
-ghost use Rattle.std.specs.Prelude.{◌≡◌, ◌+◌, ◌<◌, ◌^◌, ℕ, List, length, true, Err, OnOk, OnErr, IfOk, IfErr, Some, None, option_map};
+ghost use Rattle.std.specs.Prelude.{◌≡◌, ◌+◌, ◌<◌, ◌^◌, ◌≤◌, ℕ, List, length, true, Err, OnOk, OnErr, IfOk, IfErr, IsOk, Some, None, option_map};
 ghost use Rattle.su_bytes.specs.declared.refusals.Refusal.TheVariants.{Malformed, NoMemory};
 ghost use Rattle.su_node.specs.Inode.{Inode, Content, kind_of, size_of, bytes_of, within, has_no_names, names_of, new_inode};
 ghost use Rattle.su_node.specs.Digest.{content_digest, inode_digest, kind_byte};
-ghost use Rattle.su_node.specs.Field.{Field.NameOf, file_value, field_value};
+ghost use Rattle.su_node.specs.Field.{Field.NameOf, Value.Nothing, file_value, field_value};
 ghost use Rattle.su_part.specs.Item.{MeantInode, item_of};
+ghost use Rattle.su_part.specs.Known.{KnowsNameIn, StaysKnownIn};
 ghost use Rattle.su_part.specs.Part.{StandsContent, StandsInode, FreeInode, HasAllIn, HasName, HasRootIn, HasNamesIn, IsAllIn, HasBlocksIn, HasBytesIn, HasWriteIn, with_named, with_links, with_written};
 
 use crate::blocks::PartBytes;
@@ -341,6 +342,12 @@ impl PartInode {
             → OnOk result (StandsInode self.new (with_named name (Some file) i)) }
         ensures refused { IfErr result (λ e. e ≡ NoMemory) }
         ensures err { OnErr result (self.new ≡ self.old) }
+        ensures absent { (i : Inode) → StandsInode self.old i
+            → OnErr result (field_value (Some i) (NameOf name) ≡ Nothing) }
+        ensures keeps { HasAllIn self.old.content self.new.content }
+        ensures known { (i : Inode) → StandsInode self.old i
+            → OnOk result (StaysKnownIn self.old.content i.content self.new.content
+            (with_named name (Some file) i).content) }
     {
         // names the key for the prover (docs/ARCHITECTURE.md, "Forms the kit wants")
         let _bytes = name.byte_count();
@@ -350,11 +357,15 @@ impl PartInode {
         }
     }
 
-    /// Takes away a name, whose path is loaded; does nothing to a file. It takes no memory.
+    /// Takes away a name, which is known; does nothing to a file. It takes no memory.
     pub(crate) fn name_remove(&mut self, name: &Name)
-        requires { HasName name.now self.old }
-        ensures { (i : Inode) → StandsInode self.old i
+        ensures stands { (i : Inode) → StandsInode self.old i
+            → KnowsNameIn name.now self.old.content i.content
             → StandsInode self.new (with_named name.now None i) }
+        ensures known { (i : Inode) → StandsInode self.old i
+            → KnowsNameIn name.now self.old.content i.content
+            → StaysKnownIn self.old.content i.content self.new.content
+            (with_named name.now None i).content }
     {
         // names the key for the prover (docs/ARCHITECTURE.md, "Forms the kit wants")
         let _bytes = name.byte_count();
@@ -366,14 +377,16 @@ impl PartInode {
 
     /// Sets the number of names that lead to it.
     pub(crate) fn set_links(&mut self, links: u8)
-        ensures { (i : Inode) → StandsInode self.old i → StandsInode self.new (with_links links i) }
+        ensures stands { (i : Inode) → StandsInode self.old i
+            → StandsInode self.new (with_links links i) }
+        ensures same { self.new.content ≡ self.old.content }
     {
         self.links = links;
     }
 
     /// Writes bytes into a file from an offset on, and fills a gap before them with zeros; does
-    /// nothing to a directory. What it needs is loaded. Fails only with `NoMemory`; then it stands
-    /// for what it stood for, and what was loaded is loaded.
+    /// nothing to a directory. What it needs is loaded. Fails only with `NoMemory`, and only where
+    /// the file grows; then it stands for what it stood for, and what was loaded is loaded.
     pub(crate) fn write_at(&mut self, off: u32, bytes: &[u8]) -> Result<(), Refusal>
         requires small { off + length bytes.now < 2 ^ 32 }
         requires there { HasWriteIn off (length bytes.now) self.old.content }
@@ -383,6 +396,14 @@ impl PartInode {
         ensures err { (i : Inode) → StandsInode self.old i
             → OnErr result (StandsInode self.new i) }
         ensures keeps { OnErr result (HasAllIn self.old.content self.new.content) }
+        ensures succeeds { (i : Inode) → StandsInode self.old i
+            → off + length bytes.now ≤ size_of i.content → IsOk result }
+        ensures all { (i : Inode) → StandsInode self.old i
+            → off + length bytes.now ≤ size_of i.content
+            → HasAllIn self.old.content self.new.content }
+        ensures known { (i : Inode) → StandsInode self.old i
+            → OnOk result (StaysKnownIn self.old.content i.content self.new.content
+            (with_written off bytes.now i).content) }
     {
         match &mut self.content {
             PartContent::Bytes(blocks) => Ok(blocks.write_at(off, bytes)?),

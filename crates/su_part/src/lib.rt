@@ -3,9 +3,12 @@
 #![tactic(auto)]
 
 mod blocks;
+mod cuts;
+mod exchanges;
 mod inodes;
 mod items;
 mod opens;
+mod overwrites;
 mod users;
 
 pub use inodes::PartInode;

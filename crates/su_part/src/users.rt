@@ -1,5 +1,5 @@
 // A user's i-table of which parts may be left on a store.
-ghost use Rattle.std.specs.Prelude.{false, ◌≡◌, ◌≢◌, ◌&&◌, ◌+◌, ◌<◌, ◌≤◌, ◌^◌, ℕ, List, length, IsTrue, true, Err, OnOk, OnErr, IfOk, IfErr, Some, None, option_map, option_copied};
+ghost use Rattle.std.specs.Prelude.{false, ◌≡◌, ◌≢◌, ◌&&◌, ◌+◌, ◌<◌, ◌≤◌, ◌^◌, ℕ, List, length, IsTrue, true, Err, OnOk, OnErr, IfOk, IfErr, IsOk, Some, None, option_map, option_copied};
 ghost use Rattle.su_bytes.specs.FileId.{is_file_id};
 ghost use Rattle.su_bytes.specs.Name.{is_name};
 ghost use Rattle.std.specs.BTreeMap.{is_at};
@@ -7,7 +7,7 @@ ghost use Rattle.std.specs.FinMap.{get};
 ghost use Rattle.std.specs.Ordering.{nat_cmp};
 ghost use Rattle.su_node.specs.Inode.{Inode, bytes_of, within, names_of};
 ghost use Rattle.su_node.specs.InodeChange.{InodeChange.Made, InodeChange.Named, InodeChange.Linked, InodeChange.Written, InodeChange.Resized, InodeChange.Copied, InodeChange.Gone};
-ghost use Rattle.su_node.specs.Field.{Field.NameOf, file_value};
+ghost use Rattle.su_node.specs.Field.{Field.NameOf, Value.Nothing, file_value};
 ghost use Rattle.su_table.specs.Cell.{Cell.At, val};
 ghost use Rattle.su_table.specs.Edit.{Edit.Inodes, edit};
 ghost use Rattle.su_bytes.specs.declared.refusals.Refusal.TheVariants.{Malformed, NoMemory};
@@ -16,6 +16,7 @@ ghost use Rattle.su_table.specs.Handle.{handle};
 ghost use Rattle.su_table.specs.Query.{size_at, is_bare_at};
 ghost use Rattle.su_table.specs.Tree.{Tree};
 ghost use Rattle.su_part.specs.Item.{MeantInode};
+ghost use Rattle.su_part.specs.Known.{HasIfLoaded, KnowsInode, KnowsName, StaysKnown};
 ghost use Rattle.su_part_tree.specs.Part.{reaches};
 ghost use Rattle.su_tree.specs.Number.{number_bits};
 ghost use Rattle.su_part.specs.Part.{MeantUser, StandsInode, StandsJust, StandsUser, Free, HasAll, HasInode, HasName, HasNameAt, HasRootAt, HasNamesAt, HasWriteOf, HasBlocksAt, HasBytesAt, HasWriteAt, IsOpenAt, IsThere, StaysLoaded, at_number};
@@ -260,10 +261,15 @@ impl UserPart {
             → OnOk result (StandsUser u self.new
             (edit T (Inodes (u, number) (Named name (Some file))))) }
         ensures stays { OnOk result (StaysLoaded number self.old self.new) }
+        ensures known { (u : ℕ) (T : Tree) → StandsUser u self.old T → IsThere u T number self.old
+            → OnOk result (StaysKnown u T
+            (edit T (Inodes (u, number) (Named name (Some file)))) self.old self.new) }
         ensures refused { IfErr result (λ e. e ≡ NoMemory) }
         ensures err { (u : ℕ) (T : Tree) → StandsUser u self.old T
             → OnErr result (StandsUser u self.new T) }
-        ensures keeps { OnErr result (HasAll self.old self.new) }
+        ensures absent { (u : ℕ) (T : Tree) → StandsUser u self.old T
+            → OnErr result (val T (At (u, number) (NameOf name)) ≡ Nothing) }
+        ensures keeps { HasAll self.old self.new }
     {
         let key = number.number();
         if let Some(inode) = self.inodes.get_mut(&key) {
@@ -277,50 +283,65 @@ impl UserPart {
 }
 
 impl UserPart {
-    /// Takes a name away from the directory of a number. What it needs is loaded. Does nothing
-    /// where no directory stands. It takes no memory.
+    /// Takes a name away from the directory of a number. The name is known. Does nothing where no
+    /// directory stands. What was known stays known. It takes no memory.
     pub fn remove_name(&mut self, number: Inum, name: &Name)
-        requires { IsOpenAt number (HasName name.now) self.old }
-        ensures stands { (u : ℕ) (T : Tree) → StandsUser u self.old T → IsThere u T number self.old
+        ensures stands { (u : ℕ) (T : Tree) → StandsUser u self.old T
+            → KnowsName u T number name.now self.old
             → StandsUser u self.new (edit T (Inodes (u, number) (Named name.now None))) }
+        ensures known { (u : ℕ) (T : Tree) → StandsUser u self.old T
+            → KnowsName u T number name.now self.old
+            → StaysKnown u T (edit T (Inodes (u, number) (Named name.now None)))
+            self.old self.new }
         ensures stays { StaysLoaded number self.old self.new }
     {
         let key = number.number();
         if let Some(inode) = self.inodes.get_mut(&key) {
             inode.name_remove(name);
             let digest = inode.digest();
-            // the number is there, so without memory
-            let _done = self.table.put(key, digest);
+            self.table.set(key, digest);
         }
     }
 
-    /// Sets how many names lead to the inode of a number, which is loaded. Does nothing where none
+    /// Sets how many names lead to the inode of a number, which is known. Does nothing where none
     /// stands. It takes no memory.
     pub fn set_links(&mut self, number: Inum, links: u8)
-        requires { IsTrue (reaches number_bits number self.old.table) }
-        ensures stands { (u : ℕ) (T : Tree) → StandsUser u self.old T → IsThere u T number self.old
+        ensures stands { (u : ℕ) (T : Tree) → StandsUser u self.old T
+            → KnowsInode u T number self.old
             → StandsUser u self.new (edit T (Inodes (u, number) (Linked links))) }
+        ensures known { (u : ℕ) (T : Tree) → StandsUser u self.old T
+            → KnowsInode u T number self.old
+            → StaysKnown u T (edit T (Inodes (u, number) (Linked links))) self.old self.new }
         ensures stays { StaysLoaded number self.old self.new }
+        ensures keeps { HasAll self.old self.new }
     {
         let key = number.number();
         if let Some(inode) = self.inodes.get_mut(&key) {
             inode.set_links(links);
             let digest = inode.digest();
-            // the number is there, so without memory
-            let _done = self.table.put(key, digest);
+            self.table.set(key, digest);
         }
     }
 
-    /// Writes bytes into the file of a number from an offset on, and fills a gap before them with
-    /// zeros. What it needs is loaded. Does nothing where no file stands. Fails only with
-    /// `NoMemory`; then it stands for what it stood for, and what was loaded is loaded.
+    /// Writes bytes into the file of a number, which is known, from an offset on, and fills a gap
+    /// before them with zeros. What it needs of the file is loaded. Does nothing where no file stands. Fails only with
+    /// `NoMemory`, and only where the file grows; then it stands for what it stood for, and what was
+    /// loaded is loaded.
     pub fn write_at(&mut self, number: Inum, off: u32, bytes: &[u8]) -> Result<(), Refusal>
         requires small { off + length bytes.now < 2 ^ 32 }
-        requires loaded { IsOpenAt number (HasWriteOf off (length bytes.now)) self.old }
-        ensures ok { (u : ℕ) (T : Tree) → StandsUser u self.old T → IsThere u T number self.old
+        requires loaded { HasIfLoaded number (HasWriteOf off (length bytes.now)) self.old }
+        ensures ok { (u : ℕ) (T : Tree) → StandsUser u self.old T → KnowsInode u T number self.old
             → OnOk result (StandsUser u self.new (edit T (Inodes (u, number)
             (Written (size_at T (u, number)) off bytes.now)))) }
         ensures stays { OnOk result (StaysLoaded number self.old self.new) }
+        ensures known { (u : ℕ) (T : Tree) → StandsUser u self.old T
+            → KnowsInode u T number self.old
+            → OnOk result (StaysKnown u T (edit T (Inodes (u, number)
+            (Written (size_at T (u, number)) off bytes.now))) self.old self.new) }
+        ensures succeeds { (u : ℕ) (T : Tree) → StandsUser u self.old T
+            → off + length bytes.now ≤ size_at T (u, number) → IsOk result }
+        ensures all { (u : ℕ) (T : Tree) → StandsUser u self.old T
+            → off + length bytes.now ≤ size_at T (u, number) → HasAll self.old self.new }
         ensures refused { IfErr result (λ e. e ≡ NoMemory) }
         ensures err { (u : ℕ) (T : Tree) → StandsUser u self.old T
             → OnErr result (StandsUser u self.new T) }
@@ -330,23 +351,26 @@ impl UserPart {
         if let Some(inode) = self.inodes.get_mut(&key) {
             inode.write_at(off, bytes)?;
             let digest = inode.digest();
-            // the number is there, so without memory
-            let _done = self.table.put(key, digest);
+            self.table.set(key, digest);
         }
         Ok(())
     }
 
     /// Fills the file of a number with zeros up to a size in bytes, which is not below its own.
-    /// What a write of no bytes at that offset needs is loaded. Does nothing where no file stands.
+    /// The number is known, and what a write of no bytes at that offset needs is loaded. Does nothing where no file stands.
     /// Fails only with `NoMemory`; then it stands for what it stood for, and what was loaded is
     /// loaded.
     pub fn grow(&mut self, number: Inum, size: u32) -> Result<(), Refusal>
-        requires { IsOpenAt number (HasWriteOf size 0) self.old }
-        ensures ok { (u : ℕ) (T : Tree) → StandsUser u self.old T → IsThere u T number self.old
+        requires { HasIfLoaded number (HasWriteOf size 0) self.old }
+        ensures ok { (u : ℕ) (T : Tree) → StandsUser u self.old T → KnowsInode u T number self.old
             → size_at T (u, number) ≤ size
             → OnOk result (StandsUser u self.new (edit T (Inodes (u, number)
             (Resized (size_at T (u, number)) size)))) }
         ensures stays { OnOk result (StaysLoaded number self.old self.new) }
+        ensures known { (u : ℕ) (T : Tree) → StandsUser u self.old T
+            → KnowsInode u T number self.old → size_at T (u, number) ≤ size → OnOk result (StaysKnown u T
+            (edit T (Inodes (u, number) (Resized (size_at T (u, number)) size)))
+            self.old self.new) }
         ensures refused { IfErr result (λ e. e ≡ NoMemory) }
         ensures err { (u : ℕ) (T : Tree) → StandsUser u self.old T
             → OnErr result (StandsUser u self.new T) }
@@ -356,7 +380,8 @@ impl UserPart {
     }
 
     /// Puts an inode at a number, whose path is loaded, in the place of what stands there. Fails
-    /// only with `NoMemory`; then it stands for what it stood for, and what was loaded is loaded.
+    /// only with `NoMemory`, and only where nothing stands there; then it stands for what it stood
+    /// for, and what was loaded is loaded.
     pub fn put_inode(&mut self, number: Inum, inode: PartInode) -> Result<(), Refusal>
         requires { IsTrue (reaches number_bits number self.old.table) }
         ensures ok { (u : ℕ) (T : Tree) (i : Inode) → StandsUser u self.old T → StandsInode inode i
@@ -366,18 +391,11 @@ impl UserPart {
         ensures refused { IfErr result (λ e. e ≡ NoMemory) }
         ensures err { (u : ℕ) (T : Tree) → StandsUser u self.old T
             → OnErr result (StandsUser u self.new T) }
+        ensures absent { (u : ℕ) (T : Tree) → StandsUser u self.old T → IsThere u T number self.old
+            → OnErr result (get T.inodes (u, number) ≡ None) }
         ensures keeps { OnErr result (HasAll self.old self.new) }
     {
-        let key = number.number();
-        let digest = inode.digest();
-        if let Some(place) = self.inodes.get_mut(&key) {
-            self.table.put(key, digest)?;
-            *place = inode;
-            return Ok(());
-        }
-        let room = self.table.room()?;
-        self.inodes.insert(key, inode)?;
-        self.table.put_in(key, digest, room);
+        self.exchange_inode(number, inode)?;
         Ok(())
     }
 
@@ -393,22 +411,29 @@ impl UserPart {
         ensures refused { IfErr result (λ e. e ≡ NoMemory) }
         ensures err { (u : ℕ) (T : Tree) → StandsUser u self.old T
             → OnErr result (StandsUser u self.new T) }
+        ensures absent { (u : ℕ) (T : Tree) → StandsUser u self.old T → IsThere u T number self.old
+            → OnErr result (get T.inodes (u, number) ≡ None) }
         ensures keeps { OnErr result (HasAll self.old self.new) }
     {
         let inode = PartInode::new(self.alloc, home, kind);
         self.put_inode(number, inode)
     }
 
-    /// Takes out the inode of a number, which is loaded, if one stands there. It takes no memory.
+    /// Takes out the inode of a number, which is known, if one stands there. What was known stays
+    /// known. It takes no memory.
     pub fn take_inode(&mut self, number: Inum) -> Option<PartInode>
-        requires { IsTrue (reaches number_bits number self.old.table) }
         ensures value { (u : ℕ) (T : Tree) → StandsUser u self.old T → IsThere u T number self.old
             → StandsJust result (get T.inodes (u, number)) }
         ensures stands { (u : ℕ) (T : Tree) → StandsUser u self.old T
+            → KnowsInode u T number self.old
             → StandsUser u self.new (edit T (Inodes (u, number) Gone)) }
+        ensures known { (u : ℕ) (T : Tree) → StandsUser u self.old T
+            → KnowsInode u T number self.old
+            → StaysKnown u T (edit T (Inodes (u, number) Gone)) self.old self.new }
         ensures others { (m : ℕ) → is_at (nat_cmp number) m ≡ false
             → at_number self.new.inodes.entries m ≡ at_number self.old.inodes.entries m }
-        ensures paths { (u : ℕ) (T : Tree) → StandsUser u self.old T → (m : ℕ) → m < 2 ^ 32
+        ensures paths { (u : ℕ) (T : Tree) → StandsUser u self.old T
+            → KnowsInode u T number self.old → (m : ℕ) → m < 2 ^ 32
             → is_at (nat_cmp number) m ≡ false → get T.inodes (u, m) ≢ None
             → IsTrue (reaches number_bits m self.old.table)
             → IsTrue (reaches number_bits m self.new.table) }

@@ -9,6 +9,7 @@ mod looks;
 mod parts;
 mod paths;
 mod rooms;
+mod sets;
 mod sheds;
 mod takes;
 

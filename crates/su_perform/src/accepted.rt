@@ -1,0 +1,116 @@
+// The accepted operations by cases.
+ghost use Rattle.std.specs.Prelude.{◌≡◌, Some, None, IfOk, IfErr, OnOk};
+ghost use Rattle.su_table.specs.Tree.{Tree};
+ghost use Rattle.su_op.specs.Action.{action_by};
+ghost use Rattle.su_op.specs.Operation.{why};
+ghost use Rattle.su_op.specs.Rule.{plan_reads, plan_writes};
+ghost use Rattle.su_part_forest.specs.Forest.{IsSound};
+ghost use Rattle.su_part_forest.specs.Seen.{seen};
+ghost use Rattle.su_perform.specs.Accepted.{planned};
+ghost use Rattle.su_perform.specs.Found.{Found};
+ghost use Rattle.su_bytes.specs.declared.refusals.Refusal.TheVariants.{NoMemory};
+
+use crate::create::AcceptedCreate;
+use crate::drop_body::AcceptedDrop;
+use crate::link::AcceptedLink;
+use crate::rename::AcceptedRename;
+use crate::take::AcceptedTake;
+use crate::truncate::AcceptedTruncate;
+use crate::unlink::AcceptedUnlink;
+use crate::write::AcceptedWrite;
+use std::alloc::Global;
+use su_bytes::{Format, Refusal, Roster, User};
+use su_op::{Footprint, Op};
+use su_part_forest::PartForest;
+
+/// An operation that its check accepted, with what the check found, so that nothing is looked up
+/// again.
+#[derive(Clone, Copy)]
+pub enum Accepted<'a> {
+    Create(AcceptedCreate<'a>),
+    Unlink(AcceptedUnlink<'a>),
+    Write(AcceptedWrite<'a>),
+    Truncate(AcceptedTruncate<'a>),
+    Take(AcceptedTake<'a>),
+    Link(AcceptedLink<'a>),
+    Rename(AcceptedRename<'a>),
+    Drop(AcceptedDrop<'a>),
+}
+
+impl<'a> Accepted<'a> {
+    #[tactic(auto, unfolding(su_op::specs::Operation::why))]
+    /// Checks whether an operation by that author, made in that format, is accepted in what is
+    /// loaded. The error is the first refusal. Takes no memory.
+    pub fn check(
+        op: &'a Op,
+        forest: &PartForest,
+        roster: &Roster,
+        author: User,
+        format: Format,
+    ) -> Result<Accepted<'a>, Refusal>
+        requires { IsSound forest.now }
+        ensures accepted { OnOk result
+            (why roster.now (seen forest.now) (action_by author format op.now) ≡ None) }
+        ensures found { IfOk result (Found (seen forest.now) author op.now) }
+        ensures refused { IfErr result (λ e.
+            why roster.now (seen forest.now) (action_by author format op.now) ≡ Some e) }
+    {
+        if !roster.has_user(author) {
+            return Err(Refusal::NoUser(author));
+        }
+        match op {
+            Op::Create(create) => {
+                let accepted = AcceptedCreate::check(create, forest, roster, author)?;
+                Ok(Accepted::Create(accepted))
+            }
+            Op::Unlink(unlink) => {
+                let accepted = AcceptedUnlink::check(unlink, forest, roster, author)?;
+                Ok(Accepted::Unlink(accepted))
+            }
+            Op::Write(write) => {
+                let accepted = AcceptedWrite::check(write, forest, roster, author, format)?;
+                Ok(Accepted::Write(accepted))
+            }
+            Op::Truncate(truncate) => {
+                let accepted = AcceptedTruncate::check(truncate, forest, roster, author, format)?;
+                Ok(Accepted::Truncate(accepted))
+            }
+            Op::Take(take) => {
+                let accepted = AcceptedTake::check(take, forest, roster, author)?;
+                Ok(Accepted::Take(accepted))
+            }
+            Op::Link(link) => {
+                let accepted = AcceptedLink::check(link, forest, roster, author)?;
+                Ok(Accepted::Link(accepted))
+            }
+            Op::Rename(rename) => {
+                let accepted = AcceptedRename::check(rename, forest, roster, author)?;
+                Ok(Accepted::Rename(accepted))
+            }
+            Op::Drop(dropped) => {
+                let accepted = AcceptedDrop::check(dropped, forest, author)?;
+                Ok(Accepted::Drop(accepted))
+            }
+        }
+    }
+
+    /// Returns the cells that it reads, and those that it writes. Fails only with `NoMemory`.
+    pub fn footprint(&self, alloc: Global) -> Result<Footprint, Refusal>
+        ensures reads { IfOk result (λ f.
+            (T : Tree) → f.reads.items ≡ plan_reads (planned T self.now)) }
+        ensures writes { IfOk result (λ f.
+            (T : Tree) → f.writes.items ≡ plan_writes (planned T self.now)) }
+        ensures refused { IfErr result (λ e. e ≡ NoMemory) }
+    {
+        match self {
+            Accepted::Create(create) => create.footprint(alloc),
+            Accepted::Unlink(unlink) => unlink.footprint(alloc),
+            Accepted::Write(write) => write.footprint(alloc),
+            Accepted::Truncate(truncate) => truncate.footprint(alloc),
+            Accepted::Take(take) => take.footprint(alloc),
+            Accepted::Link(link) => link.footprint(alloc),
+            Accepted::Rename(rename) => rename.footprint(alloc),
+            Accepted::Drop(dropped) => dropped.footprint(alloc),
+        }
+    }
+}

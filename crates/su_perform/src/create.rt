@@ -1,0 +1,98 @@
+// A new file or directory.
+ghost use Rattle.std.specs.Prelude.{◌≡◌, Some, None, IfOk, IfErr, OnOk};
+ghost use Rattle.su_op.specs.Create.{create_rule, is_own_number};
+ghost use Rattle.su_op.specs.Rule.{refusal, plan_reads, plan_writes};
+ghost use Rattle.su_part_forest.specs.Forest.{IsSound};
+ghost use Rattle.su_part_forest.specs.Seen.{seen};
+ghost use Rattle.su_perform.specs.Accepted.{planned_create};
+ghost use Rattle.su_perform.specs.Found.{FoundCreate};
+ghost use Rattle.su_bytes.specs.declared.refusals.Refusal.TheVariants.{NoMemory};
+
+use std::alloc::Global;
+use su_bytes::{FileId, Place, Refusal, Roster, User};
+use su_op::{Area, Create, Footprint, Part, closed_group, push_file, push_pointer};
+use su_part_forest::PartForest;
+
+/// A create that is accepted, and where the directory stands.
+#[derive(Clone, Copy)]
+pub struct AcceptedCreate<'a> {
+    pub(crate) create: &'a Create,
+    pub(crate) author: User,
+    pub(crate) directory: Place,
+}
+
+impl<'a> AcceptedCreate<'a> {
+    /// Checks whether the author may create. The error is the first refusal.
+    pub(crate) fn check(
+        create: &'a Create,
+        forest: &PartForest,
+        roster: &Roster,
+        author: User,
+    ) -> Result<AcceptedCreate<'a>, Refusal>
+        requires { IsSound forest.now }
+        ensures accepted { OnOk result
+            (refusal (create_rule roster.now (seen forest.now) author create.now) ≡ None) }
+        ensures found { IfOk result (FoundCreate (seen forest.now) author create.now) }
+        ensures refused { IfErr result (λ e.
+            refusal (create_rule roster.now (seen forest.now) author create.now) ≡ Some e) }
+    {
+        if !has_own_number(create, author) {
+            return Err(Refusal::BadNumber);
+        }
+        if let Some(group) = closed_group(roster, author, create.dir) {
+            return Err(Refusal::NotMember(group));
+        }
+        if let Some(group) = closed_group(roster, author, create.file) {
+            return Err(Refusal::NotMember(group));
+        }
+        let Some(directory) = forest.body(create.dir) else {
+            return Err(Refusal::NoFile(create.dir));
+        };
+        if !forest.is_directory(directory) {
+            return Err(Refusal::WrongKind(create.dir));
+        }
+        if directory.0 != author {
+            return Err(Refusal::NotHolder(directory.0));
+        }
+        if !forest.is_pointer_free(create.file) || !forest.is_free((author, create.body)) {
+            return Err(Refusal::Held);
+        }
+        if !forest.is_name_free(directory, &create.name) {
+            return Err(Refusal::Exists);
+        }
+        Ok(AcceptedCreate {
+            create,
+            author,
+            directory,
+        })
+    }
+
+    /// Returns what it reads and writes. Fails only with `NoMemory`.
+    pub(crate) fn footprint(&self, alloc: Global) -> Result<Footprint, Refusal>
+        ensures reads { IfOk result (λ f. f.reads.items ≡ plan_reads (planned_create self.now)) }
+        ensures writes { IfOk result (λ f.
+            f.writes.items ≡ plan_writes (planned_create self.now)) }
+        ensures refused { IfErr result (λ e. e ≡ NoMemory) }
+    {
+        let create = self.create;
+        let mut besides = Vec::new(alloc);
+        push_file(&mut besides, create.dir, self.directory)?;
+        let mut writes = Vec::new(alloc);
+        writes.push(Area::Inode(self.directory, Part::Name(create.name.clone()?)))?;
+        writes.push(Area::Inode((self.author, create.body), Part::Kind))?;
+        writes.push(Area::Inode((self.author, create.body), Part::Links))?;
+        writes.push(Area::Inode((self.author, create.body), Part::Size))?;
+        push_pointer(&mut writes, create.file)?;
+        Footprint::new(besides, writes)
+    }
+}
+
+/// Tells whether the file id is one that the author can make at that number.
+fn has_own_number(create: &Create, author: User) -> bool
+    ensures { result ≡ is_own_number author create.now.body create.now.file }
+{
+    match create.file {
+        FileId::User(user, number) => user == author && number == create.body,
+        FileId::Group(..) => true,
+    }
+}

@@ -1,0 +1,153 @@
+// A file gets another name.
+ghost use Rattle.std.specs.Prelude.{◌≡◌, ◌||◌, Some, None, IfOk, IfErr, OnOk, true, false, is_some};
+ghost use Rattle.su_table.specs.Query.{body};
+ghost use Rattle.su_op.specs.Rename.{stays, moved, moves_directory, rename_rule, rename_rule_at};
+ghost use Rattle.su_op.specs.Rule.{refusal, plan_reads, plan_writes};
+ghost use Rattle.su_part_forest.specs.Forest.{IsSound};
+ghost use Rattle.su_part_forest.specs.Seen.{seen};
+ghost use Rattle.su_perform.specs.Accepted.{planned_rename};
+ghost use Rattle.su_perform.specs.Found.{FoundRename, FoundPlaces};
+ghost use Rattle.su_bytes.specs.declared.refusals.Refusal.TheVariants.{NoMemory, NoFile};
+
+use std::alloc::Global;
+use su_bytes::{Place, Refusal, Roster, User};
+use su_op::{Area, Footprint, Part, Rename, closed_group, push_file};
+use su_part_forest::PartForest;
+
+/// A rename that is accepted, and where the directories stand, and the file if it goes from one to
+/// the other.
+#[derive(Clone, Copy)]
+pub struct AcceptedRename<'a> {
+    pub(crate) rename: &'a Rename,
+    pub(crate) source: Place,
+    pub(crate) target: Place,
+    pub(crate) moved: Option<Place>,
+}
+
+impl<'a> AcceptedRename<'a> {
+    /// Checks whether the author may rename. The error is the first refusal.
+    pub(crate) fn check(
+        rename: &'a Rename,
+        forest: &PartForest,
+        roster: &Roster,
+        author: User,
+    ) -> Result<AcceptedRename<'a>, Refusal>
+        requires { IsSound forest.now }
+        ensures accepted { OnOk result
+            (refusal (rename_rule roster.now (seen forest.now) author rename.now) ≡ None) }
+        ensures found { IfOk result (FoundRename (seen forest.now) rename.now) }
+        ensures refused { IfErr result (λ e.
+            refusal (rename_rule roster.now (seen forest.now) author rename.now) ≡ Some e) }
+    {
+        let (source, target, moved) = places(rename, forest, roster, author)?;
+        if !forest.is_directory(source) {
+            return Err(Refusal::WrongKind(rename.from_));
+        }
+        if !forest.is_directory(target) {
+            return Err(Refusal::WrongKind(rename.to_));
+        }
+        if source.0 != author {
+            return Err(Refusal::NotHolder(source.0));
+        }
+        if target.0 != author {
+            return Err(Refusal::NotHolder(target.0));
+        }
+        if !forest.leads_to(source, &rename.old_, rename.file) {
+            return Err(Refusal::NoName);
+        }
+        if !forest.is_name_free(target, &rename.new_) {
+            return Err(Refusal::Exists);
+        }
+        if moves_directory(forest, &moved) {
+            return Err(Refusal::DirMove);
+        }
+        Ok(AcceptedRename {
+            rename,
+            source,
+            target,
+            moved,
+        })
+    }
+
+    /// Returns what it reads and writes. Fails only with `NoMemory`.
+    pub(crate) fn footprint(&self, alloc: Global) -> Result<Footprint, Refusal>
+        ensures reads { IfOk result (λ f. f.reads.items ≡ plan_reads (planned_rename self.now)) }
+        ensures writes { IfOk result (λ f.
+            f.writes.items ≡ plan_writes (planned_rename self.now)) }
+        ensures refused { IfErr result (λ e. e ≡ NoMemory) }
+    {
+        let rename = self.rename;
+        let mut besides = Vec::new(alloc);
+        push_file(&mut besides, rename.from_, self.source)?;
+        push_file(&mut besides, rename.to_, self.target)?;
+        if let Some(moved) = self.moved {
+            push_file(&mut besides, rename.file, moved)?;
+        }
+        let mut writes = Vec::new(alloc);
+        writes.push(Area::Inode(self.target, Part::Name(rename.new_.clone()?)))?;
+        writes.push(Area::Inode(self.source, Part::Name(rename.old_.clone()?)))?;
+        Footprint::new(besides, writes)
+    }
+}
+
+/// Finds where the directories stand, and the file if it goes from one to the other. The error is
+/// the first refusal of the checks for users, groups and bodies.
+fn places(
+    rename: &Rename,
+    forest: &PartForest,
+    roster: &Roster,
+    author: User,
+) -> Result<(Place, Place, Option<Place>), Refusal>
+    requires { IsSound forest.now }
+    ensures found { IfOk result (λ p. FoundPlaces (seen forest.now) rename.now p.0 p.1 p.2) }
+    ensures refusal { IfOk result (λ p.
+        refusal (rename_rule roster.now (seen forest.now) author rename.now)
+        ≡ refusal (rename_rule_at (seen forest.now) author rename.now p.2 p.0 p.1)) }
+    ensures refused { IfErr result (λ e.
+        refusal (rename_rule roster.now (seen forest.now) author rename.now) ≡ Some e) }
+{
+    if let Some(group) = closed_group(roster, author, rename.from_) {
+        return Err(Refusal::NotMember(group));
+    }
+    if let Some(group) = closed_group(roster, author, rename.to_) {
+        return Err(Refusal::NotMember(group));
+    }
+    let Some(source) = forest.body(rename.from_) else {
+        return Err(Refusal::NoFile(rename.from_));
+    };
+    let Some(target) = forest.body(rename.to_) else {
+        return Err(Refusal::NoFile(rename.to_));
+    };
+    let moved = moved(rename, forest)?;
+    Ok((source, target, moved))
+}
+
+/// Finds where the file stands, if it goes from one directory to another. Fails with `NoFile` where
+/// it has no body.
+fn moved(rename: &Rename, forest: &PartForest) -> Result<Option<Place>, Refusal>
+    requires { IsSound forest.now }
+    ensures value { IfOk result (λ place. place ≡ moved (seen forest.now) rename.now) }
+    ensures found { OnOk result
+        ((stays rename.now || is_some (moved (seen forest.now) rename.now)) ≡ true) }
+    ensures refused { IfErr result (λ e. (e ≡ NoFile rename.now.file)
+        × ((stays rename.now || is_some (moved (seen forest.now) rename.now)) ≡ false)) }
+{
+    if rename.from_ == rename.to_ {
+        return Ok(None);
+    }
+    match forest.body(rename.file) {
+        Some(place) => Ok(Some(place)),
+        None => Err(Refusal::NoFile(rename.file)),
+    }
+}
+
+/// Tells whether what goes to another directory is a directory.
+fn moves_directory(forest: &PartForest, moved: &Option<Place>) -> bool
+    requires { IsSound forest.now }
+    ensures { result ≡ moves_directory (seen forest.now) moved.now }
+{
+    match moved {
+        Some(place) => forest.is_directory(*place),
+        None => false,
+    }
+}

@@ -1,0 +1,97 @@
+// Taking a name away, and the file with its last one.
+ghost use Rattle.std.specs.Prelude.{◌≡◌, Some, None, IfOk, IfErr, OnOk};
+ghost use Rattle.su_op.specs.Unlink.{unlink_rule};
+ghost use Rattle.su_op.specs.Rule.{refusal, plan_reads, plan_writes};
+ghost use Rattle.su_part_forest.specs.Forest.{IsSound};
+ghost use Rattle.su_part_forest.specs.Seen.{seen};
+ghost use Rattle.su_perform.specs.Accepted.{planned_unlink};
+ghost use Rattle.su_perform.specs.Found.{FoundUnlink};
+ghost use Rattle.su_bytes.specs.declared.refusals.Refusal.TheVariants.{NoMemory};
+
+use std::alloc::Global;
+use su_bytes::{Place, Refusal, Roster, User};
+use su_op::{Area, Footprint, Part, Unlink, closed_group, push_file, push_pointer};
+use su_part_forest::PartForest;
+
+/// An unlink that is accepted, and where the directory and the file stand.
+#[derive(Clone, Copy)]
+pub struct AcceptedUnlink<'a> {
+    pub(crate) unlink: &'a Unlink,
+    pub(crate) directory: Place,
+    pub(crate) place: Place,
+    /// How many links the file has.
+    pub(crate) links: u8,
+}
+
+impl<'a> AcceptedUnlink<'a> {
+    /// Checks whether the author may unlink. The error is the first refusal.
+    pub(crate) fn check(
+        unlink: &'a Unlink,
+        forest: &PartForest,
+        roster: &Roster,
+        author: User,
+    ) -> Result<AcceptedUnlink<'a>, Refusal>
+        requires { IsSound forest.now }
+        ensures accepted { OnOk result
+            (refusal (unlink_rule roster.now (seen forest.now) author unlink.now) ≡ None) }
+        ensures found { IfOk result (FoundUnlink (seen forest.now) unlink.now) }
+        ensures refused { IfErr result (λ e.
+            refusal (unlink_rule roster.now (seen forest.now) author unlink.now) ≡ Some e) }
+    {
+        if let Some(group) = closed_group(roster, author, unlink.dir) {
+            return Err(Refusal::NotMember(group));
+        }
+        if let Some(group) = closed_group(roster, author, unlink.file) {
+            return Err(Refusal::NotMember(group));
+        }
+        let Some(directory) = forest.body(unlink.dir) else {
+            return Err(Refusal::NoFile(unlink.dir));
+        };
+        let Some(place) = forest.body(unlink.file) else {
+            return Err(Refusal::NoFile(unlink.file));
+        };
+        if !forest.is_directory(directory) {
+            return Err(Refusal::WrongKind(unlink.dir));
+        }
+        if directory.0 != author {
+            return Err(Refusal::NotHolder(directory.0));
+        }
+        if place.0 != author {
+            return Err(Refusal::NotHolder(place.0));
+        }
+        if !forest.leads_to(directory, &unlink.name, unlink.file) {
+            return Err(Refusal::NoName);
+        }
+        if !forest.is_bare(place) {
+            return Err(Refusal::NotEmpty);
+        }
+        Ok(AcceptedUnlink {
+            unlink,
+            directory,
+            place,
+            links: forest.links(place),
+        })
+    }
+
+    /// Returns what it reads and writes. Fails only with `NoMemory`.
+    pub(crate) fn footprint(&self, alloc: Global) -> Result<Footprint, Refusal>
+        ensures reads { IfOk result (λ f. f.reads.items ≡ plan_reads (planned_unlink self.now)) }
+        ensures writes { IfOk result (λ f.
+            f.writes.items ≡ plan_writes (planned_unlink self.now)) }
+        ensures refused { IfErr result (λ e. e ≡ NoMemory) }
+    {
+        let unlink = self.unlink;
+        let mut besides = Vec::new(alloc);
+        push_file(&mut besides, unlink.dir, self.directory)?;
+        push_file(&mut besides, unlink.file, self.place)?;
+        let mut writes = Vec::new(alloc);
+        writes.push(Area::Inode(self.directory, Part::Name(unlink.name.clone()?)))?;
+        if self.links < 2 {
+            push_pointer(&mut writes, unlink.file)?;
+            writes.push(Area::Inode(self.place, Part::Whole))?;
+        } else {
+            writes.push(Area::Inode(self.place, Part::Links))?;
+        }
+        Footprint::new(besides, writes)
+    }
+}
