@@ -3,3 +3,4 @@ pub mod Seeing
 pub mod Putting
 pub mod Changed
 pub mod Staying
+pub mod Looking

@@ -5,6 +5,7 @@
 mod copies;
 mod items;
 mod loads;
+mod looks;
 mod parts;
 mod rooms;
 mod sheds;

@@ -29,7 +29,7 @@ use su_tree::{TreeKey, TreeValue};
 /// A finite map of which parts may be left on a store, with its digest. It stands for each map that
 /// agrees with what is loaded and has the digests of its stubs.
 pub struct PartTree<K: TreeKey, V: TreeValue> {
-    root: Node<K, V>,
+    pub(crate) root: Node<K, V>,
     made: Hashes,
     alloc: Global,
 }
