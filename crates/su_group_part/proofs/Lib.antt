@@ -1,3 +1,4 @@
 pub mod TableLemmas
 pub mod GroupLemmas
+pub mod LoadedLemmas
 pub mod Public

@@ -14,6 +14,9 @@ ghost use Rattle.su_table.specs.Cell.{Cell.Pointer, place_value, val};
 ghost use Rattle.su_table.specs.Edit.{Edit.Pointers, edit};
 ghost use Rattle.su_table.specs.Handle.{group_table, handle};
 ghost use Rattle.su_table.specs.Query.{is_nothing};
+ghost use Rattle.std.specs.FinMap.{find, get};
+ghost use Rattle.std.specs.Ordering.{nat_cmp};
+ghost use Rattle.su_part_tree.specs.Part.{loaded};
 ghost use Rattle.su_group_part.specs.Part.{FreeGroup, HasPointer, KnowsPointer, MeantGroup, StandsGroup, place_sort};
 
 use std::alloc::Global;
@@ -35,6 +38,18 @@ impl GroupPart {
     {
         GroupPart {
             table: PartTree::stub(alloc, i_handle),
+        }
+    }
+
+    /// Makes the part of a group that has no file, all of it loaded.
+    pub fn empty(alloc: Global) -> GroupPart
+        ensures stands { (g : ℕ) (T : Tree) → ((n : ℕ) → get T.pointers (g, n) ≡ None)
+            → StandsGroup g result T }
+        ensures reached { (n : ℕ) → HasPointer n result }
+        ensures all { HasAll result.table }
+    {
+        GroupPart {
+            table: PartTree::empty(alloc),
         }
     }
 
@@ -77,6 +92,14 @@ impl GroupPart {
             → place_value result ≡ val T (Pointer (g, number)) }
     {
         self.table.get(&number.number()).copied()
+    }
+
+    /// Returns where the pointer of a number leads, if it is loaded.
+    pub fn find(&self, number: Inum) -> Option<Place>
+        ensures { (g : ℕ) (T : Tree) → StandsGroup g self.now T
+            → result ≡ find nat_cmp number (loaded self.now.table) }
+    {
+        self.table.find(&number.number()).copied()
     }
 }
 
