@@ -5,4 +5,6 @@ pub mod ItemLemmas
 pub mod ContentLemmas
 pub mod UserLemmas
 pub mod TableLemmas
+pub mod SeenLemmas
+pub mod FreshLemmas
 pub mod Public

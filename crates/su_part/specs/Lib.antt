@@ -1,3 +1,4 @@
 pub mod Item
 pub mod Bytes
 pub mod Part
+pub mod Seen

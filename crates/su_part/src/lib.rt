@@ -3,8 +3,10 @@
 #![tactic(auto)]
 
 mod blocks;
+mod fresh;
 mod inodes;
 mod items;
+mod seen;
 mod users;
 
 pub use inodes::PartInode;

@@ -31,9 +31,9 @@ use su_part_tree::PartTree;
 /// A user's i-table, and those of the user's inodes that are loaded.
 #[derive(Drop)]
 pub struct UserPart {
-    table: PartTree<u32, Digest>,
-    inodes: BTreeMap<u32, PartInode>,
-    alloc: Global,
+    pub(crate) table: PartTree<u32, Digest>,
+    pub(crate) inodes: BTreeMap<u32, PartInode>,
+    pub(crate) alloc: Global,
 }
 
 impl UserPart {
