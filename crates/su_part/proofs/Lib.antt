@@ -7,4 +7,6 @@ pub mod ContentLemmas
 pub mod UserLemmas
 pub mod TableLemmas
 pub mod KnownLemmas
+pub mod SeenLemmas
+pub mod FreshLemmas
 pub mod Public

@@ -4,3 +4,4 @@ pub mod InPlace
 pub mod Part
 pub mod Cut
 pub mod Known
+pub mod Seen

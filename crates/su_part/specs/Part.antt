@@ -22,7 +22,7 @@ use Rattle.su_node.specs.InodeChange.{with_name, map_bytes, with_bytes_at}
 use Rattle.su_table.specs.Tree.{Tree}
 use Rattle.su_table.specs.Handle.{user_table}
 use Rattle.su_part.specs.Item.{MeantInode}
-use Rattle.su_part.specs.Bytes.{number_sort, NoneClash, StandsBytes, BytesItem, HasAllBlocks, HasBlock, HasBlocks, HasBytes, HasWrite, HasCut}
+use Rattle.su_part.specs.Bytes.{number_sort, NoneClash, StandsBytes, BytesItem, HasAllBlocks, HasBlock, HasBlocks, HasBytes, HasWrite}
 use Rattle.su_part.specs.declared.inodes.PartInode.{PartInode}
 use Rattle.su_part.specs.declared.inodes.PartContent.{PartContent}
 use Rattle.su_part.specs.declared.inodes.PartContent.TheVariants.{Bytes as PartBytes, Names as PartNames}
@@ -220,11 +220,3 @@ HasBytesAt n off len p = HasAt n (λ i. HasBytesIn off len i.content) p
 -- the inode, and what a write of so many bytes from `off` on needs of it
 abbrev pub HasWriteAt : ℕ → ℕ → ℕ → UserPart → Type 0
 HasWriteAt n off len p = HasAt n (λ i. HasWriteIn off len i.content) p
-
--- what a cut to that size needs of a file is loaded; a directory has nothing of it
-abbrev pub HasCutIn : ℕ → PartContent → Type 0
-HasCutIn size (PartNames t) = ⊤
-HasCutIn size (PartBytes b) = HasCut size b
-
-abbrev pub HasCutOf : ℕ → PartInode → Type 0
-HasCutOf size p = HasCutIn size p.content

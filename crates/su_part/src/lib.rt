@@ -5,10 +5,12 @@
 mod blocks;
 mod cuts;
 mod exchanges;
+mod fresh;
 mod inodes;
 mod items;
 mod opens;
 mod overwrites;
+mod seen;
 mod users;
 
 pub use inodes::PartInode;

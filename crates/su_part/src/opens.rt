@@ -4,7 +4,8 @@ ghost use Rattle.su_tree.specs.Number.{number_bits};
 ghost use Rattle.su_part_tree.specs.Part.{reaches};
 ghost use Rattle.su_table.specs.Tree.{Tree};
 ghost use Rattle.su_part.specs.Bytes.{HasBlock, HasBlocks, HasCut, HasWrite};
-ghost use Rattle.su_part.specs.Part.{HasAt, HasCutOf, HasInode, HasName, HasWriteOf, StandsUser};
+ghost use Rattle.su_part.specs.Cut.{HasCutOf};
+ghost use Rattle.su_part.specs.Part.{HasAt, HasInode, HasName, HasWriteOf, StandsUser};
 
 use crate::blocks::{PartBytes, count_for};
 use crate::inodes::{PartContent, PartInode};
