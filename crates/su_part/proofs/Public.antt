@@ -14,7 +14,7 @@ use Rattle.su_tree.specs.Number.{number_bits}
 use Rattle.su_part_tree.specs.Part.{reaches}
 use Rattle.su_node.specs.Name.{Name}
 use Rattle.su_node.specs.Inode.{Inode, Content, Content.Bytes, Content.Names}
-use Rattle.std.proofs.Common.{◌+◌, ◌*◌, ◌/◌, min}
+use Rattle.std.proofs.Common.{◌/◌, min}
 use Rattle.su_part.specs.declared.blocks.PartBytes.{PartBytes}
 use Rattle.su_part.specs.Bytes.{HasAllBlocks, HasCut, HasWrite}
 use Rattle.su_part.specs.Cut.{HasCutIn, HasCutOf}
