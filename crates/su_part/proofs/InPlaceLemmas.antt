@@ -1,11 +1,11 @@
 -- Blocks that are written in place, cut, or taken out.
-use Rattle.std.proofs.Common.{◌≡◌, ◌≢◌, ◌∙◌, ℕ, suc, zero, ◌+◌, ◌-◌, ◌*◌, ◌/◌, ◌%◌, ◌<◌, ◌≤◌, ◌^◌, Bool, true, false, cond, not, min, max, List, [], ◌∷◌, length, take, drop, get_or, map, Option, Some, None, refl, sym, ap, subst, arith, inl, inr, IsTrue}
+use Rattle.std.proofs.Common.{◌≡◌, ◌≢◌, ◌∙◌, ℕ, suc, zero, ◌+◌, ◌-◌, ◌*◌, ◌/◌, ◌%◌, ◌<◌, ◌≤◌, ◌^◌, Bool, true, false, cond, not, min, max, List, [], ◌∷◌, length, take, drop, Option, Some, None, refl, sym, ap, subst, arith, inl, inr, IsTrue}
 use Rattle.std.specs.Prelude.{IsSome, nat_lt}
 use Rattle.std.specs.BTreeMap.{is_at}
 use Rattle.std.specs.Ordering.{nat_cmp, eq_by_cmp}
 use Rattle.std.specs.FinMap.Entries as by
 use Rattle.std.proofs.lemmas.Bool.Decides.{nat_tests}
-use Rattle.std.proofs.lemmas.List.{length-drop, length-take, get_or-take, nil_from_length}
+use Rattle.std.proofs.lemmas.List.{length-take, get_or-take, nil_from_length}
 use Rattle.sha2.specs.Sha256.{sha256}
 use Rattle.su_tree.specs.Number.{number_bits, is_u32}
 use Rattle.su_tree.specs.Value.{is_digest}
@@ -19,9 +19,9 @@ use Rattle.su_part_tree.specs.Part.{StandsFor, IsKnown, reaches}
 use Rattle.su_node.specs.Field.{block}
 use Rattle.su_node.specs.Digest.{block_item, block_count, block_digests}
 use Rattle.su_node.specs.InodeChange.{with_size, with_bytes_at}
-use Rattle.su_node.proofs.Contents.{block_is, length-block, get_or-block, length-with_size, get_or-with_size, length-with_bytes_at}
+use Rattle.su_node.proofs.Contents.{block_is, length-block, get_or-block, length-with_size, get_or-with_size}
 use Rattle.su_part.specs.declared.blocks.PartBytes.{PartBytes}
-use Rattle.su_part.specs.Bytes.{number_sort, StandsBytes, IsBlockOf, HasAllBlocks, HasBlock, loaded_block}
+use Rattle.su_part.specs.Bytes.{number_sort, StandsBytes, IsBlockOf, loaded_block}
 use Rattle.su_part.specs.InPlace.{IsReplaced, IsThese, HasJust, KeepsBelow, digests_of, half_cut}
 use Rattle.su_part.proofs.Numbers.{same_number}
 use Rattle.su_part.proofs.BytesLemmas.{is_number}

@@ -35,7 +35,7 @@ use Rattle.su_part.specs.declared.inodes.PartContent.TheVariants.{Bytes as Loade
 use Rattle.su_part.specs.declared.users.UserPart.{UserPart}
 use Rattle.su_part.specs.Bytes.{number_sort, StandsBytes, HasAllBlocks, HasBlock, loaded_block}
 use Rattle.su_part.specs.Part.{with_named, name_sort, StandsAt, StandsContent, StandsInode, StandsUser, at_number}
-use Rattle.su_part.specs.Known.{BytesStayKnown, KnowsBlockOf, KnowsBlockIn, KnowsNameIn, OfLoaded, KnowsInode, KnowsName, KnowsBlock, StaysKnown, StaysKnownIn, Want, Want.AnInode, Want.AName, Want.ABlock}
+use Rattle.su_part.specs.Known.{BytesStayKnown, KnowsBlockOf, KnowsBlockIn, KnowsNameIn, OfLoaded, KnowsInode, StaysKnown, StaysKnownIn, Want.AnInode, Want.AName, Want.ABlock}
 use Rattle.su_part.proofs.Numbers.{same_number}
 use Rattle.su_part.proofs.BytesLemmas.{is_number}
 use Rattle.su_part.proofs.ContentLemmas.{entries_without}

@@ -1,5 +1,5 @@
 -- The lemmas that proofs of other crates may cite: how what is loaded stays so from call to call.
-use Rattle.std.proofs.Common.{◌≡◌, ◌∙◌, ℕ, ◌<◌, ◌≤◌, ◌^◌, ◌⊎◌, inl, inr, true, false, IsTrue, Option, Some, None, refl, sym, ap, subst, arith}
+use Rattle.std.proofs.Common.{◌≡◌, ◌∙◌, ℕ, ◌<◌, ◌≤◌, ◌^◌, ◌⊎◌, inl, inr, true, false, IsTrue, Option, Some, None, refl, sym, ap, subst, arith, ◌≢◌}
 use Rattle.std.specs.Prelude.{IsSome}
 use Rattle.std.specs.BTreeMap.{is_at}
 use Rattle.std.specs.Ordering.{nat_cmp}
@@ -14,13 +14,13 @@ use Rattle.su_tree.specs.Number.{number_bits}
 use Rattle.su_part_tree.specs.Part.{reaches}
 use Rattle.su_node.specs.Name.{Name}
 use Rattle.su_node.specs.Inode.{Inode, Content, Content.Bytes, Content.Names}
-use Rattle.std.proofs.Common.{◌+◌, ◌*◌, ◌/◌, min}
+use Rattle.std.proofs.Common.{◌/◌, min}
 use Rattle.su_part.specs.declared.blocks.PartBytes.{PartBytes}
 use Rattle.su_part.specs.Bytes.{HasAllBlocks, HasCut, HasWrite}
 use Rattle.su_part.specs.Cut.{HasCutIn, HasCutOf}
 use Rattle.su_part.specs.declared.inodes.PartContent.{PartContent}
 use Rattle.su_part.specs.declared.inodes.PartContent.TheVariants.{Bytes as LoadedBytes, Names as PartNames}
-use Rattle.su_part.specs.Known.{HasIfLoaded, KnowsBlock, KnowsBlockIn, KnowsInode, KnowsName, KnowsNameIn, Knows, OfLoaded, Want, Want.AnInode, Want.AName, Want.ABlock, number_of}
+use Rattle.su_part.specs.Known.{HasIfLoaded, KnowsBlock, KnowsBlockIn, KnowsInode, KnowsName, KnowsNameIn, Knows, OfLoaded, Want, Want.AnInode, Want.AName, Want.ABlock, number_of, StaysKnown}
 use Rattle.su_part.specs.Part.{StandsAt, StandsContent, StandsUser, HasInode, HasAt, HasAll, HasAllIn, HasAllOf, HasWriteIn, HasWriteOf, HasBlocksAt, HasBlocksIn, HasName, HasNameAt, HasNameIn, IfLoaded, IsOpenAt, IsThere, StaysLoaded, at_number}
 use Rattle.su_part.proofs.UserLemmas.{edit_here, edit_there}
 
@@ -155,3 +155,44 @@ write_stays off len n p q all some h = if_loaded_on (HasWriteIn off len) on n p 
 -- and beside an edit of another inode
 pub if_loaded_beside : (P : PartInode → Type 0) (n m : ℕ) (p q : UserPart) → StaysLoaded n p q → is_at (nat_cmp n) m ≡ false → HasIfLoaded m P p → HasIfLoaded m P q
 if_loaded_beside P n m p q stays other h = subst (IfLoaded P) (sym (stays.others m other)) h
+
+-- ---- what is known, after another load or edit that loses nothing
+
+name_on : (x : Name) (q r : PartContent) (c : Content) → HasAllIn q r → KnowsNameIn x q c → KnowsNameIn x r c
+name_on x (PartNames t) (PartNames v) (Names m) a (inl l) = inl (a x l)
+name_on x (PartNames t) (PartNames v) (Names m) a (inr none) = inr none
+name_on x (PartNames t) (PartNames v) (Bytes bs) a h = tt
+name_on x (PartNames t) (LoadedBytes d) c a h = absurd a
+name_on x (LoadedBytes b) (LoadedBytes d) (Names m) a h = tt
+name_on x (LoadedBytes b) (LoadedBytes d) (Bytes bs) a h = tt
+name_on x (LoadedBytes b) (PartNames v) c a h = absurd a
+
+block_on : (k : ℕ) (q r : PartContent) (c : Content) → HasAllIn q r → KnowsBlockIn k q c → KnowsBlockIn k r c
+block_on k (LoadedBytes b) (LoadedBytes d) (Bytes bs) a h = record { path = elim h.path [ inl l ↦ inl (a.paths k l) | inr past ↦ inr past ]; there = λ lt. a.loaded k (h.there lt) }
+block_on k (LoadedBytes b) (LoadedBytes d) (Names m) a h = tt
+block_on k (LoadedBytes b) (PartNames v) c a h = absurd a
+block_on k (PartNames t) (PartNames v) (Names m) a h = tt
+block_on k (PartNames t) (PartNames v) (Bytes bs) a h = tt
+block_on k (PartNames t) (LoadedBytes d) c a h = absurd a
+
+module _ (u : ℕ) (T : Tree) (p q : UserPart) (all : HasAll p q) where
+  inode_on : (n : ℕ) → KnowsInode u T n p → KnowsInode u T n q
+  inode_on n h = record { number = h.number; path = elim h.path [ inl r ↦ inl (all.paths n r) | inr none ↦ inr none ]; there = there_on u T n p q all h.there }
+
+  part_on : (P : PartContent → Content → Type 0) → ((q r : PartContent) (c : Content) → HasAllIn q r → P q c → P r c) → (n : ℕ) → IsThere u T n p → OfLoaded P (at_number p.inodes.entries n) (get T.inodes (u, n))
+      → OfLoaded P (at_number q.inodes.entries n) (get T.inodes (u, n))
+  part_on P on n there h = go (at_number p.inodes.entries n) (at_number q.inodes.entries n) (get T.inodes (u, n)) (all.inodes n) there h
+    where
+      go : (o r : Option PartInode) (i : Option Inode) → HasAllOf o r → (i ≢ None → IsSome o) → OfLoaded P o i → OfLoaded P r i
+      go None None None a some h = tt
+      go None None (Some i) a some h = tt
+      go None (Some w) None a some h = tt
+      go None (Some w) (Some i) a some h = absurd (let z : false ≡ true = some (λ e. absurd cc) in cc)
+      go (Some v) None i a some h = absurd a
+      go (Some v) (Some w) None a some h = tt
+      go (Some v) (Some w) (Some i) a some h = on v.content w.content i.content a h
+
+  pub known_on : StaysKnown u T T p q
+  known_on (AnInode n) h = inode_on n h
+  known_on (AName n x) h = record { name = h.name; inode = inode_on n h.inode; part = part_on (KnowsNameIn x) (name_on x) n h.inode.there h.part }
+  known_on (ABlock n k) h = record { inode = inode_on n h.inode; part = part_on (KnowsBlockIn k) (block_on k) n h.inode.there h.part }

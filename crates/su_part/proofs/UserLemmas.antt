@@ -267,10 +267,10 @@ gone_path u n T t v h small stands m is other there (inr e) =
 -- ---- an inode that is put
 
 pub put_user : (ch : InodeChange) (i : Inode) → ((o : Option Inode) → inode_after ch o ≡ Some i) → MeantInode i → (u n : ℕ) (T : Tree) (p q : UserPart) (j : PartInode) → StandsUser u p T → IsTrue (is_u32 n) → StandsInode j i
-    → ((m : List (ℕ × List ℕ)) → StandsFor number_sort p.table m → StandsFor number_sort q.table (with_value number_bits n (inode_digest i) m))
+    → StandsFor number_sort q.table (with_value number_bits n (inode_digest i) (user_table T u))
     → ((k : ℕ) → at_number q.inodes.entries k ≡ cond (is_at (nat_cmp n) k) (Some j) (at_number p.inodes.entries k)) → StandsUser u q (edit T (Inodes (u, n) ch))
 put_user ch i here good u n T p q j h small stands table updates = record {
-  table = subst (StandsFor number_sort q.table) same (table (user_table T u) h.table);
+  table = subst (StandsFor number_sort q.table) same table;
   meant = λ k. meant k (is_at (nat_cmp n) k) refl;
   inodes = λ k. subst (λ v. StandsAt v (get (edit T (Inodes (u, n) ch)).inodes (u, k))) (sym (updates k)) (each k (is_at (nat_cmp n) k) refl);
 }
@@ -405,3 +405,17 @@ all_edited p q k x y keeps found more updates = record {
 
 pub all_itself : (p : UserPart) → HasAll p p
 all_itself p = record { paths = λ n h. h; inodes = λ n. all_of_itself (at_number p.inodes.entries n) }
+
+-- ---- an inode that is loaded is one of the table
+
+pub in_user_table : (u n : ℕ) (T : Tree) (p : UserPart) (i : PartInode) → StandsUser u p T → IsTrue (is_u32 n) → Some i ≡ at_number p.inodes.entries n → value_at number_bits n (user_table T u) ≢ None
+in_user_table u n T p i h small found absent =
+    asked_there (get T.inodes (u, n)) i (λ o. get T.inodes (u, n) ≡ o → ⊥) (subst (λ y. StandsAt y (get T.inodes (u, n))) (sym found) (h.inodes n))
+    (λ k s at. absurd (let z : None ≡ option_map inode_digest (Some k) = sym absent ∙ table_value u n T p.table h.table small ∙ ap (option_map inode_digest) at in cc)) refl
+
+pub put_there : (es fs : List (ℕ × PartInode)) (n : ℕ) (x : PartInode) → ((k : ℕ) → at_number fs k ≡ cond (is_at (nat_cmp n) k) (Some x) (at_number es k)) → at_number fs n ≡ Some x
+put_there es fs n x updates = updates n ∙ ap (λ b. cond b (Some x) (at_number es n)) (at_itself n)
+
+pub on_ok : {X E A B : Type 0} (r : Result X E) → (A → B) → OnOk r A → OnOk r B
+on_ok (Ok x) f a = f a
+on_ok (Err e) f a = tt

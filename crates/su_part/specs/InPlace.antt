@@ -1,5 +1,5 @@
 -- What is done in place to the blocks of a file.
-use Rattle.std.specs.Prelude.{◌≡◌, ◌≢◌, ℕ, ◌+◌, ◌<◌, ◌≤◌, IsTrue, IsSome, List, [], Option, Some, None, cond, nat_lt, map, ⊤}
+use Rattle.std.specs.Prelude.{◌≡◌, ◌≢◌, ℕ, ◌<◌, ◌≤◌, IsTrue, IsSome, List, [], Option, Some, None, cond, nat_lt, map, ⊤}
 use Rattle.std.specs.List.{range_with_len}
 use Rattle.std.specs.BTreeMap.{is_at}
 use Rattle.std.specs.Ordering.{nat_cmp}
@@ -13,12 +13,15 @@ use Rattle.su_node.specs.InodeChange.{with_size}
 use Rattle.su_part.specs.declared.blocks.PartBytes.{PartBytes}
 use Rattle.su_part.specs.Bytes.{number_sort, loaded_block}
 
--- The block of that number, of which the digests have one, is these bytes now, and nothing else is another one.
+-- The block of that number, of which there is a digest, is these bytes now, and nothing else is
+-- another one.
 pub record IsReplaced (number : ℕ) (bytes : List ℕ) (b c : PartBytes) : Type 0 where
   pub size : c.size ≡ b.size
-  pub digests : (m : List (ℕ × List ℕ)) → StandsFor number_sort b.digests m → value_at number_bits number m ≢ None
-      → StandsFor number_sort c.digests (with_value number_bits number (sha256 (block_item bytes)) m)
-  pub blocks : (n : ℕ) → loaded_block c n ≡ cond (is_at (nat_cmp number) n) (Some bytes) (loaded_block b n)
+  pub digests : (m : List (ℕ × List ℕ)) → StandsFor number_sort b.digests m
+      → value_at number_bits number m ≢ None → StandsFor number_sort c.digests
+      (with_value number_bits number (sha256 (block_item bytes)) m)
+  pub blocks : (n : ℕ)
+      → loaded_block c n ≡ cond (is_at (nat_cmp number) n) (Some bytes) (loaded_block b n)
 
 -- the digests of the first k blocks, f n being block n
 abbrev pub digests_of : (ℕ → List ℕ) → ℕ → List (ℕ × List ℕ)
@@ -29,8 +32,8 @@ abbrev pub IsThese : List ℕ → Option (List ℕ) → Type 0
 IsThese bytes None = ⊤
 IsThese bytes (Some x) = x ≡ bytes
 
--- The part has just the first k of the blocks f: their digests, and those that are loaded. What is loaded behind them, as a
--- place for a block, has no bytes.
+-- The part has just the first k of the blocks f: their digests, and those that are loaded. What is
+-- loaded behind them, as a place for a block, has no bytes.
 pub record HasJust (f : ℕ → List ℕ) (k : ℕ) (b : PartBytes) : Type 0 where
   pub digests : StandsFor number_sort b.digests (digests_of f k)
   pub blocks : (n : ℕ) → n < k → IsThese (f n) (loaded_block b n)
@@ -38,7 +41,8 @@ pub record HasJust (f : ℕ → List ℕ) (k : ℕ) (b : PartBytes) : Type 0 whe
 
 -- of the block numbers before k all paths and blocks that p has loaded are loaded of q
 pub record KeepsBelow (k : ℕ) (p q : PartBytes) : Type 0 where
-  pub paths : (n : ℕ) → n < k → IsTrue (reaches number_bits n p.digests) → IsTrue (reaches number_bits n q.digests)
+  pub paths : (n : ℕ) → n < k → IsTrue (reaches number_bits n p.digests)
+      → IsTrue (reaches number_bits n q.digests)
   pub loaded : (n : ℕ) → n < k → IsSome (loaded_block p n) → IsSome (loaded_block q n)
 
 -- the blocks of a file of which those that stay after a cut to that size are cut already

@@ -1,5 +1,5 @@
--- What is known of a user's part: a thing is loaded, or what the part stands for has nothing there. So a removal, which may
--- leave a path at a stub, leaves all known that was.
+-- What is known of a user's part: a thing is loaded, or what the part stands for has nothing there. So
+-- a removal, which may leave a path at a stub, leaves all known that was.
 use Rattle.std.specs.Prelude.{◌≡◌, ◌⊎◌, ℕ, ◌*◌, ◌<◌, ◌≤◌, ◌^◌, IsTrue, IsSome, List, length, Option, Some, None, ⊤}
 use Rattle.std.specs.FinMap.{get}
 use Rattle.su_bytes.specs.Name.{is_name}
@@ -20,7 +20,8 @@ use Rattle.su_part.specs.declared.users.UserPart.{UserPart}
 
 -- ---- of a content
 
--- The path of block number k is loaded, or the file ends before that block; where it doesn't, the block is loaded.
+-- The path of block number k is loaded, or the file ends before that block; where it doesn't, the
+-- block is loaded.
 pub record KnowsBlockOf (k : ℕ) (b : PartBytes) (bs : List ℕ) : Type 0 where
   pub path : IsTrue (reaches number_bits k b.digests) ⊎ (length bs ≤ BLOCK_SIZE * k)
   pub there : BLOCK_SIZE * k < length bs → IsSome (loaded_block b k)
@@ -87,9 +88,10 @@ abbrev pub StaysKnown : ℕ → Tree → Tree → UserPart → UserPart → Type
 StaysKnown u T V p q = (w : Want) → Knows u T w p → Knows u V w q
 
 -- and of the content p for c is known of q for d
-pub record StaysKnownIn (p : PartContent) (c : Content) (q : PartContent) (d : Content) : Type 0 where
-  pub names : (x : Name) → IsTrue (is_name x) → KnowsNameIn x p c → KnowsNameIn x q d
-  pub blocks : (k : ℕ) → KnowsBlockIn k p c → KnowsBlockIn k q d
+pub record StaysKnownIn (p : PartContent) (c : Content) (q : PartContent) (d : Content) : Type 0
+  where
+    pub names : (x : Name) → IsTrue (is_name x) → KnowsNameIn x p c → KnowsNameIn x q d
+    pub blocks : (k : ℕ) → KnowsBlockIn k p c → KnowsBlockIn k q d
 
 -- and of the bytes b for bs is known of c for ds
 abbrev pub BytesStayKnown : PartBytes → List ℕ → PartBytes → List ℕ → Type 0

@@ -1,5 +1,5 @@
 // A user's i-table of which parts may be left on a store.
-ghost use Rattle.std.specs.Prelude.{false, ◌≡◌, ◌≢◌, ◌&&◌, ◌+◌, ◌<◌, ◌≤◌, ◌^◌, ℕ, List, length, IsTrue, true, Err, OnOk, OnErr, IfOk, IfErr, IsOk, Some, None, option_map, option_copied};
+ghost use Rattle.std.specs.Prelude.{false, ◌≡◌, ◌≢◌, ◌⊎◌, IsSome, ◌&&◌, ◌+◌, ◌<◌, ◌≤◌, ◌^◌, ℕ, List, length, IsTrue, true, Err, OnOk, OnErr, IfOk, IfErr, IsOk, Some, None, option_map, option_copied};
 ghost use Rattle.su_bytes.specs.FileId.{is_file_id};
 ghost use Rattle.su_bytes.specs.Name.{is_name};
 ghost use Rattle.std.specs.BTreeMap.{is_at};
@@ -19,7 +19,7 @@ ghost use Rattle.su_part.specs.Item.{MeantInode};
 ghost use Rattle.su_part.specs.Known.{HasIfLoaded, KnowsInode, KnowsName, StaysKnown};
 ghost use Rattle.su_part_tree.specs.Part.{reaches};
 ghost use Rattle.su_tree.specs.Number.{number_bits};
-ghost use Rattle.su_part.specs.Part.{MeantUser, StandsInode, StandsJust, StandsUser, Free, HasAll, HasInode, HasName, HasNameAt, HasRootAt, HasNamesAt, HasWriteOf, HasBlocksAt, HasBytesAt, HasWriteAt, IsOpenAt, IsThere, StaysLoaded, at_number};
+ghost use Rattle.su_part.specs.Part.{IsAllIn, MeantUser, StandsInode, StandsJust, StandsUser, Free, HasAll, HasInode, HasName, HasNameAt, HasRootAt, HasNamesAt, HasWriteOf, HasBlocksAt, HasBytesAt, HasWriteAt, IsOpenAt, IsThere, StaysLoaded, at_number};
 
 use crate::inodes::PartInode;
 use crate::items::decode;
@@ -324,9 +324,9 @@ impl UserPart {
     }
 
     /// Writes bytes into the file of a number, which is known, from an offset on, and fills a gap
-    /// before them with zeros. What it needs of the file is loaded. Does nothing where no file stands. Fails only with
-    /// `NoMemory`, and only where the file grows; then it stands for what it stood for, and what was
-    /// loaded is loaded.
+    /// before them with zeros. What it needs of the file is loaded. Does nothing where no file
+    /// stands. Fails only with `NoMemory`, and only where the file grows; then it stands for what it
+    /// stood for, and what was loaded is loaded.
     pub fn write_at(&mut self, number: Inum, off: u32, bytes: &[u8]) -> Result<(), Refusal>
         requires small { off + length bytes.now < 2 ^ 32 }
         requires loaded { HasIfLoaded number (HasWriteOf off (length bytes.now)) self.old }
@@ -357,9 +357,9 @@ impl UserPart {
     }
 
     /// Fills the file of a number with zeros up to a size in bytes, which is not below its own.
-    /// The number is known, and what a write of no bytes at that offset needs is loaded. Does nothing where no file stands.
-    /// Fails only with `NoMemory`; then it stands for what it stood for, and what was loaded is
-    /// loaded.
+    /// The number is known, and what a write of no bytes at that offset needs is loaded. Does
+    /// nothing where no file stands. Fails only with `NoMemory`; then it stands for what it stood
+    /// for, and what was loaded is loaded.
     pub fn grow(&mut self, number: Inum, size: u32) -> Result<(), Refusal>
         requires { HasIfLoaded number (HasWriteOf size 0) self.old }
         ensures ok { (u : ℕ) (T : Tree) → StandsUser u self.old T → KnowsInode u T number self.old
@@ -368,7 +368,8 @@ impl UserPart {
             (Resized (size_at T (u, number)) size)))) }
         ensures stays { OnOk result (StaysLoaded number self.old self.new) }
         ensures known { (u : ℕ) (T : Tree) → StandsUser u self.old T
-            → KnowsInode u T number self.old → size_at T (u, number) ≤ size → OnOk result (StaysKnown u T
+            → KnowsInode u T number self.old → size_at T (u, number) ≤ size
+            → OnOk result (StaysKnown u T
             (edit T (Inodes (u, number) (Resized (size_at T (u, number)) size)))
             self.old self.new) }
         ensures refused { IfErr result (λ e. e ≡ NoMemory) }
@@ -379,14 +380,16 @@ impl UserPart {
         self.write_at(number, size, &[])
     }
 
-    /// Puts an inode at a number, whose path is loaded, in the place of what stands there. Fails
-    /// only with `NoMemory`, and only where nothing stands there; then it stands for what it stood
-    /// for, and what was loaded is loaded.
+    /// Puts an inode at a number in the place of what stands there. The number's path is loaded, or
+    /// its inode is and it is known. Fails only with `NoMemory`, and only where nothing stands there;
+    /// then it stands for what it stood for, and what was loaded is loaded.
     pub fn put_inode(&mut self, number: Inum, inode: PartInode) -> Result<(), Refusal>
-        requires { IsTrue (reaches number_bits number self.old.table) }
-        ensures ok { (u : ℕ) (T : Tree) (i : Inode) → StandsUser u self.old T → StandsInode inode i
-            → MeantInode i
+        requires { IsSome (at_number self.old.inodes.entries number)
+            ⊎ IsTrue (reaches number_bits number self.old.table) }
+        ensures ok { (u : ℕ) (T : Tree) (i : Inode) → StandsUser u self.old T
+            → KnowsInode u T number self.old → StandsInode inode i → MeantInode i
             → OnOk result (StandsUser u self.new (edit T (Inodes (u, number) (Copied i)))) }
+        ensures there { OnOk result (at_number self.new.inodes.entries number ≡ Some inode) }
         ensures stays { OnOk result (StaysLoaded number self.old self.new) }
         ensures refused { IfErr result (λ e. e ≡ NoMemory) }
         ensures err { (u : ℕ) (T : Tree) → StandsUser u self.old T
@@ -399,14 +402,18 @@ impl UserPart {
         Ok(())
     }
 
-    /// Makes a new inode of a number, whose path is loaded, in the place of what stands there: empty,
-    /// with one link. Fails only with `NoMemory`; then it stands for what it stood for, and what was
-    /// loaded is loaded.
+    /// Makes a new inode of a number in the place of what stands there: empty, with one link. All of
+    /// it is loaded. The number's path is loaded, or its inode is and it is known. Fails only with
+    /// `NoMemory`, and only where nothing stands there; then it stands for what it stood for, and
+    /// what was loaded is loaded.
     pub fn make_inode(&mut self, number: Inum, home: FileId, kind: Kind) -> Result<(), Refusal>
-        requires path { IsTrue (reaches number_bits number self.old.table) }
+        requires path { IsSome (at_number self.old.inodes.entries number)
+            ⊎ IsTrue (reaches number_bits number self.old.table) }
         requires meant { IsTrue (is_file_id home) }
-        ensures ok { (u : ℕ) (T : Tree) → StandsUser u self.old T
+        ensures ok { (u : ℕ) (T : Tree) → StandsUser u self.old T → KnowsInode u T number self.old
             → OnOk result (StandsUser u self.new (edit T (Inodes (u, number) (Made home kind)))) }
+        ensures there { OnOk result (IsSome (at_number self.new.inodes.entries number)) }
+        ensures all { OnOk result (HasIfLoaded number (λ i. IsAllIn i.content) self.new) }
         ensures stays { OnOk result (StaysLoaded number self.old self.new) }
         ensures refused { IfErr result (λ e. e ≡ NoMemory) }
         ensures err { (u : ℕ) (T : Tree) → StandsUser u self.old T

@@ -1,4 +1,4 @@
-use Rattle.std.proofs.Common.{◌≡◌, ◌∙◌, arith, ap, subst, sym, ◌+◌, ◌*◌, ◌/◌, ◌<◌, ◌≤◌, length}
+use Rattle.std.proofs.Common.{◌≡◌, ◌∙◌, arith, ap, subst, sym, ◌<◌, length}
 use Rattle.su_node.specs.Digest.{block_count}
 use Rattle.su_node.proofs.Contents.{resized_same}
 use Rattle.su_part.specs.Bytes.{StandsBytes}

@@ -1,4 +1,4 @@
-use Rattle.std.proofs.Common.{◌≡◌, arith, ◌+◌, ◌*◌, ◌/◌, ◌%◌, ◌<◌, ◌≤◌, ◌^◌, length}
+use Rattle.std.proofs.Common.{arith, ◌/◌, ◌%◌, ◌<◌}
 use Rattle.su_node.specs.Field.{block}
 use Rattle.su_part.specs.Bytes.{loaded_block}
 use Rattle.su_part.proofs.BytesLemmas.{found_block}

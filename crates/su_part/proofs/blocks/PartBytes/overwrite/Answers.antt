@@ -1,4 +1,4 @@
-use Rattle.std.proofs.Common.{◌≡◌, arith, ◌+◌, ◌*◌, ◌/◌, ◌<◌, ◌≤◌, ◌^◌, length, min, max}
+use Rattle.std.proofs.Common.{◌≡◌, arith, ◌+◌, ◌/◌, ◌<◌, ◌≤◌, length, min}
 use Rattle.su_node.specs.Digest.{block_count}
 use Rattle.su_node.specs.InodeChange.{with_bytes_at}
 use Rattle.su_part.specs.Bytes.{HasBlock, loaded_block}

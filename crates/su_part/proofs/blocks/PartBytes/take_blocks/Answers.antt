@@ -1,6 +1,4 @@
-use Rattle.std.proofs.Common.{◌≡◌, List, ℕ, ◌+◌, ◌-◌, ◌<◌, ◌≤◌, arith, IsTrue, subst, sym}
-use Rattle.su_tree.specs.Number.{number_bits}
-use Rattle.su_part_tree.specs.Part.{reaches}
+use Rattle.std.proofs.Common.{◌≡◌, List, ℕ, ◌+◌, ◌-◌, arith, subst, sym}
 use Rattle.su_part.specs.InPlace.{HasJust, KeepsBelow}
 use Rattle.su_part.proofs.InPlaceLemmas.{below_itself, below_on}
 use Rattle.su_part.proofs.blocks.PartBytes.take_blocks.Goals as goal

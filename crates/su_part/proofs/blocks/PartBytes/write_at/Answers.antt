@@ -1,11 +1,10 @@
-use Rattle.std.proofs.Common.{◌≡◌, ◌∙◌, ap, subst, sym, arith, IsTrue, ℕ, List, ◌+◌, ◌*◌, ◌/◌, ◌<◌, ◌≤◌, ◌^◌, length, min, max}
+use Rattle.std.proofs.Common.{◌≡◌, ◌∙◌, ap, subst, sym, arith, IsTrue, ℕ, ◌+◌, ◌/◌, ◌<◌, ◌≤◌, ◌^◌, length, min}
 use Rattle.su_tree.specs.Number.{number_bits}
 use Rattle.su_part_tree.specs.Part.{reaches}
 use Rattle.su_node.specs.Digest.{block_count}
 use Rattle.su_node.specs.InodeChange.{with_bytes_at}
-use Rattle.su_part.specs.Bytes.{StandsBytes}
 use Rattle.su_part.proofs.WriteLemmas.{begun, written_on, finished, places_stand, places_some, on_err}
-use Rattle.su_part.proofs.KnownLemmas.{known_all, known_grown}
+use Rattle.su_part.proofs.KnownLemmas.{known_grown}
 use Rattle.su_part.proofs.blocks.PartBytes.write_at.Goals as goal
 
 pub returns-in_err-ready-clause-err : goal.returns-in_err-ready-clause-err
@@ -60,8 +59,7 @@ returns-clause-known c bs h =
     let path = λ (n : ℕ) (r : IsTrue (reaches number_bits n c.args.self.now.digests)). inv.paths n (subst (λ t. IsTrue (reaches number_bits n t)) (sym same.digests) r) in
     known_grown c.args.self.now (record c.loop-number.self { size = c.args.off + length c.args.bytes.now }) c.args.off c.args.bytes.now bs path (λ n s. inv.loaded n (places_some c.args.self.now c.make_ready.new.self same n s))
     (λ n low high.
-    let low' : min c.args.off c.args.self.now.size / 4096 ≤ n = omega (arith, low, size) in
-    (
+    let low' : min c.args.off c.args.self.now.size / 4096 ≤ n = omega (arith, low, size) in (
       path n (c.requires.there n low' high).path,
       inv.loaded n (c.in_ok-ready.ensures.places n (omega (arith, low, size, c.min.ensures)) (omega (arith, high, c.count_for-until.ensures))),
     ))

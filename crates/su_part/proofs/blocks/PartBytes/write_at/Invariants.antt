@@ -1,4 +1,4 @@
-use Rattle.std.proofs.Common.{ℕ, ◌<◌, ◌≤◌, IsTrue, List}
+use Rattle.std.proofs.Common.{ℕ, IsTrue, List}
 use Rattle.std.specs.Prelude.{IsSome}
 use Rattle.su_tree.specs.Number.{number_bits}
 use Rattle.su_part_tree.specs.Part.{reaches}

@@ -1,4 +1,4 @@
-use Rattle.std.proofs.Common.{◌≤◌, List, ℕ, length, subst}
+use Rattle.std.proofs.Common.{◌≤◌, length, subst}
 use Rattle.su_node.specs.Inode.{Content, size_of}
 use Rattle.su_node.specs.InodeChange.{with_size}
 use Rattle.su_part.proofs.ContentLemmas.{bytes_cut, names_not_cut}

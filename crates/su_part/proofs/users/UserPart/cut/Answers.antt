@@ -1,7 +1,6 @@
 use Rattle.std.proofs.Common.{◌≡◌, ◌∙◌, ◌≤◌, ◌<◌, ◌^◌, refl, sym, ap, subst, None, arith}
 use Rattle.std.specs.Option.{is_some}
 use Rattle.std.specs.FinMap.{get}
-use Rattle.su_node.specs.Inode.{size_of}
 use Rattle.su_node.specs.InodeChange.{InodeChange.Resized}
 use Rattle.su_table.specs.Edit.{Edit.Inodes, edit}
 use Rattle.su_table.specs.Handle.{user_table}

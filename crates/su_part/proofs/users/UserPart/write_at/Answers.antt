@@ -6,7 +6,6 @@ use Rattle.su_table.specs.Edit.{Edit.Inodes, edit}
 use Rattle.su_table.specs.Handle.{user_table}
 use Rattle.su_table.specs.Query.{size_at}
 use Rattle.std.proofs.Common.{◌+◌, ◌≤◌, false, true, length}
-use Rattle.su_node.specs.Inode.{size_of}
 use Rattle.su_part.specs.declared.users.UserPart.{UserPart}
 use Rattle.su_part.specs.Known.{KnowsInode, StaysKnown}
 use Rattle.su_part.specs.Part.{HasAll, HasAllIn, StandsAt, StandsUser, at_number, with_written}
