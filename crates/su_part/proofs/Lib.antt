@@ -1,8 +1,10 @@
 pub mod Numbers
+pub mod LoadLemmas
 pub mod BytesLemmas
 pub mod WriteLemmas
 pub mod ItemLemmas
 pub mod ContentLemmas
 pub mod UserLemmas
+pub mod FetchLemmas
 pub mod TableLemmas
 pub mod Public

@@ -1,3 +1,5 @@
 pub mod Item
 pub mod Bytes
 pub mod Part
+pub mod Loads
+pub mod Fetches

@@ -1,17 +1,16 @@
 // Inodes of which parts may be left on a store.
 ghost use Rattle.std.specs.Prelude.{◌≡◌, ◌+◌, ◌<◌, ◌^◌, ℕ, List, length, true, Err, OnOk, OnErr, IfOk, IfErr, Some, None, option_map};
-ghost use Rattle.su_bytes.specs.declared.refusals.Refusal.TheVariants.{Malformed, NoMemory};
+ghost use Rattle.su_bytes.specs.declared.refusals.Refusal.TheVariants.{NoMemory};
 ghost use Rattle.su_node.specs.Inode.{Inode, Content, kind_of, size_of, bytes_of, within, has_no_names, names_of, new_inode};
 ghost use Rattle.su_node.specs.Digest.{content_digest, inode_digest, kind_byte};
 ghost use Rattle.su_node.specs.Field.{Field.NameOf, file_value, field_value};
 ghost use Rattle.su_part.specs.Item.{MeantInode, item_of};
-ghost use Rattle.su_part.specs.Part.{StandsContent, StandsInode, FreeInode, HasAllIn, HasName, HasRootIn, HasNamesIn, IsAllIn, HasBlocksIn, HasBytesIn, HasWriteIn, with_named, with_links, with_written};
+ghost use Rattle.su_part.specs.Part.{StandsContent, StandsInode, HasAllIn, HasName, HasRootIn, HasNamesIn, IsAllIn, HasBytesIn, HasWriteIn, with_named, with_links, with_written};
 
 use crate::blocks::PartBytes;
 use crate::items::InodeItem;
 use sha2::{Digest as _, Sha256};
 use std::alloc::{AllocError, Global};
-use su_block::BlockSource;
 use su_bytes::{Digest, FileId, Kind, Name, Refusal};
 use su_part_tree::PartTree;
 use su_tree::{TreeKey, TreeValue};
@@ -151,132 +150,6 @@ impl PartInode {
             links: self.links,
             content: self.content.copy()?,
         })
-    }
-
-    /// Loads what the path of a name needs; a file has none.
-    pub(crate) fn fetch_name<S: BlockSource>(
-        &mut self,
-        name: &Name,
-        source: &mut S,
-    ) -> Result<(), Refusal>
-        requires { S.is_checked ≡ true }
-        ensures stands { (i : Inode) → StandsInode self.old i
-            → FreeInode i (S.may_give source.old) → StandsInode self.new i }
-        ensures malformed { result ≡ Err (Malformed 0) → (i : Inode) → StandsInode self.old i
-            → FreeInode i (S.may_give source.old) → ⊥ }
-        ensures has { OnOk result (HasName name.now self.new) }
-        ensures keeps { HasAllIn self.old.content self.new.content }
-        ensures no_more { (s : List ℕ) → S.may_give source.new s → S.may_give source.old s }
-    {
-        match &mut self.content {
-            PartContent::Bytes(_) => Ok(()),
-            PartContent::Names(names) => names.reach(name, source),
-        }
-    }
-
-    /// Loads the root's node of a directory's names; a file has none. Refused as the load of a name
-    /// is.
-    pub(crate) fn fetch_root<S: BlockSource>(&mut self, source: &mut S) -> Result<(), Refusal>
-        requires { S.is_checked ≡ true }
-        ensures stands { (i : Inode) → StandsInode self.old i
-            → FreeInode i (S.may_give source.old) → StandsInode self.new i }
-        ensures malformed { result ≡ Err (Malformed 0) → (i : Inode) → StandsInode self.old i
-            → FreeInode i (S.may_give source.old) → ⊥ }
-        ensures has { OnOk result (HasRootIn self.new.content) }
-        ensures keeps { HasAllIn self.old.content self.new.content }
-        ensures no_more { (s : List ℕ) → S.may_give source.new s → S.may_give source.old s }
-    {
-        match &mut self.content {
-            PartContent::Bytes(_) => Ok(()),
-            PartContent::Names(names) => names.load(source),
-        }
-    }
-
-    /// Loads all names of a directory; a file has none. Refused as the load of a name is.
-    pub(crate) fn fetch_names<S: BlockSource>(&mut self, source: &mut S) -> Result<(), Refusal>
-        requires { S.is_checked ≡ true }
-        ensures stands { (i : Inode) → StandsInode self.old i
-            → FreeInode i (S.may_give source.old) → StandsInode self.new i }
-        ensures malformed { result ≡ Err (Malformed 0) → (i : Inode) → StandsInode self.old i
-            → FreeInode i (S.may_give source.old) → ⊥ }
-        ensures has { OnOk result (HasNamesIn self.new.content) }
-        ensures keeps { HasAllIn self.old.content self.new.content }
-        ensures no_more { (s : List ℕ) → S.may_give source.new s → S.may_give source.old s }
-    {
-        match &mut self.content {
-            PartContent::Bytes(_) => Ok(()),
-            PartContent::Names(names) => names.reach_all(source),
-        }
-    }
-
-    /// Loads the paths of the block numbers from `first` on and before `until`, and the blocks that
-    /// a file has there; a directory has none. Refused by the source, by want of memory, or with
-    /// `Malformed` where an item spells nothing that belongs there.
-    pub(crate) fn fetch_blocks<S: BlockSource>(
-        &mut self,
-        first: u32,
-        until: u32,
-        source: &mut S,
-    ) -> Result<(), Refusal>
-        requires { S.is_checked ≡ true }
-        ensures stands { (i : Inode) → StandsInode self.old i
-            → FreeInode i (S.may_give source.old) → StandsInode self.new i }
-        ensures malformed { result ≡ Err (Malformed 0) → (i : Inode) → StandsInode self.old i
-            → FreeInode i (S.may_give source.old) → ⊥ }
-        ensures has { OnOk result (HasBlocksIn first until self.new.content) }
-        ensures keeps { HasAllIn self.old.content self.new.content }
-        ensures no_more { (s : List ℕ) → S.may_give source.new s → S.may_give source.old s }
-    {
-        match &mut self.content {
-            PartContent::Bytes(bytes) => bytes.fetch(first, until, source),
-            PartContent::Names(_) => Ok(()),
-        }
-    }
-
-    /// Loads the blocks of a file that have bytes in a range, which may reach past the end; a
-    /// directory has none. Refused as the load of blocks is.
-    pub(crate) fn fetch_bytes<S: BlockSource>(
-        &mut self,
-        off: u64,
-        len: u64,
-        source: &mut S,
-    ) -> Result<(), Refusal>
-        requires { S.is_checked ≡ true }
-        ensures stands { (i : Inode) → StandsInode self.old i
-            → FreeInode i (S.may_give source.old) → StandsInode self.new i }
-        ensures malformed { result ≡ Err (Malformed 0) → (i : Inode) → StandsInode self.old i
-            → FreeInode i (S.may_give source.old) → ⊥ }
-        ensures has { OnOk result (HasBytesIn off len self.new.content) }
-        ensures keeps { HasAllIn self.old.content self.new.content }
-        ensures no_more { (s : List ℕ) → S.may_give source.new s → S.may_give source.old s }
-    {
-        match &mut self.content {
-            PartContent::Bytes(bytes) => bytes.fetch_range(off, len, source),
-            PartContent::Names(_) => Ok(()),
-        }
-    }
-
-    /// Loads what a write of `len` bytes into a file from an offset on needs; a directory needs
-    /// nothing. Refused as the load of blocks is.
-    pub(crate) fn fetch_write<S: BlockSource>(
-        &mut self,
-        off: u32,
-        len: u32,
-        source: &mut S,
-    ) -> Result<(), Refusal>
-        requires { S.is_checked ≡ true }
-        ensures stands { (i : Inode) → StandsInode self.old i
-            → FreeInode i (S.may_give source.old) → StandsInode self.new i }
-        ensures malformed { result ≡ Err (Malformed 0) → (i : Inode) → StandsInode self.old i
-            → FreeInode i (S.may_give source.old) → ⊥ }
-        ensures has { OnOk result (HasWriteIn off len self.new.content) }
-        ensures keeps { HasAllIn self.old.content self.new.content }
-        ensures no_more { (s : List ℕ) → S.may_give source.new s → S.may_give source.old s }
-    {
-        match &mut self.content {
-            PartContent::Bytes(bytes) => bytes.fetch_write(off, len, source),
-            PartContent::Names(_) => Ok(()),
-        }
     }
 
     /// Reads the bytes of a file within a range, which may reach past the end and is loaded; none

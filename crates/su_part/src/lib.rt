@@ -3,9 +3,11 @@
 #![tactic(auto)]
 
 mod blocks;
+mod fetches;
 mod inodes;
 mod items;
 mod users;
 
+pub use fetches::Wanted;
 pub use inodes::PartInode;
 pub use users::UserPart;
