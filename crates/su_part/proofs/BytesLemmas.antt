@@ -1,5 +1,5 @@
 -- Blocks that are loaded, and what is read of them.
-use Rattle.std.proofs.Common.{◌≡◌, ◌∙◌, ℕ, suc, zero, ◌+◌, ◌-◌, ◌*◌, ◌<◌, ◌≤◌, ◌^◌, Bool, true, false, cond, ◌&&◌, leb, min, max, IsTrue, List, [], ◌∷◌, ◌++◌, length, take, drop, remove, get_or, map, Option, Some, None, refl, sym, ap, subst, arith, inl, inr}
+use Rattle.std.proofs.Common.{◌≡◌, ◌∙◌, ℕ, suc, zero, ◌+◌, ◌-◌, ◌*◌, ◌<◌, ◌≤◌, ◌^◌, Bool, true, false, cond, ◌&&◌, leb, min, max, IsTrue, List, [], ◌∷◌, ◌++◌, length, take, drop, remove, get_or, map, Option, Some, None, refl, sym, ap, subst, arith}
 use Rattle.std.specs.List.{range_with_len}
 use Rattle.std.specs.Prelude.{IsSome}
 use Rattle.std.specs.BTreeMap.{is_at}
@@ -16,12 +16,11 @@ use Rattle.su_hash_tree.proofs.Compared.{find_by_order, keys_meant}
 use Rattle.su_hash_tree.proofs.Standing.{stands_map}
 use Rattle.su_part_tree.specs.declared.parts.PartTree.{PartTree}
 use Rattle.su_part_tree.specs.Part.{StandsFor, reaches}
-use Rattle.su_part_tree.specs.Loading.{NoClash}
 use Rattle.su_node.specs.Field.{block}
 use Rattle.su_node.specs.Digest.{block_item, block_count, block_digests}
 use Rattle.su_node.proofs.Contents.{length-block, read_more}
 use Rattle.su_part.specs.declared.blocks.PartBytes.{PartBytes}
-use Rattle.su_part.specs.Bytes.{number_sort, StandsBytes, IsBlockOf, BytesItem, NoneClash, HasAllBlocks, loaded_block}
+use Rattle.su_part.specs.Bytes.{number_sort, StandsBytes, IsBlockOf, HasAllBlocks, loaded_block}
 use Rattle.su_part.proofs.Numbers.{same_number, found_at}
 use Rattle.std.specs.declared.cmp.Ordering.TheVariants.{Less}
 use Rattle.std.specs.List.{AllByRecursion as Each}
@@ -33,12 +32,6 @@ use Rattle.su_hash_tree.specs.Stands.{IsMap}
 use Rattle.su_node.specs.Inode.{Content.Bytes}
 use Rattle.su_node.specs.Digest.{content_digest}
 use Rattle.su_tree.specs.Laws.Numbers as number
-
-pub in_blocks : (bs : List ℕ) (P : List ℕ → Type 0) → NoneClash (BytesItem bs) P → NoClash number_sort (block_digests bs) P
-in_blocks bs P free a b ia pb e = free a b (inl ia) pb e
-
-pub fewer : (bs : List ℕ) (P Q : List ℕ → Type 0) → NoneClash (BytesItem bs) P → ((s : List ℕ) → Q s → P s) → NoneClash (BytesItem bs) Q
-fewer bs P Q free no_more a b ia qb e = free a b ia (no_more b qb) e
 
 -- ---- the digests of the blocks
 
@@ -120,14 +113,6 @@ empty_bytes b size stands none = record { size = size; digests = stands; blocks 
 
 -- ---- a block that was got
 
--- an item that was got with a block's digest is the block's
-pub got_block : (bs : List ℕ) (n : ℕ) (t : PartTree ℕ (List ℕ)) (d s : List ℕ) (P : List ℕ → Type 0) → StandsFor number_sort t (block_digests bs) → 4096 * n < length bs → n < 2 ^ 32
-    → Some d ≡ value_at number_bits n (block_digests bs) → sha256 s ≡ d → P s → NoneClash (BytesItem bs) P → block_item (block n bs) ≡ s
-got_block bs n t d s P h some small found same given free =
-    let digest : Some d ≡ Some (sha256 (block_item (block n bs))) = found ∙ digest_there bs n t h some (is_number n small) in
-    let e : d ≡ sha256 (block_item (block n bs)) = cc in
-    free (block_item (block n bs)) s (inr (n, refl)) given (sym (same ∙ e))
-
 pub block_found : (bs : List ℕ) (n : ℕ) (s block_ : List ℕ) → block_item (block n bs) ≡ s → s ≡ block_item block_ → block_ ≡ block n bs
 block_found bs n s block_ e f = let g : 4 ∷ block n bs ≡ 4 ∷ block_ = e ∙ f in cc
 
@@ -137,11 +122,6 @@ no_digest bs n t h some small none = absurd (let z : None ≡ Some (sha256 (bloc
 pub found_block : (bs : List ℕ) (n : ℕ) (o : Option (List ℕ)) → IsSome o → IsBlockOf bs n o → o ≡ Some (block n bs)
 found_block bs n None some is = absurd (let z : false ≡ true = some in cc)
 found_block bs n (Some x) some is = ap Some is
-
--- more of the tree of digests is loaded
-pub path_loaded : (b : PartBytes) (bs : List ℕ) (P : List ℕ → Type 0) → StandsBytes b bs → NoneClash (BytesItem bs) P → (t : PartTree ℕ (List ℕ))
-    → ((m : List (ℕ × List ℕ)) → StandsFor number_sort b.digests m → NoClash number_sort m P → StandsFor number_sort t m) → StandsBytes (record b { digests = t }) bs
-path_loaded b bs P h free t stands = record { size = h.size; digests = stands (block_digests bs) h.digests (in_blocks bs P free); blocks = h.blocks }
 
 -- what holds of the numbers so far, and of the next one
 pub one_more : (P : ℕ → Type 0) (first k : ℕ) → ((n : ℕ) → first ≤ n → n < k → P n) → P k → (n : ℕ) → first ≤ n → n < k + 1 → P n

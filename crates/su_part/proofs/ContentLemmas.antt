@@ -21,19 +21,18 @@ use Rattle.su_node.specs.Inode.{Inode, Content, Content.Bytes, Content.Names, ki
 use Rattle.su_node.specs.Digest.{content_digest}
 use Rattle.su_part.specs.Item.{MeantContent, MeantInode, item_of}
 use Rattle.su_part.proofs.BytesLemmas.{all_blocks_itself, all_blocks_on}
-use Rattle.su_part.specs.Part.{HasAllIn, name_sort, StandsContent, StandsInode, FreeInode, ContentItem, with_named, with_links, with_written}
+use Rattle.su_part.specs.Part.{HasAllIn, name_sort, StandsContent, StandsInode, with_named, with_links, with_written}
 use Rattle.std.proofs.lemmas.Bool.{and_from}
 use Rattle.su_tree.specs.Bits.{bits_cmp}
 use Rattle.su_part_tree.specs.declared.parts.PartTree.{PartTree}
 use Rattle.su_part_tree.specs.Part.{StandsFor}
-use Rattle.su_part_tree.specs.Loading.{NoClash}
 use Rattle.su_node.specs.Field.{Field.NameOf, file_value, content_value}
 use Rattle.su_part.specs.declared.items.InodeItem.{InodeItem}
 use Rattle.su_part.specs.declared.inodes.PartInode.{PartInode}
 use Rattle.su_part.specs.declared.inodes.PartContent.{PartContent}
 use Rattle.su_part.specs.declared.inodes.PartContent.TheVariants.{Bytes as LoadedBytes, Names as PartNames}
 use Rattle.su_part.specs.declared.blocks.PartBytes.{PartBytes}
-use Rattle.su_part.specs.Bytes.{NoneClash, StandsBytes, BytesItem}
+use Rattle.su_part.specs.Bytes.{StandsBytes}
 use Rattle.std.specs.declared.cmp.Ordering.{Ordering}
 use Rattle.su_hash_tree.specs.Edits.{with_value, without_key, value_at}
 use Rattle.su_hash_tree.proofs.Compared.{keys_meant, put_by_order, without_by_order, find_by_order}
@@ -101,33 +100,6 @@ module _ (item : InodeItem) (i : Inode) (m : MeantInode i) (e : item ≡ item_of
     content = file_content i.content (sym (ap (λ x. x.kind) e) ∙ is) item.content (sym (ap (λ x. x.content) e)) item.size (ap (λ x. x.size) e) b stands;
   }
 
--- ---- blocks that are loaded
-
-bytes_clash : (bs : List ℕ) (i : Inode) (P : List ℕ → Type 0) → i.content ≡ Bytes bs → FreeInode i P → NoneClash (BytesItem bs) P
-bytes_clash bs i P e free a b ia pb s = free a b (inr (subst (λ c. ContentItem c a) (sym e) ia)) pb s
-
-bytes_content : (c : Content) (b b' : PartBytes) (P : List ℕ → Type 0) → StandsContent (LoadedBytes b) c → ((bs : List ℕ) → StandsBytes b bs → NoneClash (BytesItem bs) P → StandsBytes b' bs)
-    → ((bs : List ℕ) → c ≡ Bytes bs → NoneClash (BytesItem bs) P) → StandsContent (LoadedBytes b') c
-bytes_content (Bytes bs) b b' P h new free = new bs h (free bs refl)
-bytes_content (Names m) b b' P h new free = h
-
-bytes_none : (c : Content) (b : PartBytes) (P : List ℕ → Type 0) → StandsContent (LoadedBytes b) c → ((bs : List ℕ) → StandsBytes b bs → NoneClash (BytesItem bs) P → ⊥)
-    → ((bs : List ℕ) → c ≡ Bytes bs → NoneClash (BytesItem bs) P) → ⊥
-bytes_none (Bytes bs) b P h none free = none bs h (free bs refl)
-bytes_none (Names m) b P h none free = h
-
-module _ (p : PartInode) (i : Inode) (h : StandsInode p i) (b : PartBytes) (is : p.content ≡ LoadedBytes b) (P : List ℕ → Type 0) (free : FreeInode i P) where
-  pub bytes_loaded : (b' : PartBytes) → ((bs : List ℕ) → StandsBytes b bs → NoneClash (BytesItem bs) P → StandsBytes b' bs)
-      → StandsInode (record { home = p.home; links = p.links; content = LoadedBytes b' }) i
-  bytes_loaded b' new = record {
-    home = h.home;
-    links = h.links;
-    content = bytes_content i.content b b' P (subst (λ x. StandsContent x i.content) is h.content) new (λ bs e. bytes_clash bs i P e free);
-  }
-
-  pub bytes_refused : ((bs : List ℕ) → StandsBytes b bs → NoneClash (BytesItem bs) P → ⊥) → ⊥
-  bytes_refused none = bytes_none i.content b P (subst (λ x. StandsContent x i.content) is h.content) none (λ bs e. bytes_clash bs i P e free)
-
 -- ---- bytes that are read
 
 bytes_read : (c : Content) (l : ℕ) (home : FileId) (b : PartBytes) (off len : ℕ) (r : List ℕ) → StandsContent (LoadedBytes b) c → ((bs : List ℕ) → StandsBytes b bs → r ≡ within off len bs)
@@ -146,33 +118,6 @@ no_bytes (Names m) l home t off len h = refl
 
 pub none_got : (p : PartInode) (i : Inode) → StandsInode p i → (t : PartTree (List ℕ) FileId) → p.content ≡ PartNames t → (off len : ℕ) → None ≡ option_map (within off len) (bytes_of (Some i))
 none_got p i h t is off len = no_bytes i.content i.links i.home t off len (subst (λ c. StandsContent c i.content) is h.content)
-
--- ---- names that are loaded
-
-names_clash : (m : FinMap name_cmp FileId) (i : Inode) (P : List ℕ → Type 0) → i.content ≡ Names m → FreeInode i P → NoClash name_sort (entries m) P
-names_clash m i P e free a b ia pb s = free a b (inr (subst (λ c. ContentItem c a) (sym e) ia)) pb s
-
-names_content : (c : Content) (t t' : PartTree (List ℕ) FileId) (P : List ℕ → Type 0) → StandsContent (PartNames t) c → ((m : List (List ℕ × FileId)) → StandsFor name_sort t m → NoClash name_sort m P → StandsFor name_sort t' m)
-    → ((m : FinMap name_cmp FileId) → c ≡ Names m → NoClash name_sort (entries m) P) → StandsContent (PartNames t') c
-names_content (Bytes bs) t t' P h new free = h
-names_content (Names m) t t' P h new free = new (entries m) h (free m refl)
-
-names_none : (c : Content) (t : PartTree (List ℕ) FileId) (P : List ℕ → Type 0) → StandsContent (PartNames t) c → ((m : List (List ℕ × FileId)) → StandsFor name_sort t m → NoClash name_sort m P → ⊥)
-    → ((m : FinMap name_cmp FileId) → c ≡ Names m → NoClash name_sort (entries m) P) → ⊥
-names_none (Bytes bs) t P h none free = h
-names_none (Names m) t P h none free = none (entries m) h (free m refl)
-
-module _ (p : PartInode) (i : Inode) (h : StandsInode p i) (t : PartTree (List ℕ) FileId) (is : p.content ≡ PartNames t) (P : List ℕ → Type 0) (free : FreeInode i P) where
-  pub names_loaded : (t' : PartTree (List ℕ) FileId) → ((m : List (List ℕ × FileId)) → StandsFor name_sort t m → NoClash name_sort m P → StandsFor name_sort t' m)
-      → StandsInode (record { home = p.home; links = p.links; content = PartNames t' }) i
-  names_loaded t' new = record {
-    home = h.home;
-    links = h.links;
-    content = names_content i.content t t' P (subst (λ x. StandsContent x i.content) is h.content) new (λ m e. names_clash m i P e free);
-  }
-
-  pub names_refused : ((m : List (List ℕ × FileId)) → StandsFor name_sort t m → NoClash name_sort m P → ⊥) → ⊥
-  names_refused none = names_none i.content t P (subst (λ x. StandsContent x i.content) is h.content) none (λ m e. names_clash m i P e free)
 
 -- ---- a name that is put
 

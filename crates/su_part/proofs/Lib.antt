@@ -1,10 +1,12 @@
 pub mod Numbers
+pub mod LoadLemmas
 pub mod BytesLemmas
 pub mod WriteLemmas
 pub mod InPlaceLemmas
 pub mod ItemLemmas
 pub mod ContentLemmas
 pub mod UserLemmas
+pub mod FetchLemmas
 pub mod TableLemmas
 pub mod KnownLemmas
 pub mod SeenLemmas

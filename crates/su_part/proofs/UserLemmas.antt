@@ -7,15 +7,11 @@ use Rattle.std.specs.Ordering.{nat_cmp, eq_by_cmp}
 use Rattle.std.specs.BTreeMap.{is_at}
 use Rattle.std.specs.FinMap.{get, entries, get-entries}
 use Rattle.std.proofs.lemmas.Bool.Decides.{nat_tests}
-use Rattle.sha2.specs.Sha256.{sha256}
-use Rattle.su_bytes.specs.declared.refusals.Refusal.{Refusal}
-use Rattle.su_bytes.specs.declared.refusals.Refusal.TheVariants.{NoMemory, Malformed}
 use Rattle.su_tree.specs.Number.{number_bits, is_u32}
 use Rattle.su_tree.specs.Value.{is_digest}
 use Rattle.su_part_tree.specs.declared.parts.PartTree.{PartTree}
 use Rattle.su_hash_tree.specs.Edits.{value_at, with_value, without_key}
 use Rattle.su_part_tree.specs.Part.{StandsFor, reaches, IsKnown}
-use Rattle.su_part_tree.specs.Loading.{NoClash}
 use Rattle.su_hash_tree.proofs.Compared.{find_by_order, keys_meant, put_by_order, without_by_order}
 use Rattle.su_hash_tree.proofs.Standing.{stands_map}
 use Rattle.su_bytes.specs.declared.file_ids.Kind.{Kind}
@@ -37,7 +33,7 @@ use Rattle.su_part.specs.declared.users.UserPart.{UserPart}
 use Rattle.su_part.specs.Item.{inode_format, item_of, MeantInode}
 use Rattle.std.proofs.Common.{is_some}
 use Rattle.su_part.proofs.ContentLemmas.{all_in_itself, all_in_on}
-use Rattle.su_part.specs.Part.{HasAll, HasAllIn, HasAllOf, StaysLoaded, StandsJust, StandsUser, StandsInode, StandsAt, MeantAt, Free, at_number, FreeInode}
+use Rattle.su_part.specs.Part.{HasAll, HasAllIn, HasAllOf, StaysLoaded, StandsJust, StandsUser, StandsInode, StandsAt, MeantAt, at_number}
 use Rattle.su_part.specs.Bytes.{number_sort}
 use Rattle.su_part.proofs.Numbers.{same_number, at_itself, updated}
 use Rattle.su_part.proofs.ItemLemmas.{read_back}
@@ -69,9 +65,6 @@ pub some_there : (d : List ℕ) (o : Option Inode) → Some d ≡ option_map ino
 some_there d None e = absurd cc
 some_there d (Some i) e = (i, refl, cc)
 
-pub in_table : (u : ℕ) (T : Tree) (P : List ℕ → Type 0) → Free u T P → NoClash number_sort (user_table T u) P
-in_table u T P free a b ia pb e = free a b (inl ia) pb e
-
 -- ---- an item that was got with the digest that stands in the table
 
 pub record IsItemAt (u n : ℕ) (T : Tree) (s : List ℕ) : Type 0 where
@@ -80,51 +73,16 @@ pub record IsItemAt (u n : ℕ) (T : Tree) (s : List ℕ) : Type 0 where
   pub meant : MeantInode inode
   pub item : inode_item inode ≡ s
 
-pub got_item : (u n : ℕ) (T : Tree) (t : PartTree ℕ (List ℕ)) (d s : List ℕ) (P : List ℕ → Type 0) → StandsFor number_sort t (user_table T u) → ((n : ℕ) → MeantAt (get T.inodes (u, n))) → IsTrue (is_u32 n)
-    → Some d ≡ value_at number_bits n (user_table T u) → sha256 s ≡ d → P s → Free u T P → IsItemAt u n T s
-unfolding inode_digest
-got_item u n T t d s P h meant is found same given free =
-    let (i, at, digest) = some_there d (get T.inodes (u, n)) (found ∙ table_value u n T t h is) in
-    record {
-      inode = i;
-      at = at;
-      meant = subst MeantAt at (meant n);
-      item = free (inode_item i) s (inr (n, i, at, inl refl)) given (sym digest ∙ sym same);
-    }
-
 -- what is read of it stands for what is there
 pub read_inode : (u n : ℕ) (T : Tree) (s : List ℕ) (item : InodeItem) (p : PartInode) → IsItemAt u n T s → Decodes inode_format s (Ok item) → ((i : Inode) → MeantInode i → item ≡ item_of i → StandsInode p i) → StandsAt (Some p) (get T.inodes (u, n))
 read_inode u n T s item p x d stands =
     subst (StandsAt (Some p)) (sym x.at) (stands x.inode x.meant (elim (read_back x.inode x.meant s x.item (Ok item) d) [ inl e ↦ cc | inr e ↦ absurd cc ]))
-
-pub not_malformed : (u n : ℕ) (T : Tree) (s : List ℕ) (e : Refusal) → IsItemAt u n T s → Decodes inode_format s (Err e) → e ≡ Malformed 0 → ⊥
-not_malformed u n T s e x d is = elim (read_back x.inode x.meant s x.item (Err e) d) [ inl y ↦ absurd cc | inr y ↦ absurd (let z : Malformed 0 ≡ NoMemory = cc (is, y) in cc) ]
 
 -- ---- inodes beside the table
 
 pub inserted : (es fs : List (ℕ × PartInode)) (k : ℕ) (x : PartInode) (o : ℕ → Option Inode) → ((q : ℕ) → at_number fs q ≡ cond (is_at (nat_cmp k) q) (Some x) (at_number es q)) → ((q : ℕ) → StandsAt (at_number es q) (o q))
     → StandsAt (Some x) (o k) → (q : ℕ) → StandsAt (at_number fs q) (o q)
 inserted es fs k x o updates old new q = updated (λ n v. StandsAt v (o n)) es fs k (Some x) updates old new q
-
--- ---- an inode of which more is loaded
-
-named_at : (o : Option Inode) (p p' : PartInode) → StandsAt (Some p) o → ((i : Inode) → o ≡ Some i → StandsInode p i → StandsInode p' i) → StandsAt (Some p') o
-named_at None p p' h more = h
-named_at (Some i) p p' h more = more i refl h
-
-refused_at : (o : Option Inode) (p : PartInode) → StandsAt (Some p) o → ((i : Inode) → o ≡ Some i → StandsInode p i → ⊥) → ⊥
-refused_at None p h none = h
-refused_at (Some i) p h none = none i refl h
-
-free_inode : (u n : ℕ) (T : Tree) (i : Inode) (P Q : List ℕ → Type 0) → get T.inodes (u, n) ≡ Some i → Free u T P → ((s : List ℕ) → Q s → P s) → FreeInode i Q
-free_inode u n T i P Q at free no_more a b ia qb e = free a b (inr (n, i, at, ia)) (no_more b qb) e
-
-module _ (u n : ℕ) (T : Tree) (p : PartInode) (P Q : List ℕ → Type 0) (h : StandsAt (Some p) (get T.inodes (u, n))) (free : Free u T P) (no_more : (s : List ℕ) → Q s → P s) where
-  pub more_loaded : (p' : PartInode) → ((i : Inode) → StandsInode p i → FreeInode i Q → StandsInode p' i) → StandsAt (Some p') (get T.inodes (u, n))
-  more_loaded p' more = named_at (get T.inodes (u, n)) p p' h (λ i at x. more i x (free_inode u n T i P Q at free no_more))
-
-  pub none_refused : ((i : Inode) → StandsInode p i → FreeInode i Q → ⊥) → ⊥
-  none_refused none = refused_at (get T.inodes (u, n)) p h (λ i at x. none i x (free_inode u n T i P Q at free no_more))
 
 -- ---- an edit of one inode
 

@@ -22,6 +22,10 @@ use Rattle.su_part.specs.declared.blocks.Ready.{Ready}
 abbrev pub number_sort : Sort ℕ (List ℕ)
 number_sort = sort number_bits number_bytes is_u32 (λ d. d) is_digest
 
+-- the byte string is the item of the block
+abbrev pub SpellsBlock : List ℕ → List ℕ → Type 0
+SpellsBlock bytes s = s ≡ block_item bytes
+
 -- the block that is loaded at a number
 abbrev pub loaded_block : PartBytes → ℕ → Option (List ℕ)
 loaded_block b n = lookup (is_at (nat_cmp n)) b.blocks.entries

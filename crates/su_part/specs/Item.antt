@@ -22,6 +22,10 @@ inode_format = do
   content ← digest_part
   making (record { home = home; kind = kind; links = links; size = size; content = content })
 
+-- the bytes are those of an item that says this
+abbrev pub SpellsInode : InodeItem → List ℕ → Type 0
+SpellsInode item s = inode_format.Begins s item []
+
 -- what the item of an inode says
 abbrev pub item_of : Inode → InodeItem
 item_of i = record {

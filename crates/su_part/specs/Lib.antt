@@ -5,3 +5,5 @@ pub mod Part
 pub mod Cut
 pub mod Known
 pub mod Seen
+pub mod Loads
+pub mod Fetches

@@ -3,7 +3,6 @@ ghost use Rattle.std.specs.Prelude.{◌≡◌, ◌≢◌, ◌+◌, ◌-◌, ◌*
 ghost use Rattle.std.specs.BTreeMap.{is_at};
 ghost use Rattle.std.specs.Ordering.{nat_cmp};
 ghost use Rattle.sha2.specs.Sha256.{sha256};
-ghost use Rattle.su_bytes.specs.declared.refusals.Refusal.TheVariants.{Malformed};
 ghost use Rattle.su_node.specs.Inode.{Content.Bytes, within};
 ghost use Rattle.su_node.specs.Digest.{block_item, block_count, content_digest};
 ghost use Rattle.su_node.specs.Field.{block};
@@ -11,7 +10,9 @@ ghost use Rattle.su_node.specs.InodeChange.{with_size, with_bytes_at};
 ghost use Rattle.su_part_tree.specs.Part.{reaches};
 ghost use Rattle.su_tree.specs.Number.{number_bits};
 ghost use Rattle.su_part.specs.Known.{BytesStayKnown};
-ghost use Rattle.su_part.specs.Bytes.{loaded_block, ready_at, AreReady, HasPlaces, WithPlaces, HasWrite, IsRewritten, StandsBytes, HasAllBlocks, HasBlock, HasBlocks, HasBytes, BytesItem, NoneClash};
+ghost use Rattle.su_part.specs.Bytes.{loaded_block, ready_at, AreReady, HasPlaces, WithPlaces, HasWrite, IsRewritten, StandsBytes, HasAllBlocks, HasBlock, HasBlocks, HasBytes, BytesItem, NoneClash, SpellsBlock};
+ghost use Rattle.su_part.specs.Fetches.{LoadsBytes};
+ghost use Rattle.su_part.specs.Loads.{Gets};
 
 use sha2::{Digest as _, Sha256};
 use std::alloc::{AllocError, Global};
@@ -209,13 +210,9 @@ impl PartBytes {
     /// there.
     fn fetch_block<S: BlockSource>(&mut self, number: u32, source: &mut S) -> Result<(), Refusal>
         requires { S.is_checked ≡ true }
-        ensures stands { (bs : List ℕ) → StandsBytes self.old bs
-            → NoneClash (BytesItem bs) (S.may_give source.old) → StandsBytes self.new bs }
-        ensures malformed { result ≡ Err (Malformed 0) → (bs : List ℕ) → StandsBytes self.old bs
-            → NoneClash (BytesItem bs) (S.may_give source.old) → ⊥ }
+        ensures loads { LoadsBytes S.may_give S.failed S.follows self.old self.new
+            source.old source.new result }
         ensures has { OnOk result (HasBlock number self.new) }
-        ensures keeps { HasAllBlocks self.old self.new }
-        ensures no_more { (s : List ℕ) → S.may_give source.new s → S.may_give source.old s }
     {
         self.digests.reach(&number, source)?;
         let start = u64::from(number) * BLOCK_SIZE as u64;
@@ -226,10 +223,7 @@ impl PartBytes {
             Some(digest) => *digest,
             None => return Err(Refusal::Malformed(0)),
         };
-        let item = source.get(self.alloc, digest)?;
-        let Some(block) = Block::of_item(item) else {
-            return Err(Refusal::Malformed(0));
-        };
+        let block = get_block(self.alloc, digest, source)?;
         self.blocks.insert(number, block)?;
         Ok(())
     }
@@ -243,13 +237,9 @@ impl PartBytes {
         source: &mut S,
     ) -> Result<(), Refusal>
         requires { S.is_checked ≡ true }
-        ensures stands { (bs : List ℕ) → StandsBytes self.old bs
-            → NoneClash (BytesItem bs) (S.may_give source.old) → StandsBytes self.new bs }
-        ensures malformed { result ≡ Err (Malformed 0) → (bs : List ℕ) → StandsBytes self.old bs
-            → NoneClash (BytesItem bs) (S.may_give source.old) → ⊥ }
+        ensures loads { LoadsBytes S.may_give S.failed S.follows self.old self.new
+            source.old source.new result }
         ensures has { OnOk result (HasBlocks first until self.new) }
-        ensures keeps { HasAllBlocks self.old self.new }
-        ensures no_more { (s : List ℕ) → S.may_give source.new s → S.may_give source.old s }
     {
         for number in first..until {
             self.fetch_block(number, source)?;
@@ -268,13 +258,9 @@ impl PartBytes {
         source: &mut S,
     ) -> Result<(), Refusal>
         requires { S.is_checked ≡ true }
-        ensures stands { (bs : List ℕ) → StandsBytes self.old bs
-            → NoneClash (BytesItem bs) (S.may_give source.old) → StandsBytes self.new bs }
-        ensures malformed { result ≡ Err (Malformed 0) → (bs : List ℕ) → StandsBytes self.old bs
-            → NoneClash (BytesItem bs) (S.may_give source.old) → ⊥ }
+        ensures loads { LoadsBytes S.may_give S.failed S.follows self.old self.new
+            source.old source.new result }
         ensures has { OnOk result (HasBytes off len self.new) }
-        ensures keeps { HasAllBlocks self.old self.new }
-        ensures no_more { (s : List ℕ) → S.may_give source.new s → S.may_give source.old s }
     {
         let size = self.size as usize;
         let start = (off as usize).min(size);
@@ -336,13 +322,9 @@ impl PartBytes {
         source: &mut S,
     ) -> Result<(), Refusal>
         requires { S.is_checked ≡ true }
-        ensures stands { (bs : List ℕ) → StandsBytes self.old bs
-            → NoneClash (BytesItem bs) (S.may_give source.old) → StandsBytes self.new bs }
-        ensures malformed { result ≡ Err (Malformed 0) → (bs : List ℕ) → StandsBytes self.old bs
-            → NoneClash (BytesItem bs) (S.may_give source.old) → ⊥ }
+        ensures loads { LoadsBytes S.may_give S.failed S.follows self.old self.new
+            source.old source.new result }
         ensures has { OnOk result (HasWrite off len self.new) }
-        ensures keeps { HasAllBlocks self.old self.new }
-        ensures no_more { (s : List ℕ) → S.may_give source.new s → S.may_give source.old s }
     {
         let first = off.min(self.size) as usize / BLOCK_SIZE;
         let until = count_for(off as usize + len as usize);
@@ -482,6 +464,23 @@ impl PartBytes {
         // a block is there, so without memory
         let _done = self.blocks.insert(number, block);
         self.digests.put_in(number, digest, room);
+    }
+}
+
+/// Gets the item of a block with that digest. Refused by the source, or with `Malformed(0)` where
+/// it is no block's.
+fn get_block<S: BlockSource>(
+    alloc: Global,
+    digest: Digest,
+    source: &mut S,
+) -> Result<Block, Refusal>
+    requires { S.is_checked ≡ true }
+    ensures { Gets S.may_give S.failed S.follows SpellsBlock digest source.old source.new result }
+{
+    let item = source.get(alloc, digest)?;
+    match Block::of_item(item) {
+        Some(block) => Ok(block),
+        None => Err(Refusal::Malformed(0)),
     }
 }
 

@@ -5,6 +5,7 @@
 mod blocks;
 mod cuts;
 mod exchanges;
+mod fetches;
 mod fresh;
 mod inodes;
 mod items;
@@ -13,5 +14,6 @@ mod overwrites;
 mod seen;
 mod users;
 
+pub use fetches::Wanted;
 pub use inodes::PartInode;
 pub use users::UserPart;

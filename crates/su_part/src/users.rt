@@ -10,7 +10,7 @@ ghost use Rattle.su_node.specs.InodeChange.{InodeChange.Made, InodeChange.Named,
 ghost use Rattle.su_node.specs.Field.{Field.NameOf, Value.Nothing, file_value};
 ghost use Rattle.su_table.specs.Cell.{Cell.At, val};
 ghost use Rattle.su_table.specs.Edit.{Edit.Inodes, edit};
-ghost use Rattle.su_bytes.specs.declared.refusals.Refusal.TheVariants.{Malformed, NoMemory};
+ghost use Rattle.su_bytes.specs.declared.refusals.Refusal.TheVariants.{NoMemory};
 ghost use Rattle.su_bytes.specs.declared.principals.Principal.TheVariants.{User};
 ghost use Rattle.su_table.specs.Handle.{handle};
 ghost use Rattle.su_table.specs.Query.{size_at, is_bare_at};
@@ -20,9 +20,10 @@ ghost use Rattle.su_part.specs.Known.{HasIfLoaded, KnowsInode, KnowsName, StaysK
 ghost use Rattle.su_part_tree.specs.Part.{reaches};
 ghost use Rattle.su_tree.specs.Number.{number_bits};
 ghost use Rattle.su_part.specs.Part.{IsAllIn, MeantUser, StandsInode, StandsJust, StandsUser, Free, HasAll, HasInode, HasName, HasNameAt, HasRootAt, HasNamesAt, HasWriteOf, HasBlocksAt, HasBytesAt, HasWriteAt, IsOpenAt, IsThere, StaysLoaded, at_number};
+ghost use Rattle.su_part.specs.Fetches.{LoadsUser};
 
+use crate::fetches::Wanted;
 use crate::inodes::PartInode;
-use crate::items::decode;
 use std::alloc::Global;
 use std::collections::BTreeMap;
 use su_block::BlockSource;
@@ -64,189 +65,6 @@ impl UserPart {
             → StandsJust (option_copied result) (get T.inodes (u, number)) }
     {
         self.inodes.get(&number.number())
-    }
-
-    /// Loads the inode of a number, with no part of its content. Refused by the source, by want of
-    /// memory, or with `Malformed` where an item spells nothing that belongs there.
-    pub fn fetch_inode<S: BlockSource>(
-        &mut self,
-        number: Inum,
-        source: &mut S,
-    ) -> Result<(), Refusal>
-        requires { S.is_checked ≡ true }
-        ensures stands { (u : ℕ) (T : Tree) → StandsUser u self.old T
-            → Free u T (S.may_give source.old) → StandsUser u self.new T }
-        ensures malformed { result ≡ Err (Malformed 0) → (u : ℕ) (T : Tree)
-            → StandsUser u self.old T → Free u T (S.may_give source.old) → ⊥ }
-        ensures has { OnOk result (HasInode number self.new) }
-        ensures keeps { HasAll self.old self.new }
-        ensures no_more { (s : List ℕ) → S.may_give source.new s → S.may_give source.old s }
-    {
-        let key = number.number();
-        self.table.reach(&key, source)?;
-        if self.inodes.contains_key(&key) {
-            return Ok(());
-        }
-        let digest = match self.table.get(&key) {
-            Some(digest) => *digest,
-            None => return Ok(()),
-        };
-        let item = source.get(self.alloc, digest)?;
-        let item = decode(item.as_slice())?;
-        self.inodes
-            .insert(key, PartInode::of_item(self.alloc, &item))?;
-        Ok(())
-    }
-}
-
-impl UserPart {
-    /// Loads the inode of a number, and what the path of one of its names needs. Refused as
-    /// `fetch_inode` is.
-    pub fn fetch_name<S: BlockSource>(
-        &mut self,
-        number: Inum,
-        name: &Name,
-        source: &mut S,
-    ) -> Result<(), Refusal>
-        requires { S.is_checked ≡ true }
-        ensures stands { (u : ℕ) (T : Tree) → StandsUser u self.old T
-            → Free u T (S.may_give source.old) → StandsUser u self.new T }
-        ensures malformed { result ≡ Err (Malformed 0) → (u : ℕ) (T : Tree)
-            → StandsUser u self.old T → Free u T (S.may_give source.old) → ⊥ }
-        ensures has { OnOk result (HasNameAt number name.now self.new) }
-        ensures keeps { HasAll self.old self.new }
-        ensures no_more { (s : List ℕ) → S.may_give source.new s → S.may_give source.old s }
-    {
-        self.fetch_inode(number, source)?;
-        match self.inodes.get_mut(&number.number()) {
-            Some(inode) => inode.fetch_name(name, source),
-            None => Ok(()),
-        }
-    }
-}
-
-impl UserPart {
-    /// Loads the inode of a number, and the root's node of its names. Refused as `fetch_inode` is.
-    pub fn fetch_root<S: BlockSource>(
-        &mut self,
-        number: Inum,
-        source: &mut S,
-    ) -> Result<(), Refusal>
-        requires { S.is_checked ≡ true }
-        ensures stands { (u : ℕ) (T : Tree) → StandsUser u self.old T
-            → Free u T (S.may_give source.old) → StandsUser u self.new T }
-        ensures malformed { result ≡ Err (Malformed 0) → (u : ℕ) (T : Tree)
-            → StandsUser u self.old T → Free u T (S.may_give source.old) → ⊥ }
-        ensures has { OnOk result (HasRootAt number self.new) }
-        ensures keeps { HasAll self.old self.new }
-        ensures no_more { (s : List ℕ) → S.may_give source.new s → S.may_give source.old s }
-    {
-        self.fetch_inode(number, source)?;
-        match self.inodes.get_mut(&number.number()) {
-            Some(inode) => inode.fetch_root(source),
-            None => Ok(()),
-        }
-    }
-
-    /// Loads the inode of a number, and all of its names. Refused as `fetch_inode` is.
-    pub fn fetch_names<S: BlockSource>(
-        &mut self,
-        number: Inum,
-        source: &mut S,
-    ) -> Result<(), Refusal>
-        requires { S.is_checked ≡ true }
-        ensures stands { (u : ℕ) (T : Tree) → StandsUser u self.old T
-            → Free u T (S.may_give source.old) → StandsUser u self.new T }
-        ensures malformed { result ≡ Err (Malformed 0) → (u : ℕ) (T : Tree)
-            → StandsUser u self.old T → Free u T (S.may_give source.old) → ⊥ }
-        ensures has { OnOk result (HasNamesAt number self.new) }
-        ensures keeps { HasAll self.old self.new }
-        ensures no_more { (s : List ℕ) → S.may_give source.new s → S.may_give source.old s }
-    {
-        self.fetch_inode(number, source)?;
-        match self.inodes.get_mut(&number.number()) {
-            Some(inode) => inode.fetch_names(source),
-            None => Ok(()),
-        }
-    }
-}
-
-impl UserPart {
-    /// Loads the inode of a number, the paths of its block numbers from `first` on and before
-    /// `until`, and the blocks that it has there. Refused as `fetch_inode` is.
-    pub fn fetch_blocks<S: BlockSource>(
-        &mut self,
-        number: Inum,
-        first: u32,
-        until: u32,
-        source: &mut S,
-    ) -> Result<(), Refusal>
-        requires { S.is_checked ≡ true }
-        ensures stands { (u : ℕ) (T : Tree) → StandsUser u self.old T
-            → Free u T (S.may_give source.old) → StandsUser u self.new T }
-        ensures malformed { result ≡ Err (Malformed 0) → (u : ℕ) (T : Tree)
-            → StandsUser u self.old T → Free u T (S.may_give source.old) → ⊥ }
-        ensures has { OnOk result (HasBlocksAt number first until self.new) }
-        ensures keeps { HasAll self.old self.new }
-        ensures no_more { (s : List ℕ) → S.may_give source.new s → S.may_give source.old s }
-    {
-        self.fetch_inode(number, source)?;
-        match self.inodes.get_mut(&number.number()) {
-            Some(inode) => inode.fetch_blocks(first, until, source),
-            None => Ok(()),
-        }
-    }
-
-    /// Loads the inode of a number, and the blocks of it that have bytes in a range, which may
-    /// reach past the end. Refused as `fetch_inode` is.
-    pub fn fetch_bytes<S: BlockSource>(
-        &mut self,
-        number: Inum,
-        off: u64,
-        len: u64,
-        source: &mut S,
-    ) -> Result<(), Refusal>
-        requires { S.is_checked ≡ true }
-        ensures stands { (u : ℕ) (T : Tree) → StandsUser u self.old T
-            → Free u T (S.may_give source.old) → StandsUser u self.new T }
-        ensures malformed { result ≡ Err (Malformed 0) → (u : ℕ) (T : Tree)
-            → StandsUser u self.old T → Free u T (S.may_give source.old) → ⊥ }
-        ensures has { OnOk result (HasBytesAt number off len self.new) }
-        ensures keeps { HasAll self.old self.new }
-        ensures no_more { (s : List ℕ) → S.may_give source.new s → S.may_give source.old s }
-    {
-        self.fetch_inode(number, source)?;
-        match self.inodes.get_mut(&number.number()) {
-            Some(inode) => inode.fetch_bytes(off, len, source),
-            None => Ok(()),
-        }
-    }
-}
-
-impl UserPart {
-    /// Loads the inode of a number, and what a write of `len` bytes into it from an offset on
-    /// needs. Refused as `fetch_inode` is.
-    pub fn fetch_write<S: BlockSource>(
-        &mut self,
-        number: Inum,
-        off: u32,
-        len: u32,
-        source: &mut S,
-    ) -> Result<(), Refusal>
-        requires { S.is_checked ≡ true }
-        ensures stands { (u : ℕ) (T : Tree) → StandsUser u self.old T
-            → Free u T (S.may_give source.old) → StandsUser u self.new T }
-        ensures malformed { result ≡ Err (Malformed 0) → (u : ℕ) (T : Tree)
-            → StandsUser u self.old T → Free u T (S.may_give source.old) → ⊥ }
-        ensures has { OnOk result (HasWriteAt number off len self.new) }
-        ensures keeps { HasAll self.old self.new }
-        ensures no_more { (s : List ℕ) → S.may_give source.new s → S.may_give source.old s }
-    {
-        self.fetch_inode(number, source)?;
-        match self.inodes.get_mut(&number.number()) {
-            Some(inode) => inode.fetch_write(off, len, source),
-            None => Ok(()),
-        }
     }
 }
 
@@ -453,7 +271,7 @@ impl UserPart {
 
 impl UserPart {
     /// Looks up where a name of the directory of a number leads; nowhere where no directory stands,
-    /// or it lacks the name. Loads what it needs, and is refused as `fetch_inode` is.
+    /// or it lacks the name. Loads what it needs, and is refused as `fetch` is.
     pub fn name_at<S: BlockSource>(
         &mut self,
         number: Inum,
@@ -464,14 +282,11 @@ impl UserPart {
         ensures value { (u : ℕ) (T : Tree) → StandsUser u self.old T
             → Free u T (S.may_give source.old)
             → IfOk result (λ o. file_value o ≡ val T (At (u, number) (NameOf name.now))) }
-        ensures stands { (u : ℕ) (T : Tree) → StandsUser u self.old T
-            → Free u T (S.may_give source.old) → StandsUser u self.new T }
-        ensures malformed { result ≡ Err (Malformed 0) → (u : ℕ) (T : Tree)
-            → StandsUser u self.old T → Free u T (S.may_give source.old) → ⊥ }
-        ensures keeps { HasAll self.old self.new }
-        ensures no_more { (s : List ℕ) → S.may_give source.new s → S.may_give source.old s }
+        ensures loads { LoadsUser S.may_give S.failed S.follows self.old self.new
+            source.old source.new result }
     {
-        self.fetch_name(number, name, source)?;
+        let wanted = Wanted::Name(name.clone()?);
+        self.fetch(number, &wanted, source)?;
         match self.inodes.get(&number.number()) {
             Some(inode) => Ok(inode.name_get(name)),
             None => Ok(None),
@@ -479,7 +294,7 @@ impl UserPart {
     }
 
     /// Reads the bytes of the file of a number within a range, which may reach past the end; none
-    /// where no file stands. Loads what it needs, and is refused as `fetch_inode` is.
+    /// where no file stands. Loads what it needs, and is refused as `fetch` is.
     pub fn read_at<S: BlockSource>(
         &mut self,
         number: Inum,
@@ -492,14 +307,10 @@ impl UserPart {
             → Free u T (S.may_give source.old)
             → IfOk result (λ bytes. option_map (λ v. v.items) bytes
             ≡ option_map (within off len) (bytes_of (get T.inodes (u, number)))) }
-        ensures stands { (u : ℕ) (T : Tree) → StandsUser u self.old T
-            → Free u T (S.may_give source.old) → StandsUser u self.new T }
-        ensures malformed { result ≡ Err (Malformed 0) → (u : ℕ) (T : Tree)
-            → StandsUser u self.old T → Free u T (S.may_give source.old) → ⊥ }
-        ensures keeps { HasAll self.old self.new }
-        ensures no_more { (s : List ℕ) → S.may_give source.new s → S.may_give source.old s }
+        ensures loads { LoadsUser S.may_give S.failed S.follows self.old self.new
+            source.old source.new result }
     {
-        self.fetch_bytes(number, off, len, source)?;
+        self.fetch(number, &Wanted::Bytes { off, len }, source)?;
         match self.inodes.get(&number.number()) {
             Some(inode) => inode.read_at(off, len),
             None => Ok(None),
@@ -509,20 +320,16 @@ impl UserPart {
 
 impl UserPart {
     /// Tells whether the directory of a number has no names; so is a file, and a number where
-    /// nothing stands. Loads what it needs, and is refused as `fetch_inode` is.
+    /// nothing stands. Loads what it needs, and is refused as `fetch` is.
     pub fn is_bare<S: BlockSource>(&mut self, number: Inum, source: &mut S) -> Result<bool, Refusal>
         requires { S.is_checked ≡ true }
         ensures value { (u : ℕ) (T : Tree) → StandsUser u self.old T
             → Free u T (S.may_give source.old)
             → IfOk result (λ b. b ≡ is_bare_at T (u, number)) }
-        ensures stands { (u : ℕ) (T : Tree) → StandsUser u self.old T
-            → Free u T (S.may_give source.old) → StandsUser u self.new T }
-        ensures malformed { result ≡ Err (Malformed 0) → (u : ℕ) (T : Tree)
-            → StandsUser u self.old T → Free u T (S.may_give source.old) → ⊥ }
-        ensures keeps { HasAll self.old self.new }
-        ensures no_more { (s : List ℕ) → S.may_give source.new s → S.may_give source.old s }
+        ensures loads { LoadsUser S.may_give S.failed S.follows self.old self.new
+            source.old source.new result }
     {
-        self.fetch_root(number, source)?;
+        self.fetch(number, &Wanted::Root, source)?;
         match self.inodes.get(&number.number()) {
             Some(inode) => Ok(inode.is_bare()),
             None => Ok(true),
@@ -530,7 +337,7 @@ impl UserPart {
     }
 
     /// Lists the names of the directory of a number by their bytes, and where they lead; none where
-    /// no directory stands. Loads what it needs, and is refused as `fetch_inode` is.
+    /// no directory stands. Loads what it needs, and is refused as `fetch` is.
     pub fn names<S: BlockSource>(
         &mut self,
         number: Inum,
@@ -541,14 +348,10 @@ impl UserPart {
             → Free u T (S.may_give source.old)
             → IfOk result (λ list. option_map (λ v. v.items) list
             ≡ names_of (get T.inodes (u, number))) }
-        ensures stands { (u : ℕ) (T : Tree) → StandsUser u self.old T
-            → Free u T (S.may_give source.old) → StandsUser u self.new T }
-        ensures malformed { result ≡ Err (Malformed 0) → (u : ℕ) (T : Tree)
-            → StandsUser u self.old T → Free u T (S.may_give source.old) → ⊥ }
-        ensures keeps { HasAll self.old self.new }
-        ensures no_more { (s : List ℕ) → S.may_give source.new s → S.may_give source.old s }
+        ensures loads { LoadsUser S.may_give S.failed S.follows self.old self.new
+            source.old source.new result }
     {
-        self.fetch_names(number, source)?;
+        self.fetch(number, &Wanted::Names, source)?;
         match self.inodes.get(&number.number()) {
             Some(inode) => inode.names(),
             None => Ok(None),

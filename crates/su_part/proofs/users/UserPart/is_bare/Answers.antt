@@ -9,7 +9,7 @@ use Rattle.su_part.proofs.users.UserPart.is_bare.Goals as goal
 pub returns-in-Some-clause-value : goal.returns-in-Some-clause-value
 unfolding is_bare_at
 returns-in-Some-clause-value g c u T h free =
-    let after = c.fetch_root.ensures.stands u T h free in
+    let after = c.fetch.ensures.loads.stands (u, T) h free in
     let k = c.number.result in
     let here = subst (λ x. StandsAt x (get T.inodes (u, k))) (sym c.in-Some.ensures.value) (after.inodes k) in
     asked_there (get T.inodes (u, k)) c.in-Some.inode.now (λ o. c.is_bare.result ≡ has_no_names o) here c.is_bare.ensures ∙ ap (λ n. has_no_names (get T.inodes (u, n))) c.number.ensures.value
@@ -17,6 +17,6 @@ returns-in-Some-clause-value g c u T h free =
 pub returns-in-None-clause-value : goal.returns-in-None-clause-value
 unfolding is_bare_at
 returns-in-None-clause-value g c u T h free =
-    let after = c.fetch_root.ensures.stands u T h free in
-    let none : None ≡ at_number c.fetch_root.new.self.inodes.entries c.args.number = c.in-None.ensures.value ∙ ap (at_number c.fetch_root.new.self.inodes.entries) c.number.ensures.value in
-    sym (ap has_no_names (not_loaded (get T.inodes (u, c.args.number)) _ (c.in_ok-fetch_root.ensures.has.inode.there u T after) none))
+    let after = c.fetch.ensures.loads.stands (u, T) h free in
+    let none : None ≡ at_number c.fetch.new.self.inodes.entries c.args.number = c.in-None.ensures.value ∙ ap (at_number c.fetch.new.self.inodes.entries) c.number.ensures.value in
+    sym (ap has_no_names (not_loaded (get T.inodes (u, c.args.number)) _ (c.in_ok-fetch.ensures.has.inode.there u T after) none))

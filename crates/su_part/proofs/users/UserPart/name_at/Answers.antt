@@ -1,4 +1,3 @@
-use Rattle.std.proofs.lemmas.Result.{err_from_is_err_and}
 use Rattle.std.proofs.Common.{◌≡◌, ◌∙◌, sym, ap, subst, None}
 use Rattle.std.specs.FinMap.{get}
 use Rattle.su_node.specs.Field.{Field.NameOf, field_value}
@@ -10,19 +9,14 @@ use Rattle.su_part.proofs.users.UserPart.name_at.Goals as goal
 pub returns-in-Some-clause-value : goal.returns-in-Some-clause-value
 unfolding val
 returns-in-Some-clause-value g c u T h free =
-    let after = c.fetch_name.ensures.stands u T h free in
+    let after = c.fetch.ensures.loads.stands (u, T) h free in
     let k = c.number.result in
     let here = subst (λ x. StandsAt x (get T.inodes (u, k))) (sym c.in-Some.ensures.value) (after.inodes k) in
     field_there (get T.inodes (u, k)) c.in-Some.inode.now _ (NameOf c.args.name.now) here c.name_get.ensures ∙ ap (λ n. field_value (get T.inodes (u, n)) (NameOf c.args.name.now)) c.number.ensures.value
 
-pub returns-in-None-clause-value : goal.returns-in-None-clause-value
+pub returns-clause-value : goal.returns-clause-value
 unfolding val
-returns-in-None-clause-value g c u T h free =
-    let after = c.fetch_name.ensures.stands u T h free in
-    let none : None ≡ at_number c.fetch_name.new.self.inodes.entries c.args.number = c.in-None.ensures.value ∙ ap (at_number c.fetch_name.new.self.inodes.entries) c.number.ensures.value in
-    sym (ap (λ o. field_value o (NameOf c.args.name.now)) (not_loaded (get T.inodes (u, c.args.number)) _ (c.in_ok-fetch_name.ensures.has.inode.there u T after) none))
-
-pub returns-in_err-fetch_name-clause-malformed : goal.returns-in_err-fetch_name-clause-malformed
-returns-in_err-fetch_name-clause-malformed g c is u T h free =
-    let p = err_from_is_err_and c.from_residual.result c.from_residual.ensures.1 in
-    c.fetch_name.ensures.malformed (cc (c.in_err-fetch_name.was, p.1, p.2, is)) u T h free
+returns-clause-value g c u T h free =
+    let after = c.fetch.ensures.loads.stands (u, T) h free in
+    let none : None ≡ at_number c.fetch.new.self.inodes.entries c.args.number = c.in-None.ensures.value ∙ ap (at_number c.fetch.new.self.inodes.entries) c.number.ensures.value in
+    sym (ap (λ o. field_value o (NameOf c.args.name.now)) (not_loaded (get T.inodes (u, c.args.number)) _ (c.in_ok-fetch.ensures.has.inode.there u T after) none))

@@ -1,4 +1,3 @@
-use Rattle.std.proofs.lemmas.Result.{err_from_is_err_and}
 use Rattle.std.proofs.Common.{◌≡◌, ◌∙◌, sym, ap, subst, None, option_map}
 use Rattle.std.specs.Prelude.{IfOk}
 use Rattle.std.specs.FinMap.{get}
@@ -9,7 +8,7 @@ use Rattle.su_part.proofs.users.UserPart.read_at.Goals as goal
 
 pub returns-in-Some-clause-value : goal.returns-in-Some-clause-value
 returns-in-Some-clause-value g c u T h free =
-    let after = c.fetch_bytes.ensures.stands u T h free in
+    let after = c.fetch.ensures.loads.stands (u, T) h free in
     let k = c.number.result in
     let here = subst (λ x. StandsAt x (get T.inodes (u, k))) (sym c.in-Some.ensures.value) (after.inodes k) in
     subst (λ n. IfOk c.read_at.result (λ bytes. option_map (λ v. v.items) bytes ≡ option_map (within c.args.off c.args.len) (bytes_of (get T.inodes (u, n))))) c.number.ensures.value
@@ -17,11 +16,6 @@ returns-in-Some-clause-value g c u T h free =
 
 pub returns-in-None-clause-value : goal.returns-in-None-clause-value
 returns-in-None-clause-value g c u T h free =
-    let after = c.fetch_bytes.ensures.stands u T h free in
-    let none : None ≡ at_number c.fetch_bytes.new.self.inodes.entries c.args.number = c.in-None.ensures.value ∙ ap (at_number c.fetch_bytes.new.self.inodes.entries) c.number.ensures.value in
-    sym (ap (λ o. option_map (within c.args.off c.args.len) (bytes_of o)) (not_loaded (get T.inodes (u, c.args.number)) _ (c.in_ok-fetch_bytes.ensures.has.inode.there u T after) none))
-
-pub returns-in_err-fetch_bytes-clause-malformed : goal.returns-in_err-fetch_bytes-clause-malformed
-returns-in_err-fetch_bytes-clause-malformed g c is u T h free =
-    let p = err_from_is_err_and c.from_residual.result c.from_residual.ensures.1 in
-    c.fetch_bytes.ensures.malformed (cc (c.in_err-fetch_bytes.was, p.1, p.2, is)) u T h free
+    let after = c.fetch.ensures.loads.stands (u, T) h free in
+    let none : None ≡ at_number c.fetch.new.self.inodes.entries c.args.number = c.in-None.ensures.value ∙ ap (at_number c.fetch.new.self.inodes.entries) c.number.ensures.value in
+    sym (ap (λ o. option_map (within c.args.off c.args.len) (bytes_of o)) (not_loaded (get T.inodes (u, c.args.number)) _ (c.in_ok-fetch.ensures.has.inode.there u T after) none))
