@@ -1,0 +1,4 @@
+pub mod Seeing
+pub mod Bridge
+pub mod Asked
+pub mod Public

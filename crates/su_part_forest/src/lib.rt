@@ -1,0 +1,7 @@
+//! All i-tables of a store, of which parts may be left on the store: a part for each user and each
+//! group.
+#![tactic(auto)]
+
+mod forests;
+
+pub use forests::PartForest;
