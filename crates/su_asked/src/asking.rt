@@ -4,6 +4,8 @@ ghost use Rattle.su_bytes.specs.declared.refusals.Refusal.TheVariants.{NoMemory}
 ghost use Rattle.su_node.specs.Field.{Field.KindOf};
 ghost use Rattle.su_table.specs.Cell.{Cell.At, val};
 ghost use Rattle.su_table.specs.Query.{body};
+ghost use Rattle.su_part_forest.specs.Forest.{IsSound};
+ghost use Rattle.su_part_forest.specs.Seen.{seen};
 ghost use Rattle.su_op.specs.DropBody.{group_home};
 ghost use Rattle.su_op.specs.declared.areas.Area.TheVariants.{Inode as InodeArea};
 ghost use Rattle.su_asked.specs.Asked.{asked_first, asked_then, at_body, files_named, home_areas, homes, kind_of, leaving, linked, named, own_place, pointer_of, sized};
@@ -11,7 +13,7 @@ ghost use Rattle.su_asked.specs.Asked.{asked_first, asked_then, at_body, files_n
 use std::alloc::Global;
 use su_bytes::{FileId, GroupFile, Name, Place, Refusal, User};
 use su_op::{Area, Op, Part, Rename, Unlink};
-use su_table::Forest;
+use su_part_forest::PartForest;
 
 /// Returns the areas that the check of an operation by `author` asks for first, whatever stands in
 /// the tree: where the files stand that it names, and what stands at the place of the author's at
@@ -37,9 +39,9 @@ pub fn asked_then(
     alloc: Global,
     author: User,
     op: &Op,
-    forest: &Forest,
+    forest: &PartForest,
 ) -> Result<Vec<Area>, Refusal>
-    ensures value { IfOk result (λ areas. areas.items ≡ asked_then forest.now author op.now) }
+    ensures value { IsSound forest.now → IfOk result (λ areas. areas.items ≡ asked_then (seen forest.now) author op.now) }
     ensures refused { IfErr result (λ e. e ≡ NoMemory) }
 {
     match op {
@@ -108,12 +110,12 @@ fn home(file: FileId) -> Area
 /// Returns what is asked of a directory about a name.
 fn about_name(
     alloc: Global,
-    forest: &Forest,
+    forest: &PartForest,
     dir: FileId,
     name: &Name,
 ) -> Result<Vec<Area>, Refusal>
-    ensures value { IfOk result (λ areas.
-        areas.items ≡ at_body (body forest.now dir) (named name.now)) }
+    ensures value { IsSound forest.now → IfOk result (λ areas.
+        areas.items ≡ at_body (body (seen forest.now) dir) (named name.now)) }
     ensures refused { IfErr result (λ e. e ≡ NoMemory) }
 {
     let mut areas = Vec::new(alloc);
@@ -124,13 +126,13 @@ fn about_name(
 /// Returns what is asked of a directory about a name, and of a file about its links.
 fn about_link(
     alloc: Global,
-    forest: &Forest,
+    forest: &PartForest,
     dir: FileId,
     name: &Name,
     file: FileId,
 ) -> Result<Vec<Area>, Refusal>
-    ensures value { IfOk result (λ areas. areas.items
-        ≡ at_body (body forest.now dir) (named name.now) ++ at_body (body forest.now file) linked) }
+    ensures value { IsSound forest.now → IfOk result (λ areas. areas.items
+        ≡ at_body (body (seen forest.now) dir) (named name.now) ++ at_body (body (seen forest.now) file) linked) }
     ensures refused { IfErr result (λ e. e ≡ NoMemory) }
 {
     let mut areas = Vec::new(alloc);
@@ -140,10 +142,10 @@ fn about_link(
 }
 
 /// Returns what is asked of a directory about a name that it loses, and of what goes with it.
-fn about_unlink(alloc: Global, forest: &Forest, unlink: &Unlink) -> Result<Vec<Area>, Refusal>
-    ensures value { IfOk result (λ areas. areas.items
-        ≡ at_body (body forest.now unlink.now.dir) (named unlink.now.name)
-        ++ at_body (body forest.now unlink.now.file) (leaving unlink.now.name)) }
+fn about_unlink(alloc: Global, forest: &PartForest, unlink: &Unlink) -> Result<Vec<Area>, Refusal>
+    ensures value { IsSound forest.now → IfOk result (λ areas. areas.items
+        ≡ at_body (body (seen forest.now) unlink.now.dir) (named unlink.now.name)
+        ++ at_body (body (seen forest.now) unlink.now.file) (leaving unlink.now.name)) }
     ensures refused { IfErr result (λ e. e ≡ NoMemory) }
 {
     let mut areas = Vec::new(alloc);
@@ -154,11 +156,11 @@ fn about_unlink(alloc: Global, forest: &Forest, unlink: &Unlink) -> Result<Vec<A
 
 /// Returns what is asked of two directories about the names that a rename takes and gives, and of
 /// the file.
-fn about_move(alloc: Global, forest: &Forest, rename: &Rename) -> Result<Vec<Area>, Refusal>
-    ensures value { IfOk result (λ areas. areas.items
-        ≡ at_body (body forest.now rename.now.from_) (named rename.now.old_)
-        ++ (at_body (body forest.now rename.now.to_) (named rename.now.new_)
-        ++ at_body (body forest.now rename.now.file) linked)) }
+fn about_move(alloc: Global, forest: &PartForest, rename: &Rename) -> Result<Vec<Area>, Refusal>
+    ensures value { IsSound forest.now → IfOk result (λ areas. areas.items
+        ≡ at_body (body (seen forest.now) rename.now.from_) (named rename.now.old_)
+        ++ (at_body (body (seen forest.now) rename.now.to_) (named rename.now.new_)
+        ++ at_body (body (seen forest.now) rename.now.file) linked)) }
     ensures refused { IfErr result (λ e. e ≡ NoMemory) }
 {
     let mut areas = Vec::new(alloc);
@@ -169,9 +171,9 @@ fn about_move(alloc: Global, forest: &Forest, rename: &Rename) -> Result<Vec<Are
 }
 
 /// Returns what is asked of a file that is written or cut.
-fn about_bytes(alloc: Global, forest: &Forest, file: FileId) -> Result<Vec<Area>, Refusal>
-    ensures value { IfOk result (λ areas.
-        areas.items ≡ at_body (body forest.now file) sized) }
+fn about_bytes(alloc: Global, forest: &PartForest, file: FileId) -> Result<Vec<Area>, Refusal>
+    ensures value { IsSound forest.now → IfOk result (λ areas.
+        areas.items ≡ at_body (body (seen forest.now) file) sized) }
     ensures refused { IfErr result (λ e. e ≡ NoMemory) }
 {
     let mut areas = Vec::new(alloc);
@@ -184,9 +186,9 @@ fn about_bytes(alloc: Global, forest: &Forest, file: FileId) -> Result<Vec<Area>
 }
 
 /// Returns what is asked of what is taken over.
-fn about_kind(alloc: Global, forest: &Forest, file: FileId) -> Result<Vec<Area>, Refusal>
-    ensures value { IfOk result (λ areas.
-        areas.items ≡ at_body (body forest.now file) kind_of) }
+fn about_kind(alloc: Global, forest: &PartForest, file: FileId) -> Result<Vec<Area>, Refusal>
+    ensures value { IsSound forest.now → IfOk result (λ areas.
+        areas.items ≡ at_body (body (seen forest.now) file) kind_of) }
     ensures refused { IfErr result (λ e. e ≡ NoMemory) }
 {
     let mut areas = Vec::new(alloc);
@@ -199,9 +201,9 @@ fn about_kind(alloc: Global, forest: &Forest, file: FileId) -> Result<Vec<Area>,
 
 /// Returns the pointer of the group file that what stands at `place` was made for, if it was made
 /// for one.
-fn about_home(alloc: Global, forest: &Forest, place: &Place) -> Result<Vec<Area>, Refusal>
-    ensures value { IfOk result (λ areas.
-        areas.items ≡ pointer_of (group_home (val forest.now (At place.now KindOf)))) }
+fn about_home(alloc: Global, forest: &PartForest, place: &Place) -> Result<Vec<Area>, Refusal>
+    ensures value { IsSound forest.now → IfOk result (λ areas.
+        areas.items ≡ pointer_of (group_home (val (seen forest.now) (At place.now KindOf)))) }
     ensures refused { IfErr result (λ e. e ≡ NoMemory) }
 {
     let mut areas = Vec::new(alloc);
@@ -214,12 +216,10 @@ fn about_home(alloc: Global, forest: &Forest, place: &Place) -> Result<Vec<Area>
 
 /// Returns the group file that what stands at `place` was made for, if it was made for one.
 #[tactic(auto, unfolding(su_table::specs::Cell::val))]
-fn group_home(forest: &Forest, place: &Place) -> Option<GroupFile>
-    ensures { result ≡ group_home (val forest.now (At place.now KindOf)) }
+fn group_home(forest: &PartForest, place: &Place) -> Option<GroupFile>
+    ensures { IsSound forest.now → result ≡ group_home (val (seen forest.now) (At place.now KindOf)) }
 {
-    let (user, number) = *place;
-    let inode = forest.inode(user, number)?;
-    match inode.home() {
+    match forest.home(*place)? {
         FileId::User(..) => None,
         FileId::Group(group, file) => Some((group, file)),
     }

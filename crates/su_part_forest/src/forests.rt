@@ -56,19 +56,26 @@ impl PartForest {
 
     /// Returns where the pointer of a group file leads, if one is loaded.
     fn pointer(&self, file: GroupFile) -> Option<Place>
-        requires { IsSound self.now }
-        ensures { result ≡ get (seen self.now).pointers file }
+        ensures { IsSound self.now → result ≡ get (seen self.now).pointers file }
     {
         let (group, number) = file;
         let part = self.group_part(group)?;
         part.find(number)
     }
 
+    /// Returns for which file the inode at `place` was made, if one is loaded there.
+    pub fn home(&self, place: Place) -> Option<FileId>
+        ensures { IsSound self.now
+            → result ≡ option_map (λ i. i.home) (get (seen self.now).inodes place) }
+    {
+        let inode = self.inode(place)?;
+        Some(inode.home())
+    }
+
     /// Returns the place of a file's inode: a user's file stands at its own place, a group file
     /// where its pointer leads.
     pub fn body(&self, file: FileId) -> Option<Place>
-        requires sound { IsSound self.now }
-        ensures { result ≡ body (seen self.now) file }
+        ensures { IsSound self.now → result ≡ body (seen self.now) file }
     {
         match file {
             FileId::User(user, number) => {
@@ -93,8 +100,7 @@ impl PartForest {
 
     /// Tells whether a directory stands at `place`.
     pub fn is_directory(&self, place: Place) -> bool
-        requires sound { IsSound self.now }
-        ensures { result ≡ is_dir_at (seen self.now) place }
+        ensures { IsSound self.now → result ≡ is_dir_at (seen self.now) place }
     {
         match self.inode(place) {
             Some(inode) => inode.kind() == Kind::Dir,
@@ -104,8 +110,7 @@ impl PartForest {
 
     /// Tells whether a file stands at `place`.
     pub fn is_file(&self, place: Place) -> bool
-        requires sound { IsSound self.now }
-        ensures { result ≡ is_file_at (seen self.now) place }
+        ensures { IsSound self.now → result ≡ is_file_at (seen self.now) place }
     {
         match self.inode(place) {
             Some(inode) => inode.kind() == Kind::File,
@@ -115,8 +120,7 @@ impl PartForest {
 
     /// Returns the number of links of the inode at `place`; 0 where none stands.
     pub fn links(&self, place: Place) -> u8
-        requires sound { IsSound self.now }
-        ensures { result ≡ links_at (seen self.now) place }
+        ensures { IsSound self.now → result ≡ links_at (seen self.now) place }
     {
         match self.inode(place) {
             Some(inode) => inode.links(),
@@ -126,8 +130,7 @@ impl PartForest {
 
     /// Returns the size in bytes of the file at `place`; 0 where no file stands.
     pub fn size(&self, place: Place) -> u32
-        requires sound { IsSound self.now }
-        ensures { result ≡ size_at (seen self.now) place }
+        ensures { IsSound self.now → result ≡ size_at (seen self.now) place }
     {
         match self.inode(place) {
             Some(inode) => inode.size(),
@@ -137,8 +140,7 @@ impl PartForest {
 
     /// Tells whether the inode at `place`, if any, has no names.
     pub fn is_bare(&self, place: Place) -> bool
-        requires sound { IsSound self.now }
-        ensures { result ≡ is_bare_at (seen self.now) place }
+        ensures { IsSound self.now → result ≡ is_bare_at (seen self.now) place }
     {
         match self.inode(place) {
             Some(inode) => inode.shows_no_names(),
@@ -148,8 +150,7 @@ impl PartForest {
 
     /// Tells whether the directory at `place` lacks the name.
     pub fn is_name_free(&self, place: Place, name: &Name) -> bool
-        requires sound { IsSound self.now }
-        ensures { result ≡ is_name_free_at (seen self.now) place name.now }
+        ensures { IsSound self.now → result ≡ is_name_free_at (seen self.now) place name.now }
     {
         match self.inode(place) {
             Some(inode) => inode.name_find(name).is_none(),
@@ -159,8 +160,7 @@ impl PartForest {
 
     /// Tells whether the directory at `place` has the name, and it leads to the file.
     pub fn leads_to(&self, place: Place, name: &Name, file: FileId) -> bool
-        requires sound { IsSound self.now }
-        ensures { result ≡ leads_to_at (seen self.now) place name.now file }
+        ensures { IsSound self.now → result ≡ leads_to_at (seen self.now) place name.now file }
     {
         match self.inode(place) {
             Some(inode) => inode.name_find(name) == Some(file),
@@ -170,8 +170,7 @@ impl PartForest {
 
     /// Tells whether a group file has no pointer; a user's file needs none.
     pub fn is_pointer_free(&self, file: FileId) -> bool
-        requires sound { IsSound self.now }
-        ensures { result ≡ is_pointer_free (seen self.now) file }
+        ensures { IsSound self.now → result ≡ is_pointer_free (seen self.now) file }
     {
         match file {
             FileId::User(..) => true,
@@ -185,29 +184,25 @@ impl PartForest {
 impl PartForest {
     /// Returns the i-handle of a user; that of an empty table where the user has no inode.
     pub fn i_handle(&self, user: User) -> Digest
-        requires sound { IsSound self.now }
-        ensures { (T : Tree) → Stands self.now T
-            → result ≡ handle T (Principal.User user) }
+        ensures { (T : Tree) → Stands self.now T → result ≡ handle T (Principal.User user) }
     {
         // names the number's range for the prover (docs/ARCHITECTURE.md, "Forms the kit wants")
         let _number = user.number();
         match self.user_part(user) {
             Some(part) => part.i_handle(),
-            None => unreachable!(),
+            None => UserPart::empty(self.alloc).i_handle(),
         }
     }
 
     /// Returns the i-handle of a group; that of an empty table where the group has no file.
     pub fn group_handle(&self, group: Group) -> Digest
-        requires sound { IsSound self.now }
-        ensures { (T : Tree) → Stands self.now T
-            → result ≡ handle T (Principal.Group group) }
+        ensures { (T : Tree) → Stands self.now T → result ≡ handle T (Principal.Group group) }
     {
         // names the number's range for the prover (docs/ARCHITECTURE.md, "Forms the kit wants")
         let _number = group.number();
         match self.group_part(group) {
             Some(part) => part.handle(),
-            None => unreachable!(),
+            None => GroupPart::empty(self.alloc).handle(),
         }
     }
 }

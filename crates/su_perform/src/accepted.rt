@@ -48,11 +48,10 @@ impl<'a> Accepted<'a> {
         author: User,
         format: Format,
     ) -> Result<Accepted<'a>, Refusal>
-        requires { IsSound forest.now }
-        ensures accepted { OnOk result
+        ensures accepted { IsSound forest.now → OnOk result
             (why roster.now (seen forest.now) (action_by author format op.now) ≡ None) }
-        ensures found { IfOk result (Found (seen forest.now) author op.now) }
-        ensures refused { IfErr result (λ e.
+        ensures found { IsSound forest.now → IfOk result (Found (seen forest.now) author op.now) }
+        ensures refused { IsSound forest.now → IfErr result (λ e.
             why roster.now (seen forest.now) (action_by author format op.now) ≡ Some e) }
     {
         if !roster.has_user(author) {

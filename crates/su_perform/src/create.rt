@@ -29,11 +29,10 @@ impl<'a> AcceptedCreate<'a> {
         roster: &Roster,
         author: User,
     ) -> Result<AcceptedCreate<'a>, Refusal>
-        requires { IsSound forest.now }
-        ensures accepted { OnOk result
+        ensures accepted { IsSound forest.now → OnOk result
             (refusal (create_rule roster.now (seen forest.now) author create.now) ≡ None) }
-        ensures found { IfOk result (FoundCreate (seen forest.now) author create.now) }
-        ensures refused { IfErr result (λ e.
+        ensures found { IsSound forest.now → IfOk result (FoundCreate (seen forest.now) author create.now) }
+        ensures refused { IsSound forest.now → IfErr result (λ e.
             refusal (create_rule roster.now (seen forest.now) author create.now) ≡ Some e) }
     {
         if !has_own_number(create, author) {

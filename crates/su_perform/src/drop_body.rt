@@ -30,11 +30,10 @@ impl<'a> AcceptedDrop<'a> {
         forest: &PartForest,
         author: User,
     ) -> Result<AcceptedDrop<'a>, Refusal>
-        requires { IsSound forest.now }
-        ensures accepted { OnOk result
+        ensures accepted { IsSound forest.now → OnOk result
             (refusal (drop_rule (seen forest.now) author dropped.now) ≡ None) }
-        ensures found { IfOk result (FoundDrop (seen forest.now) author dropped.now) }
-        ensures refused { IfErr result (λ e.
+        ensures found { IsSound forest.now → IfOk result (FoundDrop (seen forest.now) author dropped.now) }
+        ensures refused { IsSound forest.now → IfErr result (λ e.
             refusal (drop_rule (seen forest.now) author dropped.now) ≡ Some e) }
     {
         if forest.is_free((author, dropped.body)) {
@@ -67,8 +66,7 @@ impl<'a> AcceptedDrop<'a> {
 /// Returns the group file that the body at `place` was made for, where the group's pointer is gone
 /// or leads elsewhere, so that no file id leads to the body; else none.
 fn stale_home(forest: &PartForest, place: Place) -> Option<GroupFile>
-    requires { IsSound forest.now }
-    ensures { result ≡ stale_home (seen forest.now) place }
+    ensures { IsSound forest.now → result ≡ stale_home (seen forest.now) place }
 {
     let home = group_home(forest, &place)?;
     if leads_here(forest, &home, &place) {
@@ -81,8 +79,7 @@ fn stale_home(forest: &PartForest, place: Place) -> Option<GroupFile>
 /// Returns the group file that what stands at `place` was made for, if it was made for one.
 #[tactic(auto, unfolding(su_table::specs::Cell::val))]
 fn group_home(forest: &PartForest, place: &Place) -> Option<GroupFile>
-    requires { IsSound forest.now }
-    ensures { result ≡ group_home (val (seen forest.now) (At place.now KindOf)) }
+    ensures { IsSound forest.now → result ≡ group_home (val (seen forest.now) (At place.now KindOf)) }
 {
     match forest.home(*place)? {
         FileId::User(..) => None,
@@ -92,8 +89,7 @@ fn group_home(forest: &PartForest, place: &Place) -> Option<GroupFile>
 
 /// Tells whether the pointer of a group file leads to `place`.
 fn leads_here(forest: &PartForest, file: &GroupFile, place: &Place) -> bool
-    requires { IsSound forest.now }
-    ensures { result ≡ leads_here (val (seen forest.now) (Pointer file.now)) place.now }
+    ensures { IsSound forest.now → result ≡ leads_here (val (seen forest.now) (Pointer file.now)) place.now }
 {
     let (group, number) = *file;
     match forest.body(FileId::Group(group, number)) {

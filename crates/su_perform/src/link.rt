@@ -34,11 +34,10 @@ impl<'a> AcceptedLink<'a> {
         roster: &Roster,
         author: User,
     ) -> Result<AcceptedLink<'a>, Refusal>
-        requires { IsSound forest.now }
-        ensures accepted { OnOk result
+        ensures accepted { IsSound forest.now → OnOk result
             (refusal (link_rule roster.now (seen forest.now) author link.now) ≡ None) }
-        ensures found { IfOk result (FoundLink (seen forest.now) link.now) }
-        ensures refused { IfErr result (λ e.
+        ensures found { IsSound forest.now → IfOk result (FoundLink (seen forest.now) link.now) }
+        ensures refused { IsSound forest.now → IfErr result (λ e.
             refusal (link_rule roster.now (seen forest.now) author link.now) ≡ Some e) }
     {
         if let Some(group) = closed_group(roster, author, link.dir) {

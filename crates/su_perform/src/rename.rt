@@ -32,11 +32,10 @@ impl<'a> AcceptedRename<'a> {
         roster: &Roster,
         author: User,
     ) -> Result<AcceptedRename<'a>, Refusal>
-        requires { IsSound forest.now }
-        ensures accepted { OnOk result
+        ensures accepted { IsSound forest.now → OnOk result
             (refusal (rename_rule roster.now (seen forest.now) author rename.now) ≡ None) }
-        ensures found { IfOk result (FoundRename (seen forest.now) rename.now) }
-        ensures refused { IfErr result (λ e.
+        ensures found { IsSound forest.now → IfOk result (FoundRename (seen forest.now) rename.now) }
+        ensures refused { IsSound forest.now → IfErr result (λ e.
             refusal (rename_rule roster.now (seen forest.now) author rename.now) ≡ Some e) }
     {
         let (source, target, moved) = places(rename, forest, roster, author)?;
@@ -98,12 +97,11 @@ fn places(
     roster: &Roster,
     author: User,
 ) -> Result<(Place, Place, Option<Place>), Refusal>
-    requires { IsSound forest.now }
-    ensures found { IfOk result (λ p. FoundPlaces (seen forest.now) rename.now p.0 p.1 p.2) }
-    ensures refusal { IfOk result (λ p.
+    ensures found { IsSound forest.now → IfOk result (λ p. FoundPlaces (seen forest.now) rename.now p.0 p.1 p.2) }
+    ensures refusal { IsSound forest.now → IfOk result (λ p.
         refusal (rename_rule roster.now (seen forest.now) author rename.now)
         ≡ refusal (rename_rule_at (seen forest.now) author rename.now p.2 p.0 p.1)) }
-    ensures refused { IfErr result (λ e.
+    ensures refused { IsSound forest.now → IfErr result (λ e.
         refusal (rename_rule roster.now (seen forest.now) author rename.now) ≡ Some e) }
 {
     if let Some(group) = closed_group(roster, author, rename.from_) {
@@ -125,11 +123,10 @@ fn places(
 /// Finds where the file stands, if it goes from one directory to another. Fails with `NoFile` where
 /// it has no body.
 fn moved(rename: &Rename, forest: &PartForest) -> Result<Option<Place>, Refusal>
-    requires { IsSound forest.now }
-    ensures value { IfOk result (λ place. place ≡ moved (seen forest.now) rename.now) }
-    ensures found { OnOk result
+    ensures value { IsSound forest.now → IfOk result (λ place. place ≡ moved (seen forest.now) rename.now) }
+    ensures found { IsSound forest.now → OnOk result
         ((stays rename.now || is_some (moved (seen forest.now) rename.now)) ≡ true) }
-    ensures refused { IfErr result (λ e. (e ≡ NoFile rename.now.file)
+    ensures refused { IsSound forest.now → IfErr result (λ e. (e ≡ NoFile rename.now.file)
         × ((stays rename.now || is_some (moved (seen forest.now) rename.now)) ≡ false)) }
 {
     if rename.from_ == rename.to_ {
@@ -143,8 +140,7 @@ fn moved(rename: &Rename, forest: &PartForest) -> Result<Option<Place>, Refusal>
 
 /// Tells whether what goes to another directory is a directory.
 fn moves_directory(forest: &PartForest, moved: &Option<Place>) -> bool
-    requires { IsSound forest.now }
-    ensures { result ≡ moves_directory (seen forest.now) moved.now }
+    ensures { IsSound forest.now → result ≡ moves_directory (seen forest.now) moved.now }
 {
     match moved {
         Some(place) => forest.is_directory(*place),

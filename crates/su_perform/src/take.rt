@@ -30,11 +30,10 @@ impl<'a> AcceptedTake<'a> {
         roster: &Roster,
         author: User,
     ) -> Result<AcceptedTake<'a>, Refusal>
-        requires { IsSound forest.now }
-        ensures accepted { OnOk result
+        ensures accepted { IsSound forest.now → OnOk result
             (refusal (take_rule roster.now (seen forest.now) author take.now) ≡ None) }
-        ensures found { IfOk result (FoundTake (seen forest.now) author take.now) }
-        ensures refused { IfErr result (λ e.
+        ensures found { IsSound forest.now → IfOk result (FoundTake (seen forest.now) author take.now) }
+        ensures refused { IsSound forest.now → IfErr result (λ e.
             refusal (take_rule roster.now (seen forest.now) author take.now) ≡ Some e) }
     {
         if let FileId::User(..) = take.file {

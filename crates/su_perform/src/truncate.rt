@@ -34,12 +34,11 @@ impl<'a> AcceptedTruncate<'a> {
         author: User,
         format: Format,
     ) -> Result<AcceptedTruncate<'a>, Refusal>
-        requires { IsSound forest.now }
-        ensures accepted { OnOk result
+        ensures accepted { IsSound forest.now → OnOk result
             (refusal (truncate_rule roster.now (seen forest.now) author format truncate.now)
             ≡ None) }
-        ensures found { IfOk result (FoundTruncate (seen forest.now) truncate.now) }
-        ensures refused { IfErr result (λ e.
+        ensures found { IsSound forest.now → IfOk result (FoundTruncate (seen forest.now) truncate.now) }
+        ensures refused { IsSound forest.now → IfErr result (λ e.
             refusal (truncate_rule roster.now (seen forest.now) author format truncate.now)
             ≡ Some e) }
     {

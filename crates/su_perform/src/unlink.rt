@@ -31,11 +31,10 @@ impl<'a> AcceptedUnlink<'a> {
         roster: &Roster,
         author: User,
     ) -> Result<AcceptedUnlink<'a>, Refusal>
-        requires { IsSound forest.now }
-        ensures accepted { OnOk result
+        ensures accepted { IsSound forest.now → OnOk result
             (refusal (unlink_rule roster.now (seen forest.now) author unlink.now) ≡ None) }
-        ensures found { IfOk result (FoundUnlink (seen forest.now) unlink.now) }
-        ensures refused { IfErr result (λ e.
+        ensures found { IsSound forest.now → IfOk result (FoundUnlink (seen forest.now) unlink.now) }
+        ensures refused { IsSound forest.now → IfErr result (λ e.
             refusal (unlink_rule roster.now (seen forest.now) author unlink.now) ≡ Some e) }
     {
         if let Some(group) = closed_group(roster, author, unlink.dir) {

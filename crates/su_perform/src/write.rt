@@ -37,11 +37,10 @@ impl<'a> AcceptedWrite<'a> {
         author: User,
         format: Format,
     ) -> Result<AcceptedWrite<'a>, Refusal>
-        requires { IsSound forest.now }
-        ensures accepted { OnOk result
+        ensures accepted { IsSound forest.now → OnOk result
             (refusal (write_rule roster.now (seen forest.now) author format write.now) ≡ None) }
-        ensures found { IfOk result (FoundWrite (seen forest.now) write.now) }
-        ensures refused { IfErr result (λ e.
+        ensures found { IsSound forest.now → IfOk result (FoundWrite (seen forest.now) write.now) }
+        ensures refused { IsSound forest.now → IfErr result (λ e.
             refusal (write_rule roster.now (seen forest.now) author format write.now) ≡ Some e) }
     {
         let count = write.bytes.len();

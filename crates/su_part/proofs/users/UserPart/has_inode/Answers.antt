@@ -14,9 +14,9 @@ pub returns-in-Some-clause-told : goal.returns-in-Some-clause-told
 returns-in-Some-clause-told c u T h has =
     let is = small_number c.number-key.result c.number-key.ensures.range.1 in
     let some : get T.inodes (u, c.args.number) ≢ None = λ none.
-        let gone = c.in-Some.ensures (user_table T u) h.table ∙ table_value u c.number-key.result T c.args.self.now.table h.table is
-            ∙ ap (λ n. option_map inode_digest (get T.inodes (u, n))) c.number-key.ensures.value ∙ ap (option_map inode_digest) none in
-        absurd cc in
+    let gone = c.in-Some.ensures (user_table T u) h.table ∙ table_value u c.number-key.result T c.args.self.now.table h.table is
+    ∙ ap (λ n. option_map inode_digest (get T.inodes (u, n))) c.number-key.ensures.value ∙ ap (option_map inode_digest) none in
+    absurd cc in
     let there = subst (λ n. IsSome (at_number c.args.self.now.inodes.entries n)) (sym c.number-key.ensures.value) (has.there u T h some) in
     sym c.if-contains_key.false ∙ c.contains_key.ensures ∙ there
 

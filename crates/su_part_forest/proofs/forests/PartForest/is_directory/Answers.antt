@@ -14,11 +14,11 @@ is_dir_kind-derived File home = refl
 is_dir_kind-derived Dir home = refl
 
 pub returns-in-Some : goal.returns-in-Some
-returns-in-Some c =
+returns-in-Some c sound =
     let found = c.in-Some.ensures.loaded in
-    let x = loaded_stands c.args.self.now c.requires.sound c.args.place c.in-Some.inode.now found in
+    let x = loaded_stands c.args.self.now sound c.args.place c.in-Some.inode.now found in
     c.eq.ensures ∙ ap (λ k. sameb the_type k Dir) (c.kind.ensures x.0 x.1) ∙ is_dir_kind-derived _ x.0.home
     ∙ sym (ap is_dir_kind (kind_is c.args.self.now c.args.place c.in-Some.inode.now found x.0 x.1))
 
 pub returns-in-None : goal.returns-in-None
-returns-in-None c = sym (ap is_dir_kind (cell_seen c.args.self.now c.args.place KindOf None c.in-None.ensures.loaded))
+returns-in-None c sound = sym (ap is_dir_kind (cell_seen c.args.self.now c.args.place KindOf None c.in-None.ensures.loaded))
