@@ -27,7 +27,7 @@ use su_part_tree::PartTree;
 /// A group's i-table: from the numbers of its files to the places of their bodies.
 #[derive(Drop)]
 pub struct GroupPart {
-    table: PartTree<u32, Place>,
+    pub(crate) table: PartTree<u32, Place>,
 }
 
 impl GroupPart {

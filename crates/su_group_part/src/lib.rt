@@ -2,5 +2,6 @@
 #![tactic(auto)]
 
 mod groups;
+mod opens;
 
 pub use groups::GroupPart;
