@@ -19,8 +19,8 @@ use su_part::{PartInode, UserPart};
 /// digests of what isn't.
 #[derive(Drop)]
 pub struct PartForest {
-    users: Vec<UserPart>,
-    groups: Vec<GroupPart>,
+    pub(crate) users: Vec<UserPart>,
+    pub(crate) groups: Vec<GroupPart>,
     alloc: Global,
 }
 

@@ -3,5 +3,6 @@
 #![tactic(auto)]
 
 mod forests;
+mod loads;
 
 pub use forests::PartForest;
