@@ -1,4 +1,5 @@
 pub mod Seeing
 pub mod Bridge
 pub mod Asked
+pub mod FreshLemmas
 pub mod Public

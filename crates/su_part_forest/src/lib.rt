@@ -3,5 +3,6 @@
 #![tactic(auto)]
 
 mod forests;
+mod fresh;
 
 pub use forests::PartForest;
