@@ -2,4 +2,5 @@ pub mod Seeing
 pub mod Bridge
 pub mod Asked
 pub mod FreshLemmas
+pub mod CopyLemmas
 pub mod Public

@@ -2,6 +2,7 @@
 //! group.
 #![tactic(auto)]
 
+mod copies;
 mod forests;
 mod fresh;
 
