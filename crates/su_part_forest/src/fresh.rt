@@ -54,8 +54,8 @@ fn first_groups(alloc: Global) -> Result<Vec<GroupPart>, Refusal>
 
 impl PartForest {
     /// Makes the tree before the first operation, all of it loaded: the empty root directory of
-    /// group 0, which stands at user 0. It is the same for each roster: a forest has a part for each
-    /// user and each group that there can be. Fails only with `NoMemory`.
+    /// group 0, which stands at user 0. It is the same for each roster: a forest has a part for
+    /// each user and each group that there can be. Fails only with `NoMemory`.
     pub fn genesis(alloc: Global, _roster: &Roster) -> Result<PartForest, Refusal>
         ensures value { IfOk result (λ forest. Stands forest genesis) }
         ensures inodes { (p : Place) → IfOk result (HasInodeAt p) }
