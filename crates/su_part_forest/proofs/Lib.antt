@@ -2,4 +2,6 @@ pub mod Seeing
 pub mod Bridge
 pub mod Asked
 pub mod Lifting
+pub mod FreshLemmas
+pub mod CopyLemmas
 pub mod Public

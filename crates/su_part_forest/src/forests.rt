@@ -21,7 +21,7 @@ use su_part::{PartInode, UserPart};
 pub struct PartForest {
     pub(crate) users: Vec<UserPart>,
     pub(crate) groups: Vec<GroupPart>,
-    alloc: Global,
+    pub(crate) alloc: Global,
 }
 
 /// What is asked of what is loaded. Where enough is loaded at a place, the answer is that of each
