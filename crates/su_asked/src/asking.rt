@@ -41,7 +41,8 @@ pub fn asked_then(
     op: &Op,
     forest: &PartForest,
 ) -> Result<Vec<Area>, Refusal>
-    ensures value { IsSound forest.now → IfOk result (λ areas. areas.items ≡ asked_then (seen forest.now) author op.now) }
+    ensures value { IsSound forest.now → IfOk result (λ areas.
+        areas.items ≡ asked_then (seen forest.now) author op.now) }
     ensures refused { IfErr result (λ e. e ≡ NoMemory) }
 {
     match op {
@@ -132,7 +133,8 @@ fn about_link(
     file: FileId,
 ) -> Result<Vec<Area>, Refusal>
     ensures value { IsSound forest.now → IfOk result (λ areas. areas.items
-        ≡ at_body (body (seen forest.now) dir) (named name.now) ++ at_body (body (seen forest.now) file) linked) }
+        ≡ at_body (body (seen forest.now) dir) (named name.now)
+        ++ at_body (body (seen forest.now) file) linked) }
     ensures refused { IfErr result (λ e. e ≡ NoMemory) }
 {
     let mut areas = Vec::new(alloc);
@@ -217,7 +219,8 @@ fn about_home(alloc: Global, forest: &PartForest, place: &Place) -> Result<Vec<A
 /// Returns the group file that what stands at `place` was made for, if it was made for one.
 #[tactic(auto, unfolding(su_table::specs::Cell::val))]
 fn group_home(forest: &PartForest, place: &Place) -> Option<GroupFile>
-    ensures { IsSound forest.now → result ≡ group_home (val (seen forest.now) (At place.now KindOf)) }
+    ensures { IsSound forest.now
+        → result ≡ group_home (val (seen forest.now) (At place.now KindOf)) }
 {
     match forest.home(*place)? {
         FileId::User(..) => None,

@@ -1,5 +1,5 @@
 -- Pointers that are loaded, and groups that have none.
-use Rattle.std.proofs.Common.{◌≡◌, ◌∙◌, ℕ, Bool, true, cond, IsTrue, List, [], ◌∷◌, Option, None, Some, ◌&&◌, refl, sym, ap, arith}
+use Rattle.std.proofs.Common.{◌≡◌, ◌∙◌, ℕ, true, cond, IsTrue, List, [], ◌∷◌, Option, None, Some, ◌&&◌, refl, sym, ap, arith}
 use Rattle.std.specs.Option.{option_map}
 use Rattle.std.specs.Ordering.{nat_cmp, eq_by_cmp}
 use Rattle.std.specs.FinMap.{find, get, entries, get-entries}

@@ -79,12 +79,12 @@ is_none-is false d e = ap not (sym e)
 -- ---- the parts of a sound forest
 
 module _ {X : Type 0} where
-  part_got : (xs : List X) (n : ℕ) (x : X) → n < length xs → x ≡ slice_index_or xs n x → Some x ≡ slice_get xs n
+  pub part_got : (xs : List X) (n : ℕ) (x : X) → n < length xs → x ≡ slice_index_or xs n x → Some x ≡ slice_get xs n
   part_got [] n x within is = absurd (omega (arith, within))
   part_got (y ∷ xs) zero x within is = ap Some is
   part_got (y ∷ xs) (suc n) x within is = part_got xs n x (omega (arith, within)) is
 
-  no_part : (xs : List X) (n : ℕ) → length xs ≤ n → None ≡ slice_get xs n
+  pub no_part : (xs : List X) (n : ℕ) → length xs ≤ n → None ≡ slice_get xs n
   no_part [] n past = refl
   no_part (y ∷ xs) zero past = absurd (omega (arith, past))
   no_part (y ∷ xs) (suc n) past = no_part xs n (omega (arith, past))
@@ -98,3 +98,8 @@ module _ {X : Type 0} where
   part_is P true None x e h = absurd h
   part_is P true (Some y) x e h = let same : y ≡ x = cc in subst P same h
   part_is P false o x e h = absurd (let z : Some x ≡ None = e ∙ h in cc)
+
+  -- where there is no part there can be none
+  pub missing : (P : X → Type 0) (b : Bool) (o : Option X) → None ≡ o → IsPart P b o → b ≡ false
+  missing P true o e h = absurd (subst (IsPart P true) (sym e) h)
+  missing P false o e h = refl

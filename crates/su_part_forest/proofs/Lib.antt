@@ -1,4 +1,7 @@
 pub mod Seeing
 pub mod Bridge
 pub mod Asked
+pub mod Lifting
+pub mod FreshLemmas
+pub mod CopyLemmas
 pub mod Public

@@ -1,13 +1,13 @@
 -- One part of a forest is replaced by another.
-use Rattle.std.proofs.Common.{◌≡◌, ◌∙◌, ℕ, zero, suc, Bool, true, false, cond, nat_eq, List, [], ◌∷◌, Option, Some, None, refl, sym, ap, subst, inl, inr}
-use Rattle.std.specs.Prelude.{slice_get, slice_set, IfErr, Ok, Err, Result}
+use Rattle.std.proofs.Common.{◌≡◌, ◌∙◌, ℕ, zero, suc, Bool, true, false, nat_eq, List, [], ◌∷◌, Option, Some, None, refl, sym, ap, subst, inl, inr}
+use Rattle.std.specs.Prelude.{slice_get, slice_set, IfErr, IfSome, OnOk, Ok, Err, Result}
 use Rattle.std.specs.FinMap.{get}
 use Rattle.su_bytes.specs.declared.refusals.Refusal.TheVariants.{Malformed}
 use Rattle.su_part.proofs.UserLemmas.{all_itself}
 use Rattle.su_group_part.specs.Part.{StandsGroup}
 use Rattle.su_group_part.specs.declared.groups.GroupPart.{GroupPart}
 use Rattle.su_part_forest.proofs.Asked.{part_is}
-use Rattle.std.proofs.lemmas.Bool.{eqb-true}
+use Rattle.std.proofs.lemmas.Bool.{eqb-true, eqb-false}
 use Rattle.su_bytes.specs.Principal.{is_user, is_group}
 use Rattle.su_bytes.specs.declared.refusals.Refusal.{Refusal}
 use Rattle.su_block.specs.declared.failures.Failures.{Failures}
@@ -23,42 +23,51 @@ use Rattle.su_part_forest.specs.declared.forests.PartForest.{PartForest}
 
 module _ {X : Type 0} where
   -- what stands at a number of a list of which one item is replaced
-  pub get_set : (xs : List X) (u v : ℕ) (q p : X) → slice_get xs u ≡ Some p → slice_get (slice_set xs u q) v ≡ cond (nat_eq v u) (Some q) (slice_get xs v)
-  get_set [] u v q p e = absurd cc
-  get_set (x ∷ xs) zero zero q p e = refl
-  get_set (x ∷ xs) zero (suc v) q p e = refl
-  get_set (x ∷ xs) (suc u) zero q p e = refl
-  get_set (x ∷ xs) (suc u) (suc v) q p e = get_set xs u v q p e
+  pub get_same : (xs : List X) (u : ℕ) (q p : X) → slice_get xs u ≡ Some p → slice_get (slice_set xs u q) u ≡ Some q
+  get_same [] u q p e = absurd cc
+  get_same (x ∷ xs) zero q p e = refl
+  get_same (x ∷ xs) (suc u) q p e = get_same xs u q p e
+
+  pub get_other : (xs : List X) (u v : ℕ) (q : X) → ¬ (v ≡ u) → slice_get (slice_set xs u q) v ≡ slice_get xs v
+  get_other [] u v q other = refl
+  get_other (x ∷ xs) zero zero q other = absurd (other refl)
+  get_other (x ∷ xs) zero (suc v) q other = refl
+  get_other (x ∷ xs) (suc u) zero q other = refl
+  get_other (x ∷ xs) (suc u) (suc v) q other = get_other xs u v q (λ e. other (ap suc e))
 
   -- each part meets P, and then Q, where one is replaced
-  pub replaced : (P Q : ℕ → X → Type 0) (b : ℕ → Bool) (xs : List X) (u : ℕ) (p q : X) → slice_get xs u ≡ Some p → ((v : ℕ) (x : X) → nat_eq v u ≡ false → P v x → Q v x) → (P u p → Q u q)
+  pub replaced : (P Q : ℕ → X → Type 0) (b : ℕ → Bool) (xs : List X) (u : ℕ) (p q : X) → slice_get xs u ≡ Some p → ((v : ℕ) (x : X) → ¬ (v ≡ u) → P v x → Q v x) → (P u p → Q u q)
       → ((v : ℕ) → IsPart (P v) (b v) (slice_get xs v)) → (v : ℕ) → IsPart (Q v) (b v) (slice_get (slice_set xs u q) v)
-  replaced P Q b xs u p q got other this all v = subst (IsPart (Q v) (b v)) (sym (get_set xs u v q p got)) (go (nat_eq v u) refl)
+  replaced P Q b xs u p q got other this all v = go (nat_eq v u) refl
     where
       here : (c : Bool) → IsPart (P u) c (Some p) → IsPart (Q u) c (Some q)
       here true h = this h
       here false h = absurd (let z : Some p ≡ None = h in cc)
 
-      there : (c : Bool) (o : Option X) → nat_eq v u ≡ false → IsPart (P v) c o → IsPart (Q v) c o
+      there : (c : Bool) (o : Option X) → ¬ (v ≡ u) → IsPart (P v) c o → IsPart (Q v) c o
       there true None e h = absurd h
       there true (Some x) e h = other v x e h
       there false o e h = h
 
-      go : (c : Bool) → nat_eq v u ≡ c → IsPart (Q v) (b v) (cond c (Some q) (slice_get xs v))
-      go true e = subst (λ n. IsPart (Q n) (b n) (Some q)) (sym (eqb-true v u e)) (here (b u) (subst (IsPart (P u) (b u)) got (all u)))
-      go false e = there (b v) (slice_get xs v) e (all v)
+      go : (c : Bool) → nat_eq v u ≡ c → IsPart (Q v) (b v) (slice_get (slice_set xs u q) v)
+      go true e =
+          subst (λ n. IsPart (Q n) (b n) (slice_get (slice_set xs u q) n)) (sym (eqb-true v u e))
+          (subst (IsPart (Q u) (b u)) (sym (get_same xs u q p got)) (here (b u) (subst (IsPart (P u) (b u)) got (all u))))
+      go false e = subst (IsPart (Q v) (b v)) (sym (get_other xs u v q (eqb-false v u e))) (there (b v) (slice_get xs v) (eqb-false v u e) (all v))
 
   -- what is loaded stays so, where one part is replaced
   pub kept_but : (K : X → X → Type 0) → ((x : X) → K x x) → (xs : List X) (u : ℕ) (p q : X) → slice_get xs u ≡ Some p → K p q → (v : ℕ) → IsKept K (slice_get xs v) (slice_get (slice_set xs u q) v)
-  kept_but K itself xs u p q got keeps v = subst (IsKept K (slice_get xs v)) (sym (get_set xs u v q p got)) (go (nat_eq v u) refl)
+  kept_but K itself xs u p q got keeps v = go (nat_eq v u) refl
     where
       same : (o : Option X) → IsKept K o o
       same None = tt
       same (Some x) = itself x
 
-      go : (c : Bool) → nat_eq v u ≡ c → IsKept K (slice_get xs v) (cond c (Some q) (slice_get xs v))
-      go true e = subst (λ o. IsKept K o (Some q)) (sym (ap (slice_get xs) (eqb-true v u e) ∙ got)) keeps
-      go false e = same (slice_get xs v)
+      go : (c : Bool) → nat_eq v u ≡ c → IsKept K (slice_get xs v) (slice_get (slice_set xs u q) v)
+      go true e =
+          subst (λ n. IsKept K (slice_get xs n) (slice_get (slice_set xs u q) n)) (sym (eqb-true v u e))
+          (subst (λ o. IsKept K o (slice_get (slice_set xs u q) u)) (sym got) (subst (IsKept K (Some p)) (sym (get_same xs u q p got)) keeps))
+      go false e = subst (IsKept K (slice_get xs v)) (sym (get_other xs u v q (eqb-false v u e))) (same (slice_get xs v))
 
   -- each part meets P, and so Q
   pub each_part : {P Q : X → Type 0} (b : Bool) (o : Option X) → ((x : X) → P x → Q x) → IsPart P b o → IsPart Q b o
@@ -78,7 +87,7 @@ if_err (Err e) f h = f e h
 
 module _ (f g : PartForest) (u : ℕ) (p q : UserPart) (got : user_part u f ≡ Some p) (users : g.users.items ≡ slice_set f.users.items u q) (groups : g.groups.items ≡ f.groups.items) where
   -- the forest stands for a tree as before, but for the user's part
-  pub user_stands : (T V : Tree) → Stands f T → ((v : ℕ) (x : UserPart) → nat_eq v u ≡ false → StandsUser v x T → StandsUser v x V) → (StandsUser u p T → StandsUser u q V)
+  pub user_stands : (T V : Tree) → Stands f T → ((v : ℕ) (x : UserPart) → ¬ (v ≡ u) → StandsUser v x T → StandsUser v x V) → (StandsUser u p T → StandsUser u q V)
       → ((k : ℕ) (x : GroupPart) → StandsGroup k x T → StandsGroup k x V)
       → ((v n : ℕ) → is_user v ≡ false → get V.inodes (v, n) ≡ None) → ((k n : ℕ) → is_group k ≡ false → get V.pointers (k, n) ≡ None) → Stands g V
   user_stands T V h others this same no_user no_group = record {
@@ -96,7 +105,7 @@ module _ (f g : PartForest) (u : ℕ) (p q : UserPart) (got : user_part u f ≡ 
   }
 
   pub user_there : user_part u g ≡ Some q
-  user_there = ap (λ xs. slice_get xs u) users ∙ get_set f.users.items u u q p got ∙ ap (λ b. cond b (Some q) (slice_get f.users.items u)) (eqb-refl u)
+  user_there = ap (λ xs. slice_get xs u) users ∙ get_same f.users.items u q p got
 
   module _ {S A : Type 0} (may_give : S → List ℕ → Type 0) (failed_of : S → Failures) (comes : S → S → Type 0) (s t : S) (r : Result A Refusal) where
     -- a load of the user's part is one of the forest
@@ -116,7 +125,7 @@ module _ (f g : PartForest) (u : ℕ) (p q : UserPart) (got : user_part u f ≡ 
 -- ---- of groups
 
 module _ (f g : PartForest) (k : ℕ) (p q : GroupPart) (got : group_part k f ≡ Some p) (groups : g.groups.items ≡ slice_set f.groups.items k q) (users : g.users.items ≡ f.users.items) where
-  pub group_stands : (T V : Tree) → Stands f T → ((v : ℕ) (x : GroupPart) → nat_eq v k ≡ false → StandsGroup v x T → StandsGroup v x V) → (StandsGroup k p T → StandsGroup k q V)
+  pub group_stands : (T V : Tree) → Stands f T → ((v : ℕ) (x : GroupPart) → ¬ (v ≡ k) → StandsGroup v x T → StandsGroup v x V) → (StandsGroup k p T → StandsGroup k q V)
       → ((u : ℕ) (x : UserPart) → StandsUser u x T → StandsUser u x V)
       → ((v n : ℕ) → is_user v ≡ false → get V.inodes (v, n) ≡ None) → ((j n : ℕ) → is_group j ≡ false → get V.pointers (j, n) ≡ None) → Stands g V
   group_stands T V h others this same no_user no_group = record {
@@ -134,7 +143,7 @@ module _ (f g : PartForest) (k : ℕ) (p q : GroupPart) (got : group_part k f �
   }
 
   pub group_there : group_part k g ≡ Some q
-  group_there = ap (λ xs. slice_get xs k) groups ∙ get_set f.groups.items k k q p got ∙ ap (λ b. cond b (Some q) (slice_get f.groups.items k)) (eqb-refl k)
+  group_there = ap (λ xs. slice_get xs k) groups ∙ get_same f.groups.items k q p got
 
   module _ {S A : Type 0} (may_give : S → List ℕ → Type 0) (failed_of : S → Failures) (comes : S → S → Type 0) (s t : S) (r : Result A Refusal) where
     -- a load of the group's part is one of the forest
@@ -170,3 +179,16 @@ not_asked may_give failed_of comes itself f s a = record {
   no_more = λ i gives. gives;
   follows = itself s;
 }
+
+-- ---- answers
+
+pub on_ok : {A : Type 0} {P Q : Type 0} (r : Result A Refusal) → (P → Q) → OnOk r P → OnOk r Q
+on_ok (Ok x) f h = f h
+on_ok (Err e) f h = h
+
+-- what a part that is there has
+pub if_some : {X : Type 0} (P : X → Type 0) (o : Option X) (x : X) → o ≡ Some x → P x → IfSome o P
+if_some P o x is h = subst (λ y. IfSome y P) (sym is) h
+
+pub if_none : {X : Type 0} (P : X → Type 0) (o : Option X) → None ≡ o → IfSome o P
+if_none P o is = subst (λ y. IfSome y P) is tt

@@ -29,7 +29,7 @@ either_none (Some y) = refl
 same_principal : (u n m : ℕ) → eq_by_cmp place_cmp (u, n) (u, m) ≡ eq_by_cmp nat_cmp n m
 same_principal u n m = grind (arith, nat_tests)
 
-other_principal : (v u n m : ℕ) → ¬ (v ≡ u) → eq_by_cmp place_cmp (v, n) (u, m) ≡ false
+pub other_principal : (v u n m : ℕ) → ¬ (v ≡ u) → eq_by_cmp place_cmp (v, n) (u, m) ≡ false
 other_principal v u n m other = go (eq_by_cmp place_cmp (v, n) (u, m)) refl
   where
     go : (b : Bool) → eq_by_cmp place_cmp (v, n) (u, m) ≡ b → eq_by_cmp place_cmp (v, n) (u, m) ≡ false

@@ -27,8 +27,8 @@ IsPart P true None = ⊥
 IsPart P true (Some p) = P p
 IsPart P false o = o ≡ None
 
--- The forest stands for the tree: the part of each user and of each group that there can be is there and stands for what the
--- user or the group has, and no other has anything.
+-- The forest stands for the tree: the part of each user and of each group that there can be is
+-- there and stands for what the user or the group has, and no other has anything.
 pub record Stands (f : PartForest) (T : Tree) : Type 0 where
   pub users : (u : ℕ) → IsPart (λ p. StandsUser u p T) (is_user u) (user_part u f)
   pub groups : (g : ℕ) → IsPart (λ p. StandsGroup g p T) (is_group g) (group_part g f)

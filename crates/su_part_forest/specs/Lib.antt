@@ -1,2 +1,4 @@
 pub mod Forest
 pub mod Seen
+pub mod Loading
+pub mod Copy

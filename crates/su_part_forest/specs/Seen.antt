@@ -18,7 +18,8 @@ placed value principal [] = []
 placed value principal (e ∷ es) = ((principal, e.0), value e.1) ∷ placed value principal es
 
 -- the same of the parts of all principals from a number on
-abbrev pub all_placed : {P X Y : Type 0} → (P → List (ℕ × X)) → (X → Y) → ℕ → List P → List (Place × Y)
+abbrev pub all_placed : {P X Y : Type 0} → (P → List (ℕ × X)) → (X → Y) → ℕ → List P
+    → List (Place × Y)
 all_placed values value principal [] = []
 all_placed values value principal (p ∷ ps) =
     placed value principal (values p) ++ all_placed values value (principal + 1) ps

@@ -19,9 +19,9 @@ use su_part::{PartInode, UserPart};
 /// digests of what isn't.
 #[derive(Drop)]
 pub struct PartForest {
-    users: Vec<UserPart>,
-    groups: Vec<GroupPart>,
-    alloc: Global,
+    pub(crate) users: Vec<UserPart>,
+    pub(crate) groups: Vec<GroupPart>,
+    pub(crate) alloc: Global,
 }
 
 /// What is asked of what is loaded. Where enough is loaded at a place, the answer is that of each

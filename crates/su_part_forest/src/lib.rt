@@ -2,6 +2,9 @@
 //! group.
 #![tactic(auto)]
 
+mod copies;
 mod forests;
+mod fresh;
+mod loads;
 
 pub use forests::PartForest;

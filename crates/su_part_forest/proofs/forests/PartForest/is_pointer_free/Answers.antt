@@ -8,6 +8,6 @@ use Rattle.su_part_forest.proofs.forests.PartForest.is_pointer_free.Goals as goa
 
 pub returns-in-Group : goal.returns-in-Group
 unfolding val
-returns-in-Group c =
-    is_none-is c.is_none.result _ c.is_none.ensures ∙ sym (is_nothing-place_value c.pointer.result) ∙ ap (λ o. is_nothing (place_value o)) c.pointer.ensures
+returns-in-Group c sound =
+    is_none-is c.is_none.result _ c.is_none.ensures ∙ sym (is_nothing-place_value c.pointer.result) ∙ ap (λ o. is_nothing (place_value o)) (c.pointer.ensures sound)
     ∙ ap (is_pointer_free (seen c.args.self.now)) (sym c.in-Group.is)
