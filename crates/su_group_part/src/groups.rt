@@ -121,10 +121,15 @@ impl GroupPart {
     }
 
     /// Removes the pointer of a number, if there is one; where the number's path isn't loaded, the
-    /// group has no pointer there. It takes no memory. No path is promised to be loaded then.
+    /// group has no pointer there. What was known stays known. It takes no memory. No path is
+    /// promised to be loaded then.
     pub fn remove_pointer(&mut self, number: Inum)
-        ensures { (g : ℕ) (T : Tree) → StandsGroup g self.old T → KnowsPointer g T number self.old
+        ensures stands { (g : ℕ) (T : Tree) → StandsGroup g self.old T
+            → KnowsPointer g T number self.old
             → StandsGroup g self.new (edit T (Pointers (g, number) None)) }
+        ensures known { (g : ℕ) (T : Tree) → StandsGroup g self.old T
+            → KnowsPointer g T number self.old → (n : ℕ) → KnowsPointer g T n self.old
+            → KnowsPointer g (edit T (Pointers (g, number) None)) n self.new }
     {
         self.table.take(&number.number());
     }
