@@ -3,6 +3,7 @@
 #![tactic(auto)]
 
 mod copies;
+mod edits;
 mod forests;
 mod fresh;
 mod loads;

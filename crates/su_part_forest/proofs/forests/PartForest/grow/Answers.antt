@@ -1,0 +1,39 @@
+use Rattle.std.proofs.Common.{refl, sym, ◌∙◌}
+use Rattle.std.proofs.lemmas.Bool.{ltb-false, ltb-true}
+use Rattle.su_node.specs.InodeChange.InodeChange.{Resized}
+use Rattle.su_part.proofs.Public.{knows_inode}
+use Rattle.su_part_forest.proofs.EditLifting.{on_err, small_inum, user_absent, user_edited, user_part_stands, user_stays}
+use Rattle.su_part_forest.proofs.Lifting.{on_ok}
+use Rattle.su_table.specs.Query.{size_at}
+use Rattle.su_part_forest.proofs.forests.PartForest.grow.Goals as goal
+
+pub returns-else-not-has_write-clause-ok : goal.returns-else-not-has_write-clause-ok
+returns-else-not-has_write-clause-ok c T h above =
+    let f = c.args.self.now in
+    let u = c.args.place.0 in
+    let n = c.args.place.1 in
+    let m = c.from.result in
+    let p = c.in-Some.part.now in
+    let within = ltb-true _ _ (sym c.in-Some.ensures.item.0) in
+    let is = c.in-Some.ensures.value in
+    let same = c.from.ensures ∙ c.number.ensures.value in
+    let here = user_part_stands f m u p within is same T h in
+    let small = small_inum c.number-number.result n c.number-number.ensures.range.1 c.number-number.ensures.value in
+    let has = c.if-not-has_write.ensures.found refl in
+    on_ok c.grow.result (λ s. user_edited f m u p within is same c.grow.new.self T n (Resized (size_at T (u, n)) c.args.size) h s) (c.grow.ensures.ok u T here (knows_inode u T n p small here has.inode) above)
+
+pub returns-else-not-has_write-clause-err : goal.returns-else-not-has_write-clause-err
+returns-else-not-has_write-clause-err c T h =
+    let f = c.args.self.now in
+    let u = c.args.place.0 in
+    let m = c.from.result in
+    let p = c.in-Some.part.now in
+    let within = ltb-true _ _ (sym c.in-Some.ensures.item.0) in
+    let is = c.in-Some.ensures.value in
+    let same = c.from.ensures ∙ c.number.ensures.value in
+    let here = user_part_stands f m u p within is same T h in
+    on_err c.grow.result (λ s. user_stays f m u p within is same c.grow.new.self T h s) (c.grow.ensures.err u T here)
+
+pub returns-in-None-clause-ok : goal.returns-in-None-clause-ok
+returns-in-None-clause-ok c T h above =
+    user_absent c.args.self.now c.from.result c.number.result (ltb-false _ _ (sym c.in-None.ensures.item.0)) c.from.ensures c.number.ensures.range T h
