@@ -12,13 +12,11 @@ use Rattle.su_bytes.specs.Principal.{is_user, is_group}
 use Rattle.su_bytes.specs.declared.refusals.Refusal.{Refusal}
 use Rattle.su_block.specs.declared.failures.Failures.{Failures}
 use Rattle.su_table.specs.Tree.{Tree}
-use Rattle.su_part.specs.Bytes.{NoneClash}
 use Rattle.su_part.specs.Fetches.{LoadsUser}
-use Rattle.su_part.specs.Loads.{Loads, FailedAt}
-use Rattle.su_part.specs.Part.{HasAll, ItemOf, StandsUser}
+use Rattle.su_part.specs.Part.{HasAll, StandsUser}
 use Rattle.su_part.specs.declared.users.UserPart.{UserPart}
 use Rattle.su_part_forest.specs.Forest.{IsPart, Stands, user_part, group_part}
-use Rattle.su_part_forest.specs.Loading.{HashedFor, IsKept, KeepsLoaded, KeepsPointers, LoadsForest, LoadsGroup}
+use Rattle.su_part_forest.specs.Loading.{IsKept, KeepsLoaded, KeepsPointers, LoadsForest, LoadsGroup}
 use Rattle.su_part_forest.specs.declared.forests.PartForest.{PartForest}
 
 module _ {X : Type 0} where

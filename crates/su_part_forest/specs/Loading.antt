@@ -1,7 +1,7 @@
 -- What a load tells of a forest of parts, and what of it is loaded or known.
 use Rattle.std.specs.Prelude.{◌⊎◌, ℕ, List, Option, Some, None, Result, ⊤, IfSome}
 use Rattle.std.specs.List.{Contains}
-use Rattle.su_bytes.specs.Place.{Place, GroupFile}
+use Rattle.su_bytes.specs.Place.{Place}
 use Rattle.su_bytes.specs.declared.refusals.Refusal.{Refusal}
 use Rattle.su_block.specs.declared.failures.Failures.{Failures}
 use Rattle.su_tree.specs.Collision.{encodings}
@@ -13,7 +13,6 @@ use Rattle.su_part.specs.Fetches.{HasWantedAt}
 use Rattle.su_part.specs.Loads.{Loads}
 use Rattle.su_part.specs.Part.{HasAll, ItemOf}
 use Rattle.su_part.specs.declared.fetches.Wanted.{Wanted}
-use Rattle.su_part.specs.declared.users.UserPart.{UserPart}
 use Rattle.su_group_part.specs.Part.{HasPointer, StandsGroup}
 use Rattle.su_group_part.specs.declared.groups.GroupPart.{GroupPart}
 use Rattle.su_part_forest.specs.Forest.{Stands, user_part, group_part}

@@ -1,13 +1,12 @@
 -- What is found in a tree is so in each that agrees with it, and tells the plan.
-use Rattle.std.proofs.Common.{◌≡◌, ◌∙◌, sym, ap, refl, subst, ℕ, Bool, true, false, nat_eq, not, ◌&&◌, List, [], ◌∷◌, ◌++◌, Option, Some, None}
-use Rattle.std.specs.Prelude.{⊤}
+use Rattle.std.proofs.Common.{◌≡◌, ◌∙◌, sym, ap, subst, ℕ, Bool, true, nat_eq, not, List, [], ◌∷◌, ◌++◌, Option, Some}
 use Rattle.su_bytes.specs.Membership.{Membership}
 use Rattle.su_bytes.specs.declared.file_ids.FileId.{FileId}
 use Rattle.su_bytes.specs.Place.{Place}
 use Rattle.su_node.specs.Field.{Field.KindOf}
 use Rattle.su_table.specs.Cell.{Cell.At, val}
 use Rattle.su_table.specs.Tree.{Tree}
-use Rattle.su_table.specs.Query.{body, value_number, links_at, size_at, is_nothing, is_free_at, is_pointer_free}
+use Rattle.su_table.specs.Query.{body, value_number, links_at, size_at, is_free_at, is_pointer_free}
 use Rattle.su_op.specs.declared.areas.Area.{Area}
 use Rattle.su_op.specs.declared.operations.Op.{Op}
 use Rattle.su_op.specs.declared.operations.Op.TheVariants as op
@@ -33,8 +32,8 @@ use Rattle.su_op.specs.Unlink.{unlink_plan}
 use Rattle.su_op.specs.Truncate.{truncate_plan}
 use Rattle.su_op.specs.Link.{link_plan}
 use Rattle.su_op.proofs.RuleLemmas.{AgreeOn, later, left, right, kind_same, links_same, size_same}
-use Rattle.su_asked.specs.Asked.{home_areas, homes, named, linked, leaving, sized, at_body, asked, asked_first, asked_then}
-use Rattle.su_perform.specs.Found.{FoundCreate, FoundUnlink, FoundWrite, FoundTruncate, FoundTake, FoundLink, FoundRename, FoundDrop, Found, FoundIsLocal, FoundTellsPlan, FoundFits}
+use Rattle.su_asked.specs.Asked.{home_areas, named, linked, leaving, sized, at_body, asked, asked_first, asked_then}
+use Rattle.su_perform.specs.Found.{Found, FoundIsLocal, FoundTellsPlan, FoundFits}
 use Rattle.su_asked.proofs.AskedLemmas.{home_same, here, first_home, next_home, third_home, moved_same, led_same}
 
 -- ---- in trees that agree

@@ -1,5 +1,5 @@
 -- What an accepted operation does, by operations.
-use Rattle.std.specs.Prelude.{◌≡◌, ℕ, true, ⊤}
+use Rattle.std.specs.Prelude.{◌≡◌, true, ⊤}
 use Rattle.std.specs.FinMap.{get}
 use Rattle.su_table.specs.Tree.{Tree}
 use Rattle.su_table.specs.Query.{is_free_at, links_at, size_at}

@@ -2,8 +2,8 @@
 ghost use Rattle.std.specs.Prelude.{◌≡◌, Some, None, IfOk, IfErr, OnOk};
 ghost use Rattle.su_table.specs.Tree.{Tree};
 ghost use Rattle.su_op.specs.Action.{action_by};
-ghost use Rattle.su_op.specs.Operation.{why};
-ghost use Rattle.su_op.specs.Rule.{plan_reads, plan_writes};
+ghost use Rattle.su_op.specs.Operation.{rule_by_user, why};
+ghost use Rattle.su_op.specs.Rule.{plan_reads, plan_writes, refusal};
 ghost use Rattle.su_part_forest.specs.Forest.{IsSound};
 ghost use Rattle.su_part_forest.specs.Seen.{seen};
 ghost use Rattle.su_perform.specs.Accepted.{planned};
@@ -57,39 +57,61 @@ impl<'a> Accepted<'a> {
         if !roster.has_user(author) {
             return Err(Refusal::NoUser(author));
         }
+        Accepted::check_by_user(op, forest, roster, author, format)
+    }
+
+    /// Checks an operation by one of the users.
+    fn check_by_user(
+        op: &'a Op,
+        forest: &PartForest,
+        roster: &Roster,
+        author: User,
+        format: Format,
+    ) -> Result<Accepted<'a>, Refusal>
+        ensures accepted { IsSound forest.now → OnOk result
+            (refusal (rule_by_user roster.now (seen forest.now)
+            (action_by author format op.now) op.now) ≡ None) }
+        ensures found { IsSound forest.now → IfOk result (Found (seen forest.now) author op.now) }
+        ensures refused { IsSound forest.now → IfErr result (λ e.
+            refusal (rule_by_user roster.now (seen forest.now)
+            (action_by author format op.now) op.now) ≡ Some e) }
+    {
+        // no `?`, for the prover (docs/ARCHITECTURE.md, "Forms the kit wants")
         match op {
-            Op::Create(create) => {
-                let accepted = AcceptedCreate::check(create, forest, roster, author)?;
-                Ok(Accepted::Create(accepted))
-            }
-            Op::Unlink(unlink) => {
-                let accepted = AcceptedUnlink::check(unlink, forest, roster, author)?;
-                Ok(Accepted::Unlink(accepted))
-            }
-            Op::Write(write) => {
-                let accepted = AcceptedWrite::check(write, forest, roster, author, format)?;
-                Ok(Accepted::Write(accepted))
-            }
+            Op::Create(create) => match AcceptedCreate::check(create, forest, roster, author) {
+                Ok(accepted) => Ok(Accepted::Create(accepted)),
+                Err(refusal) => Err(refusal),
+            },
+            Op::Unlink(unlink) => match AcceptedUnlink::check(unlink, forest, roster, author) {
+                Ok(accepted) => Ok(Accepted::Unlink(accepted)),
+                Err(refusal) => Err(refusal),
+            },
+            Op::Write(write) => match AcceptedWrite::check(write, forest, roster, author, format) {
+                Ok(accepted) => Ok(Accepted::Write(accepted)),
+                Err(refusal) => Err(refusal),
+            },
             Op::Truncate(truncate) => {
-                let accepted = AcceptedTruncate::check(truncate, forest, roster, author, format)?;
-                Ok(Accepted::Truncate(accepted))
+                match AcceptedTruncate::check(truncate, forest, roster, author, format) {
+                    Ok(accepted) => Ok(Accepted::Truncate(accepted)),
+                    Err(refusal) => Err(refusal),
+                }
             }
-            Op::Take(take) => {
-                let accepted = AcceptedTake::check(take, forest, roster, author)?;
-                Ok(Accepted::Take(accepted))
-            }
-            Op::Link(link) => {
-                let accepted = AcceptedLink::check(link, forest, roster, author)?;
-                Ok(Accepted::Link(accepted))
-            }
-            Op::Rename(rename) => {
-                let accepted = AcceptedRename::check(rename, forest, roster, author)?;
-                Ok(Accepted::Rename(accepted))
-            }
-            Op::Drop(dropped) => {
-                let accepted = AcceptedDrop::check(dropped, forest, author)?;
-                Ok(Accepted::Drop(accepted))
-            }
+            Op::Take(take) => match AcceptedTake::check(take, forest, roster, author) {
+                Ok(accepted) => Ok(Accepted::Take(accepted)),
+                Err(refusal) => Err(refusal),
+            },
+            Op::Link(link) => match AcceptedLink::check(link, forest, roster, author) {
+                Ok(accepted) => Ok(Accepted::Link(accepted)),
+                Err(refusal) => Err(refusal),
+            },
+            Op::Rename(rename) => match AcceptedRename::check(rename, forest, roster, author) {
+                Ok(accepted) => Ok(Accepted::Rename(accepted)),
+                Err(refusal) => Err(refusal),
+            },
+            Op::Drop(dropped) => match AcceptedDrop::check(dropped, forest, author) {
+                Ok(accepted) => Ok(Accepted::Drop(accepted)),
+                Err(refusal) => Err(refusal),
+            },
         }
     }
 

@@ -31,7 +31,8 @@ impl<'a> AcceptedCreate<'a> {
     ) -> Result<AcceptedCreate<'a>, Refusal>
         ensures accepted { IsSound forest.now → OnOk result
             (refusal (create_rule roster.now (seen forest.now) author create.now) ≡ None) }
-        ensures found { IsSound forest.now → IfOk result (FoundCreate (seen forest.now) author create.now) }
+        ensures found { IsSound forest.now
+            → IfOk result (FoundCreate (seen forest.now) author create.now) }
         ensures refused { IsSound forest.now → IfErr result (λ e.
             refusal (create_rule roster.now (seen forest.now) author create.now) ≡ Some e) }
     {

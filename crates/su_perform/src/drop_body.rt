@@ -32,7 +32,8 @@ impl<'a> AcceptedDrop<'a> {
     ) -> Result<AcceptedDrop<'a>, Refusal>
         ensures accepted { IsSound forest.now → OnOk result
             (refusal (drop_rule (seen forest.now) author dropped.now) ≡ None) }
-        ensures found { IsSound forest.now → IfOk result (FoundDrop (seen forest.now) author dropped.now) }
+        ensures found { IsSound forest.now
+            → IfOk result (FoundDrop (seen forest.now) author dropped.now) }
         ensures refused { IsSound forest.now → IfErr result (λ e.
             refusal (drop_rule (seen forest.now) author dropped.now) ≡ Some e) }
     {
@@ -79,7 +80,8 @@ fn stale_home(forest: &PartForest, place: Place) -> Option<GroupFile>
 /// Returns the group file that what stands at `place` was made for, if it was made for one.
 #[tactic(auto, unfolding(su_table::specs::Cell::val))]
 fn group_home(forest: &PartForest, place: &Place) -> Option<GroupFile>
-    ensures { IsSound forest.now → result ≡ group_home (val (seen forest.now) (At place.now KindOf)) }
+    ensures { IsSound forest.now
+        → result ≡ group_home (val (seen forest.now) (At place.now KindOf)) }
 {
     match forest.home(*place)? {
         FileId::User(..) => None,
@@ -89,7 +91,8 @@ fn group_home(forest: &PartForest, place: &Place) -> Option<GroupFile>
 
 /// Tells whether the pointer of a group file leads to `place`.
 fn leads_here(forest: &PartForest, file: &GroupFile, place: &Place) -> bool
-    ensures { IsSound forest.now → result ≡ leads_here (val (seen forest.now) (Pointer file.now)) place.now }
+    ensures { IsSound forest.now
+        → result ≡ leads_here (val (seen forest.now) (Pointer file.now)) place.now }
 {
     let (group, number) = *file;
     match forest.body(FileId::Group(group, number)) {

@@ -34,7 +34,8 @@ impl<'a> AcceptedRename<'a> {
     ) -> Result<AcceptedRename<'a>, Refusal>
         ensures accepted { IsSound forest.now → OnOk result
             (refusal (rename_rule roster.now (seen forest.now) author rename.now) ≡ None) }
-        ensures found { IsSound forest.now → IfOk result (FoundRename (seen forest.now) rename.now) }
+        ensures found { IsSound forest.now
+            → IfOk result (FoundRename (seen forest.now) rename.now) }
         ensures refused { IsSound forest.now → IfErr result (λ e.
             refusal (rename_rule roster.now (seen forest.now) author rename.now) ≡ Some e) }
     {
@@ -97,7 +98,8 @@ fn places(
     roster: &Roster,
     author: User,
 ) -> Result<(Place, Place, Option<Place>), Refusal>
-    ensures found { IsSound forest.now → IfOk result (λ p. FoundPlaces (seen forest.now) rename.now p.0 p.1 p.2) }
+    ensures found { IsSound forest.now
+        → IfOk result (λ p. FoundPlaces (seen forest.now) rename.now p.0 p.1 p.2) }
     ensures refusal { IsSound forest.now → IfOk result (λ p.
         refusal (rename_rule roster.now (seen forest.now) author rename.now)
         ≡ refusal (rename_rule_at (seen forest.now) author rename.now p.2 p.0 p.1)) }
@@ -123,7 +125,8 @@ fn places(
 /// Finds where the file stands, if it goes from one directory to another. Fails with `NoFile` where
 /// it has no body.
 fn moved(rename: &Rename, forest: &PartForest) -> Result<Option<Place>, Refusal>
-    ensures value { IsSound forest.now → IfOk result (λ place. place ≡ moved (seen forest.now) rename.now) }
+    ensures value { IsSound forest.now
+        → IfOk result (λ place. place ≡ moved (seen forest.now) rename.now) }
     ensures found { IsSound forest.now → OnOk result
         ((stays rename.now || is_some (moved (seen forest.now) rename.now)) ≡ true) }
     ensures refused { IsSound forest.now → IfErr result (λ e. (e ≡ NoFile rename.now.file)

@@ -32,7 +32,8 @@ impl<'a> AcceptedTake<'a> {
     ) -> Result<AcceptedTake<'a>, Refusal>
         ensures accepted { IsSound forest.now → OnOk result
             (refusal (take_rule roster.now (seen forest.now) author take.now) ≡ None) }
-        ensures found { IsSound forest.now → IfOk result (FoundTake (seen forest.now) author take.now) }
+        ensures found { IsSound forest.now
+            → IfOk result (FoundTake (seen forest.now) author take.now) }
         ensures refused { IsSound forest.now → IfErr result (λ e.
             refusal (take_rule roster.now (seen forest.now) author take.now) ≡ Some e) }
     {

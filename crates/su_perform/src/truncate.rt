@@ -37,7 +37,8 @@ impl<'a> AcceptedTruncate<'a> {
         ensures accepted { IsSound forest.now → OnOk result
             (refusal (truncate_rule roster.now (seen forest.now) author format truncate.now)
             ≡ None) }
-        ensures found { IsSound forest.now → IfOk result (FoundTruncate (seen forest.now) truncate.now) }
+        ensures found { IsSound forest.now
+            → IfOk result (FoundTruncate (seen forest.now) truncate.now) }
         ensures refused { IsSound forest.now → IfErr result (λ e.
             refusal (truncate_rule roster.now (seen forest.now) author format truncate.now)
             ≡ Some e) }

@@ -33,7 +33,8 @@ impl<'a> AcceptedUnlink<'a> {
     ) -> Result<AcceptedUnlink<'a>, Refusal>
         ensures accepted { IsSound forest.now → OnOk result
             (refusal (unlink_rule roster.now (seen forest.now) author unlink.now) ≡ None) }
-        ensures found { IsSound forest.now → IfOk result (FoundUnlink (seen forest.now) unlink.now) }
+        ensures found { IsSound forest.now
+            → IfOk result (FoundUnlink (seen forest.now) unlink.now) }
         ensures refused { IsSound forest.now → IfErr result (λ e.
             refusal (unlink_rule roster.now (seen forest.now) author unlink.now) ≡ Some e) }
     {
