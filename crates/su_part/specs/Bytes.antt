@@ -67,6 +67,12 @@ HasBytes off len b = (n : ℕ) → off < BLOCK_SIZE * (n + 1) → BLOCK_SIZE * n
 abbrev pub HasWrite : ℕ → ℕ → PartBytes → Type 0
 HasWrite off len b = HasBlocks (min off b.size / BLOCK_SIZE) (block_count (off + len)) b
 
+-- What a cut to that size needs: from the block on in which the file ends then the paths of the numbers of its blocks, and
+-- the block that the cut goes through.
+pub record HasCut (size : ℕ) (b : PartBytes) : Type 0 where
+  pub paths : (n : ℕ) → size / BLOCK_SIZE ≤ n → BLOCK_SIZE * n < b.size → IsTrue (reaches number_bits n b.digests)
+  pub block : (n : ℕ) → BLOCK_SIZE * n < size → size < BLOCK_SIZE * (n + 1) → size < b.size → IsSome (loaded_block b n)
+
 -- the block of that number is these bytes now, and nothing else is another one
 pub record IsRewritten (number : ℕ) (bytes : List ℕ) (b c : PartBytes) : Type 0 where
   pub size : c.size ≡ b.size

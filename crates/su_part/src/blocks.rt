@@ -11,7 +11,7 @@ ghost use Rattle.su_part_tree.specs.Part.{reaches};
 ghost use Rattle.su_tree.specs.Number.{number_bits};
 ghost use Rattle.su_part.specs.Fetches.{LoadsBytes};
 ghost use Rattle.su_part.specs.Loads.{Gets};
-ghost use Rattle.su_part.specs.Bytes.{SpellsBlock, loaded_block, ready_at, AreReady, HasPlaces, WithPlaces, HasWrite, IsRewritten, StandsBytes, HasAllBlocks, HasBlock, HasBlocks, HasBytes};
+ghost use Rattle.su_part.specs.Bytes.{SpellsBlock, loaded_block, ready_at, AreReady, HasPlaces, WithPlaces, HasCut, HasWrite, IsRewritten, StandsBytes, HasAllBlocks, HasBlock, HasBlocks, HasBytes};
 
 use sha2::{Digest as _, Sha256};
 use std::alloc::{AllocError, Global};
@@ -307,6 +307,60 @@ impl PartBytes {
                 &bytes[from_.min(last)..last]
             }
         }
+    }
+}
+
+impl PartBytes {
+    /// Loads what a cut to a size needs: the block that the cut goes through, and the paths of the
+    /// numbers of the blocks from it on. Refused as the load of one block is.
+    pub fn fetch_cut<S: BlockSource>(&mut self, size: u32, source: &mut S) -> Result<(), Refusal>
+        requires { S.is_checked ≡ true }
+        ensures loads { LoadsBytes S.may_give S.failed S.follows self.old self.new
+            source.old source.new result }
+        ensures has { OnOk result (HasCut size self.new) }
+    {
+        self.fetch_through(size, source)?;
+        let first = size as usize / BLOCK_SIZE;
+        let until = count_for(self.size as usize);
+        self.fetch_paths(first as u32, until as u32, source)
+    }
+
+    /// Loads the block that a cut to a size goes through, if it goes through one.
+    fn fetch_through<S: BlockSource>(&mut self, size: u32, source: &mut S) -> Result<(), Refusal>
+        requires { S.is_checked ≡ true }
+        ensures loads { LoadsBytes S.may_give S.failed S.follows self.old self.new
+            source.old source.new result }
+        ensures has { OnOk result ((n : ℕ) → BLOCK_SIZE * n < size
+            → size < BLOCK_SIZE * (n + 1) → size < self.new.size
+            → IsSome (loaded_block self.new n)) }
+    {
+        if self.size <= size {
+            return Ok(());
+        }
+        if size as usize % BLOCK_SIZE == 0 {
+            return Ok(());
+        }
+        let number = size as usize / BLOCK_SIZE;
+        self.fetch_block(number as u32, source)
+    }
+
+    /// Loads the paths of the block numbers from `first` on and before `until`.
+    fn fetch_paths<S: BlockSource>(
+        &mut self,
+        first: u32,
+        until: u32,
+        source: &mut S,
+    ) -> Result<(), Refusal>
+        requires { S.is_checked ≡ true }
+        ensures loads { LoadsBytes S.may_give S.failed S.follows self.old self.new
+            source.old source.new result }
+        ensures has { OnOk result ((n : ℕ) → first ≤ n → n < until
+            → IsTrue (reaches number_bits n self.new.digests)) }
+    {
+        for number in first..until {
+            self.digests.reach(&number, source)?;
+        }
+        Ok(())
     }
 }
 
