@@ -6,5 +6,6 @@ pub mod ItemLemmas
 pub mod ContentLemmas
 pub mod UserLemmas
 pub mod FetchLemmas
+pub mod ShedLemmas
 pub mod TableLemmas
 pub mod Public

@@ -4,3 +4,4 @@ pub mod Part
 pub mod Cut
 pub mod Loads
 pub mod Fetches
+pub mod Sheds

@@ -22,18 +22,20 @@ use su_bytes::{Digest, Refusal};
 use su_node::BLOCK_SIZE;
 use su_part_tree::{PartTree, Room};
 
-/// The bytes of a block.
+/// The bytes of a block, at most 4,096.
 #[derive(Drop)]
 pub(crate) struct Block {
     bytes: Vec<u8>,
 }
 
 impl Model for Block {
-    ghost use Rattle.std.specs.Prelude.{ℕ, List};
+    ghost use Rattle.std.specs.Prelude.{ℕ, List, length, ◌≤◌};
 
     ghost Value = { List ℕ };
 
     ghost view = { λ b. b.bytes.items };
+
+    ghost invariant = { λ b. length b.bytes.items ≤ 4096 };
 }
 
 impl Clone for Block {
@@ -51,14 +53,17 @@ impl Clone for Block {
 impl Block {
     /// Makes the block of which the item was hashed; none where it is no block's.
     fn of_item(item: Vec<u8>) -> Option<Block>
-        ensures { MatchOption result ((bytes : List ℕ) → item.items ≢ block_item bytes)
-            (λ block. item.items ≡ block_item block) }
+        ensures { MatchOption result ((bytes : List ℕ) → ¬ (SpellsBlock bytes item.items))
+            (λ block. SpellsBlock block item.items) }
     {
         let mut item = item;
         if item.is_empty() {
             return None;
         }
         if item.remove(0) != 4 {
+            return None;
+        }
+        if BLOCK_SIZE < item.len() {
             return None;
         }
         Some(Block { bytes: item })
@@ -73,8 +78,9 @@ impl Block {
         }
     }
 
-    fn as_slice(&self) -> &[u8]
-        ensures { result.now ≡ self.now }
+    pub(crate) fn as_slice(&self) -> &[u8]
+        ensures value { result.now ≡ self.now }
+        ensures short { length result.now ≤ BLOCK_SIZE }
     {
         self.bytes.as_slice()
     }
@@ -91,6 +97,7 @@ impl Block {
 
     /// Cuts the block, or fills it with zeros up to a size.
     fn resize(&mut self, size: usize) -> Result<(), AllocError>
+        requires { size ≤ BLOCK_SIZE }
         ensures { OnOk result (self.new ≡ with_size size self.old) }
     {
         self.bytes.resize(size, 0)?;
@@ -143,9 +150,9 @@ pub(crate) struct Ready {
 #[derive(Drop)]
 pub(crate) struct PartBytes {
     size: u32,
-    digests: PartTree<u32, Digest>,
-    blocks: BTreeMap<u32, Block>,
-    alloc: Global,
+    pub(crate) digests: PartTree<u32, Digest>,
+    pub(crate) blocks: BTreeMap<u32, Block>,
+    pub(crate) alloc: Global,
 }
 
 impl PartBytes {

@@ -6,6 +6,7 @@ mod blocks;
 mod fetches;
 mod inodes;
 mod items;
+mod sheds;
 mod users;
 
 pub use fetches::Wanted;
