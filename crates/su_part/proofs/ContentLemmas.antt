@@ -1,5 +1,5 @@
 -- What a content's digest stands for.
-use Rattle.std.proofs.Common.{◌≡◌, ◌∙◌, ℕ, ◌+◌, ◌<◌, ◌≤◌, ◌^◌, ◌&&◌, true, false, Bool, IsTrue, List, [], ◌∷◌, length, refl, sym, ap, subst, arith, inr, Option, Some, None, option_map, cond, not}
+use Rattle.std.proofs.Common.{◌≡◌, ◌∙◌, ℕ, ◌+◌, ◌<◌, ◌≤◌, ◌^◌, ◌&&◌, true, false, Bool, IsTrue, List, [], ◌∷◌, length, refl, sym, ap, subst, arith, Option, Some, None, option_map, cond, not}
 use Rattle.std.specs.declared.cmp.Ordering.TheVariants.{Less, Equal, Greater}
 use Rattle.std.specs.List.{AllByRecursion as Each}
 use Rattle.std.specs.List.Sorted.{IsStrictlySortedBy}

@@ -1,5 +1,5 @@
 -- What is part of a user's part, of an inode, and of a file's bytes, and is loaded.
-use Rattle.std.proofs.Common.{◌≡◌, ◌∙◌, ℕ, ◌*◌, ◌<◌, ◌^◌, cond, IsTrue, List, Option, Some, None, subst, sym, refl, inl, inr}
+use Rattle.std.proofs.Common.{arith, ◌≡◌, ◌∙◌, ℕ, ◌*◌, ◌<◌, ◌^◌, cond, IsTrue, List, Option, Some, None, subst, sym, refl, inl, inr}
 use Rattle.std.specs.List.{Contains}
 use Rattle.std.specs.BTreeMap.{is_at}
 use Rattle.std.specs.Ordering.{nat_cmp}
@@ -15,6 +15,7 @@ use Rattle.su_part_tree.specs.declared.parts.PartTree.{PartTree}
 use Rattle.su_part_tree.specs.Part.{StandsFor}
 use Rattle.su_node.specs.Digest.{block_item, block_digests, inode_item, inode_digest}
 use Rattle.su_node.specs.Field.{block}
+use Rattle.su_node.proofs.Contents.{length-block}
 use Rattle.su_node.specs.Inode.{Inode, Content, Content.Bytes, Content.Names}
 use Rattle.su_node.specs.Name.{Name, name_cmp}
 use Rattle.su_table.specs.Handle.{user_table}
@@ -61,7 +62,7 @@ block_there n d b some small found bs h =
       hashed = inr (n, refl);
       digested = let e : d ≡ sha256 (block_item (block n bs)) = cc in sym e;
       value = block n bs;
-      spelled = refl;
+      spelled = (refl, let l = length-block n bs in omega (arith, l));
     }
 
 -- ---- an inode

@@ -7,6 +7,7 @@ pub mod ItemLemmas
 pub mod ContentLemmas
 pub mod UserLemmas
 pub mod FetchLemmas
+pub mod ShedLemmas
 pub mod TableLemmas
 pub mod KnownLemmas
 pub mod SeenLemmas

@@ -22,9 +22,9 @@ use Rattle.su_part.specs.declared.blocks.Ready.{Ready}
 abbrev pub number_sort : Sort ℕ (List ℕ)
 number_sort = sort number_bits number_bytes is_u32 (λ d. d) is_digest
 
--- the byte string is the item of the block
+-- the byte string is the item of the block, which is none of more bytes than a block may have
 abbrev pub SpellsBlock : List ℕ → List ℕ → Type 0
-SpellsBlock bytes s = s ≡ block_item bytes
+SpellsBlock bytes s = (s ≡ block_item bytes) × (length bytes ≤ BLOCK_SIZE)
 
 -- the block that is loaded at a number
 abbrev pub loaded_block : PartBytes → ℕ → Option (List ℕ)

@@ -14,11 +14,12 @@ use Rattle.su_part_tree.specs.Part.{StandsFor, reaches}
 use Rattle.su_node.specs.Name.{Name}
 use Rattle.su_table.specs.Tree.{Tree}
 use Rattle.su_part.specs.Bytes.{number_sort, StandsBytes, BytesItem, HasAllBlocks}
+use Rattle.su_part.specs.Cut.{HasCutIn}
 use Rattle.su_part.specs.Loads.{FailedAt, Loads}
 use Rattle.su_part.specs.Part.{name_sort, StandsInode, StandsUser, InodeItemOf, ItemOf, HasAll, HasAllIn, HasNameIn, HasRootIn, HasNamesIn, HasBlocksIn, HasBytesIn, HasWriteIn, HasAt}
 use Rattle.su_part.specs.declared.blocks.PartBytes.{PartBytes}
 use Rattle.su_part.specs.declared.fetches.Wanted.{Wanted}
-use Rattle.su_part.specs.declared.fetches.Wanted.TheVariants.{Nothing, Name as NameOf, Root, Names as AllNames, Blocks, Bytes as BytesWithin, Write}
+use Rattle.su_part.specs.declared.fetches.Wanted.TheVariants.{Nothing, Name as NameOf, Root, Names as AllNames, Blocks, Bytes as BytesWithin, Write, Cut as CutTo}
 use Rattle.su_part.specs.declared.inodes.PartContent.{PartContent}
 use Rattle.su_part.specs.declared.inodes.PartInode.{PartInode}
 use Rattle.su_part.specs.declared.users.UserPart.{UserPart}
@@ -34,6 +35,7 @@ HasWantedIn AllNames c = HasNamesIn c
 HasWantedIn (Blocks first end_) c = HasBlocksIn first end_ c
 HasWantedIn (BytesWithin off len) c = HasBytesIn off len c
 HasWantedIn (Write off len) c = HasWriteIn off len c
+HasWantedIn (CutTo size) c = HasCutIn size c
 
 abbrev pub HasWanted : Wanted → PartInode → Type 0
 HasWanted w p = HasWantedIn w p.content

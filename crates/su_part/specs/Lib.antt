@@ -7,3 +7,4 @@ pub mod Known
 pub mod Seen
 pub mod Loads
 pub mod Fetches
+pub mod Sheds

@@ -10,7 +10,7 @@ ghost use Rattle.su_node.specs.InodeChange.{with_size, with_bytes_at};
 ghost use Rattle.su_part_tree.specs.Part.{reaches};
 ghost use Rattle.su_tree.specs.Number.{number_bits};
 ghost use Rattle.su_part.specs.Known.{BytesStayKnown};
-ghost use Rattle.su_part.specs.Bytes.{loaded_block, ready_at, AreReady, HasPlaces, WithPlaces, HasWrite, IsRewritten, StandsBytes, HasAllBlocks, HasBlock, HasBlocks, HasBytes, BytesItem, NoneClash, SpellsBlock};
+ghost use Rattle.su_part.specs.Bytes.{loaded_block, ready_at, AreReady, HasPlaces, WithPlaces, HasCut, HasWrite, IsRewritten, StandsBytes, HasAllBlocks, HasBlock, HasBlocks, HasBytes, BytesItem, NoneClash, SpellsBlock};
 ghost use Rattle.su_part.specs.Fetches.{LoadsBytes};
 ghost use Rattle.su_part.specs.Loads.{Gets};
 
@@ -23,18 +23,20 @@ use su_bytes::{Digest, Refusal};
 use su_node::BLOCK_SIZE;
 use su_part_tree::{PartTree, Room};
 
-/// The bytes of a block.
+/// The bytes of a block, at most 4,096.
 #[derive(Drop)]
 pub(crate) struct Block {
     pub(crate) bytes: Vec<u8>,
 }
 
 impl Model for Block {
-    ghost use Rattle.std.specs.Prelude.{ℕ, List};
+    ghost use Rattle.std.specs.Prelude.{ℕ, List, length, ◌≤◌};
 
     ghost Value = { List ℕ };
 
     ghost view = { λ b. b.bytes.items };
+
+    ghost invariant = { λ b. length b.bytes.items ≤ 4096 };
 }
 
 impl Clone for Block {
@@ -52,14 +54,17 @@ impl Clone for Block {
 impl Block {
     /// Makes the block of which the item was hashed; none where it is no block's.
     fn of_item(item: Vec<u8>) -> Option<Block>
-        ensures { MatchOption result ((bytes : List ℕ) → item.items ≢ block_item bytes)
-            (λ block. item.items ≡ block_item block) }
+        ensures { MatchOption result ((bytes : List ℕ) → ¬ (SpellsBlock bytes item.items))
+            (λ block. SpellsBlock block item.items) }
     {
         let mut item = item;
         if item.is_empty() {
             return None;
         }
         if item.remove(0) != 4 {
+            return None;
+        }
+        if BLOCK_SIZE < item.len() {
             return None;
         }
         Some(Block { bytes: item })
@@ -75,7 +80,8 @@ impl Block {
     }
 
     pub(crate) fn as_slice(&self) -> &[u8]
-        ensures { result.now ≡ self.now }
+        ensures value { result.now ≡ self.now }
+        ensures short { length result.now ≤ BLOCK_SIZE }
     {
         self.bytes.as_slice()
     }
@@ -92,6 +98,7 @@ impl Block {
 
     /// Cuts the block, or fills it with zeros up to a size.
     fn resize(&mut self, size: usize) -> Result<(), AllocError>
+        requires { size ≤ BLOCK_SIZE }
         ensures { OnOk result (self.new ≡ with_size size self.old) }
     {
         self.bytes.resize(size, 0)?;
@@ -308,6 +315,60 @@ impl PartBytes {
                 &bytes[from_.min(last)..last]
             }
         }
+    }
+}
+
+impl PartBytes {
+    /// Loads what a cut to a size needs: the block that the cut goes through, and the paths of the
+    /// numbers of the blocks from it on. Refused as the load of one block is.
+    pub fn fetch_cut<S: BlockSource>(&mut self, size: u32, source: &mut S) -> Result<(), Refusal>
+        requires { S.is_checked ≡ true }
+        ensures loads { LoadsBytes S.may_give S.failed S.follows self.old self.new
+            source.old source.new result }
+        ensures has { OnOk result (HasCut size self.new) }
+    {
+        self.fetch_through(size, source)?;
+        let first = size as usize / BLOCK_SIZE;
+        let until = count_for(self.size as usize);
+        self.fetch_paths(first as u32, until as u32, source)
+    }
+
+    /// Loads the block that a cut to a size goes through, if it goes through one.
+    fn fetch_through<S: BlockSource>(&mut self, size: u32, source: &mut S) -> Result<(), Refusal>
+        requires { S.is_checked ≡ true }
+        ensures loads { LoadsBytes S.may_give S.failed S.follows self.old self.new
+            source.old source.new result }
+        ensures has { OnOk result ((n : ℕ) → BLOCK_SIZE * n < size
+            → size < BLOCK_SIZE * (n + 1) → size < self.new.size
+            → IsSome (loaded_block self.new n)) }
+    {
+        if self.size <= size {
+            return Ok(());
+        }
+        if size as usize % BLOCK_SIZE == 0 {
+            return Ok(());
+        }
+        let number = size as usize / BLOCK_SIZE;
+        self.fetch_block(number as u32, source)
+    }
+
+    /// Loads the paths of the block numbers from `first` on and before `until`.
+    fn fetch_paths<S: BlockSource>(
+        &mut self,
+        first: u32,
+        until: u32,
+        source: &mut S,
+    ) -> Result<(), Refusal>
+        requires { S.is_checked ≡ true }
+        ensures loads { LoadsBytes S.may_give S.failed S.follows self.old self.new
+            source.old source.new result }
+        ensures has { OnOk result ((n : ℕ) → first ≤ n → n < until
+            → IsTrue (reaches number_bits n self.new.digests)) }
+    {
+        for number in first..until {
+            self.digests.reach(&number, source)?;
+        }
+        Ok(())
     }
 }
 

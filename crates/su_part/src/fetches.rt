@@ -30,6 +30,8 @@ pub enum Wanted {
     Bytes { off: u64, len: u64 },
     /// What a write of `len` bytes from `off` on needs.
     Write { off: u32, len: u32 },
+    /// What a cut to a size needs.
+    Cut { size: u32 },
 }
 
 /// Loads what is wanted of names. Refused as `PartTree::reach` is.
@@ -48,7 +50,7 @@ fn fetch_names<S: BlockSource>(
         Wanted::Root => names.load(source),
         Wanted::Names => names.reach_all(source),
         Wanted::Nothing | Wanted::Blocks { .. } => Ok(()),
-        Wanted::Bytes { .. } | Wanted::Write { .. } => Ok(()),
+        Wanted::Bytes { .. } | Wanted::Write { .. } | Wanted::Cut { .. } => Ok(()),
     }
 }
 
@@ -67,6 +69,7 @@ fn fetch_bytes<S: BlockSource>(
         Wanted::Blocks { first, until } => bytes.fetch(*first, *until, source),
         Wanted::Bytes { off, len } => bytes.fetch_range(*off, *len, source),
         Wanted::Write { off, len } => bytes.fetch_write(*off, *len, source),
+        Wanted::Cut { size } => bytes.fetch_cut(*size, source),
         Wanted::Nothing | Wanted::Name(_) | Wanted::Root | Wanted::Names => Ok(()),
     }
 }

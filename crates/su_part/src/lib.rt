@@ -12,6 +12,7 @@ mod items;
 mod opens;
 mod overwrites;
 mod seen;
+mod sheds;
 mod users;
 
 pub use fetches::Wanted;

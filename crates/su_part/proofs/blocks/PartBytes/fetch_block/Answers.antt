@@ -52,5 +52,5 @@ returns-clause-loads g c =
       size = h.size;
       digests = h.digests;
       blocks = updated (IsBlockOf bs) c.args.self.now.blocks.entries c.insert.new.self.entries c.args.number (Some c.in_ok-block.block) c.in_ok-insert.ensures.updates.0 h.blocks
-          (block_found bs c.args.number i c.in_ok-block.block (sym is) sp);
+          (block_found bs c.args.number i c.in_ok-block.block (sym is) sp.0);
     }))

@@ -1,4 +1,4 @@
-use Rattle.std.proofs.Common.{◌≡◌, ◌≢◌, ◌∙◌, ap, sym, subst, false, true, IsTrue}
+use Rattle.std.proofs.Common.{◌≢◌, ◌∙◌, ap, sym, subst, IsTrue}
 use Rattle.std.specs.Prelude.{None, IsSome}
 use Rattle.su_part.specs.Part.{at_number}
 use Rattle.std.specs.Option.{option_map}
