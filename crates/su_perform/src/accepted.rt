@@ -1,10 +1,13 @@
 // The accepted operations by cases.
-ghost use Rattle.std.specs.Prelude.{◌≡◌, Some, None, IfOk, IfErr, OnOk};
+ghost use Rattle.std.specs.Prelude.{◌≡◌, ◌⊎◌, ℕ, List, true, Some, None, IfOk, IfErr, OnOk};
 ghost use Rattle.su_table.specs.Tree.{Tree};
 ghost use Rattle.su_op.specs.Action.{action_by};
 ghost use Rattle.su_op.specs.Operation.{rule_by_user, why};
 ghost use Rattle.su_op.specs.Rule.{plan_reads, plan_writes, refusal};
-ghost use Rattle.su_part_forest.specs.Forest.{IsSound};
+ghost use Rattle.su_part.specs.Bytes.{NoneClash};
+ghost use Rattle.su_part_tree.specs.Loading.{IsLoadRefusal};
+ghost use Rattle.su_part_forest.specs.Forest.{IsSound, Stands};
+ghost use Rattle.su_part_forest.specs.Loading.{HashedFor, KeepsLoaded};
 ghost use Rattle.su_part_forest.specs.Seen.{seen};
 ghost use Rattle.su_perform.specs.Accepted.{planned};
 ghost use Rattle.su_perform.specs.Found.{Found};
@@ -13,12 +16,14 @@ ghost use Rattle.su_bytes.specs.declared.refusals.Refusal.TheVariants.{NoMemory}
 use crate::create::AcceptedCreate;
 use crate::drop_body::AcceptedDrop;
 use crate::link::AcceptedLink;
+use crate::loading::load_asked;
 use crate::rename::AcceptedRename;
 use crate::take::AcceptedTake;
 use crate::truncate::AcceptedTruncate;
 use crate::unlink::AcceptedUnlink;
 use crate::write::AcceptedWrite;
 use std::alloc::Global;
+use su_block::BlockSource;
 use su_bytes::{Format, Refusal, Roster, User};
 use su_op::{Footprint, Op};
 use su_part_forest::PartForest;
@@ -38,6 +43,42 @@ pub enum Accepted<'a> {
 }
 
 impl<'a> Accepted<'a> {
+    /// Loads what the check of an operation by that author asks for, and checks whether the
+    /// operation, made in that format, is accepted. Refused by the source, for want of memory or
+    /// with `Malformed(0)` where an item spells nothing that belongs there, as `fetch` is; and then
+    /// by the first refusal of the check. What was loaded is loaded.
+    pub fn load<S: BlockSource>(
+        alloc: Global,
+        op: &'a Op,
+        forest: &mut PartForest,
+        roster: &Roster,
+        author: User,
+        format: Format,
+        source: &mut S,
+    ) -> Result<Accepted<'a>, Refusal>
+        requires { S.is_checked ≡ true }
+        ensures stands { (T : Tree) → Stands forest.old T
+            → NoneClash (HashedFor T) (S.may_give source.old) → Stands forest.new T }
+        ensures accepted { (T : Tree) → Stands forest.old T
+            → NoneClash (HashedFor T) (S.may_give source.old)
+            → OnOk result (why roster.now T (action_by author format op.now) ≡ None) }
+        ensures found { (T : Tree) → Stands forest.old T
+            → NoneClash (HashedFor T) (S.may_give source.old)
+            → IfOk result (Found T author op.now) }
+        ensures refused { (T : Tree) → Stands forest.old T
+            → NoneClash (HashedFor T) (S.may_give source.old) → IfErr result (λ e.
+            IsLoadRefusal e ⊎ (why roster.now T (action_by author format op.now) ≡ Some e)) }
+        ensures keeps { KeepsLoaded forest.old forest.new }
+        ensures no_more { (i : List ℕ) → S.may_give source.new i → S.may_give source.old i }
+        ensures follows { S.follows source.old source.new }
+    {
+        // no `?`, for the prover (docs/ARCHITECTURE.md, "Forms the kit wants")
+        match load_asked(alloc, forest, author, op, source) {
+            Ok(()) => Accepted::check(op, forest, roster, author, format),
+            Err(refusal) => Err(refusal),
+        }
+    }
+
     #[tactic(auto, unfolding(su_op::specs::Operation::why))]
     /// Checks whether an operation by that author, made in that format, is accepted in what is
     /// loaded. The error is the first refusal. Takes no memory.

@@ -7,6 +7,7 @@ mod create;
 mod drop_body;
 mod laws;
 mod link;
+mod loading;
 mod rename;
 mod take;
 mod truncate;
@@ -15,3 +16,4 @@ mod write;
 
 pub use accepted::Accepted;
 pub use laws::{found_fits, found_is_local, found_tells_plan};
+pub use loading::fetch;
