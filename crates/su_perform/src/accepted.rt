@@ -5,6 +5,7 @@ ghost use Rattle.su_op.specs.Action.{action_by};
 ghost use Rattle.su_op.specs.Operation.{rule_by_user, why};
 ghost use Rattle.su_op.specs.Rule.{plan_reads, plan_writes, refusal};
 ghost use Rattle.su_part.specs.Bytes.{NoneClash};
+ghost use Rattle.su_part.specs.Loads.{FailedAt};
 ghost use Rattle.su_part_tree.specs.Loading.{IsLoadRefusal};
 ghost use Rattle.su_part_forest.specs.Forest.{IsSound, Stands};
 ghost use Rattle.su_part_forest.specs.Loading.{HashedFor, KeepsLoaded};
@@ -46,7 +47,8 @@ impl<'a> Accepted<'a> {
     /// Loads what the check of an operation by that author asks for, and checks whether the
     /// operation, made in that format, is accepted. Refused by the source, for want of memory or
     /// with `Malformed(0)` where an item spells nothing that belongs there, as `fetch` is; and then
-    /// by the first refusal of the check. What was loaded is loaded.
+    /// by the first refusal of the check. A failure of the source is about an item of the tree. What
+    /// was loaded is loaded.
     pub fn load<S: BlockSource>(
         alloc: Global,
         op: &'a Op,
@@ -68,6 +70,10 @@ impl<'a> Accepted<'a> {
         ensures refused { (T : Tree) → Stands forest.old T
             → NoneClash (HashedFor T) (S.may_give source.old) → IfErr result (λ e.
             IsLoadRefusal e ⊎ (why roster.now T (action_by author format op.now) ≡ Some e)) }
+        ensures failed { (T : Tree) → Stands forest.old T
+            → NoneClash (HashedFor T) (S.may_give source.old) → IfErr result (λ e.
+            FailedAt (HashedFor T) (S.failed source.new) e
+            ⊎ (why roster.now T (action_by author format op.now) ≡ Some e)) }
         ensures keeps { KeepsLoaded forest.old forest.new }
         ensures no_more { (i : List ℕ) → S.may_give source.new i → S.may_give source.old i }
         ensures follows { S.follows source.old source.new }

@@ -26,3 +26,10 @@ returns-in-Ok-clause-refused g c T h free =
     let stands = c.in-Ok.ensures.loads.stands T h free in
     let same = refused_alike c.args.roster.now c.load_asked.new.forest T stands x (c.in-Ok.ensures.has T h free) in
     if_err c.check.result (λ e is. inr (sym same ∙ is)) (c.check.ensures.refused (T, stands))
+
+pub returns-in-Ok-clause-failed : goal.returns-in-Ok-clause-failed
+returns-in-Ok-clause-failed g c T h free =
+    let x = action_by c.args.author c.args.format c.args.op.now in
+    let stands = c.in-Ok.ensures.loads.stands T h free in
+    let same = refused_alike c.args.roster.now c.load_asked.new.forest T stands x (c.in-Ok.ensures.has T h free) in
+    if_err c.check.result (λ e is. inr (sym same ∙ is)) (c.check.ensures.refused (T, stands))
