@@ -1,1 +1,2 @@
 mod NameLists
+mod Steps

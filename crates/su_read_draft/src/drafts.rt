@@ -3,12 +3,12 @@ ghost use Rattle.std.specs.Prelude.{◌≡◌, Ok};
 ghost use Rattle.std.specs.List.{list_any};
 ghost use Rattle.su_draft.specs.Refusable.{Gives};
 ghost use Rattle.su_reading.specs.Reading.{WorksOut};
-ghost use Rattle.su_draft.specs.Draft.{empty_draft, with_operation, next_body, needs_take, taken, with_take, takes};
+ghost use Rattle.su_draft.specs.Draft.{empty_draft, with_operation, next_body, is_others, needs_take, taken, with_take, takes};
 ghost use Rattle.su_read_draft.specs.Seen.{seen_draft};
 
 use crate::numbers::free_body;
 use std::alloc::Global;
-use su_bytes::{FileId, Inum, Refusal, User};
+use su_bytes::{FileId, Inum, Place, Refusal, User};
 use su_op::{Op, Take};
 use su_reading::TreeReader;
 
@@ -87,7 +87,7 @@ impl Draft {
         free_body(reader, self.author, self.used)
     }
 
-    /// Finds whether another user holds the group file, and it isn't taken yet.
+    /// Tells whether another user holds the group file, and it isn't taken yet.
     fn needs_take<R: TreeReader>(&self, reader: &mut R, file: &FileId) -> Result<bool, Refusal>
         ensures works_out { WorksOut R.shows R.fails R.follows reader.old reader.new result
             (λ needs. needs) (λ T. Ok (needs_take T (seen_draft self.now) file.now)) }
@@ -95,13 +95,25 @@ impl Draft {
         let FileId::Group(..) = *file else {
             return Ok(false);
         };
-        match reader.body(*file)? {
-            Some(place) => Ok(place.0 != self.author && !self.takes(file)),
-            None => Ok(false),
+        let body = reader.body(*file)?;
+        if self.is_others(body) {
+            Ok(!self.takes(file))
+        } else {
+            Ok(false)
         }
     }
 
-    /// Finds whether one of the operations takes the file.
+    /// Tells whether another user than the author holds the body.
+    fn is_others(&self, body: Option<Place>) -> bool
+        ensures { result ≡ is_others self.now.author body }
+    {
+        match body {
+            Some(place) => place.0 != self.author,
+            None => false,
+        }
+    }
+
+    /// Tells whether one of the operations takes the file.
     fn takes(&self, file: &FileId) -> bool
         ensures { result ≡ list_any (takes file.now) self.now.operations.items }
     {
@@ -111,7 +123,7 @@ impl Draft {
     }
 }
 
-/// Finds whether the operation takes the file.
+/// Tells whether the operation takes the file.
 fn takes(operation: &Op, file: &FileId) -> bool
     ensures { result ≡ takes file.now operation.now }
 {

@@ -1,7 +1,8 @@
 // Bodies to which no file id leads any more.
 ghost use Rattle.std.specs.Prelude.{◌≡◌, Ok};
 ghost use Rattle.su_op.specs.DropBody.{group_home, leads_here, stale_home};
-ghost use Rattle.su_node.specs.Field.{Field.KindOf};
+ghost use Rattle.su_bytes.specs.declared.file_ids.Kind.{Kind};
+ghost use Rattle.su_node.specs.Field.{Field.KindOf, Value.AKind};
 ghost use Rattle.su_table.specs.Cell.{Cell.At, Cell.Pointer, val};
 ghost use Rattle.su_reading.specs.Reading.{WorksOut};
 
@@ -32,16 +33,23 @@ fn group_home<R: TreeReader>(reader: &mut R, place: Place) -> Result<Option<Grou
     ensures works_out { WorksOut R.shows R.fails R.follows reader.old reader.new result
         (λ home. home) (λ T. Ok (group_home (val T (At place KindOf)))) }
 {
-    let Some(head) = reader.head(place)? else {
-        return Ok(None);
-    };
-    match head.home {
-        FileId::User(..) => Ok(None),
-        FileId::Group(group, file) => Ok(Some((group, file))),
+    match reader.head(place)? {
+        Some(head) => Ok(as_group_file(head.home)),
+        None => Ok(None),
     }
 }
 
-/// Finds whether the pointer of a group file leads to `place`.
+/// Returns the group file that the file is, if it is one.
+fn as_group_file(file: FileId) -> Option<GroupFile>
+    ensures { (kind : Kind) → result ≡ group_home (AKind kind file) }
+{
+    match file {
+        FileId::User(..) => None,
+        FileId::Group(group, number) => Some((group, number)),
+    }
+}
+
+/// Tells whether the pointer of a group file leads to `place`.
 fn leads_here<R: TreeReader>(
     reader: &mut R,
     file: &GroupFile,

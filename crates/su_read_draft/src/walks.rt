@@ -76,20 +76,23 @@ pub(crate) fn directory_place<R: TreeReader>(
     let Some(place) = reader.body(*directory)? else {
         return Err(Refusal::WrongKind(*directory));
     };
-    if is_directory(reader, place)? {
+    if is_directory(reader, &place)? {
         Ok(place)
     } else {
         Err(Refusal::WrongKind(*directory))
     }
 }
 
-/// Finds whether a directory stands at `place`.
-fn is_directory<R: TreeReader>(reader: &mut R, place: Place) -> Result<bool, Refusal>
+/// Tells whether a directory stands at `place`.
+fn is_directory<R: TreeReader>(reader: &mut R, place: &Place) -> Result<bool, Refusal>
     ensures works_out { WorksOut R.shows R.fails R.follows reader.old reader.new result
-        (λ is. is) (λ T. Ok (is_dir_at T place)) }
+        (λ is. is) (λ T. Ok (is_dir_at T place.now)) }
 {
-    match reader.head(place)? {
-        Some(head) => Ok(head.kind == Kind::Dir),
+    match reader.head(*place)? {
+        Some(head) => match head.kind {
+            Kind::Dir => Ok(true),
+            Kind::File => Ok(false),
+        },
         None => Ok(false),
     }
 }

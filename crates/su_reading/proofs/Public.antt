@@ -1,6 +1,6 @@
 -- Questions one after another.
 use Rattle.std.specs.Prelude.{◌≡◌, ◌⊎◌, Result, Ok, Err, IfOk, IfErr}
-use Rattle.std.proofs.Common.{◌∙◌, inl, inr, subst, sym}
+use Rattle.std.proofs.Common.{inl, inr, subst, sym}
 use Rattle.su_bytes.specs.declared.refusals.Refusal.{Refusal}
 use Rattle.su_bytes.specs.declared.refusals.Refusal.TheVariants.{NoMemory}
 use Rattle.su_table.specs.Tree.{Tree}
@@ -107,28 +107,47 @@ module _ {R : Type 0} {shows : R → Tree → Type 0} {fails : Tree → R → Re
     comes = h.comes;
   }
 
-  -- ---- what is meant by steps
+  -- ---- questions one after another, and what they end with
 
-  module _ {B D : Type 0} {view : B → D} {meant : Tree → Result D Refusal} where
-    -- it is meant without a question
-    pub answer_is : {result : Result B Refusal} {r : R} (b : B) → result ≡ Ok b → follows r r → ((T : Tree) → meant T ≡ Ok (view b)) → WorksOut shows fails follows r r result view meant
-    answer_is b is itself h = answered b is itself (λ T shown. h T)
+  -- one was answered, and then another was asked
+  pub joined : {A B : Type 0} {IsA : Tree → A → Type 0} {NoA : Tree → Refusal → Type 0} {IsB : Tree → B → Type 0} {NoB : Tree → Refusal → Type 0} {first : Result A Refusal} {rest : Result B Refusal} {r s t : R} (a : A)
+      → first ≡ Ok a → ((x y z : R) → follows x y → follows y z → follows x z)
+      → Inquiry shows fails follows r s first IsA NoA → Inquiry shows fails follows s t rest IsB NoB
+      → Inquiry shows fails follows r t rest (λ T b. IsA T a × IsB T b) (λ T e. IsA T a × NoB T e)
+  joined a was follows_on h1 h2 = on a was follows_on h1 h2 (λ T shown is b so. (is, so)) (λ T shown is e why. (is, why))
 
-    pub refusal_is : {result : Result B Refusal} {r : R} (e : Refusal) → result ≡ Err e → follows r r → (e ≡ NoMemory) ⊎ ((T : Tree) → meant T ≡ Err e) → WorksOut shows fails follows r r result view meant
-    refusal_is e is itself h = refused_so e is itself (λ T shown. elim h [ inl none ↦ inl none | inr why ↦ inr (why T) ])
+  module _ {A B D : Type 0} {IsA : Tree → A → Type 0} {NoA : Tree → Refusal → Type 0} {asked : Result A Refusal} {view : B → D} {meant : Tree → Result D Refusal} {result : Result B Refusal} {r s : R} where
+    -- what was answered makes the value
+    pub ends_ok : (a : A) (b : B) → asked ≡ Ok a → result ≡ Ok b → Inquiry shows fails follows r s asked IsA NoA → ((T : Tree) → IsA T a → meant T ≡ Ok (view b)) → WorksOut shows fails follows r s result view meant
+    ends_ok a b was is h whole = record {
+      still = h.still;
+      answer = λ T shown. ok_is (λ y. meant T ≡ Ok (view y)) b is (whole T (ok_got (IsA T) a was (h.answer T shown)));
+      refused = λ T shown. subst (λ w. IfErr w (λ e. fails T s e ⊎ (e ≡ NoMemory) ⊎ (meant T ≡ Err e))) (sym is) tt;
+      comes = h.comes;
+    }
 
-    -- the same is meant
-    pub same_meant : {other : Tree → Result D Refusal} {result : Result B Refusal} {r s : R} → ((T : Tree) → meant T ≡ other T) → WorksOut shows fails follows r s result view other → WorksOut shows fails follows r s result view meant
-    same_meant same h = so (λ T shown b is. same T ∙ is) (λ T shown e is. same T ∙ is) h
+    -- what was answered makes a refusal; or memory was wanting
+    pub ends_err : (a : A) (e : Refusal) → asked ≡ Ok a → result ≡ Err e → Inquiry shows fails follows r s asked IsA NoA → ((T : Tree) → IsA T a → (e ≡ NoMemory) ⊎ (meant T ≡ Err e)) → WorksOut shows fails follows r s result view meant
+    ends_err a e was is h whole = record {
+      still = h.still;
+      answer = λ T shown. subst (λ w. IfOk w (λ y. meant T ≡ Ok (view y))) (sym is) tt;
+      refused = λ T shown. err_is (λ y. fails T s y ⊎ (y ≡ NoMemory) ⊎ (meant T ≡ Err y)) e is (inr (whole T (ok_got (IsA T) a was (h.answer T shown))));
+      comes = h.comes;
+    }
 
-    -- a step is refused
-    pub stops : {A C : Type 0} {seen : A → C} {first : Tree → Result C Refusal} {asked : Result A Refusal} {result : Result B Refusal} {r s : R} (e : Refusal)
-        → asked ≡ Err e → result ≡ Err e → ((T : Tree) → first T ≡ Err e → meant T ≡ Err e)
-        → WorksOut shows fails follows r s asked seen first → WorksOut shows fails follows r s result view meant
-    stops e was is whole h = refused_on e was is (λ T shown why. inr (whole T why)) h
+    -- it was refused
+    pub stops : (e : Refusal) → asked ≡ Err e → result ≡ Err e → Inquiry shows fails follows r s asked IsA NoA → ((T : Tree) → NoA T e → meant T ≡ Err e) → WorksOut shows fails follows r s result view meant
+    stops e was is h whole = refused_on e was is (λ T shown why. inr (whole T why)) h
 
-    -- a step is done, and then the rest
-    pub goes_on : {A C : Type 0} {seen : A → C} {first : Tree → Result C Refusal} {rest : Tree → Result D Refusal} {asked : Result A Refusal} {result : Result B Refusal} {r s t : R} (a : A)
-        → asked ≡ Ok a → ((x y z : R) → follows x y → follows y z → follows x z) → ((T : Tree) → first T ≡ Ok (seen a) → meant T ≡ rest T)
-        → WorksOut shows fails follows r s asked seen first → WorksOut shows fails follows s t result view rest → WorksOut shows fails follows r t result view meant
-    goes_on a was follows_on whole h1 h2 = on a was follows_on h1 h2 (λ T shown is b so. whole T is ∙ so) (λ T shown is e why. whole T is ∙ why)
+  -- the last answer is the whole's
+  pub ends : {B D : Type 0} {IsA : Tree → B → Type 0} {NoA : Tree → Refusal → Type 0} {view : B → D} {meant : Tree → Result D Refusal} {result : Result B Refusal} {r s : R}
+      → Inquiry shows fails follows r s result IsA NoA → ((T : Tree) (b : B) → IsA T b → meant T ≡ Ok (view b)) → ((T : Tree) (e : Refusal) → NoA T e → meant T ≡ Err e) → WorksOut shows fails follows r s result view meant
+  ends h ok err = so (λ T shown. ok T) (λ T shown. err T) h
+
+  module _ {B D : Type 0} {view : B → D} {meant : Tree → Result D Refusal} {result : Result B Refusal} {r : R} where
+    -- nothing was asked
+    pub ok_at_once : (b : B) → result ≡ Ok b → follows r r → ((T : Tree) → meant T ≡ Ok (view b)) → WorksOut shows fails follows r r result view meant
+    ok_at_once b is itself h = answered b is itself (λ T shown. h T)
+
+    pub err_at_once : (e : Refusal) → result ≡ Err e → follows r r → ((T : Tree) → (e ≡ NoMemory) ⊎ (meant T ≡ Err e)) → WorksOut shows fails follows r r result view meant
+    err_at_once e is itself h = refused_so e is itself (λ T shown. h T)
