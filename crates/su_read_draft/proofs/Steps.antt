@@ -1,8 +1,8 @@
 -- Steps of drafts, by what was read.
-use Rattle.std.specs.Prelude.{◌≡◌, ℕ, Bool, true, false, Option, Some, None, Result, Ok, Err, if◌then◌else◌}
+use Rattle.std.specs.Prelude.{◌≡◌, ℕ, true, false, Option, Some, None, Result, Ok, Err}
 use Rattle.std.specs.FinMap.{get}
-use Rattle.std.specs.Option.{option_map, ok_or}
-use Rattle.std.proofs.Common.{◌∙◌, ap, sym, refl, inl, inr}
+use Rattle.std.specs.Option.{option_map}
+use Rattle.std.proofs.Common.{◌∙◌, ap, sym, refl, inl, inr, subst}
 use Rattle.su_bytes.specs.declared.file_ids.FileId.{FileId}
 use Rattle.su_bytes.specs.declared.file_ids.FileId.TheVariants.{Group}
 use Rattle.su_bytes.specs.declared.refusals.Refusal.{Refusal}
@@ -12,13 +12,14 @@ use Rattle.su_node.specs.Field.{Field.KindOf, Field.NameOf, Value, Value.Nothing
 use Rattle.su_node.specs.Inode.{Inode}
 use Rattle.su_node.specs.Name.{Name}
 use Rattle.su_table.specs.Cell.{Cell.At, Cell.Pointer, val}
-use Rattle.su_table.specs.Query.{body, is_dir_at, pointer_body}
+use Rattle.su_table.specs.Query.{body, is_dir_at, is_free_at, pointer_body}
+use Rattle.su_table.specs.Free.{IsLeastTaken}
 use Rattle.su_table.specs.Tree.{Tree}
 use Rattle.su_draft.specs.Draft.{DraftState, needs_take, taken, with_take}
 use Rattle.su_draft.specs.Refusable.{Gives}
 use Rattle.su_draft.specs.Walk.{directory_place, entry, file_held, led_to}
 use Rattle.su_op.specs.DropBody.{leads_here}
-use Rattle.su_reading.proofs.Public.{ends_ok, ends_err}
+use Rattle.su_reading.proofs.Public.{ends_ok, ends_err, ok_got}
 use Rattle.su_reading.specs.Reading.{Inquiry, WorksOut, head_of}
 use Rattle.su_reading.specs.declared.heads.InodeHead.{InodeHead}
 
@@ -87,6 +88,20 @@ pub none_needed : (T : Tree) (d : DraftState) (f : FileId) → needs_take T d f 
 unfolding with_take
 none_needed T d f is = rw is refl
 
+-- ---- what was answered, as it is kept in a loop
+
+module _ {R : Type 0} {shows : R → Tree → Type 0} {fails : Tree → R → Refusal → Type 0} {follows : R → R → Type 0}
+    {A : Type 0} {IsA : Tree → A → Type 0} {NoA : Tree → Refusal → Type 0} {asked : Result A Refusal} {r s : R} where
+  -- what was answered makes it so
+  pub step_done : {IsC : Tree → Unit {0} → Type 0} {NoC : Tree → Refusal → Type 0} (a : A) → asked ≡ Ok a → Inquiry shows fails follows r s asked IsA NoA → ((T : Tree) → IsA T a → IsC T tt)
+      → Inquiry shows fails follows r s (Ok tt) IsC NoC
+  step_done a was h whole = record {
+    still = h.still;
+    answer = λ T shown. whole T (ok_got (IsA T) a was (h.answer T shown));
+    refused = λ T shown. tt;
+    comes = h.comes;
+  }
+
 -- ---- what is given
 
 module _ {R : Type 0} {shows : R → Tree → Type 0} {fails : Tree → R → Refusal → Type 0} {follows : R → R → Type 0}
@@ -118,3 +133,11 @@ led_nowhere (APlace q) p e = absurd cc
 pub body_led : (T : Tree) (g : GroupFile) (o : Option Place) → o ≡ body T (Group g.0 g.1) → o ≡ pointer_body (val T (Pointer g))
 unfolding body
 body_led T g o e = e
+
+-- ---- taken numbers
+
+pub is_taken : (T : Tree) (a from n : ℕ) (o : Option ℕ) → o ≡ Some n → IsLeastTaken (λ i. is_free_at T (a, i)) from o → IsLeastTaken (λ i. is_free_at T (a, i)) from (Some n)
+is_taken T a from n o is h = subst (IsLeastTaken (λ i. is_free_at T (a, i)) from) is h
+
+pub none_taken : (T : Tree) (a from : ℕ) (o : Option ℕ) → o ≡ None → IsLeastTaken (λ i. is_free_at T (a, i)) from o → IsLeastTaken (λ i. is_free_at T (a, i)) from None
+none_taken T a from o is h = subst (IsLeastTaken (λ i. is_free_at T (a, i)) from) is h

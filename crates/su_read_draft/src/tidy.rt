@@ -1,5 +1,5 @@
 // Bodies go that no file id leads to.
-ghost use Rattle.std.specs.Prelude.{◌≡◌, ◌≤◌, Ok};
+ghost use Rattle.std.specs.Prelude.{◌≤◌, Ok, IfOk, IfSome};
 ghost use Rattle.su_table.specs.Free.{IsLeastTaken};
 ghost use Rattle.su_table.specs.Query.{is_free_at};
 ghost use Rattle.su_reading.specs.Reading.{WorksOut, Finds};
@@ -38,6 +38,7 @@ fn next_body<R: TreeReader>(reader: &mut R, user: User, from_: u32) -> Result<Op
     requires { 1 ≤ from_ }
     ensures finds { Finds R.shows R.fails R.follows reader.old reader.new result
         (λ T n. IsLeastTaken (λ i. is_free_at T (user, i)) from_ n) }
+    ensures from_ { IfOk result (λ n. IfSome n (λ m. from_ ≤ m)) }
 {
     // names the type for the prover (docs/ARCHITECTURE.md, "Forms the kit wants")
     let _none: Option<FileId> = None;

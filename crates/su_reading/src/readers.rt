@@ -1,5 +1,5 @@
 // Who can be asked about a tree.
-ghost use Rattle.std.specs.Prelude.{◌≡◌, ℕ, Some, None};
+ghost use Rattle.std.specs.Prelude.{◌≡◌, ◌≤◌, IfOk, IfSome};
 ghost use Rattle.std.specs.FinMap.{get};
 ghost use Rattle.std.specs.Option.{option_map};
 ghost use Rattle.su_bytes.specs.declared.file_ids.FileId.TheVariants.{Group as GroupFileId};
@@ -71,7 +71,9 @@ pub trait TreeReader {
     /// none does from there to the last.
     fn next_inode(&mut self, user: User, from_: Inum) -> Result<Option<Inum>, Refusal>
         ensures finds { Finds shows fails follows self.old self.new result
-            (λ T n. IsLeastTaken (λ i. is_free_at T (user, i)) from_ n) };
+            (λ T n. IsLeastTaken (λ i. is_free_at T (user, i)) from_ n) }
+        // whatever it shows
+        ensures from_ { IfOk result (λ n. IfSome n (λ m. from_ ≤ m)) };
 
     // No question is as well as some, and questions may come behind questions.
     ghost follows_itself: { (r : Self) → follows r r };

@@ -1,6 +1,5 @@
-use Rattle.std.proofs.Common.{◌∙◌, ap, sym, refl, inl, inr, Some, None, Ok, Err, true, false}
-use Rattle.std.proofs.lemmas.Result.{err_from_is_err_and}
-use Rattle.su_reading.proofs.Public.{joined, ends_ok, ends_err, stops, ends, ok_at_once, err_at_once}
+use Rattle.std.proofs.Common.{◌∙◌, ap, sym, refl, inr}
+use Rattle.su_reading.proofs.Public.{ends_ok, ends_err}
 use Rattle.std.proofs.Common.{◌≡◌, ℕ, Option, arith}
 use Rattle.std.specs.Option.{ok_or}
 use Rattle.su_bytes.specs.declared.file_ids.FileId.TheVariants.{Group}

@@ -1,6 +1,6 @@
-use Rattle.std.proofs.Common.{◌∙◌, ap, sym, refl, inl, inr, Some, None, Ok, Err, true, false}
+use Rattle.std.proofs.Common.{ap, sym, refl, inl, inr, Ok}
 use Rattle.std.proofs.lemmas.Result.{err_from_is_err_and}
-use Rattle.su_reading.proofs.Public.{joined, ends_ok, ends_err, stops, ends, ok_at_once, err_at_once}
+use Rattle.su_reading.proofs.Public.{joined, ends_ok, stops, ends, err_at_once}
 use Rattle.su_draft.specs.Rename.{rename_draft}
 use Rattle.su_read_draft.proofs.rename.rename.Goals as goal
 

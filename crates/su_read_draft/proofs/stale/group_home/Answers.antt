@@ -1,6 +1,5 @@
-use Rattle.std.proofs.Common.{◌∙◌, ap, sym, refl, inl, inr, Some, None, Ok, Err, true, false}
-use Rattle.std.proofs.lemmas.Result.{err_from_is_err_and}
-use Rattle.su_reading.proofs.Public.{joined, ends_ok, ends_err, stops, ends, ok_at_once, err_at_once}
+use Rattle.std.proofs.Common.{◌∙◌, ap, sym, refl, None, Ok}
+use Rattle.su_reading.proofs.Public.{ends_ok}
 use Rattle.su_op.specs.DropBody.{group_home}
 use Rattle.su_read_draft.proofs.Steps.{head_there, head_none}
 use Rattle.su_read_draft.proofs.stale.group_home.Goals as goal

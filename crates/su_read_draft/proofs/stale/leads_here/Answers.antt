@@ -1,13 +1,13 @@
-use Rattle.std.proofs.Common.{◌∙◌, ap, sym, refl, inl, inr, Some, None, Ok, Err, true, false}
-use Rattle.std.proofs.lemmas.Result.{err_from_is_err_and}
-use Rattle.su_reading.proofs.Public.{joined, ends_ok, ends_err, stops, ends, ok_at_once, err_at_once}
+use Rattle.std.proofs.Common.{◌∙◌, ap, sym, refl, Some, None, Ok, false}
+use Rattle.su_reading.proofs.Public.{ends_ok}
+use Rattle.su_op.proofs.KeyLemmas.{place_eq-derived}
 use Rattle.su_table.specs.Cell.{Cell.Pointer, val}
 use Rattle.su_read_draft.proofs.Steps.{body_led, led_here, led_nowhere}
 use Rattle.su_read_draft.proofs.stale.leads_here.Goals as goal
 
 pub returns-in-Some : goal.returns-in-Some
 returns-in-Some g c = record { works_out = ends_ok c.in_ok-body.field-0 c.eq.result c.in_ok-body.was refl c.body.ensures.finds
-    (λ T is. ap Ok (led_here (val T (Pointer c.args.file.now)) c.in-Some.body c.args.place.now (body_led T c.args.file.now (Some c.in-Some.body) (sym c.in-Some.is ∙ is)) ∙ sym c.eq.ensures)) }
+    (λ T is. ap Ok (led_here (val T (Pointer c.args.file.now)) c.in-Some.body c.args.place.now (body_led T c.args.file.now (Some c.in-Some.body) (sym c.in-Some.is ∙ is)) ∙ sym (c.eq.ensures ∙ place_eq-derived c.in-Some.body c.args.place.now))) }
 
 pub returns-in-None : goal.returns-in-None
 returns-in-None g c = record { works_out = ends_ok c.in_ok-body.field-0 false c.in_ok-body.was refl c.body.ensures.finds

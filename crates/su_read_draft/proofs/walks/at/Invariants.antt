@@ -1,7 +1,5 @@
 use Rattle.std.proofs.Common.{◌≡◌, Ok, drop}
 use Rattle.su_bytes.specs.declared.file_ids.FileId.{FileId}
-use Rattle.su_bytes.specs.declared.refusals.Refusal.{Refusal}
-use Rattle.std.specs.Prelude.{Result}
 use Rattle.su_draft.specs.Walk.{root, walk}
 use Rattle.su_reading.specs.Reading.{Finds}
 use Rattle.su_read_draft.proofs.walks.at.Given as goal

@@ -1,9 +1,6 @@
-use Rattle.std.proofs.Common.{◌∙◌, ap, sym, refl, inl, inr, Some, None, Ok, Err, true, false}
-use Rattle.std.proofs.lemmas.Result.{err_from_is_err_and}
-use Rattle.su_reading.proofs.Public.{joined, ends_ok, ends_err, stops, ends, ok_at_once, err_at_once}
-use Rattle.su_draft.specs.Draft.{is_others, needs_take, takes}
-use Rattle.std.specs.List.{list_any}
-use Rattle.su_read_draft.specs.Seen.{seen_draft}
+use Rattle.std.proofs.Common.{ap, sym, refl, false}
+use Rattle.su_reading.proofs.Public.{ends_ok, ok_at_once}
+use Rattle.su_draft.specs.Draft.{needs_take}
 use Rattle.su_op.specs.Take.{is_group_file}
 use Rattle.su_read_draft.proofs.drafts.Draft.needs_take.Goals as goal
 

@@ -1,6 +1,5 @@
-use Rattle.std.proofs.Common.{◌∙◌, ap, sym, refl, inl, inr, Some, None, Ok, Err, true, false}
-use Rattle.std.proofs.lemmas.Result.{err_from_is_err_and}
-use Rattle.su_reading.proofs.Public.{joined, ends_ok, ends_err, stops, ends, ok_at_once, err_at_once}
+use Rattle.std.proofs.Common.{◌∙◌, refl}
+use Rattle.su_reading.proofs.Public.{joined, ends_ok, ends}
 use Rattle.su_read_draft.proofs.Steps.{take_needed, none_needed, same_ok}
 use Rattle.su_read_draft.specs.Seen.{seen_draft}
 use Rattle.su_read_draft.proofs.drafts.Draft.with_take.Goals as goal
