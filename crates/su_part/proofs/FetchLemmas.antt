@@ -113,7 +113,7 @@ table_within p t x h = record {
   after = λ d. record { table = d; meant = h.meant; inodes = h.inodes };
 }
 
-inode_of : (o : Option Inode) (i : PartInode) → StandsAt (Some i) o → (k : Inode) × (o ≡ Some k) × StandsInode i k
+pub inode_of : (o : Option Inode) (i : PartInode) → StandsAt (Some i) o → (k : Inode) × (o ≡ Some k) × StandsInode i k
 inode_of None i h = absurd h
 inode_of (Some k) i h = (k, refl, h)
 

@@ -8,6 +8,7 @@ pub mod ContentLemmas
 pub mod UserLemmas
 pub mod FetchLemmas
 pub mod ShedLemmas
+pub mod ShedParts
 pub mod TableLemmas
 pub mod KnownLemmas
 pub mod SeenLemmas

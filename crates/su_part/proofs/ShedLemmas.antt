@@ -28,7 +28,7 @@ use Rattle.su_part.specs.declared.blocks.PartBytes.{PartBytes}
 use Rattle.su_part.proofs.LoadLemmas.{err_is, err_of, err_weaker, failed_get}
 use Rattle.su_part.proofs.Numbers.{same_number}
 
-on_ok : {A : Type 0} (r : Result A Refusal) (Q R : Type 0) → (Q → R) → OnOk r Q → OnOk r R
+pub on_ok : {A : Type 0} (r : Result A Refusal) (Q R : Type 0) → (Q → R) → OnOk r Q → OnOk r R
 on_ok (Ok a) Q R f h = f h
 on_ok (Err e) Q R f h = tt
 
@@ -150,7 +150,7 @@ module _ (b c : PartBytes) (number : ℕ) (bytes : List ℕ) (same : c.digests �
 
 -- ---- the tree of the blocks' digests
 
-none_in : {K V : Type 0} (t : Sort K V) (n : Node K V) (i : List ℕ) → ¬ (IsLoaded n) → IsItemOf t n i → ⊥
+pub none_in : {K V : Type 0} (t : Sort K V) (n : Node K V) (i : List ℕ) → ¬ (IsLoaded n) → IsItemOf t n i → ⊥
 none_in t (Stub d) i none own = own
 none_in t (Empty d) i none own = none tt
 none_in t (Leaf k v d) i none own = none tt

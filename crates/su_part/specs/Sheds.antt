@@ -1,17 +1,18 @@
 -- What leaving something on a store tells.
-use Rattle.std.specs.Prelude.{◌≡◌, ◌⊎◌, ℕ, List, ◌∷◌, ◌++◌, Some, Result, OnOk, IfErr}
+use Rattle.std.specs.Prelude.{◌≡◌, ◌⊎◌, ℕ, List, ◌∷◌, ◌++◌, None, Some, Result, OnOk, IfErr}
 use Rattle.std.specs.Int.{w32, to_be_bytes}
 use Rattle.su_bytes.specs.FileId.{file_id_bytes}
 use Rattle.su_bytes.specs.declared.refusals.Refusal.{Refusal}
 use Rattle.su_bytes.specs.declared.refusals.Refusal.TheVariants.{SourceFailed, NoMemory}
 use Rattle.su_block.specs.declared.failures.Failures.{Failures}
 use Rattle.su_hash_tree.specs.Stands.{kept}
-use Rattle.su_part_tree.specs.Part.{IsItemIn}
+use Rattle.su_part_tree.specs.Part.{HasNone, IsItemIn}
 use Rattle.su_part_tree.specs.Putting.{Took}
 use Rattle.su_node.specs.Digest.{block_item}
+use Rattle.su_table.specs.Tree.{Tree}
 use Rattle.su_part.specs.Bytes.{number_sort, StandsBytes, BytesItem, loaded_block}
 use Rattle.su_part.specs.Loads.{FailedAt}
-use Rattle.su_part.specs.Part.{name_sort, at_number}
+use Rattle.su_part.specs.Part.{ContentItem, InodeItemOf, ItemOf, StandsContent, StandsInode, StandsUser, name_sort, at_number}
 use Rattle.su_part.specs.declared.blocks.PartBytes.{PartBytes}
 use Rattle.su_part.specs.declared.inodes.PartContent.{PartContent}
 use Rattle.su_part.specs.declared.inodes.PartContent.TheVariants.{Bytes as LoadedBytes, Names as LoadedNames}
@@ -59,6 +60,18 @@ IsItemInUser p s =
     IsItemIn number_sort p.table s
     ⊎ ((n : ℕ) × (i : PartInode) × (at_number p.inodes.entries n ≡ Some i) × IsItemInInode i s)
 
+-- ---- nothing is loaded
+
+-- no node of a directory's names, no block of a file nor a node of the tree of their digests
+abbrev pub HasNothingIn : PartContent → Type 0
+HasNothingIn (LoadedBytes b) = HasNone b.digests × ((n : ℕ) → loaded_block b n ≡ None)
+HasNothingIn (LoadedNames t) = HasNone t
+
+-- no node of the table, and no inode
+pub record HasNothing (p : UserPart) : Type 0 where
+  pub table : HasNone p.table
+  pub inodes : (n : ℕ) → at_number p.inodes.entries n ≡ None
+
 -- ---- what a shed tells
 
 -- What leaving the part p on the source s tells, which it made q and t, when it answered r. A part
@@ -87,3 +100,17 @@ module _ {S A : Type 0}
   -- of a file's bytes
   abbrev pub ShedsBytes : PartBytes → PartBytes → S → S → Result A Refusal → Type 0
   ShedsBytes = Sheds StandsBytes BytesItem IsItemInBytes may_give failed_of comes puts
+
+  -- of an inode's content
+  abbrev pub ShedsContent : PartContent → PartContent → S → S → Result A Refusal → Type 0
+  ShedsContent = Sheds StandsContent ContentItem IsItemInContent may_give failed_of comes puts
+
+  -- of an inode
+  abbrev pub ShedsInode : PartInode → PartInode → S → S → Result A Refusal → Type 0
+  ShedsInode = Sheds StandsInode InodeItemOf IsItemInInode may_give failed_of comes puts
+
+  -- of what a user has in a tree
+  abbrev pub ShedsUser : UserPart → UserPart → S → S → Result A Refusal → Type 0
+  ShedsUser =
+      Sheds (λ p x. StandsUser x.0 p x.1) (λ (x : ℕ × Tree). ItemOf x.0 x.1) IsItemInUser
+      may_give failed_of comes puts

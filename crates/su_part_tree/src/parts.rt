@@ -8,7 +8,7 @@ ghost use Rattle.su_tree.specs.Collision.{encodings};
 ghost use Rattle.su_hash_tree.specs.Clones.{IsExact};
 ghost use Rattle.su_hash_tree.specs.Sort.{sort};
 ghost use Rattle.su_hash_tree.specs.Edits.{value_at, with_value, without_key};
-ghost use Rattle.su_hash_tree.specs.Stands.{IsMap};
+ghost use Rattle.su_hash_tree.specs.Stands.{IsMap, kept};
 ghost use Rattle.su_part_tree.specs.Loading.{NoClash, FailedAtItem, IsLoadRefusal};
 ghost use Rattle.su_part_tree.specs.Part.{StandsFor, reaches, IsKnown, HasRoot, HasAll, HasNone, IsItemIn};
 ghost use Rattle.su_part_tree.specs.Putting.{Took};
@@ -244,9 +244,10 @@ impl<K: ReadKey, V: ReadValue> PartTree<K, V> {
 
     /// Returns the digest of the map. It makes no hash.
     pub fn digest(&self) -> Digest
-        ensures { let t = sort K.bits K.bytes K.is_key V.bytes V.is_value in
+        ensures value { let t = sort K.bits K.bytes K.is_key V.bytes V.is_value in
             (m : List (K × V)) → StandsFor t self.now m
             → result ≡ digest (map_kind K.bits K.bytes V.bytes) m }
+        ensures kept { result ≡ kept self.now.root }
     {
         self.root.kept()
     }
@@ -267,6 +268,7 @@ impl<K: ReadKey, V: ReadValue> PartTree<K, V> {
         ensures stands { let t = sort K.bits K.bytes K.is_key V.bytes V.is_value in
             (m : List (K × V)) → StandsFor t self.old m → StandsFor t self.new m }
         ensures none { OnOk result (HasNone self.new) }
+        ensures kept { kept self.new.root ≡ kept self.old.root }
         ensures put { let t = sort K.bits K.bytes K.is_key V.bytes V.is_value in
             OnOk result ((s : List ℕ) → IsItemIn t self.old s
             → Took S.follows S.puts source.old source.new s) }

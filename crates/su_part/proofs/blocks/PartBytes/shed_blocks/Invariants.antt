@@ -1,10 +1,13 @@
+use Rattle.std.proofs.Common.{◌≡◌}
 use Rattle.std.specs.BTreeMap.{btree_map_len}
 use Rattle.std.specs.Prelude.{Ok}
 use Rattle.su_part.specs.Sheds.{ShedsBytes}
 use Rattle.su_part.proofs.blocks.PartBytes.shed_blocks.Given as goal
 
 abbrev pub invariant-loop-number : goal.invariant-loop-number
-invariant-loop-number g l = ShedsBytes {A = Unit {0}} g.S.BlockSource.may_give g.S.BlockSource.failed g.S.BlockSource.follows g.S.BlockSource.puts l.fn.self l.self l.fn.source l.source (Ok tt)
+invariant-loop-number g l =
+    ShedsBytes {A = Unit {0}} g.S.BlockSource.may_give g.S.BlockSource.failed g.S.BlockSource.follows g.S.BlockSource.puts l.fn.self l.self l.fn.source l.source (Ok tt)
+    × (l.self.size ≡ l.fn.self.size) × (l.self.digests ≡ l.fn.self.digests)
 
 abbrev pub decreases-loop-number : goal.decreases-loop-number
 decreases-loop-number g l = btree_map_len l.self.blocks
