@@ -29,7 +29,7 @@ use Rattle.su_part.specs.declared.users.UserPart.{UserPart}
 use Rattle.su_group_part.specs.Part.{KnowsPointer, StandsGroup, place_sort}
 use Rattle.su_group_part.specs.declared.groups.GroupPart.{GroupPart}
 use Rattle.su_part_forest.specs.Forest.{IsPart, Stands, user_part, group_part}
-use Rattle.su_part_forest.specs.Known.{Want.OfUser, Want.OfGroup, StaysKnown}
+use Rattle.su_part_forest.specs.Known.{IsBeside, Knows, Want, Want.OfUser, Want.OfGroup, StaysKnown, StaysKnownBeside}
 use Rattle.su_part_forest.specs.Loading.{KeepsLoaded, KeepsPointers}
 use Rattle.su_part_forest.specs.declared.forests.PartForest.{PartForest}
 use Rattle.su_part_forest.proofs.Asked.{part_is, part_got, no_part}
@@ -136,14 +136,15 @@ module _ (f : PartForest) (m u : ℕ) (p : UserPart) (within : m < length f.user
               let is : is_user u ≡ true = is_there (λ x. StandsUser u x T) (is_user u) (user_part u f) p got (h.users u) in
               let z : false ≡ true = sym none ∙ ap is_user e ∙ is in cc) ∙ h.no_user v i none
 
-      pub user_known : StaysKnownOf u T (edit T (Inodes (u, n) ch)) p q → StaysKnown T (edit T (Inodes (u, n) ch)) f (with_user f m q)
-      user_known this (OfGroup k) w = go (group_part k.0 f) w
+      -- what is known of one thing, by what is known of it of the user's part
+      pub want_known : (w : Want) → ((want : PartWant) → w ≡ OfUser u want → KnowsOf u T want p → KnowsOf u (edit T (Inodes (u, n) ch)) want q) → Knows T w f → Knows (edit T (Inodes (u, n) ch)) w (with_user f m q)
+      want_known (OfGroup k) this w = go (group_part k.0 f) w
         where
           go : (o : Option GroupPart) → IfSome o (KnowsPointer k.0 T k.1) → IfSome o (KnowsPointer k.0 (edit T (Inodes (u, n) ch)) k.1)
           go None w = tt
           go (Some x) (inl r) = inl r
           go (Some x) (inr none) = inr (pointers_same T u n ch k.0 k.1 ∙ none)
-      user_known this (OfUser v want) w = subst (λ i. IfSome (slice_get (slice_set f.users.items i q) v) (KnowsOf v (edit T (Inodes (u, n) ch)) want)) (sym same) (go (nat_eq v u) refl)
+      want_known (OfUser v want) this w = subst (λ i. IfSome (slice_get (slice_set f.users.items i q) v) (KnowsOf v (edit T (Inodes (u, n) ch)) want)) (sym same) (go (nat_eq v u) refl)
         where
           other : (o : Option UserPart) → ¬ (v ≡ u) → IfSome o (KnowsOf v T want) → IfSome o (KnowsOf v (edit T (Inodes (u, n) ch)) want)
           other None e w = tt
@@ -152,11 +153,22 @@ module _ (f : PartForest) (m u : ℕ) (p : UserPart) (within : m < length f.user
           here : v ≡ u → IfSome (slice_get (slice_set f.users.items u q) v) (KnowsOf v (edit T (Inodes (u, n) ch)) want)
           here e = subst (λ i. IfSome (slice_get (slice_set f.users.items u q) i) (KnowsOf i (edit T (Inodes (u, n) ch)) want)) (sym e)
               (subst (λ o. IfSome o (KnowsOf u (edit T (Inodes (u, n) ch)) want)) (sym (get_same f.users.items u q p got))
-              (this want (of_part (KnowsOf u T want) (user_part u f) p got (subst (λ i. IfSome (user_part i f) (KnowsOf i T want)) e w))))
+              (this want (ap (λ i. OfUser i want) e) (of_part (KnowsOf u T want) (user_part u f) p got (subst (λ i. IfSome (user_part i f) (KnowsOf i T want)) e w))))
 
           go : (c : Bool) → nat_eq v u ≡ c → IfSome (slice_get (slice_set f.users.items u q) v) (KnowsOf v (edit T (Inodes (u, n) ch)) want)
           go false e = subst (λ o. IfSome o (KnowsOf v (edit T (Inodes (u, n) ch)) want)) (sym (get_other f.users.items u v q (eqb-false v u e))) (other (slice_get f.users.items v) (eqb-false v u e) w)
           go true e = here (eqb-true v u e)
+
+      pub user_known : StaysKnownOf u T (edit T (Inodes (u, n) ch)) p q → StaysKnown T (edit T (Inodes (u, n) ch)) f (with_user f m q)
+      user_known this w = want_known w (λ want e. this want)
+
+      -- but for names and blocks of what stood there
+      pub user_known_beside : ((want : PartWant) → IsBeside (u, n) (OfUser u want) → KnowsOf u T want p → KnowsOf u (edit T (Inodes (u, n) ch)) want q) → StaysKnownBeside (u, n) T (edit T (Inodes (u, n) ch)) f (with_user f m q)
+      user_known_beside this w beside = want_known w (λ want e. this want (subst (IsBeside (u, n)) e beside))
+
+    -- what the user's part has
+    pub user_has : (P : UserPart → Type 0) → P q → IfSome (user_part u (with_user f m q)) P
+    user_has P h = subst (λ i. IfSome (slice_get (slice_set f.users.items i q) u) P) (sym same) (subst (λ o. IfSome o P) (sym (get_same f.users.items u q p got)) h)
 
 -- a user that can be has a part
 pub user_absent : {A : Type 0} (f : PartForest) (m u : ℕ) → length f.users.items ≤ m → m ≡ u → u ≤ 63 → (T : Tree) → Stands f T → A
@@ -257,6 +269,10 @@ module _ (f : PartForest) (m k : ℕ) (p : GroupPart) (within : m < length f.gro
         go : (b : Bool) → nat_eq j.0 k ≡ b → IfSome (slice_get (slice_set f.groups.items k q) j.0) (KnowsPointer j.0 (edit T (Pointers (k, n) o)) j.1)
         go false e = subst (λ x. IfSome x (KnowsPointer j.0 (edit T (Pointers (k, n) o)) j.1)) (sym (get_other f.groups.items k j.0 q (eqb-false j.0 k e))) (other (slice_get f.groups.items j.0) (eqb-false j.0 k e) w)
         go true e = here (eqb-true j.0 k e)
+
+    -- what the group's part has
+    pub group_has : (P : GroupPart → Type 0) → P q → IfSome (group_part k (with_group f m q)) P
+    group_has P h = subst (λ i. IfSome (slice_get (slice_set f.groups.items i q) k) P) (sym same) (subst (λ o. IfSome o P) (sym (get_same f.groups.items k q p got_group)) h)
 
 -- a group that can be has a part
 pub group_absent : {A : Type 0} (f : PartForest) (m k : ℕ) → length f.groups.items ≤ m → m ≡ k → k ≤ 15 → (T : Tree) → Stands f T → A

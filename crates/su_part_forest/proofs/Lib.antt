@@ -2,6 +2,7 @@ pub mod Seeing
 pub mod Bridge
 pub mod Asked
 pub mod Lifting
+pub mod Knowing
 pub mod EditLifting
 pub mod FreshLemmas
 pub mod CopyLemmas

@@ -1,11 +1,11 @@
 -- What is known of a forest of parts: a thing is loaded, or what the forest stands for has nothing
 -- there. So a removal, which may leave a path at a stub, leaves all known that was.
-use Rattle.std.specs.Prelude.{ℕ, IfSome}
+use Rattle.std.specs.Prelude.{ℕ, ◌≢◌, IfSome, ⊤}
 use Rattle.su_bytes.specs.Place.{Place, GroupFile}
 use Rattle.su_table.specs.Tree.{Tree}
 use Rattle.su_part.specs.Cut.{HasCutOf}
 use Rattle.su_part.specs.Part.{HasAt as HasOf}
-use Rattle.su_part.specs.Known.{Want as PartWant, Knows as KnowsOf}
+use Rattle.su_part.specs.Known.{Want as PartWant, Want.AName, Want.ABlock, Knows as KnowsOf}
 use Rattle.su_group_part.specs.Part.{KnowsPointer}
 use Rattle.su_part_forest.specs.Forest.{user_part, group_part}
 use Rattle.su_part_forest.specs.declared.forests.PartForest.{PartForest}
@@ -23,6 +23,16 @@ Knows T (OfGroup g) f = IfSome (group_part g.0 f) (KnowsPointer g.0 T g.1)
 -- what is known of f, which stands for T, is known of g for V
 abbrev pub StaysKnown : Tree → Tree → PartForest → PartForest → Type 0
 StaysKnown T V f g = (w : Want) → Knows T w f → Knows V w g
+
+-- it is no name and no block of what stands at the place
+abbrev pub IsBeside : Place → Want → Type 0
+IsBeside p (OfUser u (AName n x)) = (u, n) ≢ p
+IsBeside p (OfUser u (ABlock n k)) = (u, n) ≢ p
+IsBeside p _ = ⊤
+
+-- so of all besides the names and the blocks of what stands at the place
+abbrev pub StaysKnownBeside : Place → Tree → Tree → PartForest → PartForest → Type 0
+StaysKnownBeside p T V f g = (w : Want) → IsBeside p w → Knows T w f → Knows V w g
 
 -- what stands at the place is loaded, and what a cut of it to that size needs
 abbrev pub HasCutAt : Place → ℕ → PartForest → Type 0

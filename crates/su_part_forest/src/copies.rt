@@ -1,17 +1,19 @@
-// Copies of forests.
+// Copies of forests, and of inodes.
 ghost use Rattle.std.specs.Prelude.{◌≡◌, IfOk, IfErr};
+ghost use Rattle.std.specs.FinMap.{get};
 ghost use Rattle.su_bytes.specs.Place.{Place, GroupFile};
 ghost use Rattle.su_bytes.specs.declared.refusals.Refusal.TheVariants.{NoMemory};
 ghost use Rattle.su_node.specs.Name.{Name};
 ghost use Rattle.su_table.specs.Tree.{Tree};
+ghost use Rattle.su_part.specs.Part.{StandsJust};
 ghost use Rattle.su_part_forest.specs.Copy.{AreCopies, IsUserCopy, IsGroupCopy};
-ghost use Rattle.su_part_forest.specs.Forest.{Stands, IsSound, HasInodeAt, HasNameAt, HasPointerAt};
+ghost use Rattle.su_part_forest.specs.Forest.{Stands, IsSound, IsThereAt, HasInodeAt, HasNameAt, HasPointerAt};
 
 use crate::forests::PartForest;
 use std::alloc::Global;
-use su_bytes::Refusal;
+use su_bytes::{Place, Refusal};
 use su_group_part::GroupPart;
-use su_part::UserPart;
+use su_part::{PartInode, UserPart};
 
 /// Copies the parts of users.
 fn copy_users(alloc: Global, users: &Vec<UserPart>) -> Result<Vec<UserPart>, Refusal>
@@ -57,5 +59,18 @@ impl PartForest {
             groups,
             alloc: self.alloc,
         })
+    }
+
+    /// Copies the inode at `place`, if one is loaded there; what of it is left on the store is left
+    /// there in the copy. Fails only with `NoMemory`.
+    pub fn copy_inode(&self, place: Place) -> Result<Option<PartInode>, Refusal>
+        ensures copied { (T : Tree) → Stands self.now T → IsThereAt place T self.now
+            → IfOk result (λ copy. StandsJust copy (get T.inodes place)) }
+        ensures refused { IfErr result (λ e. e ≡ NoMemory) }
+    {
+        match self.inode(place) {
+            Some(inode) => Ok(Some(inode.copy()?)),
+            None => Ok(None),
+        }
     }
 }

@@ -1,8 +1,7 @@
 // Single edits, of which operations and undos are made.
-ghost use Rattle.std.specs.Prelude.{◌≡◌, ◌⊎◌, ◌&&◌, ◌+◌, ◌<◌, ◌≤◌, ◌^◌, IsTrue, IsOk, length, Some, None, true, OnOk, OnErr, IfOk, IfErr};
+ghost use Rattle.std.specs.Prelude.{◌≡◌, ◌⊎◌, ◌+◌, ◌<◌, ◌≤◌, ◌^◌, IsOk, length, Some, None, true, false, OnOk, OnErr, IfOk, IfErr};
 ghost use Rattle.std.specs.FinMap.{get};
 ghost use Rattle.su_bytes.specs.FileId.{is_file_id};
-ghost use Rattle.su_bytes.specs.Name.{is_name};
 ghost use Rattle.su_bytes.specs.declared.refusals.Refusal.TheVariants.{MissingBlock, NoMemory};
 ghost use Rattle.su_node.specs.Inode.{Inode};
 ghost use Rattle.su_node.specs.InodeChange.{InodeChange.Made, InodeChange.Named, InodeChange.Linked, InodeChange.Written, InodeChange.Resized, InodeChange.Copied, InodeChange.Gone};
@@ -15,32 +14,47 @@ ghost use Rattle.su_part.specs.Known.{Want.AnInode, Want.AName};
 ghost use Rattle.su_part.specs.Part.{StandsInode, StandsJust};
 ghost use Rattle.su_part.specs.declared.fetches.Wanted.TheVariants.{Name as NameOf, Nothing, Write};
 ghost use Rattle.su_part_forest.specs.Forest.{Stands, HasPointerAt};
-ghost use Rattle.su_part_forest.specs.Known.{Want.OfUser, Want.OfGroup, HasCutAt, Knows, StaysKnown};
+ghost use Rattle.su_part_forest.specs.Known.{Want.OfUser, Want.OfGroup, HasCutAt, Knows, StaysKnown, StaysKnownBeside};
 ghost use Rattle.su_part_forest.specs.Loading.{HasAt, KeepsLoaded};
 
 use crate::forests::PartForest;
 use su_bytes::{FileId, GroupFile, Kind, Name, Place, Refusal};
 use su_part::PartInode;
+use su_tree::TreeKey;
 
 /// Edits of names and links.
 impl PartForest {
     /// Makes a name of the directory at `place` lead to the file. Does nothing where no directory
     /// stands. Refused with `MissingBlock` where the inode or the name's path isn't loaded, and
     /// with `NoMemory` where memory is wanting, which only a name takes that isn't there; then the
-    /// forest stands for what it stood for. What was loaded is loaded.
+    /// forest stands for what it stood for. What was loaded is loaded, what was known stays known,
+    /// and the name is known then.
     pub fn add_name(&mut self, place: Place, name: Name, file: FileId) -> Result<(), Refusal>
-        requires meant { IsTrue (is_name name && is_file_id file) }
         ensures ok { (T : Tree) → Stands self.old T
             → OnOk result (Stands self.new (edit T (Inodes place (Named name (Some file))))) }
+        ensures known { (T : Tree) → Stands self.old T → OnOk result (StaysKnown T
+            (edit T (Inodes place (Named name (Some file)))) self.old self.new) }
+        ensures added { (T : Tree) → Stands self.old T → OnOk result
+            (Knows (edit T (Inodes place (Named name (Some file))))
+            (OfUser place.0 (AName place.1 name)) self.new) }
+        ensures succeeds { (T : Tree) → Stands self.old T
+            → Knows T (OfUser place.0 (AName place.1 name)) self.old
+            → is_name_free_at T place name ≡ false → IsOk result }
         ensures refused { IfErr result (λ e. (e ≡ NoMemory) ⊎ (e ≡ MissingBlock)) }
         ensures loaded { (T : Tree) → Stands self.old T → HasAt place (NameOf name) self.old
             → IfErr result (λ e. e ≡ NoMemory) }
         ensures absent { (T : Tree) → Stands self.old T → HasAt place (NameOf name) self.old
             → OnErr result (is_name_free_at T place name ≡ true) }
         ensures err { (T : Tree) → Stands self.old T → OnErr result (Stands self.new T) }
+        ensures err_known { (T : Tree) → Stands self.old T
+            → OnErr result (StaysKnown T T self.old self.new) }
         ensures keeps { KeepsLoaded self.old self.new }
     {
         let (user, number) = place;
+        // names the ranges for the prover (docs/ARCHITECTURE.md, "Forms the kit wants")
+        let _number = number.number();
+        let _bytes = name.byte_count();
+        name_range(&file);
         match self.users.get_mut(usize::from(user.number())) {
             Some(part) => {
                 if !part.has_name(number, &name) {
@@ -93,21 +107,32 @@ impl PartForest {
     /// Makes a new inode at `place` in the place of what stands there: empty, with one link.
     /// Refused with `MissingBlock` where what stands there isn't loaded, and with `NoMemory` where
     /// memory is wanting, which only an inode takes where none stands; then the forest stands for
-    /// what it stood for.
+    /// what it stood for. What was known stays known, and the inode is known then; where none stood
+    /// there, what was loaded is loaded.
     pub fn make_inode(&mut self, place: Place, home: FileId, kind: Kind) -> Result<(), Refusal>
-        requires meant { IsTrue (is_file_id home) }
         ensures ok { (T : Tree) → Stands self.old T
             → OnOk result (Stands self.new (edit T (Inodes place (Made home kind)))) }
+        ensures known { (T : Tree) → Stands self.old T → OnOk result
+            (StaysKnown T (edit T (Inodes place (Made home kind))) self.old self.new) }
+        ensures added { (T : Tree) → Stands self.old T → OnOk result
+            (Knows (edit T (Inodes place (Made home kind)))
+            (OfUser place.0 (AnInode place.1)) self.new) }
         ensures refused { IfErr result (λ e. (e ≡ NoMemory) ⊎ (e ≡ MissingBlock)) }
         ensures loaded { (T : Tree) → Stands self.old T → HasAt place Nothing self.old
             → IfErr result (λ e. e ≡ NoMemory) }
         ensures absent { (T : Tree) → Stands self.old T → HasAt place Nothing self.old
             → OnErr result (is_free_at T place ≡ true) }
         ensures err { (T : Tree) → Stands self.old T → OnErr result (Stands self.new T) }
+        ensures err_known { (T : Tree) → Stands self.old T
+            → OnErr result (StaysKnown T T self.old self.new) }
+        ensures err_keeps { OnErr result (KeepsLoaded self.old self.new) }
+        ensures keeps { (T : Tree) → Stands self.old T → is_free_at T place ≡ true
+            → KeepsLoaded self.old self.new }
     {
         let (user, number) = place;
-        // names the number's range for the prover (docs/ARCHITECTURE.md, "Forms the kit wants")
+        // names the ranges for the prover (docs/ARCHITECTURE.md, "Forms the kit wants")
         let _number = number.number();
+        name_range(&home);
         match self.users.get_mut(usize::from(user.number())) {
             Some(part) => {
                 if !part.has_inode(number) {
@@ -121,7 +146,9 @@ impl PartForest {
 
     /// Puts an inode at `place`, and returns what stood there. Refused with `MissingBlock` where
     /// what stands there isn't loaded, and with `NoMemory` where memory is wanting, which only an
-    /// inode takes where none stands; then the forest stands for what it stood for.
+    /// inode takes where none stands; then the forest stands for what it stood for. What was known
+    /// stays known, but for the names and the blocks of what stood there, and the inode is known
+    /// then; where none stood there, what was loaded is loaded.
     pub fn exchange_inode(
         &mut self,
         place: Place,
@@ -130,6 +157,16 @@ impl PartForest {
         ensures ok { (T : Tree) (i : Inode) → Stands self.old T → StandsInode inode i
             → MeantInode i
             → OnOk result (Stands self.new (edit T (Inodes place (Copied i)))) }
+        ensures known { (T : Tree) (i : Inode) → Stands self.old T → StandsInode inode i
+            → MeantInode i → OnOk result
+            (StaysKnownBeside place T (edit T (Inodes place (Copied i))) self.old self.new) }
+        ensures added { (T : Tree) (i : Inode) → Stands self.old T → StandsInode inode i
+            → MeantInode i → OnOk result
+            (Knows (edit T (Inodes place (Copied i))) (OfUser place.0 (AnInode place.1))
+            self.new) }
+        ensures succeeds { (T : Tree) → Stands self.old T
+            → Knows T (OfUser place.0 (AnInode place.1)) self.old
+            → is_free_at T place ≡ false → IsOk result }
         ensures was { (T : Tree) → Stands self.old T
             → IfOk result (λ o. StandsJust o (get T.inodes place)) }
         ensures refused { IfErr result (λ e. (e ≡ NoMemory) ⊎ (e ≡ MissingBlock)) }
@@ -138,6 +175,11 @@ impl PartForest {
         ensures absent { (T : Tree) → Stands self.old T → HasAt place Nothing self.old
             → OnErr result (is_free_at T place ≡ true) }
         ensures err { (T : Tree) → Stands self.old T → OnErr result (Stands self.new T) }
+        ensures err_known { (T : Tree) → Stands self.old T
+            → OnErr result (StaysKnown T T self.old self.new) }
+        ensures err_keeps { OnErr result (KeepsLoaded self.old self.new) }
+        ensures keeps { (T : Tree) → Stands self.old T → is_free_at T place ≡ true
+            → KeepsLoaded self.old self.new }
     {
         let (user, number) = place;
         // names the number's range for the prover (docs/ARCHITECTURE.md, "Forms the kit wants")
@@ -177,15 +219,24 @@ impl PartForest {
 impl PartForest {
     /// Points a group file at a place. Refused with `MissingBlock` where the pointer's path isn't
     /// loaded, and with `NoMemory` where memory is wanting, which only a pointer takes that isn't
-    /// there; then the forest stands for what it stood for. What was loaded is loaded.
+    /// there; then the forest stands for what it stood for. What was loaded is loaded, what was
+    /// known stays known, and the pointer is known then.
     pub fn put_pointer(&mut self, file: GroupFile, place: Place) -> Result<(), Refusal>
         ensures ok { (T : Tree) → Stands self.old T
             → OnOk result (Stands self.new (edit T (Pointers file (Some place)))) }
+        ensures known { (T : Tree) → Stands self.old T → OnOk result
+            (StaysKnown T (edit T (Pointers file (Some place))) self.old self.new) }
+        ensures added { (T : Tree) → Stands self.old T → OnOk result
+            (Knows (edit T (Pointers file (Some place))) (OfGroup file) self.new) }
+        ensures succeeds { (T : Tree) → Stands self.old T → Knows T (OfGroup file) self.old
+            → is_nothing (val T (Pointer file)) ≡ false → IsOk result }
         ensures refused { IfErr result (λ e. (e ≡ NoMemory) ⊎ (e ≡ MissingBlock)) }
         ensures loaded { HasPointerAt file self.old → IfErr result (λ e. e ≡ NoMemory) }
         ensures absent { (T : Tree) → Stands self.old T → HasPointerAt file self.old
             → OnErr result (is_nothing (val T (Pointer file)) ≡ true) }
         ensures err { (T : Tree) → Stands self.old T → OnErr result (Stands self.new T) }
+        ensures err_known { (T : Tree) → Stands self.old T
+            → OnErr result (StaysKnown T T self.old self.new) }
         ensures keeps { KeepsLoaded self.old self.new }
     {
         let (group, number) = file;
@@ -221,11 +272,15 @@ impl PartForest {
     /// Writes bytes into the file at `place` from an offset on, and fills a gap before them with
     /// zeros. Does nothing where no file stands. Refused with `MissingBlock` where what the write
     /// needs isn't loaded, and with `NoMemory` where memory is wanting, which only a file takes
-    /// that grows; then the forest stands for what it stood for.
+    /// that grows; then the forest stands for what it stood for. What was known stays known, and
+    /// where the file doesn't grow, what was loaded is loaded.
     pub fn write_at(&mut self, place: Place, off: u32, bytes: &[u8]) -> Result<(), Refusal>
         requires small { off + length bytes.now < 2 ^ 32 }
         ensures ok { (T : Tree) → Stands self.old T → OnOk result (Stands self.new
             (edit T (Inodes place (Written (size_at T place) off bytes.now)))) }
+        ensures known { (T : Tree) → Stands self.old T → OnOk result (StaysKnown T
+            (edit T (Inodes place (Written (size_at T place) off bytes.now)))
+            self.old self.new) }
         ensures refused { IfErr result (λ e. (e ≡ NoMemory) ⊎ (e ≡ MissingBlock)) }
         ensures loaded { (T : Tree) → Stands self.old T
             → HasAt place (Write off (length bytes.now)) self.old
@@ -234,6 +289,11 @@ impl PartForest {
             → HasAt place (Write off (length bytes.now)) self.old
             → off + length bytes.now ≤ size_at T place → IsOk result }
         ensures err { (T : Tree) → Stands self.old T → OnErr result (Stands self.new T) }
+        ensures err_known { (T : Tree) → Stands self.old T
+            → OnErr result (StaysKnown T T self.old self.new) }
+        ensures err_keeps { OnErr result (KeepsLoaded self.old self.new) }
+        ensures keeps { (T : Tree) → Stands self.old T
+            → off + length bytes.now ≤ size_at T place → KeepsLoaded self.old self.new }
     {
         let (user, number) = place;
         // names the number's range for the prover (docs/ARCHITECTURE.md, "Forms the kit wants")
@@ -252,15 +312,24 @@ impl PartForest {
     /// Fills the file at `place` with zeros up to a size in bytes, which is not below its own. Does
     /// nothing where no file stands. Refused with `MissingBlock` where what a write of no bytes at
     /// that offset needs isn't loaded, and with `NoMemory` where memory is wanting; then the forest
-    /// stands for what it stood for.
+    /// stands for what it stood for. What was known stays known, and what a cut to the size before
+    /// needs is loaded then.
     pub fn grow(&mut self, place: Place, size: u32) -> Result<(), Refusal>
         ensures ok { (T : Tree) → Stands self.old T → size_at T place ≤ size
             → OnOk result (Stands self.new
             (edit T (Inodes place (Resized (size_at T place) size)))) }
+        ensures known { (T : Tree) → Stands self.old T → size_at T place ≤ size
+            → OnOk result (StaysKnown T
+            (edit T (Inodes place (Resized (size_at T place) size))) self.old self.new) }
+        ensures cuts { (T : Tree) → Stands self.old T → size_at T place ≤ size
+            → OnOk result (HasCutAt place (size_at T place) self.new) }
         ensures refused { IfErr result (λ e. (e ≡ NoMemory) ⊎ (e ≡ MissingBlock)) }
         ensures loaded { (T : Tree) → Stands self.old T → HasAt place (Write size 0) self.old
             → IfErr result (λ e. e ≡ NoMemory) }
         ensures err { (T : Tree) → Stands self.old T → OnErr result (Stands self.new T) }
+        ensures err_known { (T : Tree) → Stands self.old T
+            → OnErr result (StaysKnown T T self.old self.new) }
+        ensures err_keeps { OnErr result (KeepsLoaded self.old self.new) }
     {
         let (user, number) = place;
         // names the number's range for the prover (docs/ARCHITECTURE.md, "Forms the kit wants")
@@ -297,6 +366,21 @@ impl PartForest {
                 }
             }
             None => {}
+        }
+    }
+}
+
+/// Does nothing: it names the ranges of a file id's numbers for the prover
+/// (docs/ARCHITECTURE.md, "Forms the kit wants").
+fn name_range(file: &FileId)
+    ensures { is_file_id file.now ≡ true }
+{
+    match file {
+        FileId::User(user, number) => {
+            let (_user, _number) = (user.number(), number.number());
+        }
+        FileId::Group(group, number) => {
+            let (_group, _number) = (group.number(), number.number());
         }
     }
 }
