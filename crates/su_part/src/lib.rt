@@ -11,6 +11,7 @@ mod inodes;
 mod items;
 mod opens;
 mod overwrites;
+mod reads;
 mod seen;
 mod sheds;
 mod users;
