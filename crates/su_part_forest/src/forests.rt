@@ -28,14 +28,14 @@ pub struct PartForest {
 /// tree that the forest stands for.
 impl PartForest {
     /// Returns the part of a user.
-    fn user_part(&self, user: User) -> Option<&UserPart>
+    pub(crate) fn user_part(&self, user: User) -> Option<&UserPart>
         ensures { option_copied result ≡ user_part user self.now }
     {
         self.users.get(usize::from(user.number()))
     }
 
     /// Returns the part of a group.
-    fn group_part(&self, group: Group) -> Option<&GroupPart>
+    pub(crate) fn group_part(&self, group: Group) -> Option<&GroupPart>
         ensures { option_copied result ≡ group_part group self.now }
     {
         self.groups.get(usize::from(group.number()))

@@ -7,5 +7,6 @@ mod edits;
 mod forests;
 mod fresh;
 mod loads;
+mod reads;
 
 pub use forests::PartForest;
