@@ -7,6 +7,6 @@ mod edits;
 mod forests;
 mod fresh;
 mod loads;
-mod reads;
+mod has;
 
 pub use forests::PartForest;

@@ -1,0 +1,8 @@
+//! A forest of i-tables that lies on a store which isn't trusted, and is asked as if it were whole.
+#![tactic(auto)]
+
+mod numbers;
+mod reads;
+mod stored;
+
+pub use stored::StoredForest;

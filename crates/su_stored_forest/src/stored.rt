@@ -1,0 +1,81 @@
+// A forest and the store that has the rest of it.
+ghost use Rattle.std.specs.Prelude.{◌≡◌, ℕ, Bool, true, IfOk, IfErr, IfSome, slice_get};
+ghost use Rattle.su_bytes.specs.declared.refusals.Refusal.TheVariants.{NoMemory};
+ghost use Rattle.su_bytes.specs.declared.principals.Principal.TheVariants.{User as UserPrincipal, Group as GroupPrincipal};
+ghost use Rattle.su_table.specs.Handle.{handle};
+ghost use Rattle.su_table.specs.Tree.{Tree, genesis};
+ghost use Rattle.su_part.specs.Bytes.{NoneClash};
+ghost use Rattle.su_part_forest.specs.Loading.{HashedFor};
+ghost use Rattle.su_fronts.specs.Front.{AreFronts};
+ghost use Rattle.su_stored_forest.specs.Shows.{Shows};
+
+use std::alloc::Global;
+use su_block::BlockSource;
+use su_bytes::{Digest, Group, Refusal, Roster, User};
+use su_fronts::Fronts;
+use su_part_forest::PartForest;
+
+/// A forest of which parts may be left on a store, that store, and which numbers of its i-tables are
+/// known to be taken. What is asked of it is loaded where it lacks.
+#[derive(Drop)]
+pub struct StoredForest<S: BlockSource> {
+    pub(crate) forest: PartForest,
+    pub(crate) source: S,
+    pub(crate) users: Vec<Fronts>,
+    pub(crate) groups: Vec<Fronts>,
+    /// What the source gives has the digest that was asked for.
+    pub ghost checked: { S.is_checked ≡ true },
+}
+
+impl<S: BlockSource + Drop> StoredForest<S> {
+    /// Makes the tree before the first operation, all of it loaded, beside that source. Fails only
+    /// with `NoMemory`.
+    pub fn genesis(alloc: Global, roster: &Roster, source: S) -> Result<StoredForest<S>, Refusal>
+        requires { S.is_checked ≡ true }
+        ensures shows { NoneClash (HashedFor genesis) (S.may_give source)
+            → IfOk result (λ stored. Shows S.may_give stored genesis) }
+        ensures source { IfOk result (λ stored. stored.source ≡ source) }
+        ensures refused { IfErr result (λ e. e ≡ NoMemory) }
+    {
+        let forest = PartForest::genesis(alloc, roster)?;
+        let users = no_fronts(alloc, usize::from(User::LAST.number()) + 1)?;
+        let groups = no_fronts(alloc, usize::from(Group::LAST.number()) + 1)?;
+        Ok(StoredForest {
+            forest,
+            source,
+            users,
+            groups,
+        })
+    }
+}
+
+/// Makes so many fronts of tables of which no number is known. Fails only with `NoMemory`.
+fn no_fronts(alloc: Global, count: usize) -> Result<Vec<Fronts>, Refusal>
+    ensures known { IfOk result (λ fronts. (n : ℕ) (free : ℕ → Bool)
+        → IfSome (slice_get fronts.items n) (AreFronts free)) }
+    ensures refused { IfErr result (λ e. e ≡ NoMemory) }
+{
+    let mut fronts = Vec::new(alloc);
+    for _ in 0..count {
+        fronts.push(Fronts::new(alloc))?;
+    }
+    Ok(fronts)
+}
+
+impl<S: BlockSource> StoredForest<S> {
+    /// Returns the i-handle of a user. It is at hand: no hash is made, nothing is loaded and no
+    /// memory is taken.
+    pub fn i_handle(&self, user: User) -> Digest
+        ensures { (T : Tree) → Shows S.may_give self.now T → result ≡ handle T (UserPrincipal user) }
+    {
+        self.forest.i_handle(user)
+    }
+
+    /// Returns the i-handle of a group, which is at hand as a user's is.
+    pub fn group_handle(&self, group: Group) -> Digest
+        ensures { (T : Tree) → Shows S.may_give self.now T
+            → result ≡ handle T (GroupPrincipal group) }
+    {
+        self.forest.group_handle(group)
+    }
+}
