@@ -2,6 +2,8 @@ pub mod Seeing
 pub mod Bridge
 pub mod Asked
 pub mod Lifting
+pub mod Reading
+pub mod ForestSheds
 pub mod EditLifting
 pub mod FreshLemmas
 pub mod CopyLemmas

@@ -7,5 +7,7 @@ mod edits;
 mod forests;
 mod fresh;
 mod loads;
+mod reads;
+mod sheds;
 
 pub use forests::PartForest;
