@@ -3,6 +3,8 @@ pub mod Bridge
 pub mod Asked
 pub mod Lifting
 pub mod Knowing
+pub mod Reading
+pub mod ForestSheds
 pub mod EditLifting
 pub mod FreshLemmas
 pub mod CopyLemmas

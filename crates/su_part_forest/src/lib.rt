@@ -6,7 +6,9 @@ mod copies;
 mod edits;
 mod forests;
 mod fresh;
-mod loads;
 mod has;
+mod loads;
+mod reads;
+mod sheds;
 
 pub use forests::PartForest;
