@@ -2,6 +2,7 @@
 use Rattle.std.specs.Prelude.{ℕ, List, IfSome, slice_get}
 use Rattle.su_bytes.specs.declared.file_ids.FileId.TheVariants.{Group}
 use Rattle.su_bytes.specs.declared.refusals.Refusal.{Refusal}
+use Rattle.su_block.specs.declared.sources.BlockSource.{Ghosts}
 use Rattle.su_block.specs.declared.failures.Failures.{Failures}
 use Rattle.su_table.specs.Query.{is_free_at, is_pointer_free}
 use Rattle.su_table.specs.Tree.{Tree}
@@ -13,24 +14,25 @@ use Rattle.su_part_forest.specs.Loading.{HashedFor, KeepsLoaded}
 use Rattle.su_fronts.specs.Front.{AreFronts}
 use Rattle.su_stored_forest.specs.declared.stored.StoredForest.{StoredForest}
 
-module _ {S : Type 0} {checked : Type 0} (may_give : S → List ℕ → Type 0) (failed_of : S → Failures)
-    (comes : S → S → Type 0) where
-  -- It shows the tree: its parts stand for it; no byte string that is hashed for the tree has the
-  -- digest of another one that its source may give; and the numbers that are known to be taken are.
-  pub record Shows (r : StoredForest S) (T : Tree) : Type 0 where
-    pub stands : Stands r.forest T
-    pub free : NoneClash (HashedFor T) (may_give r.source)
-    pub users : (u : ℕ) → IfSome (slice_get r.users.items u) (AreFronts (λ n. is_free_at T (u, n)))
-    pub groups : (g : ℕ)
-        → IfSome (slice_get r.groups.items g) (AreFronts (λ k. is_pointer_free T (Group g k)))
+-- It shows the tree: its parts stand for it; no byte string that is hashed for the tree has the
+-- digest of another one that its source may give; and the numbers that are known to be taken are.
+pub record Shows {S : Type 0} {g : Ghosts S} (may_give : S → List ℕ → Type 0)
+    (r : StoredForest S g) (T : Tree) : Type 0 where
+  pub stands : Stands r.forest T
+  pub free : NoneClash (HashedFor T) (may_give r.source)
+  pub users : (u : ℕ) → IfSome (slice_get r.users.items u) (AreFronts (λ n. is_free_at T (u, n)))
+  pub groups : (g : ℕ)
+      → IfSome (slice_get r.groups.items g) (AreFronts (λ k. is_pointer_free T (Group g k)))
 
-  -- so it may fail when it is asked about the tree: a failure of its source is about an item of it
-  abbrev pub Fails : Tree → StoredForest S → Refusal → Type 0
-  Fails T r e = IsLoadRefusal e × FailedAt (HashedFor T) (failed_of r.source) e
+-- so it may fail when it is asked about the tree: a failure of its source is about an item of it
+abbrev pub Fails : {S : Type 0} {g : Ghosts S} → (S → Failures)
+    → Tree → StoredForest S g → Refusal → Type 0
+Fails failed_of T r e = IsLoadRefusal e × FailedAt (HashedFor T) (failed_of r.source) e
 
-  -- what may have become of it by questions: what was loaded is loaded, and the source may give
-  -- nothing more
-  pub record Follows (r s : StoredForest S) : Type 0 where
-    pub source : comes r.source s.source
-    pub no_more : (i : List ℕ) → may_give s.source i → may_give r.source i
-    pub keeps : KeepsLoaded r.forest s.forest
+-- what may have become of it by questions: what was loaded is loaded, and the source may give
+-- nothing more
+pub record Follows {S : Type 0} {g : Ghosts S} (may_give : S → List ℕ → Type 0)
+    (comes : S → S → Type 0) (r s : StoredForest S g) : Type 0 where
+  pub source : comes r.source s.source
+  pub no_more : (i : List ℕ) → may_give s.source i → may_give r.source i
+  pub keeps : KeepsLoaded r.forest s.forest

@@ -1,5 +1,5 @@
 // Free and taken numbers.
-ghost use Rattle.std.specs.Prelude.{◌≡◌, ◌≤◌, false, IfOk, IfSome};
+ghost use Rattle.std.specs.Prelude.{◌≡◌, ◌≤◌, false, IfOk, IfSome, option_copied, slice_get};
 ghost use Rattle.su_bytes.specs.declared.file_ids.FileId.TheVariants.{Group as GroupFileId};
 ghost use Rattle.su_fronts.specs.Front.{AreTaken};
 ghost use Rattle.su_reading.specs.Reading.{Finds};
@@ -11,16 +11,13 @@ ghost use Rattle.su_table.specs.Tree.{Tree};
 use crate::stored::StoredForest;
 use su_block::BlockSource;
 use su_bytes::{FileId, Group, Inum, Refusal, User};
+use su_fronts::Fronts;
 
 impl<S: BlockSource> StoredForest<S> {
     /// Finds the least number from a number on at which the user has no inode; none where each one
     /// from there to the last is taken. Numbers that are known to be taken are passed by, 1,024 at a
     /// time.
-    pub(crate) fn least_free(
-        &mut self,
-        user: User,
-        from_: Inum,
-    ) -> Result<Option<Inum>, Refusal>
+    pub(crate) fn least_free(&mut self, user: User, from_: Inum) -> Result<Option<Inum>, Refusal>
         ensures finds { Finds (Shows S.may_give) (Fails S.failed) (Follows S.may_give S.follows)
             self.old self.new result (λ T n. IsLeastFree (λ i. is_free_at T (user, i)) from_ n) }
     {
@@ -38,13 +35,20 @@ impl<S: BlockSource> StoredForest<S> {
         Ok(None)
     }
 
+    /// Returns what is known of a user's table.
+    fn user_fronts(&self, user: User) -> Option<&Fronts>
+        ensures { option_copied result ≡ slice_get self.now.users.items user }
+    {
+        self.users.get(usize::from(user.number()))
+    }
+
     /// Passes by numbers of a user's table from a number on that are known to be taken.
     fn past_user(&self, user: User, number: Inum) -> u32
         ensures taken { (T : Tree) → Shows S.may_give self.now T
             → AreTaken (λ i. is_free_at T (user, i)) number result }
         ensures from_ { number ≤ result }
     {
-        match self.users.get(usize::from(user.number())) {
+        match self.user_fronts(user) {
             Some(fronts) => fronts.past(number.number()),
             None => number.number(),
         }
@@ -102,13 +106,20 @@ impl<S: BlockSource> StoredForest<S> {
         Ok(None)
     }
 
+    /// Returns what is known of a group's table.
+    fn group_fronts(&self, group: Group) -> Option<&Fronts>
+        ensures { option_copied result ≡ slice_get self.now.groups.items group }
+    {
+        self.groups.get(usize::from(group.number()))
+    }
+
     /// Passes by numbers of a group's table from a number on that are known to be taken.
     fn past_group(&self, group: Group, number: Inum) -> u32
         ensures taken { (T : Tree) → Shows S.may_give self.now T
             → AreTaken (λ k. is_pointer_free T (GroupFileId group k)) number result }
         ensures from_ { number ≤ result }
     {
-        match self.groups.get(usize::from(group.number())) {
+        match self.group_fronts(group) {
             Some(fronts) => fronts.past(number.number()),
             None => number.number(),
         }
@@ -146,11 +157,7 @@ impl<S: BlockSource> StoredForest<S> {
 impl<S: BlockSource> StoredForest<S> {
     /// Finds the least number from a number on at which an inode of the user's stands; none where
     /// none does from there to the last. It looks at each number between.
-    pub(crate) fn least_taken(
-        &mut self,
-        user: User,
-        from_: Inum,
-    ) -> Result<Option<Inum>, Refusal>
+    pub(crate) fn least_taken(&mut self, user: User, from_: Inum) -> Result<Option<Inum>, Refusal>
         ensures finds { Finds (Shows S.may_give) (Fails S.failed) (Follows S.may_give S.follows)
             self.old self.new result (λ T n. IsLeastTaken (λ i. is_free_at T (user, i)) from_ n) }
         ensures from_ { IfOk result (λ n. IfSome n (λ m. from_ ≤ m)) }

@@ -1,6 +1,4 @@
 // What is asked of it is loaded where it lacks.
-ghost use Rattle.su_stored_forest.specs.Shows.{Shows, Fails, Follows};
-
 use crate::stored::StoredForest;
 use su_block::BlockSource;
 use su_bytes::{FileId, Group, Inum, Name, Place, Refusal, User};
@@ -8,11 +6,27 @@ use su_part::Wanted;
 use su_reading::{InodeHead, TreeReader};
 
 impl<S: BlockSource> TreeReader for StoredForest<S> {
+    ghost use Rattle.su_part_forest.proofs.Lifting.{all_kept};
+    ghost use Rattle.su_part_forest.proofs.Reading.{kept_on};
+    ghost use Rattle.su_stored_forest.specs.Shows.{Shows, Fails, Follows};
+
     ghost shows = { Shows S.may_give };
 
     ghost fails = { Fails S.failed };
 
     ghost follows = { Follows S.may_give S.follows };
+
+    ghost follows_itself = { λ r. record {
+      source = S.follows_itself r.source;
+      no_more = λ i gives. gives;
+      keeps = all_kept r.forest;
+    } };
+
+    ghost follows_on = { λ a b c h k. record {
+      source = S.follows_on a.source b.source c.source h.source k.source;
+      no_more = λ i gives. h.no_more i (k.no_more i gives);
+      keeps = kept_on a.forest b.forest c.forest h.keeps k.keeps;
+    } };
 
     fn body(&mut self, file: FileId) -> Result<Option<Place>, Refusal> {
         self.forest.body_of(&file, &mut self.source)

@@ -7,7 +7,6 @@ ghost use Rattle.su_table.specs.Tree.{Tree, genesis};
 ghost use Rattle.su_part.specs.Bytes.{NoneClash};
 ghost use Rattle.su_part_forest.specs.Loading.{HashedFor};
 ghost use Rattle.su_fronts.specs.Front.{AreFronts};
-ghost use Rattle.su_stored_forest.specs.Shows.{Shows};
 
 use std::alloc::Global;
 use su_block::BlockSource;
@@ -28,6 +27,8 @@ pub struct StoredForest<S: BlockSource> {
 }
 
 impl<S: BlockSource + Drop> StoredForest<S> {
+    ghost use Rattle.su_stored_forest.specs.Shows.{Shows};
+
     /// Makes the tree before the first operation, all of it loaded, beside that source. Fails only
     /// with `NoMemory`.
     pub fn genesis(alloc: Global, roster: &Roster, source: S) -> Result<StoredForest<S>, Refusal>
@@ -63,6 +64,8 @@ fn no_fronts(alloc: Global, count: usize) -> Result<Vec<Fronts>, Refusal>
 }
 
 impl<S: BlockSource> StoredForest<S> {
+    ghost use Rattle.su_stored_forest.specs.Shows.{Shows};
+
     /// Returns the i-handle of a user. It is at hand: no hash is made, nothing is loaded and no
     /// memory is taken.
     pub fn i_handle(&self, user: User) -> Digest
