@@ -8,6 +8,7 @@ mod drop_body;
 mod laws;
 mod link;
 mod loading;
+mod pointers;
 mod rename;
 mod take;
 mod truncate;
