@@ -3,6 +3,7 @@
 #![tactic(auto)]
 
 mod accepted;
+mod applying;
 mod create;
 mod drop_body;
 mod laws;
@@ -16,5 +17,6 @@ mod unlink;
 mod write;
 
 pub use accepted::Accepted;
+pub use applying::apply;
 pub use laws::{found_fits, found_is_local, found_tells_plan};
 pub use loading::fetch;
