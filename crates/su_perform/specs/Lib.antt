@@ -1,3 +1,4 @@
 pub mod Accepted
 pub mod Loaded
 pub mod Found
+pub mod Performed

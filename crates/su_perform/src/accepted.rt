@@ -1,5 +1,6 @@
 // The accepted operations by cases.
-ghost use Rattle.std.specs.Prelude.{◌≡◌, ◌⊎◌, ℕ, List, true, Some, None, IfOk, IfErr, OnOk};
+ghost use Rattle.std.specs.Prelude.{◌≡◌, ◌⊎◌, ℕ, List, true, Some, None, IfOk, IfErr, OnOk, OnErr};
+ghost use Rattle.su_table.specs.Edit.{edits};
 ghost use Rattle.su_table.specs.Tree.{Tree};
 ghost use Rattle.su_op.specs.Action.{action_by};
 ghost use Rattle.su_op.specs.Operation.{rule_by_user, why};
@@ -10,9 +11,10 @@ ghost use Rattle.su_part_tree.specs.Loading.{IsLoadRefusal};
 ghost use Rattle.su_part_forest.specs.Forest.{IsSound, Stands};
 ghost use Rattle.su_part_forest.specs.Loading.{HashedFor, KeepsLoaded};
 ghost use Rattle.su_part_forest.specs.Seen.{seen};
-ghost use Rattle.su_perform.specs.Accepted.{planned};
+ghost use Rattle.su_perform.specs.Accepted.{FitsIn, planned};
 ghost use Rattle.su_perform.specs.Found.{Found};
-ghost use Rattle.su_bytes.specs.declared.refusals.Refusal.TheVariants.{NoMemory};
+ghost use Rattle.su_perform.specs.Loaded.{HasAreas};
+ghost use Rattle.su_bytes.specs.declared.refusals.Refusal.TheVariants.{MissingBlock, NoMemory};
 
 use crate::create::AcceptedCreate;
 use crate::drop_body::AcceptedDrop;
@@ -179,6 +181,40 @@ impl<'a> Accepted<'a> {
             Accepted::Link(link) => link.footprint(alloc),
             Accepted::Rename(rename) => rename.footprint(alloc),
             Accepted::Drop(dropped) => dropped.footprint(alloc),
+        }
+    }
+
+    /// Performs the operation, on a forest of which what it reads is loaded, and which stands for a
+    /// tree where what its check found still holds. Refused with `MissingBlock` where what it
+    /// writes isn't loaded, and with `NoMemory` where memory is wanting; then the forest stands for
+    /// what it stood for.
+    pub fn perform(&self, forest: &mut PartForest) -> Result<(), Refusal>
+        ensures ok { (T : Tree) → Stands forest.old T → FitsIn T self.now
+            → HasAreas T forest.old (plan_reads (planned T self.now))
+            → OnOk result (Stands forest.new (edits T (planned T self.now).edits)) }
+        ensures refused { IfErr result (λ e. (e ≡ NoMemory) ⊎ (e ≡ MissingBlock)) }
+        ensures loaded { (T : Tree) → Stands forest.old T → FitsIn T self.now
+            → HasAreas T forest.old (plan_reads (planned T self.now))
+            → IfErr result (λ e. e ≡ NoMemory) }
+        ensures err { (T : Tree) → Stands forest.old T → FitsIn T self.now
+            → HasAreas T forest.old (plan_reads (planned T self.now))
+            → OnErr result (Stands forest.new T) }
+    {
+        match self {
+            Accepted::Create(create) => create.perform(forest),
+            Accepted::Unlink(unlink) => {
+                unlink.perform(forest);
+                Ok(())
+            }
+            Accepted::Write(write) => write.perform(forest),
+            Accepted::Truncate(truncate) => truncate.perform(forest),
+            Accepted::Take(take) => take.perform(forest),
+            Accepted::Link(link) => link.perform(forest),
+            Accepted::Rename(rename) => rename.perform(forest),
+            Accepted::Drop(dropped) => {
+                dropped.perform(forest);
+                Ok(())
+            }
         }
     }
 }

@@ -1,13 +1,20 @@
 // A new file or directory.
-ghost use Rattle.std.specs.Prelude.{◌≡◌, Some, None, IfOk, IfErr, OnOk};
+ghost use Rattle.std.specs.Prelude.{◌≡◌, ◌⊎◌, true, Some, None, IfOk, IfErr, OnOk, OnErr};
+ghost use Rattle.su_bytes.specs.declared.refusals.Refusal.TheVariants.{MissingBlock, NoMemory};
+ghost use Rattle.su_table.specs.Edit.{edits};
+ghost use Rattle.su_table.specs.Tree.{Tree};
+ghost use Rattle.su_op.specs.Growth.{AreFreeFor};
 ghost use Rattle.su_op.specs.Create.{create_rule, is_own_number};
 ghost use Rattle.su_op.specs.Rule.{refusal, plan_reads, plan_writes};
-ghost use Rattle.su_part_forest.specs.Forest.{IsSound};
+ghost use Rattle.su_part_forest.specs.Known.{StaysKnown};
+ghost use Rattle.su_part_forest.specs.Forest.{IsSound, Stands};
 ghost use Rattle.su_part_forest.specs.Seen.{seen};
+ghost use Rattle.su_perform.specs.Performed.{IsReady, added_edits};
+ghost use Rattle.su_perform.specs.Loaded.{HasAreas};
 ghost use Rattle.su_perform.specs.Accepted.{planned_create};
 ghost use Rattle.su_perform.specs.Found.{FoundCreate};
-ghost use Rattle.su_bytes.specs.declared.refusals.Refusal.TheVariants.{NoMemory};
 
+use crate::pointers::set_pointer;
 use std::alloc::Global;
 use su_bytes::{FileId, Place, Refusal, Roster, User};
 use su_op::{Area, Create, Footprint, Part, closed_group, push_file, push_pointer};
@@ -84,6 +91,57 @@ impl<'a> AcceptedCreate<'a> {
         writes.push(Area::Inode((self.author, create.body), Part::Size))?;
         push_pointer(&mut writes, create.file)?;
         Footprint::new(besides, writes)
+    }
+
+    /// Gives the directory the name, and adds the file. Refused with `MissingBlock` where what it
+    /// writes isn't loaded, and with `NoMemory` where memory is wanting; then the forest stands for
+    /// what it stood for.
+    pub(crate) fn perform(&self, forest: &mut PartForest) -> Result<(), Refusal>
+        ensures ok { (T : Tree) → Stands forest.old T
+            → AreFreeFor T (planned_create self.now).edits
+            → HasAreas T forest.old (plan_writes (planned_create self.now))
+            → OnOk result (Stands forest.new (edits T (planned_create self.now).edits)) }
+        ensures refused { IfErr result (λ e. (e ≡ NoMemory) ⊎ (e ≡ MissingBlock)) }
+        ensures loaded { (T : Tree) → Stands forest.old T
+            → AreFreeFor T (planned_create self.now).edits
+            → HasAreas T forest.old (plan_writes (planned_create self.now))
+            → IfErr result (λ e. e ≡ NoMemory) }
+        ensures err { (T : Tree) → Stands forest.old T
+            → AreFreeFor T (planned_create self.now).edits
+            → HasAreas T forest.old (plan_writes (planned_create self.now))
+            → OnErr result (Stands forest.new T) }
+    {
+        let create = self.create;
+        // names the number's range for the prover (docs/ARCHITECTURE.md, "Forms the kit wants")
+        let _number = create.body.number();
+        forest.add_name(self.directory, create.name.clone()?, create.file)?;
+        if let Err(refusal) = self.add_file(forest) {
+            forest.remove_name(self.directory, &create.name);
+            return Err(refusal);
+        }
+        Ok(())
+    }
+
+    /// Adds the new inode, and a group file's pointer that points at it. Nothing stands there.
+    /// Refused as `perform` is; then what was known stays known.
+    fn add_file(&self, forest: &mut PartForest) -> Result<(), Refusal>
+        ensures ok { (T : Tree) → Stands forest.old T → IsReady T forest.old self.now
+            → OnOk result (Stands forest.new (edits T (added_edits self.now))) }
+        ensures refused { IfErr result (λ e. (e ≡ NoMemory) ⊎ (e ≡ MissingBlock)) }
+        ensures loaded { (T : Tree) → Stands forest.old T → IsReady T forest.old self.now
+            → IfErr result (λ e. e ≡ NoMemory) }
+        ensures err { (T : Tree) → Stands forest.old T → IsReady T forest.old self.now
+            → OnErr result (Stands forest.new T) }
+        ensures err_known { (T : Tree) → Stands forest.old T → IsReady T forest.old self.now
+            → OnErr result (StaysKnown T T forest.old forest.new) }
+    {
+        let create = self.create;
+        forest.make_inode((self.author, create.body), create.file, create.kind)?;
+        if let Err(refusal) = set_pointer(forest, create.file, (self.author, create.body)) {
+            forest.remove_inode((self.author, create.body));
+            return Err(refusal);
+        }
+        Ok(())
     }
 }
 

@@ -1,14 +1,17 @@
 // A body goes that no file id leads to any more.
 ghost use Rattle.std.specs.Prelude.{◌≡◌, Some, None, IfOk, IfErr, OnOk};
+ghost use Rattle.su_bytes.specs.declared.refusals.Refusal.TheVariants.{NoMemory};
 ghost use Rattle.su_node.specs.Field.{Field.KindOf};
+ghost use Rattle.su_table.specs.Edit.{edits};
+ghost use Rattle.su_table.specs.Tree.{Tree};
 ghost use Rattle.su_table.specs.Cell.{Cell.At, Cell.Pointer, val};
 ghost use Rattle.su_op.specs.DropBody.{group_home, leads_here, stale_home, drop_rule};
 ghost use Rattle.su_op.specs.Rule.{refusal, plan_reads, plan_writes};
-ghost use Rattle.su_part_forest.specs.Forest.{IsSound};
+ghost use Rattle.su_part_forest.specs.Forest.{IsSound, Stands};
 ghost use Rattle.su_part_forest.specs.Seen.{seen};
+ghost use Rattle.su_perform.specs.Loaded.{HasAreas};
 ghost use Rattle.su_perform.specs.Accepted.{planned_drop};
 ghost use Rattle.su_perform.specs.Found.{FoundDrop};
-ghost use Rattle.su_bytes.specs.declared.refusals.Refusal.TheVariants.{NoMemory};
 
 use std::alloc::Global;
 use su_bytes::{FileId, GroupFile, Place, Refusal, User};
@@ -61,6 +64,17 @@ impl<'a> AcceptedDrop<'a> {
         let mut writes = Vec::new(alloc);
         writes.push(Area::Inode((self.author, self.dropped.body), Part::Whole))?;
         Footprint::new(besides, writes)
+    }
+
+    /// Removes the inode. What it writes is loaded. Nothing grows, so nothing is refused.
+    pub(crate) fn perform(&self, forest: &mut PartForest)
+        ensures stands { (T : Tree) → Stands forest.old T
+            → HasAreas T forest.old (plan_writes (planned_drop self.now))
+            → Stands forest.new (edits T (planned_drop self.now).edits) }
+    {
+        // names the number's range for the prover (docs/ARCHITECTURE.md, "Forms the kit wants")
+        let _number = self.dropped.body.number();
+        forest.remove_inode((self.author, self.dropped.body));
     }
 }
 

@@ -3,11 +3,13 @@
 #![tactic(auto)]
 
 mod accepted;
+mod applying;
 mod create;
 mod drop_body;
 mod laws;
 mod link;
 mod loading;
+mod pointers;
 mod rename;
 mod take;
 mod truncate;
@@ -15,5 +17,6 @@ mod unlink;
 mod write;
 
 pub use accepted::Accepted;
+pub use applying::apply;
 pub use laws::{found_fits, found_is_local, found_tells_plan};
 pub use loading::fetch;

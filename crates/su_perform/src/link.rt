@@ -1,9 +1,12 @@
 // A file gets a further name.
-ghost use Rattle.std.specs.Prelude.{◌≡◌, ◌<◌, Some, None, IfOk, IfErr, OnOk};
+ghost use Rattle.std.specs.Prelude.{◌≡◌, ◌⊎◌, ◌<◌, Some, None, IfOk, IfErr, OnOk, OnErr};
+ghost use Rattle.su_bytes.specs.declared.refusals.Refusal.TheVariants.{MissingBlock, NoMemory};
+ghost use Rattle.su_table.specs.Edit.{edits};
+ghost use Rattle.su_table.specs.Tree.{Tree};
 ghost use Rattle.su_op.specs.Limits.{most_links};
 ghost use Rattle.su_op.specs.Link.{link_rule};
 ghost use Rattle.su_op.specs.Rule.{refusal, plan_reads, plan_writes};
-ghost use Rattle.su_bytes.specs.declared.refusals.Refusal.TheVariants.{NoMemory};
+ghost use Rattle.su_perform.specs.Loaded.{HasAreas};
 
 use std::alloc::Global;
 use su_bytes::{Place, Refusal, Roster, User};
@@ -22,7 +25,7 @@ pub struct AcceptedLink<'a> {
 }
 
 impl<'a> AcceptedLink<'a> {
-    ghost use Rattle.su_part_forest.specs.Forest.{IsSound};
+    ghost use Rattle.su_part_forest.specs.Forest.{IsSound, Stands};
     ghost use Rattle.su_part_forest.specs.Seen.{seen};
     ghost use Rattle.su_perform.specs.Accepted.{planned_link};
     ghost use Rattle.su_perform.specs.Found.{FoundLink};
@@ -93,5 +96,28 @@ impl<'a> AcceptedLink<'a> {
         writes.push(Area::Inode(self.directory, Part::Name(link.name.clone()?)))?;
         writes.push(Area::Inode(self.place, Part::Links))?;
         Footprint::new(besides, writes)
+    }
+
+    /// Gives the directory the name, and the file a link more. Refused with `MissingBlock` where
+    /// what it writes isn't loaded, and with `NoMemory` where memory is wanting; then the forest
+    /// stands for what it stood for.
+    pub(crate) fn perform(&self, forest: &mut PartForest) -> Result<(), Refusal>
+        ensures ok { (T : Tree) → Stands forest.old T
+            → HasAreas T forest.old (plan_writes (planned_link self.now))
+            → OnOk result (Stands forest.new (edits T (planned_link self.now).edits)) }
+        ensures refused { IfErr result (λ e. (e ≡ NoMemory) ⊎ (e ≡ MissingBlock)) }
+        ensures loaded { (T : Tree) → Stands forest.old T
+            → HasAreas T forest.old (plan_writes (planned_link self.now))
+            → IfErr result (λ e. e ≡ NoMemory) }
+        ensures err { (T : Tree) → Stands forest.old T
+            → HasAreas T forest.old (plan_writes (planned_link self.now))
+            → OnErr result (Stands forest.new T) }
+    {
+        let link = self.link;
+        // names the number's range for the prover (docs/ARCHITECTURE.md, "Forms the kit wants")
+        let _number = self.place.1.number();
+        forest.add_name(self.directory, link.name.clone()?, link.file)?;
+        forest.set_links(self.place, self.links + 1);
+        Ok(())
     }
 }

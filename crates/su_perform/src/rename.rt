@@ -1,18 +1,22 @@
 // A file gets another name.
-ghost use Rattle.std.specs.Prelude.{◌≡◌, ◌||◌, Some, None, IfOk, IfErr, OnOk, true, false, is_some};
+ghost use Rattle.std.specs.Prelude.{◌≡◌, ◌⊎◌, ◌||◌, true, false, Some, None, is_some, IfOk, IfErr, OnOk, OnErr};
+ghost use Rattle.su_bytes.specs.declared.refusals.Refusal.TheVariants.{MissingBlock, NoMemory, NoFile};
+ghost use Rattle.su_table.specs.Edit.{edits};
+ghost use Rattle.su_table.specs.Tree.{Tree};
 ghost use Rattle.su_table.specs.Query.{body};
 ghost use Rattle.su_op.specs.Rename.{stays, moved, moves_directory, rename_rule, rename_rule_at};
 ghost use Rattle.su_op.specs.Rule.{refusal, plan_reads, plan_writes};
-ghost use Rattle.su_part_forest.specs.Forest.{IsSound};
+ghost use Rattle.su_part_forest.specs.Forest.{IsSound, Stands};
 ghost use Rattle.su_part_forest.specs.Seen.{seen};
+ghost use Rattle.su_perform.specs.Loaded.{HasAreas};
 ghost use Rattle.su_perform.specs.Accepted.{planned_rename};
 ghost use Rattle.su_perform.specs.Found.{FoundRename, FoundPlaces};
-ghost use Rattle.su_bytes.specs.declared.refusals.Refusal.TheVariants.{NoMemory, NoFile};
 
 use std::alloc::Global;
 use su_bytes::{Place, Refusal, Roster, User};
 use su_op::{Area, Footprint, Part, Rename, closed_group, push_file};
 use su_part_forest::PartForest;
+use su_tree::TreeKey;
 
 /// A rename that is accepted, and where the directories stand, and the file if it goes from one to
 /// the other.
@@ -87,6 +91,30 @@ impl<'a> AcceptedRename<'a> {
         writes.push(Area::Inode(self.target, Part::Name(rename.new_.clone()?)))?;
         writes.push(Area::Inode(self.source, Part::Name(rename.old_.clone()?)))?;
         Footprint::new(besides, writes)
+    }
+
+    /// Gives the file the new name, and takes the old one away. Refused with `MissingBlock` where
+    /// what it writes isn't loaded, and with `NoMemory` where memory is wanting; then the forest
+    /// stands for what it stood for.
+    pub(crate) fn perform(&self, forest: &mut PartForest) -> Result<(), Refusal>
+        ensures ok { (T : Tree) → Stands forest.old T
+            → HasAreas T forest.old (plan_writes (planned_rename self.now))
+            → OnOk result (Stands forest.new (edits T (planned_rename self.now).edits)) }
+        ensures refused { IfErr result (λ e. (e ≡ NoMemory) ⊎ (e ≡ MissingBlock)) }
+        ensures loaded { (T : Tree) → Stands forest.old T
+            → HasAreas T forest.old (plan_writes (planned_rename self.now))
+            → IfErr result (λ e. e ≡ NoMemory) }
+        ensures err { (T : Tree) → Stands forest.old T
+            → HasAreas T forest.old (plan_writes (planned_rename self.now))
+            → OnErr result (Stands forest.new T) }
+    {
+        let rename = self.rename;
+        // names the ranges for the prover (docs/ARCHITECTURE.md, "Forms the kit wants")
+        let _number = self.source.1.number();
+        let _bytes = rename.old_.byte_count();
+        forest.add_name(self.target, rename.new_.clone()?, rename.file)?;
+        forest.remove_name(self.source, &rename.old_);
+        Ok(())
     }
 }
 

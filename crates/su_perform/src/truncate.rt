@@ -1,12 +1,16 @@
 // A file gets another size.
-ghost use Rattle.std.specs.Prelude.{◌≡◌, Some, None, IfOk, IfErr, OnOk};
+ghost use Rattle.std.specs.Prelude.{◌≡◌, ◌⊎◌, Some, None, IfOk, IfErr, OnOk, OnErr};
+ghost use Rattle.su_bytes.specs.declared.refusals.Refusal.TheVariants.{MissingBlock, NoMemory};
+ghost use Rattle.su_table.specs.Edit.{edits};
+ghost use Rattle.su_table.specs.Tree.{Tree};
+ghost use Rattle.su_table.specs.Query.{size_at};
 ghost use Rattle.su_op.specs.Truncate.{truncate_rule};
 ghost use Rattle.su_op.specs.Rule.{refusal, plan_reads, plan_writes};
-ghost use Rattle.su_part_forest.specs.Forest.{IsSound};
+ghost use Rattle.su_part_forest.specs.Forest.{IsSound, Stands};
 ghost use Rattle.su_part_forest.specs.Seen.{seen};
+ghost use Rattle.su_perform.specs.Loaded.{HasAreas};
 ghost use Rattle.su_perform.specs.Accepted.{planned_truncate};
 ghost use Rattle.su_perform.specs.Found.{FoundTruncate};
-ghost use Rattle.su_bytes.specs.declared.refusals.Refusal.TheVariants.{NoMemory};
 
 use std::alloc::Global;
 use su_bytes::{Format, Place, Refusal, Roster, User};
@@ -84,5 +88,34 @@ impl<'a> AcceptedTruncate<'a> {
             writes.push(Area::Inode(self.place, Part::Blocks(blocks)))?;
         }
         Footprint::new(besides, writes)
+    }
+
+    /// Gives the file the size. Refused with `MissingBlock` where the file grows and what it writes
+    /// isn't loaded, and with `NoMemory` where memory is wanting; then the forest stands for what
+    /// it stood for.
+    pub(crate) fn perform(&self, forest: &mut PartForest) -> Result<(), Refusal>
+        ensures ok { (T : Tree) → Stands forest.old T
+            → size_at T self.now.place ≡ self.now.size
+            → HasAreas T forest.old (plan_writes (planned_truncate self.now))
+            → OnOk result (Stands forest.new (edits T (planned_truncate self.now).edits)) }
+        ensures refused { IfErr result (λ e. (e ≡ NoMemory) ⊎ (e ≡ MissingBlock)) }
+        ensures loaded { (T : Tree) → Stands forest.old T
+            → size_at T self.now.place ≡ self.now.size
+            → HasAreas T forest.old (plan_writes (planned_truncate self.now))
+            → IfErr result (λ e. e ≡ NoMemory) }
+        ensures err { (T : Tree) → Stands forest.old T
+            → size_at T self.now.place ≡ self.now.size
+            → HasAreas T forest.old (plan_writes (planned_truncate self.now))
+            → OnErr result (Stands forest.new T) }
+    {
+        let (old_size, new_size) = (self.size, self.truncate.size);
+        if old_size < new_size {
+            forest.grow(self.place, new_size)
+        } else if new_size < old_size {
+            forest.cut(self.place, new_size);
+            Ok(())
+        } else {
+            Ok(())
+        }
     }
 }

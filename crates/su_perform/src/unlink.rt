@@ -1,17 +1,26 @@
 // Taking a name away, and the file with its last one.
 ghost use Rattle.std.specs.Prelude.{◌≡◌, Some, None, IfOk, IfErr, OnOk};
+ghost use Rattle.su_bytes.specs.declared.refusals.Refusal.TheVariants.{NoMemory};
+ghost use Rattle.su_table.specs.Edit.{edits};
+ghost use Rattle.su_table.specs.Tree.{Tree};
+ghost use Rattle.su_op.specs.Unlink.{file_goes};
 ghost use Rattle.su_op.specs.Unlink.{unlink_rule};
 ghost use Rattle.su_op.specs.Rule.{refusal, plan_reads, plan_writes};
-ghost use Rattle.su_part_forest.specs.Forest.{IsSound};
+ghost use Rattle.su_part.specs.Known.{Want.AnInode};
+ghost use Rattle.su_part_forest.specs.Known.{Want.OfUser, Knows};
+ghost use Rattle.su_part_forest.specs.Forest.{IsSound, Stands};
 ghost use Rattle.su_part_forest.specs.Seen.{seen};
+ghost use Rattle.su_perform.specs.Performed.{KnowsPointerOf};
+ghost use Rattle.su_perform.specs.Loaded.{HasAreas};
 ghost use Rattle.su_perform.specs.Accepted.{planned_unlink};
 ghost use Rattle.su_perform.specs.Found.{FoundUnlink};
-ghost use Rattle.su_bytes.specs.declared.refusals.Refusal.TheVariants.{NoMemory};
 
+use crate::pointers::remove_pointer;
 use std::alloc::Global;
 use su_bytes::{Place, Refusal, Roster, User};
 use su_op::{Area, Footprint, Part, Unlink, closed_group, push_file, push_pointer};
 use su_part_forest::PartForest;
+use su_tree::TreeKey;
 
 /// An unlink that is accepted, and where the directory and the file stand.
 #[derive(Clone, Copy)]
@@ -93,5 +102,34 @@ impl<'a> AcceptedUnlink<'a> {
             writes.push(Area::Inode(self.place, Part::Links))?;
         }
         Footprint::new(besides, writes)
+    }
+
+    /// Removes the name, and a link or the file. What it writes is loaded. Nothing grows, so
+    /// nothing is refused.
+    pub(crate) fn perform(&self, forest: &mut PartForest)
+        ensures stands { (T : Tree) → Stands forest.old T
+            → HasAreas T forest.old (plan_writes (planned_unlink self.now))
+            → Stands forest.new (edits T (planned_unlink self.now).edits) }
+    {
+        // names the ranges for the prover (docs/ARCHITECTURE.md, "Forms the kit wants")
+        let _bytes = self.unlink.name.byte_count();
+        let (_directory, _place) = (self.directory.1.number(), self.place.1.number());
+        forest.remove_name(self.directory, &self.unlink.name);
+        if 2 <= self.links {
+            forest.set_links(self.place, self.links - 1);
+        } else {
+            self.remove_file(forest);
+        }
+    }
+
+    /// Removes the inode and a group file's pointer, both of which are known.
+    fn remove_file(&self, forest: &mut PartForest)
+        ensures { (T : Tree) → Stands forest.old T
+            → Knows T (OfUser self.now.place.0 (AnInode self.now.place.1)) forest.old
+            → KnowsPointerOf T self.now.unlink.now.file forest.old
+            → Stands forest.new (edits T (file_goes self.now.unlink.now.file self.now.place)) }
+    {
+        remove_pointer(forest, self.unlink.file);
+        forest.remove_inode(self.place);
     }
 }

@@ -1,8 +1,12 @@
 // Bytes are written to a file.
-ghost use Rattle.std.specs.Prelude.{◌≡◌, ◌+◌, ◌<◌, ◌^◌, length, Some, None, IfOk, IfErr, OnOk};
+ghost use Rattle.std.specs.Prelude.{◌≡◌, ◌⊎◌, ◌+◌, ◌<◌, ◌^◌, length, Some, None, IfOk, IfErr, OnOk, OnErr};
+ghost use Rattle.su_bytes.specs.declared.refusals.Refusal.TheVariants.{MissingBlock, NoMemory};
+ghost use Rattle.su_table.specs.Edit.{edits};
+ghost use Rattle.su_table.specs.Tree.{Tree};
+ghost use Rattle.su_table.specs.Query.{size_at};
 ghost use Rattle.su_op.specs.Write.{write_rule};
 ghost use Rattle.su_op.specs.Rule.{refusal, plan_reads, plan_writes};
-ghost use Rattle.su_bytes.specs.declared.refusals.Refusal.TheVariants.{NoMemory};
+ghost use Rattle.su_perform.specs.Loaded.{HasAreas};
 
 use std::alloc::Global;
 use su_bytes::{Format, Place, Refusal, Roster, User};
@@ -23,7 +27,7 @@ pub struct AcceptedWrite<'a> {
 }
 
 impl<'a> AcceptedWrite<'a> {
-    ghost use Rattle.su_part_forest.specs.Forest.{IsSound};
+    ghost use Rattle.su_part_forest.specs.Forest.{IsSound, Stands};
     ghost use Rattle.su_part_forest.specs.Seen.{seen};
     ghost use Rattle.su_perform.specs.Accepted.{planned_write};
     ghost use Rattle.su_perform.specs.Found.{FoundWrite};
@@ -89,5 +93,26 @@ impl<'a> AcceptedWrite<'a> {
         let blocks = blocks_between(first, end_);
         writes.push(Area::Inode(self.place, Part::Blocks(blocks)))?;
         Footprint::new(besides, writes)
+    }
+
+    /// Writes the bytes. Refused with `MissingBlock` where what it writes isn't loaded, and with
+    /// `NoMemory` where memory is wanting; then the forest stands for what it stood for.
+    pub(crate) fn perform(&self, forest: &mut PartForest) -> Result<(), Refusal>
+        ensures ok { (T : Tree) → Stands forest.old T
+            → size_at T self.now.place ≡ self.now.size
+            → HasAreas T forest.old (plan_writes (planned_write self.now))
+            → OnOk result (Stands forest.new (edits T (planned_write self.now).edits)) }
+        ensures refused { IfErr result (λ e. (e ≡ NoMemory) ⊎ (e ≡ MissingBlock)) }
+        ensures loaded { (T : Tree) → Stands forest.old T
+            → size_at T self.now.place ≡ self.now.size
+            → HasAreas T forest.old (plan_writes (planned_write self.now))
+            → IfErr result (λ e. e ≡ NoMemory) }
+        ensures err { (T : Tree) → Stands forest.old T
+            → size_at T self.now.place ≡ self.now.size
+            → HasAreas T forest.old (plan_writes (planned_write self.now))
+            → OnErr result (Stands forest.new T) }
+    {
+        let write = self.write;
+        forest.write_at(self.place, write.off, write.bytes.as_slice())
     }
 }
