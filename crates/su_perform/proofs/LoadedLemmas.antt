@@ -40,6 +40,7 @@ use Rattle.su_part.specs.Seen.{seen_inode, loaded_inodes}
 use Rattle.su_part.proofs.Public.{there_on}
 use Rattle.su_part.proofs.UserLemmas.{all_on}
 use Rattle.su_part.proofs.SeenLemmas.{seen_kind, seen_links, seen_size, seen_name, seen_bare}
+use Rattle.su_part_forest.proofs.Reading.{kept_on}
 use Rattle.su_part_forest.specs.Forest.{Stands, IsPart, HasPointerAt, user_part, group_part}
 use Rattle.su_part_forest.specs.Loading.{HasAt, IsKept, KeepsLoaded, KeepsPointers}
 use Rattle.su_part_forest.specs.Seen.{seen}
@@ -214,18 +215,6 @@ module _ (f : PartForest) (T : Tree) (h : Stands f T) where
       go false e rest = rest (sym (ap (λ b. b || has w c) e) ∙ is)
 
 -- ---- one load after another
-
-is_kept_on : {X : Type 0} (K : X → X → Type 0) → ((a b c : X) → K a b → K b c → K a c) → (o r w : Option X) → IsKept K o r → IsKept K r w → IsKept K o w
-is_kept_on K on None r w h k = tt
-is_kept_on K on (Some p) None w h k = absurd h
-is_kept_on K on (Some p) (Some q) None h k = absurd k
-is_kept_on K on (Some p) (Some q) (Some r) h k = on p q r h k
-
-pub kept_on : (f g j : PartForest) → KeepsLoaded f g → KeepsLoaded g j → KeepsLoaded f j
-kept_on f g j h k = record {
-  users = λ u. is_kept_on HasAll all_on (user_part u f) (user_part u g) (user_part u j) (h.users u) (k.users u);
-  groups = λ n. is_kept_on KeepsPointers (λ a b c x y i has. y i (x i has)) (group_part n f) (group_part n g) (group_part n j) (h.groups n) (k.groups n);
-}
 
 -- nothing clashes with what is no more than that
 pub less : (Q P R : List ℕ → Type 0) → NoneClash Q P → ((i : List ℕ) → R i → P i) → NoneClash Q R

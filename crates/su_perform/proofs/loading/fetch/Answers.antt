@@ -6,7 +6,8 @@ use Rattle.su_part.proofs.LoadLemmas.{answered, handed_on, loads_on, nothing_ask
 use Rattle.su_part_forest.specs.Loading.{HashedFor}
 use Rattle.su_part_forest.proofs.Lifting.{all_kept}
 use Rattle.su_perform.specs.Loaded.{HasAreas}
-use Rattle.su_perform.proofs.LoadedLemmas.{areas_joined, areas_on, kept_on, less}
+use Rattle.su_part_forest.proofs.Reading.{kept_on}
+use Rattle.su_perform.proofs.LoadedLemmas.{areas_joined, areas_on, less}
 use Rattle.su_perform.proofs.loading.fetch.Goals as goal
 
 pub loop-area-init : goal.loop-area-init

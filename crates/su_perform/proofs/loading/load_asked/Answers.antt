@@ -6,7 +6,8 @@ use Rattle.su_part_forest.specs.Loading.{HashedFor}
 use Rattle.su_part_forest.specs.Seen.{seen}
 use Rattle.su_part_forest.proofs.Lifting.{on_ok}
 use Rattle.su_perform.specs.Loaded.{HasAreas}
-use Rattle.su_perform.proofs.LoadedLemmas.{areas_joined, areas_on, areas_seen, first_light, kept_on, less}
+use Rattle.su_part_forest.proofs.Reading.{kept_on}
+use Rattle.su_perform.proofs.LoadedLemmas.{areas_joined, areas_on, areas_seen, first_light, less}
 use Rattle.su_perform.proofs.loading.load_asked.Goals as goal
 
 pub returns-clause-loads : goal.returns-clause-loads

@@ -1,4 +1,4 @@
-use Rattle.std.proofs.Common.{◌≡◌, ◌≤◌, ◌-◌, Ok}
+use Rattle.std.proofs.Common.{◌≤◌, ◌-◌, Ok}
 use Rattle.su_fronts.specs.Front.{AreTaken}
 use Rattle.su_reading.specs.Reading.{Finds}
 use Rattle.su_table.specs.Query.{is_free_at}

@@ -1,4 +1,4 @@
-use Rattle.std.proofs.Common.{◌≡◌, ◌≤◌, ◌-◌, Ok}
+use Rattle.std.proofs.Common.{◌≤◌, ◌-◌, Ok}
 use Rattle.su_fronts.specs.Front.{AreTaken}
 use Rattle.su_reading.specs.Reading.{Finds}
 use Rattle.su_bytes.specs.declared.file_ids.FileId.TheVariants.{Group}
