@@ -2,7 +2,9 @@
 #![tactic(auto)]
 
 mod numbers;
+mod operations;
 mod reads;
+mod sheds;
 mod stored;
 
 pub use stored::StoredForest;
