@@ -51,5 +51,7 @@ returns-in_err-with g c =
 
 pub returns : goal.returns
 unfolding link_draft
-returns g c = record { works_out = ends_ok c.in_ok-draft.draft c.operations.result c.in_ok-draft.was refl (joined c.in_ok-with_take.field-0 c.in_ok-with_take.was g.met.R.TreeReader.follows_on (joined c.in_ok-directory.directory c.in_ok-directory.was g.met.R.TreeReader.follows_on (joined c.in_ok-file.file c.in_ok-file.was g.met.R.TreeReader.follows_on c.at.ensures.works_out c.directory_of.ensures.works_out) c.with_take.ensures.works_out) c.with_take-2.ensures.works_out)
-    (λ T is. rw (c.in_ok-names.ensures, c.in_ok-path.ensures, ap (at T) (sym c.as_slice.ensures.value) ∙ is.0.0.0, is.0.0.1, ap (λ (d : DraftState). with_take T d c.in_ok-directory.directory) (sym c.new-2.ensures) ∙ is.0.1, is.1) (ap (λ (d : DraftState). Ok d.operations) (same_ok c.in_ok-with.ensures) ∙ ap Ok (sym c.operations.ensures))) }
+returns g c = record {
+  works_out = ends_ok c.in_ok-draft.draft c.operations.result c.in_ok-draft.was refl (joined c.in_ok-with_take.field-0 c.in_ok-with_take.was g.met.R.TreeReader.follows_on (joined c.in_ok-directory.directory c.in_ok-directory.was g.met.R.TreeReader.follows_on (joined c.in_ok-file.file c.in_ok-file.was g.met.R.TreeReader.follows_on c.at.ensures.works_out c.directory_of.ensures.works_out) c.with_take.ensures.works_out) c.with_take-2.ensures.works_out)
+      (λ T is. rw (c.in_ok-names.ensures, c.in_ok-path.ensures, ap (at T) (sym c.as_slice.ensures.value) ∙ is.0.0.0, is.0.0.1, ap (λ (d : DraftState). with_take T d c.in_ok-directory.directory) (sym c.new-2.ensures) ∙ is.0.1, is.1) (ap (λ (d : DraftState). Ok d.operations) (same_ok c.in_ok-with.ensures) ∙ ap Ok (sym c.operations.ensures)));
+}

@@ -44,5 +44,7 @@ returns-in_err-with g c =
 
 pub returns : goal.returns
 unfolding make_draft
-returns g c = record { works_out = ends_ok c.in_ok-file.file c.operations.result c.in_ok-file.was refl (joined c.in_ok-body.body c.in_ok-body.was g.met.R.TreeReader.follows_on (joined c.in_ok-draft.draft c.in_ok-draft.was g.met.R.TreeReader.follows_on (joined c.in_ok-directory.directory c.in_ok-directory.was g.met.R.TreeReader.follows_on c.directory_of.ensures.works_out c.with_take.ensures.works_out) c.next_body.ensures.works_out) c.new_file.ensures.works_out)
-    (λ T is. rw (c.in_ok-path.ensures, is.0.0.0, ap (λ (d : DraftState). with_take T d c.in_ok-directory.directory) (sym c.new-2.ensures) ∙ is.0.0.1, is.0.1, is.1) (ap (λ (d : DraftState). Ok d.operations) (same_ok c.in_ok-with.ensures) ∙ ap Ok (sym c.operations.ensures))) }
+returns g c = record {
+  works_out = ends_ok c.in_ok-file.file c.operations.result c.in_ok-file.was refl (joined c.in_ok-body.body c.in_ok-body.was g.met.R.TreeReader.follows_on (joined c.in_ok-draft.draft c.in_ok-draft.was g.met.R.TreeReader.follows_on (joined c.in_ok-directory.directory c.in_ok-directory.was g.met.R.TreeReader.follows_on c.directory_of.ensures.works_out c.with_take.ensures.works_out) c.next_body.ensures.works_out) c.new_file.ensures.works_out)
+      (λ T is. rw (c.in_ok-path.ensures, is.0.0.0, ap (λ (d : DraftState). with_take T d c.in_ok-directory.directory) (sym c.new-2.ensures) ∙ is.0.0.1, is.0.1, is.1) (ap (λ (d : DraftState). Ok d.operations) (same_ok c.in_ok-with.ensures) ∙ ap Ok (sym c.operations.ensures)));
+}

@@ -16,9 +16,13 @@ unfolding free_group_number
 least T k o h = ap (λ (x : Option ℕ). ok_or x BadNumber) (sym (least_free-is (λ n. is_pointer_free T (Group k n)) 1 o (omega arith) h))
 
 pub returns-in-Some : goal.returns-in-Some
-returns-in-Some g c = record { works_out = ends_ok c.in_ok-number.field-0 c.in-Some.number c.in_ok-number.was refl c.free_group_number.ensures.finds
-    (λ T is. least T c.args.group c.in_ok-number.field-0 is ∙ rw c.in-Some.is refl) }
+returns-in-Some g c = record {
+  works_out = ends_ok c.in_ok-number.field-0 c.in-Some.number c.in_ok-number.was refl c.free_group_number.ensures.finds
+      (λ T is. least T c.args.group c.in_ok-number.field-0 is ∙ rw c.in-Some.is refl);
+}
 
 pub returns-in-None : goal.returns-in-None
-returns-in-None g c = record { works_out = ends_err c.in_ok-number.field-0 BadNumber c.in_ok-number.was refl c.free_group_number.ensures.finds
-    (λ T is. inr (least T c.args.group c.in_ok-number.field-0 is ∙ rw c.in-None.is refl)) }
+returns-in-None g c = record {
+  works_out = ends_err c.in_ok-number.field-0 BadNumber c.in_ok-number.was refl c.free_group_number.ensures.finds
+      (λ T is. inr (least T c.args.group c.in_ok-number.field-0 is ∙ rw c.in-None.is refl));
+}

@@ -32,5 +32,7 @@ returns-in_err-with g c =
 
 pub returns : goal.returns
 unfolding moved
-returns g c = record { works_out = ends_ok c.in_ok-draft-2.draft c.operations.result c.in_ok-draft-2.was refl (joined c.in_ok-draft.draft c.in_ok-draft.was g.met.R.TreeReader.follows_on (joined c.in_ok-with_take.field-0 c.in_ok-with_take.was g.met.R.TreeReader.follows_on c.with_take.ensures.works_out c.with_take-2.ensures.works_out) c.with_name_free.ensures.works_out)
-    (λ T is. rw (ap (λ (d : DraftState). with_take T d c.args.rename.from_) (sym c.new.ensures) ∙ is.0.0, is.0.1, is.1) (ap (λ (d : DraftState). Ok d.operations) (same_ok c.in_ok-with.ensures) ∙ ap Ok (sym c.operations.ensures))) }
+returns g c = record {
+  works_out = ends_ok c.in_ok-draft-2.draft c.operations.result c.in_ok-draft-2.was refl (joined c.in_ok-draft.draft c.in_ok-draft.was g.met.R.TreeReader.follows_on (joined c.in_ok-with_take.field-0 c.in_ok-with_take.was g.met.R.TreeReader.follows_on c.with_take.ensures.works_out c.with_take-2.ensures.works_out) c.with_name_free.ensures.works_out)
+      (λ T is. rw (ap (λ (d : DraftState). with_take T d c.args.rename.from_) (sym c.new.ensures) ∙ is.0.0, is.0.1, is.1) (ap (λ (d : DraftState). Ok d.operations) (same_ok c.in_ok-with.ensures) ∙ ap Ok (sym c.operations.ensures)));
+}

@@ -36,10 +36,14 @@ returns-in_err-to_ g c =
 
 pub returns-then-eq : goal.returns-then-eq
 unfolding rename_draft
-returns-then-eq g c = record { works_out = ends_ok c.in_ok-to_.to_ c.new-then-eq.result c.in_ok-to_.was refl (joined c.in_ok-file.file c.in_ok-file.was g.met.R.TreeReader.follows_on (joined c.in_ok-from_.from_ c.in_ok-from_.was g.met.R.TreeReader.follows_on c.directory_of.ensures.works_out c.entry.ensures.works_out) c.directory_of-2.ensures.works_out)
-    (λ T is. rw (c.in_ok-source.ensures, c.in_ok-target.ensures, is.0.0, is.0.1, is.1, sym c.if-eq.ensures) (ap Ok (sym c.new-then-eq.ensures.items))) }
+returns-then-eq g c = record {
+  works_out = ends_ok c.in_ok-to_.to_ c.new-then-eq.result c.in_ok-to_.was refl (joined c.in_ok-file.file c.in_ok-file.was g.met.R.TreeReader.follows_on (joined c.in_ok-from_.from_ c.in_ok-from_.was g.met.R.TreeReader.follows_on c.directory_of.ensures.works_out c.entry.ensures.works_out) c.directory_of-2.ensures.works_out)
+      (λ T is. rw (c.in_ok-source.ensures, c.in_ok-target.ensures, is.0.0, is.0.1, is.1, sym c.if-eq.ensures) (ap Ok (sym c.new-then-eq.ensures.items)));
+}
 
 pub returns : goal.returns
 unfolding rename_draft
-returns g c = record { works_out = ends (joined c.in_ok-to_.to_ c.in_ok-to_.was g.met.R.TreeReader.follows_on (joined c.in_ok-file.file c.in_ok-file.was g.met.R.TreeReader.follows_on (joined c.in_ok-from_.from_ c.in_ok-from_.was g.met.R.TreeReader.follows_on c.directory_of.ensures.works_out c.entry.ensures.works_out) c.directory_of-2.ensures.works_out) c.moved.ensures.works_out)
-    (λ T b is. rw (c.in_ok-source.ensures, c.in_ok-target.ensures, is.0.0.0, is.0.0.1, is.0.1, sym c.if-eq.ensures) is.1) (λ T e is. rw (c.in_ok-source.ensures, c.in_ok-target.ensures, is.0.0.0, is.0.0.1, is.0.1, sym c.if-eq.ensures) is.1) }
+returns g c = record {
+  works_out = ends (joined c.in_ok-to_.to_ c.in_ok-to_.was g.met.R.TreeReader.follows_on (joined c.in_ok-file.file c.in_ok-file.was g.met.R.TreeReader.follows_on (joined c.in_ok-from_.from_ c.in_ok-from_.was g.met.R.TreeReader.follows_on c.directory_of.ensures.works_out c.entry.ensures.works_out) c.directory_of-2.ensures.works_out) c.moved.ensures.works_out)
+      (λ T b is. rw (c.in_ok-source.ensures, c.in_ok-target.ensures, is.0.0.0, is.0.0.1, is.0.1, sym c.if-eq.ensures) is.1) (λ T e is. rw (c.in_ok-source.ensures, c.in_ok-target.ensures, is.0.0.0, is.0.0.1, is.0.1, sym c.if-eq.ensures) is.1);
+}

@@ -16,19 +16,25 @@ returns-in_err-place g c =
 
 pub returns-in_default : goal.returns-in_default
 unfolding with_name_free
-returns-in_default g c = record { works_out = ends_ok c.in_ok-replaced.field-0 c.args.draft c.in_ok-replaced.was refl (joined c.in_ok-place.place c.in_ok-place.was g.met.R.TreeReader.follows_on c.directory_place.ensures.works_out c.led_to.ensures.works_out)
-    (λ T is. rw (is.0, same_ok is.1 ∙ c.in_default.is) refl) }
+returns-in_default g c = record {
+  works_out = ends_ok c.in_ok-replaced.field-0 c.args.draft c.in_ok-replaced.was refl (joined c.in_ok-place.place c.in_ok-place.was g.met.R.TreeReader.follows_on c.directory_place.ensures.works_out c.led_to.ensures.works_out)
+      (λ T is. rw (is.0, same_ok is.1 ∙ c.in_default.is) refl);
+}
 
 pub returns-in_err-with_take : goal.returns-in_err-with_take
 unfolding with_name_free
 returns-in_err-with_take g c =
     let p = err_from_is_err_and c.from_residual-in_err-with_take.result c.from_residual-in_err-with_take.ensures.1 in
-    record { works_out = stops p.0 (cc (c.in_err-with_take.was, p.2)) p.1 (joined c.in_ok-replaced.field-0 c.in_ok-replaced.was g.met.R.TreeReader.follows_on (joined c.in_ok-place.place c.in_ok-place.was g.met.R.TreeReader.follows_on c.directory_place.ensures.works_out c.led_to.ensures.works_out) c.with_take.ensures.works_out)
-        (λ T is. rw (is.0.0, same_ok is.0.1 ∙ c.in-Some.is, is.1) refl) }
+    record {
+      works_out = stops p.0 (cc (c.in_err-with_take.was, p.2)) p.1 (joined c.in_ok-replaced.field-0 c.in_ok-replaced.was g.met.R.TreeReader.follows_on (joined c.in_ok-place.place c.in_ok-place.was g.met.R.TreeReader.follows_on c.directory_place.ensures.works_out c.led_to.ensures.works_out) c.with_take.ensures.works_out)
+          (λ T is. rw (is.0.0, same_ok is.0.1 ∙ c.in-Some.is, is.1) refl);
+    }
 
 pub returns : goal.returns
 unfolding with_name_free
-returns g c = record { works_out = ends_given seen_draft c.in_ok-with_take.field-0 c.with.result
-    (Ok (with_operation (seen_draft c.in_ok-with_take.field-0) (Unlink (record { dir = c.args.directory.now; name = c.in_ok-clone.field-0; file = c.in-Some.replaced }))))
-    c.in_ok-with_take.was (joined c.in_ok-replaced.field-0 c.in_ok-replaced.was g.met.R.TreeReader.follows_on (joined c.in_ok-place.place c.in_ok-place.was g.met.R.TreeReader.follows_on c.directory_place.ensures.works_out c.led_to.ensures.works_out) c.with_take.ensures.works_out) c.with.ensures
-    (λ T is. rw (is.0.0, same_ok is.0.1 ∙ c.in-Some.is, is.1, c.in_ok-clone.ensures.cases) refl) }
+returns g c = record {
+  works_out = ends_given seen_draft c.in_ok-with_take.field-0 c.with.result
+      (Ok (with_operation (seen_draft c.in_ok-with_take.field-0) (Unlink (record { dir = c.args.directory.now; name = c.in_ok-clone.field-0; file = c.in-Some.replaced }))))
+      c.in_ok-with_take.was (joined c.in_ok-replaced.field-0 c.in_ok-replaced.was g.met.R.TreeReader.follows_on (joined c.in_ok-place.place c.in_ok-place.was g.met.R.TreeReader.follows_on c.directory_place.ensures.works_out c.led_to.ensures.works_out) c.with_take.ensures.works_out) c.with.ensures
+      (λ T is. rw (is.0.0, same_ok is.0.1 ∙ c.in-Some.is, is.1, c.in_ok-clone.ensures.cases) refl);
+}

@@ -25,7 +25,7 @@ pub loop-drops-preserved : goal.loop-drops-preserved
 loop-drops-preserved g c =
     let n = c.number-from_-in-Some.ensures in
     let asked = joined c.in_ok-body.field-0 c.in_ok-body.was g.met.R.TreeReader.follows_on
-        (joined tt refl g.met.R.TreeReader.follows_on c.loop-drops.invariant.0 c.next_body.ensures.finds) c.stale_home.ensures.works_out in
+    (joined tt refl g.met.R.TreeReader.follows_on c.loop-drops.invariant.0 c.next_body.ensures.finds) c.stale_home.ensures.works_out in
     elim c.if-is_some.branch [
       | then-is_some+in_ok-push w ↦ (
         step_done c.in_ok-stale_home.field-0 c.in_ok-stale_home.was asked (λ T is.
@@ -46,6 +46,8 @@ loop-drops-preserved g c =
     ]
 
 pub returns : goal.returns
-returns g c = record { works_out = ends_ok c.in_ok-body.field-0 c.loop-drops.drops c.in_ok-body.was refl
-    (joined tt refl g.met.R.TreeReader.follows_on c.loop-drops.invariant.0 c.next_body.ensures.finds)
-    (λ T is. ap Ok (drops_end T c.args.author c.loop-drops.from_ c.loop-drops.drops.items c.loop-drops.invariant.1 (none_taken T c.args.author c.loop-drops.from_ c.in_ok-body.field-0 c.in_default.is is.1) is.0)) }
+returns g c = record {
+  works_out = ends_ok c.in_ok-body.field-0 c.loop-drops.drops c.in_ok-body.was refl
+      (joined tt refl g.met.R.TreeReader.follows_on c.loop-drops.invariant.0 c.next_body.ensures.finds)
+      (λ T is. ap Ok (drops_end T c.args.author c.loop-drops.from_ c.loop-drops.drops.items c.loop-drops.invariant.1 (none_taken T c.args.author c.loop-drops.from_ c.in_ok-body.field-0 c.in_default.is is.1) is.0));
+}

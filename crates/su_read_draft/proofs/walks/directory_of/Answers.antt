@@ -18,5 +18,7 @@ returns-in_err-directory_place g c =
 
 pub returns : goal.returns
 unfolding directory_of
-returns g c = record { works_out = ends_ok c.in_ok-directory_place.field-0 c.in_ok-directory.directory c.in_ok-directory_place.was refl (joined c.in_ok-directory.directory c.in_ok-directory.was g.met.R.TreeReader.follows_on c.at.ensures.works_out c.directory_place.ensures.works_out)
-    (λ T is. rw (ap (at T) (sym c.as_slice.ensures.value) ∙ is.0, is.1) refl) }
+returns g c = record {
+  works_out = ends_ok c.in_ok-directory_place.field-0 c.in_ok-directory.directory c.in_ok-directory_place.was refl (joined c.in_ok-directory.directory c.in_ok-directory.was g.met.R.TreeReader.follows_on c.at.ensures.works_out c.directory_place.ensures.works_out)
+      (λ T is. rw (ap (at T) (sym c.as_slice.ensures.value) ∙ is.0, is.1) refl);
+}

@@ -10,11 +10,15 @@ returns-in_err-place g c =
     record { works_out = stops p.0 (cc (c.in_err-place.was, p.2)) p.1 c.directory_place.ensures.works_out (λ T why. entry_refused T c.args.directory.now c.args.name.now p.0 why) }
 
 pub returns-in-Some : goal.returns-in-Some
-returns-in-Some g c = record { works_out = ends_ok c.in_ok-file.field-0 c.in-Some.file c.in_ok-file.was refl
-    (joined c.in_ok-place.place c.in_ok-place.was g.met.R.TreeReader.follows_on c.directory_place.ensures.works_out c.led_to.ensures.works_out)
-    (λ T is. entry_led T c.args.directory.now c.args.name.now c.in_ok-place.place c.in-Some.file is.0 (same_ok is.1 ∙ c.in-Some.is)) }
+returns-in-Some g c = record {
+  works_out = ends_ok c.in_ok-file.field-0 c.in-Some.file c.in_ok-file.was refl
+      (joined c.in_ok-place.place c.in_ok-place.was g.met.R.TreeReader.follows_on c.directory_place.ensures.works_out c.led_to.ensures.works_out)
+      (λ T is. entry_led T c.args.directory.now c.args.name.now c.in_ok-place.place c.in-Some.file is.0 (same_ok is.1 ∙ c.in-Some.is));
+}
 
 pub returns-in-None : goal.returns-in-None
-returns-in-None g c = record { works_out = ends_err c.in_ok-file.field-0 _ c.in_ok-file.was refl
-    (joined c.in_ok-place.place c.in_ok-place.was g.met.R.TreeReader.follows_on c.directory_place.ensures.works_out c.led_to.ensures.works_out)
-    (λ T is. inr (entry_none T c.args.directory.now c.args.name.now c.in_ok-place.place is.0 (same_ok is.1 ∙ c.in-None.is))) }
+returns-in-None g c = record {
+  works_out = ends_err c.in_ok-file.field-0 _ c.in_ok-file.was refl
+      (joined c.in_ok-place.place c.in_ok-place.was g.met.R.TreeReader.follows_on c.directory_place.ensures.works_out c.led_to.ensures.works_out)
+      (λ T is. inr (entry_none T c.args.directory.now c.args.name.now c.in_ok-place.place is.0 (same_ok is.1 ∙ c.in-None.is)));
+}

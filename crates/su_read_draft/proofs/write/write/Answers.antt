@@ -27,6 +27,8 @@ returns-in_err-draft g c =
 
 pub returns : goal.returns
 unfolding write_draft
-returns g c = record { works_out = ends_ok c.in_ok-draft.draft c.operations.result c.in_ok-draft.was refl (joined c.in_ok-file.file c.in_ok-file.was g.met.R.TreeReader.follows_on c.at.ensures.works_out c.with_take.ensures.works_out)
-    (λ T is. rw (c.in_ok-names.ensures, ap (at T) (sym c.as_slice.ensures.value) ∙ is.0, ap (λ (d : DraftState). with_take T d c.in_ok-file.file) (sym c.new.ensures) ∙ is.1, sym c.in_ok-bytes.ensures.items)
-    (ap (λ (d : DraftState). Ok d.operations) (same_ok c.in_ok-with.ensures) ∙ ap Ok (sym c.operations.ensures))) }
+returns g c = record {
+  works_out = ends_ok c.in_ok-draft.draft c.operations.result c.in_ok-draft.was refl (joined c.in_ok-file.file c.in_ok-file.was g.met.R.TreeReader.follows_on c.at.ensures.works_out c.with_take.ensures.works_out)
+      (λ T is. rw (c.in_ok-names.ensures, ap (at T) (sym c.as_slice.ensures.value) ∙ is.0, ap (λ (d : DraftState). with_take T d c.in_ok-file.file) (sym c.new.ensures) ∙ is.1, sym c.in_ok-bytes.ensures.items)
+      (ap (λ (d : DraftState). Ok d.operations) (same_ok c.in_ok-with.ensures) ∙ ap Ok (sym c.operations.ensures)));
+}
