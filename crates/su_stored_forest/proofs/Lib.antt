@@ -1,1 +1,2 @@
+mod FreedLemmas
 mod StoredLemmas

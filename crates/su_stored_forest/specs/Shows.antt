@@ -1,5 +1,5 @@
 -- What a forest on a store shows.
-use Rattle.std.specs.Prelude.{ℕ, List, IfSome, slice_get}
+use Rattle.std.specs.Prelude.{List, ℕ}
 use Rattle.su_bytes.specs.declared.file_ids.FileId.TheVariants.{Group}
 use Rattle.su_bytes.specs.declared.refusals.Refusal.{Refusal}
 use Rattle.su_block.specs.declared.sources.BlockSource.{Ghosts}
@@ -11,18 +11,21 @@ use Rattle.su_part.specs.Bytes.{NoneClash}
 use Rattle.su_part.specs.Loads.{FailedAt}
 use Rattle.su_part_forest.specs.Forest.{Stands}
 use Rattle.su_part_forest.specs.Loading.{HashedFor, KeepsLoaded}
-use Rattle.su_fronts.specs.Front.{AreFronts}
+use Rattle.su_stored_forest.specs.Fronts.{AreAllFronts}
 use Rattle.su_stored_forest.specs.declared.stored.StoredForest.{StoredForest}
 
+-- the numbers that are known to be taken are taken in T
+pub record KnowsTaken {S : Type 0} {g : Ghosts S} (T : Tree) (r : StoredForest S g) : Type 0 where
+  pub users : AreAllFronts (λ u n. is_free_at T (u, n)) r.users.items
+  pub groups : AreAllFronts (λ k n. is_pointer_free T (Group k n)) r.groups.items
+
 -- It shows the tree: its parts stand for it; no byte string that is hashed for the tree has the
--- digest of another one that its source may give; and the numbers that are known to be taken are.
+-- digest of another one that its source may give; and it knows no number as taken that is free.
 pub record Shows {S : Type 0} {g : Ghosts S} (may_give : S → List ℕ → Type 0)
     (r : StoredForest S g) (T : Tree) : Type 0 where
   pub stands : Stands r.forest T
   pub free : NoneClash (HashedFor T) (may_give r.source)
-  pub users : (u : ℕ) → IfSome (slice_get r.users.items u) (AreFronts (λ n. is_free_at T (u, n)))
-  pub groups : (g : ℕ)
-      → IfSome (slice_get r.groups.items g) (AreFronts (λ k. is_pointer_free T (Group g k)))
+  pub taken : KnowsTaken T r
 
 -- so it may fail when it is asked about the tree: a failure of its source is about an item of it
 abbrev pub Fails : {S : Type 0} {g : Ghosts S} → (S → Failures)

@@ -1,6 +1,7 @@
 //! A forest of i-tables that lies on a store which isn't trusted, and is asked as if it were whole.
 #![tactic(auto)]
 
+mod freed;
 mod numbers;
 mod operations;
 mod reads;
