@@ -1,6 +1,6 @@
 -- Numbers that are known to be taken, where cells change.
 use Rattle.std.specs.Prelude.{◌≡◌, ◌≢◌, ◌||◌, ◌&&◌, ℕ, Bool, true, false, List, [], ◌∷◌, ◌++◌, Option, Some, None, IfSome, slice_get}
-use Rattle.std.proofs.Common.{◌∙◌, ap, sym, refl, subst, absurd}
+use Rattle.std.proofs.Common.{◌∙◌, ap, refl}
 use Rattle.su_bytes.specs.declared.file_ids.FileId.TheVariants.{Group}
 use Rattle.su_bytes.specs.Place.{Place, place_eq}
 use Rattle.su_node.specs.Field.{Field.KindOf}

@@ -4,6 +4,7 @@
 mod freed;
 mod numbers;
 mod operations;
+mod performs;
 mod reads;
 mod sheds;
 mod stored;

@@ -10,7 +10,7 @@ use Rattle.su_stored_forest.proofs.reads.StoredForestTreeReader.head.Goals as go
 pub returns-in-Some : goal.returns-in-Some
 returns-in-Some g c = record {
   finds = record {
-    still = λ T shown. record { stands = c.fetch.ensures.loads.stands T shown.stands shown.free; free = less shown.free c.fetch.ensures.loads.no_more; taken = record { users = shown.taken.users; groups = shown.taken.groups }; };
+    still = λ T shown. record { stands = c.fetch.ensures.loads.stands T shown.stands shown.free; free = less shown.free c.fetch.ensures.loads.no_more; taken = record { users = shown.taken.users; groups = shown.taken.groups } };
     answer = λ T shown.
         let stands = c.fetch.ensures.loads.stands T shown.stands shown.free in
         let just = c.inode.ensures.there T stands (there_loaded c.fetch.new.self T stands c.args.place Nothing c.in_ok-fetch.ensures.has) in
@@ -24,7 +24,7 @@ returns-in-Some g c = record {
 pub returns-in-None : goal.returns-in-None
 returns-in-None g c = record {
   finds = record {
-    still = λ T shown. record { stands = c.fetch.ensures.loads.stands T shown.stands shown.free; free = less shown.free c.fetch.ensures.loads.no_more; taken = record { users = shown.taken.users; groups = shown.taken.groups }; };
+    still = λ T shown. record { stands = c.fetch.ensures.loads.stands T shown.stands shown.free; free = less shown.free c.fetch.ensures.loads.no_more; taken = record { users = shown.taken.users; groups = shown.taken.groups } };
     answer = λ T shown.
         let stands = c.fetch.ensures.loads.stands T shown.stands shown.free in
         let just = c.inode.ensures.there T stands (there_loaded c.fetch.new.self T stands c.args.place Nothing c.in_ok-fetch.ensures.has) in
