@@ -1,5 +1,5 @@
 -- What is left of one user's or one group's part is left of the forest.
-use Rattle.std.proofs.Common.{◌≡◌, ◌≢◌, ◌∙◌, ◌⊎◌, ◌<◌, ◌≤◌, ◌+◌, ℕ, List, Bool, true, false, length, nat_eq, Some, refl, sym, ap, subst, inl, inr, arith}
+use Rattle.std.proofs.Common.{◌≡◌, ◌≢◌, ◌∙◌, ◌⊎◌, ◌<◌, ◌≤◌, ◌+◌, ℕ, List, Bool, true, false, length, nat_eq, None, Some, refl, sym, ap, subst, inl, inr, arith}
 use Rattle.std.specs.Prelude.{Result, Ok, OnOk, IfErr, IfSome, nat_lt, slice_get, slice_set}
 use Rattle.std.specs.List.{Contains}
 use Rattle.std.proofs.lemmas.Bool.{eqb-true, eqb-false, ltb-true, ltb-false}
@@ -20,8 +20,9 @@ use Rattle.su_part_tree.proofs.Loading.{encoding}
 use Rattle.su_part_tree.proofs.Putting.{item_in}
 use Rattle.su_table.specs.Handle.{group_table}
 use Rattle.su_table.specs.Tree.{Tree}
+use Rattle.su_part.specs.Bytes.{number_sort}
 use Rattle.su_part.specs.Part.{ItemOf, StandsUser}
-use Rattle.su_part.specs.Sheds.{IsItemInUser, Sheds, ShedsUser}
+use Rattle.su_part.specs.Sheds.{HasNothing, IsItemInUser, Sheds, ShedsUser}
 use Rattle.su_part.specs.declared.users.UserPart.{UserPart}
 use Rattle.su_part.proofs.LoadLemmas.{IsWithin}
 use Rattle.su_part.proofs.ShedLemmas.{none_in, on_ok}
@@ -30,7 +31,7 @@ use Rattle.su_group_part.specs.Part.{StandsGroup, place_sort}
 use Rattle.su_group_part.specs.declared.groups.GroupPart.{GroupPart}
 use Rattle.su_part_forest.specs.Forest.{Stands, user_part, group_part}
 use Rattle.su_part_forest.specs.Loading.{HashedFor}
-use Rattle.su_part_forest.specs.Sheds.{IsItemInForest, ShedsForest}
+use Rattle.su_part_forest.specs.Sheds.{HasNothingLoaded, IsItemInForest, ShedsForest}
 use Rattle.su_part_forest.specs.declared.forests.PartForest.{PartForest}
 use Rattle.su_part_forest.proofs.Asked.{no_part, part_is}
 use Rattle.su_part_forest.proofs.Lifting.{get_same, get_other, user_stands, group_stands}
@@ -173,3 +174,24 @@ module _ {X : Type 0} (P : X → Type 0) where
           go : (t : Bool) → nat_lt a b ≡ t → (a < b) ⊎ (b ≤ a)
           go true e = inl (ltb-true a b e)
           go false e = inr (ltb-false a b e)
+
+-- ---- of which nothing is loaded
+
+pub nothing_left : {A : Type 0} (r : Result A Refusal) (f g : PartForest) → g.users.items ≡ f.users.items → ((u : ℕ) → IfSome (user_part u f) HasNothing) → OnOk r ((k : ℕ) → IfSome (group_part k g) (λ p. HasNone p.table))
+    → OnOk r (HasNothingLoaded g)
+nothing_left r f g same users groups =
+    on_ok r ((k : ℕ) → IfSome (group_part k g) (λ p. HasNone p.table)) (HasNothingLoaded g) (λ none. record { users = λ u. subst (λ xs. IfSome (slice_get xs u) HasNothing) (sym same) (users u); groups = none }) groups
+
+nothing_in_user : (p : UserPart) → HasNothing p → (i : List ℕ) → IsItemInUser p i → ⊥
+nothing_in_user p h i (inl node) = none_in number_sort p.table.root i h.table node
+nothing_in_user p h i (inr (n, x, at, own)) = absurd (let z : None ≡ Some x = sym (h.inodes n) ∙ at in cc)
+
+nothing_in : (f : PartForest) → HasNothingLoaded f → (i : List ℕ) → IsItemInForest f i → ⊥
+nothing_in f h i (inl (u, p, at, own)) = nothing_in_user p (subst (λ o. IfSome o HasNothing) at (h.users u)) i own
+nothing_in f h i (inr (k, p, at, own)) = none_in place_sort p.table.root i (subst (λ o. IfSome o (λ q. HasNone q.table)) at (h.groups k)) own
+
+-- each item of what was loaded was put, where it is done
+pub all_put : {S A : Type 0} {may_give : S → List ℕ → Type 0} {failed_of : S → Failures} {comes : S → S → Type 0} {puts : S → List ℕ → S → Type 0} (f g : PartForest) {s t : S} {r : Result A Refusal}
+    → OnOk r (HasNothingLoaded g) → ShedsForest may_give failed_of comes puts f g s t r → OnOk r ((i : List ℕ) → IsItemInForest f i → Took comes puts s t i)
+all_put {comes = comes} {puts = puts} f g {s = s} {t = t} {r = r} none h =
+    on_ok r (HasNothingLoaded g) ((i : List ℕ) → IsItemInForest f i → Took comes puts s t i) (λ n i own. elim (h.not_lost i own) [ inl took ↦ took | inr still ↦ absurd (nothing_in g n i still) ]) none

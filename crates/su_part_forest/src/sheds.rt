@@ -1,9 +1,10 @@
 // Leaving what is loaded of a forest on a store.
-ghost use Rattle.std.specs.Prelude.{◌≡◌, ◌≢◌, ℕ, length, OnOk, IfSome};
+ghost use Rattle.std.specs.Prelude.{◌≡◌, ◌≢◌, ℕ, List, length, OnOk, IfSome};
 ghost use Rattle.su_part.specs.Sheds.{HasNothing};
 ghost use Rattle.su_part_tree.specs.Part.{HasNone};
+ghost use Rattle.su_part_tree.specs.Putting.{Took};
 ghost use Rattle.su_part_forest.specs.Forest.{user_part, group_part};
-ghost use Rattle.su_part_forest.specs.Sheds.{HasNothingLoaded, ShedsForest};
+ghost use Rattle.su_part_forest.specs.Sheds.{HasNothingLoaded, IsItemInForest, ShedsForest};
 
 use crate::forests::PartForest;
 use su_block::BlockSource;
@@ -18,6 +19,8 @@ impl PartForest {
         ensures sheds { ShedsForest S.may_give S.failed S.follows S.puts self.old self.new
             source.old source.new result }
         ensures none { OnOk result (HasNothingLoaded self.new) }
+        ensures put { OnOk result ((i : List ℕ) → IsItemInForest self.old i
+            → Took S.follows S.puts source.old source.new i) }
     {
         self.shed_users(source)?;
         self.shed_groups(source)

@@ -1,9 +1,8 @@
-use Rattle.std.proofs.Common.{◌≡◌, subst, sym}
-use Rattle.std.specs.Prelude.{Err, IfSome, slice_get}
+use Rattle.std.proofs.Common.{◌≡◌}
+use Rattle.std.specs.Prelude.{Err}
 use Rattle.std.proofs.lemmas.Result.{err_from_is_err_and}
-use Rattle.su_part.specs.Sheds.{HasNothing}
 use Rattle.su_part.proofs.ShedLemmas.{shed_handed_on, sheds_on}
-use Rattle.su_part_forest.proofs.Lifting.{on_ok}
+use Rattle.su_part_forest.proofs.ForestSheds.{all_put, nothing_left}
 use Rattle.su_part_forest.proofs.forests.PartForest.shed.Goals as goal
 
 pub returns-in_err-shed_users-clause-sheds : goal.returns-in_err-shed_users-clause-sheds
@@ -16,7 +15,10 @@ pub returns-clause-sheds : goal.returns-clause-sheds
 returns-clause-sheds g c = sheds_on g.met.S.BlockSource.follows_itself g.met.S.BlockSource.follows_on c.in_ok-shed_users.ensures.sheds c.shed_groups.ensures.sheds
 
 pub returns-clause-none : goal.returns-clause-none
-returns-clause-none g c =
-    on_ok c.shed_groups.result
-    (λ none. record { users = λ u. subst (λ xs. IfSome (slice_get xs u) HasNothing) (sym c.shed_groups.ensures.users) (c.in_ok-shed_users.ensures.none u); groups = none })
-    c.shed_groups.ensures.none
+returns-clause-none g c = nothing_left c.shed_groups.result c.shed_users.new.self c.shed_groups.new.self c.shed_groups.ensures.users c.in_ok-shed_users.ensures.none c.shed_groups.ensures.none
+
+pub returns-clause-put : goal.returns-clause-put
+returns-clause-put g c =
+    all_put c.args.self.now c.shed_groups.new.self
+    (nothing_left c.shed_groups.result c.shed_users.new.self c.shed_groups.new.self c.shed_groups.ensures.users c.in_ok-shed_users.ensures.none c.shed_groups.ensures.none)
+    (sheds_on g.met.S.BlockSource.follows_itself g.met.S.BlockSource.follows_on c.in_ok-shed_users.ensures.sheds c.shed_groups.ensures.sheds)
