@@ -28,11 +28,11 @@ lt_not a b h = grind (arith, nat_tests, h)
 le_is : (a b : ℕ) → a ≤ b → nat_le a b ≡ true
 le_is a b h = grind (arith, nat_tests, h)
 
-brought_left : (rs : List Return) (i : Inverse) (F T : Tree) → AllByRecursion (HoldsReturn T) rs → AgreeOutside (left rs i) F T → AgreeOutside (left [] i) (brought_back rs F) T
+pub brought_left : (rs : List Return) (i : Inverse) (F T : Tree) → AllByRecursion (HoldsReturn T) rs → AgreeOutside (left rs i) F T → AgreeOutside (left [] i) (brought_back rs F) T
 brought_left [] i F T held agree = agree
 brought_left (r ∷ rs) i F T held agree = brought_left rs i (edit F (return_edit r)) T held.1 (returned r (all_areas rs i.sizes.items i.resets.items i.blocks.items) F T held.0 agree)
 
-grown_left : (ks : List KeptSize) (i : Inverse) (F T : Tree) → HoldsAll i T → AllByRecursion (HoldsSize T) ks → AgreeOutside (left [] i) F T → IsRoomy ks F T → AgreeOutside (left [] i) (grown ks F) T × IsRoomy [] (grown ks F) T
+pub grown_left : (ks : List KeptSize) (i : Inverse) (F T : Tree) → HoldsAll i T → AllByRecursion (HoldsSize T) ks → AgreeOutside (left [] i) F T → IsRoomy ks F T → AgreeOutside (left [] i) (grown ks F) T × IsRoomy [] (grown ks F) T
 grown_left [] i F T all held agree room = (agree, room)
 grown_left (k ∷ ks) i F T all held agree room =
     let (agree', room') = size_grown i ks k F (grown_to k F) T all held.0
@@ -40,7 +40,7 @@ grown_left (k ∷ ks) i F T all held agree room =
     (λ more. ap (λ b. cond b (edit F (size_edit F k.place k.size)) F) (lt_not (size_at F k.place) k.size more)) agree room in
     grown_left ks i (grown_to k F) T all held.1 agree' room'
 
-cut_left : (ks : List KeptSize) (i : Inverse) (F T : Tree) → HoldsAll i T → AllByRecursion (HoldsSize T) ks → AgreeOutside (left_sizes ks i) F T × IsRoomy [] F T → AgreeOutside (left_sizes [] i) (cut ks F) T
+pub cut_left : (ks : List KeptSize) (i : Inverse) (F T : Tree) → HoldsAll i T → AllByRecursion (HoldsSize T) ks → AgreeOutside (left_sizes ks i) F T × IsRoomy [] F T → AgreeOutside (left_sizes [] i) (cut ks F) T
 cut_left [] i F T all held (agree, room) = agree
 cut_left (k ∷ ks) i F T all held both =
     cut_left ks i (cut_to k F) T all held.1
@@ -48,20 +48,20 @@ cut_left (k ∷ ks) i F T all held both =
     (λ more. ap (λ b. cond b (edit F (size_edit F k.place k.size)) F) (lt_is k.size (size_at F k.place) more))
     (λ less. ap (λ b. cond b (edit F (size_edit F k.place k.size)) F) (lt_not k.size (size_at F k.place) less)) both)
 
-reset_left : (rs : List Reset) (ks : List KeptBlocks) (F T : Tree) → AllByRecursion (HoldsReset T) rs → AgreeOutside (left_resets rs ks) F T → AgreeOutside (left_resets [] ks) (reset rs F) T
+pub reset_left : (rs : List Reset) (ks : List KeptBlocks) (F T : Tree) → AllByRecursion (HoldsReset T) rs → AgreeOutside (left_resets rs ks) F T → AgreeOutside (left_resets [] ks) (reset rs F) T
 reset_left [] ks F T held agree = agree
 reset_left (r ∷ rs) ks F T held agree = reset_left rs ks _ T held.1 (area.reset r (map reset_area rs ++ map blocks_area ks) F T held.0 agree)
 
-written_some : (k : KeptBlocks) (F : Tree) → 0 < length k.bytes.items → 4096 * k.run.first + length k.bytes.items ≤ size_at F k.place → written_to k F ≡ edit F (blocks_edit F k)
+pub written_some : (k : KeptBlocks) (F : Tree) → 0 < length k.bytes.items → 4096 * k.run.first + length k.bytes.items ≤ size_at F k.place → written_to k F ≡ edit F (blocks_edit F k)
 written_some k F some fits =
     ap (λ b. cond b (cond (nat_le (BLOCK_SIZE * k.run.first + length k.bytes.items) (size_at F k.place)) (edit F (blocks_edit F k)) F) F) (lt_is 0 (length k.bytes.items) some)
     ∙ ap (λ b. cond b (edit F (blocks_edit F k)) F) (le_is (BLOCK_SIZE * k.run.first + length k.bytes.items) (size_at F k.place) fits)
 
-written_none : (k : KeptBlocks) (F : Tree) → k.bytes.items ≡ [] → written_to k F ≡ F
+pub written_none : (k : KeptBlocks) (F : Tree) → k.bytes.items ≡ [] → written_to k F ≡ F
 written_none k F none =
     ap (λ n. cond (nat_lt 0 n) (cond (nat_le (BLOCK_SIZE * k.run.first + length k.bytes.items) (size_at F k.place)) (edit F (blocks_edit F k)) F) F) (ap length none)
 
-written_left : (ks : List KeptBlocks) (F T : Tree) → AllByRecursion (HoldsBlocks T) ks → AgreeOutside (left_blocks ks) F T → AgreeOutside (left_blocks []) (written ks F) T
+pub written_left : (ks : List KeptBlocks) (F T : Tree) → AllByRecursion (HoldsBlocks T) ks → AgreeOutside (left_blocks ks) F T → AgreeOutside (left_blocks []) (written ks F) T
 written_left [] F T held agree = agree
 written_left (k ∷ ks) F T held agree = written_left ks (written_to k F) T held.1 (blocks_back ks k F (written_to k F) T held.0 (written_some k F) (written_none k F) agree)
 

@@ -1,0 +1,13 @@
+-- What answers bring.
+use Rattle.std.proofs.Common.{◌≡◌, true, false, Result, Ok, Err, OnOk, OnErr, sym, subst}
+use Rattle.std.specs.Prelude.{IsOk}
+
+-- where it is no error, what it brings
+pub ok_of : {A E : Type 0} {P : Type 0} (r : Result A E) → IsOk r → OnOk r P → P
+ok_of (Ok x) is p = p
+ok_of (Err e) is p = absurd (let z : false ≡ true = is in cc)
+
+-- whatever is answered, P holds of what is x after an answer and y after an error
+pub either_way : {A E X : Type 0} (P : X → Type 0) (r : Result A E) (x y z : X) → OnOk r (P x) → OnErr r (P y) → z ≡ x → z ≡ y → P z
+either_way P (Ok a) x y z p q e d = subst P (sym e) p
+either_way P (Err a) x y z p q e d = subst P (sym d) q

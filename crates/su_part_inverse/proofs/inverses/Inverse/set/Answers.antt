@@ -1,0 +1,42 @@
+use Rattle.std.proofs.Common.{◌≡◌, ◌+◌, ◌<◌, ◌∙◌, sym, ap, subst, [], drop, get_or, length, ◌∷◌, arith}
+use Rattle.std.proofs.lemmas.List.{at_drop_more, drop_all}
+use Rattle.su_table.specs.Edit.{edits}
+use Rattle.su_part_forest.specs.Forest.{Stands}
+use Rattle.su_inverse.specs.Kept.{reset_edits}
+use Rattle.su_undone.specs.Undone.{reset, written}
+use Rattle.su_part_inverse.specs.Ready.{AreReady}
+use Rattle.su_part_inverse.proofs.Moves.{reset_moves}
+use Rattle.su_part_inverse.proofs.ReadyLemmas.{ready_on}
+use Rattle.su_part_inverse.proofs.inverses.Inverse.set.Goals as goal
+
+pub loop-reset-preserved : goal.loop-reset-preserved
+loop-reset-preserved c F T h ready =
+    let l = c.loop-reset in
+    let i = c.args.self.now in
+    let xs = i.resets.items in
+    let first = c.reset-item.result in
+    let rest = drop (l.reset-index + 1) xs in
+    let whole = c.deref-reset-items.ensures.value in
+    let within = subst (λ ys. l.reset-index < length ys) whole c.loop-reset-test.true in
+    let is = c.reset-item.is ∙ ap (λ ys. get_or ys l.reset-index first) whole in
+    let step : drop l.reset-index xs ≡ first ∷ rest = at_drop_more (λ rs. rs) xs l.reset-index first within ∙ ap (λ y. y ∷ rest) (sym is) in
+    let (G, stands, left, same) = l.invariant F T h ready in
+    let left' = subst (λ rs. AreReady [] [] rs i.blocks.items G T l.forest) step left in
+    let (one, more) = left'.resets in
+    let known = c.set.ensures.known G stands one.known in (
+      edits G (reset_edits first),
+      c.set.ensures.stands G stands one.known,
+      ready_on [] G (edits G (reset_edits first)) T l.forest c.set.new.forest known (reset_moves G T first one.held) [] rest i.blocks.items (record { sizes = tt; resets = more; blocks = left'.blocks }),
+      sym (ap (λ rs. reset rs G) step) ∙ same,
+    )
+
+pub returns : goal.returns
+returns c F T h ready =
+    let l = c.loop-reset in
+    let i = c.args.self.now in
+    let whole = ap length c.deref-reset-items.ensures.value in
+    let done = drop_all l.reset-index i.resets.items (omega (arith, c.loop-reset-test.false, whole)) in
+    let (G, stands, left, same) = l.invariant F T h ready in
+    let is : G ≡ reset i.resets.items F = sym (ap (λ rs. reset rs G) done) ∙ same in
+    subst (λ V. Stands c.write.new.forest (written i.blocks.items V)) is
+    (c.write.ensures G T stands (subst (λ rs. AreReady [] [] rs i.blocks.items G T l.forest) done left))

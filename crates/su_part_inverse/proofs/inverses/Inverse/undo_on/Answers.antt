@@ -1,0 +1,25 @@
+use Rattle.std.proofs.Common.{sym, subst, OnOk}
+use Rattle.std.specs.List.{AllByRecursion}
+use Rattle.su_part_forest.specs.Forest.{Stands}
+use Rattle.su_part_inverse.specs.Kept.{HoldsInode}
+use Rattle.su_part_inverse.specs.Ready.{IsReady}
+use Rattle.su_part_inverse.specs.Steps.{restored}
+use Rattle.su_part_inverse.proofs.Final.{put_back_is}
+use Rattle.su_part_inverse.proofs.Initial.{ready_first}
+use Rattle.su_part_inverse.proofs.inverses.Inverse.undo_on.Goals as goal
+
+pub returns-clause-ok : goal.returns-clause-ok
+returns-clause-ok c F T h loaded put =
+    let i = c.args.self.now in
+    let f = c.args.forest.now in
+    let whole = c.as_slice.ensures.value in
+    subst (λ V. OnOk c.restore.result (Stands c.restore.new.forest V)) (put_back_is i F T put)
+    (subst (λ ks. OnOk c.restore.result (Stands c.restore.new.forest (restored T ks i F))) whole
+    (c.restore.ensures.ok F T h (subst (AllByRecursion (HoldsInode T)) (sym whole) put.kept.inodes) (subst (λ ks. IsReady ks i F T f) (sym whole) (ready_first i F T f h loaded put))))
+
+pub returns-clause-err : goal.returns-clause-err
+returns-clause-err c F T h loaded put =
+    let i = c.args.self.now in
+    let f = c.args.forest.now in
+    let whole = c.as_slice.ensures.value in
+    c.restore.ensures.err F T h (subst (AllByRecursion (HoldsInode T)) (sym whole) put.kept.inodes) (subst (λ ks. IsReady ks i F T f) (sym whole) (ready_first i F T f h loaded put))

@@ -1,0 +1,14 @@
+//! What cells of a forest of parts held, kept so that it can be put back.
+#![tactic(auto)]
+
+mod contents;
+mod inverses;
+mod laws;
+mod resets;
+mod returns;
+mod undos;
+mod wholes;
+
+pub use inverses::{Inverse, build};
+pub use laws::{kept_of_trees_alike, undo_after_apply, undo_after_batch};
+pub use wholes::build_whole;
