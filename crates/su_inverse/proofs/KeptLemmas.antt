@@ -31,14 +31,14 @@ use Rattle.su_inverse.proofs.AreaListLemmas.{has-append}
 of_fewer : (w u : Cell → Bool) (S T : Tree) → ((c : Cell) → u c ≡ true → w c ≡ true) → HoldsSame w S T → HoldsSame u S T
 of_fewer w u S T fewer same = record { cells = λ c is. same.cells c (fewer c is); files = λ p n is. same.files p n (fewer (At p (BlockOf n)) is) }
 
-in_first : (u w : List Area) (S T : Tree) → HoldsSame (has (u ++ w)) S T → HoldsSame (has u) S T
+pub in_first : (u w : List Area) (S T : Tree) → HoldsSame (has (u ++ w)) S T → HoldsSame (has u) S T
 in_first u w S T same = of_fewer (has (u ++ w)) (has u) S T (λ c is. has-append u w c ∙ or_left (has u c) (has w c) is) same
 
-in_second : (u w : List Area) (S T : Tree) → HoldsSame (has (u ++ w)) S T → HoldsSame (has w) S T
+pub in_second : (u w : List Area) (S T : Tree) → HoldsSame (has (u ++ w)) S T → HoldsSame (has w) S T
 in_second u w S T same = of_fewer (has (u ++ w)) (has w) S T (λ c is. has-append u w c ∙ or_right (has u c) (has w c) is) same
 
 -- of each of a list
-each_again : {X : Type 0} (area : X → Area) (P : Tree → X → Type 0) (S T : Tree) → ((x : X) → HoldsSame (in_area (area x)) S T → P S x → P T x)
+pub each_again : {X : Type 0} (area : X → Area) (P : Tree → X → Type 0) (S T : Tree) → ((x : X) → HoldsSame (in_area (area x)) S T → P S x → P T x)
     → (xs : List X) → HoldsSame (has (map area xs)) S T → AllByRecursion (P S) xs → AllByRecursion (P T) xs
 each_again area P S T one [] same all = tt
 each_again area P S T one (x ∷ xs) same (first, rest) = (
@@ -48,13 +48,13 @@ each_again area P S T one (x ∷ xs) same (first, rest) = (
 
 -- ---- one cell
 
-in_inode : (p : Place) (a : Part) (f : Field) → in_part a f ≡ true → in_area (InodeArea p a) (At p f) ≡ true
+pub in_inode : (p : Place) (a : Part) (f : Field) → in_part a f ≡ true → in_area (InodeArea p a) (At p f) ≡ true
 in_inode p a f is = ap (λ b. b && in_part a f) (place_eq-itself p) ∙ is
 
 in_blocks : (r : BlockRun) → in_part (BlocksPart r) (BlockOf r.first) ≡ true
 in_blocks r = and_from (nat_le r.first r.first) (nat_le r.first (r.first + r.more)) (grind arith) (grind arith)
 
-field_again : (S T : Tree) (p : Place) (a : Part) (f : Field) → in_part a f ≡ true → HoldsSame (in_area (InodeArea p a)) S T → field_value (get T.inodes p) f ≡ field_value (get S.inodes p) f
+pub field_again : (S T : Tree) (p : Place) (a : Part) (f : Field) → in_part a f ≡ true → HoldsSame (in_area (InodeArea p a)) S T → field_value (get T.inodes p) f ≡ field_value (get S.inodes p) f
 unfolding val
 field_again S T p a f is same = same.cells (At p f) (in_inode p a f is)
 
@@ -65,7 +65,7 @@ return_again S T (InodeReturn p i) same held = inode_same (get T.inodes p) (get 
 return_again S T (NameReturn p x f) same held = same.cells (At p (NameOf x)) (in_inode p (NamePart x) (NameOf x) (name_eq-itself x)) ∙ held
 return_again S T (PointerReturn g p) same held = same.cells (Pointer g) (place_eq-itself g) ∙ held
 
-size_again : (S T : Tree) (k : KeptSize) → HoldsSame (in_area (size_area k)) S T → HoldsSize S k → HoldsSize T k
+pub size_again : (S T : Tree) (k : KeptSize) → HoldsSame (in_area (size_area k)) S T → HoldsSize S k → HoldsSize T k
 size_again S T k same held = same.cells (At k.place SizeOf) (in_inode k.place SizePart SizeOf refl) ∙ held
 
 -- ---- that nothing is there
@@ -116,7 +116,7 @@ nothing_again S T (InodeArea p LinksPart) same held = kind_gone S T p LinksPart 
 nothing_again S T (InodeArea p SizePart) same held = kind_gone S T p SizePart SizeOf refl some_size same held
 nothing_again S T (PointerArea g) same held = same.cells (Pointer g) (place_eq-itself g) ∙ held
 
-reset_again : (S T : Tree) (r : Reset) → HoldsSame (in_area (reset_area r)) S T → HoldsReset S r → HoldsReset T r
+pub reset_again : (S T : Tree) (r : Reset) → HoldsSame (in_area (reset_area r)) S T → HoldsReset S r → HoldsReset T r
 reset_again S T (NothingReset a) same held = nothing_again S T a same held
 reset_again S T (LinksReset p n) same held = same.cells (At p LinksOf) (in_inode p LinksPart LinksOf refl) ∙ held
 
@@ -166,7 +166,7 @@ bytes_again r xs (Some i) (Some j) file each held = go i.content j.content file 
 in_run_between : (r : BlockRun) (m : ℕ) → r.first ≤ m → m ≤ r.first + r.more → in_part (BlocksPart r) (BlockOf m) ≡ true
 in_run_between r m low high = and_from (nat_le r.first m) (nat_le m (r.first + r.more)) (grind arith) (grind arith)
 
-blocks_again : (S T : Tree) (k : KeptBlocks) → HoldsSame (in_area (blocks_area k)) S T → HoldsBlocks S k → HoldsBlocks T k
+pub blocks_again : (S T : Tree) (k : KeptBlocks) → HoldsSame (in_area (blocks_area k)) S T → HoldsBlocks S k → HoldsBlocks T k
 blocks_again S T k same held =
     bytes_again k.run k.bytes.items (get T.inodes k.place) (get S.inodes k.place) (files_there S T k.place k.run same)
     (λ m low high. field_again S T k.place (BlocksPart k.run) (BlockOf m) (in_run_between k.run m low high) same) held

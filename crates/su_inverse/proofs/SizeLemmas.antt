@@ -104,11 +104,11 @@ middle : (a b d : Bool) → a ≡ false → d ≡ false → (a || (b || d)) ≡ 
 middle a true d e f = ap (λ a. a || true) e
 middle a false d e f = ap (λ a. a || d) e ∙ f
 
-kind_left : (T : Tree) (p : Place) (zs : List KeptSize) (i : Inverse) → HoldsAll i T → has (left_sizes zs i) (At p KindOf) ≡ true → val T (At p KindOf) ≡ Nothing
+pub kind_left : (T : Tree) (p : Place) (zs : List KeptSize) (i : Inverse) → HoldsAll i T → has (left_sizes zs i) (At p KindOf) ≡ true → val T (At p KindOf) ≡ Nothing
 kind_left T p zs i held e = in_resets T p KindOf (kind_at T p) i.resets.items held.resets
     (sym (three zs i (At p KindOf) ∙ middle _ _ _ (none_has size_area (At p KindOf) (size_no_kind p) zs) (none_has blocks_area (At p KindOf) (blocks_no_kind p) i.blocks.items)) ∙ e)
 
-sized : (o : Option Inode) (n : ℕ) → field_value o KindOf ≡ Nothing → field_value o SizeOf ≡ ANumber n → ⊥
+pub sized : (o : Option Inode) (n : ℕ) → field_value o KindOf ≡ Nothing → field_value o SizeOf ≡ ANumber n → ⊥
 sized None n k e = absurd cc
 sized (Some i) n k e = absurd cc
 

@@ -111,14 +111,14 @@ module _ (T : Tree) (w : List Area) (kinds : KindsChangeWhole T w) where
 pub batch_kinds : (ro : Membership) (T : Tree) (xs : List Action) → Sound T → all_ok (store ro) T xs ≡ true → KindsChangeWhole T (all_writes (store ro) (areas ro) T xs)
 batch_kinds ro T xs sound ok p wrote = list_kind ro T xs p sound ok wrote
 
-front_ok : (ro : Membership) (T : Tree) (xs ys : List Action) → all_ok (store ro) T (xs ++ ys) ≡ true → all_ok (store ro) T xs ≡ true
+pub front_ok : (ro : Membership) (T : Tree) (xs ys : List Action) → all_ok (store ro) T (xs ++ ys) ≡ true → all_ok (store ro) T xs ≡ true
 front_ok ro T [] ys ok = refl
 front_ok ro T (x ∷ xs) ys ok =
     ap (λ b. b && all_ok (store ro) ((store ro).act T x) xs) (and_first ((store ro).ok T x) (all_ok (store ro) ((store ro).act T x) (xs ++ ys)) ok)
     ∙ front_ok ro ((store ro).act T x) xs ys (and_second ((store ro).ok T x) (all_ok (store ro) ((store ro).act T x) (xs ++ ys)) ok)
 
 -- what a whole batch doesn't write, its first operations don't
-front_out : (ro : Membership) (T : Tree) (xs ys : List Action) (c : Cell) → has (all_writes (store ro) (areas ro) T (xs ++ ys)) c ≡ false → has (all_writes (store ro) (areas ro) T xs) c ≡ false
+pub front_out : (ro : Membership) (T : Tree) (xs ys : List Action) (c : Cell) → has (all_writes (store ro) (areas ro) T (xs ++ ys)) c ≡ false → has (all_writes (store ro) (areas ro) T xs) c ≡ false
 front_out ro T [] ys c out = refl
 front_out ro T (x ∷ xs) ys c out =
     let u = (store ro).writes T x in

@@ -7,7 +7,7 @@ use Rattle.su_inverse.specs.Kept.{size_area, reset_area, blocks_area}
 use Rattle.su_inverse.specs.declared.contents.KeptBlocks.{KeptBlocks}
 use Rattle.su_inverse.specs.declared.contents.KeptSize.{KeptSize}
 use Rattle.su_inverse.specs.declared.resets.Reset.{Reset}
-use Rattle.su_part_inverse.proofs.Pushed.{push_behind, push_here, push_last}
+use Rattle.su_inverse.proofs.AreaListLemmas.{push_behind, push_here, push_last}
 use Rattle.su_part_inverse.specs.Kept.{inode_area, return_area}
 use Rattle.su_part_inverse.specs.declared.returns.KeptInode.{KeptInode}
 use Rattle.su_part_inverse.specs.declared.returns.Return.{Return}

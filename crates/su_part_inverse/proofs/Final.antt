@@ -16,8 +16,7 @@ use Rattle.su_inverse.specs.declared.inverses.Inverse.{Inverse as PlainInverse}
 use Rattle.su_inverse.specs.declared.returns.Return.{Return as PlainReturn}
 use Rattle.su_inverse.proofs.AreaListLemmas.{has-append, has-widened}
 use Rattle.su_inverse.proofs.MixedLemmas.{all_back}
-use Rattle.su_inverse.proofs.SizeLemmas.{first_roomy}
-use Rattle.su_part_inverse.proofs.KindsLeft.{kind_left}
+use Rattle.su_inverse.proofs.SizeLemmas.{first_roomy, kind_left}
 use Rattle.su_undone.specs.Undone.{brought_back, cut, grown, reset, written}
 use Rattle.su_undone.proofs.UndoneLemmas.{brought_left, cut_left, grown_left, reset_left, written_left}
 use Rattle.su_part.specs.Item.{MeantInode}

@@ -33,7 +33,7 @@ use Rattle.su_perform.specs.Loaded.{HasArea, HasAreas, OpenAt, end_of}
 use Rattle.su_part_inverse.proofs.LoadedLemmas.{areas_left, areas_right}
 use Rattle.su_inverse.specs.Kept.{blocks_area, reset_area, size_area, HoldsBlocks, HoldsReset, HoldsSize}
 use Rattle.su_inverse.specs.declared.contents.KeptSize.{KeptSize}
-use Rattle.su_part_inverse.proofs.KindsLeft.{sized}
+use Rattle.su_inverse.proofs.SizeLemmas.{sized}
 use Rattle.su_part_inverse.specs.Kept.{inode_area, return_area, inverse_areas, IsPutBack}
 use Rattle.su_part_inverse.specs.Ready.{BlocksAreReady, IsReady, KnowsArea, KnowsBlock, ResetIsReady, SizeIsReady}
 use Rattle.su_part_inverse.specs.declared.inverses.Inverse.{Inverse}

@@ -17,8 +17,8 @@ use Rattle.su_op.proofs.Public.{place_eq-itself, name_eq-itself, inode_same, lis
 use Rattle.su_part.specs.Part.{MeantAt, StandsJust}
 use Rattle.su_undo.specs.Batch.{all_ok, all_acted, all_writes}
 use Rattle.su_inverse.specs.Kept.{size_area, reset_area, blocks_area, HoldsReset, HoldsSize, HoldsBlocks, HoldsSame}
-use Rattle.su_part_inverse.proofs.Again.{in_first, in_second, in_inode, each_again, field_again, size_again, reset_again, blocks_again}
-use Rattle.su_part_inverse.proofs.FirstActions.{front_ok, front_out}
+use Rattle.su_inverse.proofs.KeptLemmas.{in_first, in_second, in_inode, each_again, field_again, size_again, reset_again, blocks_again}
+use Rattle.su_inverse.proofs.WholeLemmas.{front_ok, front_out}
 use Rattle.su_part_inverse.specs.Kept.{inode_area, return_area, inverse_areas, HoldsInode, HoldsReturn, IsKeptOf, IsPutBack}
 use Rattle.su_part_inverse.specs.declared.inverses.Inverse.{Inverse}
 use Rattle.su_part_inverse.specs.declared.returns.KeptInode.{KeptInode}

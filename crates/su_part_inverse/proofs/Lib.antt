@@ -1,7 +1,3 @@
-mod Again
-mod Pushed
-mod FirstActions
-mod KindsLeft
 pub mod AreaLists
 pub mod Reading
 pub mod LawLemmas
