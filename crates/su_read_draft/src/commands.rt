@@ -1,4 +1,6 @@
 // What a user wants done, by paths.
+ghost use Rattle.std.specs.Prelude.{◌≡◌, true};
+ghost use Rattle.su_bytes.specs.Membership.{Membership, has_user};
 ghost use Rattle.su_reading.specs.Reading.{WorksOut};
 ghost use Rattle.su_draft.specs.Command.{draft};
 
@@ -16,10 +18,7 @@ use su_op::Op;
 use su_reading::TreeReader;
 
 /// Returns the operations of the user that carry a command out, before it is known whether they are
-/// accepted. The first refusal in order: `NoUser`; `BadPath` of what is no path, or of the root
-/// where a name is needed; on the way from the root, along the old path first, `NoName` where a
-/// name is missing and `WrongKind` of a file in the middle; `BadNumber` where no number is free; as
-/// the reader fails; or `NoMemory`.
+/// accepted. The first refusal in order: `NoUser`; then those of `draft_of_member`.
 pub fn draft<R: TreeReader>(
     command: &Command,
     alloc: Global,
@@ -33,6 +32,23 @@ pub fn draft<R: TreeReader>(
     if !roster.has_user(user) {
         return Err(Refusal::NoUser(user));
     }
+    draft_of_member(command, alloc, reader, user)
+}
+
+/// Returns the operations of a user of the store's that carry a command out, as `draft` does. The
+/// first refusal in order: `BadPath` of what is no path, or of the root where a name is needed; on the
+/// way from the root, along the old path first, `NoName` where a name is missing and `WrongKind` of a
+/// file in the middle; `BadNumber` where no number is free; as the reader fails; or `NoMemory`.
+pub fn draft_of_member<R: TreeReader>(
+    command: &Command,
+    alloc: Global,
+    reader: &mut R,
+    user: User,
+) -> Result<Vec<Op>, Refusal>
+    ensures works_out { (ro : Membership) → has_user ro user ≡ true
+        → WorksOut R.shows R.fails R.follows reader.old reader.new result
+        (λ v. v.items) (λ T. draft ro T user command.now) }
+{
     match command {
         Command::Mkdir { path } => make(alloc, reader, user, Kind::Dir, path.as_slice()),
         Command::Create { path } => make(alloc, reader, user, Kind::File, path.as_slice()),

@@ -15,5 +15,5 @@ mod truncate;
 mod walks;
 mod write;
 
-pub use commands::draft;
+pub use commands::{draft, draft_of_member};
 pub use walks::find;
