@@ -1,5 +1,5 @@
 -- What came back with an inode is as it is in the tree that is put back.
-use Rattle.std.proofs.Common.{◌≡◌, ◌∙◌, Bool, true, false, cond, ◌||◌, ◌&&◌, List, [], ◌∷◌, map, Some, refl, sym, ap}
+use Rattle.std.proofs.Common.{◌≡◌, ◌∙◌, Bool, true, false, cond, ◌||◌, ◌&&◌, List, [], ◌∷◌, Some, refl, sym, ap}
 use Rattle.std.specs.FinMap.{get}
 use Rattle.su_bytes.specs.Place.{Place, place_eq}
 use Rattle.su_node.specs.Name.{Name}

@@ -7,7 +7,7 @@ use Rattle.std.specs.List.{AllByRecursion}
 use Rattle.std.specs.FinMap.{get}
 use Rattle.su_bytes.specs.Place.{Place, place_eq}
 use Rattle.su_node.specs.Inode.{Inode, Content, Content.Bytes, Content.Names, size_of}
-use Rattle.su_node.specs.Field.{Field.BlockOf, Field.KindOf, Field.SizeOf, Value.Nothing, Value.ANumber, block, block_value, field_value}
+use Rattle.su_node.specs.Field.{Field.BlockOf, Field.KindOf, Field.SizeOf, Value.Nothing, block, block_value, field_value}
 use Rattle.su_table.specs.Tree.{Tree}
 use Rattle.su_table.specs.Cell.{Cell.At, val}
 use Rattle.su_table.specs.Query.{value_number, size_at}

@@ -1,5 +1,5 @@
 -- What is loaded for the rest of an undo stays so from step to step.
-use Rattle.std.proofs.Common.{◌≡◌, ◌≢◌, ◌∙◌, ℕ, ◌+◌, ◌*◌, ◌/◌, ◌<◌, ◌≤◌, ◌^◌, min, nat_eq, nat_lt, Bool, true, false, cond, ◌||◌, ◌&&◌, ◌⊎◌, inl, inr, IsTrue, List, [], ◌∷◌, map, length, Option, Some, None, refl, sym, ap, subst, arith}
+use Rattle.std.proofs.Common.{◌≡◌, ◌≢◌, ◌∙◌, ℕ, ◌<◌, nat_eq, nat_lt, Bool, true, false, cond, ◌||◌, ◌&&◌, ◌⊎◌, inl, inr, IsTrue, List, [], ◌∷◌, length, Option, Some, None, refl, sym, ap, subst, arith}
 use Rattle.std.proofs.lemmas.Bool.{eqb-false, eqb-true, ltb-false, ltb-true}
 use Rattle.std.specs.Prelude.{IfSome, IsSome}
 use Rattle.std.specs.List.{AllByRecursion}
@@ -15,7 +15,7 @@ use Rattle.su_node.specs.Inode.{Inode, Content, Content.Bytes, Content.Names, by
 use Rattle.su_node.specs.InodeChange.{InodeChange, InodeChange.Named, InodeChange.Resized, InodeChange.Copied, inode_after}
 use Rattle.su_table.specs.Tree.{Tree}
 use Rattle.su_table.specs.Query.{size_at}
-use Rattle.su_table.specs.Edit.{Edit.Inodes, Edit.Pointers, edit}
+use Rattle.su_table.specs.Edit.{Edit.Inodes, edit}
 use Rattle.su_op.proofs.Public.{get-set_place, length-with_size, place_eq-itself, place_eq-same}
 use Rattle.su_part.specs.Fetches.{HasWanted, HasWantedIn}
 use Rattle.su_part.specs.Known.{KnowsInode, Want.AnInode}
@@ -28,25 +28,25 @@ use Rattle.su_part.specs.declared.inodes.PartInode.{PartInode}
 use Rattle.su_part.specs.declared.users.UserPart.{UserPart}
 use Rattle.su_part.proofs.Numbers.{same_number}
 use Rattle.su_group_part.specs.Part.{HasPointer}
-use Rattle.su_part_forest.specs.Forest.{Stands, HasPointerAt, IsPart, group_part, user_part}
+use Rattle.su_part_forest.specs.Forest.{Stands, HasPointerAt, IsPart, user_part}
 use Rattle.su_part_forest.specs.Known.{Knows, Want.OfUser}
 use Rattle.su_part_forest.specs.Loading.{IsKept, KeepsBeside, KeepsLoaded}
 use Rattle.su_part_forest.specs.declared.forests.PartForest.{PartForest}
 use Rattle.su_part_forest.proofs.Public.{pointer_again}
-use Rattle.su_perform.specs.Loaded.{HasArea, OpenAt}
+use Rattle.su_perform.specs.Loaded.{OpenAt}
 use Rattle.su_inverse.specs.Kept.{HoldsSize}
 use Rattle.su_inverse.specs.declared.contents.KeptSize.{KeptSize}
 use Rattle.su_undone.specs.Undone.{grown_to}
-use Rattle.su_part_inverse.specs.Kept.{inode_area, return_area, HoldsInode}
+use Rattle.su_part_inverse.specs.Kept.{HoldsInode}
 use Rattle.su_part_inverse.specs.Open.{AreOpen, InodeIsOpen, ReturnIsOpen, SizeIsOpen}
-use Rattle.su_part_inverse.specs.Ready.{SizeIsReady, comes_with, stood_at}
+use Rattle.su_part_inverse.specs.Ready.{stood_at}
 use Rattle.su_part_inverse.specs.Steps.{inode_edit, name_edit, or_new}
 use Rattle.su_part_inverse.specs.declared.returns.KeptInode.{KeptInode}
 use Rattle.su_part_inverse.specs.declared.returns.Return.{Return}
 use Rattle.su_part_inverse.specs.declared.returns.Return.TheVariants.{Name as NameReturn, Pointer as PointerReturn}
 use Rattle.su_part_inverse.proofs.BackLemmas.{inode_beside}
 use Rattle.su_part_inverse.proofs.Final.{inode_held}
-use Rattle.su_part_inverse.proofs.Moves.{Moves, beside_size, bytes_at, bytes_here, inode_bytes, name_moves, same_size, size_bytes, size_of_bytes, size_of_T}
+use Rattle.su_part_inverse.proofs.Moves.{beside_size, bytes_at, bytes_here, inode_bytes, name_moves, same_size, size_bytes, size_of_bytes, size_of_T}
 use Rattle.su_part_inverse.proofs.ReadyLemmas.{each}
 
 -- ---- of each of a list
@@ -90,9 +90,6 @@ wanted_kept w more (Some c) None i all s there has = absurd all
 wanted_kept w more (Some c) (Some d) i all s there has = more c.content d.content all has
 
 -- what is wanted of an inode, where no less is loaded
-nothing_kept : (c d : PartContent) → HasAllIn c d → HasWantedIn NothingWanted c → HasWantedIn NothingWanted d
-nothing_kept c d all has = tt
-
 name_kept : (x : Name) (c d : PartContent) → HasAllIn c d → HasWantedIn (WantedName x) c → HasWantedIn (WantedName x) d
 name_kept x (LoadedNames t) (LoadedNames v) all has = all x has
 name_kept x (LoadedBytes b) (LoadedBytes c) all has = tt

@@ -1,5 +1,5 @@
 -- What is known for the rest of an undo stays so from step to step.
-use Rattle.std.proofs.Common.{◌≡◌, ◌≢◌, ◌∙◌, ℕ, ◌*◌, ◌/◌, ◌<◌, ◌≤◌, ◌^◌, Bool, true, false, ◌||◌, ◌&&◌, ◌⊎◌, inl, inr, IsTrue, List, [], ◌∷◌, map, Option, Some, None, refl, sym, ap, subst, arith}
+use Rattle.std.proofs.Common.{◌≡◌, ◌≢◌, ◌∙◌, ℕ, ◌*◌, ◌/◌, ◌<◌, ◌≤◌, ◌^◌, Bool, true, false, ◌||◌, ◌&&◌, ◌⊎◌, inl, inr, IsTrue, List, [], ◌∷◌, Option, Some, None, refl, sym, ap, subst, arith}
 use Rattle.std.specs.Prelude.{IfSome}
 use Rattle.std.specs.List.{AllByRecursion}
 use Rattle.std.specs.FinMap.{get}
@@ -7,14 +7,13 @@ use Rattle.su_bytes.specs.Name.{is_name}
 use Rattle.su_bytes.specs.Place.{Place, place_eq}
 use Rattle.su_node.specs.Name.{Name}
 use Rattle.su_node.specs.Inode.{Inode, Content, Content.Bytes, Content.Names}
-use Rattle.su_node.specs.Field.{Field.SizeOf, Field.NameOf, Value.Nothing, content_value, field_value, file_value}
+use Rattle.su_node.specs.Field.{Field.NameOf, Value.Nothing, content_value, field_value, file_value}
 use Rattle.su_bytes.specs.declared.file_ids.FileId.{FileId}
 use Rattle.su_node.specs.InodeChange.{InodeChange.Copied}
 use Rattle.su_table.specs.Tree.{Tree}
 use Rattle.su_table.specs.Cell.{Cell.At, val}
 use Rattle.su_table.specs.Query.{size_at}
 use Rattle.su_table.specs.Edit.{edit}
-use Rattle.su_op.specs.Area.{has}
 use Rattle.su_op.specs.declared.areas.Part.TheVariants.{Kind as KindPart, Links as LinksPart, Size as SizePart, Name as NamePart, Blocks as BlocksPart, Whole as WholePart}
 use Rattle.su_op.specs.declared.areas.Area.TheVariants.{Inode as InodeArea, Pointer as PointerArea}
 use Rattle.su_op.proofs.Public.{place_eq-itself, place_eq-same}
@@ -32,7 +31,6 @@ use Rattle.su_inverse.specs.declared.contents.KeptBlocks.{KeptBlocks}
 use Rattle.su_inverse.specs.declared.contents.KeptSize.{KeptSize}
 use Rattle.su_inverse.specs.declared.resets.Reset.{Reset}
 use Rattle.su_inverse.specs.declared.resets.Reset.TheVariants.{Nothing as NothingReset, Links as LinksReset}
-use Rattle.su_part_inverse.specs.Kept.{inode_area}
 use Rattle.su_part_inverse.specs.Ready.{AreReady, BlocksAreReady, KnowsArea, KnowsRun, ResetIsReady, SameBytes, SizeIsReady, stood_at, want_of}
 use Rattle.su_part_inverse.specs.Steps.{inode_edit, or_new}
 use Rattle.su_part_inverse.specs.declared.returns.KeptInode.{KeptInode}

@@ -1,6 +1,6 @@
 -- What of a forest is loaded, so that the rest of an undo is refused for memory alone: f is the
 -- forest, which stands for F.
-use Rattle.std.specs.Prelude.{◌≡◌, ℕ, ◌<◌, ◌^◌, true, false, List}
+use Rattle.std.specs.Prelude.{◌≡◌, ◌<◌, ◌^◌, true, false, List}
 use Rattle.std.specs.List.{AllByRecursion}
 use Rattle.su_table.specs.Query.{size_at}
 use Rattle.su_table.specs.Tree.{Tree}
@@ -29,7 +29,7 @@ abbrev pub SizeIsOpen : List KeptInode → Tree → PartForest → KeptSize → 
 SizeIsOpen left F f k = stood_at left k.place ≡ false → k.size < 2 ^ 32
     → size_at F k.place < k.size → OpenAt F k.place (Write k.size 0) f
 
--- so of these returns and sizes, where of all inodes these are still to be brought back
+-- so of each of all inodes that is still to be brought back, and of these returns and sizes
 pub record AreOpen (left all : List KeptInode) (rs : List Return) (zs : List KeptSize) (F : Tree)
     (f : PartForest) : Type 0 where
   pub inodes : AllByRecursion (InodeIsOpen all F f) left

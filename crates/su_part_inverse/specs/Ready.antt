@@ -74,7 +74,7 @@ SameBytes F T p = bytes_of (get F.inodes p) ≡ bytes_of (get T.inodes p)
 
 -- ---- what comes back with an inode
 
--- one of the inodes stood at the place
+-- one of the inodes stood at the place: its size is a cell of theirs
 abbrev pub stood_at : List KeptInode → Place → Bool
 stood_at ks p = has (map inode_area ks) (At p SizeOf)
 
