@@ -2,6 +2,7 @@
 #![tactic(auto)]
 
 mod freed;
+mod keeps;
 mod numbers;
 mod operations;
 mod performs;
