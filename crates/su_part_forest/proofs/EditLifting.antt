@@ -23,17 +23,17 @@ use Rattle.su_part_tree.specs.Part.{StandsFor}
 use Rattle.su_node.specs.Inode.{Content}
 use Rattle.su_part.specs.Bytes.{number_sort}
 use Rattle.su_part.specs.Known.{Want.AnInode, Want.AName, Want.ABlock, Want as PartWant, Knows as KnowsOf, KnowsInode, KnowsNameIn, KnowsBlockIn, OfLoaded, StaysKnown as StaysKnownOf}
-use Rattle.su_part.specs.Part.{HasAll, MeantAt, StandsAt, StandsUser, at_number}
+use Rattle.su_part.specs.Part.{HasAll, MeantAt, StandsAt, StandsUser, StaysLoaded, at_number}
 use Rattle.su_part.specs.declared.inodes.PartContent.{PartContent}
 use Rattle.su_part.specs.declared.users.UserPart.{UserPart}
 use Rattle.su_group_part.specs.Part.{KnowsPointer, StandsGroup, place_sort}
 use Rattle.su_group_part.specs.declared.groups.GroupPart.{GroupPart}
 use Rattle.su_part_forest.specs.Forest.{IsPart, Stands, user_part, group_part}
 use Rattle.su_part_forest.specs.Known.{IsBeside, Knows, Want, Want.OfUser, Want.OfGroup, StaysKnown, StaysKnownBeside}
-use Rattle.su_part_forest.specs.Loading.{KeepsLoaded, KeepsPointers}
+use Rattle.su_part_forest.specs.Loading.{IsKept, KeepsBeside, KeepsLoaded, KeepsPointers}
 use Rattle.su_part_forest.specs.declared.forests.PartForest.{PartForest}
 use Rattle.su_part_forest.proofs.Asked.{part_is, part_got, no_part}
-use Rattle.su_part_forest.proofs.Lifting.{get_same, get_other, user_stands, user_keeps, group_stands, group_keeps}
+use Rattle.su_part_forest.proofs.Lifting.{get_same, get_other, kept_all, user_stands, user_keeps, group_stands, group_keeps}
 use Rattle.su_part_forest.proofs.Seeing.{other_principal}
 
 turned : (u v : ℕ) → ¬ (v ≡ u) → nat_eq u v ≡ false
@@ -121,6 +121,15 @@ module _ (f : PartForest) (m u : ℕ) (p : UserPart) (within : m < length f.user
     pub user_kept : HasAll p q → KeepsLoaded f (with_user f m q)
     user_kept keeps = user_keeps f (with_user f m q) u p q got (ap (λ v. slice_set f.users.items v q) same) refl keeps
 
+    -- but for the content of what stands at a number
+    pub user_kept_beside : (n : ℕ) → StaysLoaded n p q → KeepsBeside (u, n) f (with_user f m q)
+    user_kept_beside n stays = record {
+      here = subst (λ i. IsKept (StaysLoaded n) (user_part u f) (slice_get (slice_set f.users.items i q) u)) (sym same)
+          (subst (λ o. IsKept (StaysLoaded n) o (slice_get (slice_set f.users.items u q) u)) (sym got) (subst (IsKept (StaysLoaded n) (Some p)) (sym (get_same f.users.items u q p got)) stays));
+      others = λ v other. subst (λ i. slice_get (slice_set f.users.items i q) v ≡ slice_get f.users.items v) (sym same) (get_other f.users.items u v q other);
+      groups = λ k. refl;
+    }
+
     -- it stands for the same
     pub user_stays : (T : Tree) → Stands f T → StandsUser u q T → Stands (with_user f m q) T
     user_stays T h this = user_stands f (with_user f m q) u p q got (ap (λ v. slice_set f.users.items v q) same) refl T T h (λ v x other s. s) (λ s. this) (λ k x s. s) h.no_user h.no_group
@@ -169,6 +178,10 @@ module _ (f : PartForest) (m u : ℕ) (p : UserPart) (within : m < length f.user
     -- what the user's part has
     pub user_has : (P : UserPart → Type 0) → P q → IfSome (user_part u (with_user f m q)) P
     user_has P h = subst (λ i. IfSome (slice_get (slice_set f.users.items i q) u) P) (sym same) (subst (λ o. IfSome o P) (sym (get_same f.users.items u q p got)) h)
+
+-- where nothing is done
+pub kept_beside_itself : (f : PartForest) (p : Place) → KeepsBeside p f f
+kept_beside_itself f p = record { here = kept_all (StaysLoaded p.1) (λ x. record { paths = λ m r. r; there = λ m some. some; others = λ m e. refl }) (user_part p.0 f); others = λ v other. refl; groups = λ k. refl }
 
 -- a user that can be has a part
 pub user_absent : {A : Type 0} (f : PartForest) (m u : ℕ) → length f.users.items ≤ m → m ≡ u → u ≤ 63 → (T : Tree) → Stands f T → A

@@ -1,5 +1,5 @@
 -- What a load tells of a forest of parts, and what of it is loaded or known.
-use Rattle.std.specs.Prelude.{◌⊎◌, ℕ, List, Option, Some, None, Result, ⊤, IfSome}
+use Rattle.std.specs.Prelude.{◌≡◌, ◌≢◌, ◌⊎◌, ℕ, List, Option, Some, None, Result, ⊤, IfSome}
 use Rattle.std.specs.List.{Contains}
 use Rattle.su_bytes.specs.Place.{Place}
 use Rattle.su_bytes.specs.declared.refusals.Refusal.{Refusal}
@@ -11,7 +11,7 @@ use Rattle.su_table.specs.Tree.{Tree}
 use Rattle.su_table.specs.Handle.{group_table}
 use Rattle.su_part.specs.Fetches.{HasWantedAt}
 use Rattle.su_part.specs.Loads.{Loads}
-use Rattle.su_part.specs.Part.{HasAll, ItemOf}
+use Rattle.su_part.specs.Part.{HasAll, ItemOf, StaysLoaded}
 use Rattle.su_part.specs.declared.fetches.Wanted.{Wanted}
 use Rattle.su_group_part.specs.Part.{HasPointer, StandsGroup}
 use Rattle.su_group_part.specs.declared.groups.GroupPart.{GroupPart}
@@ -42,6 +42,12 @@ IsKept Keeps (Some p) (Some q) = Keeps p q
 pub record KeepsLoaded (f g : PartForest) : Type 0 where
   pub users : (u : ℕ) → IsKept HasAll (user_part u f) (user_part u g)
   pub groups : (k : ℕ) → IsKept KeepsPointers (group_part k f) (group_part k g)
+
+-- What is loaded of f is loaded of g, but for the content of what stands at the place.
+pub record KeepsBeside (p : Place) (f g : PartForest) : Type 0 where
+  pub here : IsKept (StaysLoaded p.1) (user_part p.0 f) (user_part p.0 g)
+  pub others : (u : ℕ) → u ≢ p.0 → user_part u g ≡ user_part u f
+  pub groups : (k : ℕ) → group_part k g ≡ group_part k f
 
 -- what a load of a forest tells
 abbrev pub LoadsForest : {S A : Type 0} → (S → List ℕ → Type 0) → (S → Failures)

@@ -15,7 +15,7 @@ ghost use Rattle.su_part.specs.Part.{StandsInode, StandsJust};
 ghost use Rattle.su_part.specs.declared.fetches.Wanted.TheVariants.{Name as NameOf, Nothing, Write};
 ghost use Rattle.su_part_forest.specs.Forest.{Stands, HasPointerAt};
 ghost use Rattle.su_part_forest.specs.Known.{Want.OfUser, Want.OfGroup, HasCutAt, Knows, StaysKnown, StaysKnownBeside};
-ghost use Rattle.su_part_forest.specs.Loading.{HasAt, KeepsLoaded};
+ghost use Rattle.su_part_forest.specs.Loading.{HasAt, KeepsBeside, KeepsLoaded};
 
 use crate::forests::PartForest;
 use su_bytes::{FileId, GroupFile, Kind, Name, Place, Refusal};
@@ -148,7 +148,7 @@ impl PartForest {
     /// what stands there isn't loaded, and with `NoMemory` where memory is wanting, which only an
     /// inode takes where none stands; then the forest stands for what it stood for. What was known
     /// stays known, but for the names and the blocks of what stood there, and the inode is known
-    /// then; where none stood there, what was loaded is loaded.
+    /// then; what was loaded is loaded, but for the content of what stood there.
     pub fn exchange_inode(
         &mut self,
         place: Place,
@@ -180,6 +180,7 @@ impl PartForest {
         ensures err_keeps { OnErr result (KeepsLoaded self.old self.new) }
         ensures keeps { (T : Tree) → Stands self.old T → is_free_at T place ≡ true
             → KeepsLoaded self.old self.new }
+        ensures beside { OnOk result (KeepsBeside place self.old self.new) }
     {
         let (user, number) = place;
         // names the number's range for the prover (docs/ARCHITECTURE.md, "Forms the kit wants")
@@ -312,8 +313,8 @@ impl PartForest {
     /// Fills the file at `place` with zeros up to a size in bytes, which is not below its own. Does
     /// nothing where no file stands. Refused with `MissingBlock` where what a write of no bytes at
     /// that offset needs isn't loaded, and with `NoMemory` where memory is wanting; then the forest
-    /// stands for what it stood for. What was known stays known, and what a cut to the size before
-    /// needs is loaded then.
+    /// stands for what it stood for. What was known stays known, what was loaded is loaded, but for
+    /// blocks of the file, and what a cut to the size before needs is loaded then.
     pub fn grow(&mut self, place: Place, size: u32) -> Result<(), Refusal>
         ensures ok { (T : Tree) → Stands self.old T → size_at T place ≤ size
             → OnOk result (Stands self.new
@@ -330,6 +331,7 @@ impl PartForest {
         ensures err_known { (T : Tree) → Stands self.old T
             → OnErr result (StaysKnown T T self.old self.new) }
         ensures err_keeps { OnErr result (KeepsLoaded self.old self.new) }
+        ensures beside { OnOk result (KeepsBeside place self.old self.new) }
     {
         let (user, number) = place;
         // names the number's range for the prover (docs/ARCHITECTURE.md, "Forms the kit wants")

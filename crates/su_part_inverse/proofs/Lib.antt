@@ -4,6 +4,8 @@ pub mod LawLemmas
 pub mod Moves
 pub mod ReadyLemmas
 pub mod Final
+pub mod BackLemmas
+pub mod OpenLemmas
 pub mod Initial
 pub mod Using
 pub mod Rolling

@@ -35,7 +35,7 @@ use Rattle.su_part_inverse.specs.declared.returns.Return.TheVariants.{Name as Na
 abbrev pub bytes_at : Tree → Place → Option (List ℕ)
 bytes_at F p = bytes_of (get F.inodes p)
 
-abbrev size_of_bytes : Option (List ℕ) → ℕ
+abbrev pub size_of_bytes : Option (List ℕ) → ℕ
 size_of_bytes None = 0
 size_of_bytes (Some bs) = length bs
 

@@ -33,7 +33,7 @@ use Rattle.su_inverse.specs.declared.contents.KeptSize.{KeptSize}
 use Rattle.su_inverse.specs.declared.resets.Reset.{Reset}
 use Rattle.su_inverse.specs.declared.resets.Reset.TheVariants.{Nothing as NothingReset, Links as LinksReset}
 use Rattle.su_part_inverse.specs.Kept.{inode_area}
-use Rattle.su_part_inverse.specs.Ready.{AreReady, BlocksAreReady, KnowsArea, KnowsRun, ResetIsReady, SameBytes, SizeIsReady, want_of}
+use Rattle.su_part_inverse.specs.Ready.{AreReady, BlocksAreReady, KnowsArea, KnowsRun, ResetIsReady, SameBytes, SizeIsReady, stood_at, want_of}
 use Rattle.su_part_inverse.specs.Steps.{inode_edit, or_new}
 use Rattle.su_part_inverse.specs.declared.returns.KeptInode.{KeptInode}
 use Rattle.su_part_inverse.proofs.Moves.{Moves, back_here, beside_size, bytes_beside, inode_bytes, same_size, size_of_T}
@@ -54,7 +54,7 @@ module _ (left : List KeptInode) (F G T : Tree) (f g : PartForest) (known : Stay
     end_ = λ out lt n low high m. known (OfUser k.place.0 (ABlock k.place.1 n)) (go (sizes k.place) out lt n low high m);
   }
     where
-      go : (size_at G k.place ≡ size_at F k.place) ⊎ (size_at G k.place ≡ size_at T k.place) → has (map inode_area left) (At k.place SizeOf) ≡ false → k.size < size_at G k.place
+      go : (size_at G k.place ≡ size_at F k.place) ⊎ (size_at G k.place ≡ size_at T k.place) → stood_at left k.place ≡ false → k.size < size_at G k.place
           → (n : ℕ) → k.size / 4096 ≤ n → 4096 * n < size_at G k.place → k.place.1 < 2 ^ 32 → Knows F (OfUser k.place.0 (ABlock k.place.1 n)) f
       go (inl same) out lt n low high m = r.end_ out (omega (arith, lt, same)) n low (omega (arith, high, same)) m
       go (inr new) out lt n low high m = let is = size_of_T T k r.held in absurd (omega (arith, lt, new, is))
@@ -130,7 +130,7 @@ module _ (left : List KeptInode) (k : KeptInode) (F T : Tree) (f g : PartForest)
     end_ = λ out lt. go (place_eq z.place k.place) refl out lt;
   }
     where
-      go : (b : Bool) → place_eq z.place k.place ≡ b → has (map inode_area left) (At z.place SizeOf) ≡ false → z.size < size_at (edit F (inode_edit T k)) z.place
+      go : (b : Bool) → place_eq z.place k.place ≡ b → stood_at left z.place ≡ false → z.size < size_at (edit F (inode_edit T k)) z.place
           → (n : ℕ) → z.size / 4096 ≤ n → 4096 * n < size_at (edit F (inode_edit T k)) z.place → z.place.1 < 2 ^ 32 → Knows (edit F (inode_edit T k)) (OfUser z.place.0 (ABlock z.place.1 n)) g
       go true e out lt n low high m =
           let is = same_size (edit F (inode_edit T k)) T z.place (inode_bytes F T k stands z.place e) ∙ size_of_T T z r.held in
@@ -138,7 +138,7 @@ module _ (left : List KeptInode) (k : KeptInode) (F T : Tree) (f g : PartForest)
       go false e out lt n low high m =
           let is = size_beside e in
           known (OfUser z.place.0 (ABlock z.place.1 n)) (apart z.place e)
-          (r.end_ (ap (λ b. (b && true) || has (map inode_area left) (At z.place SizeOf)) e ∙ out) (omega (arith, lt, is)) n low (omega (arith, high, is)) m)
+          (r.end_ (ap (λ b. (b && true) || stood_at left z.place) e ∙ out) (omega (arith, lt, is)) n low (omega (arith, high, is)) m)
         where
           size_beside : place_eq z.place k.place ≡ false → size_at (edit F (inode_edit T k)) z.place ≡ size_at F z.place
           size_beside e = beside_size F k.place (Copied (or_new (get T.inodes k.place))) z.place e

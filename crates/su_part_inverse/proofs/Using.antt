@@ -37,7 +37,7 @@ use Rattle.su_part_forest.proofs.Public.{seen_inodes}
 use Rattle.su_inverse.specs.Kept.{HoldsBlocks}
 use Rattle.su_inverse.specs.declared.contents.KeptBlocks.{KeptBlocks}
 use Rattle.su_part_inverse.specs.Ready.{KnowsEnd, KnowsRun}
-use Rattle.su_part_inverse.proofs.Initial.{small_size}
+use Rattle.su_part_inverse.proofs.Initial.{size_in, small_size}
 use Rattle.su_part_inverse.proofs.Reading.{meant_at, user_stands}
 
 -- an inode that is known and stands there is loaded
@@ -52,11 +52,6 @@ inode_loaded u n T p h w some = known_inode n p (go w.path) u T h w.there
 sized_some : (F : Tree) (p : Place) (n : ℕ) → n < size_at F p → get F.inodes p ≢ None
 unfolding val
 sized_some F p n lt none = let z : size_at F p ≡ 0 = ap (λ o. value_number (field_value o SizeOf)) none in omega (arith, lt, z)
-
--- its size is that of the content
-size_in : (F : Tree) (p : Place) (i : Inode) → get F.inodes p ≡ Some i → size_at F p ≡ size_of i.content
-unfolding val
-size_in F p i e = ap (λ o. value_number (field_value o SizeOf)) e
 
 module _ (F : Tree) (f : PartForest) (h : Stands f F) (p : Place) where
   -- an inode that is known is there

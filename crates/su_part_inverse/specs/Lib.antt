@@ -1,3 +1,4 @@
 pub mod Kept
 pub mod Steps
 pub mod Ready
+pub mod Open

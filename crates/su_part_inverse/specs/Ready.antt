@@ -1,6 +1,6 @@
 -- What of a forest is known, so that the rest of an undo can be done: f is the forest, which stands
 -- for F, and T the tree that is put back.
-use Rattle.std.specs.Prelude.{◌≡◌, ◌⊎◌, ℕ, ◌*◌, ◌/◌, ◌<◌, ◌≤◌, ◌^◌, IsTrue, true, false, is_some, List, map, ⊤}
+use Rattle.std.specs.Prelude.{◌≡◌, ◌⊎◌, ℕ, ◌*◌, ◌/◌, ◌<◌, ◌≤◌, ◌^◌, Bool, IsTrue, true, false, is_some, List, map, ⊤}
 use Rattle.std.specs.List.{AllByRecursion}
 use Rattle.std.specs.FinMap.{get}
 use Rattle.su_bytes.specs.Name.{is_name}
@@ -22,11 +22,13 @@ use Rattle.su_inverse.specs.Kept.{blocks_area, reset_area, size_area, HoldsBlock
 use Rattle.su_inverse.specs.declared.contents.KeptBlocks.{KeptBlocks}
 use Rattle.su_inverse.specs.declared.contents.KeptSize.{KeptSize}
 use Rattle.su_inverse.specs.declared.resets.Reset.{Reset}
-use Rattle.su_part_inverse.specs.Kept.{inode_area}
+use Rattle.su_part_inverse.specs.Kept.{inode_area, HoldsReturn}
 use Rattle.su_part_inverse.specs.declared.inverses.Inverse.{Inverse}
 use Rattle.su_part_inverse.specs.declared.returns.KeptInode.{KeptInode}
 use Rattle.su_part_inverse.specs.declared.returns.Overwritten.{Overwritten}
 use Rattle.su_part_inverse.specs.declared.returns.Overwritten.TheVariants.{Name as NameOverwritten, Pointer as PointerOverwritten}
+use Rattle.su_part_inverse.specs.declared.returns.Return.{Return}
+use Rattle.su_part_inverse.specs.declared.returns.Return.TheVariants.{Name as NameReturn, Pointer as PointerReturn}
 
 -- ---- what an area asks for
 
@@ -70,14 +72,37 @@ KnowsRun F f k =
 abbrev pub SameBytes : Tree → Tree → Place → Type 0
 SameBytes F T p = bytes_of (get F.inodes p) ≡ bytes_of (get T.inodes p)
 
+-- ---- what comes back with an inode
+
+-- one of the inodes stood at the place
+abbrev pub stood_at : List KeptInode → Place → Bool
+stood_at ks p = has (map inode_area ks) (At p SizeOf)
+
+-- it is a name of a place at which one of the inodes stood
+abbrev pub comes_with : List KeptInode → Return → Bool
+comes_with ks (NameReturn p x f) = stood_at ks p
+comes_with ks (PointerReturn g p) = false
+
+-- Where one of all these inodes stood, F has what T has, but for those that are still to be brought
+-- back.
+abbrev pub AreBack : List KeptInode → List KeptInode → Tree → Tree → Type 0
+AreBack left all F T = (p : Place) → stood_at all p ≡ true → stood_at left p ≡ false
+    → get F.inodes p ≡ get T.inodes p
+
 -- ---- what is left to do, where these inodes are still to be brought back
+
+-- T has what these bring back, and inodes that are back are as in T
+pub record ReturnsAreReady (left all : List KeptInode) (rs : List Return) (F T : Tree) : Type 0
+  where
+    pub back : AreBack left all F T
+    pub held : AllByRecursion (HoldsReturn T) rs
 
 -- The inode is known, and what a cut to its size needs; but where it is still to be brought back.
 pub record SizeIsReady (left : List KeptInode) (F T : Tree) (f : PartForest) (k : KeptSize)
     : Type 0 where
   pub held : HoldsSize T k
   pub known : KnowsArea F f (size_area k)
-  pub end_ : has (map inode_area left) (At k.place SizeOf) ≡ false → k.size < size_at F k.place
+  pub end_ : stood_at left k.place ≡ false → k.size < size_at F k.place
       → KnowsEnd F f k.place k.size
 
 -- what it sets is known

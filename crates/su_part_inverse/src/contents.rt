@@ -1,12 +1,14 @@
 // The sizes and the bytes of files.
-ghost use Rattle.std.specs.Prelude.{◌≡◌, ◌⊎◌, ◌<◌, IfErr, OnOk, OnErr};
+ghost use Rattle.std.specs.Prelude.{◌≡◌, ◌⊎◌, ◌<◌, [], IfErr, OnOk, OnErr};
 ghost use Rattle.su_bytes.specs.declared.refusals.Refusal.TheVariants.{MissingBlock, NoMemory};
 ghost use Rattle.su_table.specs.Query.{size_at};
 ghost use Rattle.su_table.specs.Tree.{Tree};
 ghost use Rattle.su_part_forest.specs.Forest.{Stands};
 ghost use Rattle.su_part_forest.specs.Known.{StaysKnown};
+ghost use Rattle.su_part_forest.specs.Loading.{KeepsBeside};
 ghost use Rattle.su_inverse.specs.Kept.{size_area};
 ghost use Rattle.su_undone.specs.Undone.{cut_to, grown_to, written_to};
+ghost use Rattle.su_part_inverse.specs.Open.{SizeIsOpen};
 ghost use Rattle.su_part_inverse.specs.Ready.{BlocksAreReady, KnowsArea, KnowsEnd};
 
 use su_bytes::Refusal;
@@ -29,13 +31,18 @@ pub(crate) fn grow(kept: &KeptSize, forest: &mut PartForest) -> Result<(), Refus
         → size_at F kept.now.place < size_at (grown_to kept.now F) kept.now.place
         → OnOk result (KnowsEnd (grown_to kept.now F) forest.new kept.now.place
         (size_at F kept.now.place)) }
+    ensures beside { OnOk result (KeepsBeside kept.now.place forest.old forest.new) }
     ensures refused { IfErr result (λ e. (e ≡ NoMemory) ⊎ (e ≡ MissingBlock)) }
+    ensures loaded { (F : Tree) → Stands forest.old F
+        → KnowsArea F forest.old (size_area kept.now) → SizeIsOpen [] F forest.old kept.now
+        → IfErr result (λ e. e ≡ NoMemory) }
     ensures err { (F : Tree) → Stands forest.old F → OnErr result (Stands forest.new F) }
     ensures err_known { (F : Tree) → Stands forest.old F
         → OnErr result (StaysKnown F F forest.old forest.new) }
 {
-    // names the number's range for the prover (docs/ARCHITECTURE.md, "Forms the kit wants")
+    // names the ranges for the prover (docs/ARCHITECTURE.md, "Forms the kit wants")
     let _number = kept.place.1.number();
+    let _size = size_range(kept.size);
     if forest.size(kept.place) < kept.size {
         forest.grow(kept.place, kept.size)
     } else {
@@ -81,4 +88,12 @@ pub(crate) fn write(kept: &KeptBlocks, forest: &mut PartForest)
         // within the size, so without memory; where it isn't loaded, the file has these bytes
         let _done = forest.write_at(kept.place, off as u32, kept.bytes.as_slice());
     }
+}
+
+/// Returns the size: it names its range for the prover (docs/ARCHITECTURE.md, "Forms the kit
+/// wants").
+fn size_range(size: u32) -> u32
+    ensures { result ≡ size }
+{
+    size
 }

@@ -1,6 +1,7 @@
 //! What cells of a forest of parts held, kept so that it can be put back.
 #![tactic(auto)]
 
+mod areas;
 mod contents;
 mod inverses;
 mod laws;

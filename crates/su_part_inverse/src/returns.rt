@@ -14,6 +14,7 @@ ghost use Rattle.su_part.specs.Known.{Want.AnInode, Want.AName};
 ghost use Rattle.su_part.specs.Part.{MeantAt, StandsJust};
 ghost use Rattle.su_part_forest.specs.Forest.{Stands, HasNameAt};
 ghost use Rattle.su_part_forest.specs.Known.{Want.OfUser, Want.OfGroup, Knows, StaysKnown, StaysKnownBeside};
+ghost use Rattle.su_part_inverse.specs.Ready.{stood_at};
 
 use su_bytes::{FileId, GroupFile, Name, Place, Refusal};
 use su_part::PartInode;
@@ -43,7 +44,9 @@ pub(crate) enum Overwritten {
 }
 
 impl KeptInode {
-    ghost use Rattle.su_part_inverse.specs.Kept.{HoldsInode};
+    ghost use Rattle.su_part_forest.specs.Loading.{KeepsBeside};
+    ghost use Rattle.su_perform.specs.Loaded.{HasArea};
+    ghost use Rattle.su_part_inverse.specs.Kept.{HoldsInode, inode_area};
     ghost use Rattle.su_part_inverse.specs.Steps.{inode_edit};
 
     /// Puts a copy of it in the place of what stands there, which it returns. Refused with
@@ -60,7 +63,10 @@ impl KeptInode {
             (OfUser self.now.place.0 (AnInode self.now.place.1)) forest.new) }
         ensures was { (F : Tree) → Stands forest.old F
             → IfOk result (λ o. StandsJust o (get F.inodes self.now.place)) }
+        ensures beside { OnOk result (KeepsBeside self.now.place forest.old forest.new) }
         ensures refused { IfErr result (λ e. (e ≡ NoMemory) ⊎ (e ≡ MissingBlock)) }
+        ensures loaded { (F : Tree) → Stands forest.old F
+            → HasArea F forest.old (inode_area self.now) → IfErr result (λ e. e ≡ NoMemory) }
         ensures err { (F : Tree) → Stands forest.old F → OnErr result (Stands forest.new F) }
         ensures err_known { (F : Tree) → Stands forest.old F
             → OnErr result (StaysKnown F F forest.old forest.new) }
@@ -70,8 +76,22 @@ impl KeptInode {
 }
 
 impl Return {
-    ghost use Rattle.su_part_inverse.specs.Ready.{HasRoom, overwritten_area, want_of};
+    ghost use Rattle.su_part_forest.specs.Loading.{KeepsLoaded};
+    ghost use Rattle.su_perform.specs.Loaded.{HasArea};
+    ghost use Rattle.su_part_inverse.specs.Kept.{return_area};
+    ghost use Rattle.su_part_inverse.specs.Ready.{HasRoom, comes_with, overwritten_area, want_of};
     ghost use Rattle.su_part_inverse.specs.Steps.{name_edit, overwritten_edit};
+
+    /// Tells whether it is a name of a place at which one of the inodes stood, and so is back once
+    /// they are. Looks at each of them.
+    pub(crate) fn comes_with(&self, inodes: &[KeptInode]) -> bool
+        ensures { result ≡ comes_with inodes.now self.now }
+    {
+        match self {
+            Return::Name(place, _, _) => stood_at(inodes, place),
+            Return::Pointer(_, _) => false,
+        }
+    }
 
     /// Brings it back, and returns what that overwrote. Refused with `MissingBlock` where its path
     /// isn't loaded, and with `NoMemory` where memory is wanting; then the forest stands for what
@@ -88,7 +108,10 @@ impl Return {
             overwritten_edit overwritten ≡ back F (name_edit self.now)) }
         ensures room { (F : Tree) → Stands forest.old F → IfOk result (λ overwritten.
             HasRoom overwritten (edit F (name_edit self.now))) }
+        ensures keeps { OnOk result (KeepsLoaded forest.old forest.new) }
         ensures refused { IfErr result (λ e. (e ≡ NoMemory) ⊎ (e ≡ MissingBlock)) }
+        ensures loaded { (F : Tree) → Stands forest.old F
+            → HasArea F forest.old (return_area self.now) → IfErr result (λ e. e ≡ NoMemory) }
         ensures err { (F : Tree) → Stands forest.old F → OnErr result (Stands forest.new F) }
         ensures err_known { (F : Tree) → Stands forest.old F
             → OnErr result (StaysKnown F F forest.old forest.new) }
@@ -196,6 +219,18 @@ fn give_back_pointer(forest: &mut PartForest, file: GroupFile, was: Option<Place
         }
         None => forest.remove_pointer(file),
     }
+}
+
+/// Tells whether one of the inodes stood at the place.
+fn stood_at(inodes: &[KeptInode], place: &Place) -> bool
+    ensures { result ≡ stood_at inodes.now place.now }
+{
+    for kept in inodes {
+        if *place == kept.place {
+            return true;
+        }
+    }
+    false
 }
 
 /// Looks up where the name leads, in the directory at `place`. The name's path is loaded.

@@ -9,7 +9,8 @@ ghost use Rattle.su_part_forest.specs.Known.{StaysKnown};
 ghost use Rattle.su_perform.specs.Loaded.{HasAreas};
 ghost use Rattle.su_undone.specs.Undone.{brought_back, grown, written, reset};
 ghost use Rattle.su_part_inverse.specs.Kept.{HoldsInode, IsPutBack, inverse_areas};
-ghost use Rattle.su_part_inverse.specs.Ready.{AreReady, IsReady, InodesStayKnown, SizeIsReady};
+ghost use Rattle.su_part_inverse.specs.Open.{AreOpen, SizeIsOpen};
+ghost use Rattle.su_part_inverse.specs.Ready.{AreReady, IsReady, InodesStayKnown, ReturnsAreReady, SizeIsReady};
 ghost use Rattle.su_part_inverse.specs.Steps.{finished, lengthened, restored, returned};
 
 use crate::contents::{cut, grow, write};
@@ -22,13 +23,16 @@ use su_part_forest::PartForest;
 
 impl Inverse {
     /// Puts the kept values back, and leaves all other cells. What the forest has in the areas is
-    /// loaded. Refused with `NoMemory` where memory is wanting, and with `MissingBlock` where what
-    /// has to be put back isn't loaded; then the forest stands for what it stood for.
+    /// loaded. Refused with `NoMemory` where memory is wanting, and with `MissingBlock` only where
+    /// an area isn't loaded; then the forest stands for what it stood for.
     pub fn undo_on(&self, forest: &mut PartForest) -> Result<(), Refusal>
         ensures ok { (F T : Tree) → Stands forest.old F
             → HasAreas F forest.old (inverse_areas self.now) → IsPutBack self.now F T
             → OnOk result (Stands forest.new T) }
         ensures refused { IfErr result (λ e. (e ≡ NoMemory) ⊎ (e ≡ MissingBlock)) }
+        ensures loaded { (F T : Tree) → Stands forest.old F
+            → HasAreas F forest.old (inverse_areas self.now) → IsPutBack self.now F T
+            → IfErr result (λ e. e ≡ NoMemory) }
         ensures err { (F T : Tree) → Stands forest.old F
             → HasAreas F forest.old (inverse_areas self.now) → IsPutBack self.now F T
             → OnErr result (Stands forest.new F) }
@@ -76,15 +80,24 @@ impl Inverse {
 /// Brings these inodes back, and then restores the rest. Refused as `undo_on` is, and then takes
 /// back what it brought back.
 fn restore(inodes: &[KeptInode], inverse: &Inverse, forest: &mut PartForest) -> Result<(), Refusal>
-    ensures ok { (F T : Tree) → Stands forest.old F
-        → AllByRecursion (HoldsInode T) inodes.now → IsReady inodes.now inverse.now F T forest.old
+    ensures ok { (F T : Tree) → Stands forest.old F → AllByRecursion (HoldsInode T) inodes.now
+        → ReturnsAreReady inodes.now inverse.now.inodes.items inverse.now.returns.items F T
+        → IsReady inodes.now inverse.now F T forest.old
         → OnOk result (Stands forest.new (restored T inodes.now inverse.now F)) }
     ensures refused { IfErr result (λ e. (e ≡ NoMemory) ⊎ (e ≡ MissingBlock)) }
-    ensures err { (F T : Tree) → Stands forest.old F
-        → AllByRecursion (HoldsInode T) inodes.now → IsReady inodes.now inverse.now F T forest.old
+    ensures loaded { (F T : Tree) → Stands forest.old F → AllByRecursion (HoldsInode T) inodes.now
+        → IsReady inodes.now inverse.now F T forest.old
+        → AreOpen inodes.now inverse.now.inodes.items inverse.now.returns.items
+        inverse.now.sizes.items F forest.old
+        → IfErr result (λ e. e ≡ NoMemory) }
+    ensures err { (F T : Tree) → Stands forest.old F → AllByRecursion (HoldsInode T) inodes.now
+        → ReturnsAreReady inodes.now inverse.now.inodes.items inverse.now.returns.items F T
+        → IsReady inodes.now inverse.now F T forest.old
         → OnErr result (Stands forest.new F) }
     ensures err_known { (F T : Tree) → Stands forest.old F
-        → AllByRecursion (HoldsInode T) inodes.now → IsReady inodes.now inverse.now F T forest.old
+        → AllByRecursion (HoldsInode T) inodes.now
+        → ReturnsAreReady inodes.now inverse.now.inodes.items inverse.now.returns.items F T
+        → IsReady inodes.now inverse.now F T forest.old
         → OnErr result (InodesStayKnown F F forest.old forest.new) }
 {
     match inodes.split_first() {
@@ -100,21 +113,32 @@ fn restore(inodes: &[KeptInode], inverse: &Inverse, forest: &mut PartForest) -> 
     }
 }
 
-/// Brings these names and pointers back, and then restores the rest. Refused as `undo_on` is, and
-/// then takes back what it brought back.
+/// Brings these names and pointers back, but for names that came back with an inode, and then
+/// restores the rest. Refused as `undo_on` is, and then takes back what it brought back.
 fn put_back(returns: &[Return], inverse: &Inverse, forest: &mut PartForest) -> Result<(), Refusal>
-    ensures ok { (F T : Tree) → Stands forest.old F → IsReady [] inverse.now F T forest.old
+    ensures ok { (F T : Tree) → Stands forest.old F
+        → ReturnsAreReady [] inverse.now.inodes.items returns.now F T
+        → IsReady [] inverse.now F T forest.old
         → OnOk result (Stands forest.new (returned returns.now inverse.now F)) }
     ensures refused { IfErr result (λ e. (e ≡ NoMemory) ⊎ (e ≡ MissingBlock)) }
-    ensures err { (F T : Tree) → Stands forest.old F → IsReady [] inverse.now F T forest.old
+    ensures loaded { (F T : Tree) → Stands forest.old F → IsReady [] inverse.now F T forest.old
+        → AreOpen [] inverse.now.inodes.items returns.now inverse.now.sizes.items F forest.old
+        → IfErr result (λ e. e ≡ NoMemory) }
+    ensures err { (F T : Tree) → Stands forest.old F
+        → ReturnsAreReady [] inverse.now.inodes.items returns.now F T
+        → IsReady [] inverse.now F T forest.old
         → OnErr result (Stands forest.new F) }
     ensures err_known { (F T : Tree) → Stands forest.old F
+        → ReturnsAreReady [] inverse.now.inodes.items returns.now F T
         → IsReady [] inverse.now F T forest.old
         → OnErr result (StaysKnown F F forest.old forest.new) }
 {
     match returns.split_first() {
         None => lengthen(inverse.sizes.as_slice(), inverse, forest),
         Some((first, rest)) => {
+            if first.comes_with(inverse.inodes.as_slice()) {
+                return put_back(rest, inverse, forest);
+            }
             let overwritten = first.bring_back(forest)?;
             if let Err(refusal) = put_back(rest, inverse, forest) {
                 overwritten.take_back(forest);
@@ -133,6 +157,10 @@ fn lengthen(sizes: &[KeptSize], inverse: &Inverse, forest: &mut PartForest) -> R
         → IsReady [] inverse.now F T forest.old
         → OnOk result (Stands forest.new (finished inverse.now (grown sizes.now F))) }
     ensures refused { IfErr result (λ e. (e ≡ NoMemory) ⊎ (e ≡ MissingBlock)) }
+    ensures loaded { (F T : Tree) → Stands forest.old F
+        → AllByRecursion (SizeIsReady [] F T forest.old) sizes.now
+        → AllByRecursion (SizeIsOpen [] F forest.old) sizes.now
+        → IfErr result (λ e. e ≡ NoMemory) }
     ensures err { (F T : Tree) → Stands forest.old F
         → AllByRecursion (SizeIsReady [] F T forest.old) sizes.now
         → IsReady [] inverse.now F T forest.old

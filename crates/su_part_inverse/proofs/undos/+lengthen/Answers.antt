@@ -1,13 +1,17 @@
 use Rattle.std.proofs.Common.{◌≡◌, ◌∙◌, sym, subst, [], ◌∷◌}
 use Rattle.std.proofs.lemmas.List.{nil_from_length}
+use Rattle.std.proofs.lemmas.Result.{err_from_is_err_and}
 use Rattle.std.specs.List.{AllByRecursion}
 use Rattle.su_part_forest.specs.Forest.{Stands}
 use Rattle.su_part_forest.proofs.EditLifting.{small_inum}
 use Rattle.su_undone.specs.Undone.{grown, grown_to}
+use Rattle.su_inverse.specs.Kept.{HoldsSize}
+use Rattle.su_part_inverse.specs.Open.{SizeIsOpen}
 use Rattle.su_part_inverse.specs.Ready.{SizeIsReady}
 use Rattle.su_part_inverse.specs.Steps.{finished}
 use Rattle.su_part_inverse.proofs.Moves.{grown_moves}
-use Rattle.su_part_inverse.proofs.ReadyLemmas.{ready_on, sizes_on}
+use Rattle.su_part_inverse.proofs.OpenLemmas.{open_grown}
+use Rattle.su_part_inverse.proofs.ReadyLemmas.{each, ready_on, sizes_on}
 use Rattle.su_part_inverse.proofs.Rolling.{area_between, back_again, end_between, known_again}
 use Rattle.su_part_inverse.proofs.Using.{size_known}
 use Rattle.su_part_inverse.proofs.undos.+lengthen.Goals as goal
@@ -79,3 +83,29 @@ returns-in-Err-clause-err_known t c F T h sizes ready =
     known_again F f g j first small c.size-was.result was one.known known between ends c.cut.new.forest
     (c.cut.ensures.known (grown_to first F) mid (area_between F f g j first small c.size-was.result was one.known known between ends)
     (end_between F f g j first small c.size-was.result was one.known known between ends))
+
+pub returns-in_err-grow-in-Some-clause-loaded : goal.returns-in_err-grow-in-Some-clause-loaded
+returns-in_err-grow-in-Some-clause-loaded t c F T h sizes opens =
+    let f = c.args.forest.now in
+    let first = c.in-Some.first.now in
+    let rest = c.in-Some.rest.now in
+    let is : c.args.sizes.now ≡ first ∷ rest = c.in-Some.ensures.cases.0 in
+    let (one, more) = subst (AllByRecursion (SizeIsReady [] F T f)) is sizes in
+    let (open', left) = subst (AllByRecursion (SizeIsOpen [] F f)) is opens in
+    let p = err_from_is_err_and c.from_residual.result c.from_residual.ensures.1 in
+    rw (p.1, p.2) (c.in_err-grow-in-Some.ensures.loaded F h one.known open')
+
+pub returns-in-Err-clause-loaded : goal.returns-in-Err-clause-loaded
+returns-in-Err-clause-loaded t c F T h sizes opens =
+    let f = c.args.forest.now in
+    let g = c.grow.new.forest in
+    let first = c.in-Some.first.now in
+    let rest = c.in-Some.rest.now in
+    let is : c.args.sizes.now ≡ first ∷ rest = c.in-Some.ensures.cases.0 in
+    let (one, more) = subst (AllByRecursion (SizeIsReady [] F T f)) is sizes in
+    let (open', left) = subst (AllByRecursion (SizeIsOpen [] F f)) is opens in
+    let known = c.in_ok-grow-in-Some.ensures.known F h one.known in
+    let stands = c.in_ok-grow-in-Some.ensures.ok F h one.known in
+    let held = each (SizeIsReady [] F T f) (HoldsSize T) (λ k r. r.held) rest more in
+    c.in-Err.ensures.loaded (grown_to first F) T stands (sizes_on [] F (grown_to first F) T f g known (grown_moves F T first one.held) rest more)
+    (open_grown first F T f g one.held h stands c.in_ok-grow-in-Some.ensures.beside rest held left)

@@ -8,7 +8,7 @@ use Rattle.su_part_forest.proofs.Knowing.{on_errs, on_two, free_none, inode_load
 use Rattle.su_part.specs.Known.{Knows}
 use Rattle.su_part.specs.Known.Want.{AnInode}
 use Rattle.su_table.specs.Edit.{Edit.Inodes, edit}
-use Rattle.su_part_forest.proofs.EditLifting.{user_has, user_kept, with_user}
+use Rattle.su_part_forest.proofs.EditLifting.{kept_beside_itself, user_has, user_kept, user_kept_beside, with_user}
 use Rattle.su_part_forest.proofs.Lifting.{all_kept}
 use Rattle.std.proofs.Common.{◌≡◌, true, false, subst}
 use Rattle.std.specs.Prelude.{IsSome}
@@ -231,3 +231,18 @@ returns-in-None-clause-added c T i h stands meant =
 pub returns-in-None-clause-succeeds : goal.returns-in-None-clause-succeeds
 returns-in-None-clause-succeeds c T h known there =
     user_absent c.args.self.now c.from.result c.number.result (ltb-false _ _ (sym c.in-None.ensures.item.0)) c.from.ensures c.number.ensures.range T h
+
+pub returns-else-not-has_inode-clause-beside : goal.returns-else-not-has_inode-clause-beside
+returns-else-not-has_inode-clause-beside c =
+    let f = c.args.self.now in
+    let u = c.args.place.0 in
+    let n = c.args.place.1 in
+    let m = c.from.result in
+    let p = c.in-Some.part.now in
+    let within = ltb-true _ _ (sym c.in-Some.ensures.item.0) in
+    let is = c.in-Some.ensures.value in
+    let same = c.from.ensures ∙ c.number.ensures.value in
+    on_ok c.exchange_inode.result (user_kept_beside f m u p within is same c.exchange_inode.new.self n) c.exchange_inode.ensures.stays
+
+pub returns-in-None-clause-beside : goal.returns-in-None-clause-beside
+returns-in-None-clause-beside c = kept_beside_itself c.args.self.now c.args.place

@@ -6,7 +6,7 @@ use Rattle.su_part_forest.proofs.EditLifting.{on_err, small_inum, user_absent, u
 use Rattle.su_part_forest.proofs.Lifting.{on_ok}
 use Rattle.su_table.specs.Query.{size_at}
 use Rattle.su_part_forest.proofs.Knowing.{on_errs, on_three, grown_cut, known_kept}
-use Rattle.su_part_forest.proofs.EditLifting.{user_has, user_kept, user_known, with_user}
+use Rattle.su_part_forest.proofs.EditLifting.{kept_beside_itself, user_has, user_kept, user_kept_beside, user_known, with_user}
 use Rattle.su_part.specs.Cut.{HasCutOf}
 use Rattle.su_part.specs.Part.{HasAt}
 use Rattle.su_part.proofs.UserLemmas.{all_itself}
@@ -136,3 +136,18 @@ returns-in-None-clause-known c T h above =
 pub returns-in-None-clause-cuts : goal.returns-in-None-clause-cuts
 returns-in-None-clause-cuts c T h above =
     user_absent c.args.self.now c.from.result c.number.result (ltb-false _ _ (sym c.in-None.ensures.item.0)) c.from.ensures c.number.ensures.range T h
+
+pub returns-else-not-has_write-clause-beside : goal.returns-else-not-has_write-clause-beside
+returns-else-not-has_write-clause-beside c =
+    let f = c.args.self.now in
+    let u = c.args.place.0 in
+    let n = c.args.place.1 in
+    let m = c.from.result in
+    let p = c.in-Some.part.now in
+    let within = ltb-true _ _ (sym c.in-Some.ensures.item.0) in
+    let is = c.in-Some.ensures.value in
+    let same = c.from.ensures ∙ c.number.ensures.value in
+    on_ok c.grow.result (user_kept_beside f m u p within is same c.grow.new.self n) c.grow.ensures.stays
+
+pub returns-in-None-clause-beside : goal.returns-in-None-clause-beside
+returns-in-None-clause-beside c = kept_beside_itself c.args.self.now c.args.place

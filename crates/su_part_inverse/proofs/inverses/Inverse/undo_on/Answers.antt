@@ -2,10 +2,12 @@ use Rattle.std.proofs.Common.{sym, subst, OnOk}
 use Rattle.std.specs.List.{AllByRecursion}
 use Rattle.su_part_forest.specs.Forest.{Stands}
 use Rattle.su_part_inverse.specs.Kept.{HoldsInode}
-use Rattle.su_part_inverse.specs.Ready.{IsReady}
+use Rattle.su_part_inverse.specs.Open.{AreOpen}
+use Rattle.su_part_inverse.specs.Ready.{IsReady, ReturnsAreReady}
 use Rattle.su_part_inverse.specs.Steps.{restored}
 use Rattle.su_part_inverse.proofs.Final.{put_back_is}
-use Rattle.su_part_inverse.proofs.Initial.{ready_first}
+use Rattle.su_part_inverse.proofs.BackLemmas.{none_back}
+use Rattle.su_part_inverse.proofs.Initial.{open_first, ready_first}
 use Rattle.su_part_inverse.proofs.inverses.Inverse.undo_on.Goals as goal
 
 pub returns-clause-ok : goal.returns-clause-ok
@@ -15,11 +17,21 @@ returns-clause-ok c F T h loaded put =
     let whole = c.as_slice.ensures.value in
     subst (λ V. OnOk c.restore.result (Stands c.restore.new.forest V)) (put_back_is i F T put)
     (subst (λ ks. OnOk c.restore.result (Stands c.restore.new.forest (restored T ks i F))) whole
-    (c.restore.ensures.ok F T h (subst (AllByRecursion (HoldsInode T)) (sym whole) put.kept.inodes) (subst (λ ks. IsReady ks i F T f) (sym whole) (ready_first i F T f h loaded put))))
+    (c.restore.ensures.ok F T h (subst (AllByRecursion (HoldsInode T)) (sym whole) put.kept.inodes)
+    (subst (λ ks. ReturnsAreReady ks i.inodes.items i.returns.items F T) (sym whole) (record { back = none_back i.inodes.items F T; held = put.kept.returns })) (subst (λ ks. IsReady ks i F T f) (sym whole) (ready_first i F T f h loaded put))))
 
 pub returns-clause-err : goal.returns-clause-err
 returns-clause-err c F T h loaded put =
     let i = c.args.self.now in
     let f = c.args.forest.now in
     let whole = c.as_slice.ensures.value in
-    c.restore.ensures.err F T h (subst (AllByRecursion (HoldsInode T)) (sym whole) put.kept.inodes) (subst (λ ks. IsReady ks i F T f) (sym whole) (ready_first i F T f h loaded put))
+    c.restore.ensures.err F T h (subst (AllByRecursion (HoldsInode T)) (sym whole) put.kept.inodes)
+    (subst (λ ks. ReturnsAreReady ks i.inodes.items i.returns.items F T) (sym whole) (record { back = none_back i.inodes.items F T; held = put.kept.returns })) (subst (λ ks. IsReady ks i F T f) (sym whole) (ready_first i F T f h loaded put))
+
+pub returns-clause-loaded : goal.returns-clause-loaded
+returns-clause-loaded c F T h loaded put =
+    let i = c.args.self.now in
+    let f = c.args.forest.now in
+    let whole = c.as_slice.ensures.value in
+    c.restore.ensures.loaded F T h (subst (AllByRecursion (HoldsInode T)) (sym whole) put.kept.inodes) (subst (λ ks. IsReady ks i F T f) (sym whole) (ready_first i F T f h loaded put))
+    (subst (λ ks. AreOpen ks i.inodes.items i.returns.items i.sizes.items F f) (sym whole) (open_first i F T f h loaded put))
