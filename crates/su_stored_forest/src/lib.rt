@@ -9,5 +9,6 @@ mod performs;
 mod reads;
 mod sheds;
 mod stored;
+mod undos;
 
 pub use stored::StoredForest;
