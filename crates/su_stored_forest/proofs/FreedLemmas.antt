@@ -4,7 +4,7 @@ use Rattle.std.proofs.Common.{◌∙◌, ap, refl}
 use Rattle.su_bytes.specs.declared.file_ids.FileId.TheVariants.{Group}
 use Rattle.su_bytes.specs.Place.{Place, place_eq}
 use Rattle.su_node.specs.Field.{Field.KindOf}
-use Rattle.su_table.specs.Cell.{Cell, Cell.At, Cell.Pointer, val}
+use Rattle.su_table.specs.Cell.{Cell, Cell.At, Cell.Pointer}
 use Rattle.su_table.specs.Query.{is_free_at, is_nothing, is_pointer_free}
 use Rattle.su_table.specs.Tree.{Tree}
 use Rattle.su_op.specs.Area.{has, in_area, in_part}

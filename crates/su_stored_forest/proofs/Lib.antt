@@ -1,2 +1,3 @@
 mod FreedLemmas
 mod StoredLemmas
+pub mod Public

@@ -19,6 +19,12 @@ pub record KnowsTaken {S : Type 0} {g : Ghosts S} (T : Tree) (r : StoredForest S
   pub users : AreAllFronts (λ u n. is_free_at T (u, n)) r.users.items
   pub groups : AreAllFronts (λ k n. is_pointer_free T (Group k n)) r.groups.items
 
+-- It holds the tree: its parts stand for it, and it knows no number as taken that is free. That is
+-- what it shows but for what its source may give.
+pub record Holds {S : Type 0} {g : Ghosts S} (r : StoredForest S g) (T : Tree) : Type 0 where
+  pub stands : Stands r.forest T
+  pub taken : KnowsTaken T r
+
 -- It shows the tree: its parts stand for it; no byte string that is hashed for the tree has the
 -- digest of another one that its source may give; and it knows no number as taken that is free.
 pub record Shows {S : Type 0} {g : Ghosts S} (may_give : S → List ℕ → Type 0)

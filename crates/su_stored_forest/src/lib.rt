@@ -2,11 +2,13 @@
 #![tactic(auto)]
 
 mod freed;
+mod keeps;
 mod numbers;
 mod operations;
 mod performs;
 mod reads;
 mod sheds;
 mod stored;
+mod undos;
 
 pub use stored::StoredForest;

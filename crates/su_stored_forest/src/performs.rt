@@ -15,13 +15,18 @@ use su_perform::Accepted;
 
 impl<S: BlockSource> StoredForest<S> {
     ghost use Rattle.su_stored_forest.specs.Freed.{AgreeBeside};
-    ghost use Rattle.su_stored_forest.specs.Shows.{Shows, Fails};
+    ghost use Rattle.su_stored_forest.specs.Shows.{Holds, Shows, Fails};
 
     /// Performs an accepted operation, of which these are the cells that it reads and writes: loads
     /// what it reads, and notes which numbers may be free then. Refused as a load is; then it shows
-    /// what it showed. It shows the tree that is made, unless an item of that has the digest of
-    /// another byte string that the store may give.
+    /// what it showed. It holds the tree that is made, and shows that, unless an item of it has the
+    /// digest of another byte string that the store may give.
     pub fn perform(&mut self, accepted: &Accepted<'_>, footprint: &Footprint) -> Result<(), Refusal>
+        ensures made { (T V : Tree) → Shows S.may_give self.old T → FitsIn T accepted.now
+            → footprint.now.reads.items ≡ plan_reads (planned T accepted.now)
+            → V ≡ edits T (planned T accepted.now).edits
+            → AgreeBeside footprint.now.writes.items T V
+            → OnOk result (Holds self.new V) }
         ensures done { (T V : Tree) → Shows S.may_give self.old T → FitsIn T accepted.now
             → footprint.now.reads.items ≡ plan_reads (planned T accepted.now)
             → V ≡ edits T (planned T accepted.now).edits

@@ -10,7 +10,7 @@ use su_block::BlockSource;
 use su_bytes::Refusal;
 
 impl<S: BlockSource> StoredForest<S> {
-    ghost use Rattle.su_stored_forest.specs.Shows.{Shows};
+    ghost use Rattle.su_stored_forest.specs.Shows.{Holds, Shows};
 
     /// Leaves all of the tree on the store, but for the digests of its i-tables. Refused with
     /// `SourceFailed` where the store could not be asked, and with `NoMemory` where memory is
@@ -21,6 +21,7 @@ impl<S: BlockSource> StoredForest<S> {
         ensures shows { (T : Tree) → Shows S.may_give self.old T
             → NoneClash (HashedFor T) (S.may_give self.new.source)
             → Shows S.may_give self.new T }
+        ensures holds { (T : Tree) → Holds self.old T → Holds self.new T }
         ensures sheds { ShedsForest S.may_give S.failed S.follows S.puts self.old.forest
             self.new.forest self.old.source self.new.source result }
         ensures none { OnOk result (HasNothingLoaded self.new.forest) }

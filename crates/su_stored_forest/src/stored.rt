@@ -1,5 +1,6 @@
 // A forest and the store that has the rest of it.
 ghost use Rattle.std.specs.Prelude.{◌≡◌, ℕ, Bool, true, IfOk, IfErr, IfSome, slice_get};
+ghost use Rattle.std.specs.Borrow.{Lends, sem};
 ghost use Rattle.su_bytes.specs.declared.refusals.Refusal.TheVariants.{NoMemory};
 ghost use Rattle.su_bytes.specs.declared.principals.Principal.TheVariants.{User as UserPrincipal, Group as GroupPrincipal};
 ghost use Rattle.su_table.specs.Handle.{handle};
@@ -27,7 +28,7 @@ pub struct StoredForest<S: BlockSource> {
 }
 
 impl<S: BlockSource + Drop> StoredForest<S> {
-    ghost use Rattle.su_stored_forest.specs.Shows.{Shows};
+    ghost use Rattle.su_stored_forest.specs.Shows.{Holds, Shows};
 
     /// Makes the tree before the first operation, all of it loaded, beside that source. Fails only
     /// with `NoMemory`.
@@ -35,6 +36,7 @@ impl<S: BlockSource + Drop> StoredForest<S> {
         requires { S.is_checked ≡ true }
         ensures shows { NoneClash (HashedFor genesis) (S.may_give source)
             → IfOk result (λ stored. Shows S.may_give stored genesis) }
+        ensures holds { IfOk result (λ stored. Holds stored genesis) }
         ensures source { IfOk result (λ stored. stored.source ≡ source) }
         ensures refused { IfErr result (λ e. e ≡ NoMemory) }
     {
@@ -64,20 +66,36 @@ fn no_fronts(alloc: Global, count: usize) -> Result<Vec<Fronts>, Refusal>
 }
 
 impl<S: BlockSource> StoredForest<S> {
-    ghost use Rattle.su_stored_forest.specs.Shows.{Shows};
+    ghost use Rattle.su_stored_forest.specs.Shows.{Holds};
+    ghost use Rattle.su_stored_forest.specs.contracts.stored.StoredForest.{the_row};
+
+    /// Returns the store that has the rest of it.
+    pub fn source(&self) -> &S
+        ensures { result.now ≡ self.now.source }
+    {
+        &self.source
+    }
+
+    /// Lends the store. What is done to that changes nothing else.
+    pub fn source_mut(&mut self) -> &mut S
+        ensures value { result.now ≡ self.old.source }
+        ensures* writes_back { sem 𝓛 (Lends (the_row S.row S.BlockSource) S.row self.entry result
+            (λ source. record self.old { source = source })) }
+    {
+        &mut self.source
+    }
 
     /// Returns the i-handle of a user. It is at hand: no hash is made, nothing is loaded and no
     /// memory is taken.
     pub fn i_handle(&self, user: User) -> Digest
-        ensures { (T : Tree) → Shows S.may_give self.now T → result ≡ handle T (UserPrincipal user) }
+        ensures { (T : Tree) → Holds self.now T → result ≡ handle T (UserPrincipal user) }
     {
         self.forest.i_handle(user)
     }
 
     /// Returns the i-handle of a group, which is at hand as a user's is.
     pub fn group_handle(&self, group: Group) -> Digest
-        ensures { (T : Tree) → Shows S.may_give self.now T
-            → result ≡ handle T (GroupPrincipal group) }
+        ensures { (T : Tree) → Holds self.now T → result ≡ handle T (GroupPrincipal group) }
     {
         self.forest.group_handle(group)
     }
