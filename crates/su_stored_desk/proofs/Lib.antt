@@ -1,0 +1,14 @@
+pub mod KeptOperations
+pub mod KeptIndexes
+pub mod NumberSearch
+pub mod TakingBack
+pub mod Replies
+pub mod NamedKeys
+pub mod TrialLemmas
+pub mod StandingReady
+pub mod Clearness
+pub mod ReadingReady
+pub mod JoiningReady
+pub mod JoinedLemmas
+pub mod Doing
+pub mod Rightness

@@ -1,0 +1,6 @@
+pub mod Keeping
+pub mod Tried
+pub mod Joined
+pub mod Right
+pub mod Asked
+pub mod Trusted

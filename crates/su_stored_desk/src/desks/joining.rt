@@ -1,0 +1,115 @@
+// Operations that were made one by one are joined into one entry.
+ghost use Rattle.std.specs.Prelude.{◌≡◌, ◌++◌, ℕ, List, None, true, length, IfOk, IfErr, OnOk, OnErr};
+ghost use Rattle.su_bytes.specs.declared.formats.Format.{Format as Format_};
+ghost use Rattle.su_bytes.specs.declared.refusals.Refusal.TheVariants.{NoMemory};
+ghost use Rattle.su_op.specs.Action.{is_many};
+ghost use Rattle.su_op.specs.declared.operations.Op.{Op};
+ghost use Rattle.su_op.specs.declared.operations.Change.TheVariants.{Do};
+ghost use Rattle.su_desk.specs.Answer.{format_refusal};
+ghost use Rattle.su_desk.specs.Desk.{DeskState, with_entry};
+ghost use Rattle.su_desk.specs.Version.{versions};
+ghost use Rattle.su_stored_desk.specs.Joined.{HasEach, IsJoined, IsKeptBefore, all_read, all_written};
+
+use super::Desk;
+use crate::entries::KeptEntry;
+use crate::kept::KeptOperation;
+use crate::versions::raise;
+use std::alloc::Global;
+use su_block::BlockSource;
+use su_bytes::{Principal, Refusal};
+use su_desk::Entry;
+use su_op::{Area, Footprint};
+use su_part_inverse::Inverse;
+
+impl<S: BlockSource> Desk<S> {
+    ghost use Rattle.su_stored_desk.specs.Right.{state_of, HasNumbers, IsRight};
+
+    /// Returns the cells of the last so many operations together, which were made one by one. Fails
+    /// only with `NoMemory`.
+    pub(crate) fn joined(&self, count: usize) -> Result<Footprint, Refusal>
+        ensures joined { IsRight self.now → IfOk result (λ footprint.
+            (d : DeskState) (a : ℕ) (f : Format_) (ops : List Op) → HasEach d a f ops (state_of self.now)
+            → length ops ≡ count → IsJoined d a f ops footprint) }
+        ensures refused { IfErr result (λ e. e ≡ NoMemory) }
+    {
+        let first = self.kept.len().saturating_sub(count);
+        footprint_of(self.alloc, &self.kept[first..])
+    }
+
+    /// Makes one entry of the last operations, which were made one by one in that format: that of
+    /// the batch. `footprint` has its cells, `inverse` what those that it writes held before it, and
+    /// `numbers` are the version numbers before it. Fails only with `NoMemory`, and then changes
+    /// nothing; nothing is loaded.
+    pub(crate) fn join(
+        &mut self,
+        numbers: &[(Principal, u64)],
+        entry: Entry,
+        count: usize,
+        footprint: Footprint,
+        inverse: Inverse,
+    ) -> Result<(), Refusal>
+        ensures done { (d : DeskState) (ops : List Op) → length ops ≡ count
+            → HasEach d entry.author entry.format ops (state_of self.old)
+            → OnOk result (state_of self.new ≡ with_entry d entry) }
+        ensures right { (d : DeskState) (ops : List Op) → IsRight self.old
+            → entry.change ≡ Do ops → length ops ≡ count → is_many (Do ops) ≡ true
+            → format_refusal d.history entry.format (Do ops) ≡ None
+            → numbers.now ≡ versions d.roster d.history
+            → HasEach d entry.author entry.format ops (state_of self.old)
+            → IsJoined d entry.author entry.format ops footprint
+            → IsKeptBefore d footprint inverse → IsRight self.new }
+        ensures numbers_kept { HasNumbers self.old.roster self.old.counters.items
+            → HasNumbers self.old.roster numbers.now
+            → HasNumbers self.new.roster self.new.counters.items }
+        ensures stored { self.new.stored ≡ self.old.stored }
+        ensures refused { IfErr result (λ e. e ≡ NoMemory) }
+        ensures err { OnErr result (state_of self.new ≡ state_of self.old) }
+    {
+        let author = entry.author;
+        let mut counters = Vec::from_slice(self.alloc, numbers)?;
+        self.entries.reserve(1)?;
+        self.kept.reserve(1)?;
+        raise(&mut counters, author, footprint.writes.as_slice());
+        self.counters = counters;
+        let first = self.entries.len().saturating_sub(count);
+        self.entries.truncate(first);
+        self.entries
+            .push_reserved(KeptEntry::new(self.alloc, entry));
+        let first = self.kept.len().saturating_sub(count);
+        let number = self.entries.len() as u64;
+        self.kept.truncate(first);
+        self.kept.push_reserved(KeptOperation {
+            number,
+            footprint,
+            inverse,
+        });
+        Ok(())
+    }
+}
+
+/// Returns the cells of operations together. Fails only with `NoMemory`.
+fn footprint_of(alloc: Global, kept: &[KeptOperation]) -> Result<Footprint, Refusal>
+    ensures reads { IfOk result (λ f. f.reads.items ≡ all_read kept.now) }
+    ensures writes { IfOk result (λ f. f.writes.items ≡ all_written kept.now) }
+    ensures refused { IfErr result (λ e. e ≡ NoMemory) }
+{
+    let mut reads = Vec::new(alloc);
+    let mut writes = Vec::new(alloc);
+    for operation in kept {
+        push_all(&mut reads, &operation.footprint.reads)?;
+        push_all(&mut writes, &operation.footprint.writes)?;
+    }
+    Ok(Footprint { reads, writes })
+}
+
+/// Appends copies of areas. Fails only with `NoMemory`; then some may have been appended.
+fn push_all(all: &mut Vec<Area>, areas: &[Area]) -> Result<(), Refusal>
+    ensures items { OnOk result (all.new.items ≡ all.old.items ++ areas.now) }
+    ensures refused { IfErr result (λ e. e ≡ NoMemory) }
+{
+    for area in areas {
+        let copy = area.clone()?;
+        all.push(copy)?;
+    }
+    Ok(())
+}

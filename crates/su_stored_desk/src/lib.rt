@@ -1,0 +1,12 @@
+//! A desk whose tree may lie on a store that isn't trusted.
+#![tactic(auto)]
+
+mod desks;
+mod entries;
+mod kept;
+mod prepared;
+mod trials;
+mod versions;
+
+pub use entries::KeptEntry;
+pub use trials::TrialDesk;
