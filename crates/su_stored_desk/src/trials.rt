@@ -155,7 +155,9 @@ impl<S: BlockSource> TrialDesk<S> {
         ensures clear { IsClear S.may_give self.new → IsClear S.may_give self.old }
         ensures same { self.new ≡ record self.old { asked = self.new.asked } }
     {
-        self.asked = self.asked.and(self.desk.stored.source(), &self.desk.entries);
+        self.asked = self
+            .asked
+            .and(self.desk.stored.source(), &self.desk.entries);
     }
 
     /// Settles the change that stands ready, which is the one that `prepared` tells of, and returns
@@ -223,7 +225,9 @@ impl<S: BlockSource> TrialDesk<S> {
         let Some(tried) = self.tried.pop() else {
             return Ok(());
         };
-        self.asked = self.asked.and(self.desk.stored.source(), &self.desk.entries);
+        self.asked = self
+            .asked
+            .and(self.desk.stored.source(), &self.desk.entries);
         if let Err((tried, refusal)) = self.desk.take_back(tried) {
             self.tried.push_reserved(tried);
             return Err(refusal);

@@ -8,8 +8,8 @@ ghost use Rattle.su_table.specs.Tree.{Tree};
 ghost use Rattle.su_stored_forest.specs.Shows.{Holds};
 
 use std::alloc::Global;
-use su_bytes::{Digest, Group, Principal, Refusal, Roster, User};
 use su_block::BlockSource;
+use su_bytes::{Digest, Group, Principal, Refusal, Roster, User};
 use su_op::Area;
 use su_stored_forest::StoredForest;
 

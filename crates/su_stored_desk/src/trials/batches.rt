@@ -103,7 +103,9 @@ impl<S: BlockSource> TrialDesk<S> {
         ensures clear { IsClear S.may_give self.new → IsClear S.may_give self.old }
         ensures source { MayBecome S.may_give S.follows self.old.source self.new.source }
     {
-        self.asked = self.asked.and(self.desk.stored.source(), &self.desk.entries);
+        self.asked = self
+            .asked
+            .and(self.desk.stored.source(), &self.desk.entries);
         self.desk.keep_whole(footprint.writes.as_slice())
     }
 

@@ -104,7 +104,9 @@ impl<S: BlockSource> TrialDesk<S> {
         ensures source { MayBecome S.may_give S.follows self.old.source self.new.source }
     {
         self.tried.reserve(1)?;
-        self.asked = self.asked.and(self.desk.stored.source(), &self.desk.entries);
+        self.asked = self
+            .asked
+            .and(self.desk.stored.source(), &self.desk.entries);
         let tried = self.desk.attempt(format, author, change)?;
         let prepared = self.desk.tell(author, &tried);
         self.tried.push_reserved(tried);

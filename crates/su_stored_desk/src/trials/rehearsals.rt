@@ -123,7 +123,9 @@ impl<S: BlockSource> TrialDesk<S> {
     {
         let change = Change::of(self.desk.alloc, operation.clone()?);
         self.tried.reserve(1)?;
-        self.asked = self.asked.and(self.desk.stored.source(), &self.desk.entries);
+        self.asked = self
+            .asked
+            .and(self.desk.stored.source(), &self.desk.entries);
         let tried = self.desk.attempt(format, author, change)?;
         self.tried.push_reserved(tried);
         Ok(())

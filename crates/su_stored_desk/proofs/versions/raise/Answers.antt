@@ -31,23 +31,23 @@ first_kept (z ∷ xs) (suc i) y x within here same = ap (λ ps. z.0 ∷ ps) (fir
 pub loop-version-preserved : goal.loop-version-preserved
 loop-version-preserved c = record {
   raised = λ small.
-          let a = c.args.author in
-          let w = c.args.written.now in
-          let l = c.loop-version in
-          let x = c.version-item.result in
-          let within : l.version-index < length l.versions = omega (arith, c.loop-version-test.true, l.auto.versions) in
-          let here : x ≡ get_or c.args.versions.now l.version-index x = c.version-item.is ∙ still_there (raised a w) c.args.versions.now l.versions l.version-index x within l.auto.versions (l.invariant.raised small) in
-          let fits : x.1 + 1 < 2 ^ 64 = subst (λ (v : Principal × ℕ). v.1 + 1 < 2 ^ 64) (sym here) (small l.version-index x c.loop-version-test.true) in
-          elim c.if-raises.branch [
-            | then-raises b ↦ b.versions-is
-                ∙ next_changed (raised a w) c.args.versions.now l.versions l.version-index x _ within l.auto.versions (l.invariant.raised small) c.version-item.is
-                (let more : b.saturating_add-version.result ≡ (get_or l.versions l.version-index x).1 + 1 = saturated _ _ (subst (λ (v : Principal × ℕ). v.1 + 1 < 2 ^ 64) c.version-item.is fits) b.saturating_add-version.ensures in
-                ap (λ n. ((get_or l.versions l.version-index x).0, n)) more
-                ∙ raised_one a w x (get_or l.versions l.version-index x) c.raises.result c.raises.ensures b.if-raises.true c.version-item.is)
-            | else-raises b ↦ b.versions-is
-                ∙ next_changed (raised a w) c.args.versions.now l.versions l.version-index x _ within l.auto.versions (l.invariant.raised small) c.version-item.is
-                (raised_none a w x _ c.raises.result c.raises.ensures b.if-raises.false c.version-item.is)
-          ];
+      let a = c.args.author in
+      let w = c.args.written.now in
+      let l = c.loop-version in
+      let x = c.version-item.result in
+      let within : l.version-index < length l.versions = omega (arith, c.loop-version-test.true, l.auto.versions) in
+      let here : x ≡ get_or c.args.versions.now l.version-index x = c.version-item.is ∙ still_there (raised a w) c.args.versions.now l.versions l.version-index x within l.auto.versions (l.invariant.raised small) in
+      let fits : x.1 + 1 < 2 ^ 64 = subst (λ (v : Principal × ℕ). v.1 + 1 < 2 ^ 64) (sym here) (small l.version-index x c.loop-version-test.true) in
+      elim c.if-raises.branch [
+        | then-raises b ↦ b.versions-is
+            ∙ next_changed (raised a w) c.args.versions.now l.versions l.version-index x _ within l.auto.versions (l.invariant.raised small) c.version-item.is
+            (let more : b.saturating_add-version.result ≡ (get_or l.versions l.version-index x).1 + 1 = saturated _ _ (subst (λ (v : Principal × ℕ). v.1 + 1 < 2 ^ 64) c.version-item.is fits) b.saturating_add-version.ensures in
+            ap (λ n. ((get_or l.versions l.version-index x).0, n)) more
+            ∙ raised_one a w x (get_or l.versions l.version-index x) c.raises.result c.raises.ensures b.if-raises.true c.version-item.is)
+        | else-raises b ↦ b.versions-is
+            ∙ next_changed (raised a w) c.args.versions.now l.versions l.version-index x _ within l.auto.versions (l.invariant.raised small) c.version-item.is
+            (raised_none a w x _ c.raises.result c.raises.ensures b.if-raises.false c.version-item.is)
+      ];
   same = elim c.if-raises.branch [
     | then-raises b ↦ ap (map (λ v. v.0)) b.versions-is ∙ first_kept c.loop-version.versions c.loop-version.version-index _ c.version-item.result (omega (arith, c.loop-version-test.true, c.loop-version.auto.versions)) c.version-item.is (ap (λ (v : Principal × ℕ). v.0) (sym c.version-item.is)) ∙ c.loop-version.invariant.same
     | else-raises b ↦ ap (map (λ v. v.0)) b.versions-is ∙ first_kept c.loop-version.versions c.loop-version.version-index _ c.version-item.result (omega (arith, c.loop-version-test.true, c.loop-version.auto.versions)) c.version-item.is (ap (λ (v : Principal × ℕ). v.0) (sym c.version-item.is)) ∙ c.loop-version.invariant.same

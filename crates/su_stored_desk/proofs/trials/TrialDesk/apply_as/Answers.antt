@@ -20,6 +20,7 @@ returns-clause-answered g c clear =
     let t = c.prepare_as.new.self in
     let was : IsClear m t = subst (IsClear m) c.settle.ensures.settled clear in
     let told = c.in_ok-prepared.ensures.told was in
-    let ready : IsReady t.state c.in_ok-prepared.prepared = (e, ap (λ (s : TrialState). s.ready) c.in_ok-prepared.ensures.ready, subst (λ (s : DeskState). Tells s e c.in_ok-prepared.prepared) (sym (ap (λ (s : TrialState). s.settled) c.in_ok-prepared.ensures.ready)) told) in
-    (c.in_ok-prepared.ensures.accepted was ∙ ap Ok (told.number ∙ sym (c.settle.ensures.number ready ∙ ap (λ (s : TrialState). length s.settled.history + 1) c.in_ok-prepared.ensures.ready)),
-    ap (λ (u : TrialOn g.row.S.Denot). u.state.settled) c.settle.ensures.settled ∙ ap (λ (s : TrialState). with_ready s.settled s.ready) c.in_ok-prepared.ensures.ready)
+    let ready : IsReady t.state c.in_ok-prepared.prepared = (e, ap (λ (s : TrialState). s.ready) c.in_ok-prepared.ensures.ready, subst (λ (s : DeskState). Tells s e c.in_ok-prepared.prepared) (sym (ap (λ (s : TrialState). s.settled) c.in_ok-prepared.ensures.ready)) told) in (
+      c.in_ok-prepared.ensures.accepted was ∙ ap Ok (told.number ∙ sym (c.settle.ensures.number ready ∙ ap (λ (s : TrialState). length s.settled.history + 1) c.in_ok-prepared.ensures.ready)),
+      ap (λ (u : TrialOn g.row.S.Denot). u.state.settled) c.settle.ensures.settled ∙ ap (λ (s : TrialState). with_ready s.settled s.ready) c.in_ok-prepared.ensures.ready,
+    )
