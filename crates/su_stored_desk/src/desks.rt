@@ -94,8 +94,7 @@ impl<S: BlockSource> Desk<S> {
         ensures same { self.new ≡ record self.old { stored = self.new.stored } }
         ensures refused { IsSure S.may_give self.old
             → IfErr result (FailsAt S.failed (state_of self.old) self.new) }
-        ensures source {
-            MayBecome S.may_give S.follows self.old.stored.source self.new.stored.source }
+        ensures source { MayBecome S.may_give S.follows self.old.stored.source self.new.stored.source }
     {
         self.stored.keep_whole(self.alloc, areas)
     }
@@ -173,19 +172,17 @@ impl<S: BlockSource> Desk<S> {
         ensures numbers { HasNumbers self.old.roster self.old.counters.items
             → HasNumbers self.new.roster self.new.counters.items }
         ensures err { OnErr result (state_of self.new ≡ state_of self.old) }
-        ensures source {
-            MayBecome S.may_give S.follows self.old.stored.source self.new.stored.source }
+        ensures source { MayBecome S.may_give S.follows self.old.stored.source self.new.stored.source }
     {
         let (operation, _) = batch.parts();
         // no `?`, for the prover (docs/ARCHITECTURE.md, "Forms the kit wants")
-        let accepted =
-            match self
-                .stored
-                .accept(self.alloc, operation, &self.roster, author, format)
-            {
-                Ok(accepted) => accepted,
-                Err(refusal) => return Err(refusal),
-            };
+        let accepted = match self
+            .stored
+            .accept(self.alloc, operation, &self.roster, author, format)
+        {
+            Ok(accepted) => accepted,
+            Err(refusal) => return Err(refusal),
+        };
         let footprint = accepted.footprint(self.alloc)?;
         let inverse = self.stored.keep(self.alloc, footprint.writes.as_slice())?;
         self.entries.reserve(1)?;
@@ -232,8 +229,7 @@ impl<S: BlockSource> Desk<S> {
         ensures numbers { HasNumbers self.old.roster self.old.counters.items
             → HasNumbers self.new.roster self.new.counters.items }
         ensures err { OnErr result (state_of self.new ≡ state_of self.old) }
-        ensures source {
-            MayBecome S.may_give S.follows self.old.stored.source self.new.stored.source }
+        ensures source { MayBecome S.may_give S.follows self.old.stored.source self.new.stored.source }
     {
         let index = undo_index(&self.roster, &self.entries, &self.kept, author, number)?;
         self.entries.reserve(1)?;
@@ -253,12 +249,7 @@ impl<S: BlockSource> Desk<S> {
 
     /// Names the author's next key in that format, which has that, and adds it to the history. The
     /// refusals are those of `check_key`, or `NoMemory`. Nothing is loaded.
-    fn rekey(
-        &mut self,
-        format: Format,
-        author: User,
-        key: [u8; KEY_LENGTH],
-    ) -> Result<(), Refusal>
+    fn rekey(&mut self, format: Format, author: User, key: [u8; KEY_LENGTH]) -> Result<(), Refusal>
         requires { format_refusal (state_of self.old).history format (Rekey key) ≡ None }
         ensures done { OnOk result
             (state_of self.new ≡ with_entry (state_of self.old) (rekey_by author format key)) }

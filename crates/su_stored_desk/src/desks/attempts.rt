@@ -57,8 +57,7 @@ impl<S: BlockSource> Desk<S> {
         ensures numbered { HasNumbers self.old.roster self.old.counters.items
             → IfOk result (λ tried. HasNumbers self.old.roster tried.versions.items) }
         ensures err { OnErr result (state_of self.new ≡ state_of self.old) }
-        ensures source {
-            MayBecome S.may_give S.follows self.old.stored.source self.new.stored.source }
+        ensures source { MayBecome S.may_give S.follows self.old.stored.source self.new.stored.source }
     {
         if let Some(refusal) = self.format_refusal(format, change.oldest_format()) {
             return Err(refusal);
@@ -107,8 +106,7 @@ impl<S: BlockSource> Desk<S> {
         ensures refused { IsSure S.may_give self.old → IfErr result (λ e.
             FailsAt S.failed (state_of self.old) self.new e
             ⊎ (undo_refusal self.old.roster (state_of self.old).history author number ≡ Some e)) }
-        ensures source {
-            MayBecome S.may_give S.follows self.old.stored.source self.new.stored.source }
+        ensures source { MayBecome S.may_give S.follows self.old.stored.source self.new.stored.source }
     {
         let index = undo_index(&self.roster, &self.entries, &self.kept, author, number)?;
         self.stored
@@ -166,8 +164,7 @@ impl<S: BlockSource> Desk<S> {
             → IsRight self.new }
         ensures refused { IsSure S.may_give self.old → TakesLastBack (state_of self.old) tried
             → IfErr result (λ e. FailsAt S.failed (state_of self.old) self.new e.1) }
-        ensures source {
-            MayBecome S.may_give S.follows self.old.stored.source self.new.stored.source }
+        ensures source { MayBecome S.may_give S.follows self.old.stored.source self.new.stored.source }
     {
         let Tried { versions, means } = tried;
         match means {
@@ -210,8 +207,7 @@ impl<S: BlockSource> Desk<S> {
         ensures refused { (d : DeskState) (x : Action) → IsSure S.may_give self.old
             → state_of self.old ≡ with_entry d (entry_doing x)
             → IfErr result (λ e. FailsAt S.failed (state_of self.old) self.new e.1) }
-        ensures source {
-            MayBecome S.may_give S.follows self.old.stored.source self.new.stored.source }
+        ensures source { MayBecome S.may_give S.follows self.old.stored.source self.new.stored.source }
     {
         if let Err(refusal) = self.put_back_last() {
             return Err((numbers, refusal));
@@ -234,8 +230,7 @@ impl<S: BlockSource> Desk<S> {
         ensures refused { (d : DeskState) (x : Action) → IsSure S.may_give self.old
             → state_of self.old ≡ with_entry d (entry_doing x)
             → IfErr result (FailsAt S.failed (state_of self.old) self.new) }
-        ensures source {
-            MayBecome S.may_give S.follows self.old.stored.source self.new.stored.source }
+        ensures source { MayBecome S.may_give S.follows self.old.stored.source self.new.stored.source }
     {
         match self.kept.last() {
             Some(operation) => self.stored.undo(self.alloc, &operation.inverse),
@@ -263,8 +258,7 @@ impl<S: BlockSource> Desk<S> {
         ensures refused { (d : DeskState) (e : Entry) (n : ℕ) → IsSure S.may_give self.old
             → state_of self.old ≡ with_entry d e → TakesUndoBack d e n undone
             → IfErr result (λ r. FailsAt S.failed (state_of self.old) self.new r.2) }
-        ensures source {
-            MayBecome S.may_give S.follows self.old.stored.source self.new.stored.source }
+        ensures source { MayBecome S.may_give S.follows self.old.stored.source self.new.stored.source }
     {
         if self.kept.reserve(1).is_err() {
             return Err((numbers, undone, Refusal::NoMemory));
