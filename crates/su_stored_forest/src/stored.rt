@@ -50,6 +50,26 @@ impl<S: BlockSource + Drop> StoredForest<S> {
             groups,
         })
     }
+
+    /// Puts another store in the place of its own. Nothing else changes.
+    pub fn with_source<T: BlockSource + Drop>(self, source: T) -> StoredForest<T>
+        requires { T.is_checked ≡ true }
+        ensures holds { (V : Tree) → Holds self V → Holds result V }
+        ensures source { result.source ≡ source }
+    {
+        let StoredForest {
+            forest,
+            users,
+            groups,
+            ..
+        } = self;
+        StoredForest {
+            forest,
+            source,
+            users,
+            groups,
+        }
+    }
 }
 
 /// Makes so many fronts of tables of which no number is known. Fails only with `NoMemory`.
