@@ -1,5 +1,5 @@
 -- What is known of a desk on trial where nothing clashed each time that its store was asked.
-use Rattle.std.specs.Prelude.{◌≡◌, ℕ, ◌≤◌, List, [], ◌∷◌, ◌++◌, length}
+use Rattle.std.specs.Prelude.{◌≡◌, ℕ, List, [], ◌∷◌, ◌++◌}
 use Rattle.std.specs.Global.{Vec}
 use Rattle.std.specs.List.{AllByRecursion}
 use Rattle.std.proofs.Common.{refl, sym, ap, ◌∙◌, subst}
@@ -10,14 +10,15 @@ use Rattle.su_part_forest.specs.Loading.{HashedFor}
 use Rattle.su_desk.specs.declared.entries.Entry.{Entry}
 use Rattle.su_desk.specs.Applied.{tree_after}
 use Rattle.su_desk.specs.Desk.{DeskState, with_entry}
-use Rattle.su_desk.specs.Trial.{TrialState, tree_of, before_last, nothing_ready, with_ready, without_last}
+use Rattle.su_desk.specs.Trial.{TrialState, before_last, without_last}
 use Rattle.su_stored_desk.specs.declared.desks.Desk.{Desk}
 use Rattle.su_stored_desk.specs.declared.prepared.Tried.{Tried}
-use Rattle.su_stored_desk.specs.Asked.{IsClear, NoneMixed, TrialOn}
+use Rattle.su_stored_desk.specs.Asked.{Asks, IsClear, NoneMixed, TrialOn}
 use Rattle.su_stored_desk.specs.Right.{state_of, HasNumbers, IsRight, IsSure, MayBecome}
-use Rattle.su_stored_desk.specs.Tried.{TakesBack, TakesLastBack, TakeAllBack, TriedFits, seen_of}
+use Rattle.su_stored_desk.specs.Tried.{TakesBack, TakesLastBack, TakeAllBack, seen_of}
 use Rattle.su_stored_desk.specs.Trusted.{IsTrusted}
-use Rattle.su_stored_desk.proofs.StandingReady.{with_none, Seen, seen, seen_so, seen_more, seen_less, few, fits_so, back_so, also_back, LastBack, last_back}
+use Rattle.su_stored_desk.proofs.Public.{asks_nothing, asks_once}
+use Rattle.su_stored_desk.proofs.StandingReady.{Seen, seen, seen_more, seen_less, few, fits_so, back_so, also_back, last_back}
 
 -- ---- one element more
 
@@ -47,16 +48,11 @@ module _ {S : Type 0} (may_give : S → List ℕ → Type 0) where
   pub clear_still : (t u : TrialOn S) → u.state.settled.roster ≡ t.state.settled.roster → u.asked ≡ t.asked → IsClear may_give u → IsClear may_give t
   clear_still t u same asked clear = subst (λ l. NoneMixed may_give t.state.settled.roster l) asked (subst (λ ro. NoneMixed may_give ro u.asked) same clear)
 
--- ---- what has become of a store
-
-module _ {S : Type 0} {may_give : S → List ℕ → Type 0} {follows : S → S → Type 0} where
-  pub becomes_itself : ((s : S) → follows s s) → (s : S) → MayBecome may_give follows s s
-  becomes_itself itself s = record { follows = itself s; no_more = λ i gives. gives }
-
-  pub becomes_on : ((a b c : S) → follows a b → follows b c → follows a c) → (a b c : S) → MayBecome may_give follows a b → MayBecome may_give follows b c → MayBecome may_give follows a c
-  becomes_on on a b c h k = record { follows = on a b c h.follows k.follows; no_more = λ i gives. h.no_more i (k.no_more i gives) }
-
 -- ---- the fields
+
+-- what is seen of them
+abbrev pub view_of : {S : Type 0} {g : Ghosts S} → Desk S g → List Tried → List (S × Vec Entry) → TrialOn S
+view_of d ts asked = record { state = seen_of (state_of d) ts; source = d.stored.source; asked = asked }
 
 module _ {S : Type 0} {g : Ghosts S} (may_give : S → List ℕ → Type 0) where
   -- what is known of them where v is seen: where nothing clashed the desk is right, and what is kept of
@@ -92,6 +88,17 @@ module _ {S : Type 0} {g : Ghosts S} (may_give : S → List ℕ → Type 0) wher
 
   pub noted : (d : Desk S g) (s : S) (new asked : List (S × Vec Entry)) → new ≡ asked ++ (s, d.entries) ∷ [] → s ≡ d.stored.source → new ≡ asked ++ asking d ∷ []
   noted d s new asked more is = more ∙ ap (λ x. asked ++ (x, d.entries) ∷ []) is
+
+  -- It was asked once, and the desk became another one of that roster.
+  pub asks_seen : {comes : S → S → Type 0} (d d' : Desk S g) (ts ts' : List Tried) (asked asked' : List (S × Vec Entry)) (t : TrialOn S) → view_of d ts asked ≡ t → asked' ≡ asked ++ asking d ∷ [] → d'.roster ≡ d.roster
+      → MayBecome may_give comes d.stored.source d'.stored.source → Asks may_give comes t (view_of d' ts' asked')
+  asks_seen {comes} d d' ts ts' asked asked' t is more same source =
+      subst (λ (u : TrialOn S). Asks may_give comes u (view_of d' ts' asked')) is (asks_once (view_of d ts asked) (view_of d' ts' asked') (asking d) same more refl source)
+
+  -- It wasn't asked.
+  pub asks_unasked : {comes : S → S → Type 0} → ((s : S) → comes s s) → (d : Desk S g) (ts ts' : List Tried) (asked : List (S × Vec Entry)) (t : TrialOn S) → view_of d ts asked ≡ t → Asks may_give comes t (view_of d ts' asked)
+  asks_unasked {comes} itself d ts ts' asked t is =
+      subst (λ (u : TrialOn S). Asks may_give comes u (view_of d ts' asked)) is (asks_nothing itself (view_of d ts asked) (view_of d ts' asked) refl refl refl)
 
   pub sure : (d : Desk S g) (ts : List Tried) (asked : List (S × Vec Entry)) (v : TrialState) → Known d ts asked v → NoneMixed may_give d.roster (asked ++ asking d ∷ []) → IsSure may_give d
   sure d ts asked v k clear = let both = all_before (Unmixed may_give d.roster) asked (asking d) clear in record { right = k.right both.0; unmixed = both.1 }

@@ -1,16 +1,13 @@
 -- An operation is done on a desk that is right.
-use Rattle.std.proofs.Common.{◌≡◌, ◌∙◌, ℕ, ◌+◌, Bool, true, false, List, [], ◌∷◌, ◌++◌, length, Some, None, refl, sym, ap, subst}
+use Rattle.std.proofs.Common.{◌≡◌, ◌∙◌, ℕ, ◌+◌, true, false, List, [], ◌∷◌, ◌++◌, length, None, sym, ap, subst}
 use Rattle.std.specs.List.{All}
 use Rattle.std.specs.Option.{is_none}
 use Rattle.su_bytes.specs.declared.formats.Format.{Format}
-use Rattle.su_bytes.specs.declared.refusals.Refusal.{Refusal}
-use Rattle.su_bytes.specs.Membership.{Membership}
-use Rattle.su_block.specs.declared.sources.BlockSource.{Ghosts}
 use Rattle.su_inverse.specs.Kept.{CanKeep}
 use Rattle.su_inverse.proofs.Public.{writes_kept}
 use Rattle.su_op.specs.Action.{action_by as one_by, is_many}
 use Rattle.su_op.specs.Area.{has}
-use Rattle.su_op.specs.Batch.{Action, action_by, why, effect, reads, writes, store}
+use Rattle.su_op.specs.Batch.{Action, action_by, why, effect, reads, writes}
 use Rattle.su_op.specs.Operation.{why as why_one, effect as effect_of_one, reads as reads_of_one, writes as writes_of_one}
 use Rattle.su_op.specs.Rule.{Plan, plan_reads, plan_writes}
 use Rattle.su_op.specs.declared.footprints.Footprint.{Footprint}
@@ -32,9 +29,8 @@ use Rattle.su_desk.specs.Desk.{DeskState, with_entry}
 use Rattle.su_desk.specs.History.{entry_doing}
 use Rattle.su_desk.specs.Trial.{tree_of}
 use Rattle.su_desk.specs.Version.{cells_of}
-use Rattle.su_desk.specs.declared.entries.Entry.{Entry}
 use Rattle.su_desk.proofs.RehearsalLemmas.{effect_done}
-use Rattle.su_stored_desk.specs.Keeping.{Fits, Keeps}
+use Rattle.su_stored_desk.specs.Keeping.{Keeps}
 use Rattle.su_stored_desk.specs.declared.kept.KeptOperation.{KeptOperation}
 use Rattle.su_stored_desk.proofs.JoinedLemmas.{sound_kept}
 use Rattle.su_stored_desk.proofs.KeptOperations.{keeps_do, tree_kept}

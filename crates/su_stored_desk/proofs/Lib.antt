@@ -6,6 +6,7 @@ pub mod Replies
 pub mod NamedKeys
 pub mod TrialLemmas
 pub mod StandingReady
+pub mod Public
 pub mod Clearness
 pub mod ReadingReady
 pub mod JoiningReady

@@ -16,17 +16,14 @@ use Rattle.su_desk.specs.declared.entries.Entry.{Entry}
 use Rattle.su_desk.specs.Trial.{TrialState, tree_of, tree_with_ready}
 use Rattle.su_stored_desk.specs.declared.desks.Desk.{Desk}
 use Rattle.su_stored_desk.specs.declared.prepared.Tried.{Tried}
-use Rattle.su_stored_desk.specs.Asked.{IsClear, NoneMixed, TrialOn, ShowsReady, FailsReady, FollowsReady}
-use Rattle.su_stored_desk.specs.Right.{state_of, IsRight, MayBecome}
+use Rattle.su_stored_desk.specs.Asked.{Asks, IsClear, TrialOn, ShowsReady, FailsReady, FollowsReady}
+use Rattle.su_stored_desk.specs.Right.{state_of}
 use Rattle.su_stored_desk.specs.Tried.{seen_of}
 use Rattle.su_stored_desk.specs.Trusted.{IsTrusted}
-use Rattle.su_stored_desk.proofs.Clearness.{known}
+use Rattle.su_stored_desk.proofs.Clearness.{known, view_of}
+use Rattle.su_stored_desk.proofs.Public.{asks_no_more, asks_on}
 
 module _ {S : Type 0} {g : Ghosts S} (may_give : S → List ℕ → Type 0) (failed_of : S → Failures) (comes : S → S → Type 0) where
-  -- what is seen of the fields
-  abbrev pub view_of : Desk S g → List Tried → List (S × Vec Entry) → TrialOn S
-  view_of d ts asked = record { state = seen_of (state_of d) ts; source = d.stored.source; asked = asked }
-
   -- what a desk shows its forest shows
   pub stored_shows : (d : Desk S g) (ts : List Tried) (asked : List (S × Vec Entry)) (T : Tree) → IsTrusted may_give d ts asked → ShowsReady may_give (view_of d ts asked) T → Shows may_give d.stored T
   stored_shows d ts asked T trusted shown =
@@ -60,14 +57,13 @@ module _ {S : Type 0} {g : Ghosts S} (may_give : S → List ℕ → Type 0) (fai
     }
 
     -- and what it answers is so
-    pub finds_ready : (d : Desk S g) (r : StoredForest S g) (ts : List Tried) (asked : List (S × Vec Entry)) (before t : TrialOn S) → view_of d ts asked ≡ t → IsTrusted may_give d ts asked
-        → ((T : Tree) → ShowsReady may_give before T → ShowsReady may_give t T) → (IsClear may_give t → IsClear may_give before) → t ≡ record before { asked = t.asked }
+    pub finds_ready : ((a b c : S) → comes a b → comes b c → comes a c) → (d : Desk S g) (r : StoredForest S g) (ts : List Tried) (asked : List (S × Vec Entry)) (before t : TrialOn S) → view_of d ts asked ≡ t → IsTrusted may_give d ts asked
+        → ((T : Tree) → ShowsReady may_give before T → ShowsReady may_give t T) → Asks may_give comes before t → t ≡ record before { asked = t.asked }
         → Inquiry (Shows may_give) (Fails failed_of) (Follows may_give comes) d.stored r result IsAnswer IsRefusal
         → Inquiry (ShowsReady may_give) (FailsReady failed_of) (FollowsReady may_give comes) before (view_of (record d { stored = r }) ts asked) result IsAnswer IsRefusal
-    finds_ready d r ts asked before t is trusted shows clear same finds =
+    finds_ready on d r ts asked before t is trusted shows asks same finds =
         let now : (T : Tree) → ShowsReady may_give before T → ShowsReady may_give (view_of d ts asked) T
         = λ T shown. subst (λ (u : TrialOn S). ShowsReady may_give u T) (sym is) (shows T shown) in
-        let source : d.stored.source ≡ before.source = ap (λ (u : TrialOn S). u.source) (is ∙ same) in
         record {
           still = λ T shown. record {
             clear = (now T shown).clear;
@@ -78,7 +74,8 @@ module _ {S : Type 0} {g : Ghosts S} (may_give : S → List ℕ → Type 0) (fai
           refused = λ T shown. finds.refused T (stored_shows d ts asked T trusted (now T shown));
           comes = record {
             state = ap (λ (u : TrialOn S). u.state) (is ∙ same);
-            clear = λ all. clear (subst (IsClear may_give) is all);
-            source = subst (λ (s : S). MayBecome may_give comes s r.source) source (record { follows = finds.comes.source; no_more = finds.comes.no_more });
+            asks = asks_on on before t (view_of (record d { stored = r }) ts asked) asks
+                (subst (λ (u : TrialOn S). Asks may_give comes u (view_of (record d { stored = r }) ts asked)) is
+                (asks_no_more (view_of d ts asked) (view_of (record d { stored = r }) ts asked) refl refl (record { follows = finds.comes.source; no_more = finds.comes.no_more })));
           };
         }

@@ -6,7 +6,6 @@ use Rattle.su_bytes.specs.Membership.{Membership}
 use Rattle.su_bytes.specs.declared.formats.Format.{Format}
 use Rattle.su_bytes.specs.declared.refusals.Refusal.{Refusal}
 use Rattle.su_table.specs.Tree.{Tree, genesis}
-use Rattle.su_part_inverse.specs.Kept.{IsPutBack}
 use Rattle.su_op.specs.Batch.{Action}
 use Rattle.su_op.specs.declared.operations.Change.TheVariants.{Do, Undo, Rekey}
 use Rattle.su_op.specs.Batch.{why}

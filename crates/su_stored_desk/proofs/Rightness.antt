@@ -1,5 +1,5 @@
 -- What of a desk stays right.
-use Rattle.std.proofs.Common.{◌≡◌, ◌∙◌, ℕ, List, [], ◌∷◌, ◌++◌, true, false, sym, ap, subst}
+use Rattle.std.proofs.Common.{◌≡◌, ◌∙◌, ℕ, List, true, false, sym, ap, subst}
 use Rattle.su_block.specs.declared.sources.BlockSource.{Ghosts}
 use Rattle.su_block.specs.Failure.{is_failure}
 use Rattle.su_bytes.specs.declared.refusals.Refusal.{Refusal}
@@ -10,7 +10,7 @@ use Rattle.su_desk.specs.Applied.{tree_after}
 use Rattle.su_desk.specs.History.{keys_after}
 use Rattle.su_desk.specs.Version.{versions}
 use Rattle.su_used_keys.specs.UsedKeys.{HasJust}
-use Rattle.su_desk.specs.Desk.{DeskState, with_entry}
+use Rattle.su_desk.specs.Desk.{DeskState}
 use Rattle.su_desk.specs.Trial.{tree_of}
 use Rattle.su_desk.specs.declared.entries.Entry.{Entry}
 use Rattle.su_stored_desk.specs.Keeping.{Keeps, AreKept}

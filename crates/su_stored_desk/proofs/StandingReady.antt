@@ -1,6 +1,6 @@
 -- What stands ready on a desk: the entries that are seen behind what is settled, and what takes
 -- each of them back. What is seen goes by how many stand ready alone.
-use Rattle.std.proofs.Common.{◌≡◌, ℕ, ◌+◌, ◌-◌, ◌<◌, ◌≤◌, suc, List, [], ◌∷◌, ◌++◌, length, length-append, take, drop, slice_get, Some, None, refl, sym, ap, ◌∙◌, subst, arith, append_assoc, append-nil}
+use Rattle.std.proofs.Common.{◌≡◌, ℕ, ◌+◌, ◌-◌, ◌<◌, ◌≤◌, List, [], ◌∷◌, ◌++◌, length, length-append, take, drop, slice_get, Some, None, refl, sym, ap, ◌∙◌, subst, arith, append_assoc, append-nil}
 use Rattle.std.proofs.Math.Seq.{take-append_seam, drop-append_seam, take-append-add}
 use Rattle.std.proofs.lemmas.List.{take-append-drop, length-drop, length-take-le, nil_from_length}
 use Rattle.su_desk.specs.declared.entries.Entry.{Entry}
@@ -9,7 +9,7 @@ use Rattle.su_desk.specs.Desk.{DeskState, with_entry}
 use Rattle.su_desk.specs.Version.{versions}
 use Rattle.su_desk.specs.Trial.{TrialState, with_ready, without_last, before_last, split_before}
 use Rattle.su_stored_desk.specs.Tried.{TakesBack, TakesLastBack, TakeAllBack, TriedFits, seen_of}
-use Rattle.su_stored_desk.proofs.TrialLemmas.{all_but_last, before_with}
+use Rattle.su_stored_desk.proofs.TrialLemmas.{all_but_last}
 
 -- ---- a desk with entries behind it
 

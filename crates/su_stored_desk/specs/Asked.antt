@@ -1,5 +1,5 @@
 -- A desk whose tree may lie on a store, and when that was asked.
-use Rattle.std.specs.Prelude.{◌≡◌, ◌⊎◌, ℕ, List, [], ◌∷◌, Result, Ok, Err}
+use Rattle.std.specs.Prelude.{◌≡◌, ◌⊎◌, ℕ, List, [], ◌∷◌, Contains, Result, Ok, Err}
 use Rattle.std.specs.Global.{Vec}
 use Rattle.std.specs.List.{AllByRecursion}
 use Rattle.su_bytes.specs.Membership.{Membership}
@@ -47,12 +47,24 @@ module _ {S : Type 0} (may_give : S → List ℕ → Type 0) where
     pub unmixed : NoneClash (HashedFor T) (may_give t.source)
     pub tree : T ≡ tree_with_ready t.state
 
+  -- its store may give only what meets P, and so might it each time that it was asked
+  pub record GivesOnly (P : List ℕ → Type 0) (t : TrialOn S) : Type 0 where
+    pub now : (i : List ℕ) → may_give t.source i → P i
+    pub before : AllByRecursion (λ a. (i : List ℕ) → may_give a.0 i → P i) t.asked
+
+  -- What may have become of it by calls that ask its store: so where it is clear, it was; and where
+  -- it was asked since, its store might give no more than before.
+  pub record Asks (comes : S → S → Type 0) (t u : TrialOn S) : Type 0 where
+    pub source : MayBecome may_give comes t.source u.source
+    pub clear : IsClear u → IsClear t
+    pub only : (a : S × Vec Entry) → Contains u.asked a
+        → Contains t.asked a ⊎ ((i : List ℕ) → may_give a.0 i → may_give t.source i)
+
   -- What may have become of it by questions about that tree, before each of which it is noted that
-  -- the store is asked: so where it is clear, it was.
+  -- the store is asked.
   pub record FollowsReady (comes : S → S → Type 0) (t u : TrialOn S) : Type 0 where
     pub state : u.state ≡ t.state
-    pub clear : IsClear u → IsClear t
-    pub source : MayBecome may_give comes t.source u.source
+    pub asks : Asks comes t u
 
 -- so it may fail when it is asked about a tree
 abbrev pub FailsReady : {S : Type 0} → (S → Failures) → Tree → TrialOn S → Refusal → Type 0

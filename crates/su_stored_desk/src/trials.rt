@@ -1,7 +1,8 @@
 // A desk on which changes can be made on trial before one is settled, whose tree may lie on a store.
-ghost use Rattle.std.specs.Prelude.{◌≡◌, ◌⊎◌, ◌+◌, ◌==◌, [], true, false, None, Some, length, Ok, Err, IfOk, IfErr, OnOk, OnErr};
+ghost use Rattle.std.specs.Prelude.{◌≡◌, ◌⊎◌, ℕ, List, ◌+◌, ◌==◌, [], true, false, None, Some, length, Ok, Err, IfOk, IfErr, OnOk, OnErr};
 ghost use Rattle.std.specs.Borrow.{Lends, sem};
-ghost use Rattle.su_bytes.specs.declared.refusals.Refusal.TheVariants.{NoMemory};
+ghost use Rattle.su_bytes.specs.declared.principals.Principal.TheVariants.{User as UserPrincipal, Group as GroupPrincipal};
+ghost use Rattle.su_bytes.specs.declared.refusals.Refusal.TheVariants.{NoMemory, SourceFailed};
 ghost use Rattle.su_bytes.specs.Format.{is_as_new};
 ghost use Rattle.su_desk.specs.Answer.{answer, format_refusal, live_refusal, made_format, newer, Good};
 ghost use Rattle.su_desk.specs.Blocker.{blocker};
@@ -12,11 +13,12 @@ ghost use Rattle.su_desk.specs.Trial.{nothing_ready, ready_with, tree_of, tree_w
 ghost use Rattle.su_desk.specs.Version.{versions};
 ghost use Rattle.su_op.specs.Action.{is_many};
 ghost use Rattle.su_part.specs.Bytes.{NoneClash};
+ghost use Rattle.su_part.specs.Loads.{FailedAt};
 ghost use Rattle.su_part_forest.specs.Loading.{HashedFor};
 ghost use Rattle.su_part_tree.specs.Loading.{IsLoadRefusal};
+ghost use Rattle.su_table.specs.Handle.{handle};
 ghost use Rattle.su_table.specs.Tree.{Tree};
 ghost use Rattle.su_stored_desk.specs.Asked.{Answers, Runs};
-ghost use Rattle.su_stored_desk.specs.Right.{MayBecome};
 
 mod batches;
 mod changes;
@@ -30,7 +32,7 @@ use http_server::Log;
 use std::alloc::Global;
 use std::marker::Model;
 use su_block::BlockSource;
-use su_bytes::{FIRST_FORMAT, FileId, Format, Principal, Refusal, Roster};
+use su_bytes::{Digest, FIRST_FORMAT, FileId, Format, Group, Principal, Refusal, Roster, User};
 use su_desk::Prepared;
 use su_op::Change;
 
@@ -89,7 +91,7 @@ impl<S: BlockSource + Drop> TrialDesk<S> {
 }
 
 impl<S: BlockSource> TrialDesk<S> {
-    ghost use Rattle.su_stored_desk.specs.Asked.{IsClear, ShowsReady};
+    ghost use Rattle.su_stored_desk.specs.Asked.{Asks, IsClear, ShowsReady};
     ghost use Rattle.su_stored_desk.specs.contracts.trials.TrialDesk.{the_row};
 
     /// Returns who belongs to the store.
@@ -152,7 +154,7 @@ impl<S: BlockSource> TrialDesk<S> {
             → ShowsReady S.may_give self.new (tree_with_ready self.old.state) }
         ensures still { (T : Tree) → ShowsReady S.may_give self.old T
             → ShowsReady S.may_give self.new T }
-        ensures clear { IsClear S.may_give self.new → IsClear S.may_give self.old }
+        ensures asks { Asks S.may_give S.follows self.old self.new }
         ensures same { self.new ≡ record self.old { asked = self.new.asked } }
     {
         self.asked = self
@@ -195,8 +197,7 @@ impl<S: BlockSource> TrialDesk<S> {
         ensures ok { OnOk result (self.new.state ≡ nothing_ready self.old.state.settled) }
         ensures refused { IsClear S.may_give self.new → IfErr result IsLoadRefusal }
         ensures err { OnErr result (self.new.state.settled ≡ self.old.state.settled) }
-        ensures clear { IsClear S.may_give self.new → IsClear S.may_give self.old }
-        ensures source { MayBecome S.may_give S.follows self.old.source self.new.source }
+        ensures asks { Asks S.may_give S.follows self.old self.new }
     {
         // names the type for the prover (docs/ARCHITECTURE.md, "Forms the kit wants")
         let _file: Option<FileId> = None;
@@ -219,8 +220,7 @@ impl<S: BlockSource> TrialDesk<S> {
         ensures ok { OnOk result (self.new.state ≡ without_last self.old.state) }
         ensures refused { IsClear S.may_give self.new → IfErr result IsLoadRefusal }
         ensures err { OnErr result (self.new.state ≡ self.old.state) }
-        ensures clear { IsClear S.may_give self.new → IsClear S.may_give self.old }
-        ensures source { MayBecome S.may_give S.follows self.old.source self.new.source }
+        ensures asks { Asks S.may_give S.follows self.old self.new }
     {
         let Some(tried) = self.tried.pop() else {
             return Ok(());
@@ -246,6 +246,25 @@ impl<S: BlockSource> TrialDesk<S> {
         self.desk.live()
     }
 
+    /// Returns the i-handle of a user, where nothing stands ready. It is at hand: no hash is made,
+    /// nothing is loaded and no memory is taken.
+    pub fn i_handle(&self, user: User) -> Digest
+        requires { self.now.state.ready ≡ [] }
+        ensures { let d = self.now.state.settled in
+            IsClear S.may_give self.now → result ≡ handle (tree_of d) (UserPrincipal user) }
+    {
+        self.desk.stored.i_handle(user)
+    }
+
+    /// Returns the i-handle of a group, where nothing stands ready. It is at hand as a user's is.
+    pub fn group_handle(&self, group: Group) -> Digest
+        requires { self.now.state.ready ≡ [] }
+        ensures { let d = self.now.state.settled in
+            IsClear S.may_give self.now → result ≡ handle (tree_of d) (GroupPrincipal group) }
+    {
+        self.desk.stored.group_handle(group)
+    }
+
     /// Leaves all of the tree on the store, but for the digests of its i-tables, with what stands
     /// ready. Refused with `SourceFailed` where the store could not be asked, and with `NoMemory`;
     /// then what wasn't put is still loaded.
@@ -253,6 +272,14 @@ impl<S: BlockSource> TrialDesk<S> {
         ensures state { self.new.state ≡ self.old.state }
         ensures asked { self.new.asked ≡ self.old.asked }
         ensures follows { S.follows self.old.source self.new.source }
+        // The store may give items of that tree as well from now on, and no other that it might not
+        // give before.
+        ensures more { IsClear S.may_give self.old → (i : List ℕ) → S.may_give self.new.source i
+            → S.may_give self.old.source i ⊎ HashedFor (tree_with_ready self.old.state) i }
+        ensures refused { IfErr result (λ e. (e ≡ SourceFailed) ⊎ (e ≡ NoMemory)) }
+        // A failure of the store was about such an item.
+        ensures failed { IsClear S.may_give self.old → IfErr result
+            (FailedAt (HashedFor (tree_with_ready self.old.state)) (S.failed self.new.source)) }
     {
         self.desk.stored.shed()
     }

@@ -12,7 +12,7 @@ ghost use Rattle.su_desk.specs.History.{entry_by};
 ghost use Rattle.su_desk.specs.Trial.{nothing_ready, ready_with, tree_of, Tells};
 ghost use Rattle.su_part_tree.specs.Loading.{IsLoadRefusal};
 ghost use Rattle.su_stored_desk.specs.Joined.{each_alone, IsJoined, IsKeptBefore};
-ghost use Rattle.su_stored_desk.specs.Right.{HasShape, MayBecome};
+ghost use Rattle.su_stored_desk.specs.Right.{HasShape};
 
 use super::TrialDesk;
 use su_block::BlockSource;
@@ -22,7 +22,7 @@ use su_op::{Batch, Change, Footprint};
 use su_part_inverse::Inverse;
 
 impl<S: BlockSource> TrialDesk<S> {
-    ghost use Rattle.su_stored_desk.specs.Asked.{IsClear};
+    ghost use Rattle.su_stored_desk.specs.Asked.{Asks, IsClear};
 
     /// Makes a batch of more than one operation on trial in that format, and tells what then holds.
     /// Nothing stood ready; where the batch is refused, what isn't taken back still does.
@@ -46,8 +46,7 @@ impl<S: BlockSource> TrialDesk<S> {
             → IfErr result (λ e. IsLoadRefusal e
             ⊎ (answer d.roster d.history (entry_by author format (Do batch)) ≡ Err e)) }
         ensures err { OnErr result (self.new.state.settled ≡ self.old.state.settled) }
-        ensures clear { IsClear S.may_give self.new → IsClear S.may_give self.old }
-        ensures source { MayBecome S.may_give S.follows self.old.source self.new.source }
+        ensures asks { Asks S.may_give S.follows self.old self.new }
     {
         if let Some(refusal) = self.desk.format_refusal(format, batch.oldest_format()) {
             return Err(refusal);
@@ -80,8 +79,7 @@ impl<S: BlockSource> TrialDesk<S> {
             → IfErr result (λ e. IsLoadRefusal e
             ⊎ (first_refusal d.roster (tree_of d) author format batch.now ≡ Some e)) }
         ensures err { self.new.state.settled ≡ self.old.state.settled }
-        ensures clear { IsClear S.may_give self.new → IsClear S.may_give self.old }
-        ensures source { MayBecome S.may_give S.follows self.old.source self.new.source }
+        ensures asks { Asks S.may_give S.follows self.old self.new }
     {
         let answer = match self.try_batch(format, author, batch) {
             Ok(()) => self.desk.joined(batch.count()),
@@ -100,8 +98,7 @@ impl<S: BlockSource> TrialDesk<S> {
             → IfOk result (IsKeptBefore d footprint.now) }
         ensures state { self.new.state ≡ self.old.state }
         ensures refused { IsClear S.may_give self.new → IfErr result IsLoadRefusal }
-        ensures clear { IsClear S.may_give self.new → IsClear S.may_give self.old }
-        ensures source { MayBecome S.may_give S.follows self.old.source self.new.source }
+        ensures asks { Asks S.may_give S.follows self.old self.new }
     {
         self.asked = self
             .asked
@@ -122,8 +119,7 @@ impl<S: BlockSource> TrialDesk<S> {
             → IfErr result (λ e. IsLoadRefusal e
             ⊎ (first_refusal d.roster (tree_of d) author format batch.now ≡ Some e)) }
         ensures settled { self.new.state.settled ≡ self.old.state.settled }
-        ensures clear { IsClear S.may_give self.new → IsClear S.may_give self.old }
-        ensures source { MayBecome S.may_give S.follows self.old.source self.new.source }
+        ensures asks { Asks S.may_give S.follows self.old self.new }
     {
         let (first, more) = batch.parts();
         self.try_next(format, author, first)?;

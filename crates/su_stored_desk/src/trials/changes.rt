@@ -8,7 +8,7 @@ ghost use Rattle.su_desk.specs.Trial.{ready_with, Tells};
 ghost use Rattle.su_op.specs.Action.{is_many};
 ghost use Rattle.su_part_tree.specs.Loading.{IsLoadRefusal};
 ghost use Rattle.su_stored_desk.specs.Asked.{Answers, Runs};
-ghost use Rattle.su_stored_desk.specs.Right.{HasShape, MayBecome};
+ghost use Rattle.su_stored_desk.specs.Right.{HasShape};
 
 use super::TrialDesk;
 use su_block::BlockSource;
@@ -17,7 +17,7 @@ use su_desk::{DeskReply, Prepared};
 use su_op::Change;
 
 impl<S: BlockSource> TrialDesk<S> {
-    ghost use Rattle.su_stored_desk.specs.Asked.{IsClear};
+    ghost use Rattle.su_stored_desk.specs.Asked.{Asks, IsClear};
 
     /// Makes a change in the newest format on trial, and tells what then holds. What stood ready is
     /// taken back before, and stays so where the change is refused: by the first refusal in order,
@@ -35,8 +35,7 @@ impl<S: BlockSource> TrialDesk<S> {
             → IfErr result (λ e. IsLoadRefusal e
             ⊎ (answer d.roster d.history (entry_by author NEWEST_FORMAT change) ≡ Err e)) }
         ensures err { OnErr result (self.new.state.settled ≡ self.old.state.settled) }
-        ensures clear { IsClear S.may_give self.new → IsClear S.may_give self.old }
-        ensures source { MayBecome S.may_give S.follows self.old.source self.new.source }
+        ensures asks { Asks S.may_give S.follows self.old self.new }
     {
         self.prepare_as(NEWEST_FORMAT, author, change)
     }
@@ -62,8 +61,7 @@ impl<S: BlockSource> TrialDesk<S> {
             → IfErr result (λ e. IsLoadRefusal e
             ⊎ (answer d.roster d.history (entry_by author format change) ≡ Err e)) }
         ensures err { OnErr result (self.new.state.settled ≡ self.old.state.settled) }
-        ensures clear { IsClear S.may_give self.new → IsClear S.may_give self.old }
-        ensures source { MayBecome S.may_give S.follows self.old.source self.new.source }
+        ensures asks { Asks S.may_give S.follows self.old self.new }
     {
         self.take_back()?;
         match change {
@@ -100,8 +98,7 @@ impl<S: BlockSource> TrialDesk<S> {
             → IfErr result (λ e. IsLoadRefusal e
             ⊎ (answer d.roster d.history (entry_by author format change) ≡ Err e)) }
         ensures err { OnErr result (self.new.state.settled ≡ self.old.state.settled) }
-        ensures clear { IsClear S.may_give self.new → IsClear S.may_give self.old }
-        ensures source { MayBecome S.may_give S.follows self.old.source self.new.source }
+        ensures asks { Asks S.may_give S.follows self.old self.new }
     {
         self.tried.reserve(1)?;
         self.asked = self
@@ -119,8 +116,7 @@ impl<S: BlockSource> TrialDesk<S> {
         ensures answered { IsClear S.may_give self.new → Answers self.old.state.settled
             (entry_by author NEWEST_FORMAT change) result self.new.state.settled }
         ensures none_ready { OnOk result (self.new.state.ready ≡ []) }
-        ensures clear { IsClear S.may_give self.new → IsClear S.may_give self.old }
-        ensures source { MayBecome S.may_give S.follows self.old.source self.new.source }
+        ensures asks { Asks S.may_give S.follows self.old self.new }
     {
         self.apply_as(NEWEST_FORMAT, author, change)
     }
@@ -133,8 +129,7 @@ impl<S: BlockSource> TrialDesk<S> {
         ensures answered { IsClear S.may_give self.new → Answers self.old.state.settled
             (entry_by author format change) result self.new.state.settled }
         ensures none_ready { OnOk result (self.new.state.ready ≡ []) }
-        ensures clear { IsClear S.may_give self.new → IsClear S.may_give self.old }
-        ensures source { MayBecome S.may_give S.follows self.old.source self.new.source }
+        ensures asks { Asks S.may_give S.follows self.old self.new }
     {
         let prepared = self.prepare_as(format, author, change)?;
         Ok(self.settle(prepared))
@@ -147,8 +142,7 @@ impl<S: BlockSource> TrialDesk<S> {
             → Answers d (undo_by author NEWEST_FORMAT (last_live d.history)) result
             self.new.state.settled }
         ensures none_ready { OnOk result (self.new.state.ready ≡ []) }
-        ensures clear { IsClear S.may_give self.new → IsClear S.may_give self.old }
-        ensures source { MayBecome S.may_give S.follows self.old.source self.new.source }
+        ensures asks { Asks S.may_give S.follows self.old self.new }
     {
         self.undo_last_as(NEWEST_FORMAT, author)
     }
@@ -160,8 +154,7 @@ impl<S: BlockSource> TrialDesk<S> {
             → Answers d (undo_by author format (last_live d.history)) result
             self.new.state.settled }
         ensures none_ready { OnOk result (self.new.state.ready ≡ []) }
-        ensures clear { IsClear S.may_give self.new → IsClear S.may_give self.old }
-        ensures source { MayBecome S.may_give S.follows self.old.source self.new.source }
+        ensures asks { Asks S.may_give S.follows self.old self.new }
     {
         self.take_back()?;
         let number = self.desk.last();
@@ -176,8 +169,7 @@ impl<S: BlockSource> TrialDesk<S> {
             Runs self.old.state.settled changes.now r.items self.new.state.settled) }
         ensures refused { IfErr result (λ e. e ≡ NoMemory) }
         ensures err { OnErr result (self.new ≡ self.old) }
-        ensures clear { IsClear S.may_give self.new → IsClear S.may_give self.old }
-        ensures source { MayBecome S.may_give S.follows self.old.source self.new.source }
+        ensures asks { Asks S.may_give S.follows self.old self.new }
     {
         let mut replies = Vec::with_capacity(self.desk.alloc, changes.len())?;
         for change in changes {
@@ -192,8 +184,7 @@ impl<S: BlockSource> TrialDesk<S> {
         ensures answered { IsClear S.may_give self.new → Answers self.old.state.settled
             (entry_by change.now.0 NEWEST_FORMAT change.now.1) (result_of result)
             self.new.state.settled }
-        ensures clear { IsClear S.may_give self.new → IsClear S.may_give self.old }
-        ensures source { MayBecome S.may_give S.follows self.old.source self.new.source }
+        ensures asks { Asks S.may_give S.follows self.old self.new }
     {
         let Ok(copy) = change.1.clone() else {
             return DeskReply::Refused(Refusal::NoMemory);

@@ -5,7 +5,7 @@ use su_bytes::{FileId, Group, Inum, Name, Place, Refusal, User};
 use su_reading::{InodeHead, TreeReader};
 
 impl<S: BlockSource> TreeReader for TrialDesk<S> {
-    ghost use Rattle.std.proofs.Common.{◌∙◌, refl};
+    ghost use Rattle.std.proofs.Common.{◌∙◌, ⊎_elim, inl, inr, refl};
     ghost use Rattle.su_stored_desk.specs.Asked.{FailsReady, FollowsReady, ShowsReady};
 
     ghost shows = { ShowsReady S.may_give };
@@ -56,16 +56,25 @@ impl<S: BlockSource> TreeReader for TrialDesk<S> {
 
     ghost follows_itself = { λ t. record {
       state = refl;
-      clear = λ clear. clear;
-      source = record { follows = S.follows_itself t.source; no_more = λ i gives. gives };
+      asks = record {
+        source = record { follows = S.follows_itself t.source; no_more = λ i gives. gives };
+        clear = λ clear. clear;
+        only = λ a was. inl was;
+      };
     } };
 
     ghost follows_on = { λ a b c h k. record {
       state = k.state ∙ h.state;
-      clear = λ clear. h.clear (k.clear clear);
-      source = record {
-        follows = S.follows_on a.source b.source c.source h.source.follows k.source.follows;
-        no_more = λ i gives. h.source.no_more i (k.source.no_more i gives);
+      asks = record {
+        source = record {
+          follows = S.follows_on a.source b.source c.source
+              h.asks.source.follows k.asks.source.follows;
+          no_more = λ i gives. h.asks.source.no_more i (k.asks.source.no_more i gives);
+        };
+        clear = λ clear. h.asks.clear (k.asks.clear clear);
+        only = λ x was. ⊎_elim (h.asks.only x)
+            (λ no_more. inr (λ i gives. h.asks.source.no_more i (no_more i gives)))
+            (k.asks.only x was);
       };
     } };
 }

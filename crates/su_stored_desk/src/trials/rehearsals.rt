@@ -6,7 +6,6 @@ ghost use Rattle.su_op.specs.Batch.{action_by as batch_by, effect as batch_effec
 ghost use Rattle.su_desk.specs.Trial.{nothing_ready, tree_of, tree_with_ready};
 ghost use Rattle.su_part_tree.specs.Loading.{IsLoadRefusal};
 ghost use Rattle.su_stored_desk.specs.Joined.{alone_by, each_alone, AllFit, Fits};
-ghost use Rattle.su_stored_desk.specs.Right.{MayBecome};
 
 use super::TrialDesk;
 use su_block::BlockSource;
@@ -14,7 +13,7 @@ use su_bytes::{Format, NEWEST_FORMAT, Refusal, User};
 use su_op::{Change, Op};
 
 impl<S: BlockSource> TrialDesk<S> {
-    ghost use Rattle.su_stored_desk.specs.Asked.{IsClear};
+    ghost use Rattle.su_stored_desk.specs.Asked.{Asks, IsClear};
 
     /// Finds whether the operations, made by that author in the newest format one after another,
     /// would all be accepted. They are made on trial and taken back, and so is before what stood
@@ -29,8 +28,7 @@ impl<S: BlockSource> TrialDesk<S> {
             → IfErr result (λ e. IsLoadRefusal e
             ⊎ (first_refusal d.roster (tree_of d) author NEWEST_FORMAT operations.now ≡ Some e)) }
         ensures err { OnErr result (self.new.state.settled ≡ self.old.state.settled) }
-        ensures clear { IsClear S.may_give self.new → IsClear S.may_give self.old }
-        ensures source { MayBecome S.may_give S.follows self.old.source self.new.source }
+        ensures asks { Asks S.may_give S.follows self.old self.new }
     {
         self.take_back()?;
         let answer = self.rehearse_on(author, operations);
@@ -56,8 +54,7 @@ impl<S: BlockSource> TrialDesk<S> {
             ⊎ (first_refusal ro (tree_with_ready self.old.state) author NEWEST_FORMAT
             operations.now ≡ Some e)) }
         ensures settled { self.new.state.settled ≡ self.old.state.settled }
-        ensures clear { IsClear S.may_give self.new → IsClear S.may_give self.old }
-        ensures source { MayBecome S.may_give S.follows self.old.source self.new.source }
+        ensures asks { Asks S.may_give S.follows self.old self.new }
     {
         self.try_all(NEWEST_FORMAT, author, operations)
     }
@@ -86,8 +83,7 @@ impl<S: BlockSource> TrialDesk<S> {
             ⊎ (first_refusal ro (tree_with_ready self.old.state) author format operations.now
             ≡ Some e)) }
         ensures settled { self.new.state.settled ≡ self.old.state.settled }
-        ensures clear { IsClear S.may_give self.new → IsClear S.may_give self.old }
-        ensures source { MayBecome S.may_give S.follows self.old.source self.new.source }
+        ensures asks { Asks S.may_give S.follows self.old self.new }
     {
         for operation in operations {
             self.try_next(format, author, operation)?;
@@ -118,8 +114,7 @@ impl<S: BlockSource> TrialDesk<S> {
             ⊎ (why ro (tree_with_ready self.old.state) (action_by author format operation.now)
             ≡ Some e)) }
         ensures err { OnErr result (self.new.state ≡ self.old.state) }
-        ensures clear { IsClear S.may_give self.new → IsClear S.may_give self.old }
-        ensures source { MayBecome S.may_give S.follows self.old.source self.new.source }
+        ensures asks { Asks S.may_give S.follows self.old self.new }
     {
         let change = Change::of(self.desk.alloc, operation.clone()?);
         self.tried.reserve(1)?;

@@ -1,5 +1,4 @@
-use Rattle.std.proofs.Common.{◌≡◌, None, Some, refl, rules}
-use Rattle.su_bytes.specs.declared.refusals.Refusal.TheVariants.{NoOperation}
+use Rattle.std.proofs.Common.{◌≡◌, None, refl, rules}
 use Rattle.su_desk.specs.Answer.{live_refusal}
 use Rattle.su_stored_desk.proofs.KeptIndexes.{kept_ascend, index_live, none_kept_live}
 use Rattle.su_stored_desk.proofs.kept.live_index.Goals as goal

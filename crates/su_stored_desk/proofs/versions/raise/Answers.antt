@@ -1,5 +1,4 @@
-use Rattle.std.proofs.Common.{◌≡◌, refl, zero, ◌∙◌, ℕ, ◌+◌, ◌-◌, ◌<◌, ◌^◌, ◌++◌, ◌∷◌, [], List, map, take, drop, get_or, length, suc, min, sym, ap, subst, arith, drop-cons}
-use Rattle.std.specs.List.{All}
+use Rattle.std.proofs.Common.{◌≡◌, zero, ◌∙◌, ℕ, ◌+◌, ◌-◌, ◌<◌, ◌^◌, ◌++◌, ◌∷◌, [], List, map, take, drop, get_or, length, suc, min, sym, ap, subst, arith, drop-cons}
 use Rattle.std.proofs.Math.ListN.{set}
 use Rattle.std.proofs.lemmas.List.{length-take, length-map}
 use Rattle.std.proofs.Math.Seq.{get_or-append_seam}

@@ -1,12 +1,11 @@
 use Rattle.std.proofs.Common.{◌≡◌, sym, Some, ◌∙◌, ap, subst}
-use Rattle.su_desk.specs.Blocker.{blocker}
 use Rattle.su_stored_desk.specs.Keeping.{IsIndexOf, kept_blocker}
-use Rattle.su_stored_desk.proofs.KeptIndexes.{are_kept, blocker_kept}
+use Rattle.su_stored_desk.proofs.KeptIndexes.{blocker_kept}
 use Rattle.su_stored_desk.proofs.desks.Desk.blocker.Goals as goal
 use Rattle.su_desk.specs.Trial.{tree_of}
-use Rattle.su_stored_desk.specs.Right.{state_of, IsRight}
+use Rattle.su_stored_desk.specs.Right.{state_of}
 use Rattle.su_stored_desk.proofs.TrialLemmas.{refused_by}
-use Rattle.su_stored_desk.proofs.Rightness.{asked_right, at_tree, kept_of, shows}
+use Rattle.su_stored_desk.proofs.Rightness.{kept_of}
 use Rattle.su_desk.specs.Answer.{live_refusal}
 
 pub returns-in_err-index-clause-refused : goal.returns-in_err-index-clause-refused

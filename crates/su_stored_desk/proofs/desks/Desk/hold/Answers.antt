@@ -5,11 +5,10 @@ use Rattle.su_op.specs.Area.{has}
 use Rattle.su_part_inverse.specs.Kept.{inverse_areas}
 use Rattle.su_desk.specs.Applied.{written_by}
 use Rattle.su_stored_desk.specs.Keeping.{IsIndexOf}
-use Rattle.su_stored_desk.proofs.KeptIndexes.{are_kept}
 use Rattle.su_stored_desk.proofs.Replies.{found, undone_written}
 use Rattle.su_stored_desk.proofs.desks.Desk.hold.Goals as goal
 use Rattle.su_desk.specs.Trial.{tree_of}
-use Rattle.su_stored_desk.specs.Right.{state_of, IsRight}
+use Rattle.su_stored_desk.specs.Right.{state_of}
 use Rattle.su_desk.specs.Answer.{undo_refusal}
 use Rattle.su_stored_desk.proofs.TrialLemmas.{refused_by}
 use Rattle.su_stored_desk.proofs.Rightness.{asked_sure, kept_of, shows}

@@ -1,7 +1,6 @@
 use Rattle.std.proofs.Common.{ℕ, refl, ◌≡◌, ◌∙◌, ◌+◌, ◌-◌, ◌<◌, ◌^◌, ◌++◌, ◌∷◌, [], length, length-append, take, sym, ap, subst, arith}
 use Rattle.std.specs.List.{All}
 use Rattle.su_bytes.specs.declared.principals.Principal.{Principal}
-use Rattle.su_op.specs.declared.operations.Change.TheVariants.{Do}
 use Rattle.su_op.specs.Batch.{action_by}
 use Rattle.su_used_keys.specs.UsedKeys.{HasJust}
 use Rattle.su_desk.specs.declared.entries.Entry.{Entry}
@@ -9,12 +8,12 @@ use Rattle.su_stored_desk.specs.declared.kept.KeptOperation.{KeptOperation}
 use Rattle.su_desk.specs.Desk.{DeskState}
 use Rattle.su_desk.specs.History.{entry_by, entry_doing, keys_after}
 use Rattle.su_stored_desk.specs.Keeping.{Keeps}
-use Rattle.su_desk.specs.Version.{cells_by_change, cells_of, versions}
+use Rattle.su_desk.specs.Version.{cells_by_change, cells_of}
 use Rattle.su_stored_desk.specs.Joined.{each_alone}
 use Rattle.su_op.specs.Action.{named_key}
 use Rattle.su_desk.proofs.VersionNumbers.{counters_next, versions_within}
 use Rattle.su_stored_desk.proofs.NamedKeys.{same_keys}
-use Rattle.su_stored_desk.proofs.JoinedLemmas.{kept_seen, few_kept, few_entries, entries_before, two_at_least, keys_each, keeps_joined}
+use Rattle.su_stored_desk.proofs.JoinedLemmas.{kept_seen, few_entries, entries_before, two_at_least, keys_each, keeps_joined}
 use Rattle.su_stored_desk.proofs.desks.Desk.join.Goals as goal
 use Rattle.su_desk.specs.Desk.{with_entry}
 use Rattle.su_desk.specs.Trial.{tree_of}

@@ -9,8 +9,7 @@ use Rattle.su_stored_desk.specs.Joined.{all_read, all_written}
 use Rattle.su_stored_desk.proofs.JoinedLemmas.{cells_joined, kept_seen}
 use Rattle.su_stored_desk.proofs.desks.Desk.joined.Goals as goal
 use Rattle.su_desk.specs.Trial.{tree_of}
-use Rattle.su_stored_desk.specs.Right.{state_of, IsRight}
-use Rattle.su_stored_desk.proofs.Rightness.{asked_right, at_tree, kept_of, shows}
+use Rattle.su_stored_desk.specs.Right.{state_of}
 
 -- those from an index on, to the end
 to_end : (l : List KeptOperation) (n : ℕ) → take (length l - n) (drop n l) ≡ drop n l

@@ -1,13 +1,10 @@
 use Rattle.std.proofs.Common.{refl, Result, Ok, Err, IfOk}
 use Rattle.su_bytes.specs.declared.refusals.Refusal.{Refusal}
 use Rattle.su_op.specs.Batch.{Action}
-use Rattle.su_part_inverse.specs.Kept.{IsKeptOf}
 use Rattle.su_desk.specs.Trial.{tree_of}
 use Rattle.su_stored_desk.proofs.JoinedLemmas.{kinds_whole, sound_kept}
-use Rattle.su_stored_desk.proofs.KeptOperations.{tree_kept}
-use Rattle.su_stored_desk.proofs.TakingBack.{left_by}
 use Rattle.su_stored_desk.proofs.desks.Desk.keep_whole.Goals as goal
-use Rattle.su_stored_desk.specs.Right.{state_of, IsRight}
+use Rattle.su_stored_desk.specs.Right.{state_of}
 use Rattle.su_stored_desk.proofs.Rightness.{asked_sure, shows}
 
 -- what holds for each action with two premises

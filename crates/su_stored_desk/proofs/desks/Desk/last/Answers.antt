@@ -1,5 +1,4 @@
 use Rattle.std.proofs.Common.{◌∙◌, sym, ap, length, ◌-◌, slice_get}
-use Rattle.su_desk.specs.History.{last_live}
 use Rattle.su_stored_desk.proofs.Replies.{last_number, no_number}
 use Rattle.su_stored_desk.proofs.desks.Desk.last.Goals as goal
 

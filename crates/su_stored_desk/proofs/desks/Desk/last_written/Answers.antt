@@ -1,11 +1,10 @@
 use Rattle.std.proofs.Common.{◌≡◌, ◌∙◌, ◌-◌, Some, None, sym, ap, subst, length, slice_get}
 use Rattle.std.specs.Option.{option_copied}
 use Rattle.su_stored_desk.specs.Tried.{TakesChangeBack}
-use Rattle.su_stored_desk.proofs.TrialLemmas.{good_before, some_kept, last_cells, no_cells, undone_cells}
+use Rattle.su_stored_desk.proofs.TrialLemmas.{good_before, some_kept, last_cells, undone_cells}
 use Rattle.su_stored_desk.proofs.desks.Desk.last_written.Goals as goal
 use Rattle.su_desk.specs.Trial.{tree_of}
-use Rattle.su_stored_desk.specs.Right.{state_of, IsRight}
-use Rattle.su_stored_desk.proofs.Rightness.{asked_right, at_tree, kept_of, shows}
+use Rattle.su_stored_desk.specs.Right.{state_of}
 
 pub returns-in-Held : goal.returns-in-Held
 returns-in-Held g c right d e is back =

@@ -1,6 +1,5 @@
 use Rattle.std.proofs.Common.{◌≡◌, ◌∙◌, List, ℕ, map, ap, subst, IfOk}
 use Rattle.su_stored_desk.specs.declared.kept.KeptOperation.{KeptOperation}
-use Rattle.su_desk.specs.History.{live_numbers}
 use Rattle.su_stored_desk.proofs.KeptOperations.{numbers_kept}
 use Rattle.su_stored_desk.proofs.desks.Desk.live.Goals as goal
 

@@ -1,4 +1,4 @@
-use Rattle.std.proofs.Common.{◌≡◌, ◌∙◌, [], map, sym, ap, subst, append-nil}
+use Rattle.std.proofs.Common.{◌∙◌, [], map, sym, ap, subst, append-nil}
 use Rattle.su_bytes.specs.Keys.{roster_keys}
 use Rattle.su_bytes.specs.Principal.{principals}
 use Rattle.su_used_keys.specs.UsedKeys.{HasJust}

@@ -1,7 +1,7 @@
-use Rattle.std.proofs.Common.{◌≡◌, ◌∙◌, ℕ, ◌+◌, ◌<◌, ◌^◌, List, [], ◌∷◌, ◌++◌, length, length-append, ⊎_elim, inl, inr, arith, refl, sym, ap, subst}
+use Rattle.std.proofs.Common.{◌≡◌, ◌∙◌, ℕ, ◌+◌, ◌<◌, ◌^◌, [], ◌∷◌, ◌++◌, length, length-append, ⊎_elim, inl, inr, arith, refl, sym, ap, subst}
 use Rattle.std.specs.List.{All}
 use Rattle.su_bytes.specs.declared.principals.Principal.{Principal}
-use Rattle.su_desk.specs.Desk.{DeskState, with_entry}
+use Rattle.su_desk.specs.Desk.{with_entry}
 use Rattle.su_desk.specs.History.{entry_doing}
 use Rattle.su_desk.specs.Trial.{tree_of}
 use Rattle.su_desk.specs.Version.{cells_of}

@@ -1,14 +1,12 @@
-use Rattle.std.proofs.Common.{◌≡◌, ◌∙◌, ◌-◌, Some, None, Result, Ok, Err, refl, sym, ap, subst, length, slice_get}
+use Rattle.std.proofs.Common.{◌≡◌, ◌∙◌, ◌-◌, Some, None, Result, Ok, Err, sym, ap, subst, length, slice_get}
 use Rattle.std.specs.Option.{option_copied}
 use Rattle.std.specs.Prelude.{OnErr}
 use Rattle.su_block.specs.declared.sources.BlockSource.{Ghosts}
 use Rattle.su_op.specs.Batch.{Action}
 use Rattle.su_part_inverse.specs.Kept.{IsPutBack}
-use Rattle.su_table.specs.Tree.{Tree}
 use Rattle.su_desk.specs.Desk.{DeskState, with_entry}
 use Rattle.su_desk.specs.History.{entry_doing}
 use Rattle.su_desk.specs.Trial.{tree_of}
-use Rattle.su_stored_desk.specs.Keeping.{Keeps}
 use Rattle.su_stored_desk.specs.Right.{state_of, IsRight}
 use Rattle.su_stored_desk.specs.declared.desks.Desk.{Desk}
 use Rattle.su_stored_desk.specs.declared.kept.KeptOperation.{KeptOperation}

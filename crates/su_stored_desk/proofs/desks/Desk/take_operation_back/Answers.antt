@@ -1,12 +1,10 @@
 use Rattle.std.proofs.Common.{◌≡◌, ◌∙◌, ◌-◌, refl, sym, ap, subst, take, length}
-use Rattle.su_block.specs.declared.sources.BlockSource.{Ghosts}
 use Rattle.su_desk.specs.Desk.{DeskState}
 use Rattle.su_desk.specs.History.{entry_doing, keys_after}
 use Rattle.su_desk.specs.Trial.{tree_of}
 use Rattle.su_used_keys.specs.UsedKeys.{HasJust}
 use Rattle.su_stored_desk.specs.Keeping.{Keeps}
 use Rattle.su_stored_desk.specs.Right.{state_of}
-use Rattle.su_stored_desk.specs.declared.desks.Desk.{Desk}
 use Rattle.su_stored_desk.proofs.NamedKeys.{same_keys}
 use Rattle.su_stored_desk.proofs.Rightness.{at_tree, right_at}
 use Rattle.su_stored_desk.proofs.TrialLemmas.{all_but_last, history_before, last_operation}

@@ -1,26 +1,23 @@
-use Rattle.std.proofs.Common.{◌≡◌, ◌∙◌, ◌++◌, ◌∷◌, [], ℕ, ◌+◌, ◌<◌, ◌^◌, List, None, length, get_or, take, drop, arith, inl, inr, refl, sym, ap, subst}
+use Rattle.std.proofs.Common.{◌≡◌, ◌∙◌, ◌++◌, ◌∷◌, [], ℕ, ◌+◌, ◌<◌, ◌^◌, length, get_or, take, drop, arith, inl, inr, refl, sym, ap, subst}
 use Rattle.std.specs.List.{All}
 use Rattle.su_block.specs.declared.sources.BlockSource.{Ghosts}
-use Rattle.su_bytes.specs.declared.formats.Format.{Format}
 use Rattle.su_bytes.specs.declared.principals.Principal.{Principal}
-use Rattle.su_desk.specs.Answer.{format_refusal, undo_refusal}
+use Rattle.su_desk.specs.Answer.{undo_refusal}
 use Rattle.su_desk.specs.Desk.{DeskState, with_entry}
-use Rattle.su_desk.specs.History.{undo_by, keys_after}
+use Rattle.su_desk.specs.History.{undo_by}
 use Rattle.su_desk.specs.Trial.{tree_of}
 use Rattle.su_desk.specs.Version.{cells_of}
 use Rattle.su_desk.specs.declared.entries.Entry.{Entry}
 use Rattle.su_desk.proofs.VersionNumbers.{counters_next, versions_within}
-use Rattle.su_op.specs.declared.operations.Change.TheVariants.{Undo}
 use Rattle.su_used_keys.specs.UsedKeys.{HasJust}
 use Rattle.su_stored_desk.specs.Keeping.{Keeps, IsIndexOf}
 use Rattle.su_stored_desk.specs.Right.{state_of, IsRight}
 use Rattle.su_stored_desk.specs.declared.desks.Desk.{Desk}
 use Rattle.su_stored_desk.specs.declared.kept.KeptOperation.{KeptOperation}
 use Rattle.su_stored_desk.proofs.KeptIndexes.{same_there}
-use Rattle.su_stored_desk.proofs.KeptOperations.{KeepsUndone}
 use Rattle.su_stored_desk.proofs.NamedKeys.{same_keys}
 use Rattle.su_stored_desk.proofs.Replies.{Found, found, undone_there, undone_written}
-use Rattle.su_stored_desk.proofs.Rightness.{at_tree, keeps_tree, kept_of, right_at, shows}
+use Rattle.su_stored_desk.proofs.Rightness.{keeps_tree, kept_of, right_at, shows}
 use Rattle.su_stored_desk.proofs.TakingBack.{kept_at}
 use Rattle.su_stored_desk.proofs.TrialLemmas.{refused_by}
 use Rattle.su_stored_forest.specs.Shows.{Holds}

@@ -1,8 +1,6 @@
-use Rattle.std.proofs.Common.{◌≡◌, ◌∙◌, ◌-◌, refl, sym, ap, subst, take, length, insert, ℕ, min, arith}
+use Rattle.std.proofs.Common.{◌≡◌, ◌∙◌, ◌-◌, refl, sym, ap, subst, take, insert, arith}
 use Rattle.su_op.specs.Action.{named_key}
-use Rattle.su_op.specs.declared.operations.Change.TheVariants.{Undo}
 use Rattle.su_part_inverse.specs.Kept.{IsPutBack}
-use Rattle.su_table.specs.Tree.{Tree}
 use Rattle.su_desk.specs.Desk.{DeskState, with_entry}
 use Rattle.su_desk.specs.History.{keys_after}
 use Rattle.su_desk.specs.Trial.{tree_of}

@@ -1,8 +1,9 @@
-use Rattle.std.proofs.Common.{◌≡◌, ◌∙◌, ◌+◌, length, Ok, refl, sym, ap, subst}
+use Rattle.std.proofs.Common.{◌∙◌, ◌+◌, length, Ok, sym, ap, subst}
 use Rattle.su_desk.specs.Desk.{DeskState}
 use Rattle.su_desk.specs.History.{entry_by}
 use Rattle.su_desk.specs.Trial.{TrialState, IsReady, Tells, with_ready}
 use Rattle.su_stored_desk.specs.Asked.{IsClear, TrialOn}
+use Rattle.su_stored_desk.proofs.Public.{asks_nothing, asks_on}
 use Rattle.su_stored_desk.proofs.Replies.{passed_on}
 use Rattle.su_stored_desk.proofs.trials.TrialDesk.apply_as.Goals as goal
 
@@ -24,3 +25,12 @@ returns-clause-answered g c clear =
       c.in_ok-prepared.ensures.accepted was ∙ ap Ok (told.number ∙ sym (c.settle.ensures.number ready ∙ ap (λ (s : TrialState). length s.settled.history + 1) c.in_ok-prepared.ensures.ready)),
       ap (λ (u : TrialOn g.row.S.Denot). u.state.settled) c.settle.ensures.settled ∙ ap (λ (s : TrialState). with_ready s.settled s.ready) c.in_ok-prepared.ensures.ready,
     )
+
+pub returns-clause-asks : goal.returns-clause-asks
+returns-clause-asks g c =
+    let settled = c.settle.ensures.settled in
+    asks_on g.met.S.BlockSource.follows_on c.args.self.now c.prepare_as.new.self c.settle.new.self c.prepare_as.ensures.asks
+    (asks_nothing g.met.S.BlockSource.follows_itself c.prepare_as.new.self c.settle.new.self
+    (ap (λ (u : TrialOn g.row.S.Denot). u.state.settled.roster) settled)
+    (ap (λ (u : TrialOn g.row.S.Denot). u.source) settled)
+    (ap (λ (u : TrialOn g.row.S.Denot). u.asked) settled))

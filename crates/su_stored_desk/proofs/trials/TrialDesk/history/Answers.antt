@@ -1,4 +1,4 @@
-use Rattle.std.proofs.Common.{◌≡◌, [], sym, ap, subst}
+use Rattle.std.proofs.Common.{[], sym, ap, subst}
 use Rattle.su_desk.specs.Answer.{Good}
 use Rattle.su_desk.specs.Desk.{DeskState}
 use Rattle.su_desk.proofs.GoodHistories.{good_headline}

@@ -1,4 +1,4 @@
-use Rattle.std.proofs.Common.{◌≡◌, ◌∙◌, ℕ, None, List, Result, Ok, Err, refl, sym, ap, subst, true}
+use Rattle.std.proofs.Common.{◌≡◌, ℕ, None, List, Result, Ok, Err, refl, sym, ap, subst, true}
 use Rattle.std.specs.Prelude.{IfOk}
 use Rattle.std.proofs.lemmas.Result.{IfErr-weaker}
 use Rattle.su_bytes.specs.declared.refusals.Refusal.{Refusal}
@@ -15,10 +15,9 @@ use Rattle.su_part_inverse.specs.Kept.{inverse_areas, IsKeptOf}
 use Rattle.su_part_inverse.specs.declared.inverses.Inverse.{Inverse}
 use Rattle.su_desk.specs.Desk.{DeskState}
 use Rattle.su_desk.specs.Trial.{tree_of}
-use Rattle.su_stored_desk.specs.Asked.{IsClear}
 use Rattle.su_stored_desk.specs.Joined.{IsJoined, IsKeptBefore}
 use Rattle.su_stored_desk.specs.Right.{state_of, HasNumbers}
-use Rattle.su_stored_desk.proofs.Clearness.{known, known_refused, noted, trusted, was_clear, was_sure}
+use Rattle.su_stored_desk.proofs.Clearness.{known, known_refused, noted, trusted, was_sure, asks_seen}
 use Rattle.su_stored_desk.proofs.JoinedLemmas.{kept_before}
 use Rattle.su_stored_desk.proofs.StandingReady.{alone}
 use Rattle.su_stored_desk.proofs.trials.TrialDesk.keep_settled.Goals as goal
@@ -63,11 +62,10 @@ returns-clause-refused g c clear =
     (ap (λ d. d.roster) c.keep_whole.ensures.same) clear in
     IfErr-weaker c.keep_whole.result _ _ (λ e fails. fails.0) (c.keep_whole.ensures.refused sure)
 
-pub returns-clause-clear : goal.returns-clause-clear
-returns-clause-clear g c clear =
+pub returns-clause-asks : goal.returns-clause-asks
+returns-clause-asks g c =
     let s = c.self.inside in
     let m = g.S.BlockSource.may_give in
-    subst (IsClear m) c.self.view_is
-    (was_clear m s.desk c.keep_whole.new.self s.asked.items c.and-self-inside.result.items
+    asks_seen m s.desk c.keep_whole.new.self s.tried.items s.tried.items s.asked.items c.and-self-inside.result.items c.args.self.now c.self.view_is
     (noted m s.desk c.source.result.now c.and-self-inside.result.items s.asked.items c.and-self-inside.ensures c.source.ensures)
-    (ap (λ d. d.roster) c.keep_whole.ensures.same) clear)
+    (ap (λ d. d.roster) c.keep_whole.ensures.same) c.keep_whole.ensures.source

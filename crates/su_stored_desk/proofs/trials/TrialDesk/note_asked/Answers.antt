@@ -1,11 +1,12 @@
-use Rattle.std.proofs.Common.{◌≡◌, ◌∙◌, ◌++◌, ◌∷◌, [], refl, sym, ap, subst}
+use Rattle.std.proofs.Common.{◌≡◌, ◌∙◌, refl, sym, ap, subst}
 use Rattle.su_table.specs.Tree.{Tree}
 use Rattle.su_part.specs.Bytes.{NoneClash}
 use Rattle.su_part_forest.specs.Loading.{HashedFor}
 use Rattle.su_desk.specs.Desk.{DeskState}
-use Rattle.su_desk.specs.Trial.{TrialState, tree_of, tree_with_ready}
-use Rattle.su_stored_desk.specs.Asked.{IsClear, NoneMixed, ShowsReady, TrialOn}
-use Rattle.su_stored_desk.proofs.Clearness.{Known, known, trusted, asking, noted, less_clear, more_clear, known_asked}
+use Rattle.su_desk.specs.Trial.{tree_of, tree_with_ready}
+use Rattle.su_stored_desk.specs.Asked.{ShowsReady, TrialOn}
+use Rattle.su_stored_desk.proofs.Clearness.{Known, known, trusted, asking, noted, less_clear, more_clear, known_asked, asks_seen}
+use Rattle.su_stored_desk.proofs.Public.{becomes_itself}
 use Rattle.su_stored_desk.proofs.trials.TrialDesk.note_asked.Goals as goal
 
 pub invariant_of-self : goal.invariant_of-self
@@ -46,9 +47,9 @@ returns-clause-still g c T shown =
       tree = was.tree;
     }
 
-pub returns-clause-clear : goal.returns-clause-clear
-returns-clause-clear g c clear =
+pub returns-clause-asks : goal.returns-clause-asks
+returns-clause-asks g c =
     let s = c.self.inside in
     let m = g.S.BlockSource.may_give in
     let more = noted m s.desk c.source.result.now c.and-self-inside.result.items s.asked.items c.and-self-inside.ensures c.source.ensures in
-    subst (IsClear m) c.self.view_is (less_clear m s.desk.roster s.desk.roster c.and-self-inside.result.items s.asked.items (asking m s.desk) refl more clear).0
+    asks_seen m s.desk s.desk s.tried.items s.tried.items s.asked.items c.and-self-inside.result.items c.args.self.now c.self.view_is more refl (becomes_itself g.met.S.BlockSource.follows_itself s.desk.stored.source)

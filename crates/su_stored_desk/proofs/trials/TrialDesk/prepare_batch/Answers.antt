@@ -17,6 +17,7 @@ use Rattle.su_stored_desk.specs.Joined.{IsJoined, IsKeptBefore}
 use Rattle.su_stored_desk.specs.Right.{state_of, HasShape}
 use Rattle.su_stored_desk.proofs.Clearness.{known, clear_still}
 use Rattle.su_stored_desk.proofs.JoinedLemmas.{batch_accepted, batch_refused}
+use Rattle.su_stored_desk.proofs.Public.{asks_nothing, asks_on}
 use Rattle.su_stored_desk.proofs.Replies.{answer_done, answer_refused}
 use Rattle.su_stored_desk.proofs.StandingReady.{alone}
 use Rattle.su_stored_desk.proofs.TrialLemmas.{refused_by}
@@ -97,12 +98,12 @@ join-requires-clause-fits g c =
 
 pub join-requires-clause-joined : goal.join-requires-clause-joined
 join-requires-clause-joined g c clear =
-    subst (λ (d : DeskState). IsJoined d c.args.author c.args.format c.args.batch c.in_ok-footprint.footprint) (sym (c.try_batch.ensures.settled ∙ ap (λ (t : TrialState). t.settled) (c.keep_settled.ensures.state ∙ c.in_ok-footprint.ensures.none_ready))) (c.in_ok-footprint.ensures.joined (c.keep_settled.ensures.clear (c.try_batch.ensures.clear clear)))
+    subst (λ (d : DeskState). IsJoined d c.args.author c.args.format c.args.batch c.in_ok-footprint.footprint) (sym (c.try_batch.ensures.settled ∙ ap (λ (t : TrialState). t.settled) (c.keep_settled.ensures.state ∙ c.in_ok-footprint.ensures.none_ready))) (c.in_ok-footprint.ensures.joined (c.keep_settled.ensures.asks.clear (c.try_batch.ensures.asks.clear clear)))
 
 pub join-requires-clause-kept : goal.join-requires-clause-kept
 join-requires-clause-kept g c clear =
-    let was = c.try_batch.ensures.clear clear in
-    let before = c.keep_settled.ensures.clear was in
+    let was = c.try_batch.ensures.asks.clear clear in
+    let before = c.keep_settled.ensures.asks.clear was in
     let d = c.args.self.now.state.settled in
     let settled : c.footprint_of.new.self.state.settled ≡ d = ap (λ (t : TrialState). t.settled) c.in_ok-footprint.ensures.none_ready in
     subst (λ (y : DeskState). IsKeptBefore y c.in_ok-footprint.footprint c.in_ok-inverse.inverse) (settled ∙ sym (c.try_batch.ensures.settled ∙ ap (λ (t : TrialState). t.settled) (c.keep_settled.ensures.state ∙ c.in_ok-footprint.ensures.none_ready)))
@@ -130,7 +131,7 @@ returns-clause-accepted g c clear =
     let fits = settled_too (state_of s.desk) v.settled c.args.format c.args.batch c.format_refusal.result _
     (alone (state_of s.desk) s.tried.items v (known g.S.BlockSource.may_give s.desk s.tried.items s.asked.items v (ap (λ t. t.state) c.self.view_is) c.self.invariant).seen c.requires.none_ready)
     (c.format_refusal.ensures (Do c.args.batch) (sym c.oldest_format.ensures)) c.in_default.is in
-    let before = c.keep_settled.ensures.clear (c.try_batch.ensures.clear (before_join g c clear)) in
+    let before = c.keep_settled.ensures.asks.clear (c.try_batch.ensures.asks.clear (before_join g c clear)) in
     IfOk-weaker c.tell_last.result _ _
     (λ p told.
     answer_done d.roster d.history e (batch_accepted d c.args.author c.args.format c.args.batch c.requires.many fits (c.in_ok-footprint.ensures.accepted before))
@@ -146,3 +147,30 @@ returns-clause-told g c clear =
 
 pub returns-clause-shape : goal.returns-clause-shape
 returns-clause-shape g c = subst (λ (d : DeskState). IfOk c.tell_last.result (HasShape d.roster)) (settled_is g c) c.tell_last.ensures.shape
+
+-- ---- when its store was asked
+
+pub returns-in_err-inverse-clause-asks : goal.returns-in_err-inverse-clause-asks
+returns-in_err-inverse-clause-asks g c = asks_on g.met.S.BlockSource.follows_on c.args.self.now c.footprint_of.new.self c.keep_settled.new.self c.footprint_of.ensures.asks c.keep_settled.ensures.asks
+
+pub returns-in_err-try_batch-clause-asks : goal.returns-in_err-try_batch-clause-asks
+returns-in_err-try_batch-clause-asks g c =
+    asks_on g.met.S.BlockSource.follows_on c.args.self.now c.keep_settled.new.self c.try_batch.new.self
+    (asks_on g.met.S.BlockSource.follows_on c.args.self.now c.footprint_of.new.self c.keep_settled.new.self c.footprint_of.ensures.asks c.keep_settled.ensures.asks)
+    c.try_batch.ensures.asks
+
+pub returns-in_err-join-clause-asks : goal.returns-in_err-join-clause-asks
+returns-in_err-join-clause-asks g c =
+    asks_on g.met.S.BlockSource.follows_on c.args.self.now c.try_batch.new.self c.join.new.self
+    (asks_on g.met.S.BlockSource.follows_on c.args.self.now c.keep_settled.new.self c.try_batch.new.self
+    (asks_on g.met.S.BlockSource.follows_on c.args.self.now c.footprint_of.new.self c.keep_settled.new.self c.footprint_of.ensures.asks c.keep_settled.ensures.asks)
+    c.try_batch.ensures.asks)
+    (asks_nothing g.met.S.BlockSource.follows_itself c.try_batch.new.self c.join.new.self (ap (λ (t : TrialState). t.settled.roster) c.in_err-join.ensures.err) c.join.ensures.source c.join.ensures.asked)
+
+pub returns-clause-asks : goal.returns-clause-asks
+returns-clause-asks g c =
+    asks_on g.met.S.BlockSource.follows_on c.args.self.now c.try_batch.new.self c.join.new.self
+    (asks_on g.met.S.BlockSource.follows_on c.args.self.now c.keep_settled.new.self c.try_batch.new.self
+    (asks_on g.met.S.BlockSource.follows_on c.args.self.now c.footprint_of.new.self c.keep_settled.new.self c.footprint_of.ensures.asks c.keep_settled.ensures.asks)
+    c.try_batch.ensures.asks)
+    (asks_nothing g.met.S.BlockSource.follows_itself c.try_batch.new.self c.join.new.self (ap (λ (t : TrialState). t.settled.roster) c.in_ok-join.ensures.done) c.join.ensures.source c.join.ensures.asked)

@@ -5,13 +5,13 @@ use Rattle.su_desk.specs.Answer.{answer}
 use Rattle.su_desk.specs.History.{entry_by}
 use Rattle.su_bytes.specs.Membership.{Membership}
 use Rattle.su_desk.specs.Desk.{DeskState, with_entry}
-use Rattle.su_desk.specs.Trial.{TrialState, Tells, nothing_ready, ready_with}
+use Rattle.su_desk.specs.Trial.{TrialState, Tells, ready_with}
 use Rattle.su_part_tree.specs.Loading.{IsLoadRefusal}
-use Rattle.su_stored_desk.specs.Asked.{IsClear, NoneMixed}
+use Rattle.su_stored_desk.specs.Asked.{NoneMixed}
 use Rattle.su_stored_desk.specs.Right.{state_of, HasShape, IsSure}
 use Rattle.su_stored_desk.proofs.Replies.{answer_done, answer_refused}
 use Rattle.su_stored_desk.proofs.StandingReady.{alone, seen_so}
-use Rattle.su_stored_desk.proofs.Clearness.{Known, known, known_made, known_refused, noted, trusted, was_clear, was_sure}
+use Rattle.su_stored_desk.proofs.Clearness.{Known, known, known_made, known_refused, noted, trusted, was_sure, asks_seen, asks_unasked}
 use Rattle.su_stored_desk.proofs.TrialLemmas.{on_ok, on_err, refused_by}
 use Rattle.su_stored_desk.proofs.trials.TrialDesk.prepare_one.Given.{Over}
 use Rattle.su_stored_desk.proofs.trials.TrialDesk.prepare_one.Goals as goal
@@ -88,14 +88,13 @@ returns-clause-refused g c clear =
     let d = c.args.self.now.state.settled in
     IfErr-weaker c.tell-prepared.result _ _ (λ e none. inl (inr (inr (inr (inl none))))) c.tell-prepared.ensures.refused
 
-pub returns-clause-clear : goal.returns-clause-clear
-returns-clause-clear g c clear =
+pub returns-clause-asks : goal.returns-clause-asks
+returns-clause-asks g c =
     let s = c.self.inside in
     let m = g.S.BlockSource.may_give in
-    subst (IsClear m) c.self.view_is
-    (was_clear m s.desk c.attempt.new.self s.asked.items c.and-self-inside.result.items
+    asks_seen m s.desk c.attempt.new.self s.tried.items c.push_reserved.new.self.items s.asked.items c.and-self-inside.result.items c.args.self.now c.self.view_is
     (noted m s.desk c.source.result.now c.and-self-inside.result.items s.asked.items c.and-self-inside.ensures c.source.ensures)
-    (ap (λ (x : DeskState). x.roster) c.in_ok-tried.ensures.done) clear)
+    (ap (λ (x : DeskState). x.roster) c.in_ok-tried.ensures.done) c.attempt.ensures.source
 
 -- ---- it was refused
 
@@ -126,11 +125,15 @@ returns-in_err-tried-clause-refused g c clear =
     (λ refused. inr (subst (λ (d : DeskState). answer d.roster d.history e ≡ Err x) (alone (state_of s.desk) s.tried.items v k.seen c.requires.none_ready) (answer_refused s.desk.roster s.desk.entries.items e x refused)))
     (c.in_err-tried.ensures.refused sure))
 
-pub returns-in_err-tried-clause-clear : goal.returns-in_err-tried-clause-clear
-returns-in_err-tried-clause-clear g c clear =
+pub returns-in_err-tried-clause-asks : goal.returns-in_err-tried-clause-asks
+returns-in_err-tried-clause-asks g c =
     let s = c.self.inside in
     let m = g.S.BlockSource.may_give in
-    subst (IsClear m) c.self.view_is
-    (was_clear m s.desk c.attempt.new.self s.asked.items c.and-self-inside.result.items
+    asks_seen m s.desk c.attempt.new.self s.tried.items c.reserve.new.self.items s.asked.items c.and-self-inside.result.items c.args.self.now c.self.view_is
     (noted m s.desk c.source.result.now c.and-self-inside.result.items s.asked.items c.and-self-inside.ensures c.source.ensures)
-    (ap (λ (x : DeskState). x.roster) c.in_err-tried.ensures.err) clear)
+    (ap (λ (x : DeskState). x.roster) c.in_err-tried.ensures.err) c.attempt.ensures.source
+
+pub returns-in_err-reserve-clause-asks : goal.returns-in_err-reserve-clause-asks
+returns-in_err-reserve-clause-asks g c =
+    let s = c.self.inside in
+    asks_unasked g.S.BlockSource.may_give g.met.S.BlockSource.follows_itself s.desk s.tried.items c.reserve.new.self.items s.asked.items c.args.self.now c.self.view_is

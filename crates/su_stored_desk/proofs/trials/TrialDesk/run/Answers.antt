@@ -6,7 +6,7 @@ use Rattle.su_desk.specs.declared.entries.DeskReply.{DeskReply}
 use Rattle.su_desk.specs.Desk.{DeskState, result_of}
 use Rattle.su_desk.specs.History.{entry_by}
 use Rattle.su_stored_desk.specs.Asked.{Answers, Runs}
-use Rattle.su_stored_desk.proofs.Clearness.{becomes_itself, becomes_on}
+use Rattle.su_stored_desk.proofs.Public.{asks_on}
 use Rattle.su_stored_desk.proofs.trials.TrialDesk.run.Goals as goal
 
 -- one change more
@@ -26,8 +26,7 @@ loop-change-preserved g c =
     record {
       ran = λ clear. subst (λ cs. Runs d cs c.push_reserved.new.self.items after) (sym more)
           (subst (λ rs. Runs d (take l.change-index all ++ c.change-item.result ∷ []) rs after) (sym c.push_reserved.ensures.items)
-          (runs_further d l.self.state.settled after (take l.change-index all) l.replies.items c.change-item.result c.reply-reply.result (l.invariant.ran (c.reply-reply.ensures.clear clear)) (c.reply-reply.ensures.answered clear)));
+          (runs_further d l.self.state.settled after (take l.change-index all) l.replies.items c.change-item.result c.reply-reply.result (l.invariant.ran (c.reply-reply.ensures.asks.clear clear)) (c.reply-reply.ensures.answered clear)));
       room = omega (arith, l.invariant.room, c.push_reserved.ensures.len, c.push_reserved.ensures.capacity, c.loop-change-test.true);
-      clear = λ clear. l.invariant.clear (c.reply-reply.ensures.clear clear);
-      source = becomes_on g.met.S.BlockSource.follows_on _ _ _ l.invariant.source c.reply-reply.ensures.source;
+      asks = asks_on g.met.S.BlockSource.follows_on c.args.self.now l.self c.reply-reply.new.self l.invariant.asks c.reply-reply.ensures.asks;
     }

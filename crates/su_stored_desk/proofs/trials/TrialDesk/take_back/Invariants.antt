@@ -1,13 +1,11 @@
 use Rattle.std.proofs.Common.{◌≡◌, length}
-use Rattle.su_stored_desk.specs.Asked.{IsClear}
-use Rattle.su_stored_desk.specs.Right.{MayBecome}
+use Rattle.su_stored_desk.specs.Asked.{Asks}
 use Rattle.su_stored_desk.proofs.trials.TrialDesk.take_back.Given as goal
 
 abbrev pub invariant-loop-self : goal.invariant-loop-self
 invariant-loop-self g l = record {
   settled : l.self.state.settled ≡ l.fn.self.state.settled;
-  clear : IsClear g.S.BlockSource.may_give l.self → IsClear g.S.BlockSource.may_give l.fn.self;
-  source : MayBecome g.S.BlockSource.may_give g.S.BlockSource.follows l.fn.self.source l.self.source;
+  asks : Asks g.S.BlockSource.may_give g.S.BlockSource.follows l.fn.self l.self;
 }
 
 abbrev pub decreases-loop-self : goal.decreases-loop-self

@@ -1,9 +1,9 @@
-use Rattle.std.proofs.Common.{◌≡◌, ◌∙◌, ◌++◌, ◌∷◌, [], refl, sym, ap, subst}
+use Rattle.std.proofs.Common.{◌≡◌, ◌∙◌, ◌++◌, ◌∷◌, [], sym, ap, subst}
 use Rattle.su_desk.specs.Desk.{DeskState}
 use Rattle.su_desk.specs.Trial.{without_last}
-use Rattle.su_stored_desk.specs.Asked.{IsClear, NoneMixed}
+use Rattle.su_stored_desk.specs.Asked.{NoneMixed}
 use Rattle.su_stored_desk.proofs.StandingReady.{seen_so}
-use Rattle.su_stored_desk.proofs.Clearness.{Known, known, trusted, asking, noted, less_clear, sure, takes_last, known_less, known_kept}
+use Rattle.su_stored_desk.proofs.Clearness.{Known, known, trusted, asking, noted, sure, takes_last, known_less, known_kept, asks_seen, asks_unasked}
 use Rattle.su_stored_desk.proofs.trials.TrialDesk.take_last_back.Given.{Over}
 use Rattle.su_stored_desk.proofs.trials.TrialDesk.take_last_back.Goals as goal
 use Rattle.su_stored_desk.proofs.trials.TrialDesk.take_last_back.Goals.{In_default-take_back}
@@ -25,12 +25,13 @@ invariant_of-self-in_default-take_back g c = trusted g.S.BlockSource.may_give c.
 pub returns-clause-ok : goal.returns-clause-ok
 returns-clause-ok g c = seen_so _ _ _ (left g c).seen
 
-pub returns-clause-clear : goal.returns-clause-clear
-returns-clause-clear g c clear =
+pub returns-clause-asks : goal.returns-clause-asks
+returns-clause-asks g c =
     let s = c.self.inside in
     let m = g.S.BlockSource.may_give in
-    let more = noted m s.desk c.source.result.now c.and-self-inside.result.items s.asked.items c.and-self-inside.ensures c.source.ensures in
-    subst (IsClear m) c.self.view_is (less_clear m c.take_back.new.self.roster s.desk.roster c.and-self-inside.result.items s.asked.items (asking m s.desk) (ap (λ (x : DeskState). x.roster) c.in_default-take_back.ensures.ok) more clear).0
+    asks_seen m s.desk c.take_back.new.self s.tried.items c.pop.new.self.items s.asked.items c.and-self-inside.result.items c.args.self.now c.self.view_is
+    (noted m s.desk c.source.result.now c.and-self-inside.result.items s.asked.items c.and-self-inside.ensures c.source.ensures)
+    (ap (λ (x : DeskState). x.roster) c.in_default-take_back.ensures.ok) c.take_back.ensures.source
 
 -- or all of it
 pub invariant_of-self-in-Err : goal.invariant_of-self-in-Err
@@ -56,9 +57,16 @@ returns-in-Err-clause-refused g c clear =
     let clear' = subst (λ l. NoneMixed m s.desk.roster l) more (subst (λ ro. NoneMixed m ro c.and-self-inside.result.items) (ap (λ (x : DeskState). x.roster) c.in-Err.ensures.err) clear) in
     (c.in-Err.ensures.refused (sure m s.desk (c.pop.new.self.items ++ c.in-Some.tried ∷ []) s.asked.items v k clear') (takes_last m s.desk c.pop.new.self.items c.in-Some.tried s.asked.items v k clear')).0
 
-pub returns-in-Err-clause-clear : goal.returns-in-Err-clause-clear
-returns-in-Err-clause-clear g c clear =
+pub returns-in-Err-clause-asks : goal.returns-in-Err-clause-asks
+returns-in-Err-clause-asks g c =
     let s = c.self.inside in
     let m = g.S.BlockSource.may_give in
-    let more = noted m s.desk c.source.result.now c.and-self-inside.result.items s.asked.items c.and-self-inside.ensures c.source.ensures in
-    subst (IsClear m) c.self.view_is (less_clear m c.take_back.new.self.roster s.desk.roster c.and-self-inside.result.items s.asked.items (asking m s.desk) (ap (λ (x : DeskState). x.roster) c.in-Err.ensures.err) more clear).0
+    asks_seen m s.desk c.take_back.new.self s.tried.items c.push_reserved.new.self.items s.asked.items c.and-self-inside.result.items c.args.self.now c.self.view_is
+    (noted m s.desk c.source.result.now c.and-self-inside.result.items s.asked.items c.and-self-inside.ensures c.source.ensures)
+    (ap (λ (x : DeskState). x.roster) c.in-Err.ensures.err) c.take_back.ensures.source
+
+-- nothing stood ready
+pub returns-in_default-clause-asks : goal.returns-in_default-clause-asks
+returns-in_default-clause-asks g c =
+    let s = c.self.inside in
+    asks_unasked g.S.BlockSource.may_give g.met.S.BlockSource.follows_itself s.desk s.tried.items c.pop.new.self.items s.asked.items c.args.self.now c.self.view_is

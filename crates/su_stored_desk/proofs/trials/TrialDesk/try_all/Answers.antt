@@ -10,8 +10,8 @@ use Rattle.su_op.specs.Batch.{action_by as batch_by, effect as batch_effect, fir
 use Rattle.su_desk.specs.Desk.{DeskState}
 use Rattle.su_desk.specs.Trial.{tree_with_ready}
 use Rattle.su_stored_desk.specs.Joined.{alone_by, each_alone}
-use Rattle.su_stored_desk.proofs.Clearness.{becomes_itself, becomes_on}
 use Rattle.su_stored_desk.proofs.JoinedLemmas.{each_more, fits_behind}
+use Rattle.su_stored_desk.proofs.Public.{asks_nothing, asks_on}
 use Rattle.su_stored_desk.proofs.trials.TrialDesk.try_all.Goals as goal
 
 pub loop-operation-init : goal.loop-operation-init
@@ -21,8 +21,7 @@ loop-operation-init g c = record {
   effect = λ clear. refl;
   ready = sym (append-nil c.args.self.now.state.ready);
   fits = c.requires;
-  clear = λ clear. clear;
-  source = becomes_itself g.met.S.BlockSource.follows_itself c.args.self.now.source;
+  asks = asks_nothing g.met.S.BlockSource.follows_itself c.args.self.now c.args.self.now refl refl refl;
 }
 
 pub loop-operation-preserved : goal.loop-operation-preserved
@@ -46,18 +45,20 @@ loop-operation-preserved g c =
       rest = λ clear.
           let accepted : why ro T x ≡ None = ap (λ (d : DeskState). why d.roster T x) (sym l.invariant.settled) ∙ r.accepted clear in
           let done : tree_with_ready c.try_next.new.self.state ≡ effect ro T x = r.effect clear ∙ ap (λ (d : DeskState). effect d.roster T x) l.invariant.settled in
-          l.invariant.rest (r.clear clear) ∙ ap (first_refusal ro T a f) left
+          l.invariant.rest (r.asks.clear clear) ∙ ap (first_refusal ro T a f) left
           ∙ ap (λ o. option_or o (first_refusal ro (effect ro T x) a f rest)) accepted
           ∙ ap (λ U. first_refusal ro U a f rest) (sym done);
       effect = λ clear.
           let done : tree_with_ready c.try_next.new.self.state ≡ effect ro T x = r.effect clear ∙ ap (λ (d : DeskState). effect d.roster T x) l.invariant.settled in
-          l.invariant.effect (r.clear clear) ∙ ap (λ ops. batch_effect ro T (batch_by a f ops)) left
+          l.invariant.effect (r.asks.clear clear) ∙ ap (λ ops. batch_effect ro T (batch_by a f ops)) left
           ∙ ap (λ U. batch_effect ro U (batch_by a f rest)) (sym done);
       ready = r.ready ∙ ap (λ es. es ++ alone_by a f op ∷ []) l.invariant.ready
           ∙ append_assoc c.args.self.now.state.ready (each_alone a f (take l.operation-index all)) (alone_by a f op ∷ [])
           ∙ ap (λ es. c.args.self.now.state.ready ++ es) (sym (each_more a f (take l.operation-index all) op) ∙ ap (each_alone a f) (sym more));
       fits = fits_behind l.self.state c.try_next.new.self.state a f op rest r.settled r.ready
           (subst (AllByRecursion (λ o. is_as_new f (oldest_format o) ≡ true)) left l.invariant.fits.has).1;
-      clear = λ clear. l.invariant.clear (r.clear clear);
-      source = becomes_on g.met.S.BlockSource.follows_on _ _ _ l.invariant.source r.source;
+      asks = asks_on g.met.S.BlockSource.follows_on c.args.self.now l.self c.try_next.new.self l.invariant.asks c.try_next.ensures.asks;
     }
+
+pub returns-in_err-try_next-clause-asks : goal.returns-in_err-try_next-clause-asks
+returns-in_err-try_next-clause-asks g c = asks_on g.met.S.BlockSource.follows_on c.args.self.now c.loop-operation.self c.try_next.new.self c.loop-operation.invariant.asks c.try_next.ensures.asks

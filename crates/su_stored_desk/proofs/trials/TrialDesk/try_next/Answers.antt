@@ -1,4 +1,4 @@
-use Rattle.std.proofs.Common.{rules, ◌≡◌, ◌∙◌, ◌⊎◌, ⊎_elim, inl, inr, sym, ap, subst, None, Some, ◌++◌, ◌∷◌, []}
+use Rattle.std.proofs.Common.{rules, ◌≡◌, ◌∙◌, ◌⊎◌, ⊎_elim, inl, inr, sym, ap, None, Some, ◌++◌, ◌∷◌, []}
 use Rattle.su_op.specs.declared.operations.Op.{Op}
 use Rattle.su_op.specs.declared.operations.Change.{Change}
 use Rattle.su_op.specs.declared.operations.Change.TheVariants.{Do}
@@ -12,11 +12,11 @@ use Rattle.su_desk.specs.Desk.{DeskState, with_entry}
 use Rattle.su_desk.specs.History.{entry_by}
 use Rattle.su_desk.specs.Trial.{TrialState, tree_of, tree_with_ready}
 use Rattle.su_desk.proofs.RehearsalLemmas.{effect_done, why_accepted, why_refused}
-use Rattle.su_stored_desk.specs.Asked.{IsClear, NoneMixed}
+use Rattle.su_stored_desk.specs.Asked.{NoneMixed}
 use Rattle.su_stored_desk.specs.Right.{state_of, IsSure}
 use Rattle.su_stored_desk.proofs.Replies.{answer_refused}
 use Rattle.su_stored_desk.proofs.StandingReady.{seen_so}
-use Rattle.su_stored_desk.proofs.Clearness.{Known, known, known_made, known_refused, noted, trusted, was_clear, was_sure}
+use Rattle.su_stored_desk.proofs.Clearness.{Known, known, known_made, known_refused, noted, trusted, was_sure, asks_seen, asks_unasked}
 use Rattle.su_stored_desk.proofs.TrialLemmas.{refused_by}
 use Rattle.su_stored_desk.proofs.trials.TrialDesk.try_next.Given.{Over}
 use Rattle.su_stored_desk.proofs.trials.TrialDesk.try_next.Goals as goal
@@ -103,14 +103,13 @@ returns-clause-ready g c =
 pub returns-clause-settled : goal.returns-clause-settled
 returns-clause-settled g c = ap (λ (t : TrialState). t.settled) (seen_so _ _ _ (more g c).seen)
 
-pub returns-clause-clear : goal.returns-clause-clear
-returns-clause-clear g c clear =
+pub returns-clause-asks : goal.returns-clause-asks
+returns-clause-asks g c =
     let s = c.self.inside in
     let m = g.S.BlockSource.may_give in
-    subst (IsClear m) c.self.view_is
-    (was_clear m s.desk c.attempt.new.self s.asked.items c.and-self-inside.result.items
+    asks_seen m s.desk c.attempt.new.self s.tried.items c.push_reserved.new.self.items s.asked.items c.and-self-inside.result.items c.args.self.now c.self.view_is
     (noted m s.desk c.source.result.now c.and-self-inside.result.items s.asked.items c.and-self-inside.ensures c.source.ensures)
-    (ap (λ (x : DeskState). x.roster) c.in_ok-tried.ensures.done) clear)
+    (ap (λ (x : DeskState). x.roster) c.in_ok-tried.ensures.done) c.attempt.ensures.source
 
 -- ---- it was refused
 
@@ -150,11 +149,15 @@ returns-in_err-tried-clause-refused g c clear =
     (answer_refused s.desk.roster s.desk.entries.items (entry_by a f (Do (op ∷ []))) x (ap (λ ch. refusal_of s.desk.roster s.desk.entries.items (entry_by a f ch)) (sym one) ∙ refused))))
     (c.in_err-tried.ensures.refused sure))
 
-pub returns-in_err-tried-clause-clear : goal.returns-in_err-tried-clause-clear
-returns-in_err-tried-clause-clear g c clear =
+pub returns-in_err-tried-clause-asks : goal.returns-in_err-tried-clause-asks
+returns-in_err-tried-clause-asks g c =
     let s = c.self.inside in
     let m = g.S.BlockSource.may_give in
-    subst (IsClear m) c.self.view_is
-    (was_clear m s.desk c.attempt.new.self s.asked.items c.and-self-inside.result.items
+    asks_seen m s.desk c.attempt.new.self s.tried.items c.reserve.new.self.items s.asked.items c.and-self-inside.result.items c.args.self.now c.self.view_is
     (noted m s.desk c.source.result.now c.and-self-inside.result.items s.asked.items c.and-self-inside.ensures c.source.ensures)
-    (ap (λ (x : DeskState). x.roster) c.in_err-tried.ensures.err) clear)
+    (ap (λ (x : DeskState). x.roster) c.in_err-tried.ensures.err) c.attempt.ensures.source
+
+pub returns-in_err-reserve-clause-asks : goal.returns-in_err-reserve-clause-asks
+returns-in_err-reserve-clause-asks g c =
+    let s = c.self.inside in
+    asks_unasked g.S.BlockSource.may_give g.met.S.BlockSource.follows_itself s.desk s.tried.items c.reserve.new.self.items s.asked.items c.args.self.now c.self.view_is

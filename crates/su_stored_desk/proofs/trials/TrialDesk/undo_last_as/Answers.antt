@@ -1,10 +1,11 @@
-use Rattle.std.proofs.Common.{◌≡◌, ◌∙◌, inl, refl, sym, ap, subst}
+use Rattle.std.proofs.Common.{◌≡◌, ◌∙◌, inl, sym, ap, subst}
 use Rattle.su_desk.specs.Desk.{DeskState}
 use Rattle.su_desk.specs.History.{undo_by, last_live}
 use Rattle.su_desk.specs.Trial.{TrialState}
 use Rattle.su_stored_desk.specs.Asked.{Answers, IsClear, TrialOn}
 use Rattle.su_stored_desk.specs.Right.{state_of}
-use Rattle.su_stored_desk.proofs.Clearness.{known, becomes_on}
+use Rattle.su_stored_desk.proofs.Clearness.{known}
+use Rattle.su_stored_desk.proofs.Public.{asks_on}
 use Rattle.su_stored_desk.proofs.Replies.{passed_on}
 use Rattle.su_stored_desk.proofs.StandingReady.{alone}
 use Rattle.su_stored_desk.proofs.trials.TrialDesk.undo_last_as.Goals as goal
@@ -22,7 +23,7 @@ returns-clause-answered g c clear =
     let d = c.args.self.now.state.settled in
     let t = c.take_back.new.self in
     let s = c.self.inside in
-    let was : IsClear m t = c.apply_as.ensures.clear clear in
+    let was : IsClear m t = c.apply_as.ensures.asks.clear clear in
     let k = known m s.desk s.tried.items s.asked.items t.state (ap (λ (u : TrialOn g.row.S.Denot). u.state) c.self.view_is) c.self.invariant in
     let right = k.right (subst (IsClear m) (sym c.self.view_is) was) in
     let settled : t.state.settled ≡ d = ap (λ (s : TrialState). s.settled) c.in_ok-take_back.ensures.ok in
@@ -30,3 +31,6 @@ returns-clause-answered g c clear =
     let last : c.last-number.result ≡ last_live d.history = c.last-number.ensures right ∙ ap (λ (x : DeskState). last_live x.history) here in
     subst (λ n. Answers d (undo_by c.args.author c.args.format n) c.apply_as.result c.apply_as.new.self.state.settled) last
     (subst (λ (x : DeskState). Answers x (undo_by c.args.author c.args.format c.last-number.result) c.apply_as.result c.apply_as.new.self.state.settled) settled (c.apply_as.ensures.answered clear))
+
+pub returns-clause-asks : goal.returns-clause-asks
+returns-clause-asks g c = asks_on g.met.S.BlockSource.follows_on c.args.self.now c.take_back.new.self c.apply_as.new.self c.take_back.ensures.asks c.apply_as.ensures.asks
