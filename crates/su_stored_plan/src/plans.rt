@@ -6,8 +6,7 @@ ghost use Rattle.su_draft.specs.Walk.{found};
 ghost use Rattle.su_op.specs.Batch.{action_by, effect, first_refusal};
 ghost use Rattle.su_part_tree.specs.Loading.{IsLoadRefusal};
 ghost use Rattle.su_plan.specs.Plan.{plan, plan_all};
-ghost use Rattle.su_stored_desk.specs.Asked.{IsClear};
-ghost use Rattle.su_stored_desk.specs.Right.{MayBecome};
+ghost use Rattle.su_stored_desk.specs.Asked.{Asks, IsClear};
 
 use std::alloc::Global;
 use su_block::BlockSource;
@@ -41,8 +40,7 @@ pub fn plan<S: BlockSource>(
         → IfErr result (λ e. IsLoadRefusal e
         ⊎ (plan d.roster (tree_of d) user command.now ≡ Err e)) }
     ensures err { OnErr result (desk.new.state.settled ≡ desk.old.state.settled) }
-    ensures clear { IsClear S.may_give desk.new → IsClear S.may_give desk.old }
-    ensures source { MayBecome S.may_give S.follows desk.old.source desk.new.source }
+    ensures asks { Asks S.may_give S.follows desk.old desk.new }
 {
     desk.take_back()?;
     let operations = draft_ready(alloc, desk, user, command)?;
@@ -65,8 +63,7 @@ fn draft_ready<S: BlockSource>(
         → IfErr result (λ e. IsLoadRefusal e
         ⊎ (draft d.settled.roster (tree_with_ready d) user command.now ≡ Err e)) }
     ensures state { desk.new.state ≡ desk.old.state }
-    ensures clear { IsClear S.may_give desk.new → IsClear S.may_give desk.old }
-    ensures source { MayBecome S.may_give S.follows desk.old.source desk.new.source }
+    ensures asks { Asks S.may_give S.follows desk.old desk.new }
 {
     if !desk.roster().has_user(user) {
         return Err(Refusal::NoUser(user));
@@ -94,8 +91,7 @@ pub fn plan_all<S: BlockSource>(
         → IfErr result (λ e. IsLoadRefusal e
         ⊎ (plan_all d.roster (tree_of d) user commands.now ≡ Err e)) }
     ensures err { OnErr result (desk.new.state.settled ≡ desk.old.state.settled) }
-    ensures clear { IsClear S.may_give desk.new → IsClear S.may_give desk.old }
-    ensures source { MayBecome S.may_give S.follows desk.old.source desk.new.source }
+    ensures asks { Asks S.may_give S.follows desk.old desk.new }
 {
     desk.take_back()?;
     let planned = plan_on(alloc, desk, user, commands)?;
@@ -118,8 +114,7 @@ fn plan_on<S: BlockSource>(
         → IfErr result (λ e. IsLoadRefusal e
         ⊎ (plan_all d.settled.roster (tree_with_ready d) user commands.now ≡ Err e)) }
     ensures settled { desk.new.state.settled ≡ desk.old.state.settled }
-    ensures clear { IsClear S.may_give desk.new → IsClear S.may_give desk.old }
-    ensures source { MayBecome S.may_give S.follows desk.old.source desk.new.source }
+    ensures asks { Asks S.may_give S.follows desk.old desk.new }
 {
     let mut planned = Vec::new(alloc);
     for command in commands {
@@ -149,8 +144,7 @@ fn plan_next<S: BlockSource>(
         → IfErr result (λ e. IsLoadRefusal e
         ⊎ (plan d.settled.roster (tree_with_ready d) user command.now ≡ Err e)) }
     ensures settled { desk.new.state.settled ≡ desk.old.state.settled }
-    ensures clear { IsClear S.may_give desk.new → IsClear S.may_give desk.old }
-    ensures source { MayBecome S.may_give S.follows desk.old.source desk.new.source }
+    ensures asks { Asks S.may_give S.follows desk.old desk.new }
 {
     let planned = draft_ready(alloc, desk, user, command)?;
     desk.rehearse_on(user, planned.as_slice())?;
@@ -171,8 +165,7 @@ pub fn find<S: BlockSource>(
     ensures refused { let d = desk.old.state.settled in IsClear S.may_give desk.new
         → IfErr result (λ e. IsLoadRefusal e ⊎ (found (tree_of d) path.now ≡ Err e)) }
     ensures err { OnErr result (desk.new.state.settled ≡ desk.old.state.settled) }
-    ensures clear { IsClear S.may_give desk.new → IsClear S.may_give desk.old }
-    ensures source { MayBecome S.may_give S.follows desk.old.source desk.new.source }
+    ensures asks { Asks S.may_give S.follows desk.old desk.new }
 {
     desk.take_back()?;
     desk.note_asked();

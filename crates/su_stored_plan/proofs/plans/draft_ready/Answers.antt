@@ -1,38 +1,31 @@
-use Rattle.std.proofs.Common.{◌≡◌, ◌∙◌, inl, inr, ⊎_elim, Result, Ok, Err, sym, ap, subst, refl}
-use Rattle.std.specs.Prelude.{IfErr}
+use Rattle.std.proofs.Common.{◌∙◌, inl, inr, ⊎_elim, sym, ap, refl}
 use Rattle.su_bytes.specs.Membership.{has_user}
-use Rattle.su_bytes.specs.declared.refusals.Refusal.{Refusal}
 use Rattle.su_desk.specs.Trial.{tree_with_ready}
 use Rattle.su_draft.specs.Command.{draft}
-use Rattle.su_stored_desk.specs.Right.{MayBecome}
+use Rattle.su_stored_desk.proofs.Public.{asks_on}
 use Rattle.su_stored_plan.proofs.PlanLemmas.{err_weaker}
 use Rattle.su_stored_plan.proofs.plans.draft_ready.Goals as goal
 
 pub returns-clause-drafted : goal.returns-clause-drafted
 returns-clause-drafted g c clear =
     let asked = c.draft_of_member.ensures.works_out c.args.desk.now.state.settled.roster (ap (λ ro. has_user ro c.args.user) (sym c.roster.ensures) ∙ sym c.if-not-has_user.ensures) in
-    asked.answer (tree_with_ready c.args.desk.now.state) (c.note_asked.ensures.shows (asked.comes.clear clear))
+    asked.answer (tree_with_ready c.args.desk.now.state) (c.note_asked.ensures.shows (asked.comes.asks.clear clear))
 
 pub returns-clause-refused : goal.returns-clause-refused
 returns-clause-refused g c clear =
     let asked = c.draft_of_member.ensures.works_out c.args.desk.now.state.settled.roster (ap (λ ro. has_user ro c.args.user) (sym c.roster.ensures) ∙ sym c.if-not-has_user.ensures) in
     err_weaker c.draft_of_member.result (λ e. ⊎_elim (λ fails. inl fails.0) (⊎_elim (λ none. inl (inr (inr (inr (inl none))))) (λ is. inr is)))
-    (asked.refused (tree_with_ready c.args.desk.now.state) (c.note_asked.ensures.shows (asked.comes.clear clear)))
+    (asked.refused (tree_with_ready c.args.desk.now.state) (c.note_asked.ensures.shows (asked.comes.asks.clear clear)))
 
 pub returns-clause-state : goal.returns-clause-state
 returns-clause-state g c =
     let asked = c.draft_of_member.ensures.works_out c.args.desk.now.state.settled.roster (ap (λ ro. has_user ro c.args.user) (sym c.roster.ensures) ∙ sym c.if-not-has_user.ensures) in
     asked.comes.state ∙ ap (λ t. t.state) c.note_asked.ensures.same
 
-pub returns-clause-clear : goal.returns-clause-clear
-returns-clause-clear g c clear =
+pub returns-clause-asks : goal.returns-clause-asks
+returns-clause-asks g c =
     let asked = c.draft_of_member.ensures.works_out c.args.desk.now.state.settled.roster (ap (λ ro. has_user ro c.args.user) (sym c.roster.ensures) ∙ sym c.if-not-has_user.ensures) in
-    c.note_asked.ensures.clear (asked.comes.clear clear)
-
-pub returns-clause-source : goal.returns-clause-source
-returns-clause-source g c =
-    let asked = c.draft_of_member.ensures.works_out c.args.desk.now.state.settled.roster (ap (λ ro. has_user ro c.args.user) (sym c.roster.ensures) ∙ sym c.if-not-has_user.ensures) in
-    subst (λ s. MayBecome g.S.BlockSource.may_give g.S.BlockSource.follows s c.draft_of_member.new.reader.source) (ap (λ t. t.source) c.note_asked.ensures.same) asked.comes.source
+    asks_on g.met.S.BlockSource.follows_on c.args.desk.now c.note_asked.new.self c.draft_of_member.new.reader c.note_asked.ensures.asks asked.comes.asks
 
 pub returns-then-not-has_user-clause-refused : goal.returns-then-not-has_user-clause-refused
 unfolding draft

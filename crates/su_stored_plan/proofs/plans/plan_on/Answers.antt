@@ -5,7 +5,7 @@ use Rattle.su_bytes.specs.declared.formats.TheConstants.{NEWEST_FORMAT}
 use Rattle.su_desk.specs.Desk.{DeskState}
 use Rattle.su_desk.specs.Trial.{tree_with_ready}
 use Rattle.su_plan.specs.Plan.{and_behind, plan, plan_all}
-use Rattle.su_stored_desk.proofs.Clearness.{becomes_itself, becomes_on}
+use Rattle.su_stored_desk.proofs.Public.{asks_nothing, asks_on}
 use Rattle.su_stored_plan.proofs.PlanLemmas.{none_before, first_planned}
 use Rattle.su_stored_plan.proofs.plans.plan_on.Goals as goal
 
@@ -14,9 +14,8 @@ loop-command-init g c =
     let r = plan_all c.args.desk.now.state.settled.roster (tree_with_ready c.args.desk.now.state) c.args.user c.args.commands.now in
     record {
       settled = refl;
-      clear = λ clear. clear;
       planned = λ clear. none_before r ∙ ap (λ ops. and_behind ops r) (sym c.new-planned.ensures.items);
-      source = becomes_itself g.met.S.BlockSource.follows_itself c.args.desk.now.source;
+      asks = asks_nothing g.met.S.BlockSource.follows_itself c.args.desk.now c.args.desk.now refl refl refl;
     }
 
 pub loop-command-preserved : goal.loop-command-preserved
@@ -34,14 +33,19 @@ loop-command-preserved g c =
     = drop-cons all l.command-index it c.loop-command-test.true ∙ ap (λ o. o ∷ drop (suc l.command-index) all) (sym c.command-item.is) ∙ ap (λ j. it ∷ drop j all) (sym (add-one l.command-index)) in
     record {
       settled = r.settled ∙ l.invariant.settled;
-      clear = λ clear. l.invariant.clear (r.clear clear);
       planned = λ clear.
           let is : plan ro T a it ≡ Ok ops = ap (λ (d : DeskState). plan d.roster T a it) (sym l.invariant.settled) ∙ r.planned clear in
           let done : tree_with_ready c.plan_next.new.desk.state ≡ effect ro T (action_by a NEWEST_FORMAT ops) = r.effect clear ∙ ap (λ (d : DeskState). effect d.roster T (action_by a NEWEST_FORMAT ops)) l.invariant.settled in
-          l.invariant.planned (r.clear clear)
+          l.invariant.planned (r.asks.clear clear)
           ∙ ap (λ cs. and_behind l.planned.items (plan_all ro T a cs)) left
           ∙ first_planned ro T a it rest l.planned.items ops is
           ∙ ap (λ U. and_behind (l.planned.items ++ ops) (plan_all ro U a rest)) (sym done)
           ∙ ap (λ os. and_behind os (plan_all ro (tree_with_ready c.plan_next.new.desk.state) a rest)) (sym c.in_ok-append.ensures.items);
-      source = becomes_on g.met.S.BlockSource.follows_on _ _ _ l.invariant.source r.source;
+      asks = asks_on g.met.S.BlockSource.follows_on c.args.desk.now l.desk c.plan_next.new.desk l.invariant.asks c.plan_next.ensures.asks;
     }
+
+pub returns-in_err-next-clause-asks : goal.returns-in_err-next-clause-asks
+returns-in_err-next-clause-asks g c = asks_on g.met.S.BlockSource.follows_on c.args.desk.now c.loop-command.desk c.plan_next.new.desk c.loop-command.invariant.asks c.plan_next.ensures.asks
+
+pub returns-in_err-append-clause-asks : goal.returns-in_err-append-clause-asks
+returns-in_err-append-clause-asks g c = asks_on g.met.S.BlockSource.follows_on c.args.desk.now c.loop-command.desk c.plan_next.new.desk c.loop-command.invariant.asks c.plan_next.ensures.asks
