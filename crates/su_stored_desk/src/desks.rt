@@ -73,6 +73,35 @@ impl<S: BlockSource + Drop> Desk<S> {
             alloc,
         })
     }
+
+    /// Puts another store in the place of its own. Nothing else changes.
+    pub(crate) fn with_source<T: BlockSource + Drop>(self, source: T) -> Desk<T>
+        requires { T.is_checked ≡ true }
+        ensures right { IsRight self → IsRight result }
+        ensures roster { result.roster ≡ self.roster }
+        ensures entries { result.entries ≡ self.entries }
+        ensures counters { result.counters ≡ self.counters }
+        ensures source { result.stored.source ≡ source }
+    {
+        let Desk {
+            roster,
+            entries,
+            kept,
+            counters,
+            used,
+            stored,
+            alloc,
+        } = self;
+        Desk {
+            roster,
+            entries,
+            kept,
+            counters,
+            used,
+            stored: stored.with_source(source),
+            alloc,
+        }
+    }
 }
 
 impl<S: BlockSource> Desk<S> {

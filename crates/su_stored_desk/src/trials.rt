@@ -71,6 +71,8 @@ impl<S: BlockSource> Model for TrialDesk<S> {
 }
 
 impl<S: BlockSource + Drop> TrialDesk<S> {
+    ghost use Rattle.su_stored_desk.specs.Asked.{GivesOnly};
+
     /// Makes a desk with an empty history over that store, of which nothing is left there yet. Fails
     /// only with `NoMemory`.
     pub fn new(alloc: Global, roster: Roster, source: S) -> Result<TrialDesk<S>, Refusal>
@@ -87,6 +89,20 @@ impl<S: BlockSource + Drop> TrialDesk<S> {
             tried: Vec::new(alloc),
             asked: Log::new(),
         })
+    }
+
+    /// Puts a store in the place of the desk's own, which never gave anything. Nothing else changes.
+    pub fn with_source<T: BlockSource + Drop>(self, source: T) -> TrialDesk<T>
+        requires checked { T.is_checked ≡ true }
+        requires quiet { GivesOnly S.may_give (λ i. ⊥) self }
+        ensures { result ≡ record { state = self.state; source = source; asked = [] } }
+    {
+        let TrialDesk { desk, tried, .. } = self;
+        TrialDesk {
+            desk: desk.with_source(source),
+            tried,
+            asked: Log::new(),
+        }
     }
 }
 
