@@ -1,11 +1,11 @@
 -- What stands in the way of an operation, and what undos of that leave.
-use Rattle.std.proofs.Common.{◌≡◌, ℕ, zero, suc, ◌+◌, ◌-◌, ◌<◌, ◌≤◌, Bool, true, false, cond, List, [], ◌∷◌, ◌++◌, length, take, drop, set, nat_eq, ◌&&◌, Option, Some, None, option_map, map, OnOk, Result, Ok, Err, IfErr, refl, sym, ap, ◌∙◌, subst, arith, slice_get, get_or, inl, inr}
+use Rattle.std.proofs.Common.{◌≡◌, ℕ, zero, suc, ◌+◌, ◌-◌, ◌<◌, ◌≤◌, Bool, true, false, not, cond, List, [], ◌∷◌, ◌++◌, length, take, drop, set, nat_eq, ◌&&◌, Option, Some, None, option_map, map, OnOk, Result, Ok, Err, IfErr, refl, sym, ap, ◌∙◌, subst, arith, slice_get, get_or, inl, inr}
 use Rattle.std.specs.Prelude.{All, Contains, ◌⊎◌, IsErrAnd}
 use Rattle.std.specs.List.{filter}
 use Rattle.std.specs.Option.{option_or}
 use Rattle.std.proofs.lemmas.List.{append_assoc, append-nil, set_split, set-get_or, length-take, length-drop, length-append, length-map, map-append}
 use Rattle.std.proofs.lemmas.Option.{slice_get_cases, slice_get-get_or, slice_get-map}
-use Rattle.std.proofs.lemmas.List.Elements.{All-append, All-contains, All-contains_itself, All-drop, All-same, All-take, All-weaker}
+use Rattle.std.proofs.lemmas.List.Elements.{All-append, All-contains, All-contains_itself, All-drop, All-nil, All-push, All-same, All-take, All-weaker}
 use Rattle.su_bytes.specs.Membership.{Membership, has_user}
 use Rattle.su_table.specs.Tree.{Tree}
 use Rattle.su_bytes.specs.Format.{is_as_new}
@@ -13,17 +13,19 @@ use Rattle.su_bytes.specs.declared.formats.Format.{Format}
 use Rattle.su_bytes.specs.declared.formats.Format.TheVariants.{V1, V2, V3, V4}
 use Rattle.su_bytes.specs.declared.formats.TheConstants.{NEWEST_FORMAT}
 use Rattle.su_bytes.specs.declared.refusals.Refusal.{Refusal}
-use Rattle.su_bytes.specs.declared.refusals.Refusal.TheVariants.{Blocked, NoMemory, NoOperation, NoUser, OldFormat, NotOperation, AlreadyUndone}
+use Rattle.su_bytes.specs.declared.refusals.Refusal.TheVariants.{Blocked, NoOperation, NoUser, OldFormat, NotOperation, AlreadyUndone}
 use Rattle.su_op.specs.Action.{change_format}
 use Rattle.su_op.specs.declared.operations.Change.{Change}
 use Rattle.su_op.specs.declared.operations.Change.TheVariants.{Do, Undo, Rekey}
 use Rattle.su_desk.specs.declared.entries.Entry.{Entry}
-use Rattle.su_desk.specs.History.{NumberedAction, entry_at, format_after, live, undo_by, undoer, undoer_from, undoes}
+use Rattle.su_desk.specs.History.{NumberedAction, entry_at, format_after, is_undone, live, operation_by_change, operation_of, operations_from, undo_by, undoer, undoer_from, undoes}
 use Rattle.su_desk.specs.Blocker.{blocker, IsLastReader, ReadsCellOf}
-use Rattle.su_desk.specs.Desk.{Answers, DeskState, with_entry}
+use Rattle.su_desk.specs.Desk.{DeskState, with_entry}
 use Rattle.su_desk.specs.Headline.{Headline}
 use Rattle.su_desk.specs.Answer.{author_refusal, blocked_refusal, format_refusal, change_refusal, entry_refusal, live_refusal, undone_refusal, undo_refusal, refusal_of, answer, reply, GoodAfter}
-use Rattle.su_reasons.specs.Reasons.{IsInTheWay, IsLive, author_in, undo_of, undos_of, IsInTheWay.of_itself, IsInTheWay.of_another}
+use Rattle.su_part_tree.specs.Loading.{IsLoadRefusal}
+use Rattle.su_stored_desk.specs.Asked.{Answers}
+use Rattle.su_reasons.specs.Reasons.{AreReasons, IsInTheWay, IsLive, author_in, undo_of, undos_of, IsInTheWay.of_itself, IsInTheWay.of_another}
 use Rattle.su_reasons.proofs.LiveEntries.{live_has, entry_front, reads_front, slice_front}
 
 module _ (ro : Membership) (h : List Entry) (n : ℕ) where
@@ -271,13 +273,22 @@ answered : (ro : Membership) (h : List Entry) (e : Entry) → refusal_of ro h e 
 unfolding answer
 answered ro h e accepted = ap (reply (length h + 1)) accepted
 
-pub answers_accepted : (d : DeskState) (e : Entry) (r : Result ℕ Refusal) (d' : DeskState) → Answers d e r d' → refusal_of d.roster d.history e ≡ None → OnOk r (d' ≡ with_entry d e) × IfErr r (λ x. x ≡ NoMemory)
+pub answers_accepted : (d : DeskState) (e : Entry) (r : Result ℕ Refusal) (d' : DeskState) → Answers d e r d' → refusal_of d.roster d.history e ≡ None → OnOk r (d' ≡ with_entry d e) × IfErr r IsLoadRefusal
 answers_accepted d e (Ok n) d' answers accepted = (answers.1, tt)
 answers_accepted d e (Err x) d' answers accepted = (tt, either answers.0)
   where
-    either : (x ≡ NoMemory) ⊎ (answer d.roster d.history e ≡ Err x) → x ≡ NoMemory
-    either (inl none) = none
+    either : IsLoadRefusal x ⊎ (answer d.roster d.history e ≡ Err x) → IsLoadRefusal x
+    either (inl load) = load
     either (inr refused) = absurd (let bad : Ok (length d.history + 1) ≡ Err x = sym (answered d.roster d.history e accepted) ∙ refused in cc)
+
+-- and to the undo of a live operation that nothing blocks, by its author
+pub undo_answered : (d d' : DeskState) (T : Tree) → Headline d.roster d.history T → (authors others : List ℕ) (n : ℕ) → IsLive d.history n → (a : ℕ) (r : Result ℕ Refusal)
+    → map (λ (e : Entry). e.author) d.history ≡ authors ++ others → n ≤ length authors → a ≡ get_or authors (n - 1) a → blocker d.roster d.history n ≡ None → Answers d (undo_by a NEWEST_FORMAT n) r d'
+    → OnOk r (d' ≡ with_entry d (undo_of d.history n)) × IfErr r IsLoadRefusal
+undo_answered d d' T head authors others n l a r known among is free answers =
+    answers_accepted d (undo_of d.history n) r d'
+    (subst (λ b. Answers d (undo_by b NEWEST_FORMAT n) r d') (sym (author_there d.history authors others n l a known among is)) answers)
+    (undo_accepted d.roster d.history T head n l free)
 
 -- ---- what an undo leaves live
 
@@ -375,3 +386,83 @@ pub more_still : (n : ℕ) (d d' : DeskState) (m : ℕ) → IsInTheWay d.roster 
 more_still n d d' m way is still =
     ap (λ (x : DeskState). live_refusal x.history n) is
     ∙ stays_live d.history (author_in (entry_at d.history m)) NEWEST_FORMAT m n (way_later d.roster d.history n m way).later still
+
+-- ---- reasons that were found and undone, one after another
+
+-- no history has more live operations than entries
+one_at_most : (k : ℕ) (e : Entry) (c : Change) → length (operation_by_change k e c) ≤ 1
+one_at_most k e (Do op) = omega arith
+one_at_most k e (Undo n) = omega arith
+one_at_most k e (Rekey key) = omega arith
+
+operations_most : (k : ℕ) (es : List Entry) → length (operations_from k es) ≤ length es
+operations_most k [] = omega arith
+operations_most k (e ∷ es) =
+    let rest = operations_most (k + 1) es in
+    let both = length-append (operation_of k e) (operations_from (k + 1) es) in
+    let own = one_at_most k e e.change in
+    omega (arith, rest, both, own)
+
+live_most : (h : List Entry) → length (live h) ≤ length h
+live_most h =
+    let all = operations_most 1 h in
+    let left = filter_most (λ (t : NumberedAction). not (is_undone h t.number)) (operations_from 1 h) in
+    omega (arith, all, left)
+
+-- from the desk d these were undone, reasons of n each, which led to e
+pub record IsUndoneSoFar (d : DeskState) (n : ℕ) (ms : List ℕ) (e : DeskState) : Type 0 where
+  pub in_the_way : All (IsInTheWay d.roster d.history n) ms
+  pub good : GoodAfter d.roster d.history (undos_of d.history ms)
+  pub has : HasUndone d.roster d.history n ms e
+  pub still : live_refusal e.history n ≡ None
+  pub count : length (live e.history) + length ms ≤ length d.history
+
+pub none_yet : (d : DeskState) (n : ℕ) (ms : List ℕ) → ms ≡ [] → live_refusal d.history n ≡ None → IsUndoneSoFar d n ms d
+none_yet d n ms none still = record {
+  in_the_way = All-same (IsInTheWay d.roster d.history n) ms [] none (All-nil (IsInTheWay d.roster d.history n));
+  good = subst (λ xs. GoodAfter d.roster d.history (undos_of d.history xs)) (sym none) tt;
+  has = record {
+    roster = refl;
+    history = sym (append-nil d.history) ∙ ap (λ xs. d.history ++ undos_of d.history xs) (sym none);
+    live = All-contains_itself (live d.history);
+  };
+  still = still;
+  count =
+      let most = live_most d.history in
+      let long = ap (λ (xs : List ℕ). length xs) none in
+      omega (arith, most, long);
+}
+
+pub one_more : (d : DeskState) (n : ℕ) (ms ms' : List ℕ) (e e' : DeskState) (m : ℕ) → IsUndoneSoFar d n ms e → ms' ≡ ms ++ m ∷ [] → IsInTheWay e.roster e.history n m → e' ≡ with_entry e (undo_of e.history m)
+    → refusal_of e.roster e.history (undo_of e.history m) ≡ None → length (live e'.history) < length (live e.history) → All (Contains (live e.history)) (live e'.history) → IsUndoneSoFar d n ms' e'
+one_more d n ms ms' e e' m far pushed way is accepted fewer none_new = record {
+  in_the_way = All-same (IsInTheWay d.roster d.history n) ms' (ms ++ m ∷ []) pushed
+      (All-push (IsInTheWay d.roster d.history n) ms m far.in_the_way (reason_front d.roster d.history n ms e m far.has way));
+  good = subst (λ xs. GoodAfter d.roster d.history (undos_of d.history xs)) (sym pushed) (more_good d.roster d.history n ms e m far.has way far.good accepted);
+  has = subst (λ xs. HasUndone d.roster d.history n xs e') (sym pushed) (more_undone d.roster d.history n ms e e' m far.has way is none_new);
+  still = more_still n e e' m way is far.still;
+  count =
+      let was = far.count in
+      let long = ap (λ (xs : List ℕ). length xs) pushed ∙ length-append ms (m ∷ []) in
+      omega (arith, was, long, fewer);
+}
+
+-- there are no more of them than entries
+pub never_more : (d : DeskState) (n : ℕ) (ms : List ℕ) (e : DeskState) (m : ℕ) → IsUndoneSoFar d n ms e → IsInTheWay e.roster e.history n m → length d.history ≤ length ms → ⊥
+never_more d n ms e m far way all =
+    let some = (way_later e.roster e.history n m way).is_live.1 in
+    let count = far.count in
+    omega (arith, some, count, all)
+
+-- where nothing blocks n at last, these were its reasons
+pub are_reasons : (d : DeskState) (n : ℕ) (ms : List ℕ) (e : DeskState) → IsUndoneSoFar d n ms e → blocker e.roster e.history n ≡ None → AreReasons d.roster d.history n ms
+are_reasons d n ms e far free = record {
+  in_the_way = far.in_the_way;
+  undone = far.good;
+  free = subst (λ g. blocker d.roster g n ≡ None) far.has.history (subst (λ r. blocker r e.history n ≡ None) far.has.roster free);
+}
+
+pub all_undone : (d : DeskState) (n : ℕ) (ms : List ℕ) (e : DeskState) → IsUndoneSoFar d n ms e → e ≡ record d { history = d.history ++ undos_of d.history ms }
+all_undone d n ms e far =
+    ap (λ (ro : Membership). record { roster = ro; history = e.history }) far.has.roster
+    ∙ ap (λ (h : List Entry). record { roster = d.roster; history = h }) far.has.history

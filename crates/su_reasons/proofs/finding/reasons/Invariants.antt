@@ -1,20 +1,14 @@
-use Rattle.std.proofs.Common.{◌≡◌, ◌++◌, [], length, None}
-use Rattle.std.specs.Prelude.{All, Contains}
-use Rattle.su_desk.specs.Answer.{GoodAfter, live_refusal}
-use Rattle.su_desk.specs.History.{live}
-use Rattle.su_reasons.specs.Reasons.{IsInTheWay, undos_of}
+use Rattle.std.proofs.Common.{◌≡◌, ◌-◌, [], length, vec_len}
+use Rattle.su_stored_desk.specs.Asked.{Asks, IsClear}
+use Rattle.su_reasons.proofs.Ways.{IsUndoneSoFar}
 use Rattle.su_reasons.proofs.finding.reasons.Given as goal
 
 abbrev pub invariant-loop-undone : goal.invariant-loop-undone
-invariant-loop-undone l = record {
-  in_the_way : All (IsInTheWay l.fn.desk.settled.roster l.fn.desk.settled.history l.number) l.undone.items;
-  good : GoodAfter l.fn.desk.settled.roster l.fn.desk.settled.history (undos_of l.fn.desk.settled.history l.undone.items);
-  roster : l.desk.settled.roster ≡ l.fn.desk.settled.roster;
-  history : l.desk.settled.history ≡ l.fn.desk.settled.history ++ undos_of l.fn.desk.settled.history l.undone.items;
-  live : All (Contains (live l.fn.desk.settled.history)) (live l.desk.settled.history);
-  still : live_refusal l.desk.settled.history l.number ≡ None;
-  none_ready : l.desk.ready ≡ [];
+invariant-loop-undone g l = record {
+  undone : IsClear g.S.BlockSource.may_give l.desk → IsUndoneSoFar l.fn.desk.state.settled l.number l.undone.items l.desk.state.settled;
+  none_ready : l.desk.state.ready ≡ [];
+  asks : Asks g.S.BlockSource.may_give g.S.BlockSource.follows l.fn.desk l.desk;
 }
 
 abbrev pub decreases-loop-undone : goal.decreases-loop-undone
-decreases-loop-undone l = length (live l.desk.settled.history)
+decreases-loop-undone g l = length l.authors - vec_len l.undone
