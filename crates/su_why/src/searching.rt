@@ -4,14 +4,17 @@ ghost use Rattle.su_bytes.specs.declared.refusals.Refusal.TheVariants.{MissingBl
 ghost use Rattle.su_desk.specs.Answer.{Good, live_refusal};
 ghost use Rattle.su_desk.specs.Trial.{nothing_ready};
 ghost use Rattle.su_legal.specs.Legal.{history};
+ghost use Rattle.su_part_tree.specs.Loading.{IsLoadRefusal};
 ghost use Rattle.su_reasons.specs.Reasons.{AreReasons};
+ghost use Rattle.su_why.specs.Quiet.{IsQuiet};
 
 use crate::entries::entries_of;
 use std::alloc::{AllocError, Global};
-use su_block::BlockSource;
+use su_block::{BlockSource, MemoryBlocks};
 use su_bytes::{FileId, Refusal, Roster, User};
-use su_desk::{Entry, TrialDesk};
+use su_desk::Entry;
 use su_reasons::reasons;
+use su_stored_desk::TrialDesk;
 use su_view::View;
 
 /// Finds the operations of a view's list that have to be undone before that one can be, in an order
@@ -38,7 +41,25 @@ pub fn reasons_in<S: BlockSource + Drop>(
     let entries = entries_of(alloc, view)?;
     let authors = authors_of(alloc, entries.as_slice())?;
     let mut desk = desk_after(alloc, roster, entries)?;
-    reasons(alloc, &mut desk, authors.as_slice(), number)
+    match reasons(alloc, &mut desk, authors.as_slice(), number) {
+        Ok(numbers) => Ok(numbers),
+        Err(refusal) => Err(without_loads(refusal)),
+    }
+}
+
+/// Tells a refusal of a desk all of which is loaded: a load that is refused as want of memory. (It
+/// can't come, as nothing was left on the desk's store; but no clause of the desk says so.)
+fn without_loads(refusal: Refusal) -> Refusal
+    ensures load { IsLoadRefusal refusal → result ≡ NoMemory }
+    ensures told { (result ≡ NoMemory) ⊎ (result ≡ refusal) }
+{
+    match refusal {
+        Refusal::MissingBlock
+        | Refusal::WrongBlock
+        | Refusal::SourceFailed
+        | Refusal::Malformed(_) => Refusal::NoMemory,
+        refusal => refusal,
+    }
 }
 
 /// Returns the authors of entries.
@@ -52,23 +73,31 @@ fn authors_of(alloc: Global, entries: &[Entry]) -> Result<Vec<User>, AllocError>
     Ok(authors)
 }
 
-/// Makes the desk of a good history. Fails only with `NoMemory`.
-fn desk_after(alloc: Global, roster: Roster, entries: Vec<Entry>) -> Result<TrialDesk, Refusal>
+/// Makes the desk of a good history, all of it loaded, over a store that has nothing. Fails only with
+/// `NoMemory`.
+fn desk_after(
+    alloc: Global,
+    roster: Roster,
+    entries: Vec<Entry>,
+) -> Result<TrialDesk<MemoryBlocks>, Refusal>
     requires { Good roster entries.items }
-    ensures value { IfOk result (λ desk.
-        desk ≡ nothing_ready (record { roster = roster; history = entries.items })) }
+    ensures state { IfOk result (λ desk.
+        desk.state ≡ nothing_ready (record { roster = roster; history = entries.items })) }
+    ensures quiet { IfOk result IsQuiet }
     ensures refused { IfErr result (λ e. e ≡ NoMemory) }
 {
     // names the type for the prover (docs/ARCHITECTURE.md, "Forms the kit wants")
     let _file: Option<FileId> = None;
-    let mut desk = TrialDesk::new(alloc, roster)?;
+    let mut desk = TrialDesk::new(alloc, roster, MemoryBlocks::new(alloc))?;
     for entry in entries {
         let Entry {
             author,
             format,
             change,
         } = entry;
-        desk.apply_as(format, author, change)?;
+        if let Err(refusal) = desk.apply_as(format, author, change) {
+            return Err(without_loads(refusal));
+        }
     }
     Ok(desk)
 }
