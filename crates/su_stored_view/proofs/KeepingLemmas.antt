@@ -1,0 +1,240 @@
+-- What is kept, with one commit more, and with another desk.
+use Rattle.std.proofs.Common.{◌≡◌, ℕ, zero, suc, ◌+◌, ◌-◌, ◌<◌, ◌≤◌, Bool, true, false, List, [], ◌∷◌, ◌++◌, map, length, drop, length-append, slice_get, nat_eq, cond, Option, Some, None, refl, sym, ap, ◌∙◌, subst, arith}
+use Rattle.std.specs.Global.{Vec}
+use Rattle.std.specs.Option.{option_map}
+use Rattle.std.proofs.lemmas.Option.{slice_get-map}
+use Rattle.std.proofs.lemmas.Bool.{eqb-true}
+use Rattle.std.proofs.lemmas.List.{drop-append-le, map-append, length-map}
+use Rattle.std.proofs.Math.Seq.{drop-append-add, drop-append_seam}
+use Rattle.su_bytes.specs.Membership.{Membership, IsRoster, has_user}
+use Rattle.su_format.specs.Part.{u32_bytes}
+use Rattle.su_change.specs.Item.{item_bytes}
+use Rattle.su_op.specs.declared.operations.Change.{Change}
+use Rattle.su_desk.specs.declared.entries.Entry.{Entry}
+use Rattle.su_desk.specs.Desk.{DeskState, with_entry}
+use Rattle.su_version.specs.Version.{version_bytes}
+use Rattle.su_version.specs.Commit.{Commit, commit_bytes}
+use Rattle.su_version.specs.Chain.{MayBeNext}
+use Rattle.su_chain.specs.ChainEnd.{IsEndOf}
+use Rattle.su_legal.specs.Legal.{Committed, commits_of, entry_made, entry_of, history, Legal}
+use Rattle.su_legal.proofs.Public.{legal_further}
+use Rattle.su_stored_desk.specs.Asked.{NoneMixed}
+use Rattle.su_view.specs.Entry.{AreBytesAt, committed_at}
+use Rattle.su_view.specs.Keeping.{paired, contents, items_of, IsLastIndex}
+use Rattle.su_view.proofs.KeepingLemmas.{paired_more}
+use Rattle.su_stored_view.specs.Keeping.{commit_in, held_in, AreBytes, holding_of, IsKeeping, JoinsNext}
+use Rattle.su_stored_view.specs.declared.records.Record.{Record}
+use Rattle.su_stored_view.specs.declared.records.Keeping.{Keeping}
+
+-- ---- the commit that is kept so
+
+behind : (xs ys zs : List ℕ) → length ys ≡ 4 → drop (length xs + 4) (xs ++ (ys ++ zs)) ≡ zs
+behind xs ys zs four = drop-append-add xs (ys ++ zs) 4 ∙ ap (λ n. drop n (ys ++ zs)) (sym four) ∙ drop-append_seam ys zs
+
+pub commit_read : (r : Record) (c : Commit) → r.version ≡ c.version → r.bytes.items ≡ commit_bytes c → commit_in r ≡ c
+unfolding commit_bytes
+commit_read r c version bytes = λ i. record { version = version i; signature = signature i }
+  where
+    signature : drop (length (version_bytes r.version) + 4) r.bytes.items ≡ c.signature
+    signature =
+        (λ i. drop (length (version_bytes (version i)) + 4) (bytes i))
+        ∙ behind (version_bytes c.version) (u32_bytes (length c.signature)) c.signature refl
+
+bytes_more : (rs : List Record) (cs : List Committed) (r : Record) (c : Committed) → AreBytes rs cs → r.bytes.items ≡ commit_bytes c.commit → AreBytes (rs ++ r ∷ []) (cs ++ c ∷ [])
+bytes_more [] [] r c are is = (is, tt)
+bytes_more (x ∷ rs) (d ∷ cs) r c (here, are) is = (here, bytes_more rs cs r c are is)
+bytes_more [] (d ∷ cs) r c are is = absurd are
+bytes_more (x ∷ rs) [] r c are is = absurd are
+
+-- ---- with one commit more
+
+module _ {S : Type 0} (M : S → List ℕ → Type 0) (k : Keeping S) (c : Commit) (change : Change) (r : Record) (kept : IsKeeping M k) (item : Vec ℕ)
+    (next : JoinsNext M k c change r.bytes.items item.items) (version : r.version ≡ c.version) where
+  abbrev ro : Membership
+  ro = k.desk.state.settled.roster
+
+  abbrev rs : List Record
+  rs = k.records.items
+
+  abbrev h : List Entry
+  h = k.desk.state.settled.history
+
+  abbrev x : Committed
+  x = record { commit = c; change = change }
+
+  abbrev e : Entry
+  e = entry_made c change
+
+  abbrev held : List Committed
+  held = held_in rs h
+
+  long : length (map commit_in rs) ≡ length h
+  long =
+      ap length (sym kept.commits) ∙ length-map held (λ c. c.commit) ∙ sym (length-map held entry_of) ∙ ap length kept.entries
+
+  pub held_more : held_in (rs ++ r ∷ []) (h ++ e ∷ []) ≡ held ++ x ∷ []
+  held_more =
+      ap (λ cs. paired cs (h ++ e ∷ [])) (map-append commit_in rs (r ∷ []) ∙ ap (λ d. map commit_in rs ++ d ∷ []) (commit_read r c version next.bytes_are))
+      ∙ paired_more (map commit_in rs) h c e long
+
+  pub commits_more : map commit_in (rs ++ r ∷ []) ≡ map commit_in rs ++ c ∷ []
+  commits_more = map-append commit_in rs (r ∷ []) ∙ ap (λ d. map commit_in rs ++ d ∷ []) (commit_read r c version next.bytes_are)
+
+  -- the commit may be the next of those that are kept
+  pub next_kept : MayBeNext ro (map commit_in rs) c
+  next_kept = subst (λ cs. MayBeNext ro cs c) kept.commits next.next
+
+  within : k.itemless ≤ length held
+  within =
+      let long = length-map held (λ c. c.commit) in
+      let same = ap length kept.commits ∙ length-map rs commit_in in
+      omega (arith, long, same, kept.counted)
+
+  more_items : items_of (drop k.itemless (held ++ x ∷ [])) ≡ contents (k.items.items ++ item ∷ [])
+  more_items =
+      ap items_of (drop-append-le k.itemless held (x ∷ []) within)
+      ∙ map-append (λ c. item_bytes c.change) (drop k.itemless held) (x ∷ [])
+      ∙ (λ i. sym kept.items i ++ sym next.item_is i ∷ [])
+      ∙ sym (map-append (λ (v : Vec ℕ). v.items) k.items.items (item ∷ []))
+
+  pub keeping_more : (l : Keeping S) → l.user ≡ k.user → l.records.items ≡ rs ++ r ∷ [] → l.itemless ≡ k.itemless → l.items.items ≡ k.items.items ++ item ∷ [] → l.desk.state.settled ≡ with_entry k.desk.state.settled e
+      → l.desk.asked ≡ k.desk.asked → IsEndOf ro (map commit_in rs ++ c ∷ []) l.end → IsLastIndex k.user (held ++ x ∷ []) l.own → IsKeeping M l
+  keeping_more l user records itemless items settled asked end own = record {
+    roster = subst (λ (d : DeskState). IsRoster d.roster) (sym settled) kept.roster;
+    commits = ap commits_of all ∙ map-append (λ c. c.commit) held (x ∷ []) ∙ ap (λ cs. cs ++ c ∷ []) kept.commits ∙ sym commits_more ∙ ap (map commit_in) (sym records);
+    entries = ap history all ∙ map-append entry_of held (x ∷ []) ∙ ap (λ es. es ++ e ∷ []) kept.entries ∙ sym (ap (λ (d : DeskState). d.history) settled);
+    bytes = subst (AreBytes l.records.items) (sym all) (subst (λ zs. AreBytes zs (held ++ x ∷ [])) (sym records)
+        (bytes_more rs held r x kept.bytes next.bytes_are));
+    counted = ap length records ∙ length-append rs (r ∷ []) ∙ ap (λ n. n + 1) kept.counted
+        ∙ (let long = length-append k.items.items (item ∷ []) in omega (arith, long))
+        ∙ (λ i. sym itemless i + length (sym items i));
+    items = ap contents items ∙ sym more_items ∙ (λ i. items_of (drop (sym itemless i) (sym all i)));
+    end_is = subst (λ (d : DeskState). IsEndOf d.roster (map commit_in l.records.items) l.end) (sym settled)
+        (subst (λ cs. IsEndOf ro cs l.end) (sym (ap (map commit_in) records ∙ commits_more)) end);
+    member = subst (λ (d : DeskState). has_user d.roster l.user ≡ true) (sym settled) (ap (has_user ro) user ∙ kept.member);
+    last_own = subst (λ u. IsLastIndex u (holding_of l).held l.own) (sym user) (subst (λ cs. IsLastIndex k.user cs l.own) (sym all) own);
+    legal = λ clear. subst (λ (d : DeskState). Legal d.roster (holding_of l).held) (sym settled)
+        (subst (Legal ro) (sym all) (legal_further ro held x (kept.legal (before clear)) (next.joins (before clear))));
+  }
+    where
+      all : (holding_of l).held ≡ held ++ x ∷ []
+      all = (λ i. held_in (records i) (settled i).history) ∙ held_more
+
+      before : NoneMixed M l.desk.state.settled.roster l.desk.asked → NoneMixed M ro k.desk.asked
+      before clear = subst (NoneMixed M ro) asked (subst (λ (d : DeskState). NoneMixed M d.roster l.desk.asked) settled clear)
+
+-- ---- with more room, or another entry that stands ready, or once its store was asked
+
+pub keeping_still : {S : Type 0} (M : S → List ℕ → Type 0) (k l : Keeping S) → IsKeeping M k
+    → l.user ≡ k.user → l.own ≡ k.own → l.records.items ≡ k.records.items → l.itemless ≡ k.itemless → l.items.items ≡ k.items.items → l.desk.state.settled ≡ k.desk.state.settled
+    → ((ro : Membership) (cs : List Commit) → IsEndOf ro cs k.end → IsEndOf ro cs l.end)
+    → (NoneMixed M l.desk.state.settled.roster l.desk.asked → NoneMixed M k.desk.state.settled.roster k.desk.asked) → IsKeeping M l
+keeping_still M k l kept user own records itemless items settled end before = record {
+  roster = subst (λ (d : DeskState). IsRoster d.roster) (sym settled) kept.roster;
+  commits = ap commits_of held ∙ kept.commits ∙ sym (ap (map commit_in) records);
+  entries = ap history held ∙ kept.entries ∙ sym (ap (λ (d : DeskState). d.history) settled);
+  bytes = subst (AreBytes l.records.items) (sym held) (subst (λ rs. AreBytes rs (holding_of k).held) (sym records) kept.bytes);
+  counted = ap length records ∙ kept.counted ∙ (λ i. sym itemless i + length (sym items i));
+  items = ap contents items ∙ kept.items ∙ (λ i. items_of (drop (sym itemless i) (sym held i)));
+  end_is = subst (λ (d : DeskState). IsEndOf d.roster (map commit_in l.records.items) l.end) (sym settled)
+      (subst (λ rs. IsEndOf k.desk.state.settled.roster (map commit_in rs) l.end) (sym records) (end k.desk.state.settled.roster (map commit_in k.records.items) kept.end_is));
+  member = subst (λ (d : DeskState). has_user d.roster l.user ≡ true) (sym settled) (ap (has_user k.desk.state.settled.roster) user ∙ kept.member);
+  last_own = subst (IsLastIndex l.user (holding_of l).held) (sym own)
+      (subst (λ u. IsLastIndex u (holding_of l).held k.own) (sym user) (subst (λ cs. IsLastIndex k.user cs k.own) (sym held) kept.last_own));
+  legal = λ clear. subst (λ (d : DeskState). Legal d.roster (holding_of l).held) (sym settled)
+      (subst (Legal k.desk.state.settled.roster) (sym held) (kept.legal (before clear)));
+}
+  where
+    held : (holding_of l).held ≡ (holding_of k).held
+    held = λ i. held_in (records i) (settled i).history
+
+-- only the desk is another, and what is settled on it is the same
+pub keeping_desk : {S : Type 0} (M : S → List ℕ → Type 0) (k l : Keeping S) → IsKeeping M k
+    → l ≡ record k { desk = l.desk } → l.desk.state.settled ≡ k.desk.state.settled
+    → (NoneMixed M l.desk.state.settled.roster l.desk.asked → NoneMixed M k.desk.state.settled.roster k.desk.asked) → IsKeeping M l
+keeping_desk {S = S} M k l kept same settled before =
+    keeping_still M k l kept (ap (λ (z : Keeping S). z.user) same) (ap (λ (z : Keeping S). z.own) same) (ap (λ (z : Keeping S). z.records.items) same)
+    (ap (λ (z : Keeping S). z.itemless) same) (ap (λ (z : Keeping S). z.items.items) same) settled
+    (λ ro cs is. subst (IsEndOf ro cs) (sym (ap (λ (z : Keeping S). z.end) same)) is) before
+
+-- over another source, once it is known that the list is legal
+pub keeping_moved : {S T : Type 0} (M : S → List ℕ → Type 0) (N : T → List ℕ → Type 0) (k : Keeping S) (l : Keeping T) → IsKeeping M k → l.user ≡ k.user → l.own ≡ k.own → l.records ≡ k.records
+    → l.itemless ≡ k.itemless → l.items ≡ k.items → l.end ≡ k.end → l.desk.state.settled ≡ k.desk.state.settled → Legal k.desk.state.settled.roster (holding_of k).held → IsKeeping N l
+keeping_moved M N k l kept user own records itemless items end settled legal = record {
+  roster = subst (λ (d : DeskState). IsRoster d.roster) (sym settled) kept.roster;
+  commits = ap commits_of held ∙ kept.commits ∙ (λ i. map commit_in (sym records i).items);
+  entries = ap history held ∙ kept.entries ∙ sym (ap (λ (d : DeskState). d.history) settled);
+  bytes = subst (AreBytes l.records.items) (sym held) (subst (λ (rs : Vec Record). AreBytes rs.items (holding_of k).held) (sym records) kept.bytes);
+  counted = (λ i. length (records i).items) ∙ kept.counted ∙ (λ i. sym itemless i + length (sym items i).items);
+  items = (λ i. contents (items i).items) ∙ kept.items ∙ (λ i. items_of (drop (sym itemless i) (sym held i)));
+  end_is = subst (λ (d : DeskState). IsEndOf d.roster (map commit_in l.records.items) l.end) (sym settled)
+      (subst (λ (rs : Vec Record). IsEndOf k.desk.state.settled.roster (map commit_in rs.items) l.end) (sym records)
+      (subst (IsEndOf k.desk.state.settled.roster (map commit_in k.records.items)) (sym end) kept.end_is));
+  member = subst (λ (d : DeskState). has_user d.roster l.user ≡ true) (sym settled) (ap (has_user k.desk.state.settled.roster) user ∙ kept.member);
+  last_own = subst (IsLastIndex l.user (holding_of l).held) (sym own)
+      (subst (λ u. IsLastIndex u (holding_of l).held k.own) (sym user) (subst (λ cs. IsLastIndex k.user cs k.own) (sym held) kept.last_own));
+  legal = λ _. subst (λ (d : DeskState). Legal d.roster (holding_of l).held) (sym settled) (subst (Legal k.desk.state.settled.roster) (sym held) legal);
+}
+  where
+    held : (holding_of l).held ≡ (holding_of k).held
+    held = λ i. held_in (records i).items (settled i).history
+
+-- ---- by number
+
+bytes_both : (rs : List Record) (cs : List Committed) → AreBytes rs cs → (i : ℕ) (r : Record) → slice_get rs i ≡ Some r
+    → (c : Committed) × (slice_get cs i ≡ Some c) × (r.bytes.items ≡ commit_bytes c.commit)
+bytes_both [] [] are i r here = absurd (cc)
+bytes_both [] (x ∷ cs) are i r here = absurd are
+bytes_both (y ∷ rs) [] are i r here = absurd are
+bytes_both (y ∷ rs) (x ∷ cs) (is, are) zero r here = let same : y ≡ r = cc in (x, refl, subst (λ (z : Record). z.bytes.items ≡ commit_bytes x.commit) same is)
+bytes_both (y ∷ rs) (x ∷ cs) (is, are) (suc i) r here = bytes_both rs cs are i r here
+
+above_zero : (n : ℕ) → 0 < n → nat_eq n 0 ≡ false
+above_zero n less = go (nat_eq n 0) refl
+  where
+    go : (b : Bool) → nat_eq n 0 ≡ b → nat_eq n 0 ≡ false
+    go false is = is
+    go true is = let none = eqb-true n 0 is in absurd (omega (arith, none, less))
+
+some_same : (x y : List ℕ) → ◌≡◌ {A = Option (List ℕ)} (Some x) (Some y) → x ≡ y
+some_same x y e = cc
+
+slice_drop : {A : Type 0} (n : ℕ) (xs : List A) (i : ℕ) → slice_get (drop n xs) i ≡ slice_get xs (n + i)
+slice_drop zero xs i = ap (slice_get xs) (omega arith)
+slice_drop (suc n) [] i = refl
+slice_drop (suc n) (x ∷ xs) i = slice_drop n xs i ∙ (let e : suc (n + i) ≡ suc n + i = omega arith in ap (slice_get (x ∷ xs)) e)
+
+module _ {S : Type 0} (M : S → List ℕ → Type 0) (k : Keeping S) (kept : IsKeeping M k) where
+  pub length-held : length (holding_of k).held ≡ length k.records.items
+  length-held = sym (length-map (holding_of k).held (λ c. c.commit)) ∙ ap length kept.commits ∙ length-map k.records.items commit_in
+
+  -- the commit that is kept at an index
+  pub commit_kept : (n : ℕ) (r : Record) → 0 < n → slice_get k.records.items (n - 1) ≡ Some r
+      → option_map (λ c. commit_bytes c.commit) (committed_at (holding_of k).held n) ≡ Some r.bytes.items
+  commit_kept n r some here =
+      let (c, there, are) = bytes_both k.records.items (holding_of k).held kept.bytes (n - 1) r here in
+      ap (option_map (λ (d : Committed). commit_bytes d.commit)) (ap (λ b. cond b None (slice_get (holding_of k).held (n - 1))) (above_zero n some) ∙ there) ∙ ap Some (sym are)
+
+  -- the item that is kept at an index behind those that aren't at hand
+  item_kept : (i : ℕ) (v : Vec ℕ) → k.itemless ≤ i → slice_get k.items.items (i - k.itemless) ≡ Some v
+      → (c : Committed) → slice_get (holding_of k).held i ≡ Some c → v.items ≡ item_bytes c.change
+  item_kept i v behind here c there =
+      let j = i - k.itemless in
+      let held = (holding_of k).held in
+      let same : slice_get (drop k.itemless held) j ≡ Some c =
+      slice_drop k.itemless held j ∙ ap (slice_get held) (omega (arith, behind)) ∙ there in
+      some_same v.items (item_bytes c.change)
+      (ap (option_map (λ (w : Vec ℕ). w.items)) (sym here) ∙ sym (slice_get-map (λ (w : Vec ℕ). w.items) k.items.items j)
+      ∙ ap (λ zs. slice_get zs j) kept.items ∙ slice_get-map (λ (d : Committed). item_bytes d.change) (drop k.itemless held) j ∙ ap (option_map (λ (d : Committed). item_bytes d.change)) same)
+
+  pub entry_found : (n : ℕ) (r : Record) (v : Vec ℕ) (commit item : List ℕ) → 0 < n → slice_get k.records.items (n - 1) ≡ Some r
+      → k.itemless ≤ n - 1 → slice_get k.items.items (n - 1 - k.itemless) ≡ Some v
+      → commit ≡ r.bytes.items → item ≡ v.items → AreBytesAt (holding_of k).held n commit item
+  entry_found n r v commit item some here behind at_hand commit_is item_is =
+      let (c, there, are) = bytes_both k.records.items (holding_of k).held kept.bytes (n - 1) r here in
+      record {
+        committed = c;
+        found = ap (λ b. cond b None (slice_get (holding_of k).held (n - 1))) (above_zero n some) ∙ there;
+        commit_is = commit_is ∙ are;
+        item_is = item_is ∙ item_kept (n - 1) v behind at_hand c there;
+      }

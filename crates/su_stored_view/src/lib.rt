@@ -1,0 +1,13 @@
+//! A client's view whose tree may lie on a source that isn't trusted: the list of commits that it
+//! holds, which makes a chain, and is legal where nothing was mixed up.
+#![tactic(auto)]
+
+mod handles;
+mod keys;
+mod last_commits;
+mod lists;
+mod records;
+mod views;
+
+pub use keys::OwnKey;
+pub use views::View;
