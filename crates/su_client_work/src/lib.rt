@@ -4,7 +4,6 @@
 
 mod changes;
 mod early;
-mod last_items;
 mod logs;
 mod members;
 mod own_keys;
@@ -13,7 +12,6 @@ mod ready;
 mod shown;
 mod surroundings;
 
-pub use last_items::LastItem;
 pub use logs::{LogFault, log_behind, saved_logs_are_logs, take_log};
 pub use members::Member;
 pub use surroundings::Surroundings;

@@ -1,12 +1,14 @@
 // A client that works with a server, and how it begins what it does.
-ghost use Rattle.std.specs.Prelude.{◌≡◌, ◌<◌, ◌+◌, ℕ, [], Some, length, nat_le, slice_get, IfOk, IfErr, IfNone, OnOk, OnErr};
+ghost use Rattle.std.specs.Prelude.{◌≡◌, ◌↔◌, ◌<◌, ◌+◌, ℕ, [], Some, length, nat_le, slice_get, IfOk, IfErr, IfNone, OnOk, OnErr};
 ghost use Rattle.su_client_work.specs.declared.ready.TheConstants.{MOST_READY};
 ghost use Rattle.su_bytes.specs.declared.refusals.Refusal.TheVariants.{LinkFailed};
 ghost use Rattle.su_message.specs.declared.requests.Request.TheVariants.{Grant, Give, Fetch};
 ghost use Rattle.su_message.specs.declared.replies.Reply.TheVariants.{Granted, Given};
 ghost use Rattle.su_client.specs.Link.{IsFresh, Exchanged, Follows, GoesAhead, IsRefusal, kept_or_nothing};
 ghost use Rattle.su_log.specs.Record.{IsExamined};
-ghost use Rattle.su_client_work.specs.Member.{OnlyTakes, ReplacesKey, Stays};
+ghost use Rattle.su_part_tree.specs.Loading.{IsLoadRefusal};
+ghost use Rattle.su_view.specs.Viewed.{IsClear as IsClearView};
+ghost use Rattle.su_client_work.specs.Member.{IsClear, OnlyAsks, OnlyTakes, ReplacesKey, Stays};
 ghost use Rattle.su_client_work.specs.Turn.{AreShown, Comes, GivesUp, HasMore, IsCaughtUp, IsGranted, IsGrantedOver, IsRefusedTurn, IsShown, IsUngranted, IsUngrantedOver, Looks, PassesShown, SaysNothing, TakesTurn, commit_or_nothing};
 
 use crate::early::Early;
@@ -18,7 +20,7 @@ use std::alloc::Global;
 use std::io::{Read, Write};
 use std::marker::Model;
 use std::time::Duration;
-use su_block::Checked;
+use su_block::{BlockSource, Checked};
 use su_bytes::{Digest, Refusal, User};
 use su_client::{Client, Outbox};
 use su_lms::{KeyStore, Signer};
@@ -33,11 +35,12 @@ const PAUSE: u64 = 1;
 /// The seat that `Busy` names where no worker of the server is free: no seat has this number.
 const NO_SEAT: u16 = u16::MAX;
 
-/// A client at work: its view, with a server that need not be trusted as the source of items, and
-/// the key of its user. A server's lies can refuse it, and nothing more: its list stays legal, and
-/// it signs nothing that it may not.
+/// A client at work: its view, with a server that need not be trusted as the source of items and of
+/// its tree, and the key of its user. A server's lies can refuse it, and nothing more: its list stays
+/// legal, and it signs nothing that it may not. (That the list is legal, and what the tree tells, is
+/// claimed where no byte strings were mixed up by their SHA-256.)
 #[derive(Drop)]
-pub struct Member<R: Read, W: Write, K: KeyStore> {
+pub struct Member<R: Read + Drop, W: Write + Drop, K: KeyStore> {
     pub(crate) view: View<Checked<Outbox<R, W>>>,
     pub(crate) key: OwnKey<K>,
     tries: u32,
@@ -45,8 +48,8 @@ pub struct Member<R: Read, W: Write, K: KeyStore> {
     pub(crate) alloc: Global,
 }
 
-impl<R: Read, W: Write, K: KeyStore> Model for Member<R, W, K> {
-    ghost use Rattle.std.specs.Prelude.{length};
+impl<R: Read + Drop, W: Write + Drop, K: KeyStore> Model for Member<R, W, K> {
+    ghost use Rattle.std.specs.Prelude.{length, map};
     ghost use Rattle.su_client_work.specs.Member.{MemberState};
 
     ghost Value = { MemberState };
@@ -54,6 +57,11 @@ impl<R: Read, W: Write, K: KeyStore> Model for Member<R, W, K> {
     ghost view = { λ s. record {
       holding = s.view.holding;
       link = s.view.source.source.client.link;
+      asked = map (λ a. record {
+        at_hand = a.0.source.at_hand;
+        link = a.0.source.client.link;
+        history = a.1.items;
+      }) s.view.asked;
       signed = s.key.signed;
       next = record { keys = length s.key.former; leaf = s.key.next };
     } };
@@ -70,6 +78,8 @@ impl<R: Read + Drop, W: Write + Drop, K: KeyStore + Drop> Member<R, W, K> {
     ) -> Member<R, W, K>
         ensures holding { result.holding ≡ view.holding }
         ensures link { result.link ≡ view.source.source.client.link }
+        ensures clear { IsClear result
+            ↔ IsClearView ⟦<Checked<Outbox<R, W>> as BlockSource>⟧.may_give view }
         ensures signed { result.signed ≡ [] }
         ensures next { result.next ≡ record { keys = 0; leaf = signer.next } }
     {
@@ -112,6 +122,17 @@ impl<R: Read + Drop, W: Write + Drop, K: KeyStore + Drop> Member<R, W, K> {
         } }
     {
         self.view.leave_items();
+    }
+
+    /// Leaves all of the tree to the server, but for the digests of its i-tables, as `View::shed`
+    /// does: what is asked of the tree then is loaded. Refused with `SourceFailed` where the server
+    /// could not be asked, as a load is refused, and with `NoMemory`; then what wasn't put stays.
+    pub fn shed(&mut self) -> Result<(), Refusal>
+        ensures refused { IsClear self.new → IfErr result IsLoadRefusal }
+        ensures asks { OnlyAsks self.old self.new }
+        ensures follows { Follows self.old.link self.new.link }
+    {
+        self.view.shed()
     }
 
     /// Lends where the leaf that signs next is stored.
@@ -653,6 +674,16 @@ impl<R: Read + Drop, W: Write + Drop, K: KeyStore + Drop> Member<R, W, K> {
         take_commit(&mut self.view, found)
     }
 
+    /// Takes a commit by its bytes.
+    fn take_bytes(&mut self, bytes: &[u8]) -> Result<(), ViewRefusal>
+        ensures takes { OnlyTakes self.old self.new }
+        ensures follows { Follows self.old.link self.new.link }
+        ensures more { OnOk result
+            (HasMore self.old.holding self.old.link self.new.holding self.new.link) }
+    {
+        self.view.accept_bytes(bytes)
+    }
+
     /// Fetches the commit of that number, and takes it. What was sent ahead is passed by.
     fn take_fetched(&mut self, number: u64) -> Result<(), ViewRefusal>
         ensures takes { OnlyTakes self.old self.new }
@@ -661,7 +692,7 @@ impl<R: Read + Drop, W: Write + Drop, K: KeyStore + Drop> Member<R, W, K> {
             (HasMore self.old.holding self.old.link self.new.holding self.new.link) }
     {
         match self.fetch_alone(number) {
-            Ok(Some(bytes)) => self.view.accept_bytes(bytes.as_slice()),
+            Ok(Some(bytes)) => self.take_bytes(bytes.as_slice()),
             Ok(None) => Ok(()),
             Err(refusal) => Err(ViewRefusal::Plain(refusal)),
         }

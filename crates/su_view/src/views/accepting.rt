@@ -2,7 +2,7 @@
 ghost use Rattle.std.specs.Prelude.{◌≡◌, ◌≢◌, ◌⊎◌, ◌↔◌, ◌∷◌, ℕ, List, [], true, length, None, IsTrue, IfOk, IfErr, IfSome, OnOk, OnErr};
 ghost use Rattle.sha2.specs.Sha256.{sha256};
 ghost use Rattle.su_bytes.specs.Order.{RefusedBy};
-ghost use Rattle.su_bytes.specs.declared.refusals.Refusal.TheVariants.{NoMemory, WrongBlock};
+ghost use Rattle.su_bytes.specs.declared.refusals.Refusal.TheVariants.{MissingBlock, NoMemory};
 ghost use Rattle.su_change.specs.Item.{item_bytes};
 ghost use Rattle.su_legal.specs.Legal.{Committed, commits_of};
 ghost use Rattle.su_op.specs.declared.operations.Change.{Change as Change_};
@@ -139,7 +139,7 @@ impl<S: BlockSource> View<S> {
     }
 
     /// Takes a commit by its bytes, on whose signature there is a verdict, with the item of its
-    /// change, for which the source isn't asked. `WrongBlock` where the commit names another item;
+    /// change, for which the source isn't asked. `MissingBlock` where the commit names another item;
     /// else the refusals are those of `accept`. A refusal leaves the list as it was.
     pub fn accept_with(
         &mut self,
@@ -154,7 +154,7 @@ impl<S: BlockSource> View<S> {
             × Grows S.may_give self.old (record { commit = commit; change = change } ∷ [])
             self.new) }
         ensures refused { IsClear S.may_give self.new → IfErr result (λ e. FailsToLoad e
-            ⊎ ((e ≡ Plain WrongBlock) × (sha256 item.items ≢ commit.version.change))
+            ⊎ ((e ≡ Plain MissingBlock) × (sha256 item.items ≢ commit.version.change))
             ⊎ IsRefusedCommit (λ i. i ≡ item.items) self.old.holding commit e) }
         ensures err { OnErr result (self.new.holding ≡ self.old.holding) }
         ensures asks { AsksOn S.may_give S.follows self.old self.new }
@@ -164,7 +164,7 @@ impl<S: BlockSource> View<S> {
         }
         let digest = Digest::new(<Sha256 as sha2::Digest>::digest(item.as_slice()));
         if digest != commit.version().change() {
-            return Err(ViewRefusal::Plain(Refusal::WrongBlock));
+            return Err(ViewRefusal::Plain(Refusal::MissingBlock));
         }
         self.copy_and_join(commit, bytes, item)
     }
