@@ -5,12 +5,13 @@ use Rattle.su_op.specs.declared.operations.Change.{Change}
 use Rattle.su_version.specs.Commit.{Commit}
 use Rattle.su_legal.specs.Legal.{Committed, LegalAfter}
 use Rattle.su_client.specs.Link.{Follows}
+use Rattle.su_client.specs.Following.{follows_on}
 use Rattle.su_view.specs.Holding.{HoldingState, Took, with_more}
 use Rattle.su_view.specs.Viewed.{Grows, IsClear as IsClearView, ViewOn}
 use Rattle.su_view.specs.declared.refusals.ViewRefusal.{ViewRefusal}
-use Rattle.su_client_work.specs.Member.{MemberState, IsClear}
-use Rattle.su_client_work.specs.Publishing.{EndsTurn, HandsIn, IsPublished, SignsNone, TakesOwn}
-use Rattle.su_client_work.proofs.Working.{one_on}
+use Rattle.su_client_work.specs.Member.{MemberState, IsClear, OnlyAsks}
+use Rattle.su_client_work.specs.Publishing.{EndsTurn, HandsIn, IsPublished, SignsNone, SignsOne, TakesOwn}
+use Rattle.su_client_work.proofs.Working.{one_after, one_on}
 
 -- the client's view took it
 pub own_taken : {S : Type 0} (may_give : S → List ℕ → Type 0) (s t : MemberState) (w x : ViewOn S) (c : Commit) (change : Change) (n : ℕ) → w.holding ≡ s.holding → t.holding ≡ x.holding
@@ -59,3 +60,21 @@ was_stored (Err e) change c s m t handed none back follows = inr (record {
   stored = handed.stored;
   follows = follows;
 })
+
+-- before that it was asked about the tree
+pub published_after : (change : Change) (s m t : MemberState) (n : ℕ) → OnlyAsks s m → Follows s.link m.link → IsPublished change m t n → IsPublished change s t n
+published_after change s m t n asks follows p = record {
+  commit = p.commit;
+  signs = subst (λ (v : HoldingState). SignsOne v change p.commit s t) asks.holding (one_after m.holding change p.commit s m t asks.clear asks.signed asks.next p.signs);
+  handed_in = p.handed_in;
+  stored = record {
+    asked = p.stored.asked;
+    follows = follows_on s.link m.link p.stored.asked follows p.stored.follows;
+    between = p.stored.between;
+    put = p.stored.put;
+    number = p.stored.number;
+    stored = p.stored.stored;
+  };
+  follows = p.follows;
+  takes = own_held s m t p.commit n asks.holding p.takes;
+}

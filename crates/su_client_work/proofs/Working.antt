@@ -191,18 +191,19 @@ most_on v change s m t (inl p) none back = inl (record { signed = none.signed �
 most_on v change s m t (inr (c, one)) none back = inr (c, one_on v change c s m t one none back)
 
 -- before it nothing was signed
+pub one_after : (v : HoldingState) (change : Change) (c : Commit) (s m t : MemberState) → (IsClear m → IsClear s) → m.signed ≡ s.signed → m.next ≡ s.next → SignsOne v change c m t
+    → SignsOne v change c s t
+one_after v change c s m t back signed next one = record {
+  of_change = subst (λ (q : NextLeaf). IsOfChange v change q.leaf c) next one.of_change;
+  made = λ clear. subst (λ (q : NextLeaf). IsMade v change q.leaf c) next (one.made clear);
+  clear = λ clear. back (one.clear clear);
+  signed = one.signed ∙ ap (λ (l : List Commit). l ++ c ∷ []) signed;
+  next = one.next ∙ ap leaf_behind next;
+}
+
 pub most_after : (v : HoldingState) (change : Change) (s m t : MemberState) → OnlyTakes s m → SignsAtMost v change m t → SignsAtMost v change s t
 most_after v change s m t only (inl p) = inl (record { signed = p.signed ∙ only.signed; next = p.next ∙ only.next })
-most_after v change s m t only (inr (c, one)) = inr (
-  c,
-  record {
-    of_change = subst (λ (q : NextLeaf). IsOfChange v change q.leaf c) only.next one.of_change;
-    made = λ clear. subst (λ (q : NextLeaf). IsMade v change q.leaf c) only.next (one.made clear);
-    clear = λ clear. only.clear (one.clear clear);
-    signed = one.signed ∙ ap (λ (l : List Commit). l ++ c ∷ []) only.signed;
-    next = one.next ∙ ap leaf_behind only.next;
-  },
-)
+most_after v change s m t only (inr (c, one)) = inr (c, one_after v change c s m t only.clear only.signed only.next one)
 
 same_on_err : {R E : Type 0} (r : Result R E) (v : HoldingState) → OnErr r (v ≡ v)
 same_on_err (Ok x) v = tt

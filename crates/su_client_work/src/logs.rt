@@ -16,7 +16,7 @@ use std::alloc::{AllocError, Global};
 use std::io;
 use std::io::Read;
 use std::thread::Threads;
-use su_block::BlockSource;
+use su_block::{BlockSource, is_item};
 use su_bytes::Refusal;
 use su_lms::PublicKey;
 use su_log::{Record, Stop};
@@ -36,7 +36,8 @@ pub enum LogFault {
 /// Takes the commits of a log in a view, one after the other, each with the item that follows it, for
 /// which the view's source isn't asked; returns how many. It reads ahead, and checks the signatures
 /// of what it read on all cores. `Refused` by `Malformed` with the place in the log of a length that
-/// is cut or goes past the end, or by the refusals of `View::accept_with`; those before it stay taken.
+/// is cut or goes past the end, by `TooBig` where the item has not 1 to 70,000 bytes, or by the
+/// refusals of `View::accept_with`; those before it stay taken.
 /// `Unread` where the log can't be read, or memory to read ahead is refused.
 pub fn take_log<T: Threads + Sync, I: Read + Drop, S: BlockSource + Drop>(
     rt: &T,
@@ -85,7 +86,8 @@ pub(crate) fn presumed_keys<S: BlockSource + Drop>(
 }
 
 /// Lets the view take the commit of a record, with its item. Where it is known whether it is signed,
-/// that isn't checked again. The refusals are those of `View::accept_with`.
+/// that isn't checked again. `TooBig` where the item has not 1 to 70,000 bytes; then the refusals are
+/// those of `View::accept_with`.
 fn take_record<S: BlockSource + Drop>(
     alloc: Global,
     view: &mut View<S>,
@@ -104,6 +106,9 @@ fn take_record<S: BlockSource + Drop>(
         key,
         verdict,
     } = next;
+    if !is_item(item.as_slice()) {
+        return Err(ViewRefusal::Plain(Refusal::TooBig));
+    }
     let commit = match commit {
         Ok(commit) => commit,
         Err(refusal) => return Err(ViewRefusal::Plain(refusal)),

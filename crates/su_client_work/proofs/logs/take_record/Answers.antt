@@ -5,6 +5,9 @@ use Rattle.su_view.specs.Viewed.{Grows, desk_of}
 use Rattle.su_client_work.proofs.TakenLogs.{took_record}
 use Rattle.su_client_work.proofs.logs.take_record.Goals as goal
 
+pub returns-then-not-is_item-clause-asks : goal.returns-then-not-is_item-clause-asks
+returns-then-not-is_item-clause-asks g c = asks_nothing g.met.S.BlockSource.follows_itself (desk_of c.args.view.now) (desk_of c.args.view.now) refl refl refl
+
 pub returns-in-Err-clause-asks : goal.returns-in-Err-clause-asks
 returns-in-Err-clause-asks g c = asks_nothing g.met.S.BlockSource.follows_itself (desk_of c.args.view.now) (desk_of c.args.view.now) refl refl refl
 
