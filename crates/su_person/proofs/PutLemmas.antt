@@ -1,7 +1,11 @@
 -- When a put may write, and what its rounds do.
-use Rattle.std.proofs.Common.{◌≡◌, ◌⊎◌, inl, inr, ◌++◌, ◌∷◌, [], ◌∙◌, ℕ, suc, ◌+◌, ◌<◌, Bool, true, List, length, take, get_or, Option, Result, Ok, IfOk, append_assoc, append-nil, refl, sym, ap, subst}
+use Rattle.std.proofs.Common.{◌≡◌, ◌⊎◌, inl, inr, ◌++◌, ◌∷◌, [], ◌∙◌, ℕ, suc, ◌+◌, ◌<◌, Bool, true, List, length, take, get_or, Option, Result, Ok, Err, IfOk, OnOk, append_assoc, append-nil, refl, sym, ap, subst}
 use Rattle.std.proofs.lemmas.List.{take_more}
 use Rattle.su_bytes.specs.declared.file_ids.FileId.{FileId}
+use Rattle.su_bytes.specs.declared.refusals.Refusal.TheVariants.{NoName}
+use Rattle.su_part_tree.specs.Loading.{IsLoadRefusal}
+use Rattle.su_table.specs.Query.{contents}
+use Rattle.std.specs.Global.{Vec}
 use Rattle.su_desk.specs.declared.entries.Entry.{Entry}
 use Rattle.su_draft.specs.declared.commands.Command.{Command}
 use Rattle.su_draft.specs.Walk.{found}
@@ -15,7 +19,7 @@ use Rattle.su_person.specs.declared.faults.Fault.TheVariants.{Refused, Shown, Ch
 use Rattle.su_person.specs.Carrying.{CarriesSome}
 use Rattle.su_person.specs.Fault.{TellsNoChange}
 use Rattle.su_person.specs.LastChange.{last_change}
-use Rattle.su_person.specs.Putting.{HasBytes, HasThere, IsStanding, KnowsBytes, MayWrite, PutsAll, PutsByRounds, PutsOne, PutsOver, RoundTogether, TellsUnseen, TellsWhy}
+use Rattle.su_person.specs.Putting.{HasBytes, HasThere, IsFileWith, IsStanding, KnowsBytes, MayWrite, PutsAll, PutsByRounds, PutsOne, PutsOver, RoundTogether, TellsUnseen, TellsWhy}
 use Rattle.su_person.specs.declared.putting.NewContents.{NewContents}
 use Rattle.su_person.specs.declared.putting.Standing.{Standing}
 use Rattle.su_person.specs.declared.putting.Standing.TheVariants.{Nothing, File}
@@ -155,3 +159,34 @@ puts_next all i none s m t commands next inside first then so_far puts clear =
     subst (λ (news : List NewContents). PutsAll s.holding news (commands ++ next)) (sym (take_more all i none inside))
     (puts_more s.holding (take i all) (get_or all i none) commands next (so_far (then.clear clear))
     (subst (λ (v : HoldingState). PutsOne v (get_or all i none) next) first.holding (puts clear)))
+
+-- ---- what stands there
+
+-- a path at which there is no name isn't refused as a load is
+pub no_name : (X : Type 0) → IsLoadRefusal NoName ⊎ X → X
+no_name X (inr x) = x
+no_name X (inl (inl is)) = absurd (cc)
+no_name X (inl (inr (inl is))) = absurd (cc)
+no_name X (inl (inr (inr (inl is)))) = absurd (cc)
+no_name X (inl (inr (inr (inr (inl is))))) = absurd (cc)
+no_name X (inl (inr (inr (inr (inr is))))) = absurd (cc)
+
+-- a file with its bytes stands where the path leads to it
+standing_so : (v : HoldingState) (path : List ℕ) (file : FileId) (it : Standing) → found (tree_of_list v) path ≡ Ok file → IsFileWith v file it → IsStanding v path it
+standing_so v path file Nothing there is = elim is [ ]
+standing_so v path file (File f bytes) there (same, has) = record {
+  found = there ∙ ap Ok (sym same);
+  contents = subst (λ (g : FileId). contents (tree_of_list v) g ≡ Ok bytes.items) (sym same) has;
+}
+
+pub stands_file : {E : Type 0} (r : Result Standing E) (v w : HoldingState) (path : List ℕ) (file : FileId) → w ≡ v → found (tree_of_list v) path ≡ Ok file
+    → IfOk r (IsFileWith w file) → IfOk r (IsStanding v path)
+stands_file (Err e) v w path file same there is = tt
+stands_file (Ok it) v w path file same there is = standing_so v path file it there (subst (λ (u : HoldingState). IsFileWith u file it) same is)
+
+-- a file is put
+pub puts_one : {E : Type 0} (r : Result (Vec Command) E) (v w : HoldingState) (new : NewContents) → w ≡ v → OnOk r (MayWrite new.seen new.over new.path.now w)
+    → IfOk r (λ commands. PutsOver w new.path.now new.bytes.now commands.items) → IfOk r (λ commands. PutsOne v new commands.items)
+puts_one (Err e) v w new same may puts = tt
+puts_one (Ok commands) v w new same may puts =
+    inr (subst (λ (u : HoldingState). MayWrite new.seen new.over new.path.now u) same may, subst (λ (u : HoldingState). PutsOver u new.path.now new.bytes.now commands.items) same puts)
