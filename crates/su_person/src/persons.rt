@@ -11,7 +11,7 @@ use su_lms::{KeyStore, Signer};
 use su_view::{View, ViewRefusal};
 
 /// What a person's client asks of the program around it, beside what each client does.
-pub trait Person<R: Read, W: Write, K: KeyStore>: Surroundings<R, W> {
+pub trait Person<R: Read + Drop, W: Write + Drop, K: KeyStore>: Surroundings<R, W> {
     /// How many commits, the first ones of the client's list, are kept.
     ghost kept: { Self → ℕ };
 

@@ -68,18 +68,18 @@ returns-in_err-carry-clause-rounds g c =
 pub loop-preserved : goal.loop-preserved
 loop-preserved g c = record {
   works =
-    works_then c.args.member.now c.loop.member c.carry.new.member c.loop.invariant.works
-    (works_then c.loop.member c.standing_at.new.member c.carry.new.member (works_asks c.loop.member c.standing_at.new.member c.standing_at.ensures.asks) c.carry.ensures.works);
+      works_then c.args.member.now c.loop.member c.carry.new.member c.loop.invariant.works
+      (works_then c.loop.member c.standing_at.new.member c.carry.new.member (works_asks c.loop.member c.standing_at.new.member c.standing_at.ensures.asks) c.carry.ensures.works);
   rounds =
-    round_more c.args.new.now.seen c.args.new.now.over c.args.new.now.path.now c.args.new.now.bytes.now c.args.numbers.now.items c.loop.numbers.items
-    c.carry.new.numbers.items c.as_slice.result.now c.args.member.now c.loop.member c.standing_at.new.member c.carry.new.member c.loop.invariant.rounds
-    c.standing_at.ensures.asks c.carry.ensures.works.clear
-    (λ clear. c.in_ok-commands.ensures.may (subst (λ (v : HoldingState). IsStanding v c.args.new.now.path.now c.in_ok-standing.standing) (sym c.standing_at.ensures.asks.holding)
-    (c.in_ok-standing.ensures.standing (c.carry.ensures.works.clear clear))))
-    (λ clear. subst (λ (l : List Command). PutsOver c.standing_at.new.member.holding c.args.new.now.path.now c.args.new.now.bytes.now l) (sym c.as_slice.ensures.value)
-    (c.in_ok-commands.ensures.puts (subst (λ (v : HoldingState). IsStanding v c.args.new.now.path.now c.in_ok-standing.standing) (sym c.standing_at.ensures.asks.holding)
-    (c.in_ok-standing.ensures.standing (c.carry.ensures.works.clear clear)))))
-    c.carry.ensures.some;
+      round_more c.args.new.now.seen c.args.new.now.over c.args.new.now.path.now c.args.new.now.bytes.now c.args.numbers.now.items c.loop.numbers.items
+      c.carry.new.numbers.items c.as_slice.result.now c.args.member.now c.loop.member c.standing_at.new.member c.carry.new.member c.loop.invariant.rounds
+      c.standing_at.ensures.asks c.carry.ensures.works.clear
+      (λ clear. c.in_ok-commands.ensures.may (subst (λ (v : HoldingState). IsStanding v c.args.new.now.path.now c.in_ok-standing.standing) (sym c.standing_at.ensures.asks.holding)
+      (c.in_ok-standing.ensures.standing (c.carry.ensures.works.clear clear))))
+      (λ clear. subst (λ (l : List Command). PutsOver c.standing_at.new.member.holding c.args.new.now.path.now c.args.new.now.bytes.now l) (sym c.as_slice.ensures.value)
+      (c.in_ok-commands.ensures.puts (subst (λ (v : HoldingState). IsStanding v c.args.new.now.path.now c.in_ok-standing.standing) (sym c.standing_at.ensures.asks.holding)
+      (c.in_ok-standing.ensures.standing (c.carry.ensures.works.clear clear)))))
+      c.carry.ensures.some;
 }
 
 pub returns-then-has-clause-there : goal.returns-then-has-clause-there
