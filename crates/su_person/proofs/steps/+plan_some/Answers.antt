@@ -15,8 +15,8 @@ returns-then-count-eq1-clause-planned g t c =
     (planned_in_part its v c.max.result ops (subst (λ (n : ℕ). IsPlanned (take n its) v ops) c.if-count-eq1.true (c.in_ok-operations.ensures.planned clear)))
 
 pub returns-clause-asks : goal.returns-clause-asks
-returns-clause-asks g t c = asks_then c.args.member.now c.plan_held-operations.new.self c.plan_some.new.member c.plan_held-operations.ensures.asks c.plan_some.ensures.asks
+returns-clause-asks g t c = asks_then c.args.member.now c.plan_held.new.self c.plan_some.new.member c.plan_held.ensures.asks c.plan_some.ensures.asks
 
 pub returns-clause-follows : goal.returns-clause-follows
 returns-clause-follows g t c =
-    follows_on c.args.member.now.link c.plan_held-operations.new.self.link c.plan_some.new.member.link c.plan_held-operations.ensures.follows c.plan_some.ensures.follows
+    follows_on c.args.member.now.link c.plan_held.new.self.link c.plan_some.new.member.link c.plan_held.ensures.follows c.plan_some.ensures.follows
