@@ -29,7 +29,7 @@ module _ {S : Type 0} {M : S → List ℕ → Type 0} {F : S → S → Type 0} w
   asks_within k l w is h = subst (λ (x : ViewOn S). Asks M F (desk_of x) (desk_of (view_of l))) is (record {
     source = h.source;
     clear = h.clear;
-    only = record { since = h.only.since; times = h.only.times; no_more = h.only.no_more };
+    only = h.only;
   })
 
   pub asks_seen : (k : Keeping S) (w : ViewOn S) (d : TrialOn S) → view_of k ≡ w → Asks M F k.desk d → Asks M F (desk_of w) (desk_of (view_of (record k { desk = d })))

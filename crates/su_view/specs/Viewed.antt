@@ -1,5 +1,5 @@
 -- A client's view whose tree may lie on a store, and when that was asked.
-use Rattle.std.specs.Prelude.{◌≡◌, ℕ, List}
+use Rattle.std.specs.Prelude.{◌≡◌, ◌⊎◌, ℕ, List, Contains}
 use Rattle.std.specs.Global.{Vec}
 use Rattle.su_bytes.specs.declared.refusals.Refusal.{Refusal}
 use Rattle.su_desk.specs.declared.entries.Entry.{Entry}
@@ -41,6 +41,11 @@ module _ {S : Type 0} (may_give : S → List ℕ → Type 0) where
   pub record Grows (w : ViewOn S) (more : List Committed) (x : ViewOn S) : Type 0 where
     pub becomes : x.holding ≡ with_more w.holding more
     pub may : IsClear x → May w.holding.roster w.holding.user w.holding.held (Takes more)
+
+  -- Where the source of x was asked that of w wasn't, it might give no more than that of w.
+  abbrev pub AsksOnly : ViewOn S → ViewOn S → Type 0
+  AsksOnly w x = (a : S × Vec Entry) → Contains x.asked a
+      → Contains w.asked a ⊎ ((i : List ℕ) → may_give a.0 i → may_give w.source i)
 
   -- What may have become of it by calls that ask its source: so where nothing was mixed up, nothing
   -- was before; and what it was given is of what the source might give before.

@@ -21,8 +21,7 @@ use su_version::Commit;
 use crate::refusals::ViewRefusal;
 
 impl<S: BlockSource> View<S> {
-    ghost use Rattle.su_stored_desk.specs.Asked.{AsksOnly};
-    ghost use Rattle.su_view.specs.Viewed.{desk_of, IsClear};
+    ghost use Rattle.su_view.specs.Viewed.{AsksOnly, IsClear};
 
     /// Makes a commit of a change of the view's user, signed by the next leaf of the user's key,
     /// and puts the item of the change into the source. The view's list stays as it was: once the
@@ -63,7 +62,7 @@ impl<S: BlockSource> View<S> {
         ensures follows { S.follows self.old.source self.new.source }
         ensures more { (item : List ℕ) → S.may_give self.new.source item
             → S.may_give self.old.source item ⊎ (item ≡ item_bytes change) }
-        ensures only { AsksOnly S.may_give (desk_of self.old) (desk_of self.new) }
+        ensures only { AsksOnly S.may_give self.old self.new }
         ensures fault { IfErr result (λ e. e ≡ Plain KeyFileFault
             → K.failure_count key.old.store < 2 ^ 64 - 1
             → K.failure_count key.old.store < K.failure_count key.new.store) }

@@ -20,8 +20,7 @@ use su_files::Stat;
 use su_op::Op;
 
 impl<S: BlockSource> View<S> {
-    ghost use Rattle.su_stored_desk.specs.Asked.{AsksOnly};
-    ghost use Rattle.su_view.specs.Viewed.{desk_of, AsksOn, IsClear};
+    ghost use Rattle.su_view.specs.Viewed.{AsksOn, AsksOnly, IsClear};
 
     /// Returns the numbers of the live operations, ascending. Fails as a load does, and with
     /// `NoMemory`.
@@ -158,7 +157,7 @@ impl<S: BlockSource> View<S> {
         ensures refused { IsClear S.may_give self.new → IfErr result IsLoadRefusal }
         ensures follows { S.follows self.old.source self.new.source }
         ensures clear { IsClear S.may_give self.new → IsClear S.may_give self.old }
-        ensures only { AsksOnly S.may_give (desk_of self.old) (desk_of self.new) }
+        ensures only { AsksOnly S.may_give self.old self.new }
         // The source may give items of the tree as well from now on, and no other that it might not
         // give before.
         ensures more { let T = tree_of_list self.old.holding in IsClear S.may_give self.new

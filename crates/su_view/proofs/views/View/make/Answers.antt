@@ -1,5 +1,5 @@
 use Rattle.std.proofs.Common.{rules, ◌≡◌, ◌∙◌, ◌⊎◌, ⊎_elim, inl, inr, Some, Ok, Err, IfOk, refl, sym, ap, subst}
-use Rattle.std.specs.Prelude.{IfErr}
+use Rattle.std.specs.Prelude.{IfErr, Contains}
 use Rattle.std.proofs.lemmas.Result.{err_from_is_err_and}
 use Rattle.su_bytes.specs.Order.{Passes}
 use Rattle.sha2.specs.Sha256.{sha256}
@@ -103,3 +103,12 @@ returns-clause-refused g c clear =
           ))
           w.in-Err-sign.ensures.refused)
     ]
+
+pub returns-in-Err-clause-only : goal.returns-in-Err-clause-only
+returns-in-Err-clause-only g c a was = c.draft.ensures.asks.only a (subst (λ (x : ViewOn g.row.S.Denot). Contains x.asked a) c.self.view_is was)
+
+pub returns-in-Err-next_version-clause-only : goal.returns-in-Err-next_version-clause-only
+returns-in-Err-next_version-clause-only g c a was = c.draft.ensures.asks.only a (subst (λ (x : ViewOn g.row.S.Denot). Contains x.asked a) c.self.view_is was)
+
+pub returns-clause-only : goal.returns-clause-only
+returns-clause-only g c a was = c.draft.ensures.asks.only a (subst (λ (x : ViewOn g.row.S.Denot). Contains x.asked a) c.self.view_is was)

@@ -1,4 +1,7 @@
 use Rattle.std.proofs.Common.{◌≡◌, ◌∙◌, ⊎_elim, inl, inr, refl, ap, subst}
+use Rattle.std.specs.Prelude.{List, Contains}
+use Rattle.std.specs.Global.{Vec}
+use Rattle.su_desk.specs.declared.entries.Entry.{Entry}
 use Rattle.su_desk.specs.Trial.{TrialState}
 use Rattle.su_part_forest.specs.Loading.{HashedFor}
 use Rattle.su_stored_desk.specs.Asked.{IsClear as IsDeskClear, NoneMixed}
@@ -27,9 +30,9 @@ pub returns-in_err-take_back-clause-only : goal.returns-in_err-take_back-clause-
 returns-in_err-take_back-clause-only g c = (asks_seen c.self.inside.keeping c.args.self.now c.take_back.new.self c.self.view_is c.take_back.ensures.asks).only
 
 pub returns-clause-only : goal.returns-clause-only
-returns-clause-only g c =
-    let only = (asks_seen c.self.inside.keeping c.args.self.now c.take_back.new.self c.self.view_is c.take_back.ensures.asks).only in
-    record { since = only.since; times = c.shed.ensures.asked ∙ only.times; no_more = only.no_more }
+returns-clause-only g c a was =
+    (asks_seen c.self.inside.keeping c.args.self.now c.take_back.new.self c.self.view_is c.take_back.ensures.asks).only a
+    (subst (λ (l : List (g.row.S.Denot × Vec Entry)). Contains l a) c.shed.ensures.asked was)
 
 pub returns-clause-more : goal.returns-clause-more
 returns-clause-more g c clear i gives =
