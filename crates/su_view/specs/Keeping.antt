@@ -18,7 +18,6 @@ use Rattle.su_view.specs.declared.records.Keeping.{Keeping}
 use Rattle.std.specs.Global.{Vec}
 use Rattle.su_view.specs.LastCommits.{last_by}
 
-
 -- the commit that is kept so: what its bytes have behind the version structure and the number of
 -- bytes of the signature is the signature
 abbrev pub commit_in : Record → Commit

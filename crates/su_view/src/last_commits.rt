@@ -12,12 +12,12 @@ ghost use Rattle.su_view.specs.Holding.{IsHeld};
 ghost use Rattle.su_view.specs.declared.refusals.ViewRefusal.TheVariants.{Plain};
 
 use crate::records::{Keeping, Record};
+use crate::refusals::ViewRefusal;
 use std::alloc::Global;
 use su_block::BlockSource;
 use su_bytes::{FileId, Refusal, Roster, User};
 use su_vector::{Vector, first_unordered};
 use su_version::{Commit, Verdict};
-use crate::refusals::ViewRefusal;
 
 /// Checks what a server shows as the users' last commits, by what is kept. `BadSignature` where a
 /// commit isn't held, nor signed under its author's present key; `OwnMissing` where the user has a

@@ -20,6 +20,7 @@ mod reading;
 
 use crate::last_commits::check_list;
 use crate::records::Keeping;
+use crate::refusals::ViewRefusal;
 use std::alloc::Global;
 use std::marker::Model;
 use su_block::BlockSource;
@@ -28,7 +29,6 @@ use su_chain::ChainEnd;
 use su_lms::PublicKey;
 use su_stored_desk::{KeptEntry, TrialDesk};
 use su_version::Commit;
-use crate::refusals::ViewRefusal;
 
 /// A client's view: the list of commits that the client holds, with the tree that it makes, and a
 /// source of the items of changes and of the nodes of the tree, which need not be trusted. Of the

@@ -17,13 +17,13 @@ ghost use Rattle.su_view.specs.Viewed.{FailsToLoad};
 use super::View;
 use crate::handles::first_other;
 use crate::lists::first_record;
+use crate::refusals::ViewRefusal;
 use sha2::Sha256;
 use su_block::BlockSource;
 use su_bytes::{Digest, KEY_LENGTH, Principal, Refusal};
 use su_change::decode;
 use su_desk::Prepared;
 use su_version::{Commit, Verdict, VersionStructure};
-use crate::refusals::ViewRefusal;
 
 impl<S: BlockSource> View<S> {
     ghost use Rattle.su_view.specs.Viewed.{AsksOn, Grows, IsClear};

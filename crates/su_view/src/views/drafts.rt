@@ -17,6 +17,7 @@ ghost use Rattle.su_view.specs.Viewed.{FailsToLoad};
 
 use super::View;
 use super::accepting::{loaded_or_within, within};
+use crate::refusals::ViewRefusal;
 use std::alloc::Global;
 use su_block::BlockSource;
 use su_bytes::{Digest, Format, Group, KEY_LENGTH, Principal, Refusal};
@@ -26,7 +27,6 @@ use su_lms::PublicKey;
 use su_op::Change;
 use su_vector::Vector;
 use su_version::VersionStructure;
-use crate::refusals::ViewRefusal;
 
 /// A change of the user's own that stands ready: its format, what is told of it, its item, and the
 /// user's next key, if it names one.

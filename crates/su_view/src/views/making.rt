@@ -13,12 +13,12 @@ ghost use Rattle.su_view.specs.Viewed.{FailsToLoad};
 
 use super::View;
 use crate::keys::OwnKey;
+use crate::refusals::ViewRefusal;
 use su_block::BlockSource;
 use su_bytes::Refusal;
 use su_lms::KeyStore;
 use su_op::Change;
 use su_version::Commit;
-use crate::refusals::ViewRefusal;
 
 impl<S: BlockSource> View<S> {
     ghost use Rattle.su_view.specs.Viewed.{AsksOnly, IsClear};
