@@ -62,7 +62,9 @@ class Tree:
         there = {"CALLS": self.calls_file, "TREE": self.top, "PATH": self.path, "TMPDIR": os.path.dirname(self.top), **environment}
         return subprocess.Popen(
             [by or f"{self.top}/sundr", *arguments], cwd=folder, env=there, stdin=subprocess.PIPE,
-            stdout=subprocess.PIPE, stderr=subprocess.PIPE, text=True, start_new_session=start_new_session)
+            stdout=subprocess.PIPE, stderr=subprocess.PIPE, text=True, start_new_session=start_new_session,
+            # (a test that runs in the background of a script may ignore the signal, and a shell can't take that back)
+            preexec_fn=lambda: signal.signal(signal.SIGINT, signal.SIG_DFL))
 
     def run(self, *arguments, given="", **how):
         """Returns what a run prints, what it tells, and its status."""
