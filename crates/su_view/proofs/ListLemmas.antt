@@ -12,7 +12,7 @@ use Rattle.su_view.specs.Holding.{HoldingState, with_more}
 use Rattle.su_log.specs.Part.{part_bytes, BeginWith}
 use Rattle.su_view.specs.Listing.{commits_bytes, HasTaken, IsRefusedBytes, IsRefusedFirst, RefusesNext}
 use Rattle.su_view.specs.declared.refusals.ViewRefusal.{ViewRefusal}
-use Rattle.su_view.specs.Showing.{HasTaken, RefusesNext}
+use Rattle.su_view.specs.Listing.{HasTaken, RefusesNext}
 use Rattle.su_view.specs.Viewed.{FailsToLoad, Grows, IsClear, ViewOn}
 
 -- ---- records

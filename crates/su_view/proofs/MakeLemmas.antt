@@ -39,8 +39,7 @@ use Rattle.su_legal.proofs.Public.{vector_counts, bump_counts, groups_listed, ke
 use Rattle.su_view.specs.Holding.{HoldingState}
 use Rattle.su_view.specs.Joining.{AscendFrom}
 use Rattle.su_view.specs.Keeping.{holding_of, IsKeeping}
-use Rattle.su_view.specs.Making.{drafting_order, own_entry, own_format, next_version, IsMade, IsDraft}
-use Rattle.su_view.specs.declared.holdings.drafts.Draft.{Draft}
+use Rattle.su_view.specs.Making.{drafting_order, own_entry, own_format, next_version, IsMade}
 use Rattle.su_view.specs.declared.records.Keeping.{Keeping}
 use Rattle.su_view.specs.declared.refusals.ViewRefusal.{ViewRefusal}
 use Rattle.su_view.specs.declared.refusals.ViewRefusal.TheVariants.{Plain, Change as ChangeRefused}

@@ -27,7 +27,7 @@ use su_version::{Commit, Verdict, VersionStructure};
 
 impl<S: BlockSource> View<S> {
     ghost use Rattle.su_view.specs.Viewed.{AsksOn, Grows, IsClear};
-    ghost use Rattle.su_view.specs.Showing.{HasTaken, RefusesNext};
+    ghost use Rattle.su_view.specs.Listing.{HasTaken, RefusesNext};
 
     /// Takes the commits that a server shows, each as the number of its bytes (`u32`) and these,
     /// and returns how many. Where one is refused, those before it stay taken, and their number

@@ -1,6 +1,6 @@
 use Rattle.std.proofs.Common.{◌≤◌, ◌+◌, length}
 use Rattle.su_stored_desk.specs.Asked.{Asks}
-use Rattle.su_view.specs.Showing.{HasTaken}
+use Rattle.su_view.specs.Listing.{HasTaken}
 use Rattle.su_view.specs.Viewed.{desk_of}
 use Rattle.su_view.proofs.views.View.accept.Given as goal
 
