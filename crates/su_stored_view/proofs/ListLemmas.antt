@@ -63,10 +63,10 @@ module _ {S : Type 0} (M : S → List ℕ → Type 0) where
   -- ---- what is refused
 
   pub refuses_next : (failed : S → Failures) (comes : S → S → Type 0) (v w x : ViewOn S) (bytes rest first others : List ℕ) (n : ℕ) (e : ViewRefusal)
-      → HasTaken M v bytes n w rest → ((i : List ℕ) → M w.source i → M v.source i) → comes v.source w.source → x.holding ≡ w.holding → (IsClear M x → IsClear M w)
+      → HasTaken M v bytes n w rest → ((i : List ℕ) → M w.source i → M v.source i) → comes v.source w.source → comes w.source x.source → x.holding ≡ w.holding → (IsClear M x → IsClear M w)
       → length rest ≤ length bytes → BeginWith rest first others
       → (IsClear M x → FailsToLoad e ⊎ IsRefusedBytes (M w.source) (failed w.source) (failed x.source) w.holding first e) → RefusesNext M failed comes v bytes n e x
-  refuses_next failed comes v w x bytes rest first others n e t fewer came same before within begin why = record {
+  refuses_next failed comes v w x bytes rest first others n e t fewer came goes same before within begin why = record {
     rest = rest;
     taken = taken_still v w x bytes rest n t same before;
     goes_on = λ none. let short = ap length none in omega (arith, short, shorter rest first others begin);
@@ -74,7 +74,7 @@ module _ {S : Type 0} (M : S → List ℕ → Type 0) where
   }
     where
       go : FailsToLoad e ⊎ IsRefusedBytes (M w.source) (failed w.source) (failed x.source) w.holding first e
-          → FailsToLoad e ⊎ ((place : ℕ) × (here : S) × (place + length rest ≡ length bytes) × comes v.source here
+          → FailsToLoad e ⊎ ((place : ℕ) × (here : S) × (place + length rest ≡ length bytes) × comes v.source here × comes here x.source
           × IsRefusedFirst (M v.source) (failed here) (failed x.source) x.holding place rest e)
       go (inl load) = inl load
       go (inr refused) = inr (
@@ -82,6 +82,7 @@ module _ {S : Type 0} (M : S → List ℕ → Type 0) where
         w.source,
         omega (arith, within),
         came,
+        goes,
         inr (
           first,
           others,

@@ -63,8 +63,9 @@ abbrev pub PutsThen : {S : Type 0} → (S → S → Type 0) → (S → List ℕ 
 PutsThen {S} comes puts s item t = (here : S) × comes s here × puts here item t
 
 -- No commit is made of a change, as the whole tree would have it: where the source failed when it was
--- given the item, it was what it is here.
+-- given the item, it was what it is here, between s and t.
 abbrev pub IsUnmade : {S : Type 0} → (S → Failures) → (S → S → Type 0) → List ℕ → Type 0
     → HoldingState → Change → S → S → ViewRefusal → Type 0
 IsUnmade {S} failed comes key Spent v change s t e =
-    (here : S) × comes s here × IsRefusedMaking (failed here) (failed t) key Spent v change e
+    (here : S) × comes s here × comes here t
+    × IsRefusedMaking (failed here) (failed t) key Spent v change e

@@ -30,4 +30,5 @@ module _ {S : Type 0} (may_give : S → List ℕ → Type 0) where
     pub goes_on : rest ≢ []
     pub why : IsClear may_give x → FailsToLoad e
         ⊎ ((place : ℕ) × (here : S) × (place + length rest ≡ length bytes) × comes w.source here
+        × comes here x.source
         × IsRefusedFirst (may_give w.source) (failed here) (failed x.source) x.holding place rest e)

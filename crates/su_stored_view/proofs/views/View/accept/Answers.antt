@@ -17,7 +17,7 @@ pub returns-in-Err-clause-refused : goal.returns-in-Err-clause-refused
 returns-in-Err-clause-refused g c =
     let (taken, sum, asks) = c.loop-rest.invariant in
     refuses_next g.S.BlockSource.may_give g.S.BlockSource.failed g.S.BlockSource.follows c.args.self.now c.loop-rest.self c.accept_bytes.new.self c.args.bytes.now c.loop-rest.rest.now c.in-Some.first.now c.in-Some.others.now
-    c.loop-rest.count c.in-Err.refusal taken asks.source.no_more asks.source.follows c.in-Err.ensures.err c.in-Err.ensures.asks.clear (omega (arith, sum)) c.in-Some.ensures c.in-Err.ensures.refused
+    c.loop-rest.count c.in-Err.refusal taken asks.source.no_more asks.source.follows c.in-Err.ensures.asks.source.follows c.in-Err.ensures.err c.in-Err.ensures.asks.clear (omega (arith, sum)) c.in-Some.ensures c.in-Err.ensures.refused
 
 pub loop-rest-preserved : goal.loop-rest-preserved
 loop-rest-preserved g c =

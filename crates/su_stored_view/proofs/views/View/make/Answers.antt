@@ -26,14 +26,14 @@ use Rattle.su_stored_view.proofs.views.View.make.Goals as goal
 pub returns-then-not-is_own_key-clause-refused : goal.returns-then-not-is_own_key-clause-refused
 returns-then-not-is_own_key-clause-refused g c clear =
     let other : own_key c.args.self.now.holding ≡ Some (key_of c.args.key.now.key) → ⊥ = search rules in
-    inr (c.args.self.now.source, g.met.S.BlockSource.follows_itself c.args.self.now.source, inl (inl (refl, other)))
+    inr (c.args.self.now.source, g.met.S.BlockSource.follows_itself c.args.self.now.source, g.met.S.BlockSource.follows_itself c.args.self.now.source, inl (inl (refl, other)))
 
 pub returns-in_err-draft-clause-refused : goal.returns-in_err-draft-clause-refused
 returns-in_err-draft-clause-refused g c clear =
     let p = err_from_is_err_and c.from_residual.result c.from_residual.ensures.1 in
     let own : own_key c.args.self.now.holding ≡ Some (key_of c.args.key.now.key) = search rules in
     rw (p.1, p.2) (⊎_elim (λ load. inl load)
-    (λ why. inr (c.draft.new.self.source, c.draft.ensures.asks.source.follows, inl (inr (own, why))))
+    (λ why. inr (c.draft.new.self.source, c.draft.ensures.asks.source.follows, g.met.S.BlockSource.follows_itself c.draft.new.self.source, inl (inr (own, why))))
     (c.in_err-draft.ensures.refused clear))
 
 pub returns-in_err-draft-clause-fault : goal.returns-in_err-draft-clause-fault
@@ -91,14 +91,19 @@ returns-clause-refused g c clear =
     let own : own_key v ≡ Some key = search rules in
     let fit = fits g c (subst (IsClear g.S.BlockSource.may_give) c.self.view_is clear) in
     let passes : Passes (making_order key v change) = (own, (fit.accepted, (has_spelling change draft.has_item, ((λ long. too_long_for_one change long draft.has_item), tt)))) in
+    let goes : g.S.BlockSource.follows c.args.self.now.source c.put.new.self =
+    g.met.S.BlockSource.follows_on c.args.self.now.source c.draft.new.self.source c.put.new.self c.draft.ensures.asks.source.follows
+    (subst (λ (s : g.row.S.Denot). g.S.BlockSource.follows s c.put.new.self)
+    (c.source_mut.ensures.value ∙ ap (λ (x : ViewOn g.row.S.Denot). x.source) c.self.view_is) c.put.ensures.follows) in
     let P : ViewRefusal → Type 0 = λ e. FailsToLoad e ⊎ IsUnmade g.S.BlockSource.failed g.S.BlockSource.follows key (c.args.key.now.next ≡ leaf_count c.args.key.now.key) v change c.args.self.now.source c.put.new.self e in
     elim c.match-sign.branch [
       | in-Ok-sign w ↦ subst (λ r. IfErr r P) (sym w.result-is) tt
       | in-Err-sign w ↦ subst (λ r. IfErr r P) (sym w.result-is)
           (⊎_elim (λ none. inl (no_memory (Plain w.in-Err-sign.refusal) (ap Plain none)))
           (λ spent. inr (
-            c.args.self.now.source,
-            g.met.S.BlockSource.follows_itself c.args.self.now.source,
+            c.put.new.self,
+            goes,
+            g.met.S.BlockSource.follows_itself c.put.new.self,
             inr (passes, inr (⊎_elim (λ (is, all). inl (ap Plain is, all)) (λ (is, few). inr (ap Plain is, few)) spent)),
           ))
           w.in-Err-sign.ensures.refused)
