@@ -30,8 +30,10 @@ pub struct Manner {
 /// Carries out the commands of a script, line by line, and prints what comes of each before the next
 /// line is read. An empty line is passed over; a line that is no command ends the run, and so does
 /// one that is refused, if the run is to stop there. Where the link to the server fails, the run ends
-/// once the refusal is printed that the command met. The program makes a link anew whose session was
-/// ended before a command, waits while another has the turn, saves logs, and explains refusals.
+/// once the refusal is printed that the command met. Behind a command that made a commit the client
+/// leaves the tree to the server, and what that refuses changes no answer. The program makes a link
+/// anew whose session was ended before a command, waits while another has the turn, saves logs, and
+/// explains refusals.
 pub fn run_client<P, I, O, R, W, K>(
     program: &mut P,
     alloc: Global,

@@ -9,8 +9,9 @@ ghost use Rattle.su_desk_script.specs.Answer.{bad_text};
 ghost use Rattle.su_client_script.specs.Carrying.{Carries, CarriesChange, CarriesRekey, CarriesSave, CarriesSome, CarriesSomeChange, CarriesSomeRekey, CommitsIn, CommitsSome, CommitsUntil, PlansParts};
 ghost use Rattle.su_client_script.specs.Calls.{files_of};
 ghost use Rattle.su_client_script.specs.KeyMoves.{MovesOnThen};
+ghost use Rattle.su_client_script.specs.Leaving.{Leaves};
 ghost use Rattle.su_client_script.specs.Lines.{LineDoesSome, Prints};
-ghost use Rattle.su_client_script.specs.Step.{IsOutcome, LineSteps, is_after_take, is_first};
+ghost use Rattle.su_client_script.specs.Step.{FitsCommand, IsOutcome, LineSteps, has_committed, is_first};
 ghost use Rattle.su_client_script.specs.Text.{number_shown, refusal_shown};
 ghost use Rattle.su_client_script.specs.declared.steps.Step.TheVariants as step;
 
@@ -18,6 +19,7 @@ use crate::answers::{Outcome, print_text, tell_bytes, tell_names, tell_number, t
 use crate::endings::Fault;
 use crate::keys::{change, move_on, rekey, undo_last};
 use crate::parts::cut;
+use crate::places::Place;
 use crate::programs::{Cause, Program};
 use std::alloc::Global;
 use std::io::{Read, Write};
@@ -42,38 +44,6 @@ pub(crate) enum Step {
     Bad(Option<Mistake>),
     /// There is no line any more.
     Over,
-}
-
-/// Where a part stands in its command.
-#[derive(Clone, Copy)]
-enum Place {
-    /// It is the first one, for which the turn is held.
-    First,
-    /// It comes behind others, and takes a turn of its own.
-    Later,
-    /// So it does, and one of them has a take.
-    AfterTake,
-}
-
-impl Place {
-    /// Returns where the part stands that follows this one.
-    fn after(self, part: &Batch) -> Place
-        ensures { is_first result ≡ false }
-    {
-        match self {
-            Place::First | Place::Later if !has_take(part) => Place::Later,
-            _ => Place::AfterTake,
-        }
-    }
-}
-
-/// Tells whether one of its operations is a take.
-fn has_take(part: &Batch) -> bool {
-    let (first, more) = part.parts();
-    matches!(first, Op::Take(_))
-        || more
-            .iter()
-            .any(|operation| matches!(operation, Op::Take(_)))
 }
 
 /// Carries out a line that is not empty, which has that number, and prints what comes of it.
@@ -133,13 +103,52 @@ fn refused_step<O: Write>(alloc: Global, output: &mut O, refusal: Refusal) -> Re
         (refusal_shown (Plain refusal))) }
     ensures step { IfOk result (λ it. it ≡ step.Refused) }
 {
-    tell_refusal(alloc, output, ViewRefusal::Plain(refusal), false)?;
+    tell_refusal(alloc, output, ViewRefusal::Plain(refusal), Place::First)?;
     Ok(Step::Refused)
+}
+
+/// Has the program explain a refusal of a command, and behind a command that made a commit leaves the
+/// tree to the server. What that refuses changes nothing: what wasn't put stays loaded, and a link
+/// that fails is noticed at the next command. `Link` where the link had failed before, which ends the
+/// run.
+fn settle<P, R, W, K>(
+    program: &mut P,
+    member: &mut Member<R, W, K>,
+    outcome: &Outcome,
+) -> Result<Step, Fault>
+where
+    P: Program<R, W, K>,
+    R: Read + Drop,
+    W: Write + Drop,
+    K: KeyStore + Drop,
+    ensures leaves { Leaves member.old member.new }
+    ensures same { has_committed outcome.now ≡ false → member.new ≡ member.old }
+    ensures err { OnErr result (member.new ≡ member.old) }
+    ensures step { IfOk result (λ it. (it ≡ step.Done) ⊎ (it ≡ step.Refused)) }
+{
+    let step = explain(program, member, outcome)?;
+    leave(member, outcome.has_committed());
+    Ok(step)
+}
+
+/// Leaves the tree to the server, where that is due.
+fn leave<R, W, K>(member: &mut Member<R, W, K>, is_due: bool)
+where
+    R: Read + Drop,
+    W: Write + Drop,
+    K: KeyStore + Drop,
+    ensures leaves { Leaves member.old member.new }
+    ensures same { is_due ≡ false → member.new ≡ member.old }
+{
+    if !is_due {
+        return;
+    }
+    let _ = member.shed();
 }
 
 /// Has the program explain a refusal of a command. `Link` where the link has failed, which ends the
 /// run.
-fn settle<P, R, W, K>(
+fn explain<P, R, W, K>(
     program: &mut P,
     member: &mut Member<R, W, K>,
     outcome: &Outcome,
@@ -152,11 +161,7 @@ where
     ensures same { member.new ≡ member.old }
     ensures step { IfOk result (λ it. (it ≡ step.Done) ⊎ (it ≡ step.Refused)) }
 {
-    let Outcome::Refused {
-        refusal,
-        after_take,
-    } = outcome
-    else {
+    let Outcome::Refused { refusal, place } = outcome else {
         return Ok(Step::Done);
     };
     let own_last = match refusal {
@@ -165,7 +170,7 @@ where
     };
     program.explain(&Cause {
         refusal: *refusal,
-        after_take: *after_take,
+        after_take: place.is_after_take(),
         own_last,
     });
     if member.has_failed() {
@@ -194,6 +199,7 @@ where
         (Carries P.may_connect (files_of P.saves P.opens) batches command member.old member.new)) }
     ensures some { OnErr result
         (CarriesSome P.may_connect batches command member.old member.new) }
+    ensures outcome { IfOk result (FitsCommand command) }
 {
     match command {
         ClientCommand::Change(command) => {
@@ -201,11 +207,11 @@ where
         }
         ClientCommand::Undo(number) => {
             let undone = change(program, member, Change::Undo(number), false);
-            tell_number(alloc, output, undone, false)
+            tell_number(alloc, output, undone, Place::First)
         }
         ClientCommand::UndoLast => {
             let undone = undo_last(program, member);
-            tell_number(alloc, output, undone, false)
+            tell_number(alloc, output, undone, Place::First)
         }
         ClientCommand::List { path } => {
             let names = member.list(program, path.as_slice());
@@ -272,7 +278,7 @@ where
 {
     match plan_parts(program, alloc, member, command, batches) {
         Ok(parts) => commit_all(program, alloc, output, member, parts),
-        Err(refusal) => tell_refusal(alloc, output, refusal, false),
+        Err(refusal) => tell_refusal(alloc, output, refusal, Place::First),
     }
 }
 
@@ -337,7 +343,7 @@ where
         }
         place = next;
     }
-    Ok(Outcome::Done)
+    Ok(Outcome::of_all(place))
 }
 
 /// Commits a part, and prints what comes of it. The next turn is asked for ahead of its time,
@@ -360,11 +366,11 @@ where
     ensures works { Works member.old member.new }
     ensures commits { (r : Result ℕ Refusal_)
         × CommitsIn P.may_connect (is_first place) part member.old member.new r
-        × IfOk result (λ out. IsOutcome (is_after_take place) r out
+        × IfOk result (λ out. IsOutcome place r out
         × Appends (O.contents output.old) (O.contents output.new) (number_shown r)) }
 {
     let stored = commit(program, member, part, place, ahead);
-    tell_number(alloc, output, stored, matches!(place, Place::AfterTake))
+    tell_number(alloc, output, stored, place)
 }
 
 /// Commits a part, in the turn that is held or one of its own.
@@ -411,9 +417,9 @@ where
     match program.open_key(program.host(), file.as_slice()) {
         Ok(signer) => {
             let rekeyed = rekey(program, member, file.as_slice(), signer);
-            tell_number(alloc, output, rekeyed, false)
+            tell_number(alloc, output, rekeyed, Place::First)
         }
-        Err(refusal) => tell_refusal(alloc, output, ViewRefusal::Plain(refusal), false),
+        Err(refusal) => tell_refusal(alloc, output, ViewRefusal::Plain(refusal), Place::First),
     }
 }
 
@@ -434,6 +440,7 @@ where
     ensures works { Works member.old member.new }
     ensures carries { OnOk result (Prints (O.contents output.old) (O.contents output.new)
         (CarriesSave P.may_connect (files_of P.saves P.opens) file.items member.old member.new)) }
+    ensures outcome { IfOk result (λ out. has_committed out ≡ false) }
     ensures takes { OnlyTakes member.old member.new }
 {
     match member.log(program) {
@@ -441,6 +448,6 @@ where
             Ok(()) => Ok(Outcome::Done),
             Err(reason) => Err(Fault::Saving { file, reason }),
         },
-        Err(refusal) => tell_refusal(alloc, output, refusal, false),
+        Err(refusal) => tell_refusal(alloc, output, refusal, Place::First),
     }
 }

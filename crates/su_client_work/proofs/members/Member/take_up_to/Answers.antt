@@ -1,8 +1,8 @@
-use Rattle.std.proofs.Common.{◌∙◌, ap, arith, inl, length, refl, sym}
+use Rattle.std.proofs.Common.{◌∙◌, ap, arith, inl, length, sym}
 use Rattle.su_client.specs.Following.{follows_itself, follows_on}
 use Rattle.su_client_work.specs.Member.{MemberState}
-use Rattle.su_client_work.proofs.Taking.{takes_none}
-use Rattle.su_client_work.proofs.Turns.{only_then, caught_one, lacks_many}
+use Rattle.su_client_work.proofs.Taking.{only_stays, only_then}
+use Rattle.su_client_work.proofs.Turns.{caught_one, lacks_many, stays_itself}
 use Rattle.su_client_work.proofs.members.Member.take_up_to.Goals as goal
 
 pub loop-before-init : goal.loop-before-init
@@ -10,7 +10,7 @@ loop-before-init g c =
     let told = ap (λ p. p.0) c.head-held.ensures.value in
     let held = ap (λ (x : MemberState). length x.holding.held) c.self.view_is in
     record {
-      takes = record { takes = takes_none c.args.self.now.holding; signed = refl; next = refl };
+      takes = only_stays c.args.self.now c.args.self.now (stays_itself c.args.self.now);
       follows = follows_itself c.args.self.now.link;
       caught_up = inl (omega (arith, told, held));
     }
