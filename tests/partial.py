@@ -104,7 +104,7 @@ def left(at):
         said = walk.say(b"create /g")
         yield f"a_commit: {said}", said == [b"ok %d" % (walk.count + 1)]
         yield f"the_tree_is_left: {walk.service.puts}", walk.service.puts > MANY
-        names = sorted([*walk.names, b"g U0:%d" % (2 + MANY)])
+        names = sorted([*walk.names, b"g G0:2"])
         yield "its_names", walk.say(b"ls /") == names
         yield f"are_asked_for: {walk.service.gets}", walk.service.gets > 0
         said = [walk.say(line) for line in (b"write /g 0 6869", b"cat /g 0 9", b"undo_last", b"cat /g 0 9", b"cat /f7 0 9")]
@@ -120,7 +120,7 @@ def untrusted(at):
     """A server that lacks what was left, or lies about it, is told by its refusal, and is asked again."""
     with Walk(at) as walk:
         yield "it_is_left", walk.say(b"create /g") == [b"ok %d" % (walk.count + 1)]
-        names = sorted([*walk.names, b"g U0:%d" % (2 + MANY)])
+        names = sorted([*walk.names, b"g G0:2"])
         for how, refusal in (("lacks", b"no 5 MissingBlock"), ("lies", b"no 6 WrongBlock")):
             walk.service.how = how
             said = walk.say(b"ls /")
@@ -132,15 +132,18 @@ def untrusted(at):
 
 
 def anew(at):
-    """Over a link that is made anew the tree is put again, as the server lets go what the session before has put."""
+    """Over a link that is made anew the tree lies in memory, as the server lets go what the session before has put, until it is left again."""
     with Walk(at) as walk:
         yield "it_is_left", walk.say(b"create /g") == [b"ok %d" % (walk.count + 1)]
-        names = sorted([*walk.names, b"g U0:%d" % (2 + MANY)])
+        names = sorted([*walk.names, b"g G0:2"])
         walk.service.left = 0
-        before = walk.service.puts
+        before = walk.service.gets
         yield "names_over_a_new_link", walk.say(b"ls /") == names
-        yield f"for_which_it_was_put_again: {walk.service.puts - before}", walk.service.puts - before > MANY
-        yield "and_a_commit", walk.say(b"write /g 0 6869") == [b"ok %d" % (walk.count + 2)] and walk.say(b"cat /g 0 9") == [b"6869"]
+        yield f"that_the_server_is_not_asked_for: {walk.service.gets - before}", walk.service.gets == before
+        before = walk.service.puts
+        yield "and_a_commit", walk.say(b"write /g 0 6869") == [b"ok %d" % (walk.count + 2)]
+        yield f"behind_which_it_is_put_again: {walk.service.puts - before}", walk.service.puts - before > MANY
+        yield "and_is_asked_for", walk.say(b"ls /") == names and walk.say(b"cat /g 0 9") == [b"6869"] and walk.service.gets > 0
         printed, told, status = walk.client.end()
         yield f"it_ends: {told} {walk.client.asides}", (printed, told, status) == ([], [], 0) and walk.client.asides == ["without_log", "anew"]
 
@@ -167,12 +170,13 @@ def at_a_server(at):
         link.close()
         with room.client(server.port, 0, key=keys[0]) as zero, room.client(server.port, 1, key=keys[1]) as one:
             yield "zero_leaves_its_tree", zero.say(b"create /g") == [b"ok %d" % (len(records) + 1)]
-            both = sorted([*names, b"g U0:%d" % (2 + MANY)])
+            both = sorted([*names, b"g G0:2"])
             yield "and_lists_it", zero.say(b"ls /") == both
             yield "one_sees_it", one.say(b"ls /") == both
-            yield "one_writes", one.say(b"create /h") == [b"ok %d" % (len(records) + 2)]
+            took_and_made = [b"ok %d" % (len(records) + 2), b"ok %d" % (len(records) + 3)]
+            yield "one_writes", one.say(b"create /h") == took_and_made
             yield "zero_ends", zero.end() == ([], [], 0)
-            yield "and_one_goes_on", one.say(b"ls /") == sorted([*both, b"h U1:2"]) and one.say(b"undo_last") == [b"ok %d" % (len(records) + 3)]
+            yield "and_one_goes_on", one.say(b"ls /") == sorted([*both, b"h G0:3"]) and one.say(b"undo_last") == [b"ok %d" % (len(records) + 4)]
             yield "which_is_seen", one.say(b"ls /") == both and one.end() == ([], [], 0)
 
 

@@ -547,10 +547,28 @@ impl<R: Read + Drop, W: Write + Drop, K: KeyStore + Drop> Member<R, W, K> {
         self.fetch(number)
     }
 
+    /// Takes the commits that the list lacks of the first `count`, as `take_many` does. What was sent
+    /// ahead then and not asked for, as it lay in the cache, is passed by.
+    fn take_up_to<A: Surroundings<R, W>>(
+        &mut self,
+        around: &mut A,
+        count: u64,
+        shown: &Shown,
+    ) -> Result<(), ViewRefusal>
+        ensures takes { OnlyTakes self.old self.new }
+        ensures follows { Follows self.old.link self.new.link }
+        ensures caught_up { OnOk result
+            (IsCaughtUp count self.new.holding self.old.link self.new.link) }
+    {
+        self.take_many(around, count, shown)?;
+        self.pass_over();
+        Ok(())
+    }
+
     /// Takes the commits that the list lacks of the first `count`, many at a time. What the server
     /// says that it hasn't is left out, so that the one after it is refused. Once the list lacks as
     /// many as are fetched at once, no more are asked for: no number holds a client up.
-    fn take_up_to<A: Surroundings<R, W>>(
+    fn take_many<A: Surroundings<R, W>>(
         &mut self,
         around: &mut A,
         count: u64,

@@ -1,7 +1,7 @@
 use Rattle.su_client.specs.Link.{Follows}
 use Rattle.su_client_work.specs.Member.{OnlyTakes}
 use Rattle.su_client_work.specs.Turn.{IsCaughtUp}
-use Rattle.su_client_work.proofs.members.Member.take_up_to.Given as goal
+use Rattle.su_client_work.proofs.members.Member.take_many.Given as goal
 
 abbrev pub invariant-loop-before : goal.invariant-loop-before
 invariant-loop-before g l = record {
