@@ -102,14 +102,14 @@ def left(at):
     with Walk(at) as walk:
         yield "before_a_commit_nothing_is_left", walk.say(b"ls /") == walk.names and (walk.service.puts, walk.service.gets) == (0, 0)
         said = walk.say(b"create /g")
-        yield f"a_commit: {said}", said == [b"ok %d" % (walk.count + 1)]
+        yield f"a_commit: {said[:2]}", said == [b"ok %d" % (walk.count + 1)]
         yield f"the_tree_is_left: {walk.service.puts}", walk.service.puts > MANY
         names = sorted([*walk.names, b"g G0:2"])
         yield "its_names", walk.say(b"ls /") == names
         yield f"are_asked_for: {walk.service.gets}", walk.service.gets > 0
         said = [walk.say(line) for line in (b"write /g 0 6869", b"cat /g 0 9", b"undo_last", b"cat /g 0 9", b"cat /f7 0 9")]
         wanted = [[b"ok %d" % (walk.count + 2)], [b"6869"], [b"ok %d" % (walk.count + 3)], [b""], [b""]]
-        yield f"what_is_written: {said}", said == wanted
+        yield f"what_is_written: {[answer[:2] for answer in said]}", said == wanted
         before = walk.service.puts
         said = walk.say(b"create /h")
         yield f"only_what_changed_is_put_again: {walk.service.puts - before}", said == [b"ok %d" % (walk.count + 4)] and walk.service.puts - before < 100
@@ -175,8 +175,12 @@ def at_a_server(at):
             yield "one_sees_it", one.say(b"ls /") == both
             took_and_made = [b"ok %d" % (len(records) + 2), b"ok %d" % (len(records) + 3)]
             yield "one_writes", one.say(b"create /h") == took_and_made
+            yield "and_takes_back", one.say(b"undo_last") == [b"ok %d" % (len(records) + 4)]
+            yield "and_makes_it_again", one.say(b"create /h") == [b"ok %d" % (len(records) + 5)]
+            all_names = sorted([*both, b"h G0:3"])
+            yield "zero_takes_them_all", zero.say(b"ls /") == all_names
             yield "zero_ends", zero.end() == ([], [], 0)
-            yield "and_one_goes_on", one.say(b"ls /") == sorted([*both, b"h G0:3"]) and one.say(b"undo_last") == [b"ok %d" % (len(records) + 4)]
+            yield "and_one_goes_on", one.say(b"ls /") == all_names and one.say(b"undo_last") == [b"ok %d" % (len(records) + 6)]
             yield "which_is_seen", one.say(b"ls /") == both and one.end() == ([], [], 0)
 
 
