@@ -19,7 +19,7 @@ use std::thread::Threads;
 use su_arguments::ClientArgs;
 use su_audit::tell_refused;
 use su_block::BlockSource;
-use su_bytes::{Refusal, Roster, User};
+use su_bytes::{FileId, Refusal, Roster, User};
 use su_client_script::{Ending, Fault, Manner, run_client};
 use su_client_work::{LinkSource, LogFault, Member, source_over, take_log};
 use su_desk_script::Status;
@@ -299,6 +299,8 @@ fn has_failed(view: &mut View<Source>) -> bool {
 /// Puts the items of a view's list to the server. Refused with `SourceFailed` where the link fails,
 /// and with `NoMemory`.
 fn put_items(alloc: Global, view: &mut View<Source>) -> Result<(), Refusal> {
+    // names the type for the prover (docs/ARCHITECTURE.md, "Forms the kit wants")
+    let _file: Option<FileId> = None;
     let (count, _) = view.head();
     for before in 0..count {
         put_item(alloc, view, before + 1)?;
@@ -308,6 +310,8 @@ fn put_items(alloc: Global, view: &mut View<Source>) -> Result<(), Refusal> {
 
 /// Puts the item of the commit of that number, if the view has it; but not into the cache.
 fn put_item(alloc: Global, view: &mut View<Source>, number: u64) -> Result<(), Refusal> {
+    // as in `put_items`
+    let _file: Option<FileId> = None;
     let Some((_, item)) = view.entry(number) else {
         return Ok(());
     };
