@@ -21,6 +21,7 @@ use crate::keys::{change, move_on, rekey, undo_last};
 use crate::parts::cut;
 use crate::places::Place;
 use crate::programs::{Cause, Program};
+use crate::scripts::Manner;
 use std::alloc::Global;
 use std::io::{Read, Write};
 use su_bytes::Refusal;
@@ -54,7 +55,7 @@ pub(crate) fn line_step<P, O, R, W, K>(
     member: &mut Member<R, W, K>,
     line: &[u8],
     number: u64,
-    batches: bool,
+    manner: Manner,
 ) -> Result<Step, Fault>
 where
     P: Program<R, W, K>,
@@ -63,15 +64,16 @@ where
     W: Write + Drop,
     K: KeyStore + Drop,
     ensures works { Works member.old member.new }
-    ensures steps { IfOk result (LineSteps P.may_connect (files_of P.saves P.opens) batches number
-        line.now member.old member.new (O.contents output.old) (O.contents output.new)) }
+    ensures steps { IfOk result (LineSteps P.may_connect (files_of P.saves P.opens)
+        manner.batches number line.now member.old member.new (O.contents output.old)
+        (O.contents output.new)) }
     ensures some { OnErr result
-        (LineDoesSome P.may_connect batches line.now member.old member.new) }
+        (LineDoesSome P.may_connect manner.batches line.now member.old member.new) }
 {
     match read_line(alloc, line) {
         Ok(ClientLine::Command(command)) => {
-            let outcome = command_step(program, alloc, output, member, command, batches)?;
-            settle(program, member, &outcome)
+            let outcome = command_step(program, alloc, output, member, command, manner.batches)?;
+            settle(program, member, &outcome, manner.leaves)
         }
         Ok(ClientLine::OutOfRange(refusal)) => refused_step(alloc, output, refusal),
         Ok(ClientLine::Bad) => {
@@ -108,13 +110,14 @@ fn refused_step<O: Write>(alloc: Global, output: &mut O, refusal: Refusal) -> Re
 }
 
 /// Has the program explain a refusal of a command, and behind a command that made a commit leaves the
-/// tree to the server. What that refuses changes nothing: what wasn't put stays loaded, and a link
-/// that fails is noticed at the next command. `Link` where the link had failed before, which ends the
-/// run.
+/// tree to the server, if it is to. What that refuses changes nothing: what wasn't put stays loaded,
+/// and a link that fails is noticed at the next command. `Link` where the link had failed before,
+/// which ends the run.
 fn settle<P, R, W, K>(
     program: &mut P,
     member: &mut Member<R, W, K>,
     outcome: &Outcome,
+    leaves: bool,
 ) -> Result<Step, Fault>
 where
     P: Program<R, W, K>,
@@ -127,12 +130,12 @@ where
     ensures step { IfOk result (λ it. (it ≡ step.Done) ⊎ (it ≡ step.Refused)) }
 {
     let step = explain(program, member, outcome)?;
-    leave(member, outcome.has_committed());
+    leave(member, outcome.has_committed(), leaves);
     Ok(step)
 }
 
-/// Leaves the tree to the server, where that is due.
-fn leave<R, W, K>(member: &mut Member<R, W, K>, is_due: bool)
+/// Leaves the tree to the server, where that is due, and it is to be left at all.
+fn leave<R, W, K>(member: &mut Member<R, W, K>, is_due: bool, leaves: bool)
 where
     R: Read + Drop,
     W: Write + Drop,
@@ -141,6 +144,9 @@ where
     ensures same { is_due ≡ false → member.new ≡ member.old }
 {
     if !is_due {
+        return;
+    }
+    if !leaves {
         return;
     }
     let _ = member.shed();

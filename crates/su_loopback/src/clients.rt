@@ -202,6 +202,7 @@ impl Person {
         let manner = Manner {
             stops: false,
             batches: false,
+            leaves: true,
         };
         let ending = run_client(
             &mut runner,

@@ -30,14 +30,14 @@ returns-in_ok-outcome-in-Ok-Command-clause-steps g c =
     let t = c.settle.new.member in
     let done = c.in_ok-outcome-in-Ok-Command in
     on_ok_if c.settle.result (λ st. (st ≡ step.Done) ⊎ (st ≡ step.Refused)) _
-    (λ st which. line_steps g.P.Surroundings.may_connect (files_of g.P.Program.saves g.P.Program.opens) c.args.batches c.args.number c.args.line.now it c.args.member.now m t
+    (λ st which. line_steps g.P.Surroundings.may_connect (files_of g.P.Program.saves g.P.Program.opens) c.args.manner.batches c.args.number c.args.line.now it c.args.member.now m t
     (g.O.Write.contents c.args.output.now) (g.O.Write.contents c.command_step.new.output) (sym (rw c.in-Ok-Command.field-0-is at c.in-Ok-Command.ensures)) st which done.ensures.carries
     (leaves_behind it done.outcome m t done.ensures.outcome c.settle.ensures.leaves c.settle.ensures.same)) c.settle.ensures.step
 
 pub returns-in_ok-outcome-in-Ok-Command-clause-some : goal.returns-in_ok-outcome-in-Ok-Command-clause-some
 returns-in_ok-outcome-in-Ok-Command-clause-some g c =
     let (text, carries, printed) = c.in_ok-outcome-in-Ok-Command.ensures.carries in
-    on_err_so c.settle.result (c.settle.new.member ≡ c.command_step.new.member) (LineDoesSome g.P.Surroundings.may_connect c.args.batches c.args.line.now c.args.member.now c.settle.new.member)
-    (λ same. subst (λ (x : MemberState). LineDoesSome g.P.Surroundings.may_connect c.args.batches c.args.line.now c.args.member.now x) (sym same)
-    (inr (line_some g.P.Surroundings.may_connect c.args.batches (line_said c.args.line.now) c.in-Ok-Command.command c.args.member.now c.command_step.new.member (sym (rw c.in-Ok-Command.field-0-is at c.in-Ok-Command.ensures))
-    (carries_some g.P.Surroundings.may_connect (files_of g.P.Program.saves g.P.Program.opens) c.args.batches c.in-Ok-Command.command c.args.member.now c.command_step.new.member text carries)))) c.settle.ensures.err
+    on_err_so c.settle.result (c.settle.new.member ≡ c.command_step.new.member) (LineDoesSome g.P.Surroundings.may_connect c.args.manner.batches c.args.line.now c.args.member.now c.settle.new.member)
+    (λ same. subst (λ (x : MemberState). LineDoesSome g.P.Surroundings.may_connect c.args.manner.batches c.args.line.now c.args.member.now x) (sym same)
+    (inr (line_some g.P.Surroundings.may_connect c.args.manner.batches (line_said c.args.line.now) c.in-Ok-Command.command c.args.member.now c.command_step.new.member (sym (rw c.in-Ok-Command.field-0-is at c.in-Ok-Command.ensures))
+    (carries_some g.P.Surroundings.may_connect (files_of g.P.Program.saves g.P.Program.opens) c.args.manner.batches c.in-Ok-Command.command c.args.member.now c.command_step.new.member text carries)))) c.settle.ensures.err
