@@ -1,6 +1,6 @@
 #!/usr/bin/env python3
-"""Tries `sundr client` where its tree lies on the server, which is a second one (model_server.py) that may lack, lie about or forget what
-a client left there: more than the client's cache keeps, so that what is asked of the tree is asked of the server.
+"""Tries `sundr client --leave-tree`, whose tree lies on the server, which is a second one (model_server.py) that may lack, lie about or
+forget what a client left there: more than the client's cache keeps, so that what is asked of the tree is asked of the server.
 
 usage: partial.py [PART..]    without the built program it tries nothing
 
@@ -77,8 +77,8 @@ BATCH_LEAF = 16  # the first leaf that no commit of the list was signed with
 class Walk:
     """A client at a server of trees, once it has left its tree there."""
 
-    def __init__(self, at):
-        self.room = serving.Room(at)
+    def __init__(self, at, options=("--leave-tree",)):
+        self.room, self.options = serving.Room(at), options
         records, self.names = many(self.room)
         self.service = Trees(self.room.public_keys, records)
         self.count = len(records)
@@ -86,7 +86,7 @@ class Walk:
     def __enter__(self):
         self.server = bad_server.Server(self.service)
         key = self.room.file(self.room.keys[0].file(BATCH_LEAF))
-        self.client = self.room.client(self.server.port, 0, key=key)
+        self.client = self.room.client(self.server.port, 0, *self.options, key=key)
         return self
 
     def __exit__(self, *_):
@@ -113,6 +113,15 @@ def left(at):
         before = walk.service.puts
         said = walk.say(b"create /h")
         yield f"only_what_changed_is_put_again: {walk.service.puts - before}", said == [b"ok %d" % (walk.count + 4)] and walk.service.puts - before < 100
+        yield "it_ends", walk.client.end() == ([], [], 0)
+
+
+def unleft(at):
+    """A client that isn't told to leaves nothing of its tree, and asks for nothing of it."""
+    with Walk(at, ()) as walk:
+        yield "a_commit", walk.say(b"create /g") == [b"ok %d" % (walk.count + 1)]
+        yield f"nothing_is_left: {walk.service.puts}", walk.service.puts == 1
+        yield f"or_asked_for: {walk.service.gets}", walk.say(b"ls /") == sorted([*walk.names, b"g G0:2"]) and walk.service.gets == 0
         yield "it_ends", walk.client.end() == ([], [], 0)
 
 
@@ -168,7 +177,8 @@ def at_a_server(at):
         stored = [serving.hand_in(link, commit, item) for commit, item in records]
         yield f"it_is_handed_in: {stored[-1:]}", stored[-1:] == [("stored", len(records))]
         link.close()
-        with room.client(server.port, 0, key=keys[0]) as zero, room.client(server.port, 1, key=keys[1]) as one:
+        zero, one = (room.client(server.port, user, "--leave-tree", key=key) for user, key in enumerate(keys))
+        with zero, one:
             yield "zero_leaves_its_tree", zero.say(b"create /g") == [b"ok %d" % (len(records) + 1)]
             both = sorted([*names, b"g G0:2"])
             yield "and_lists_it", zero.say(b"ls /") == both
@@ -184,7 +194,7 @@ def at_a_server(at):
             yield "which_is_seen", one.say(b"ls /") == both and one.end() == ([], [], 0)
 
 
-PARTS = (left, untrusted, anew, ended, at_a_server)
+PARTS = (left, unleft, untrusted, anew, ended, at_a_server)
 
 
 def main():
