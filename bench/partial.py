@@ -5,9 +5,9 @@ hand: `bench/partial.py [FOLDER]`; the log is kept in FOLDER for the next time, 
 The log makes 100,000 files in one directory, some ten kilobytes each, and one file of 1 MiB: 1 GiB in all, as many files as have room in
 one commit, and ends with a rekey to a key that the clients sign with (bench/audit.py says of what kind its own key is). A server with a
 store has it. In one run it prints
-- of a client that takes the log (--log), makes a commit, behind which it leaves its tree on the server, and reads the large file: seconds
-  until each of them was answered, bytes that went over the link meanwhile, and the client's memory then, and at the highest;
-- the same of a client that makes no commit, and so leaves nothing;
+- of a client that takes the log (--log), makes a commit, reads the large file, twice, and makes another commit: seconds until each of
+  them was answered, bytes that went over the link meanwhile, and the client's memory then, and at the highest;
+- the same of one that leaves its tree on the server behind each of its commits;
 - of git: seconds of a clone without blobs of a repository of the same files, and of one file's blob, with the bytes that came, and memory
   at the highest.
 
@@ -130,10 +130,10 @@ def show(what, took, passed, process):
     print(f"{what:44} {took:9.3f} {sent:>14,} {received:>14,} {held:8.1f} {highest:8.1f}", flush=True)
 
 
-def measure(name, roster, log, port, key, lines, wanted):
-    """A client that takes the log and then does these lines, of which the last one reads the large file."""
+def measure(name, options, roster, log, port, key, lines, wanted):
+    """A client that takes the log and then does these lines, which commit or read the large file."""
     with relay.Relay(port, 0) as between:
-        words = ["client", "--port", between.port, "--user", 0, "--key", key, "--log", log, *roster.publics]
+        words = ["client", "--port", between.port, "--user", 0, "--key", key, "--log", log, *options, *roster.publics]
         started, before = time.monotonic(), tuple(between.bytes)
         with serving.Client(words) as client:
             for what, line in (("joins", b"ls /none"), *lines):
@@ -156,12 +156,11 @@ def clients(room, folder, sizes):
     read = b"cat /f%d 0 %d" % (sizes["files"] + 2, LARGE)
     store.feed(roster, f"{room}/store", log, count)
     with storing.Keeping(roster, f"{room}/store", cache=sizes["cache"]) as server:
-        for name, lines in (
-                ("a client that leaves nothing", (("reads", read),)),
-                ("a client that leaves its tree", (("commits", b"mkdir /d"), ("reads", read), ("reads again", read), ("commits again", b"mkdir /e")))):
+        for number, (name, options) in enumerate((("a client", []), ("one with --leave-tree", ["--leave-tree"]))):
             with open(key, "wb") as file:
-                file.write(signing_key().file())
-            measure(name, roster, log, server.port, key, lines, contents_of(0, LARGE))
+                file.write(signing_key().file(2 * number))
+            lines = (("commits", b"mkdir /a%d" % number), ("reads", read), ("reads again", read), ("commits again", b"mkdir /b%d" % number))
+            measure(name, options, roster, log, server.port, key, lines, contents_of(0, LARGE))
 
 
 # ---- git
