@@ -190,6 +190,9 @@ Each operation that a command comes to is a commit. With --batch all that an
 item has room for are one, which is taken back as one: 256 operations, with
 70,000 bytes, at most.
 
+With --leave-tree the client leaves its tree on the server behind each commit,
+and asks for what it needs of it: it has less in memory, and the server more.
+
 A script has a command a line. Each is answered before the next line is read. A
 run knows no commits but those of its `--log`: without one any list that follows
 the rules is taken, and with one a server is refused that lacks the user's own

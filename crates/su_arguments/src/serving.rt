@@ -40,7 +40,8 @@ pub struct ServeArgs {
 /// 1 to 1,000,000 times, a turn that another has is asked for. One write of the key file serves so many
 /// signatures, 1 to 16. Near the end of a key the client makes the next one, in a file whose name begins
 /// so, if that is given. The script ends at the first refusal, or goes on. The operations of a command
-/// are committed in batches, or each by itself.
+/// are committed in batches, or each by itself. The tree is left on the server behind each command
+/// that made a commit, or stays in memory.
 #[derive(Debug, Drop)]
 pub struct ClientArgs {
     pub port: u16,
@@ -52,6 +53,7 @@ pub struct ClientArgs {
     pub next_key: Option<String>,
     pub stop: bool,
     pub batch: bool,
+    pub leave_tree: bool,
     pub keys: Vec<String>,
 }
 
@@ -138,6 +140,7 @@ pub(crate) fn client_command<'a>(alloc: Global, help: &'a str) -> Result<Command
     let next_key = "Near a key's end the next one is made, in a file PREFIX-..";
     let stop = "It ends at the first command that is refused, with status 1";
     let batch = "Commits a command as one, as far as an item has room";
+    let leave_tree = "Leaves the tree on the server behind each commit";
     Draft::of(command)
         .arg(needed_port(alloc, SERVER_PORT))
         .arg(user(alloc))
@@ -148,6 +151,7 @@ pub(crate) fn client_command<'a>(alloc: Global, help: &'a str) -> Result<Command
         .arg(option(alloc, "next-key", "PREFIX", next_key))
         .arg(flag(alloc, "stop", stop))
         .arg(flag(alloc, "batch", batch))
+        .arg(flag(alloc, "leave-tree", leave_tree))
         .arg(needed_keys(alloc))
         .finish()
 }
@@ -247,7 +251,7 @@ pub(crate) fn backup_of(alloc: Global, values: &ArgMatches<'_>) -> Result<Line, 
 }
 
 /// `client --port P --user U --key FILE [--log FILE] [--tries T] [--leaves-ahead N]
-/// [--next-key PREFIX] [--stop] [--batch] PUB..`
+/// [--next-key PREFIX] [--stop] [--batch] [--leave-tree] PUB..`
 pub(crate) fn client_of(alloc: Global, values: &ArgMatches<'_>) -> Result<Line, LineFault>
     ensures { IfOk result HasGoodNumbers }
 {
@@ -274,6 +278,7 @@ pub(crate) fn client_of(alloc: Global, values: &ArgMatches<'_>) -> Result<Line, 
         next_key: copy(alloc, values.get_str("next-key"))?,
         stop: values.get_flag("stop"),
         batch: values.get_flag("batch"),
+        leave_tree: values.get_flag("leave-tree"),
         keys,
     }))
 }

@@ -11,6 +11,8 @@ use Rattle.su_view.specs.Holding.{HoldingState, Took}
 use Rattle.su_view.specs.Joining.{IsNoCommit, IsRefusedCommit}
 use Rattle.su_view.specs.declared.refusals.ViewRefusal.{ViewRefusal}
 use Rattle.su_view.specs.declared.refusals.ViewRefusal.TheVariants.{Plain}
+use Rattle.su_audit.specs.declared.steps.NotTaken.{NotTaken}
+use Rattle.su_audit.specs.declared.steps.NotTaken.TheVariants.{Refused, Unloaded}
 use Rattle.su_audit.specs.declared.steps.Step.{Step}
 use Rattle.su_audit.specs.declared.steps.Step.TheVariants as step
 use Rattle.su_log.specs.Part.{BeginWith}
@@ -27,6 +29,11 @@ IsRefusedRecord v had bytes item e =
     ⊎ ((c : Commit) × IsCommit c × (bytes ≡ commit_bytes c)
     × (((e ≡ Plain MissingBlock) × ¬ HasItemOf (had ++ item ∷ []) c.version.change)
     ⊎ IsRefusedCommit (Contains (had ++ item ∷ [])) v c e))
+
+-- where a commit isn't taken as it is refused, it is so
+abbrev pub IfRefused : (ViewRefusal → Type 0) → NotTaken → Type 0
+IfRefused P (Refused e) = P e
+IfRefused P Unloaded = ⊤
 
 -- Why what a log has next is refused, which begins at a place: no part begins there, and its place
 -- is named; or behind the first part; or the record is refused.
@@ -61,4 +68,4 @@ abbrev pub Steps : ℕ → HoldingState → List (List ℕ) → List ℕ → (�
 Steps place v had input Left v' has step.Took = Takes place v had input Left v' has
 Steps place v had input Left v' has step.Ended = input ≡ []
 Steps place v had input Left v' has (step.Refused e) = IsRefusedNext v had place input e
-Steps place v had input Left v' has (step.Failed error) = ⊤
+Steps place v had input Left v' has (step.Failed fault) = ⊤

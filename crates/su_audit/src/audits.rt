@@ -4,7 +4,6 @@ ghost use Rattle.std.specs.Io.KnownBytes.{Appends};
 ghost use Rattle.su_audit.specs.declared.audits.Ending.TheVariants.{Taken, Refused};
 ghost use Rattle.su_audit.specs.Audit.{Prints, PrintsSome, Tells, taken_text, refused_text};
 
-use crate::singles::Single;
 use crate::steps::{Step, next_step};
 use std::alloc::{AllocError, Global};
 use std::io::{Read, Write};
@@ -13,6 +12,7 @@ use std::{fmt, io};
 use su_block::MemoryBlocks;
 use su_bytes::{Refusal, Roster, User};
 use su_log_ahead::{Ahead, PresumedKeys};
+use su_no_blocks::NoBlocks;
 use su_view::{View, ViewRefusal};
 
 /// How an audit ended.
@@ -81,7 +81,7 @@ pub fn run_audit<T: Threads + Sync, R: Read + Drop, W: Write, X: Watcher>(
         return Ending::Failed(Fault::NoMemory);
     };
     let mut items = MemoryBlocks::new(alloc);
-    let mut view = match View::new(alloc, roster, user, Single::new(alloc)) {
+    let mut view = match View::new(alloc, roster, user, NoBlocks::new()) {
         Ok(view) => view,
         Err(refusal) => return Ending::Failed(Fault::NoView(refusal)),
     };
@@ -104,9 +104,9 @@ pub fn run_audit<T: Threads + Sync, R: Read + Drop, W: Write, X: Watcher>(
                 watcher.ended();
                 return tell_refused(alloc, writer, number, &refusal);
             }
-            Step::Failed(error) => {
+            Step::Failed(fault) => {
                 watcher.ended();
-                return Ending::Failed(Fault::Reading(error));
+                return Ending::Failed(fault);
             }
         }
     }

@@ -4,7 +4,6 @@
 
 mod audits;
 mod keys;
-mod singles;
 mod steps;
 
 pub use audits::{Ending, Fault, Watcher, run_audit, tell_refused};

@@ -1,27 +1,30 @@
 // One record of a log.
-ghost use Rattle.std.specs.Prelude.{◌≡◌, ◌≢◌, ◌⊎◌, ℕ, List, [], ◌∷◌, Ok, IfErr, OnOk, OnErr};
+ghost use Rattle.std.specs.Prelude.{◌≡◌, ◌≢◌, ◌⊎◌, ◌↔◌, ℕ, IsTrue, List, [], ◌∷◌, false, Ok, IfErr, OnOk, OnErr};
 ghost use Rattle.su_view.specs.declared.refusals.ViewRefusal.TheVariants.{Plain};
 ghost use Rattle.sha2.specs.Sha256.{sha256};
 ghost use Rattle.su_bytes.specs.declared.refusals.Refusal.TheVariants.{Malformed, MissingBlock, NoMemory};
 ghost use Rattle.su_op.specs.declared.operations.Change.{Change};
 ghost use Rattle.su_change.specs.Item.{item_bytes};
-ghost use Rattle.su_version.specs.Commit.{commit_bytes};
+ghost use Rattle.su_version.specs.Chain.{IsSignedBy};
+ghost use Rattle.su_version.specs.Commit.{Commit as CommitParts, commit_bytes};
 ghost use Rattle.su_view.specs.Holding.{Took};
-ghost use Rattle.su_view.specs.Joining.{HasFailed, IsRefusedCommit};
+ghost use Rattle.su_view.specs.Joining.{IsRefusedCommit};
+ghost use Rattle.su_view.specs.Viewed.{FailsToLoad};
 ghost use Rattle.su_log.specs.Record.{IsExamined, IsVerdict, spelled};
 ghost use Rattle.su_log_ahead.specs.Ahead.{IsLeft};
+ghost use Rattle.su_audit.specs.declared.steps.NotTaken.TheVariants.{Refused, Unloaded};
 ghost use Rattle.su_audit.specs.declared.steps.Step.TheVariants as step;
-ghost use Rattle.su_audit.specs.Step.{IsRefusedRecord, TakesRecord, Steps};
+ghost use Rattle.su_audit.specs.Step.{IfRefused, IsRefusedRecord, TakesRecord, Steps};
 
-use crate::singles::Single;
+use crate::audits::Fault;
 use std::alloc::Global;
-use std::io;
 use std::io::Read;
 use std::thread::Threads;
 use su_block::{BlockSource, MemoryBlocks};
 use su_bytes::Refusal;
 use su_log::{Record, Stop};
 use su_log_ahead::Ahead;
+use su_no_blocks::NoBlocks;
 use su_version::{Commit, Verdict};
 use su_view::{View, ViewRefusal};
 
@@ -34,8 +37,18 @@ pub(crate) enum Step {
     Ended,
     /// It is refused.
     Refused(ViewRefusal),
-    /// It can't be read.
-    Failed(io::Error),
+    /// Something fails, as reading it.
+    Failed(Fault),
+}
+
+/// Why the commit of a record isn't taken.
+#[derive(Drop)]
+enum NotTaken {
+    /// It is refused.
+    Refused(ViewRefusal),
+    /// Something of the view's tree isn't loaded. (It can't come, as nothing of it was left anywhere;
+    /// but no clause of the view says so.)
+    Unloaded,
 }
 
 /// Puts the item of the next record of a log among those that came before, and lets the view take
@@ -48,7 +61,7 @@ pub(crate) fn next_step<T: Threads + Sync, R: Read + Drop>(
     alloc: Global,
     log: &mut Ahead<R>,
     items: &mut MemoryBlocks,
-    view: &mut View<Single>,
+    view: &mut View<NoBlocks>,
 ) -> Step
     ensures { (place : ℕ) (input : List ℕ) → IsLeft log.old place input
         → Steps place view.old.holding items.old.items input (IsLeft log.new)
@@ -57,11 +70,12 @@ pub(crate) fn next_step<T: Threads + Sync, R: Read + Drop>(
     match log.next(rt, alloc) {
         Ok(next) => match take(alloc, items, view, next) {
             Ok(()) => Step::Took,
-            Err(refusal) => Step::Refused(refusal),
+            Err(NotTaken::Refused(refusal)) => Step::Refused(refusal),
+            Err(NotTaken::Unloaded) => Step::Failed(Fault::NoMemory),
         },
         Err(Stop::End) => Step::Ended,
         Err(Stop::Cut(place)) => refused_at(place),
-        Err(Stop::Failed(error)) => Step::Failed(error),
+        Err(Stop::Failed(error)) => Step::Failed(Fault::Reading(error)),
     }
 }
 
@@ -76,14 +90,14 @@ fn refused_at(place: u64) -> Step
 fn take(
     alloc: Global,
     items: &mut MemoryBlocks,
-    view: &mut View<Single>,
+    view: &mut View<NoBlocks>,
     next: Record,
-) -> Result<(), ViewRefusal>
+) -> Result<(), NotTaken>
     requires { IsExamined next }
     ensures took { OnOk result (TakesRecord view.old.holding items.old.items (spelled next)
         view.new.holding items.new.items) }
-    ensures refused { IfErr result (IsRefusedRecord view.old.holding items.old.items
-        next.bytes.items next.item.items) }
+    ensures refused { IfErr result (IfRefused (IsRefusedRecord view.old.holding items.old.items
+        next.bytes.items next.item.items)) }
     ensures err { OnErr result (view.new.holding ≡ view.old.holding) }
 {
     let Record {
@@ -93,82 +107,88 @@ fn take(
         key: _key,
         verdict,
     } = next;
-    let digest = match items.put(alloc, item.as_slice()) {
+    let _digest = match items.put(alloc, item.as_slice()) {
         Ok(digest) => digest,
-        Err(refusal) => return Err(ViewRefusal::Plain(refusal)),
+        Err(refusal) => return Err(refused(refusal)),
     };
     let commit = match commit {
         Ok(commit) => commit,
-        Err(refusal) => return Err(ViewRefusal::Plain(refusal)),
+        Err(refusal) => return Err(refused(refusal)),
     };
     let change = commit.version().change();
     match items.get(alloc, change) {
-        Ok(found) => {
-            view.source_mut().hold(change, found);
-            join(view, commit, bytes.as_slice(), verdict)
-        }
-        // The view looks whether the commit may be the next before it asks for the item.
-        Err(Refusal::MissingBlock) => {
-            view.source_mut().hold(digest, item);
-            join(view, commit, bytes.as_slice(), verdict)
-        }
-        Err(refusal) => Err(ViewRefusal::Plain(refusal)),
+        Ok(found) => join(view, commit, bytes.as_slice(), verdict, found, true),
+        // The view looks whether the commit may be the next before it looks at the item.
+        Err(Refusal::MissingBlock) => { join(view, commit, bytes.as_slice(), verdict, item, false) }
+        Err(refusal) => Err(refused(refusal)),
     }
 }
 
-/// Lets the view take a commit, with the item that its source has. `MissingBlock` where that has
-/// another digest than the commit names.
+/// The refusal that other calls share.
+fn refused(refusal: Refusal) -> NotTaken
+    ensures { result ≡ Refused (Plain refusal) }
+{
+    NotTaken::Refused(ViewRefusal::Plain(refusal))
+}
+
+/// Lets the view take a commit, with an item; `is_named` tells whether that has the digest that the
+/// commit names. `MissingBlock` where it hasn't.
 fn join(
-    view: &mut View<Single>,
+    view: &mut View<NoBlocks>,
     commit: Commit,
     bytes: &[u8],
     verdict: Option<Verdict>,
-) -> Result<(), ViewRefusal>
+    item: Vec<u8>,
+    is_named: bool,
+) -> Result<(), NotTaken>
     requires bytes { bytes.now ≡ commit_bytes commit }
     requires verdict { IsVerdict (Ok commit) verdict }
+    requires other { is_named ≡ false → sha256 item.items ≢ commit.version.change }
     ensures took { OnOk result ((change : Change)
-        × (item_bytes change ≡ view.old.source.item) × Took view.old.holding
+        × (item_bytes change ≡ item.items) × Took view.old.holding
         (record { commit = commit; change = change } ∷ []) view.new.holding) }
-    ensures refused { IfErr result (λ e. (e ≡ Plain NoMemory)
-        ⊎ ((e ≡ Plain MissingBlock) × (sha256 view.old.source.item ≢ commit.version.change))
-        ⊎ IsRefusedCommit (λ item. item ≡ view.old.source.item) view.old.holding commit e) }
+    ensures refused { IfErr result (IfRefused (λ e. (e ≡ Plain NoMemory)
+        ⊎ ((e ≡ Plain MissingBlock) × (sha256 item.items ≢ commit.version.change))
+        ⊎ IsRefusedCommit (λ i. i ≡ item.items) view.old.holding commit e)) }
     ensures err { OnErr result (view.new.holding ≡ view.old.holding) }
 {
-    let change = commit.version().change();
-    match offer(view, commit, bytes, verdict) {
+    match view.accept_with(commit, bytes, verdict_or_none(verdict), item) {
         Ok(()) => Ok(()),
-        Err(refusal) => {
-            if view.source_mut().has_lacked(change) {
-                return Err(ViewRefusal::Plain(Refusal::MissingBlock));
-            }
-            Err(refusal)
-        }
+        Err(refusal) => Err(not_taken(refusal, is_named)),
     }
 }
 
-/// Lets the view take a commit, with what its source gives as the item.
-fn offer(
-    view: &mut View<Single>,
-    commit: Commit,
-    bytes: &[u8],
-    verdict: Option<Verdict>,
-) -> Result<(), ViewRefusal>
-    requires bytes { bytes.now ≡ commit_bytes commit }
-    requires verdict { IsVerdict (Ok commit) verdict }
-    ensures took { OnOk result ((change : Change)
-        × (item_bytes change ≡ view.old.source.item) × Took view.old.holding
-        (record { commit = commit; change = change } ∷ []) view.new.holding) }
-    ensures refused { IfErr result (λ e. (e ≡ Plain NoMemory)
-        ⊎ HasFailed view.old.source.failed view.new.source.failed commit.version.change e
-        ⊎ IsRefusedCommit (λ item. item ≡ view.old.source.item) view.old.holding commit e) }
-    ensures err { OnErr result (view.new.holding ≡ view.old.holding) }
-    ensures same { view.new.source.item ≡ view.old.source.item }
+/// Returns the verdict on a commit, if there is one; else that it isn't signed under no key, so that
+/// who takes the commit checks its signature.
+fn verdict_or_none(known: Option<Verdict>) -> Verdict
+    ensures { (c : CommitParts) → IsVerdict (Ok c) known
+        → IsTrue result.is_signed ↔ IsSignedBy result.key c }
 {
-    match verdict {
-        Some(verdict) => view.accept_known(commit, bytes, verdict),
-        None => match view.accept_own(&commit) {
-            Ok(_) => Ok(()),
-            Err(refusal) => Err(refusal),
+    match known {
+        Some(verdict) => verdict,
+        None => Verdict {
+            key: None,
+            is_signed: false,
         },
+    }
+}
+
+/// Tells why a commit isn't taken, by what a view refused that had an item for it: a load that is
+/// refused isn't told as a refusal, but for want of memory. `is_named` tells whether it was the item
+/// that the commit names, which can't be missing.
+fn not_taken(refusal: ViewRefusal, is_named: bool) -> NotTaken
+    ensures { ((result ≡ Unloaded) × FailsToLoad refusal) ⊎ ((result ≡ Refused refusal)
+        × (FailsToLoad refusal → (refusal ≡ Plain NoMemory)
+        ⊎ ((refusal ≡ Plain MissingBlock) × (is_named ≡ false)))) }
+{
+    match refusal {
+        ViewRefusal::Plain(Refusal::MissingBlock) if !is_named => NotTaken::Refused(refusal),
+        ViewRefusal::Plain(
+            Refusal::MissingBlock
+            | Refusal::WrongBlock
+            | Refusal::SourceFailed
+            | Refusal::Malformed(0),
+        ) => NotTaken::Unloaded,
+        _ => NotTaken::Refused(refusal),
     }
 }

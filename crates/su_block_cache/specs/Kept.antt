@@ -27,7 +27,8 @@ abbrev pub with_newest : ℕ → List ℕ → List ℕ → Items → Items
 with_newest capacity digest item items =
     take capacity ((digest, item) ∷ remove_entry (bytes_eq digest) items)
 
--- The item is kept as the newest; or there was no memory for that, and nothing changes.
+-- The item is kept as the newest; or it isn't, as it is a long one or there was no memory for it, and
+-- nothing changes.
 abbrev pub Keeps : ℕ → List ℕ → List ℕ → Items → Items → Type 0
 Keeps capacity digest item old new =
     (new ≡ with_newest capacity digest item old) ⊎ (new ≡ old)

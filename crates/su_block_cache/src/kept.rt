@@ -11,6 +11,10 @@ use std::marker::Model;
 use std::num::NonZeroUsize;
 use su_bytes::{Digest, Refusal};
 
+/// How many bytes an item has at most that is kept. A node of a tree has fewer; what has more is a
+/// change, which is asked for once.
+const LONGEST_KEPT: usize = 8_192;
+
 /// Items under digests, no more than a capacity. Where one more comes, the one goes that was used
 /// longest ago. Its model is the items, the one that was used last first, and the capacity.
 #[derive(Drop)]
@@ -80,12 +84,15 @@ impl KeptItems {
         }
     }
 
-    /// Keeps a copy of an item under a digest, as the newest, in place of what was there. Where
-    /// there is no memory for it, it isn't kept, and nothing changes.
+    /// Keeps a copy of an item under a digest, as the newest, in place of what was there. One of more
+    /// than 8,192 bytes isn't kept, nor one for which there is no memory: then nothing changes.
     pub(crate) fn keep(&mut self, alloc: Global, digest: &Digest, item: &[u8])
         ensures keeps { Keeps self.old.capacity digest.now item.now self.old.items self.new.items }
         ensures capacity { self.new.capacity ≡ self.old.capacity }
     {
+        if LONGEST_KEPT < item.len() {
+            return;
+        }
         let Ok(item) = Item::copy_of(alloc, item) else {
             return;
         };

@@ -16,7 +16,7 @@ use Rattle.su_book.specs.declared.events.Event.{Event}
 use Rattle.su_book.specs.declared.events.Event.TheVariants as event
 use Rattle.su_book.specs.declared.steps.Act.{Act}
 use Rattle.su_book.specs.declared.steps.Act.TheVariants.{Granted, Stored, Given}
-use Rattle.su_book.specs.Machine.{BookState, storing_order, MayBeGranted, MayBeStored, MayAct, Asks, IsUnfit, IsRefused, holder_of, records_of, count_of}
+use Rattle.su_book.specs.Machine.{BookState, storing_order, MayBeGranted, MayBeStored, MayAct, AsksFor, IsUnfit, IsRefused, holder_of, records_of, count_of}
 
 -- ---- what bytes spell
 
@@ -80,22 +80,22 @@ commit_refused b seat bytes (Err e) x is turn (inr unfit) = inl (inr (turn, subs
 
 -- ---- what is asked for
 
-pub grant_asks : (x : Act) → Asks event.Grant x → (n : ℕ) × (x ≡ Granted n)
+pub grant_asks : (x : Act) → AsksFor event.Grant x → (n : ℕ) × (x ≡ Granted n)
 grant_asks (Granted n) asks = (n, refl)
 grant_asks (Stored n c) asks = absurd asks
 grant_asks Given asks = absurd asks
 
-pub commit_asks : (bytes : _) (x : Act) → Asks (event.Commit bytes) x → (n : ℕ) × (c : Commit) × (x ≡ Stored n c) × (bytes.items ≡ commit_bytes c)
+pub commit_asks : (bytes : _) (x : Act) → AsksFor (event.Commit bytes) x → (n : ℕ) × (c : Commit) × (x ≡ Stored n c) × (bytes.items ≡ commit_bytes c)
 commit_asks bytes (Granted n) asks = absurd asks
 commit_asks bytes (Stored n c) asks = (n, c, refl, asks)
 commit_asks bytes Given asks = absurd asks
 
-pub give_asks : (x : Act) → Asks event.Give x → x ≡ Given
+pub give_asks : (x : Act) → AsksFor event.Give x → x ≡ Given
 give_asks (Granted n) asks = absurd asks
 give_asks (Stored n c) asks = absurd asks
 give_asks Given asks = refl
 
-pub one_act : (b : BookState) (seat : ℕ) (e : Event) (x y : Act) → Asks e x → Asks e y → MayAct b seat x → MayAct b seat y → x ≡ y
+pub one_act : (b : BookState) (seat : ℕ) (e : Event) (x y : Act) → AsksFor e x → AsksFor e y → MayAct b seat x → MayAct b seat y → x ≡ y
 one_act b seat event.Grant x y ask_x ask_y may_x may_y =
     let (n, is_n) = grant_asks x ask_x in
     let (m, is_m) = grant_asks y ask_y in
@@ -119,7 +119,7 @@ one_refused b seat (event.Commit bytes) x y (inr p) (inl q) = absurd (q.1 p.0)
 one_refused b seat (event.Commit bytes) x y (inr p) (inr q) = one_unfit b bytes.items x y p.1 q.1
 one_refused b seat event.Give x y p q = p.0 ∙ sym q.0
 
-pub not_both : (b : BookState) (seat : ℕ) (e : Event) (x : Act) (y : Refusal) → Asks e x → MayAct b seat x → IsRefused b seat e y → ⊥
+pub not_both : (b : BookState) (seat : ℕ) (e : Event) (x : Act) (y : Refusal) → AsksFor e x → MayAct b seat x → IsRefused b seat e y → ⊥
 not_both b seat event.Grant x y asks may (o, _, holder, other) =
     let (n, is) = grant_asks x asks in
     let p : MayBeGranted b seat n = subst (MayAct b seat) is may in

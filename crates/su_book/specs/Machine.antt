@@ -105,11 +105,11 @@ IsRun b = RunsFrom (record b { journal = [] }) b.journal
 -- ---- what a seat asks for
 
 -- The act is what the event asks for: of the bytes of a commit, that this commit is stored.
-abbrev pub Asks : Event → Act → Type 0
-Asks event.Grant (Granted _) = Unit {0}
-Asks (event.Commit bytes) (Stored _ c) = bytes.items ≡ commit_bytes c
-Asks event.Give Given = Unit {0}
-Asks _ _ = ⊥
+abbrev pub AsksFor : Event → Act → Type 0
+AsksFor event.Grant (Granted _) = Unit {0}
+AsksFor (event.Commit bytes) (Stored _ c) = bytes.items ≡ commit_bytes c
+AsksFor event.Give Given = Unit {0}
+AsksFor _ _ = ⊥
 
 -- ---- what it is refused
 
@@ -169,7 +169,7 @@ TellsRecords reply.Given = Unit {0}
 pub record Stepped (b : BookState) (seat : ℕ) (e : Event) (b' : BookState) (r : BookReply)
     : Type 0 where
   pub act : Act
-  pub asked : Asks e act
+  pub asked : AsksFor e act
   pub may : MayAct b seat act
   pub becomes : b' ≡ with_step b (record { seat = seat; act = act })
   pub told : Tells (records_of b.journal) act r

@@ -5,7 +5,7 @@ ghost use Rattle.su_version.specs.Chain.{chain_key};
 ghost use Rattle.su_chain.specs.ChainEnd.{HasBadKey};
 ghost use Rattle.su_book.specs.declared.events.Event.TheVariants.{Grant, Commit, Give};
 ghost use Rattle.su_book.specs.declared.steps.Act.TheVariants.{Granted};
-ghost use Rattle.su_book.specs.Machine.{IsCapacity, IsRun, Asks, MayFollow, IsRefused, Tells, Stepped, with_step, records_of, count_of};
+ghost use Rattle.su_book.specs.Machine.{IsCapacity, IsRun, AsksFor, MayFollow, IsRefused, Tells, Stepped, with_step, records_of, count_of};
 
 use crate::events::{BookReply, Event};
 use crate::keeping::{Keeping, last_numbers};
@@ -90,7 +90,7 @@ impl Book {
     pub fn answer(&self, seat: u16, event: &mut Event) -> Result<Step, Refusal>
         ensures same { event.new ≡ event.old }
         ensures seat { IfOk result (λ step. step.seat ≡ seat) }
-        ensures asked { IfOk result (λ step. Asks event.old step.act) }
+        ensures asked { IfOk result (λ step. AsksFor event.old step.act) }
         ensures follows { IfOk result (λ step. MayFollow self.now step) }
         ensures refused { IfErr result (λ e. IsRefused self.now seat event.old e
             ⊎ ((e ≡ NoMemory) × (event.old ≢ Grant) × (event.old ≢ Give))) }
@@ -104,7 +104,7 @@ impl Book {
 
     fn grant(&self, seat: u16) -> Result<Step, Refusal>
         ensures seat { IfOk result (λ step. step.seat ≡ seat) }
-        ensures asked { IfOk result (λ step. Asks Grant step.act) }
+        ensures asked { IfOk result (λ step. AsksFor Grant step.act) }
         ensures follows { IfOk result (λ step. MayFollow self.now step) }
         ensures refused { IfErr result (λ e. IsRefused self.now seat Grant e) }
     {
@@ -118,7 +118,7 @@ impl Book {
     fn store(&self, seat: u16, offer: &mut Offer) -> Result<Step, Refusal>
         ensures same { offer.new ≡ offer.old }
         ensures seat { IfOk result (λ step. step.seat ≡ seat) }
-        ensures asked { IfOk result (λ step. Asks (Commit offer.old) step.act) }
+        ensures asked { IfOk result (λ step. AsksFor (Commit offer.old) step.act) }
         ensures follows { IfOk result (λ step. MayFollow self.now step) }
         ensures refused { IfErr result (λ e. IsRefused self.now seat (Commit offer.old) e
             ⊎ (e ≡ NoMemory)) }
@@ -133,7 +133,7 @@ impl Book {
 
     fn give(&self, seat: u16) -> Result<Step, Refusal>
         ensures seat { IfOk result (λ step. step.seat ≡ seat) }
-        ensures asked { IfOk result (λ step. Asks Give step.act) }
+        ensures asked { IfOk result (λ step. AsksFor Give step.act) }
         ensures follows { IfOk result (λ step. MayFollow self.now step) }
         ensures refused { IfErr result (λ e. IsRefused self.now seat Give e) }
     {

@@ -7,7 +7,7 @@ ghost use Rattle.su_book.specs.declared.steps.Step.{Step};
 ghost use Rattle.su_book.specs.declared.steps.Act.{Act};
 ghost use Rattle.su_book.specs.declared.steps.Act.TheVariants.{Stored};
 ghost use Rattle.su_book.specs.declared.events.Event.{Event};
-ghost use Rattle.su_book.specs.Machine.{BookState, IsRun, MayFollow, MayAct, Asks, IsRefused, with_step, holder_of, records_of, count_of, stored_by};
+ghost use Rattle.su_book.specs.Machine.{BookState, IsRun, MayFollow, MayAct, AsksFor, IsRefused, with_step, holder_of, records_of, count_of, stored_by};
 
 /// While a seat has the turn, no other makes a step.
 pub fn one_seat_has_the_turn()
@@ -35,10 +35,10 @@ pub fn records_are_a_chain()
 /// The machine gives one answer: what is asked for in a state has one act, or one refusal, and not
 /// both.
 pub fn one_answer()
-    ensures act { (b : BookState) (seat : ℕ) (e : Event) (x y : Act) → Asks e x → Asks e y
+    ensures act { (b : BookState) (seat : ℕ) (e : Event) (x y : Act) → AsksFor e x → AsksFor e y
         → MayAct b seat x → MayAct b seat y → x ≡ y }
     ensures refusal { (b : BookState) (seat : ℕ) (e : Event) (x y : Refusal)
         → IsRefused b seat e x → IsRefused b seat e y → x ≡ y }
     ensures either { (b : BookState) (seat : ℕ) (e : Event) (x : Act) (y : Refusal)
-        → Asks e x → MayAct b seat x → IsRefused b seat e y → ⊥ }
+        → AsksFor e x → MayAct b seat x → IsRefused b seat e y → ⊥ }
 {}

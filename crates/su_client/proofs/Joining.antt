@@ -63,7 +63,7 @@ nothing_taken old new (Some m) e n = absurd cc
 -- ---- what may be given
 
 module _ (x : List ℕ) where
-  told_before : (message : List ℕ) → IsMessage message → (waits input waits' : List ℕ) (known known' : Option (List ℕ)) → waits ++ input ≡ frame message ++ waits' → Consumes known known' input
+  pub told_before : (message : List ℕ) → IsMessage message → (waits input waits' : List ℕ) (known known' : Option (List ℕ)) → waits ++ input ≡ frame message ++ waits' → Consumes known known' input
       → IsToldOf waits' known' x → IsToldOf waits known x
   told_before message is waits input waits' None known' next read told = tt
   told_before message is waits input waits' (Some bytes) None next read told = absurd read

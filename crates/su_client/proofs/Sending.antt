@@ -12,10 +12,12 @@ use Rattle.std.proofs.lemmas.List.{nil_from_length}
 use Rattle.std.specs.Cmp.Lexicographic.{pointwise, bytes_decides}
 use Rattle.su_frames.specs.Stream.{frame}
 use Rattle.su_message.specs.declared.replies.Reply.{Reply}
-use Rattle.su_client.specs.Link.{LinkState, Follows, GoesAhead}
+use Rattle.su_message.specs.Reply.{reply_bytes}
+use Rattle.su_client.specs.Link.{LinkState, Follows, GoesAhead, MayGive}
 use Rattle.su_client.specs.Following.{follows_itself}
 use Rattle.su_client.specs.Ahead.{before, framed, without}
 use Rattle.su_client.specs.Asking.{Exchanges, Hearing, Hears, Joins, Reads, Sending, Spends, Writes, Writing}
+use Rattle.su_client.proofs.Joining.{told_before}
 
 -- ---- the bytes before an end
 
@@ -184,6 +186,14 @@ module _ (now a : LinkState) (ms : List (Vec ℕ)) (view : without a ms ≡ now)
 
   pub passed_none : (ms' : List (Vec ℕ)) → ms ≡ ms' → Follows now (without a ms')
   passed_none ms' same = subst (Follows now) (sym view ∙ ap (without a) same) (follows_itself now)
+
+  -- what may be given once a reply was passed by might be given before
+  pub given_first : (x : List ℕ) (r : Reply) (c : LinkState) (ms' : List (Vec ℕ)) → a.failed ≡ false → Hears a r c → MayGive (without c ms') x → MayGive now x
+  given_first x r c ms' works h (good, told) =
+      subst (λ (l : LinkState). MayGive l x) view (works, told_before x (reply_bytes r) h.is a.waits h.input c.waits a.known c.known h.next h.read told)
+
+  pub given_none : (x : List ℕ) (ms' : List (Vec ℕ)) → ms ≡ ms' → MayGive (without a ms') x → MayGive now x
+  given_none x ms' same = subst (λ (l : LinkState). MayGive l x) (ap (without a) (sym same) ∙ view)
 
   pub goes : (message : List ℕ) (m : Vec ℕ) (ms' ms'' : List (Vec ℕ)) (b : LinkState) → ms' ≡ ms → ms'' ≡ ms' ++ m ∷ [] → message ≡ m.items → a.failed ≡ false → Writes (frame message) a b
       → GoesAhead now (without b ms'')

@@ -70,6 +70,16 @@ impl<R: Read + Drop, W: Write + Drop> Client<R, W> {
         self.link.pass_ahead();
     }
 
+    /// Reads the replies to what was sent ahead before this request, which isn't asked for any more:
+    /// to all of it, where the request wasn't sent. The request may be asked for then.
+    pub fn pass_to(&mut self, request: &Request)
+        ensures follows { Follows self.old.link self.new.link }
+        ensures no_more { (s : List ℕ) → MayGive self.new.link s → MayGive self.old.link s }
+        ensures failures { self.new.failures ≡ self.old.failures }
+    {
+        self.link.pass_to(request);
+    }
+
     /// Asks for the turn. Returns how many records there are, and the last of each user. `Busy`
     /// with the seat that has it.
     pub fn grant(&mut self) -> Result<(u64, LastNumbers), Refusal>

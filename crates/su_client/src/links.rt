@@ -1,7 +1,7 @@
 // The link to a server, with requests that are sent ahead.
-ghost use Rattle.std.specs.Prelude.{◌≡◌, [], true, false};
+ghost use Rattle.std.specs.Prelude.{◌≡◌, [], ℕ, List, true, false};
 ghost use Rattle.su_bytes.specs.declared.refusals.Refusal.TheVariants.{LinkFailed};
-ghost use Rattle.su_client.specs.Link.{LinkState, Asked, Exchanged, Follows, GoesAhead, IsRefusal, Refuses};
+ghost use Rattle.su_client.specs.Link.{LinkState, Asked, Exchanged, Follows, GoesAhead, IsRefusal, MayGive, Refuses};
 ghost use Rattle.su_client.specs.Asking.{Exchanges, Sending};
 
 use crate::refusals::{may_refuse, told};
@@ -118,9 +118,35 @@ impl<R: Read + Drop, W: Write + Drop> Link<R, W> {
         }
     }
 
+    /// Reads the replies to what was sent ahead before this request, which isn't asked for any more:
+    /// to all of it, where the request wasn't sent.
+    pub fn pass_to(&mut self, request: &Request)
+        ensures follows { Follows self.old self.new }
+        ensures no_more { (s : List ℕ) → MayGive self.new s → MayGive self.old s }
+    {
+        let Ok(message) = request.encode(self.alloc) else {
+            return;
+        };
+        for _ in 0..self.ahead.len() {
+            if self.is_next(message.as_slice()) {
+                return;
+            }
+            self.pass_one();
+        }
+    }
+
+    /// Tells whether a message is the first of those that were sent ahead.
+    fn is_next(&self, message: &[u8]) -> bool {
+        match self.ahead.front() {
+            Some(first) => first.as_slice() == message,
+            None => false,
+        }
+    }
+
     /// Reads the reply to the first of those.
     fn pass_one(&mut self)
-        ensures { Follows self.old self.new }
+        ensures follows { Follows self.old self.new }
+        ensures no_more { (s : List ℕ) → MayGive self.new s → MayGive self.old s }
     {
         if self.has_failed() {
             return;

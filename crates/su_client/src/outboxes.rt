@@ -212,7 +212,8 @@ impl<R: Read + Drop, W: Write + Drop> Outbox<R, W> {
         }
     }
 
-    /// Gets the item of a digest from the server, once all items that wait are put.
+    /// Gets the item of a digest from the server, once all items that wait are put. What was sent
+    /// ahead before the request for it is passed by: what lies in a cache above isn't asked for.
     fn get_put(&mut self, alloc: Global, digest: Digest) -> Result<Vec<u8>, Refusal>
         ensures given { IfOk result (λ item. MayGive self.old.client.link item.items) }
         ensures refused { IfErr result (λ e.
@@ -224,6 +225,7 @@ impl<R: Read + Drop, W: Write + Drop> Outbox<R, W> {
         ensures failures { self.new.failures ≡ self.old.failures }
     {
         self.settle(alloc)?;
+        self.client.pass_to(&Request::Get(digest));
         self.client.get(alloc, digest)
     }
 }

@@ -1,14 +1,13 @@
 -- What is carried out for a command, and for a line.
-use Rattle.std.proofs.Common.{◌≡◌, ◌∙◌, ℕ, Bool, List, [], Option, Result, Ok, Err, inl, inr, refl, sym, subst, append-nil}
+use Rattle.std.proofs.Common.{◌≡◌, ℕ, Bool, List, [], Option, Result, Ok, Err, inl, inr, refl, sym, subst, append-nil}
 use Rattle.std.specs.Prelude.{OnOk, OnErr, IfOk, MatchResult}
 use Rattle.std.specs.Io.KnownBytes.{Appends}
 use Rattle.su_op.specs.declared.operations.Op.{Op}
 use Rattle.su_draft.specs.declared.commands.Command.{Command}
 use Rattle.su_view.specs.declared.refusals.ViewRefusal.{ViewRefusal}
 use Rattle.su_client.specs.Link.{LinkState}
-use Rattle.su_view.specs.Acting.{TakesSome}
-use Rattle.su_client_work.specs.Member.{MemberState, OnlyTakes, Stays}
-use Rattle.su_client_work.specs.Turn.{Looks}
+use Rattle.su_view.specs.Holding.{HoldingState}
+use Rattle.su_client_work.specs.Member.{MemberState, IsClear, OnlyTakes}
 use Rattle.su_client_lines.specs.Said.{Said, asked_of}
 use Rattle.su_client_lines.specs.Said as said
 use Rattle.su_client_lines.specs.declared.commands.ClientCommand.{ClientCommand}
@@ -37,22 +36,13 @@ prints_so old new D E so (text, done, printed) = (text, so text done, printed)
 pub saved_so : {P : Type 0} (saves : P → List ℕ → List ℕ → P → Type 0) (before after : P) (f file l log : List ℕ) → f ≡ file → l ≡ log → saves before f l after → IsSaved saves file log
 saved_so saves before after f file l log same_file same_log is = (before, after, subst (λ x. saves before x log after) same_file (subst (λ x. saves before f x after) same_log is))
 
--- ---- what is only taken
-
-pub takes_stays : (s m t : MemberState) → OnlyTakes s m → Stays m t → OnlyTakes s t
-takes_stays s m t p q = record {
-  takes = subst (λ v. TakesSome s.holding v) (sym q.holding) p.takes;
-  signed = q.signed ∙ p.signed;
-  next = q.next ∙ p.next;
-}
-
 -- ---- questions
 
-pub asks_so : {A : Type 0} (r : Result A ViewRefusal) (M : LinkState → Type 0) (s t : MemberState) (old new : Option (List ℕ)) (Answers : List ℕ → Type 0) (shown : A → List ℕ) (Holds : A → Type 0)
-    → OnlyTakes s t → OnOk r (Looks M s.link t.holding t.link) → IfOk r Holds → ((x : A) → Holds x → Answers (shown x))
-    → MatchResult r (λ x. Appends old new (shown x)) (λ e. Appends old new (refusal_shown e)) → Prints old new (λ text. Tells M (Answers text) s t text)
-asks_so (Ok x) M s t old new Answers shown Holds takes looks holds so printed = (shown x, record { takes = takes; answers = inr (looks, so x holds) }, printed)
-asks_so (Err e) M s t old new Answers shown Holds takes looks holds so printed = (refusal_shown e, record { takes = takes; answers = inl (e, refl) }, printed)
+pub asks_so : {A : Type 0} (r : Result A ViewRefusal) (Looked : LinkState → HoldingState → LinkState → Type 0) (s t : MemberState) (old new : Option (List ℕ)) (Answers : List ℕ → Type 0) (shown : A → List ℕ) (Holds : A → Type 0)
+    → OnlyTakes s t → OnOk r (Looked s.link t.holding t.link) → (IsClear t → IfOk r Holds) → ((x : A) → (IsClear t → Holds x) → Answers (shown x))
+    → MatchResult r (λ x. Appends old new (shown x)) (λ e. Appends old new (refusal_shown e)) → Prints old new (λ text. Tells Looked (Answers text) s t text)
+asks_so (Ok x) Looked s t old new Answers shown Holds takes looks holds so printed = (shown x, record { takes = takes; answers = inr (looks, so x holds) }, printed)
+asks_so (Err e) Looked s t old new Answers shown Holds takes looks holds so printed = (refusal_shown e, record { takes = takes; answers = inl (e, refl) }, printed)
 
 -- ---- what is done at most
 
@@ -65,6 +55,7 @@ change_some M batches it s t text (inr plan) = inr (record {
   turn = plan.turn;
   parts = plan.parts;
   plans = plan.plans;
+  clear = plan.clear;
   committed = commits_some M plan.turn t text plan.parts plan.committed;
 })
 

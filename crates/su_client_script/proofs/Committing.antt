@@ -11,6 +11,7 @@ use Rattle.su_client_script.specs.Lines.{Prints}
 use Rattle.su_client_script.specs.Text.{number_shown, refusal_shown}
 use Rattle.su_client_script.specs.Step.{IsOutcome, is_refused}
 use Rattle.su_client_script.specs.declared.answers.Outcome.{Outcome}
+use Rattle.su_client_script.specs.declared.places.Place.{Place}
 use Rattle.su_client_script.proofs.Adding.{appends_then}
 
 pub not_behind : (held : Bool) (parts : List (List Op)) (part : List Op) → held_behind held (parts ++ part ∷ []) ≡ false
@@ -59,11 +60,11 @@ module _ (M : LinkState → Type 0) where
 
 -- ---- what came of one
 
-pub was_refused : (a : Bool) (r : Result ℕ ViewRefusal) (out : Outcome) → IsOutcome a r out → is_refused out ≡ true → (e : ViewRefusal) × (r ≡ Err e)
+pub was_refused : (a : Place) (r : Result ℕ ViewRefusal) (out : Outcome) → IsOutcome a r out → is_refused out ≡ true → (e : ViewRefusal) × (r ≡ Err e)
 was_refused a (Ok n) out is refused = absurd (let clash : false ≡ true = ap is_refused (sym is) ∙ refused in cc)
 was_refused a (Err e) out is refused = (e, refl)
 
-pub was_done : (a : Bool) (r : Result ℕ ViewRefusal) (out : Outcome) → IsOutcome a r out → is_refused out ≡ false → (n : ℕ) × (r ≡ Ok n)
+pub was_done : (a : Place) (r : Result ℕ ViewRefusal) (out : Outcome) → IsOutcome a r out → is_refused out ≡ false → (n : ℕ) × (r ≡ Ok n)
 was_done a (Ok n) out is refused = (n, refl)
 was_done a (Err e) out is refused = absurd (let clash : true ≡ false = ap is_refused (sym is) ∙ refused in cc)
 

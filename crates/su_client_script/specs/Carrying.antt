@@ -10,10 +10,10 @@ use Rattle.su_plan.specs.Plan.{plan}
 use Rattle.su_view.specs.Holding.{HoldingState, tree_of_list}
 use Rattle.su_view.specs.declared.refusals.ViewRefusal.{ViewRefusal}
 use Rattle.su_client.specs.Link.{LinkState}
-use Rattle.su_client_work.specs.Member.{MemberState, Lists, OnlyTakes, Shows}
+use Rattle.su_client_work.specs.Member.{MemberState, IsClear, Lists, OnlyTakes, Shows}
 use Rattle.su_client_work.specs.Publishing.{always, last_undo, CommitsAtMost, IsPublished, Publishes, SignsAtMost}
 use Rattle.su_client_work.specs.SavedLog.{saved_log}
-use Rattle.su_client_work.specs.Turn.{Looks, TakesTurn}
+use Rattle.su_client_work.specs.Turn.{HasLooked, Looks, TakesTurn}
 use Rattle.su_client_lines.specs.declared.commands.ClientCommand.{ClientCommand}
 use Rattle.su_client_lines.specs.declared.commands.ClientCommand.TheVariants as command
 use Rattle.su_desk_script.specs.Answer.{answer_text, bytes_text}
@@ -30,6 +30,15 @@ pub record Commits (MayConnect : LinkState → Type 0) (change_of : HoldingState
     (s t : MemberState) (r : Result ℕ ViewRefusal) : Type 0 where
   pub signs : CommitsAtMost change_of s r t
   pub published : IfOk r (Publishes MayConnect change_of s t)
+
+-- In a turn of its own it commits an undo, or that is refused: where nothing was mixed up, that of the
+-- last operation that stands.
+pub record CommitsLastUndo (MayConnect : LinkState → Type 0) (s t : MemberState)
+    (r : Result ℕ ViewRefusal) : Type 0 where
+  pub last : IsClear t → Commits MayConnect last_undo s t r
+  pub signs : (number : ℕ) × CommitsAtMost (always (change.Undo number)) s r t
+  pub published : IfOk r (λ n. (number : ℕ)
+      × Publishes MayConnect (always (change.Undo number)) s t n)
 
 -- so it does in the turn that it has
 pub record CommitsNow (it : Change) (s t : MemberState) (r : Result ℕ ViewRefusal) : Type 0 where
@@ -87,15 +96,15 @@ CommitsSome MayConnect parts s t =
 
 -- ---- commands on paths
 
--- The client takes a turn, plans a command on the tree that it has then, and cuts its operations
--- into these parts.
+-- The client takes a turn, plans a command, where nothing was mixed up on the tree that it has then,
+-- and cuts its operations into these parts.
 pub record PlansParts (MayConnect : LinkState → Type 0) (batches : Bool) (it : Command)
     (s turn : MemberState) (parts : List (List Op)) : Type 0 where
   pub takes : OnlyTakes s turn
   pub takes_turn : TakesTurn MayConnect s.link turn.holding turn.link
   pub operations : List Op
-  pub planned : let v = turn.holding in
-      plan v.roster (tree_of_list v) v.user it ≡ Ok operations
+  pub planned : let v = turn.holding in IsClear turn
+      → plan v.roster (tree_of_list v) v.user it ≡ Ok operations
   pub cut : IsCut batches operations parts
 
 -- so it does, and commits the parts
@@ -105,6 +114,7 @@ pub record CarriesPlan (MayConnect : LinkState → Type 0) (batches : Bool) (it 
     pub turn : MemberState
     pub parts : List (List Op)
     pub plans : PlansParts MayConnect batches it s turn parts
+    pub clear : IsClear t → IsClear turn
     pub committed : Committed parts turn t
 
 -- it does so until a part is refused, or it is refused before the first; a refusal is printed
@@ -124,17 +134,17 @@ CarriesSomeChange MayConnect batches it s t =
 
 -- Its answer is printed, once the client has looked at the list as it is now; or a refusal is. It
 -- signs nothing.
-pub record Tells (MayConnect : LinkState → Type 0) (Answers : Type 0) (s t : MemberState)
-    (text : List ℕ) : Type 0 where
+pub record Tells (Looked : LinkState → HoldingState → LinkState → Type 0) (Answers : Type 0)
+    (s t : MemberState) (text : List ℕ) : Type 0 where
   pub takes : OnlyTakes s t
-  pub answers : IsRefusal text ⊎ (Looks MayConnect s.link t.holding t.link × Answers)
+  pub answers : IsRefusal text ⊎ (Looked s.link t.holding t.link × Answers)
 
--- The client commits a change, before which it may go on to another key, and prints the number.
-abbrev pub CarriesUndo : (LinkState → Type 0) → (HoldingState → Change) → MemberState
-    → MemberState → List ℕ → Type 0
-CarriesUndo MayConnect change_of s t text =
-    (r : Result ℕ ViewRefusal)
-    × MovesOnThen MayConnect (λ ready. Commits MayConnect change_of ready t r) s
+-- The client commits an undo, before which it may go on to another key, and prints the number.
+abbrev pub CarriesUndo : (LinkState → Type 0)
+    → (MemberState → MemberState → Result ℕ ViewRefusal → Type 0) → MemberState → MemberState
+    → List ℕ → Type 0
+CarriesUndo MayConnect Undoes s t text =
+    (r : Result ℕ ViewRefusal) × MovesOnThen MayConnect (λ ready. Undoes ready t r) s
     × (text ≡ number_shown r)
 
 -- It goes on to the key in that file, or that is refused.
@@ -155,24 +165,26 @@ CarriesSomeRekey MayConnect s t =
 abbrev pub CarriesSave : (LinkState → Type 0) → FileCalls → List ℕ → MemberState → MemberState
     → List ℕ → Type 0
 CarriesSave MayConnect Files file s t text =
-    Tells MayConnect (Files.saves file (saved_log t.holding.held) × (text ≡ [])) s t text
+    Tells (Looks MayConnect) (Files.saves file (saved_log t.holding.held) × (text ≡ [])) s t text
 
--- What a client does for a command, and what is printed.
+-- What a client does for a command, and what is printed. (What is printed of the tree is the tree's
+-- where nothing was mixed up.)
 abbrev pub Carries : (LinkState → Type 0) → FileCalls → Bool → ClientCommand
     → MemberState → MemberState → List ℕ → Type 0
 Carries MayConnect Files batches (command.Change it) s t text =
     MovesOnThen MayConnect (λ ready. CarriesChange MayConnect batches it ready t text) s
 Carries MayConnect Files batches (command.Undo number) s t text =
-    CarriesUndo MayConnect (always (change.Undo number)) s t text
+    CarriesUndo MayConnect (Commits MayConnect (always (change.Undo number))) s t text
 Carries MayConnect Files batches command.UndoLast s t text =
-    CarriesUndo MayConnect last_undo s t text
+    CarriesUndo MayConnect (CommitsLastUndo MayConnect) s t text
 Carries MayConnect Files batches (command.Rekey file) s t text =
     CarriesRekey MayConnect Files file.items s t text
 Carries MayConnect Files batches (command.List path) s t text =
-    Tells MayConnect ((names : List (Name × FileId)) × Lists t.holding path.items names
-    × (text ≡ listing_shown names)) s t text
+    Tells (HasLooked MayConnect) ((names : List (Name × FileId))
+    × (IsClear t → Lists t.holding path.items names) × (text ≡ listing_shown names)) s t text
 Carries MayConnect Files batches (command.Read path off len) s t text =
-    Tells MayConnect ((bytes : List ℕ) × Shows t.holding path.items off len bytes
+    Tells (HasLooked MayConnect) ((bytes : List ℕ)
+    × (IsClear t → Shows t.holding path.items off len bytes)
     × (text ≡ bytes_text (Ok bytes))) s t text
 Carries MayConnect Files batches (command.Save file) s t text =
     CarriesSave MayConnect Files file.items s t text
@@ -187,6 +199,6 @@ CarriesSome MayConnect batches (command.Undo number) s t =
     (λ ready. Commits MayConnect (always (change.Undo number)) ready t r) s
 CarriesSome MayConnect batches command.UndoLast s t =
     (r : Result ℕ ViewRefusal) × MovesOnThen MayConnect
-    (λ ready. Commits MayConnect last_undo ready t r) s
+    (λ ready. CommitsLastUndo MayConnect ready t r) s
 CarriesSome MayConnect batches (command.Rekey file) s t = CarriesSomeRekey MayConnect s t
 CarriesSome MayConnect batches _ s t = OnlyTakes s t

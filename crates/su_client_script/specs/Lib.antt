@@ -4,5 +4,6 @@ pub mod Text
 pub mod Run
 pub mod Parts
 pub mod Carrying
+pub mod Leaving
 pub mod Lines
 pub mod Step

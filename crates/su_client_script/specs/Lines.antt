@@ -13,6 +13,7 @@ use Rattle.su_desk_script.specs.Answer.{bad_text}
 use Rattle.su_client_script.specs.Text.{refusal_shown}
 use Rattle.su_client_script.specs.Calls.{FileCalls}
 use Rattle.su_client_script.specs.Carrying.{Carries, CarriesSome}
+use Rattle.su_client_script.specs.Leaving.{LeavesBehind}
 use Rattle.su_client_script.specs.declared.endings.Ending.{Ending}
 use Rattle.su_client_script.specs.declared.endings.Ending.TheVariants.{Finished, BadLine, Refused, Failed}
 
@@ -25,12 +26,20 @@ SaidIsDone Done OnlyPrints (Asks words) =
 SaidIsDone Done OnlyPrints (OutOfRange e) = OnlyPrints (refusal_shown (Plain e))
 SaidIsDone Done OnlyPrints Bad = ⊥
 
+-- A command is carried out, and this is printed of it; then the client may leave the tree to the
+-- server.
+abbrev pub CarriesThenLeaves : (LinkState → Type 0) → FileCalls → Bool → ClientCommand
+    → MemberState → MemberState → List ℕ → Type 0
+CarriesThenLeaves MayConnect Files batches it s t text =
+    (carried : MemberState) × Carries MayConnect Files batches it s carried text
+    × LeavesBehind it carried t
+
 -- A line is carried out, and this is printed of it; or it is refused for want of memory.
 abbrev pub LineDoes : (LinkState → Type 0) → FileCalls → Bool → List ℕ
     → MemberState → MemberState → List ℕ → Type 0
 LineDoes MayConnect Files batches line s t text =
     ((t ≡ s) × (text ≡ refusal_shown (Plain NoMemory)))
-    ⊎ SaidIsDone (λ it. Carries MayConnect Files batches it s t text)
+    ⊎ SaidIsDone (λ it. CarriesThenLeaves MayConnect Files batches it s t text)
     (λ shown. (t ≡ s) × (text ≡ shown)) (line_said line)
 
 -- what is done for it at most, where something else fails

@@ -1,11 +1,13 @@
 -- One step of a run: a line, what the client does for it, and what is printed.
-use Rattle.std.specs.Prelude.{◌≡◌, ◌⊎◌, ℕ, Bool, true, false, List, [], ◌∷◌, Option, None, Some, Result, Ok, Err}
+use Rattle.std.specs.Prelude.{◌≡◌, ◌⊎◌, ℕ, Bool, true, false, not, List, [], ◌∷◌, Option, None, Some, Result, Ok, Err}
 use Rattle.std.specs.Io.KnownBytes.{Appends}
 use Rattle.su_view.specs.declared.refusals.ViewRefusal.{ViewRefusal}
 use Rattle.su_client.specs.Link.{LinkState}
 use Rattle.su_client_work.specs.Member.{MemberState}
 use Rattle.su_client_lines.specs.Said.{Said.Bad}
 use Rattle.su_client_lines.specs.ClientScript.{line_said}
+use Rattle.su_client_lines.specs.declared.commands.ClientCommand.{ClientCommand}
+use Rattle.su_client_lines.specs.declared.commands.ClientCommand.TheVariants as command
 use Rattle.su_desk_lines.specs.Script.{lines_of}
 use Rattle.su_desk_script.specs.Answer.{bad_text}
 use Rattle.su_client_script.specs.Calls.{FileCalls}
@@ -15,8 +17,8 @@ use Rattle.su_client_script.specs.declared.answers.Outcome.TheVariants as outcom
 use Rattle.su_client_script.specs.declared.endings.Ending.{Ending}
 use Rattle.su_client_script.specs.declared.endings.Ending.TheVariants as ending
 use Rattle.su_client_script.specs.declared.endings.Fault.{Fault}
-use Rattle.su_client_script.specs.declared.steps.Place.{Place}
-use Rattle.su_client_script.specs.declared.steps.Place.TheVariants.{First, Later, AfterTake}
+use Rattle.su_client_script.specs.declared.places.Place.{Place}
+use Rattle.su_client_script.specs.declared.places.Place.TheVariants.{First, Later, AfterTake}
 use Rattle.su_client_script.specs.declared.steps.Step.{Step}
 use Rattle.su_client_script.specs.declared.steps.Step.TheVariants as step
 
@@ -32,12 +34,26 @@ is_after_take _ = false
 
 abbrev pub is_refused : Outcome → Bool
 is_refused outcome.Done = false
-is_refused (outcome.Refused e after_take) = true
+is_refused outcome.Committed = false
+is_refused (outcome.Refused e place) = true
 
--- this came of what was answered so
-abbrev pub IsOutcome : {A : Type 0} → Bool → Result A ViewRefusal → Outcome → Type 0
-IsOutcome after_take (Ok x) out = out ≡ outcome.Done
-IsOutcome after_take (Err e) out = out ≡ outcome.Refused e after_take
+-- whether a commit was made
+abbrev pub has_committed : Outcome → Bool
+has_committed outcome.Done = false
+has_committed outcome.Committed = true
+has_committed (outcome.Refused e place) = not (is_first place)
+
+-- this came of what was answered so, of a part that stands there
+abbrev pub IsOutcome : {A : Type 0} → Place → Result A ViewRefusal → Outcome → Type 0
+IsOutcome place (Ok x) out = out ≡ outcome.Committed
+IsOutcome place (Err e) out = out ≡ outcome.Refused e place
+
+-- by a question no commit is made
+abbrev pub FitsCommand : ClientCommand → Outcome → Type 0
+FitsCommand (command.List path) out = has_committed out ≡ false
+FitsCommand (command.Read path off len) out = has_committed out ≡ false
+FitsCommand (command.Save file) out = has_committed out ≡ false
+FitsCommand _ out = Unit {0}
 
 -- what came of a line that isn't empty, which has that number
 abbrev pub LineSteps : (LinkState → Type 0) → FileCalls → Bool → ℕ → List ℕ

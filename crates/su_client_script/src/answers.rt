@@ -1,12 +1,13 @@
 // What is printed of a command.
-ghost use Rattle.std.specs.Prelude.{◌≡◌, List, ℕ, Ok, Err, IfOk, IsOk, OnOk, MatchResult};
+ghost use Rattle.std.specs.Prelude.{◌≡◌, List, ℕ, false, Ok, Err, IfOk, IsOk, OnOk, MatchResult};
 ghost use Rattle.std.specs.Io.KnownBytes.{Appends};
 ghost use Rattle.su_desk_script.specs.Answer.{bytes_text};
-ghost use Rattle.su_client_script.specs.Step.{IsOutcome, is_refused};
+ghost use Rattle.su_client_script.specs.Step.{IsOutcome, has_committed, is_refused};
 ghost use Rattle.su_client_script.specs.Text.{listing_shown, number_shown, refusal_shown};
 ghost use Rattle.su_client_script.specs.declared.answers.Outcome.TheVariants as outcome;
 
 use crate::endings::Fault;
+use crate::places::Place;
 use crate::texts::{listed, refused};
 use std::alloc::{AllocError, Global};
 use std::io;
@@ -18,38 +19,60 @@ use su_view::ViewRefusal;
 /// What came of a command, once it is printed.
 #[derive(Drop)]
 pub(crate) enum Outcome {
-    /// It was carried out.
+    /// It was carried out, by no commit.
     Done,
-    /// It was refused; whether that was an operation behind a take of the same command.
-    Refused {
-        refusal: ViewRefusal,
-        after_take: bool,
-    },
+    /// It was carried out by commits.
+    Committed,
+    /// It was refused, at the part that stood there; those before it were committed.
+    Refused { refusal: ViewRefusal, place: Place },
 }
 
 impl Outcome {
+    /// Returns what came of parts that were all committed, behind which the next one stands there.
+    pub(crate) fn of_all(place: Place) -> Outcome {
+        if place.is_first() {
+            Outcome::Done
+        } else {
+            Outcome::Committed
+        }
+    }
+
     /// Tells whether it was refused.
     pub(crate) fn is_refused(&self) -> bool
         ensures { result ≡ is_refused self.now }
     {
         matches!(self, Outcome::Refused { .. })
     }
+
+    /// Tells whether a commit was made.
+    pub(crate) fn has_committed(&self) -> bool
+        ensures { result ≡ has_committed self.now }
+    {
+        match self {
+            Outcome::Done => false,
+            Outcome::Committed => true,
+            Outcome::Refused { place, .. } => !place.is_first(),
+        }
+    }
 }
 
-/// Prints `ok N`, or the refusal, behind a take of the same command or not.
+/// Prints `ok N` of a commit, or the refusal of the part that stands there.
 pub(crate) fn tell_number<O: Write>(
     alloc: Global,
     output: &mut O,
     stored: Result<u64, ViewRefusal>,
-    after_take: bool,
+    place: Place,
 ) -> Result<Outcome, Fault>
     ensures printed { OnOk result
         (Appends (O.contents output.old) (O.contents output.new) (number_shown stored)) }
-    ensures outcome { IfOk result (IsOutcome after_take stored) }
+    ensures outcome { IfOk result (IsOutcome place stored) }
 {
     match stored {
-        Ok(number) => tell_text(output, answered(alloc, Ok(number))),
-        Err(refusal) => tell_refusal(alloc, output, refusal, after_take),
+        Ok(number) => {
+            print_text(output, answered(alloc, Ok(number)))?;
+            Ok(Outcome::Committed)
+        }
+        Err(refusal) => tell_refusal(alloc, output, refusal, place),
     }
 }
 
@@ -59,14 +82,15 @@ pub(crate) fn tell_names<O: Write>(
     output: &mut O,
     names: Result<Vec<(Name, FileId)>, ViewRefusal>,
 ) -> Result<Outcome, Fault>
-    ensures { OnOk result (MatchResult names
+    ensures printed { OnOk result (MatchResult names
         (λ names. Appends (O.contents output.old) (O.contents output.new)
         (listing_shown names.items))
         (λ e. Appends (O.contents output.old) (O.contents output.new) (refusal_shown e))) }
+    ensures outcome { IfOk result (λ out. has_committed out ≡ false) }
 {
     match names {
         Ok(names) => tell_text(output, listed(alloc, names.as_slice())),
-        Err(refusal) => tell_refusal(alloc, output, refusal, false),
+        Err(refusal) => tell_refusal(alloc, output, refusal, Place::First),
     }
 }
 
@@ -76,36 +100,34 @@ pub(crate) fn tell_bytes<O: Write>(
     output: &mut O,
     bytes: Result<Vec<u8>, ViewRefusal>,
 ) -> Result<Outcome, Fault>
-    ensures { OnOk result (MatchResult bytes
+    ensures printed { OnOk result (MatchResult bytes
         (λ bytes. Appends (O.contents output.old) (O.contents output.new)
         (bytes_text (Ok bytes.items)))
         (λ e. Appends (O.contents output.old) (O.contents output.new) (refusal_shown e))) }
+    ensures outcome { IfOk result (λ out. has_committed out ≡ false) }
 {
     match bytes {
         Ok(bytes) => tell_text(output, in_hex(alloc, bytes.as_slice())),
-        Err(refusal) => tell_refusal(alloc, output, refusal, false),
+        Err(refusal) => tell_refusal(alloc, output, refusal, Place::First),
     }
 }
 
-/// Prints a refusal, behind a take of the same command or not.
+/// Prints the refusal of the part that stands there.
 pub(crate) fn tell_refusal<O: Write>(
     alloc: Global,
     output: &mut O,
     refusal: ViewRefusal,
-    after_take: bool,
+    place: Place,
 ) -> Result<Outcome, Fault>
     ensures printed { OnOk result
         (Appends (O.contents output.old) (O.contents output.new) (refusal_shown refusal)) }
-    ensures outcome { IfOk result (λ out. out ≡ outcome.Refused refusal after_take) }
+    ensures outcome { IfOk result (λ out. out ≡ outcome.Refused refusal place) }
 {
     print_text(output, refused(alloc, &refusal))?;
-    Ok(Outcome::Refused {
-        refusal,
-        after_take,
-    })
+    Ok(Outcome::Refused { refusal, place })
 }
 
-/// Prints the answer to a command that was carried out.
+/// Prints the answer to a command that was carried out by no commit.
 fn tell_text<O: Write>(output: &mut O, text: Result<Vec<u8>, AllocError>) -> Result<Outcome, Fault>
     ensures printed { OnOk result (IfOk text (λ text.
         Appends (O.contents output.old) (O.contents output.new) text.items)) }

@@ -2,9 +2,9 @@
 ghost use Rattle.std.specs.Prelude.{◌≡◌, ◌⊎◌, ℕ, List, Result};
 ghost use Rattle.su_lms.specs.PrivateKey.{key_of};
 ghost use Rattle.su_view.specs.declared.refusals.ViewRefusal.{ViewRefusal as Refusal_};
-ghost use Rattle.su_client_work.specs.Publishing.{always, last_undo};
+ghost use Rattle.su_client_work.specs.Publishing.{always};
 ghost use Rattle.su_client_work.specs.Work.{Works};
-ghost use Rattle.su_client_script.specs.Carrying.{Commits};
+ghost use Rattle.su_client_script.specs.Carrying.{Commits, CommitsLastUndo};
 ghost use Rattle.su_client_script.specs.KeyMoves.{MovesOn, MovesOnThen, RekeysTo};
 
 use crate::programs::Program;
@@ -93,7 +93,7 @@ where
     K: KeyStore + Drop,
     ensures works { Works member.old member.new }
     ensures commits { MovesOnThen P.may_connect
-        (λ ready. Commits P.may_connect last_undo ready member.new result) member.old }
+        (λ ready. CommitsLastUndo P.may_connect ready member.new result) member.old }
 {
     move_on(program, member);
     member.undo_last(program)

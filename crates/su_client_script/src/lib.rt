@@ -5,6 +5,7 @@ mod answers;
 mod endings;
 mod keys;
 mod parts;
+mod places;
 mod programs;
 mod scripts;
 mod steps;

@@ -25,13 +25,17 @@ pub struct Manner {
     pub stops: bool,
     /// Whether the operations of a command are committed in batches, and not each by itself.
     pub batches: bool,
+    /// Whether the tree is left to the server behind each command that made a commit.
+    pub leaves: bool,
 }
 
 /// Carries out the commands of a script, line by line, and prints what comes of each before the next
 /// line is read. An empty line is passed over; a line that is no command ends the run, and so does
 /// one that is refused, if the run is to stop there. Where the link to the server fails, the run ends
-/// once the refusal is printed that the command met. The program makes a link anew whose session was
-/// ended before a command, waits while another has the turn, saves logs, and explains refusals.
+/// once the refusal is printed that the command met. Behind a command that made a commit the client
+/// leaves the tree to the server, if it is to, and what that refuses changes no answer. The program
+/// makes a link anew whose session was ended before a command, waits while another has the turn,
+/// saves logs, and explains refusals.
 pub fn run_client<P, I, O, R, W, K>(
     program: &mut P,
     alloc: Global,
@@ -58,15 +62,7 @@ where
 {
     let mut lines = LineReader::new(alloc, input);
     for number in 1..u64::MAX {
-        match next_step(
-            program,
-            alloc,
-            &mut lines,
-            output,
-            member,
-            number,
-            manner.batches,
-        ) {
+        match next_step(program, alloc, &mut lines, output, member, number, manner) {
             Ok(step) => {
                 if let Some(ending) = ending_of(step, number, manner.stops) {
                     return ending;
@@ -99,7 +95,7 @@ fn next_step<P, I, O, R, W, K>(
     output: &mut O,
     member: &mut Member<R, W, K>,
     number: u64,
-    batches: bool,
+    manner: Manner,
 ) -> Result<Step, Fault>
 where
     P: Program<R, W, K>,
@@ -111,13 +107,14 @@ where
     ensures works { Works member.old member.new }
     ensures adds { OnOk result (Adds (O.contents output.old) (O.contents output.new)) }
     ensures steps { (input : List ℕ) → unread I.remaining lines.old ≡ Some input
-        → Steps P.may_connect (files_of P.saves P.opens) batches number input member.old member.new
-        (unread I.remaining lines.new) (O.contents output.old) (O.contents output.new) result }
+        → Steps P.may_connect (files_of P.saves P.opens) manner.batches number input member.old
+        member.new (unread I.remaining lines.new) (O.contents output.old) (O.contents output.new)
+        result }
 {
     match lines.next_line() {
         Ok(NextLine::Line(line)) => match line.as_slice() {
             [] => Ok(Step::Done),
-            line => line_step(program, alloc, output, member, line, number, batches),
+            line => line_step(program, alloc, output, member, line, number, manner),
         },
         Ok(NextLine::TooLong) => bad_step(alloc, output, number, Some(Mistake::LongLine)),
         Ok(NextLine::End) => Ok(Step::Over),

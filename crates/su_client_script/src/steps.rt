@@ -9,8 +9,9 @@ ghost use Rattle.su_desk_script.specs.Answer.{bad_text};
 ghost use Rattle.su_client_script.specs.Carrying.{Carries, CarriesChange, CarriesRekey, CarriesSave, CarriesSome, CarriesSomeChange, CarriesSomeRekey, CommitsIn, CommitsSome, CommitsUntil, PlansParts};
 ghost use Rattle.su_client_script.specs.Calls.{files_of};
 ghost use Rattle.su_client_script.specs.KeyMoves.{MovesOnThen};
+ghost use Rattle.su_client_script.specs.Leaving.{Leaves};
 ghost use Rattle.su_client_script.specs.Lines.{LineDoesSome, Prints};
-ghost use Rattle.su_client_script.specs.Step.{IsOutcome, LineSteps, is_after_take, is_first};
+ghost use Rattle.su_client_script.specs.Step.{FitsCommand, IsOutcome, LineSteps, has_committed, is_first};
 ghost use Rattle.su_client_script.specs.Text.{number_shown, refusal_shown};
 ghost use Rattle.su_client_script.specs.declared.steps.Step.TheVariants as step;
 
@@ -18,7 +19,9 @@ use crate::answers::{Outcome, print_text, tell_bytes, tell_names, tell_number, t
 use crate::endings::Fault;
 use crate::keys::{change, move_on, rekey, undo_last};
 use crate::parts::cut;
+use crate::places::Place;
 use crate::programs::{Cause, Program};
+use crate::scripts::Manner;
 use std::alloc::Global;
 use std::io::{Read, Write};
 use su_bytes::Refusal;
@@ -44,38 +47,6 @@ pub(crate) enum Step {
     Over,
 }
 
-/// Where a part stands in its command.
-#[derive(Clone, Copy)]
-enum Place {
-    /// It is the first one, for which the turn is held.
-    First,
-    /// It comes behind others, and takes a turn of its own.
-    Later,
-    /// So it does, and one of them has a take.
-    AfterTake,
-}
-
-impl Place {
-    /// Returns where the part stands that follows this one.
-    fn after(self, part: &Batch) -> Place
-        ensures { is_first result ≡ false }
-    {
-        match self {
-            Place::First | Place::Later if !has_take(part) => Place::Later,
-            _ => Place::AfterTake,
-        }
-    }
-}
-
-/// Tells whether one of its operations is a take.
-fn has_take(part: &Batch) -> bool {
-    let (first, more) = part.parts();
-    matches!(first, Op::Take(_))
-        || more
-            .iter()
-            .any(|operation| matches!(operation, Op::Take(_)))
-}
-
 /// Carries out a line that is not empty, which has that number, and prints what comes of it.
 pub(crate) fn line_step<P, O, R, W, K>(
     program: &mut P,
@@ -84,7 +55,7 @@ pub(crate) fn line_step<P, O, R, W, K>(
     member: &mut Member<R, W, K>,
     line: &[u8],
     number: u64,
-    batches: bool,
+    manner: Manner,
 ) -> Result<Step, Fault>
 where
     P: Program<R, W, K>,
@@ -93,15 +64,16 @@ where
     W: Write + Drop,
     K: KeyStore + Drop,
     ensures works { Works member.old member.new }
-    ensures steps { IfOk result (LineSteps P.may_connect (files_of P.saves P.opens) batches number
-        line.now member.old member.new (O.contents output.old) (O.contents output.new)) }
+    ensures steps { IfOk result (LineSteps P.may_connect (files_of P.saves P.opens)
+        manner.batches number line.now member.old member.new (O.contents output.old)
+        (O.contents output.new)) }
     ensures some { OnErr result
-        (LineDoesSome P.may_connect batches line.now member.old member.new) }
+        (LineDoesSome P.may_connect manner.batches line.now member.old member.new) }
 {
     match read_line(alloc, line) {
         Ok(ClientLine::Command(command)) => {
-            let outcome = command_step(program, alloc, output, member, command, batches)?;
-            settle(program, member, &outcome)
+            let outcome = command_step(program, alloc, output, member, command, manner.batches)?;
+            settle(program, member, &outcome, manner.leaves)
         }
         Ok(ClientLine::OutOfRange(refusal)) => refused_step(alloc, output, refusal),
         Ok(ClientLine::Bad) => {
@@ -133,13 +105,56 @@ fn refused_step<O: Write>(alloc: Global, output: &mut O, refusal: Refusal) -> Re
         (refusal_shown (Plain refusal))) }
     ensures step { IfOk result (λ it. it ≡ step.Refused) }
 {
-    tell_refusal(alloc, output, ViewRefusal::Plain(refusal), false)?;
+    tell_refusal(alloc, output, ViewRefusal::Plain(refusal), Place::First)?;
     Ok(Step::Refused)
+}
+
+/// Has the program explain a refusal of a command, and behind a command that made a commit leaves the
+/// tree to the server, if it is to. What that refuses changes nothing: what wasn't put stays loaded,
+/// and a link that fails is noticed at the next command. `Link` where the link had failed before,
+/// which ends the run.
+fn settle<P, R, W, K>(
+    program: &mut P,
+    member: &mut Member<R, W, K>,
+    outcome: &Outcome,
+    leaves: bool,
+) -> Result<Step, Fault>
+where
+    P: Program<R, W, K>,
+    R: Read + Drop,
+    W: Write + Drop,
+    K: KeyStore + Drop,
+    ensures leaves { Leaves member.old member.new }
+    ensures same { has_committed outcome.now ≡ false → member.new ≡ member.old }
+    ensures err { OnErr result (member.new ≡ member.old) }
+    ensures step { IfOk result (λ it. (it ≡ step.Done) ⊎ (it ≡ step.Refused)) }
+{
+    let step = explain(program, member, outcome)?;
+    leave(member, outcome.has_committed(), leaves);
+    Ok(step)
+}
+
+/// Leaves the tree to the server, where that is due, and it is to be left at all.
+fn leave<R, W, K>(member: &mut Member<R, W, K>, is_due: bool, leaves: bool)
+where
+    R: Read + Drop,
+    W: Write + Drop,
+    K: KeyStore + Drop,
+    ensures leaves { Leaves member.old member.new }
+    ensures same { is_due ≡ false → member.new ≡ member.old }
+{
+    if !is_due {
+        return;
+    }
+    if !leaves {
+        return;
+    }
+    let _ = member.shed();
 }
 
 /// Has the program explain a refusal of a command. `Link` where the link has failed, which ends the
 /// run.
-fn settle<P, R, W, K>(
+fn explain<P, R, W, K>(
     program: &mut P,
     member: &mut Member<R, W, K>,
     outcome: &Outcome,
@@ -152,11 +167,7 @@ where
     ensures same { member.new ≡ member.old }
     ensures step { IfOk result (λ it. (it ≡ step.Done) ⊎ (it ≡ step.Refused)) }
 {
-    let Outcome::Refused {
-        refusal,
-        after_take,
-    } = outcome
-    else {
+    let Outcome::Refused { refusal, place } = outcome else {
         return Ok(Step::Done);
     };
     let own_last = match refusal {
@@ -165,7 +176,7 @@ where
     };
     program.explain(&Cause {
         refusal: *refusal,
-        after_take: *after_take,
+        after_take: place.is_after_take(),
         own_last,
     });
     if member.has_failed() {
@@ -194,6 +205,7 @@ where
         (Carries P.may_connect (files_of P.saves P.opens) batches command member.old member.new)) }
     ensures some { OnErr result
         (CarriesSome P.may_connect batches command member.old member.new) }
+    ensures outcome { IfOk result (FitsCommand command) }
 {
     match command {
         ClientCommand::Change(command) => {
@@ -201,11 +213,11 @@ where
         }
         ClientCommand::Undo(number) => {
             let undone = change(program, member, Change::Undo(number), false);
-            tell_number(alloc, output, undone, false)
+            tell_number(alloc, output, undone, Place::First)
         }
         ClientCommand::UndoLast => {
             let undone = undo_last(program, member);
-            tell_number(alloc, output, undone, false)
+            tell_number(alloc, output, undone, Place::First)
         }
         ClientCommand::List { path } => {
             let names = member.list(program, path.as_slice());
@@ -272,7 +284,7 @@ where
 {
     match plan_parts(program, alloc, member, command, batches) {
         Ok(parts) => commit_all(program, alloc, output, member, parts),
-        Err(refusal) => tell_refusal(alloc, output, refusal, false),
+        Err(refusal) => tell_refusal(alloc, output, refusal, Place::First),
     }
 }
 
@@ -337,7 +349,7 @@ where
         }
         place = next;
     }
-    Ok(Outcome::Done)
+    Ok(Outcome::of_all(place))
 }
 
 /// Commits a part, and prints what comes of it. The next turn is asked for ahead of its time,
@@ -360,11 +372,11 @@ where
     ensures works { Works member.old member.new }
     ensures commits { (r : Result ℕ Refusal_)
         × CommitsIn P.may_connect (is_first place) part member.old member.new r
-        × IfOk result (λ out. IsOutcome (is_after_take place) r out
+        × IfOk result (λ out. IsOutcome place r out
         × Appends (O.contents output.old) (O.contents output.new) (number_shown r)) }
 {
     let stored = commit(program, member, part, place, ahead);
-    tell_number(alloc, output, stored, matches!(place, Place::AfterTake))
+    tell_number(alloc, output, stored, place)
 }
 
 /// Commits a part, in the turn that is held or one of its own.
@@ -411,9 +423,9 @@ where
     match program.open_key(program.host(), file.as_slice()) {
         Ok(signer) => {
             let rekeyed = rekey(program, member, file.as_slice(), signer);
-            tell_number(alloc, output, rekeyed, false)
+            tell_number(alloc, output, rekeyed, Place::First)
         }
-        Err(refusal) => tell_refusal(alloc, output, ViewRefusal::Plain(refusal), false),
+        Err(refusal) => tell_refusal(alloc, output, ViewRefusal::Plain(refusal), Place::First),
     }
 }
 
@@ -434,6 +446,7 @@ where
     ensures works { Works member.old member.new }
     ensures carries { OnOk result (Prints (O.contents output.old) (O.contents output.new)
         (CarriesSave P.may_connect (files_of P.saves P.opens) file.items member.old member.new)) }
+    ensures outcome { IfOk result (λ out. has_committed out ≡ false) }
     ensures takes { OnlyTakes member.old member.new }
 {
     match member.log(program) {
@@ -441,6 +454,6 @@ where
             Ok(()) => Ok(Outcome::Done),
             Err(reason) => Err(Fault::Saving { file, reason }),
         },
-        Err(refusal) => tell_refusal(alloc, output, refusal, false),
+        Err(refusal) => tell_refusal(alloc, output, refusal, Place::First),
     }
 }

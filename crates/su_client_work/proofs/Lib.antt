@@ -1,6 +1,9 @@
+pub mod Asked
 pub mod Taking
 pub mod Turns
 pub mod Working
+pub mod Published
+pub mod Undoing
 pub mod SavedLogs
 pub mod TakenLogs
 pub mod LastLive

@@ -35,3 +35,12 @@ pub saved_rest : (cs : List Committed) (from n : ℕ) (log : List ℕ) → lengt
 saved_rest cs from n log all is =
     append_cancel_left (saved_log (take from cs)) log (saved_log (drop from cs))
     (is ∙ ap saved_log (take_all n cs all) ∙ ap saved_log (sym (take-append-drop from cs)) ∙ flat_map-append entry_bytes (take from cs) (drop from cs))
+
+-- an item that isn't there was left
+pub missing_left : (cs : List Committed) (n from itemless : ℕ) → from ≤ n → n < length cs → (committed_at cs (n + 1) ≡ None) ⊎ (n + 1 ≤ itemless) → from < itemless
+missing_left cs n from itemless low within (inr left) = omega (arith, low, left)
+missing_left cs n from itemless low within (inl none) = at (slice_get_cases cs n).1
+  where
+    at : ((c : Committed) × (n < length cs) × (slice_get cs n ≡ Some c) × (get_or cs n c ≡ c)) ⊎ ((length cs ≤ n) × (slice_get cs n ≡ None)) → from < itemless
+    at (inl (c, inside, there, same)) = absurd (let some = committed_next cs n c there in let bad : Some c ≡ None = sym some ∙ none in cc)
+    at (inr (past, gone)) = absurd (omega (arith, within, past))

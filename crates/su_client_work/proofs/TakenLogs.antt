@@ -1,71 +1,36 @@
 -- One record more of a log is taken.
-use Rattle.std.proofs.Common.{◌≡◌, ℕ, ◌+◌, ◌-◌, ◌≤◌, List, [], ◌∷◌, ◌++◌, map, length, length-append, refl, sym, ap, ◌∙◌, subst, arith, append_assoc, append-nil}
-use Rattle.std.proofs.lemmas.List.{map-append, flat_map_more}
-use Rattle.su_version.specs.Commit.{commit_bytes}
-use Rattle.su_legal.specs.Legal.{Committed, LegalAfter}
-use Rattle.su_legal.proofs.Public.{after_both}
-use Rattle.su_view.specs.Holding.{HoldingState, with_more, Took}
+use Rattle.std.proofs.Common.{◌≡◌, ℕ, ◌+◌, ◌-◌, ◌≤◌, List, [], ◌∷◌, ◌++◌, map, length, Result, Ok, Err, OnOk, length-append, refl, sym, ap, ◌∙◌, subst, arith, append_assoc}
+use Rattle.std.proofs.lemmas.List.{flat_map_more}
+use Rattle.su_change.specs.Item.{item_bytes}
+use Rattle.su_op.specs.declared.operations.Change.{Change}
+use Rattle.su_version.specs.Commit.{Commit, commit_bytes}
+use Rattle.su_legal.specs.Legal.{Committed}
+use Rattle.su_view.specs.Viewed.{Grows, IsClear as IsClearView, ViewOn}
 use Rattle.su_log.specs.Log.{LogRecord, record_bytes, log_bytes}
 use Rattle.su_log.specs.Part.{part_bytes}
 use Rattle.su_log.specs.Record.{spelled, BeginsWithRecord}
 use Rattle.su_log_ahead.specs.Ahead.{AheadState, IsLeft}
 use Rattle.su_log.specs.declared.records.Record.{Record}
 use Rattle.su_client_work.specs.SavedLog.{saved_log, entry_bytes, saved_record}
-use Rattle.su_client_work.specs.TakenLog.{PutsEach, TakesFront, TakesRecord}
+use Rattle.su_client_work.specs.TakenLog.{TakesFront}
+use Rattle.su_client_work.proofs.Taking.{grows_both, grows_nothing, grows_still}
 
 -- ---- records
 
-pub record_first : (input : List ℕ) (r : LogRecord) (others : List ℕ) → BeginsWithRecord input r others → input ≡ record_bytes r ++ others
+record_first : (input : List ℕ) (r : LogRecord) (others : List ℕ) → BeginsWithRecord input r others → input ≡ record_bytes r ++ others
 record_first input r others b =
     b.commit.whole ∙ ap (λ l. part_bytes r.commit ++ l) b.item.whole ∙ sym (append_assoc (part_bytes r.commit) (part_bytes r.item) others)
 
--- ---- sources
+-- what a log has of a commit stands first
+entry_first : (input : List ℕ) (r : LogRecord) (c : Committed) (others : List ℕ) → r ≡ saved_record c → BeginsWithRecord input r others → input ≡ entry_bytes c ++ others
+entry_first input r c others is b = record_first input r others b ∙ ap (λ (s : LogRecord). record_bytes s ++ others) is
 
-module _ {S : Type 0} (Follows : S → S → Type 0) (Puts : S → List ℕ → S → Type 0) where
-  pub puts_more : (s t at u : S) (items : List (List ℕ)) (item : List ℕ) → PutsEach Follows Puts s items t → Puts t item at → Follows at u
-      → PutsEach Follows Puts s (items ++ item ∷ []) u
-  puts_more s t at u [] item put there on = (t, at, put, there, on)
-  puts_more s t at u (x ∷ items) item (a, b, first, here, rest) there on = (a, b, first, here, puts_more b t at u items item rest there on)
-
-  pub puts_then : ((a b c : S) → Follows a b → Follows b c → Follows a c) → (s t u : S) (items : List (List ℕ)) → PutsEach Follows Puts s items t → Follows t u
-      → PutsEach Follows Puts s items u
-  puts_then on s t u [] put more = on s t u put more
-  puts_then on s t u (x ∷ items) (a, b, first, here, rest) more = (a, b, first, here, puts_then on b t u items rest more)
-
-  -- ---- commits
-
-  pub none_taken : (v : HoldingState) (s : S) (log : List ℕ) → Follows s s → TakesFront Follows Puts v s log v s 0 log
-  none_taken v s log same = record {
-    records = [];
-    commits = [];
-    front = refl;
-    are = refl;
-    number = refl;
-    took = record { may = tt; becomes = ap (λ l. record { roster = v.roster; user = v.user; held = l; itemless = v.itemless }) (sym (append-nil v.held)) };
-    put = same;
-  }
-
-  pub one_taken : (v w x : HoldingState) (s t at u : S) (log rest others : List ℕ) (n : ℕ) (r : LogRecord) (c : Committed)
-      → TakesFront Follows Puts v s log w t n rest → BeginsWithRecord rest r others → r.commit ≡ commit_bytes c.commit → Took w (c ∷ []) x
-      → Puts t r.item at → Follows at u → TakesFront Follows Puts v s log x u (n + 1) others
-  one_taken v w x s t at u log rest others n r c f begins is took there on = record {
-    records = f.records ++ r ∷ [];
-    commits = f.commits ++ c ∷ [];
-    front = f.front ∙ ap (λ l. log_bytes f.records ++ l) (record_first rest r others begins)
-        ∙ sym (append_assoc (log_bytes f.records) (record_bytes r) others)
-        ∙ ap (λ l. l ++ others) (flat_map_more record_bytes [] f.records r);
-    are = map-append (λ (r : LogRecord). r.commit) f.records (r ∷ [])
-        ∙ (λ i. f.are i ++ is i ∷ [])
-        ∙ sym (map-append (λ (c : Committed). commit_bytes c.commit) f.commits (c ∷ []));
-    number = ap (λ n. n + 1) f.number ∙ sym (length-append f.commits (c ∷ []));
-    took = record {
-      may = after_both v.roster v.held f.commits (c ∷ []) f.took.may (subst (λ (u : HoldingState). LegalAfter u.roster u.held (c ∷ [])) f.took.becomes took.may);
-      becomes = took.becomes ∙ ap (λ u. with_more u (c ∷ [])) f.took.becomes
-          ∙ ap (λ l. record { roster = v.roster; user = v.user; held = l; itemless = v.itemless }) (append_assoc v.held f.commits (c ∷ []));
-    };
-    put = subst (λ items. PutsEach Follows Puts s items u) (sym (map-append (λ (r : LogRecord). r.item) f.records (r ∷ [])))
-        (puts_more s t at u (map (λ (r : LogRecord). r.item) f.records) r.item f.put there on);
-  }
+-- a commit that was taken with the item that the log has
+pub took_record : {R E : Type 0} (r : Result R E) (bytes item : List ℕ) (x : Commit) (Takes : Committed → Type 0) → bytes ≡ commit_bytes x
+    → OnOk r ((change : Change) × (item ≡ item_bytes change) × Takes (record { commit = x; change = change }))
+    → OnOk r ((c : Committed) × (record { commit = bytes; item = item } ≡ saved_record c) × Takes c)
+took_record (Ok y) bytes item x Takes spelled (change, is, takes) = (record { commit = x; change = change }, λ i. record { commit = spelled i; item = is i }, takes)
+took_record (Err e) bytes item x Takes spelled took = tt
 
 -- ---- where the log is
 
@@ -84,28 +49,34 @@ further place log rest others r here begins =
     let sum = length-append (record_bytes r) others in
     omega (arith, here, long, sum)
 
-module _ {S : Type 0} (Follows : S → S → Type 0) (Puts : S → List ℕ → S → Type 0) (v : HoldingState) (s : S) (log : List ℕ) where
-  -- the source was asked for more, and nothing was taken
-  pub front_then : ((a b c : S) → Follows a b → Follows b c → Follows a c) → (w x : HoldingState) (t u : S) (n : ℕ) (rest : List ℕ)
-      → TakesFront Follows Puts v s log w t n rest → x ≡ w → Follows t u → TakesFront Follows Puts v s log x u n rest
-  front_then on w x t u n rest f same more = record {
-    records = f.records;
-    commits = f.commits;
-    front = f.front;
-    are = f.are;
-    number = f.number;
-    took = subst (λ y. Took v f.commits y) (sym same) f.took;
-    put = puts_then Follows Puts on s t u (map (λ (r : LogRecord). r.item) f.records) f.put more;
+module _ {S : Type 0} (may_give : S → List ℕ → Type 0) (w : ViewOn S) (log : List ℕ) where
+  pub none_taken : (x : ViewOn S) → x.holding ≡ w.holding → TakesFront may_give w log x 0 log
+  none_taken x same = record { commits = []; front = refl; number = refl; grows = grows_nothing may_give w x same }
+
+  one_taken : (x y : ViewOn S) (rest others : List ℕ) (n : ℕ) (r : LogRecord) (c : Committed) → TakesFront may_give w log x n rest → BeginsWithRecord rest r others
+      → r ≡ saved_record c → (IsClearView may_give y → IsClearView may_give x) → Grows may_give x (c ∷ []) y → TakesFront may_give w log y (n + 1) others
+  one_taken x y rest others n r c f begins is back grows = record {
+    commits = f.commits ++ c ∷ [];
+    front = f.front ∙ ap (λ l. saved_log f.commits ++ l) (entry_first rest r c others is begins)
+        ∙ sym (append_assoc (saved_log f.commits) (entry_bytes c) others)
+        ∙ ap (λ l. l ++ others) (flat_map_more entry_bytes [] f.commits c);
+    number = ap (λ n. n + 1) f.number ∙ sym (length-append f.commits (c ∷ []));
+    grows = grows_both may_give w x y f.commits (c ∷ []) back f.grows grows;
   }
 
+  -- the source was asked for more, and nothing was taken
+  pub front_then : (x y : ViewOn S) (n : ℕ) (rest : List ℕ) → TakesFront may_give w log x n rest → y.holding ≡ x.holding → (IsClearView may_give y → IsClearView may_give x)
+      → TakesFront may_give w log y n rest
+  front_then x y n rest f same back = record { commits = f.commits; front = f.front; number = f.number; grows = grows_still may_give w x y f.commits back same f.grows }
+
   -- one record more was read, and taken
-  pub read_on : (w x : HoldingState) (t u : S) (k : ℕ) (a b : AheadState) (r : Record)
-      → 1 ≤ k → IsReadTo (λ rest. TakesFront Follows Puts v s log w t (k - 1) rest) log a
+  pub read_on : (x y : ViewOn S) (k : ℕ) (a b : AheadState) (r : Record) (c : Committed)
+      → 1 ≤ k → IsReadTo (λ rest. TakesFront may_give w log x (k - 1) rest) log a
       → ((place : ℕ) (input : List ℕ) → IsLeft a place input
       → (rest : List ℕ) × BeginsWithRecord input (spelled r) rest × IsLeft b (place + length (record_bytes (spelled r))) rest)
-      → TakesRecord Follows Puts (spelled r) w t x u
-      → IsReadTo (λ rest. TakesFront Follows Puts v s log x u (k + 1 - 1) rest) log b
-  read_on w x t u k a b r some f reads took =
+      → spelled r ≡ saved_record c → (IsClearView may_give y → IsClearView may_give x) → Grows may_give x (c ∷ []) y
+      → IsReadTo (λ rest. TakesFront may_give w log y (k + 1 - 1) rest) log b
+  read_on x y k a b r c some f reads is back grows =
       let (others, begins, left) = reads f.place f.rest f.left in
       let count : k - 1 + 1 ≡ k + 1 - 1 = omega (arith, some) in
       record {
@@ -113,8 +84,7 @@ module _ {S : Type 0} (Follows : S → S → Type 0) (Puts : S → List ℕ → 
         rest = others;
         left = left;
         place_is = further f.place log f.rest others (spelled r) f.place_is begins;
-        front = subst (λ n. TakesFront Follows Puts v s log x u n others) count
-            (one_taken Follows Puts v w x s t took.with_item u log f.rest others (k - 1) (spelled r) took.committed f.front begins took.bytes_are took.took took.put took.follows);
+        front = subst (λ n. TakesFront may_give w log y n others) count (one_taken x y f.rest others (k - 1) (spelled r) c f.front begins is back grows);
       }
 
 -- ---- what is saved

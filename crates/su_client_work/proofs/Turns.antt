@@ -28,23 +28,18 @@ use Rattle.su_client_work.specs.Publishing.{IsStored}
 use Rattle.su_client.specs.Following.{follows_itself, follows_on}
 use Rattle.su_view.specs.Holding.{HoldingState}
 use Rattle.su_client_work.specs.declared.ready.TheConstants.{MOST_READY}
-use Rattle.su_client_work.specs.Member.{MemberState, OnlyTakes, Stays}
+use Rattle.su_client_work.specs.Member.{MemberState, OnlyAsks, Stays}
 use Rattle.su_bytes.specs.Order.{Passes}
 use Rattle.su_view.specs.LastCommits.{shown_order}
-use Rattle.su_client_work.specs.Turn.{Comes, HasMore, IsCaughtUp, PassesShown, SaysNothing, IsShown, AreShown, TakesTurn, GivesUp, GivesTurnUp, IsGrantedOver, IsUngranted, IsUngrantedOver, commit_or_nothing}
-use Rattle.su_client_work.proofs.Taking.{takes_then}
+use Rattle.su_client_work.specs.Turn.{Comes, HasLooked, HasMore, Looks, IsCaughtUp, PassesShown, SaysNothing, IsShown, AreShown, TakesTurn, GivesUp, GivesTurnUp, IsGranted, IsGrantedOver, IsUngranted, IsUngrantedOver, commit_or_nothing}
 
--- ---- what stays, and what is only taken
+-- ---- what stays
 
 pub stays_then : (s t u : MemberState) → Stays s t → Stays t u → Stays s u
-stays_then s t u p q = record { holding = q.holding ∙ p.holding; signed = q.signed ∙ p.signed; next = q.next ∙ p.next }
+stays_then s t u p q = record { holding = q.holding ∙ p.holding; asked = q.asked ∙ p.asked; signed = q.signed ∙ p.signed; next = q.next ∙ p.next }
 
-pub only_then : (s t u : MemberState) → OnlyTakes s t → OnlyTakes t u → OnlyTakes s u
-only_then s t u p q = record {
-  takes = takes_then s.holding t.holding u.holding p.takes q.takes;
-  signed = q.signed ∙ p.signed;
-  next = q.next ∙ p.next;
-}
+pub stays_itself : (s : MemberState) → Stays s s
+stays_itself s = record { holding = refl; asked = refl; signed = refl; next = refl }
 
 -- ---- what is caught up
 
@@ -128,6 +123,15 @@ module _ (MayConnect : LinkState → Type 0) where
     caught_up = caught_on p.count v p.turn b c p.caught_up q;
   }
 
+  -- the same where it was asked of the tree then
+  pub turn_asks : (a : LinkState) (s t : MemberState) → TakesTurn MayConnect a s.holding s.link → OnlyAsks s t → Follows s.link t.link → TakesTurn MayConnect a t.holding t.link
+  turn_asks a s t p asks q = subst (λ (v : HoldingState). TakesTurn MayConnect a v t.link) (sym asks.holding) (turn_on a s.holding s.link t.link p q)
+
+  pub looked_asks : {R E : Type 0} (r : Result R E) (a : LinkState) (s t : MemberState) → Looks MayConnect a s.holding s.link → t.holding ≡ s.holding → Follows s.link t.link
+      → OnOk r (HasLooked MayConnect a t.holding t.link)
+  looked_asks (Ok x) a s t looks same q = (s.link, subst (λ (v : HoldingState). Looks MayConnect a v s.link) (sym same) looks, q)
+  looked_asks (Err e) a s t looks same q = tt
+
 -- ---- what is shown
 
 pub shown_then : (us : List (ℕ × ℕ)) (u : ℕ × ℕ) (before : List Commit) (a : LinkState) (shown : List Commit) (m : LinkState) (more : List Commit) (b : LinkState)
@@ -184,6 +188,15 @@ nothing_said (Ok (Some bytes)) number a b c p e = tt
 nothing_said (Ok None) number a b c p e = record { number = number; before = b; follows = p; behind = c; asked = e; then_follows = follows_itself c }
 nothing_said (Err e) number a b c p exchanged = tt
 
+exchanged : (q : Request) (a b : LinkState) (r : Reply) → Exchanged q a b r → Follows a b
+exchanged q a b r e = record {
+  output = frame (request_bytes q);
+  written = e.written;
+  input = e.input;
+  read = e.read;
+  no_more = λ failed. absurd (let bad : false ≡ true = sym e.works ∙ failed in cc);
+}
+
 -- ---- what is handed in
 
 pub handed_ahead : (items : List (List ℕ)) (commit : List ℕ) (a m b : LinkState) (n : ℕ) → GoesAhead a m → IsHandedIn items commit m b n → IsHandedIn items commit a b n
@@ -202,25 +215,38 @@ handed_after (Ok n) vs vs' commit a m b same ahead h =
     handed_ahead (contents vs) commit a m b n ahead (subst (λ (l : List (Vec ℕ)). IsHandedIn (contents l) commit m b n) same h)
 handed_after (Err e) vs vs' commit a m b same ahead h = tt
 
--- no other item waits
-pub waits_alone : (item : List ℕ) (waiting waiting' : List (List ℕ)) (a b : LinkState) → waiting ≡ [] → WaitsToo waiting item a waiting' b → (waiting' ≡ item ∷ []) × (b ≡ a)
-waits_alone item waiting waiting' a b none w = alone (subst (λ (l : List (List ℕ)). WaitsToo l item a waiting' b) none w)
-  where
-    alone : WaitsToo [] item a waiting' b → (waiting' ≡ item ∷ []) × (b ≡ a)
-    alone (inl same) = same
-    alone (inr same) = same
+-- of items that are put one after the other more was asked before the last
+puts_last : (items : List (List ℕ)) (item : List ℕ) (a b : LinkState) → PutsAll (items ++ item ∷ []) a b
+    → (m : LinkState) × Follows a m × Exchanged (request.Put item) m b (PutDone (sha256 item))
+puts_last [] item a b (m, put, last) = (a, follows_itself a, subst (λ (l : LinkState). Exchanged (request.Put item) a l (PutDone (sha256 item))) (sym last) put)
+puts_last (x ∷ items) item a b (m, put, rest) =
+    let (k, follows, last) = puts_last items item m b rest in
+    (k, follows_on a m k (exchanged (request.Put x) a m (PutDone (sha256 x)) put) follows, last)
 
-pub is_stored : (change : Change) (c : Commit) (bytes : List ℕ) (waiting waiting' : List (List ℕ)) (a b d : LinkState) (n : ℕ) → waiting ≡ [] → WaitsToo waiting (item_bytes change) a waiting' b
-    → bytes ≡ commit_bytes c → IsHandedIn waiting' bytes b d n → IsStored change c a d
-is_stored change c bytes waiting waiting' a b d n none w spelled h =
-    let (alone, same) = waits_alone (item_bytes change) waiting waiting' a b none w in
-    let (k, put, last) = subst (λ (l : List (List ℕ)). PutsAll l b h.between) alone h.put in
+puts_follow : (items : List (List ℕ)) (a b : LinkState) → PutsAll items a b → Follows a b
+puts_follow [] a b same = subst (Follows a) (sym same) (follows_itself a)
+puts_follow (x ∷ items) a b (m, put, rest) = follows_on a m b (exchanged (request.Put x) a m (PutDone (sha256 x)) put) (puts_follow items m b rest)
+
+-- what waits behind others is put
+waits_last : (item : List ℕ) (waiting waiting' : List (List ℕ)) (a b d : LinkState) → WaitsToo waiting item a waiting' b → PutsAll waiting' b d
+    → (m : LinkState) × Follows a m × Exchanged (request.Put item) m d (PutDone (sha256 item))
+waits_last item waiting waiting' a b d (inl (waits, same)) put =
+    puts_last waiting item a d (subst (λ (l : LinkState). PutsAll (waiting ++ item ∷ []) l d) same (subst (λ (l : List (List ℕ)). PutsAll l b d) waits put))
+waits_last item waiting waiting' a b d (inr (alone, puts)) put =
+    let (m, follows, last) = puts_last [] item b d (subst (λ (l : List (List ℕ)). PutsAll l b d) alone put) in
+    (m, follows_on a b m (puts_follow waiting a b puts) follows, last)
+
+pub is_stored : (change : Change) (c : Commit) (bytes : List ℕ) (waiting waiting' : List (List ℕ)) (a m b d : LinkState) (n : ℕ) → Follows a m
+    → WaitsToo waiting (item_bytes change) m waiting' b → bytes ≡ commit_bytes c → IsHandedIn waiting' bytes b d n → IsStored change c a d
+is_stored change c bytes waiting waiting' a m b d n follows w spelled h =
+    let (k, more, put) = waits_last (item_bytes change) waiting waiting' m b h.between w h.put in
     record {
-      between = k;
-      put = subst (λ (l : LinkState). Exchanged (request.Put (item_bytes change)) l k (PutDone (sha256 (item_bytes change)))) same put;
+      asked = k;
+      follows = follows_on a m k follows more;
+      between = h.between;
+      put = put;
       number = n;
-      stored = subst (λ (l : LinkState). Exchanged (request.Commit (commit_bytes c)) l d (Stored n)) last
-          (subst (λ (s : List ℕ). Exchanged (request.Commit s) h.between d (Stored n)) spelled h.stored);
+      stored = subst (λ (s : List ℕ). Exchanged (request.Commit s) h.between d (Stored n)) spelled h.stored;
     }
 
 -- ---- what passes
@@ -237,15 +263,6 @@ caught_so (Ok x) count v a b c p (inr nothing) = inr (nothing_after a b c p noth
 caught_so (Err e) count v a b c p q = tt
 
 -- ---- a turn that is given up
-
-exchanged : (q : Request) (a b : LinkState) (r : Reply) → Exchanged q a b r → Follows a b
-exchanged q a b r e = record {
-  output = frame (request_bytes q);
-  written = e.written;
-  input = e.input;
-  read = e.read;
-  no_more = λ failed. absurd (let bad : false ≡ true = sym e.works ∙ failed in cc);
-}
 
 shown_follows : (us : List (ℕ × ℕ)) (before : List Commit) (a : LinkState) (shown : List Commit) (b : LinkState) → AreShown us before a shown b → Follows a b
 shown_follows [] before a shown b (same, link) = subst (Follows a) (sym link) (follows_itself a)
@@ -293,4 +310,21 @@ ungranted (Err e) MayConnect a b start c follows over new again = record {
     then_follows = again.follows;
   });
   refused = again.refused;
+}
+
+pub granted_anew : (r : Result (ℕ × List (ℕ × ℕ)) Refusal) (MayConnect : LinkState → Type 0) (a b start c : LinkState) → Follows a b → IsUngrantedOver a b LinkFailed
+    → IsFresh start × MayConnect start → IfOk r (λ g. IsGrantedOver start c g.0 g.1) → IfOk r (λ g. IsGranted MayConnect a c g.0 g.1)
+granted_anew (Err e) MayConnect a b start c follows over new again = tt
+granted_anew (Ok g) MayConnect a b start c follows over new again = record {
+  before = again.before;
+  comes = inr (record {
+    broken = b;
+    follows = follows;
+    failed = link_failed over.before b over.refused;
+    start = start;
+    fresh = new.0;
+    may = new.1;
+    then_follows = again.follows;
+  });
+  granted = again.granted;
 }

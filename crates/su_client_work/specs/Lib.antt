@@ -3,5 +3,4 @@ pub mod Turn
 pub mod Work
 pub mod Publishing
 pub mod SavedLog
-pub mod LastItem
 pub mod TakenLog

@@ -1,13 +1,39 @@
 -- What a client at work has, and what it tells of its list.
-use Rattle.std.specs.Prelude.{◌≡◌, ◌+◌, ℕ, List, Ok}
+use Rattle.std.specs.Prelude.{◌≡◌, ◌+◌, ◌⊎◌, ℕ, List, Ok, Option, Contains}
+use Rattle.std.specs.Global.{Vec}
+use Rattle.std.specs.List.{AllByRecursion}
+use Rattle.su_bytes.specs.Membership.{Membership}
 use Rattle.su_bytes.specs.declared.file_ids.FileId.{FileId}
 use Rattle.su_node.specs.Name.{Name}
 use Rattle.su_version.specs.Commit.{Commit}
 use Rattle.su_table.specs.Query.{listing, contents_within}
+use Rattle.su_desk.specs.Applied.{tree_after}
+use Rattle.su_desk.specs.declared.entries.Entry.{Entry}
 use Rattle.su_draft.specs.Walk.{found}
-use Rattle.su_view.specs.Holding.{HoldingState, tree_of_list}
+use Rattle.su_legal.specs.Legal.{Committed}
+use Rattle.su_part.specs.Bytes.{NoneClash}
+use Rattle.su_part_forest.specs.Loading.{HashedFor}
+use Rattle.su_view.specs.Holding.{HoldingState, tree_of_list, with_more}
 use Rattle.su_view.specs.Acting.{TakesSome}
-use Rattle.su_client.specs.Link.{LinkState}
+use Rattle.su_client.specs.Link.{LinkState, MayGive}
+use Rattle.su_client.specs.Outbox.{IsAtHand}
+
+-- A time when its source was asked about the tree: the items that the cache kept; what was at hand of
+-- what was put, with its digest, and the link then; and the history then, with what stood ready.
+pub record Question : Type 0 where
+  pub kept : List (List ℕ)
+  pub at_hand : Option (List ℕ × Vec ℕ)
+  pub link : LinkState
+  pub history : List Entry
+
+-- what the source might have given then
+abbrev pub might_give : Question → List ℕ → Type 0
+might_give q item = (IsAtHand q.at_hand item ⊎ MayGive q.link item) ⊎ Contains q.kept item
+
+-- no byte string that is hashed for the tree of then had the digest of another one that the source
+-- might have given
+abbrev pub MixesNone : Membership → Question → Type 0
+MixesNone ro q = NoneClash (HashedFor (tree_after ro q.history)) (might_give q)
 
 -- which leaf signs next: so many keys came before that one, and this is the number of the leaf
 pub record NextLeaf : Type 0 where
@@ -18,17 +44,32 @@ pub record NextLeaf : Type 0 where
 abbrev pub leaf_behind : NextLeaf → NextLeaf
 leaf_behind q = record { keys = q.keys; leaf = q.leaf + 1 }
 
--- what it holds; its link to the server; the commits that were signed with its keys, and which leaf
--- signs next
+-- what it holds; its link to the server; when its source was asked about the tree; the commits that
+-- were signed with its keys, and which leaf signs next
 pub record MemberState : Type 0 where
   pub holding : HoldingState
   pub link : LinkState
+  pub asked : List Question
   pub signed : List Commit
   pub next : NextLeaf
+
+-- Each time that its source was asked about the tree, nothing could be mixed up. (It is what has to be
+-- believed of SHA-256 and of the items that were met, for a client to be right.)
+abbrev pub IsClear : MemberState → Type 0
+IsClear s = AllByRecursion (MixesNone s.holding.roster) s.asked
 
 -- what it holds and what it has signed stay; over its link it may be asked
 pub record Stays (s t : MemberState) : Type 0 where
   pub holding : t.holding ≡ s.holding
+  pub asked : t.asked ≡ s.asked
+  pub signed : t.signed ≡ s.signed
+  pub next : t.next ≡ s.next
+
+-- What it holds and what it has signed stay; over its link it may be asked, also about the tree: where
+-- nothing was mixed up then, nothing was before.
+pub record OnlyAsks (s t : MemberState) : Type 0 where
+  pub holding : t.holding ≡ s.holding
+  pub clear : IsClear t → IsClear s
   pub signed : t.signed ≡ s.signed
   pub next : t.next ≡ s.next
 
@@ -37,12 +78,19 @@ pub record Stays (s t : MemberState) : Type 0 where
 pub record ReplacesKey (s : MemberState) (leaf : ℕ) (t : MemberState) : Type 0 where
   pub holding : t.holding ≡ s.holding
   pub link : t.link ≡ s.link
+  pub asked : t.asked ≡ s.asked
   pub signed : t.signed ≡ s.signed
   pub next : t.next ≡ record { keys = s.next.keys + 1; leaf = leaf }
 
--- it takes some commits, as it may, and signs nothing
+-- its list only grows
+abbrev pub Grew : HoldingState → HoldingState → Type 0
+Grew v w = (more : List Committed) × (w ≡ with_more v more)
+
+-- it takes some commits, where nothing was mixed up as it may, and signs nothing
 pub record OnlyTakes (s t : MemberState) : Type 0 where
-  pub takes : TakesSome s.holding t.holding
+  pub grew : Grew s.holding t.holding
+  pub takes : IsClear t → TakesSome s.holding t.holding
+  pub clear : IsClear t → IsClear s
   pub signed : t.signed ≡ s.signed
   pub next : t.next ≡ s.next
 

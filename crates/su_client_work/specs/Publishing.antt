@@ -11,10 +11,11 @@ use Rattle.su_version.specs.Commit.{Commit, commit_bytes}
 use Rattle.su_desk.specs.History.{last_live}
 use Rattle.su_legal.specs.Legal.{Committed, history}
 use Rattle.su_view.specs.Acting.{TakesSome}
-use Rattle.su_view.specs.Holding.{HoldingState, Took}
+use Rattle.su_view.specs.Holding.{HoldingState, Took, with_more}
 use Rattle.su_view.specs.Making.{IsMade}
+use Rattle.su_view.specs.Drafting.{IsOfChange}
 use Rattle.su_view.specs.declared.refusals.ViewRefusal.{ViewRefusal}
-use Rattle.su_client_work.specs.Member.{MemberState, OnlyTakes, ReplacesKey, leaf_behind}
+use Rattle.su_client_work.specs.Member.{MemberState, Grew, IsClear, OnlyTakes, ReplacesKey, leaf_behind}
 use Rattle.su_client_work.specs.Turn.{GivesUp, TakesTurn}
 
 -- ---- what is signed
@@ -24,10 +25,13 @@ pub record SignsNone (s t : MemberState) : Type 0 where
   pub signed : t.signed ≡ s.signed
   pub next : t.next ≡ s.next
 
--- one commit was signed, by one leaf: this one, which a client that held v made of the change
+-- One commit was signed, by one leaf: this one, which a client that held v made of the change; where
+-- nothing was mixed up, the change is accepted, and the commit has what the tree tells.
 pub record SignsOne (v : HoldingState) (change : Change) (c : Commit) (s t : MemberState) : Type 0
   where
-    pub made : IsMade v change s.next.leaf c
+    pub of_change : IsOfChange v change s.next.leaf c
+    pub made : IsClear t → IsMade v change s.next.leaf c
+    pub clear : IsClear t → IsClear s
     pub signed : t.signed ≡ s.signed ++ c ∷ []
     pub next : t.next ≡ leaf_behind s.next
 
@@ -43,21 +47,26 @@ always change v = change
 abbrev pub last_undo : HoldingState → Change
 last_undo v = Undo (last_live (history v.held))
 
--- Some commits were taken, and then no more than one commit of the change was signed. Where it is
--- refused, it isn't taken.
+-- Some commits were taken, where nothing was mixed up as they may be, and then no more than one commit
+-- of the change was signed. Where it is refused, it isn't taken.
 pub record CommitsAtMost (change_of : HoldingState → Change) (s : MemberState)
     (answer : Result ℕ ViewRefusal) (t : MemberState) : Type 0 where
   pub held : HoldingState
-  pub takes : TakesSome s.holding held
+  pub grew : Grew s.holding held
+  pub takes : IsClear t → TakesSome s.holding held
+  pub clear : IsClear t → IsClear s
   pub signs : SignsAtMost held (change_of held) s t
   pub refused : OnErr answer (t.holding ≡ held)
 
 -- ---- what the server stores
 
--- The item of a change was put, and then the commit was handed in, and stored.
+-- The item of a change was put, and then the commit was handed in, and stored. (More may be asked
+-- first: what is needed of the tree.)
 pub record IsStored (change : Change) (c : Commit) (a b : LinkState) : Type 0 where
+  pub asked : LinkState
+  pub follows : Follows a asked
   pub between : LinkState
-  pub put : Exchanged (request.Put (item_bytes change)) a between
+  pub put : Exchanged (request.Put (item_bytes change)) asked between
       (PutDone (sha256 (item_bytes change)))
   pub number : ℕ
   pub stored : Exchanged (request.Commit (commit_bytes c)) between b (Stored number)
@@ -67,12 +76,14 @@ pub record HandsIn (change : Change) (s : MemberState) (c : Commit) (t : MemberS
   pub signs : SignsOne s.holding change c s t
   pub stored : IsStored change c s.link t.link
 
--- The client took this commit as the next of its list: that is its number.
-pub record TakesOwn (v : HoldingState) (c : Commit) (w : HoldingState) (n : ℕ) : Type 0 where
+-- The client took this commit as the next of its list, where nothing was mixed up as it may: that is
+-- its number.
+pub record TakesOwn (s : MemberState) (c : Commit) (t : MemberState) (n : ℕ) : Type 0 where
   pub committed : Committed
   pub is : committed.commit ≡ c
-  pub took : Took v (committed ∷ []) w
-  pub number : n ≡ length w.held
+  pub becomes : t.holding ≡ with_more s.holding (committed ∷ [])
+  pub took : IsClear t → Took s.holding (committed ∷ []) t.holding
+  pub number : n ≡ length t.holding.held
 
 -- A commit of a change is made, signed, stored by the server, and then taken.
 pub record IsPublished (change : Change) (s t : MemberState) (n : ℕ) : Type 0 where
@@ -81,7 +92,7 @@ pub record IsPublished (change : Change) (s t : MemberState) (n : ℕ) : Type 0 
   pub handed_in : LinkState
   pub stored : IsStored change commit s.link handed_in
   pub follows : Follows handed_in t.link
-  pub takes : TakesOwn s.holding commit t.holding n
+  pub takes : TakesOwn s commit t n
 
 -- A commit of the change was signed, and the server stored it, which ends the turn.
 pub record WasStored (change : Change) (s t : MemberState) : Type 0 where

@@ -109,6 +109,11 @@ pub record Looks (MayConnect : LinkState → Type 0) (a : LinkState) (v : Holdin
   pub takes_turn : TakesTurn MayConnect a v between
   pub gives : Exchanged Give between b Given
 
+-- so it did, and then it was asked more over the link
+abbrev pub HasLooked : (LinkState → Type 0) → LinkState → HoldingState → LinkState → Type 0
+HasLooked MayConnect a v b =
+    (looked : LinkState) × Looks MayConnect a v looked × Follows looked b
+
 -- ---- what is refused
 
 -- Over the link the turn isn't granted: that is refused so.

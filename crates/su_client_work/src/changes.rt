@@ -6,11 +6,12 @@ ghost use Rattle.su_client.specs.Outbox.{contents, IsHandedIn};
 ghost use Rattle.su_desk.specs.History.{last_live};
 ghost use Rattle.su_legal.specs.Legal.{history};
 ghost use Rattle.su_lms.specs.PrivateKey.{key_of};
-ghost use Rattle.su_op.specs.declared.operations.Change.{Change as Change_};
+ghost use Rattle.su_op.specs.declared.operations.Change.TheVariants.{Undo};
 ghost use Rattle.su_plan.specs.Plan.{plan};
+ghost use Rattle.su_version.specs.Chain.{IsSignedBy};
 ghost use Rattle.su_view.specs.Holding.{tree_of_list};
-ghost use Rattle.su_view.specs.Making.{IsMade};
-ghost use Rattle.su_client_work.specs.Member.{OnlyTakes, Stays};
+ghost use Rattle.su_view.specs.Making.{own_key};
+ghost use Rattle.su_client_work.specs.Member.{IsClear, OnlyAsks, OnlyTakes, Stays};
 ghost use Rattle.su_client_work.specs.Publishing.{always, last_undo, CommitsAtMost, EndsTurn, HandsIn, IsPublished, Publishes, Rekeys, RekeysAtMost, SignsAtMost, SignsNone, TakesOwn};
 ghost use Rattle.su_client_work.specs.Turn.{Comes, GivesUp, IsRefusedTurn, TakesTurn};
 ghost use Rattle.su_client_work.specs.Work.{Works};
@@ -32,7 +33,7 @@ use su_view::ViewRefusal;
 impl<R: Read + Drop, W: Write + Drop, K: KeyStore + Drop> Member<R, W, K> {
     /// Plans a command on paths, once all commits are taken. Where there are operations, the turn is
     /// held, and `publish` can commit the first of them; where there are none, it is given back. The
-    /// refusals are those of `begin`, and then of `su_plan::plan`.
+    /// refusals are those of `begin`, and then of `View::plan`.
     pub fn plan<A: Surroundings<R, W>>(
         &mut self,
         around: &mut A,
@@ -42,13 +43,14 @@ impl<R: Read + Drop, W: Write + Drop, K: KeyStore + Drop> Member<R, W, K> {
         ensures link { Comes A.may_connect self.old.link self.new.link }
         ensures turn { OnOk result (TakesTurn A.may_connect self.old.link self.new.holding
             self.new.link) }
-        ensures planned { let v = self.new.holding in IfOk result (λ operations.
+        ensures planned { let v = self.new.holding in IsClear self.new
+            → IfOk result (λ operations.
             plan v.roster (tree_of_list v) v.user command.now ≡ Ok operations.items) }
         ensures refused { IfErr result
             (IsRefusedTurn A.may_connect self.old.link self.new.link) }
     {
         self.begin(around)?;
-        match self.view.plan(command) {
+        match self.plan_one(command) {
             Ok(operations) => {
                 self.keep_turn(!operations.is_empty());
                 Ok(operations)
@@ -58,6 +60,17 @@ impl<R: Read + Drop, W: Write + Drop, K: KeyStore + Drop> Member<R, W, K> {
                 Err(ViewRefusal::Plain(refusal))
             }
         }
+    }
+
+    /// Plans a command on the tree of the list. The refusals of `View::plan`.
+    fn plan_one(&mut self, command: &Command) -> Result<Vec<Op>, Refusal>
+        ensures planned { let v = self.old.holding in IsClear self.new
+            → IfOk result (λ operations.
+            plan v.roster (tree_of_list v) v.user command.now ≡ Ok operations.items) }
+        ensures asks { OnlyAsks self.old self.new }
+        ensures follows { Follows self.old.link self.new.link }
+    {
+        self.view.plan(command)
     }
 
     /// Gives the turn back, unless it is to be kept.
@@ -91,13 +104,18 @@ impl<R: Read + Drop, W: Write + Drop, K: KeyStore + Drop> Member<R, W, K> {
 
     /// Undoes the last operation that stands, once all commits are taken, and returns the number of
     /// the commit. The refusals are those of `change`: where no operation stands, `Change` of
-    /// `NoOperation` 0.
+    /// `NoOperation` 0; or as a load is refused.
     pub fn undo_last<A: Surroundings<R, W>>(&mut self, around: &mut A) -> Result<u64, ViewRefusal>
         ensures works { Works self.old self.new }
-        ensures signs { CommitsAtMost last_undo self.old result self.new }
+        ensures signs { IsClear self.new → CommitsAtMost last_undo self.old result self.new }
         ensures link { Comes A.may_connect self.old.link self.new.link }
-        ensures published { IfOk result
+        ensures published { IsClear self.new → IfOk result
             (Publishes A.may_connect last_undo self.old self.new) }
+        // In any case it signs and publishes no more than the undo of some operation.
+        ensures undoes { (number : ℕ)
+            × CommitsAtMost (always (Undo number)) self.old result self.new }
+        ensures undone { IfOk result (λ n. (number : ℕ)
+            × Publishes A.may_connect (always (Undo number)) self.old self.new n) }
     {
         self.begin(around)?;
         match self.last_live() {
@@ -130,11 +148,13 @@ impl<R: Read + Drop, W: Write + Drop, K: KeyStore + Drop> Member<R, W, K> {
         Ok(number)
     }
 
-    /// Returns the number of the last operation that stands, 0 where there is none. Fails only with
-    /// `NoMemory`.
+    /// Returns the number of the last operation that stands, 0 where there is none. Fails as a load
+    /// does, and with `NoMemory`.
     fn last_live(&mut self) -> Result<u64, Refusal>
-        ensures value { IfOk result (λ last. last ≡ last_live (history self.old.holding.held)) }
-        ensures same { self.new ≡ self.old }
+        ensures value { IsClear self.new
+            → IfOk result (λ last. last ≡ last_live (history self.old.holding.held)) }
+        ensures asks { OnlyAsks self.old self.new }
+        ensures follows { Follows self.old.link self.new.link }
     {
         let live = self.view.live()?;
         Ok(last_or_0(live.as_slice()))
@@ -162,11 +182,11 @@ impl<R: Read + Drop, W: Write + Drop, K: KeyStore + Drop> Member<R, W, K> {
     /// signed by the user's key, so this isn't checked again. The refusals are those of
     /// `View::accept`.
     fn take_own(&mut self, commit: Commit) -> Result<u64, ViewRefusal>
-        requires made { (change : Change_) × (leaf : ℕ)
-            × IsMade self.old.holding change leaf commit }
+        requires signed { IsSignedBy (own_key self.old.holding) commit }
         ensures signs { SignsNone self.old self.new }
+        ensures clear { IsClear self.new → IsClear self.old }
         ensures follows { Follows self.old.link self.new.link }
-        ensures took { IfOk result (TakesOwn self.old.holding commit self.new.holding) }
+        ensures took { IfOk result (TakesOwn self.old commit self.new) }
         ensures err { OnErr result (self.new.holding ≡ self.old.holding) }
     {
         let bytes = commit.encode(self.alloc)?;
@@ -182,6 +202,7 @@ impl<R: Read + Drop, W: Write + Drop, K: KeyStore + Drop> Member<R, W, K> {
     /// Makes a commit and hands it in. Where one of them is refused, the turn is given back.
     fn hand_in(&mut self, change: Change, is_followed: bool) -> Result<Commit, ViewRefusal>
         ensures holding { self.new.holding ≡ self.old.holding }
+        ensures clear { IsClear self.new → IsClear self.old }
         ensures signs { SignsAtMost self.old.holding change self.old self.new }
         ensures follows { Follows self.old.link self.new.link }
         ensures stored { IfOk result (λ c. HandsIn change self.old c self.new) }
@@ -199,11 +220,12 @@ impl<R: Read + Drop, W: Write + Drop, K: KeyStore + Drop> Member<R, W, K> {
     /// Makes a commit, and lets the server store it.
     fn store_new(&mut self, change: Change, is_followed: bool) -> Result<Commit, ViewRefusal>
         ensures holding { self.new.holding ≡ self.old.holding }
+        ensures clear { IsClear self.new → IsClear self.old }
         ensures signs { SignsAtMost self.old.holding change self.old self.new }
         ensures follows { Follows self.old.link self.new.link }
         ensures stored { IfOk result (λ c. HandsIn change self.old c self.new) }
     {
-        self.view.source_mut().source_mut().forget();
+        self.view.source_mut().source_mut().source_mut().forget();
         let commit = self.view.make(change, &mut self.key)?;
         let Ok(bytes) = commit.encode(self.alloc) else {
             return Err(ViewRefusal::Plain(Refusal::NoMemory));
@@ -211,7 +233,7 @@ impl<R: Read + Drop, W: Write + Drop, K: KeyStore + Drop> Member<R, W, K> {
         let (held, _) = self.view.head();
         self.early
             .note_own(self.view.user(), held.saturating_add(1));
-        let outbox = self.view.source_mut().source_mut();
+        let outbox = self.view.source_mut().source_mut().source_mut();
         match hand_over(self.alloc, outbox, bytes, &mut self.early, is_followed) {
             Ok(_) => Ok(commit),
             Err(refusal) => Err(ViewRefusal::Plain(refusal)),

@@ -4,16 +4,16 @@
 
 mod changes;
 mod early;
-mod last_items;
 mod logs;
 mod members;
 mod own_keys;
 mod questions;
 mod ready;
 mod shown;
+mod sources;
 mod surroundings;
 
-pub use last_items::LastItem;
 pub use logs::{LogFault, log_behind, saved_logs_are_logs, take_log};
 pub use members::Member;
+pub use sources::{LinkSource, source_over};
 pub use surroundings::Surroundings;

@@ -1,25 +1,27 @@
 // Logs of commits, with the items of their changes: how one is made of a list, and taken in a view.
-ghost use Rattle.std.specs.Prelude.{◌≡◌, ◌⊎◌, ◌∷◌, ◌++◌, ◌<◌, ◌≤◌, ℕ, List, [], drop, map, true, None, Some, Err, IfOk, IfErr, OnOk, OnErr};
+ghost use Rattle.std.specs.Prelude.{◌≡◌, ◌⊎◌, ◌↔◌, ◌∷◌, ◌++◌, ◌<◌, ◌≤◌, ℕ, IsTrue, List, [], drop, map, true, None, Some, Ok, Err, IfOk, IfErr, OnOk, OnErr};
 ghost use Rattle.su_bytes.specs.declared.refusals.Refusal.TheVariants.{MissingBlock, NoMemory, TooBig};
+ghost use Rattle.su_version.specs.Chain.{IsSignedBy};
 ghost use Rattle.su_version.specs.Commit.{commit_bytes};
 ghost use Rattle.su_legal.specs.Legal.{Committed};
-ghost use Rattle.su_view.specs.Acting.{TakesSome};
 ghost use Rattle.su_view.specs.Entry.{committed_at};
-ghost use Rattle.su_view.specs.Holding.{Took};
+ghost use Rattle.su_view.specs.Viewed.{AsksOn, Grows};
 ghost use Rattle.su_log.specs.Part.{part_bytes};
 ghost use Rattle.su_log.specs.Log.{log_bytes};
-ghost use Rattle.su_log.specs.Record.{IsExamined, spelled};
+ghost use Rattle.su_log.specs.Record.{IsExamined, IsVerdict, spelled};
 ghost use Rattle.su_client_work.specs.SavedLog.{saved_log, entry_bytes, saved_record};
-ghost use Rattle.su_client_work.specs.TakenLog.{TakesFront, TakesRecord, EndsSo};
+ghost use Rattle.su_client_work.specs.TakenLog.{EndsSo, TakesFront};
 
 use std::alloc::{AllocError, Global};
 use std::io;
 use std::io::Read;
 use std::thread::Threads;
-use su_block::BlockSource;
+use su_block::{BlockSource, is_item};
 use su_bytes::Refusal;
+use su_lms::PublicKey;
 use su_log::{Record, Stop};
 use su_log_ahead::{Ahead, PresumedKeys};
+use su_version::{Commit, Verdict};
 use su_view::{View, ViewRefusal};
 
 /// Why a log isn't taken whole.
@@ -31,23 +33,22 @@ pub enum LogFault {
     Unread(io::Error),
 }
 
-/// Takes the commits of a log in a view, one after the other, each once the item that follows it is
-/// put into the view's source; returns how many. It reads ahead, and checks the signatures of what
-/// it read on all cores. `Refused` by `Malformed` with the place in the log of a length that is cut
-/// or goes past the end, by the refusals of the source, or by those of `View::accept`; those before
-/// it stay taken. `Unread` where the log can't be read, or memory to read ahead is refused.
+/// Takes the commits of a log in a view, one after the other, each with the item that follows it, for
+/// which the view's source isn't asked; returns how many. It reads ahead, and checks the signatures
+/// of what it read on all cores. `Refused` by `Malformed` with the place in the log of a length that
+/// is cut or goes past the end, by `TooBig` where the item has not 1 to 70,000 bytes, or by the
+/// refusals of `View::accept_with`; those before it stay taken.
+/// `Unread` where the log can't be read, or memory to read ahead is refused.
 pub fn take_log<T: Threads + Sync, I: Read + Drop, S: BlockSource + Drop>(
     rt: &T,
     alloc: Global,
     reader: I,
     view: &mut View<S>,
 ) -> Result<u64, LogFault>
-    requires { S.is_checked ≡ true }
-    ensures takes { TakesSome view.old.holding view.new.holding }
-    ensures follows { S.follows view.old.source view.new.source }
+    ensures takes { (more : List Committed) × Grows S.may_give view.old more view.new }
+    ensures asks { AsksOn S.may_give S.follows view.old view.new }
     ensures log { (log : List ℕ) → I.remaining reader ≡ Some log
-        → EndsSo (TakesFront S.follows S.puts view.old.holding view.old.source log
-        view.new.holding view.new.source) log result }
+        → EndsSo (TakesFront S.may_give view.old log view.new) log result }
 {
     let keys = match presumed_keys(alloc, view) {
         Ok(keys) => keys,
@@ -84,21 +85,58 @@ pub(crate) fn presumed_keys<S: BlockSource + Drop>(
     Ok(keys)
 }
 
-/// Puts the item of a record into the view's source, and lets the view take its commit.
+/// Lets the view take the commit of a record, with its item. Where it is known whether it is signed,
+/// that isn't checked again. `TooBig` where the item has not 1 to 70,000 bytes; then the refusals are
+/// those of `View::accept_with`.
 fn take_record<S: BlockSource + Drop>(
     alloc: Global,
     view: &mut View<S>,
     next: Record,
 ) -> Result<(), ViewRefusal>
-    requires checked { S.is_checked ≡ true }
-    requires examined { IsExamined next }
-    ensures took { OnOk result (TakesRecord S.follows S.puts (spelled next)
-        view.old.holding view.old.source view.new.holding view.new.source) }
+    requires { IsExamined next }
+    ensures took { OnOk result ((c : Committed) × (spelled next ≡ saved_record c)
+        × Grows S.may_give view.old (c ∷ []) view.new) }
     ensures err { OnErr result (view.new.holding ≡ view.old.holding) }
-    ensures follows { S.follows view.old.source view.new.source }
+    ensures asks { AsksOn S.may_give S.follows view.old view.new }
 {
-    view.source_mut().put(alloc, next.item.as_slice())?;
-    take_commit(view, next)
+    let Record {
+        bytes,
+        item,
+        commit,
+        key,
+        verdict,
+    } = next;
+    if !is_item(item.as_slice()) {
+        return Err(ViewRefusal::Plain(Refusal::TooBig));
+    }
+    let commit = match commit {
+        Ok(commit) => commit,
+        Err(refusal) => return Err(ViewRefusal::Plain(refusal)),
+    };
+    let verdict = match known_or_found(alloc, verdict, key, &commit) {
+        Ok(verdict) => verdict,
+        Err(refusal) => return Err(ViewRefusal::Plain(refusal)),
+    };
+    view.accept_with(commit, bytes.as_slice(), verdict, item)
+}
+
+/// Returns the verdict on a commit's signature, if there is one; else finds it under that key. Fails
+/// only with `NoMemory`.
+fn known_or_found(
+    alloc: Global,
+    known: Option<Verdict>,
+    key: Option<PublicKey>,
+    commit: &Commit,
+) -> Result<Verdict, Refusal>
+    requires { IsVerdict (Ok commit.now) known }
+    ensures value { IfOk result (λ verdict.
+        IsTrue verdict.is_signed ↔ IsSignedBy verdict.key commit.now) }
+    ensures refused { IfErr result (λ e. e ≡ NoMemory) }
+{
+    match known {
+        Some(verdict) => Ok(verdict),
+        None => Verdict::of(alloc, key, commit),
+    }
 }
 
 /// Lets the view take the commit of a record. Where it is known whether it is signed, that isn't
@@ -110,9 +148,9 @@ pub(crate) fn take_commit<S: BlockSource + Drop>(
     requires checked { S.is_checked ≡ true }
     requires examined { IsExamined next }
     ensures took { OnOk result ((c : Committed) × (next.bytes.items ≡ commit_bytes c.commit)
-        × Took view.old.holding (c ∷ []) view.new.holding) }
+        × Grows S.may_give view.old (c ∷ []) view.new) }
     ensures err { OnErr result (view.new.holding ≡ view.old.holding) }
-    ensures follows { S.follows view.old.source view.new.source }
+    ensures asks { AsksOn S.may_give S.follows view.old view.new }
 {
     let Record {
         bytes,

@@ -1,26 +1,29 @@
 // A client that works with a server, and how it begins what it does.
-ghost use Rattle.std.specs.Prelude.{◌≡◌, ◌<◌, ◌+◌, ℕ, [], Some, length, nat_le, slice_get, IfOk, IfErr, IfNone, OnOk, OnErr};
+ghost use Rattle.std.specs.Prelude.{◌≡◌, ◌↔◌, ◌<◌, ◌+◌, ℕ, [], Some, length, nat_le, slice_get, IfOk, IfErr, IfNone, OnOk, OnErr};
 ghost use Rattle.su_client_work.specs.declared.ready.TheConstants.{MOST_READY};
 ghost use Rattle.su_bytes.specs.declared.refusals.Refusal.TheVariants.{LinkFailed};
 ghost use Rattle.su_message.specs.declared.requests.Request.TheVariants.{Grant, Give, Fetch};
 ghost use Rattle.su_message.specs.declared.replies.Reply.TheVariants.{Granted, Given};
 ghost use Rattle.su_client.specs.Link.{IsFresh, Exchanged, Follows, GoesAhead, IsRefusal, kept_or_nothing};
 ghost use Rattle.su_log.specs.Record.{IsExamined};
-ghost use Rattle.su_client_work.specs.Member.{OnlyTakes, ReplacesKey, Stays};
+ghost use Rattle.su_part_tree.specs.Loading.{IsLoadRefusal};
+ghost use Rattle.su_view.specs.Viewed.{IsClear as IsClearView};
+ghost use Rattle.su_client_work.specs.Member.{IsClear, OnlyAsks, OnlyTakes, ReplacesKey, Stays};
 ghost use Rattle.su_client_work.specs.Turn.{AreShown, Comes, GivesUp, HasMore, IsCaughtUp, IsGranted, IsGrantedOver, IsRefusedTurn, IsShown, IsUngranted, IsUngrantedOver, Looks, PassesShown, SaysNothing, TakesTurn, commit_or_nothing};
 
 use crate::early::Early;
 use crate::logs::{presumed_keys, take_commit};
 use crate::ready::{Fetched, MOST_READY, Ready};
 use crate::shown::Shown;
+use crate::sources::LinkSource;
 use crate::surroundings::Surroundings;
 use std::alloc::Global;
 use std::io::{Read, Write};
 use std::marker::Model;
 use std::time::Duration;
-use su_block::Checked;
+use su_block::BlockSource;
 use su_bytes::{Digest, Refusal, User};
-use su_client::{Client, Outbox};
+use su_client::Client;
 use su_lms::{KeyStore, Signer};
 use su_log::Record;
 use su_message::{Bytes, LastNumbers, Request};
@@ -33,27 +36,39 @@ const PAUSE: u64 = 1;
 /// The seat that `Busy` names where no worker of the server is free: no seat has this number.
 const NO_SEAT: u16 = u16::MAX;
 
-/// A client at work: its view, with a server that need not be trusted as the source of items, and
-/// the key of its user. A server's lies can refuse it, and nothing more: its list stays legal, and
-/// it signs nothing that it may not.
+/// A client at work: its view, with a server that need not be trusted as the source of items and of
+/// its tree, and the key of its user. A server's lies can refuse it, and nothing more: its list stays
+/// legal, and it signs nothing that it may not. (That the list is legal, and what the tree tells, is
+/// claimed where no byte strings were mixed up by their SHA-256.)
 #[derive(Drop)]
-pub struct Member<R: Read, W: Write, K: KeyStore> {
-    pub(crate) view: View<Checked<Outbox<R, W>>>,
+pub struct Member<R: Read + Drop, W: Write + Drop, K: KeyStore> {
+    pub(crate) view: View<LinkSource<R, W>>,
     pub(crate) key: OwnKey<K>,
     tries: u32,
     pub(crate) early: Early,
+    /// Whether some of the tree may be left to the server.
+    has_left: bool,
+    /// Whether the tree stays in memory, as it couldn't be left over this link.
+    stays: bool,
     pub(crate) alloc: Global,
 }
 
-impl<R: Read, W: Write, K: KeyStore> Model for Member<R, W, K> {
-    ghost use Rattle.std.specs.Prelude.{length};
+impl<R: Read + Drop, W: Write + Drop, K: KeyStore> Model for Member<R, W, K> {
+    ghost use Rattle.std.specs.Map.{values_of};
+    ghost use Rattle.std.specs.Prelude.{length, map};
     ghost use Rattle.su_client_work.specs.Member.{MemberState};
 
     ghost Value = { MemberState };
 
     ghost view = { λ s. record {
       holding = s.view.holding;
-      link = s.view.source.source.client.link;
+      link = s.view.source.source.source.client.link;
+      asked = map (λ a. record {
+        kept = values_of a.0.kept;
+        at_hand = a.0.source.source.at_hand;
+        link = a.0.source.source.client.link;
+        history = a.1.items;
+      }) s.view.asked;
       signed = s.key.signed;
       next = record { keys = length s.key.former; leaf = s.key.next };
     } };
@@ -64,12 +79,14 @@ impl<R: Read + Drop, W: Write + Drop, K: KeyStore + Drop> Member<R, W, K> {
     /// for a turn that another has, and once where that is 0.
     pub fn new(
         alloc: Global,
-        view: View<Checked<Outbox<R, W>>>,
+        view: View<LinkSource<R, W>>,
         signer: Signer<K>,
         tries: u32,
     ) -> Member<R, W, K>
         ensures holding { result.holding ≡ view.holding }
-        ensures link { result.link ≡ view.source.source.client.link }
+        ensures link { result.link ≡ view.source.source.source.client.link }
+        ensures clear { IsClear result
+            ↔ IsClearView ⟦<LinkSource<R, W> as BlockSource>⟧.may_give view }
         ensures signed { result.signed ≡ [] }
         ensures next { result.next ≡ record { keys = 0; leaf = signer.next } }
     {
@@ -78,6 +95,8 @@ impl<R: Read + Drop, W: Write + Drop, K: KeyStore + Drop> Member<R, W, K> {
             key: OwnKey::new(signer),
             tries,
             early: Early::new(alloc),
+            has_left: false,
+            stays: false,
             alloc,
         }
     }
@@ -89,6 +108,7 @@ impl<R: Read + Drop, W: Write + Drop, K: KeyStore + Drop> Member<R, W, K> {
         ensures same { self.new ≡ self.old }
     {
         self.view
+            .source_mut()
             .source_mut()
             .source_mut()
             .client_mut()
@@ -112,6 +132,41 @@ impl<R: Read + Drop, W: Write + Drop, K: KeyStore + Drop> Member<R, W, K> {
         } }
     {
         self.view.leave_items();
+    }
+
+    /// Leaves all of the tree to the server, but for the digests of its i-tables, as `View::shed`
+    /// does: what is asked of the tree then is loaded. The server has it as long as the link lasts.
+    /// Refused with `SourceFailed` where the server could not be asked, as a load is refused, and with
+    /// `NoMemory`, also where the server has no room: then the tree is made anew in memory, unless the
+    /// items are left, and isn't left over this link any more.
+    pub fn shed(&mut self) -> Result<(), Refusal>
+        ensures refused { IsClear self.new → IfErr result IsLoadRefusal }
+        ensures asks { OnlyAsks self.old self.new }
+        ensures follows { Follows self.old.link self.new.link }
+    {
+        if self.stays {
+            return Err(Refusal::NoMemory);
+        }
+        self.has_left = true;
+        let put = self.put_tree();
+        if put.is_err() {
+            self.stays = true;
+            self.reload();
+        }
+        put
+    }
+
+    /// Leaves the tree to the server, and puts what waits.
+    fn put_tree(&mut self) -> Result<(), Refusal>
+        ensures refused { IsClear self.new → IfErr result IsLoadRefusal }
+        ensures asks { OnlyAsks self.old self.new }
+        ensures follows { Follows self.old.link self.new.link }
+    {
+        if let Err(refusal) = self.view.shed() {
+            return Err(refusal);
+        }
+        let outbox = self.view.source_mut().source_mut().source_mut();
+        outbox.settle(self.alloc)
     }
 
     /// Lends where the leaf that signs next is stored.
@@ -171,7 +226,12 @@ impl<R: Read + Drop, W: Write + Drop, K: KeyStore + Drop> Member<R, W, K> {
         ensures given { OnOk result (Exchanged Give self.old.link self.new.link Given) }
         ensures refused { IfErr result (IsRefusal Give self.old.link self.new.link) }
     {
-        self.view.source_mut().source_mut().client_mut().give()
+        self.view
+            .source_mut()
+            .source_mut()
+            .source_mut()
+            .client_mut()
+            .give()
     }
 
     /// Gives the turn back that `begin` took. Where that is refused, the server ends it with the
@@ -193,6 +253,7 @@ impl<R: Read + Drop, W: Write + Drop, K: KeyStore + Drop> Member<R, W, K> {
         self.view
             .source_mut()
             .source_mut()
+            .source_mut()
             .client_mut()
             .send_ahead(request)
     }
@@ -206,6 +267,7 @@ impl<R: Read + Drop, W: Write + Drop, K: KeyStore + Drop> Member<R, W, K> {
         self.view
             .source_mut()
             .source_mut()
+            .source_mut()
             .client_mut()
             .pass_ahead();
     }
@@ -215,7 +277,7 @@ impl<R: Read + Drop, W: Write + Drop, K: KeyStore + Drop> Member<R, W, K> {
         ensures stays { Stays self.old self.new }
         ensures follows { Follows self.old.link self.new.link }
     {
-        let outbox = self.view.source_mut().source_mut();
+        let outbox = self.view.source_mut().source_mut().source_mut();
         let _ = outbox.settle(self.alloc);
         outbox.forget();
     }
@@ -253,11 +315,32 @@ impl<R: Read + Drop, W: Write + Drop, K: KeyStore + Drop> Member<R, W, K> {
     {
         match around.connect() {
             Ok(link) => {
-                *self.view.source_mut().source_mut().client_mut() = link;
+                self.put_link(link);
                 self.early.forget();
+                self.stays = false;
+                self.reload();
                 Ok(())
             }
             Err(_) => Err(Refusal::LinkFailed),
+        }
+    }
+
+    /// Puts a link in the place of the client's own.
+    fn put_link(&mut self, link: Client<R, W>)
+        ensures { self.new ≡ record self.old { link = link.link } }
+    {
+        let outbox = self.view.source_mut().source_mut().source_mut();
+        *outbox.client_mut() = link;
+    }
+
+    /// Makes the tree anew in memory, where some of it may be left to a server that may have let it
+    /// go. Where it can't be, for want of memory or of items that the view has left, what is left is
+    /// asked for as before.
+    fn reload(&mut self)
+        ensures { self.new ≡ self.old }
+    {
+        if self.has_left && self.view.reload().is_ok() {
+            self.has_left = false;
         }
     }
 
@@ -306,7 +389,12 @@ impl<R: Read + Drop, W: Write + Drop, K: KeyStore + Drop> Member<R, W, K> {
         ensures refused { IfErr result (IsRefusal Grant self.old.link self.new.link) }
     {
         self.early.is_asked = false;
-        self.view.source_mut().source_mut().client_mut().grant()
+        self.view
+            .source_mut()
+            .source_mut()
+            .source_mut()
+            .client_mut()
+            .grant()
     }
 
     /// Sends the request for the turn ahead, and with it those for the users' last commits, unless
@@ -328,7 +416,7 @@ impl<R: Read + Drop, W: Write + Drop, K: KeyStore + Drop> Member<R, W, K> {
         ensures stays { Stays self.old self.new }
         ensures ahead { GoesAhead self.old.link self.new.link }
     {
-        let outbox = self.view.source_mut().source_mut();
+        let outbox = self.view.source_mut().source_mut().source_mut();
         self.early.send_turn(outbox.client_mut());
     }
 
@@ -443,6 +531,7 @@ impl<R: Read + Drop, W: Write + Drop, K: KeyStore + Drop> Member<R, W, K> {
         self.view
             .source_mut()
             .source_mut()
+            .source_mut()
             .client_mut()
             .fetch(number)
     }
@@ -458,10 +547,28 @@ impl<R: Read + Drop, W: Write + Drop, K: KeyStore + Drop> Member<R, W, K> {
         self.fetch(number)
     }
 
+    /// Takes the commits that the list lacks of the first `count`, as `take_many` does. What was sent
+    /// ahead then and not asked for, as it lay in the cache, is passed by.
+    fn take_up_to<A: Surroundings<R, W>>(
+        &mut self,
+        around: &mut A,
+        count: u64,
+        shown: &Shown,
+    ) -> Result<(), ViewRefusal>
+        ensures takes { OnlyTakes self.old self.new }
+        ensures follows { Follows self.old.link self.new.link }
+        ensures caught_up { OnOk result
+            (IsCaughtUp count self.new.holding self.old.link self.new.link) }
+    {
+        self.take_many(around, count, shown)?;
+        self.pass_over();
+        Ok(())
+    }
+
     /// Takes the commits that the list lacks of the first `count`, many at a time. What the server
     /// says that it hasn't is left out, so that the one after it is refused. Once the list lacks as
     /// many as are fetched at once, no more are asked for: no number holds a client up.
-    fn take_up_to<A: Surroundings<R, W>>(
+    fn take_many<A: Surroundings<R, W>>(
         &mut self,
         around: &mut A,
         count: u64,
@@ -653,6 +760,16 @@ impl<R: Read + Drop, W: Write + Drop, K: KeyStore + Drop> Member<R, W, K> {
         take_commit(&mut self.view, found)
     }
 
+    /// Takes a commit by its bytes.
+    fn take_bytes(&mut self, bytes: &[u8]) -> Result<(), ViewRefusal>
+        ensures takes { OnlyTakes self.old self.new }
+        ensures follows { Follows self.old.link self.new.link }
+        ensures more { OnOk result
+            (HasMore self.old.holding self.old.link self.new.holding self.new.link) }
+    {
+        self.view.accept_bytes(bytes)
+    }
+
     /// Fetches the commit of that number, and takes it. What was sent ahead is passed by.
     fn take_fetched(&mut self, number: u64) -> Result<(), ViewRefusal>
         ensures takes { OnlyTakes self.old self.new }
@@ -661,7 +778,7 @@ impl<R: Read + Drop, W: Write + Drop, K: KeyStore + Drop> Member<R, W, K> {
             (HasMore self.old.holding self.old.link self.new.holding self.new.link) }
     {
         match self.fetch_alone(number) {
-            Ok(Some(bytes)) => self.view.accept_bytes(bytes.as_slice()),
+            Ok(Some(bytes)) => self.take_bytes(bytes.as_slice()),
             Ok(None) => Ok(()),
             Err(refusal) => Err(ViewRefusal::Plain(refusal)),
         }

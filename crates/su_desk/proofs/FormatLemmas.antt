@@ -1,5 +1,5 @@
 -- Formats of entries.
-use Rattle.std.proofs.Common.{◌≡◌, ℕ, Bool, true, false, arith, ◌&&◌, cond, List, [], ◌∷◌, ◌++◌, Option, None, Some, refl, sym, ap, ◌∙◌, append_assoc, append-nil}
+use Rattle.std.proofs.Common.{◌≡◌, ℕ, zero, suc, ◌-◌, length, take, slice_get, Bool, true, false, arith, ◌&&◌, cond, List, [], ◌∷◌, ◌++◌, Option, None, Some, refl, sym, ap, ◌∙◌, append_assoc, append-nil}
 use Rattle.std.specs.Option.{option_or}
 use Rattle.su_bytes.specs.Format.{is_as_new}
 use Rattle.su_bytes.specs.Membership.{Membership}
@@ -106,3 +106,20 @@ change_accepted ro h e accepted = second (format_refusal h e.format e.change) (r
 -- where its format doesn't fit, that refuses it
 pub format_refused : (ro : Membership) (h : List Entry) (e : Entry) (r : Refusal) → format_refusal h e.format e.change ≡ Some r → refusal_of ro h e ≡ Some r
 format_refused ro h e r is = ap (λ o. option_or o (refusal_by_change ro h e e.change)) is
+
+-- ---- the last entry
+
+-- a list ends with its last element
+ends_at : {A : Type 0} (xs : List A) (n : ℕ) (x : A) → length xs ≡ suc n → slice_get xs n ≡ Some x → xs ≡ take n xs ++ x ∷ []
+ends_at [] n x len e = absurd (let bad : None ≡ Some x = e in cc)
+ends_at (y ∷ []) zero x len e = let same : y ≡ x = cc in ap (λ z. z ∷ []) same
+ends_at (y ∷ z ∷ ys) zero x len e = absurd (omega arith)
+ends_at (y ∷ ys) (suc n) x len e = ap (λ t. y ∷ t) (ends_at ys n x (omega arith) e)
+
+pub ends_with : {A : Type 0} (xs : List A) (x : A) → slice_get xs (length xs - 1) ≡ Some x → xs ≡ take (length xs - 1) xs ++ x ∷ []
+ends_with [] x e = absurd (let bad : None ≡ Some x = e in cc)
+ends_with (y ∷ ys) x e = ends_at (y ∷ ys) (length (y ∷ ys) - 1) x (omega arith) e
+
+-- the format of the last entry
+pub format_last : (h : List Entry) (e : Entry) → slice_get h (length h - 1) ≡ Some e → e.format ≡ format_after h
+format_last h e is = sym (ap format_after (ends_with h e is) ∙ format_further (take (length h - 1) h) e)

@@ -6,15 +6,5 @@ pub mod WhereApplied
 pub mod Blockers
 pub mod StandingFiles
 pub mod Replays
-pub mod NamedKeys
 pub mod GoodHistories
-pub mod KeptOperations
-pub mod KeptIndexes
-pub mod NumberSearch
-pub mod TakingBack
-pub mod Replies
-pub mod Runs
-pub mod TrialLemmas
-pub mod StandingReady
 pub mod RehearsalLemmas
-pub mod JoinedLemmas

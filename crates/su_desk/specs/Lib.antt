@@ -6,7 +6,4 @@ pub mod Version
 pub mod Answer
 pub mod Desk
 pub mod Trial
-pub mod Keeping
-pub mod Tried
 pub mod Headline
-pub mod Joined

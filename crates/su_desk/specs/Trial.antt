@@ -8,7 +8,6 @@ use Rattle.su_table.specs.Handle.{handle}
 use Rattle.su_op.specs.declared.areas.Area.{Area}
 use Rattle.su_desk.specs.declared.entries.Entry.{Entry}
 use Rattle.su_desk.specs.declared.prepared.Prepared.{Prepared}
-use Rattle.su_desk.specs.declared.prepared.Tried.{Tried}
 use Rattle.su_desk.specs.Applied.{tree_after}
 use Rattle.su_desk.specs.Version.{carried_groups, cells_of, versions}
 use Rattle.su_desk.specs.Desk.{DeskState, with_entry}
@@ -81,7 +80,3 @@ split_before d n = record {
   settled = record { roster = d.roster; history = take (length d.history - n) d.history };
   ready = drop (length d.history - n) d.history;
 }
-
--- of a desk and what takes its last entries back, one for each: they stand ready
-abbrev pub seen_of : DeskState → List Tried → TrialState
-seen_of d ts = split_before d (length ts)

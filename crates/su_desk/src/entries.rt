@@ -47,7 +47,7 @@ impl Model for KeptEntry {
 
 impl KeptEntry {
     /// Keeps an entry. Takes no memory.
-    pub(crate) fn new(alloc: Global, entry: Entry) -> KeptEntry
+    pub fn new(alloc: Global, entry: Entry) -> KeptEntry
         ensures { result ≡ entry }
     {
         let whole = Log::new().and(&entry, &());
@@ -136,7 +136,7 @@ pub enum DeskReply {
 }
 
 /// Returns the entry of a number, if there is one.
-pub(crate) fn entry_at(entries: &[KeptEntry], number: u64) -> Option<&KeptEntry>
+pub fn entry_at(entries: &[KeptEntry], number: u64) -> Option<&KeptEntry>
     ensures { option_copied result ≡ entry_at entries.now number }
 {
     if number == 0 {
@@ -147,7 +147,7 @@ pub(crate) fn entry_at(entries: &[KeptEntry], number: u64) -> Option<&KeptEntry>
 }
 
 /// Returns the format of the last entry, at first the oldest one.
-pub(crate) fn format_after(entries: &[KeptEntry]) -> Format
+pub fn format_after(entries: &[KeptEntry]) -> Format
     ensures { result ≡ format_after entries.now }
 {
     match entries.last() {
@@ -157,7 +157,7 @@ pub(crate) fn format_after(entries: &[KeptEntry]) -> Format
 }
 
 /// Returns the number of the first entry that undoes that one, if one does.
-pub(crate) fn undoer_in(entries: &[KeptEntry], number: u64) -> Option<u64>
+pub fn undoer_in(entries: &[KeptEntry], number: u64) -> Option<u64>
     ensures { result ≡ undoer entries.now number }
 {
     for (index, entry) in entries.iter().enumerate() {

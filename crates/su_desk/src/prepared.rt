@@ -1,7 +1,5 @@
-// What is told of a change that was prepared, and what takes it back.
-use crate::kept::KeptOperation;
-use su_bytes::{Digest, Group, KEY_LENGTH, Principal};
-use su_inverse::Inverse;
+// What is told of a change that was prepared.
+use su_bytes::{Digest, Group, Principal};
 
 /// What is told of a change that stands ready, of the history and the tree with it.
 #[derive(Debug, Drop)]
@@ -14,32 +12,4 @@ pub struct Prepared {
     pub author_handle: Digest,
     /// The groups that it carries, ascending, with their i-handles.
     pub groups: Vec<(Group, Digest)>,
-}
-
-/// What takes the last entry of a desk back: the version numbers before it, and the rest by the kind
-/// of its change.
-#[derive(Drop)]
-pub(crate) struct Tried {
-    pub(crate) versions: Vec<(Principal, u64)>,
-    pub(crate) means: Means,
-}
-
-/// What takes a change back.
-#[derive(Drop)]
-pub(crate) enum Means {
-    /// An operation: what is kept with it.
-    Kept,
-    /// An undo: what it undid.
-    Held(Undone),
-    /// A rekey: the key that it named.
-    Named([u8; KEY_LENGTH]),
-}
-
-/// An operation that was undone: what was kept of it, at which index, and what the cells that it
-/// wrote held until then.
-#[derive(Drop)]
-pub(crate) struct Undone {
-    pub(crate) index: usize,
-    pub(crate) operation: KeptOperation,
-    pub(crate) held: Inverse,
 }

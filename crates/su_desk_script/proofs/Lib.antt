@@ -1,1 +1,2 @@
+mod Quiets
 pub mod Stepping

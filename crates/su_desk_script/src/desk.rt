@@ -7,12 +7,12 @@ ghost use Rattle.su_desk_script.specs.Step.{EndsBadly, LineSteps, Steps};
 ghost use Rattle.su_desk_script.specs.Transcript.{LineSays, Prints, PrintsFrom, new_desk, status_code, status_of};
 ghost use Rattle.su_desk_lines.specs.Unread.{unread};
 
+use crate::loaded::LoadedDesk;
 use crate::session::{Session, bad, refused};
 use std::alloc::{AllocError, Global};
 use std::io::{Read, Write};
 use std::{fmt, io};
 use su_bytes::{Format, KEY_LENGTH, Refusal, Roster};
-use su_desk::TrialDesk;
 use su_desk_lines::{LineReader, Mistake, NextLine, check_ranges, mistake_in, parse_line};
 
 /// The status that a program ends with.
@@ -120,12 +120,12 @@ pub fn run_desk<R: Read + Drop, W: Write>(
 }
 
 /// Makes a desk of that many users, whose keys are zero bytes.
-fn new_desk(alloc: Global, users: u8) -> Result<TrialDesk, Refusal>
+fn new_desk(alloc: Global, users: u8) -> Result<LoadedDesk, Refusal>
     requires { (1 ≤ users) × (users ≤ 64) }
     ensures { IfOk result (λ desk. desk ≡ nothing_ready (new_desk users)) }
 {
     let keys = zero_keys(alloc, users)?;
-    TrialDesk::new(alloc, Roster::of_keys(alloc, keys.as_slice())?)
+    LoadedDesk::new(alloc, Roster::of_keys(alloc, keys.as_slice())?)
 }
 
 /// Makes `count` keys of zero bytes.

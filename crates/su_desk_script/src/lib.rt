@@ -2,6 +2,7 @@
 #![tactic(auto)]
 
 mod desk;
+mod loaded;
 mod session;
 
 pub use desk::{Ending, Fault, Status, run_desk};

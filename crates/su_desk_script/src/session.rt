@@ -1,24 +1,24 @@
 // A desk with what a script keeps beside it, and the texts that it answers.
 ghost use Rattle.std.specs.Prelude.{◌≡◌, ◌⊎◌, ◌++◌, [], None, Some, Ok, IfOk, IfErr, OnOk};
 ghost use Rattle.su_bytes.specs.declared.refusals.Refusal.TheVariants.{NoMemory};
-ghost use Rattle.su_table.specs.Handle.{handle};
-ghost use Rattle.su_desk_script.specs.Answer.{answer_text, refused_text, name_text, listing_text, bytes_text, inode_text, digest_line, kind_text, bad_text, version_text, versions_text, description_text};
+ghost use Rattle.su_node.specs.Inode.{Inode};
+ghost use Rattle.su_reading.specs.Reading.{head_of};
+ghost use Rattle.su_desk_script.specs.Answer.{answer_text, refused_text, name_text, listing_text, bytes_text, inode_text, digest_line, kind_text, bad_text, version_text, versions_text};
 ghost use Rattle.su_desk_lines.specs.declared.ranges.Command.TheVariants.{Mark, Same};
-ghost use Rattle.su_desk_script.specs.Session.{desk_tree, handles, question_text, same_text, description, Does, IsText};
+ghost use Rattle.su_desk_script.specs.Session.{desk_tree, handles, question_text, same_text, Does, IsText};
 
+use crate::loaded::LoadedDesk;
 use std::alloc::{AllocError, Global};
 use std::marker::Model;
-use su_bytes::{Digest, FileId, Format, Inum, Kind, Name, Principal, Refusal, Roster, User};
-use su_desk::TrialDesk;
+use su_bytes::{Digest, FileId, Format, Kind, Name, Place, Principal, Refusal, Roster};
 use su_desk_lines::{Command, Question};
-use su_node::Inode;
-use su_table::Forest;
+use su_reading::InodeHead;
 
 /// A desk, the format of the changes that a script makes, and the digests that it keeps to compare
 /// with later.
 #[derive(Drop)]
 pub struct Session {
-    desk: TrialDesk,
+    desk: LoadedDesk,
     format: Format,
     mark: Option<Vec<Digest>>,
 }
@@ -38,7 +38,7 @@ impl Model for Session {
 
 impl Session {
     /// Wraps a desk on which changes are made in that format, with nothing kept.
-    pub fn new(desk: TrialDesk, format: Format) -> Session
+    pub fn new(desk: LoadedDesk, format: Format) -> Session
         ensures { result ≡ record { desk = desk.settled; format = format; mark = None } }
     {
         Session {
@@ -65,7 +65,7 @@ impl Session {
             }
             Command::UndoLast(user) => answered(alloc, self.desk.undo_last_as(self.format, user)),
             Command::Ask(question) => match self.desk.take_back() {
-                Ok(()) => answer(alloc, self.desk.forest(), question),
+                Ok(()) => answer(alloc, &mut self.desk, question),
                 Err(refusal) => refused(alloc, refusal),
             },
             Command::Versions => versions_shown(alloc, self.desk.versions()),
@@ -125,55 +125,33 @@ fn line(alloc: Global, text: &str) -> Result<Vec<u8>, AllocError>
     Vec::from_slice(alloc, text.as_bytes())
 }
 
-/// Answers a question; its text, or that of `NoMemory`.
-fn answer(alloc: Global, forest: &Forest, question: Question) -> Result<Vec<u8>, AllocError>
-    ensures { IfOk result (λ text. IsText (question_text forest.now question) text.items) }
+/// Answers a question, where nothing stands ready; its text, or that of `NoMemory`.
+fn answer(alloc: Global, desk: &mut LoadedDesk, question: Question) -> Result<Vec<u8>, AllocError>
+    requires { desk.old.ready ≡ [] }
+    ensures text { IfOk result (λ text.
+        IsText (question_text (desk_tree desk.old.settled) question) text.items) }
+    ensures same { desk.new ≡ desk.old }
 {
     match question {
-        Question::List(directory) => match forest.list(directory) {
+        Question::List(directory) => match desk.list(directory) {
             Ok(names) => listed(alloc, names.as_slice()),
             Err(refusal) => refused(alloc, refusal),
         },
-        Question::Read(file, off, len) => match forest.read_at(file, off, len) {
+        Question::Read(file, off, len) => match desk.read_at(file, off, len) {
             Ok(bytes) => in_hex(alloc, bytes.as_slice()),
             Err(refusal) => refused(alloc, refusal),
         },
-        Question::Describe(file) => describe(alloc, forest, &file),
-        Question::Handle(principal) => match handle(forest, principal) {
-            Ok(digest) => digest_shown(alloc, digest),
+        Question::Describe(file) => match desk.describe(file) {
+            Ok((place, head)) => described(alloc, &place, &head),
             Err(refusal) => refused(alloc, refusal),
         },
-    }
-}
-
-/// Tells what a file is.
-fn describe(alloc: Global, forest: &Forest, file: &FileId) -> Result<Vec<u8>, AllocError>
-    ensures { IfOk result (λ text.
-        text.items ≡ description_text (description forest.now file.now)) }
-{
-    let Some((user, number)) = forest.body(*file) else {
-        return refused(alloc, Refusal::NoFile(*file));
-    };
-    match forest.inode(user, number) {
-        Some(inode) => described(alloc, user, number, inode),
-        None => refused(alloc, Refusal::WrongKind(*file)),
-    }
-}
-
-/// Returns the digest of an i-table. Fails only with `NoMemory`.
-fn handle(forest: &Forest, principal: Principal) -> Result<Digest, Refusal>
-    ensures value { IfOk result (λ digest. digest ≡ handle forest.now principal) }
-    ensures refused { IfErr result (λ e. e ≡ NoMemory) }
-{
-    match principal {
-        Principal::User(user) => forest.i_handle(user),
-        Principal::Group(group) => forest.group_handle(group),
+        Question::Handle(principal) => digest_shown(alloc, desk.handle(principal)),
     }
 }
 
 /// Returns the digests of the i-tables of all users, and then of all groups, where nothing stands
 /// ready. Fails only with `NoMemory`.
-fn all_handles(alloc: Global, desk: &TrialDesk) -> Result<Vec<Digest>, Refusal>
+fn all_handles(alloc: Global, desk: &LoadedDesk) -> Result<Vec<Digest>, Refusal>
     requires { desk.now.ready ≡ [] }
     ensures value { IfOk result (λ digests.
         digests.items ≡ handles desk.now.settled.roster (desk_tree desk.now.settled)) }
@@ -182,8 +160,7 @@ fn all_handles(alloc: Global, desk: &TrialDesk) -> Result<Vec<Digest>, Refusal>
     let principals = desk.roster().principals()?;
     let mut digests = Vec::with_capacity(alloc, principals.len())?;
     for principal in &principals {
-        let digest = handle(desk.forest(), *principal)?;
-        digests.push(digest)?;
+        digests.push(desk.handle(*principal))?;
     }
     Ok(digests)
 }
@@ -249,18 +226,15 @@ pub fn in_hex(alloc: Global, bytes: &[u8]) -> Result<Vec<u8>, AllocError>
     Ok(text)
 }
 
-/// Writes `file size 5 links 1 at U0:3`, of the inode at that number of the user's i-table.
-pub fn described(
-    alloc: Global,
-    user: User,
-    number: Inum,
-    inode: &Inode,
-) -> Result<Vec<u8>, AllocError>
-    ensures { IfOk result (λ text. text.items ≡ inode_text (user, number) inode.now) }
+/// Writes `file size 5 links 1 at U0:3`, of the inode at that place.
+fn described(alloc: Global, place: &Place, head: &InodeHead) -> Result<Vec<u8>, AllocError>
+    ensures { (i : Inode) → head.now ≡ head_of i
+        → IfOk result (λ text. text.items ≡ inode_text place.now i) }
 {
-    let kind = kind_word(inode.kind());
-    let size = inode.size();
-    let links = inode.links();
+    let (user, number) = *place;
+    let kind = kind_word(head.kind);
+    let size = head.size;
+    let links = head.links;
     let stands = FileId::User(user, number);
     let text = format!(in alloc; "{kind} size {size} links {links} at {stands}\n")?;
     Vec::from_slice(alloc, text.as_bytes())

@@ -1,6 +1,5 @@
 pub mod DraftTakes
 pub mod LeastFree
-pub mod NameLists
 pub mod Spelling
 pub mod StaleBodies
 pub mod TakeCounts

@@ -14,7 +14,7 @@ use Rattle.su_bytes.specs.Place.{Place, file_eq}
 use Rattle.su_table.specs.Tree.{Tree}
 use Rattle.su_op.specs.declared.operations.Op.{Op}
 use Rattle.su_op.specs.declared.operations.Op.TheVariants.{Take}
-use Rattle.su_op.proofs.Public.{place_eq-itself, place_eq-same}
+use Rattle.su_op.proofs.Public.{place_eq-same}
 use Rattle.su_draft.specs.Refusable.{◌>>=◌}
 use Rattle.su_draft.specs.Draft.{DraftState, empty_draft, with_operation, takes, needs_take, taken_at, next_body, taken, with_take}
 use Rattle.su_draft.proofs.Spelling.{and_both, not_true}
@@ -26,10 +26,6 @@ use Rattle.su_draft.proofs.LeastFree.{least_free-least}
 use Rattle.su_draft.specs.Taking.{writes_to, is_held_by_others, TakesWhatItMust}
 
 -- ---- file ids
-
-file_eq-itself : (f : FileId) → file_eq f f ≡ true
-file_eq-itself (User u i) = place_eq-itself (u, i)
-file_eq-itself (Group g k) = place_eq-itself (g, k)
 
 file_eq-same : (f g : FileId) → file_eq f g ≡ true → f ≡ g
 file_eq-same (User u i) (User v j) e = ap (λ (p : Place). User p.0 p.1) (place_eq-same (u, i) (v, j) e)

@@ -12,13 +12,6 @@ drop_first : (names : List Name) (i : ℕ) (x : Name) → i < length names → x
 drop_first names i x h is =
     drop-cons names i x h ∙ ap (λ k. get_or names i x ∷ drop k names) (sym (add-one i)) ∙ ap (λ (y : Name). y ∷ drop (i + 1) names) (sym is)
 
--- one step, and the others
-pub walk-step : (T : Tree) (f g : FileId) (names : List Name) (i : ℕ) (x : Name) (all : Result FileId Refusal) → i < length names → x ≡ get_or names i x → Ok g ≡ entry T f x
-    → walk T f (drop i names) ≡ all → walk T g (drop (i + 1) names) ≡ all
-walk-step T f g names i x all h is e k =
-    let parts : drop i names ≡ x ∷ drop (i + 1) names = drop_first names i x h is in
-    ap (λ (r : Result FileId Refusal). r >>= (λ next. walk T next (drop (i + 1) names))) e ∙ sym (ap (walk T f) parts) ∙ k
-
 -- a step that is refused
 pub walk-refused : (T : Tree) (f : FileId) (names : List Name) (i : ℕ) (x : Name) (e : Refusal) (all : Result FileId Refusal) → i < length names → x ≡ get_or names i x → Err e ≡ entry T f x
     → walk T f (drop i names) ≡ all → Err e ≡ all

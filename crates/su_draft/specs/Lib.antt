@@ -3,7 +3,6 @@ pub mod Path
 pub mod Walk
 pub mod Number
 pub mod Draft
-pub mod Seen
 pub mod Make
 pub mod Write
 pub mod Truncate

@@ -6,7 +6,7 @@ use Rattle.su_version.specs.Version.{Version}
 use Rattle.su_version.proofs.Public.{next_prev}
 use Rattle.su_legal.specs.Legal.{Committed, author_of}
 use Rattle.su_fork.specs.Numbered.{at}
-use Rattle.su_fork.specs.Events.{World, Event, signing, list_of, all_taken, versions_of, Run}
+use Rattle.su_fork.specs.Events.{World, Event, signing, list_of, all_taken, Run}
 use Rattle.su_fork.specs.Premises.{hashed, NoCollision, NoForgery, IsOnlyClient}
 use Rattle.su_fork.specs.Consistency.{SignedHolding, AsMade, NotJoined, NeverJoins, NoneAbove}
 use Rattle.su_fork.proofs.Places.{at_contains, at_front, at_take, at_from_take, same_some}

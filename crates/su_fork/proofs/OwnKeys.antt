@@ -5,7 +5,6 @@ use Rattle.std.proofs.lemmas.List.{map-append}
 use Rattle.std.proofs.lemmas.List.Elements.{Contains-append_cases, Contains-append_left}
 use Rattle.std.proofs.lemmas.Bool.{eqb-true}
 use Rattle.su_bytes.specs.Membership.{Membership}
-use Rattle.su_bytes.specs.RosterBytes.{user_key}
 use Rattle.su_lms.specs.Signature.{IsSigned}
 use Rattle.su_version.specs.Version.{version_bytes}
 use Rattle.su_version.specs.Commit.{Commit}

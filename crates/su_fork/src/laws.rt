@@ -144,9 +144,9 @@ pub fn anything_legal_may_be_shown()
 {}
 
 /// The calls of honest users' views make a run. A new view holds what its client holds before all
-/// events. A call that took commits, as the clause `took` of a view's calls says it, and one that
-/// signed what its view may sign, is one event more of its client; what other clients hold stays. A
-/// view that leaves the items of its commits makes no event.
+/// events. A call that took commits, as the clause `took` of a view's calls says it where nothing was
+/// mixed up, and one that signed what its view may sign, is one event more of its client; what other
+/// clients hold stays. A view that leaves the items of its commits makes no event.
 pub fn calls_make_runs()
     ensures new { (w : World) (k n : ℕ) → holding_after w [] k n
         ≡ record { roster = w.roster; user = w.user k; held = []; itemless = n } }
@@ -164,8 +164,9 @@ pub fn calls_make_runs()
         → holding_after w (es ++ record { client = k; act = x } ∷ []) j n ≡ holding_after w es j n }
 {}
 
-/// What an honest user's client does act by act, as the clause `acts` of a member's calls says it,
-/// makes a run of what came before: what holds of runs holds of a program that does it.
+/// What an honest user's client does act by act, as the clause `works` of a member's calls says it
+/// where nothing was mixed up, makes a run of what came before: what holds of runs holds of a program
+/// that does it.
 pub fn acts_make_runs()
     ensures acts { (w : World) (es : List Event) (k n : ℕ) (acts : List Act)
         (v : HoldingState)

@@ -7,11 +7,10 @@ use std::net::{Net, SocketAddr, TcpListener, TcpStream};
 use std::thread::Threads;
 use std::time::{Clock, Duration};
 use std::{io, thread};
-use su_block::Checked;
 use su_bytes::{KEY_LENGTH, Refusal, Roster, User};
-use su_client::{Client, Outbox};
+use su_client::Client;
 use su_client_script::{Cause, Ending, Fault, Manner, Program, run_client};
-use su_client_work::{Member, Surroundings, take_log};
+use su_client_work::{LinkSource, Member, Surroundings, source_over, take_log};
 use su_lms::{NoStore, Params, Signer};
 use su_view::{View, ViewRefusal};
 
@@ -22,7 +21,7 @@ const TRIES: u32 = 1_000;
 type Link = Client<TcpStream, TcpStream>;
 
 /// What a client looks at, over a link to a server.
-type LinkedView = View<Checked<Outbox<TcpStream, TcpStream>>>;
+type LinkedView = View<LinkSource<TcpStream, TcpStream>>;
 
 /// A user's client, with the user's key, the address of the server, and the log that was saved last,
 /// under any name.
@@ -148,7 +147,7 @@ fn linked_view<R>(rt: &R, alloc: Global, user: u8, at: SocketAddr) -> Option<Lin
 where
     R: Net<Listener = TcpListener, Stream = TcpStream>,
 {
-    let source = Checked::new(Outbox::new(alloc, link_to(rt, alloc, at).ok()?));
+    let source = source_over(alloc, link_to(rt, alloc, at).ok()?).ok()?;
     let whose = User::new(u64::from(user)).ok()?;
     View::new(alloc, roster(alloc).ok()?, whose, source).ok()
 }
@@ -184,7 +183,6 @@ where
 {
     let mut view = linked_view(rt, alloc, user, at)?;
     let count = take_log(rt, alloc, log, &mut view).ok()?;
-    view.source_mut().source_mut().settle(alloc).ok()?;
     Some((person_of(alloc, user, at, view)?, count))
 }
 
@@ -204,6 +202,7 @@ impl Person {
         let manner = Manner {
             stops: false,
             batches: false,
+            leaves: true,
         };
         let ending = run_client(
             &mut runner,

@@ -13,7 +13,7 @@ use Rattle.su_book.specs.declared.events.BookReply.{BookReply}
 use Rattle.su_book.specs.declared.events.BookReply.TheVariants as told
 use Rattle.su_book.specs.declared.steps.Act.{Act}
 use Rattle.su_book.specs.declared.steps.Act.TheVariants.{Granted, Stored, Given}
-use Rattle.su_book.specs.Machine.{BookState, records_of, with_step, Asks as AsksAct, Tells, MayAct, Stepped, IsRefused, IsUnfit}
+use Rattle.su_book.specs.Machine.{BookState, records_of, with_step, AsksFor, Tells, MayAct, Stepped, IsRefused, IsUnfit}
 use Rattle.su_message.specs.declared.requests.Request.{Request}
 use Rattle.su_message.specs.declared.requests.Request.TheVariants as request
 use Rattle.su_message.specs.declared.replies.Reply.{Reply}
@@ -25,7 +25,7 @@ use Rattle.su_own_service.proofs.RequestLemmas.{one_request, request_or_reason, 
 
 -- ---- the same commit in two vectors
 
-asks_same : (v w : Vec ℕ) (x : Act) → v.items ≡ w.items → AsksAct (event.Commit v) x → AsksAct (event.Commit w) x
+asks_same : (v w : Vec ℕ) (x : Act) → v.items ≡ w.items → AsksFor (event.Commit v) x → AsksFor (event.Commit w) x
 asks_same v w (Granted n) same asks = asks
 asks_same v w (Stored n c) same asks = sym same ∙ asks
 asks_same v w Given same asks = asks
@@ -93,9 +93,9 @@ put_once true s t u v item r p mr mp al (inr x) y = absurd (mr x.0)
 -- ---- requests, where the machine of a book gives one answer
 
 module _
-    (one_act : (b : BookState) (seat : ℕ) (e : Event) (x y : Act) → AsksAct e x → AsksAct e y → MayAct b seat x → MayAct b seat y → x ≡ y)
+    (one_act : (b : BookState) (seat : ℕ) (e : Event) (x y : Act) → AsksFor e x → AsksFor e y → MayAct b seat x → MayAct b seat y → x ≡ y)
     (one_refusal : (b : BookState) (seat : ℕ) (e : Event) (x y : Refusal) → IsRefused b seat e x → IsRefused b seat e y → x ≡ y)
-    (either : (b : BookState) (seat : ℕ) (e : Event) (x : Act) (y : Refusal) → AsksAct e x → MayAct b seat x → IsRefused b seat e y → ⊥)
+    (either : (b : BookState) (seat : ℕ) (e : Event) (x : Act) (y : Refusal) → AsksFor e x → MayAct b seat x → IsRefused b seat e y → ⊥)
   where
     made_once : (s t u v : Owned) (e : Event) (r p : Reply) → Alike s t → Makes s e r u → Makes t e p v → (r ≡ p) × Alike u v
     made_once s t u v e r p al m n =

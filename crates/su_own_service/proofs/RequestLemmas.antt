@@ -9,7 +9,7 @@ use Rattle.su_message.specs.declared.requests.Request.{Request}
 use Rattle.su_message.specs.Tagged.{fields_of, ReadsTagged}
 use Rattle.su_message.specs.Request.{request_kinds}
 use Rattle.su_message.proofs.Public.{nothing_begins, no_whole_fails, whole_begins, request_fields_lawful, request_read}
-use Rattle.su_session.specs.Answer.{Asks, AsksNothing}
+use Rattle.su_session.specs.Answer.{IsMessageOf, AsksNothing}
 
 -- ---- messages of a kind's number and its fields
 
@@ -41,13 +41,13 @@ module _ {A : Type 0} (kinds : List (ℕ × Format A)) (law : (n : ℕ) → IsLa
 
 -- ---- requests
 
-read : (m : List ℕ) (q : Request) → Asks m q → ReadsTagged request_kinds m (Ok q)
+read : (m : List ℕ) (q : Request) → IsMessageOf m q → ReadsTagged request_kinds m (Ok q)
 read m q (is, spelled) = subst (λ l. ReadsTagged request_kinds l (Ok q)) (sym spelled) (request_read q is)
 
-pub one_request : (m : List ℕ) (q p : Request) → Asks m q → Asks m p → q ≡ p
+pub one_request : (m : List ℕ) (q p : Request) → IsMessageOf m q → IsMessageOf m p → q ≡ p
 one_request m q p x y = one_value request_kinds request_fields_lawful m q p (read m q x) (read m p y)
 
-pub request_or_reason : (m : List ℕ) (q : Request) (e : Refusal) → Asks m q → AsksNothing m e → ⊥
+pub request_or_reason : (m : List ℕ) (q : Request) (e : Refusal) → IsMessageOf m q → AsksNothing m e → ⊥
 request_or_reason m q e x y = value_or_reason request_kinds request_fields_lawful m q e y.0 (read m q x) y.1
 
 pub one_reason : (m : List ℕ) (e f : Refusal) → AsksNothing m e → AsksNothing m f → e ≡ f

@@ -14,10 +14,10 @@ use Rattle.su_view.specs.Holding.{HoldingState, tree_of_list}
 abbrev pub Writes : HoldingState → List ℕ → Option (List ℕ) → Option (List ℕ) → Type 0
 Writes v path before after = (bytes : List ℕ) × HasThere v path bytes × Appends before after bytes
 
--- the newest lines of the history, so many at most: of all of it, or of those that name the file to
--- which a path leads
-abbrev pub AreNewest : HoldingState → ℕ → Option (List ℕ) → List Line → Type 0
-AreNewest v count None ls = ls ≡ take count (reverse (lines (history v.held)))
-AreNewest v count (Some path) ls =
-    (file : FileId) × (found (tree_of_list v) path ≡ Ok file)
+-- The newest lines of the history, so many at most: of all of it, or of those that name a file, where
+-- nothing was mixed up (clear) the one to which a path leads.
+abbrev pub AreNewest : Type 0 → HoldingState → ℕ → Option (List ℕ) → List Line → Type 0
+AreNewest clear v count None ls = ls ≡ take count (reverse (lines (history v.held)))
+AreNewest clear v count (Some path) ls =
+    (file : FileId) × (clear → found (tree_of_list v) path ≡ Ok file)
     × (ls ≡ take count (reverse (filter (names file) (lines (history v.held)))))

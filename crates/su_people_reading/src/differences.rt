@@ -3,10 +3,13 @@ use crate::histories::names_of;
 use std::alloc::{AllocError, Global};
 use std::str;
 use su_bytes::{FileId, Refusal, Roster};
-use su_desk::{Entry, TrialDesk};
+use su_desk::Entry;
+use su_files::read_at;
 use su_history_text::FileNames;
+use su_no_blocks::NoBlocks;
 use su_op::{Change, Op, Write};
 use su_people_session::{Keyless, Session, Trouble, name_of};
+use su_stored_desk::TrialDesk;
 use su_why::entries_of;
 
 /// Returns the text of `diff`: for each write of a commit the bytes that stood where it wrote, and
@@ -43,9 +46,12 @@ pub fn diff<T>(session: &mut Session<'_, T, Keyless>, number: u64) -> Result<Str
     Ok(text)
 }
 
+/// A desk all of whose tree is in memory.
+type WholeDesk = TrialDesk<NoBlocks>;
+
 /// Makes the desk of a history.
-fn desk_after(alloc: Global, roster: Roster, entries: &[Entry]) -> Result<TrialDesk, Refusal> {
-    let mut desk = TrialDesk::new(alloc, roster)?;
+fn desk_after(alloc: Global, roster: Roster, entries: &[Entry]) -> Result<WholeDesk, Refusal> {
+    let mut desk = TrialDesk::new(alloc, roster, NoBlocks::new())?;
     for entry in entries {
         let change = entry.change.clone()?;
         desk.apply_as(entry.format, entry.author, change)?;
@@ -58,7 +64,7 @@ fn desk_after(alloc: Global, roster: Roster, entries: &[Entry]) -> Result<TrialD
 fn push_operation(
     text: &mut String,
     alloc: Global,
-    desk: &mut TrialDesk,
+    desk: &mut WholeDesk,
     entry: &Entry,
     operation: &Op,
     names: &FileNames,
@@ -76,7 +82,7 @@ fn push_operation(
 fn push_write(
     text: &mut String,
     alloc: Global,
-    desk: &TrialDesk,
+    desk: &mut WholeDesk,
     write: &Write,
     names: &FileNames,
     author: &str,
@@ -84,8 +90,7 @@ fn push_write(
     let off = write.off;
     let length = write.bytes.len() as u64;
     let end = u64::from(off) + length;
-    let forest = desk.forest_on_trial();
-    let old = forest.read_at(write.file, u64::from(off), length)?;
+    let old = read_at(desk, write.file, u64::from(off), length)?;
     let path = shown_file(alloc, names, &write.file)?;
     let line = format!(in alloc; "{path}  bytes {off} to {end}, by {author}\n")?;
     text.push_str(line.as_str())?;

@@ -6,8 +6,8 @@ use su_local::{LocalKind, joined, kind_of, make_folder, read_whole, write_whole}
 use su_op::largest_file;
 use su_people_line::GetArgs;
 use su_people_session::{
-    Amount, Answer, Found, Keyless, Progress, Session, Trouble, counted, is_of_state, last_name,
-    named, walked,
+    Amount, Answer, Found, Keyless, Progress, Session, Trouble, counted, is_of_source, is_of_state,
+    last_name, named, walked,
 };
 use su_person::Fault;
 
@@ -23,7 +23,7 @@ struct Tally {
 /// Writes the file or the folder at a path to a local one: what is the same there is left, and
 /// what differs too, unless it is to be written over. What can't be got is told, and the others go
 /// on. Refuses a path that leads to nothing, and with `WrongKind` a folder where folders aren't
-/// asked for; `NoMemory`.
+/// asked for; later what would stop the others too, as a server that can't be reached; `NoMemory`.
 pub fn get_all<T>(
     session: &mut Session<'_, T, Keyless>,
     args: &GetArgs,
@@ -41,6 +41,9 @@ pub fn get_all<T>(
     session.helper.progress = Progress::new(session.helper.rt, "get", amount_of(&all));
     for found in &all {
         if let Err(trouble) = get_one(session, local.as_str(), args.over, path, found, &mut tally) {
+            if is_of_source(&trouble) {
+                return Err(trouble);
+            }
             session.helper.tell(&trouble);
             is_partly = true;
         }

@@ -1,5 +1,7 @@
 // What the history tells: its lines, one commit, the head, and another user's head beside it.
-ghost use Rattle.std.specs.Prelude.{◌≡◌, IfOk, option_copied};
+ghost use Rattle.std.specs.Prelude.{IfOk, option_copied};
+ghost use Rattle.su_client.specs.Link.{Follows};
+ghost use Rattle.su_client_work.specs.Member.{IsClear, OnlyAsks};
 ghost use Rattle.su_people_reading.specs.Reading.{AreNewest};
 
 use crate::listings::escaped;
@@ -39,16 +41,18 @@ pub fn history<T>(
 }
 
 /// Returns the newest lines of the history that is held, so many at most: of all of it, or of those
-/// that name the file to which a path leads. Refuses a path that leads to nothing; `NoMemory`.
+/// that name the file to which a path leads. Refuses a path that leads to nothing; or as a load is
+/// refused; `NoMemory`.
 fn newest_lines<R: Read + Drop, W: Write + Drop, K: KeyStore + Drop>(
     alloc: Global,
     member: &mut Member<R, W, K>,
     count: usize,
     path: Option<&[u8]>,
 ) -> Result<Vec<Line>, Trouble>
-    ensures same { member.new ≡ member.old }
-    ensures newest { IfOk result (λ all.
-        AreNewest member.old.holding count (option_copied path.entry) all.items) }
+    ensures asks { OnlyAsks member.old member.new }
+    ensures follows { Follows member.old.link member.new.link }
+    ensures newest { IfOk result (λ all. AreNewest (IsClear member.new) member.old.holding count
+        (option_copied path.entry) all.items) }
 {
     let mut all = lines(alloc, member.view().history())?;
     if let Some(path) = path {

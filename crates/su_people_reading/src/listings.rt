@@ -1,5 +1,6 @@
 // What a folder has, and the bytes of a file.
 ghost use Rattle.std.specs.Prelude.{OnOk};
+ghost use Rattle.su_client_work.specs.Member.{IsClear};
 ghost use Rattle.su_people_reading.specs.Reading.{Writes};
 
 use std::alloc::{AllocError, Global};
@@ -149,15 +150,15 @@ pub(crate) fn escaped(alloc: Global, text: &str) -> Result<String, AllocError> {
     Ok(escaped)
 }
 
-/// Writes the bytes of the file at a path. Refuses a path that leads to nothing or to a folder;
-/// `Unwritten` where they can't be written; `NoMemory`.
+/// Writes the bytes of the file at a path. Refuses a path that leads to nothing or to a folder; or as a
+/// load is refused; `Unwritten` where they can't be written; `NoMemory`.
 pub fn cat<T, O: Write>(
     session: &mut Session<'_, T, Keyless>,
     path: &[u8],
     output: &mut O,
 ) -> Result<(), Trouble>
-    ensures { OnOk result (Writes session.old.member.holding path.now (O.contents output.old)
-        (O.contents output.new)) }
+    ensures { IsClear session.new.member → OnOk result (Writes session.old.member.holding path.now
+        (O.contents output.old) (O.contents output.new)) }
 {
     let alloc = session.helper.rt.alloc();
     let file = named(alloc, path, session.member.find_held(path))?;

@@ -1,7 +1,7 @@
 // What stands around the client of people.
 ghost use Rattle.std.specs.Prelude.{◌≤◌, length, OnOk};
 
-use crate::links::{Link, connect};
+use crate::links::{Link, Source, connect};
 use crate::progress::Progress;
 use crate::sentences::tell;
 use crate::troubles::Trouble;
@@ -10,8 +10,7 @@ use std::net::{Net, TcpListener, TcpStream};
 use std::thread::Threads;
 use std::time::Duration;
 use std::{io, thread};
-use su_block::Checked;
-use su_client::Outbox;
+use su_block::BlockSource;
 use su_client_work::{Surroundings, log_behind};
 use su_folder::StateFolder;
 use su_kept_key::{KeptKey, signer_of};
@@ -84,10 +83,7 @@ impl<'a, T> Helper<'a, T> {
     }
 
     /// Appends what a view holds behind the log of the state folder to that.
-    fn append(
-        &mut self,
-        view: &View<Checked<Outbox<BufReader<TcpStream>, TcpStream>>>,
-    ) -> Result<(), Trouble>
+    fn append<S: BlockSource + Drop>(&mut self, view: &View<S>) -> Result<(), Trouble>
         ensures { OnOk result (length view.now.holding.held ≤ self.new.kept) }
     {
         let (count, _) = view.head();
@@ -166,7 +162,7 @@ where
 {
     ghost kept = { λ helper. helper.kept };
 
-    fn keep(&mut self, view: &View<Checked<Outbox<BufReader<TcpStream>, TcpStream>>>) -> bool {
+    fn keep(&mut self, view: &View<Source>) -> bool {
         match self.append(view) {
             Ok(()) => true,
             Err(trouble) => {

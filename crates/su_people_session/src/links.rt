@@ -8,9 +8,13 @@ use std::io::BufReader;
 use std::net::{Net, TcpListener, TcpStream};
 use std::time::Duration;
 use su_client::Client;
+use su_client_work::LinkSource;
 
 /// A link to a server.
 pub(crate) type Link = Client<BufReader<TcpStream>, TcpStream>;
+
+/// Where a client's items and the parts of its tree come from.
+pub(crate) type Source = LinkSource<BufReader<TcpStream>, TcpStream>;
 
 /// After how many milliseconds a read or a write that waits is tried again.
 const MILLISECONDS: u64 = 50;

@@ -8,8 +8,9 @@ use std::io::Read;
 use std::thread::Threads;
 use su_block::BlockSource;
 use su_bytes::Refusal;
-use su_client_work::{LastItem, LogFault, take_log};
+use su_client_work::{LogFault, take_log};
 use su_folder::StateFolder;
+use su_no_blocks::NoBlocks;
 use su_view::{View, ViewRefusal};
 
 /// How many bytes an entry of a log has at most: a commit and an item, each with its length.
@@ -28,7 +29,7 @@ pub enum Items {
 #[derive(Drop)]
 pub(crate) struct Opened<'a> {
     pub(crate) folder: StateFolder<'a>,
-    pub(crate) view: View<LastItem>,
+    pub(crate) view: View<NoBlocks>,
 }
 
 /// Opens a state folder, and takes the commits of its log, from that alone: the server isn't
@@ -53,10 +54,10 @@ fn view_of<T: Threads + Sync>(
     host: &T,
     folder: &mut StateFolder<'_>,
     items: Items,
-) -> Result<View<LastItem>, Trouble> {
+) -> Result<View<NoBlocks>, Trouble> {
     let alloc = rt.alloc();
     let roster = folder.team().roster(alloc)?;
-    let mut view = View::new(alloc, roster, folder.user(), LastItem::new(alloc))?;
+    let mut view = View::new(alloc, roster, folder.user(), NoBlocks::new())?;
     let mut log = Portions::new(alloc, folder.read_log()?);
     let mut length = 0u64;
     for _ in 0..u64::MAX {

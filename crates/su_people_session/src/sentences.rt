@@ -10,37 +10,48 @@ use su_team::Team;
 use su_view::ViewRefusal;
 
 /// Tells whether a refusal is of something that the server showed, which may not be: of a change
-/// only where commits of others were being taken.
+/// only where commits of others were being taken, and of what the server lacks only where none were,
+/// as it was given that before.
 pub fn is_lie(takes: bool, refusal: &ViewRefusal) -> bool
     ensures { result ≡ is_lie takes refusal.now }
 {
     match refusal {
-        ViewRefusal::Plain(refusal) => is_of_server(refusal),
+        ViewRefusal::Plain(refusal) => is_of_server(takes, refusal),
         ViewRefusal::Change(_) => takes,
         ViewRefusal::WrongHandle(_) | ViewRefusal::OwnMissing => true,
     }
 }
 
 /// Tells whether a refusal is of a commit or an item that may not be.
-fn is_of_server(refusal: &Refusal) -> bool
-    ensures { result ≡ is_of_server refusal.now }
+fn is_of_server(takes: bool, refusal: &Refusal) -> bool
+    ensures { result ≡ is_of_server takes refusal.now }
 {
-    matches!(
-        refusal,
+    match refusal {
+        Refusal::MissingBlock => !takes,
         Refusal::Malformed(_)
-            | Refusal::WrongBlock
-            | Refusal::NotOrdered(_, _)
-            | Refusal::BadSignature
-            | Refusal::WrongPrev(_)
-            | Refusal::WrongVector
-            | Refusal::KeyReuse
-            | Refusal::OldFormat
-            | Refusal::WrongKey
-    )
+        | Refusal::WrongBlock
+        | Refusal::NotOrdered(_, _)
+        | Refusal::BadSignature
+        | Refusal::WrongPrev(_)
+        | Refusal::WrongVector
+        | Refusal::KeyReuse
+        | Refusal::OldFormat
+        | Refusal::WrongKey => true,
+        _ => false,
+    }
 }
 
-/// Returns the sentence of a refusal, with its number and name behind.
-fn sentence_of(alloc: Global, team: &Team, refusal: &ViewRefusal) -> Result<String, AllocError> {
+/// Returns the sentence of a refusal, with its number and name behind, where others' commits were
+/// being taken or not.
+fn sentence_of(
+    alloc: Global,
+    team: &Team,
+    takes: bool,
+    refusal: &ViewRefusal,
+) -> Result<String, AllocError> {
+    if let Some(text) = text_of_given(takes, refusal) {
+        return format!(in alloc; "{text} ({refusal})");
+    }
     match refusal {
         ViewRefusal::Plain(refusal) | ViewRefusal::Change(refusal) => {
             let text = text_of(alloc, team, refusal)?;
@@ -153,6 +164,24 @@ back. Nothing of it is taken"
     })
 }
 
+const LOST: &str =
+    "the server lacks what this client gave it: it lost that, or holds it back. The same \
+command again gives it anew, from .sundr/log";
+
+const EXCHANGED: &str =
+    "the server gave other bytes than those that this client gave it. The same command \
+again gives it anew, from .sundr/log";
+
+/// Returns the text of a refusal that is about what the server was given, if no commits of others were
+/// being taken.
+fn text_of_given(takes: bool, refusal: &ViewRefusal) -> Option<&'static str> {
+    match refusal {
+        ViewRefusal::Plain(Refusal::MissingBlock) if !takes => Some(LOST),
+        ViewRefusal::Plain(Refusal::WrongBlock) if !takes => Some(EXCHANGED),
+        _ => None,
+    }
+}
+
 /// Returns the text of a refusal that is about the link, the key or memory.
 fn text_of_faults(refusal: &Refusal) -> Option<&'static str> {
     Some(match refusal {
@@ -198,13 +227,13 @@ fn line_of(alloc: Global, team: Option<&Team>, trouble: &Trouble) -> Result<Stri
         Trouble::Refused {
             path: Some(path),
             refusal,
-            ..
+            takes,
         } => {
             let path = su_spelling::shown(alloc, path)?;
-            let sentence = sentence_of(alloc, team, refusal)?;
+            let sentence = sentence_of(alloc, team, *takes, refusal)?;
             format!(in alloc; "{path}: {sentence}")
         }
-        Trouble::Refused { refusal, .. } => sentence_of(alloc, team, refusal),
+        Trouble::Refused { refusal, takes, .. } => sentence_of(alloc, team, *takes, refusal),
         Trouble::Changed {
             path,
             number,
@@ -223,10 +252,10 @@ first, or put --over"
 
 /// Returns the line that tells why something isn't done, where the team's names aren't at hand.
 fn line_without_names(alloc: Global, trouble: &Trouble) -> Result<String, AllocError> {
-    let Trouble::Refused { refusal, .. } = trouble else {
+    let Trouble::Refused { refusal, takes, .. } = trouble else {
         return format!(in alloc; "{trouble}");
     };
-    match text_without_names(refusal) {
+    match text_of_given(*takes, refusal).or(text_without_names(refusal)) {
         Some(text) => format!(in alloc; "{text} ({refusal})"),
         None => format!(in alloc; "{refusal}"),
     }

@@ -8,9 +8,8 @@ use std::alloc::Global;
 use std::io::{BufReader, Read, Write};
 use std::net::{Net, TcpListener, TcpStream};
 use std::thread::Threads;
-use su_block::{BlockSource, Checked};
-use su_client::Outbox;
-use su_client_work::Member;
+use su_block::BlockSource;
+use su_client_work::{Member, source_over};
 use su_folder::StateFolder;
 use su_kept_key::{KeptKey, signer_of};
 use su_keygen::next_key_path;
@@ -106,7 +105,7 @@ where
     let Opened { folder, view } = opened;
     let link = link_to(alloc, host, &folder)?;
     let (kept, _) = view.head();
-    let view = view.with_source(Checked::new(Outbox::new(alloc, link)));
+    let view = view.with_source(source_over(alloc, link)?);
     Ok(Session {
         helper: Helper::new(rt, host, folder, kept),
         member: Member::new(alloc, view, signer, TRIES),

@@ -5,9 +5,12 @@ use std::slice;
 use std::thread::Threads;
 use su_bytes::{Kind, Refusal};
 use su_kept_key::KeptKey;
-use su_people_session::{Found, Session, Trouble, found_at, last_name, named, path_in, walked};
+use su_people_session::{
+    Found, Session, Trouble, found_if_any, is_of_load, last_name, named, path_in, walked,
+};
 use su_person::{Fault, carry_out};
 use su_plan::Command;
+use su_view::ViewRefusal;
 
 /// Makes folders, in as few commits as have room for them; with those above that are lacking, where
 /// these are to be made too, and those that are there are left then. Appends the numbers of the
@@ -91,19 +94,19 @@ where
 }
 
 /// Tells whether a path leads to nothing, so that a folder may be made there. `WrongKind` where it
-/// leads to a file.
+/// leads to a file; or as a load is refused; `NoMemory`.
 pub(crate) fn lacks_folder<'a, T>(
     session: &mut Session<'a, T, KeptKey<'a>>,
     path: &[u8],
 ) -> Result<bool, Trouble> {
     let alloc = session.helper.rt.alloc();
-    match found_at(alloc, &mut session.member, path) {
-        Ok(found) if found.stat.kind == Kind::Dir => Ok(false),
-        Ok(found) => {
+    match named(alloc, path, found_if_any(alloc, &mut session.member, path))? {
+        Some(found) if found.stat.kind == Kind::Dir => Ok(false),
+        Some(found) => {
             let refusal = Refusal::WrongKind(found.file);
             Err(Trouble::at(path, alloc, Fault::from(refusal)))
         }
-        Err(_) => Ok(true),
+        None => Ok(true),
     }
 }
 
@@ -206,12 +209,20 @@ where
         return Ok(());
     };
     let mut path = only;
-    if 1 < commands.len() && numbers.len() == before {
+    if 1 < commands.len() && numbers.len() == before && !is_unanswered(&fault) {
         path = refused_path(session, commands);
     }
     match path {
         Some(path) => Err(Trouble::at(path, alloc, fault)),
         None => Err(Trouble::from(fault)),
+    }
+}
+
+/// Tells whether something isn't done as what is asked of the tree isn't answered.
+fn is_unanswered(fault: &Fault) -> bool {
+    match fault {
+        Fault::Refused(ViewRefusal::Plain(refusal)) => is_of_load(refusal),
+        _ => false,
     }
 }
 
@@ -243,12 +254,13 @@ fn target_of<'a, T>(
     session: &mut Session<'a, T, KeptKey<'a>>,
     old: &[u8],
     new: &[u8],
-) -> Result<Vec<u8>, AllocError> {
+) -> Result<Vec<u8>, Trouble> {
     let alloc: Global = session.helper.rt.alloc();
-    match found_at(alloc, &mut session.member, new) {
-        Ok(found) if found.stat.kind == Kind::Dir => { path_in(alloc, new, last_name(old)) }
-        _ => Vec::from_slice(alloc, new),
-    }
+    let path = match named(alloc, new, found_if_any(alloc, &mut session.member, new))? {
+        Some(found) if found.stat.kind == Kind::Dir => path_in(alloc, new, last_name(old))?,
+        _ => Vec::from_slice(alloc, new)?,
+    };
+    Ok(path)
 }
 
 /// Returns the line that tells the commits of these numbers. Fails only where memory is refused.

@@ -5,7 +5,9 @@ use su_kept_key::KeptKey;
 use su_local::{LocalEntry, LocalKind, entries_of, joined, kind_of, last_name};
 use su_op::largest_file;
 use su_people_line::PutArgs;
-use su_people_session::{Amount, Helper, Session, Trouble, found_at, is_of_state, path_in};
+use su_people_session::{
+    Amount, Helper, Session, Trouble, found_if_any, is_of_state, named, path_in,
+};
 
 /// How many local files and folders a put has at most.
 const MOST_ITEMS: u32 = 10_000_000;
@@ -60,9 +62,9 @@ pub(crate) fn items_of<'a, T>(
     is_into: bool,
 ) -> Result<Items, Trouble> {
     let alloc = session.helper.rt.alloc();
-    let is_folder = match found_at(alloc, &mut session.member, path) {
-        Ok(found) => found.stat.kind == Kind::Dir,
-        Err(_) => false,
+    let is_folder = match named(alloc, path, found_if_any(alloc, &mut session.member, path))? {
+        Some(found) => found.stat.kind == Kind::Dir,
+        None => false,
     };
     let target = Target {
         path,

@@ -9,7 +9,8 @@ use su_bytes::{NEWEST_FORMAT, Refusal};
 use su_client_work::Member;
 use su_kept_key::KeptKey;
 use su_op::largest_file;
-use su_people_session::{Session, Trouble, named};
+use su_people_session::{Session, Trouble, is_of_load, named};
+use su_person::Fault;
 use su_pieces::put_commands;
 
 /// Finds what a put of a folder or a file would take, by what is held, and counts it. `WrongKind`
@@ -51,6 +52,9 @@ fn count_of<'a>(
         Ok(file) => {
             let old = named(alloc, path, member.contents_held(file))?;
             put_commands(alloc, path, Some(old.as_slice()), bytes)?
+        }
+        Err(refusal) if is_of_load(&refusal) => {
+            return Err(Trouble::at(path, alloc, Fault::from(refusal)));
         }
         Err(_) => put_commands(alloc, path, None, bytes)?,
     };

@@ -101,7 +101,7 @@ where
     T: Net<Listener = TcpListener, Stream = TcpStream> + Threads + Sync,
 {
     if 1 < group.placed.len() {
-        note_lacking(session, &mut group.placed);
+        note_lacking(session, &mut group.placed)?;
         put_group(session, group.placed.as_slice(), args.over, numbers)?;
     }
     for placed in &group.placed {

@@ -5,18 +5,23 @@ use std::net::{Net, TcpListener, TcpStream};
 use std::thread::Threads;
 use su_bytes::{Kind, Refusal};
 use su_kept_key::KeptKey;
-use su_people_session::{Session, Trouble, is_of_path};
+use su_people_session::{Session, Trouble, is_of_load, is_of_path};
 use su_person::{Fault, NewContents, put_together};
 use su_plan::Command;
 
 /// How often what is lacking is put together again, as others commit something in between.
 const MOST_ROUNDS: u32 = 8;
 
-/// Notes of folders and files whether they are lacking.
-pub(crate) fn note_lacking<'a, T>(session: &mut Session<'a, T, KeptKey<'a>>, all: &mut [Placed]) {
+/// Notes of folders and files whether they are lacking. Refused only as a load is, and with
+/// `NoMemory`.
+pub(crate) fn note_lacking<'a, T>(
+    session: &mut Session<'a, T, KeptKey<'a>>,
+    all: &mut [Placed],
+) -> Result<(), Refusal> {
     for placed in all.iter_mut() {
-        placed.was_lacking = !is_there(session, placed);
+        placed.was_lacking = !is_there(session, placed)?;
     }
+    Ok(())
 }
 
 /// Puts folders and files together, each folder before what it has, and appends the numbers of the
@@ -68,7 +73,7 @@ where
     T: Net<Listener = TcpListener, Stream = TcpStream> + Threads + Sync,
 {
     for _ in 0..MOST_ROUNDS {
-        if are_there(session, all) || put_round(session, all, over, numbers)? {
+        if are_there(session, all)? || put_round(session, all, over, numbers)? {
             break;
         }
     }
@@ -108,11 +113,11 @@ where
 fn folder_commands<'a, T>(
     session: &mut Session<'a, T, KeptKey<'a>>,
     all: &[Placed],
-) -> Result<Vec<Command>, AllocError> {
+) -> Result<Vec<Command>, Refusal> {
     let alloc = session.helper.rt.alloc();
     let mut commands = Vec::new(alloc);
     for placed in all {
-        if matches!(&placed.contents, Contents::Folder) && !is_there(session, placed) {
+        if matches!(&placed.contents, Contents::Folder) && !is_there(session, placed)? {
             let path = Vec::from_slice(alloc, placed.path.as_slice())?;
             commands.push(Command::Mkdir { path })?;
         }
@@ -142,18 +147,29 @@ fn new_contents<'a, 'p, T>(
 }
 
 /// Tells whether all of the folders and files are there.
-fn are_there<'a, T>(session: &mut Session<'a, T, KeptKey<'a>>, all: &[Placed]) -> bool {
+fn are_there<'a, T>(
+    session: &mut Session<'a, T, KeptKey<'a>>,
+    all: &[Placed],
+) -> Result<bool, Refusal> {
     for placed in all {
-        if !is_there(session, placed) {
-            return false;
+        if !is_there(session, placed)? {
+            return Ok(false);
         }
     }
-    true
+    Ok(true)
 }
 
-/// Tells whether a folder is there, or a file with its contents, in the tree that is held.
-fn is_there<'a, T>(session: &mut Session<'a, T, KeptKey<'a>>, placed: &Placed) -> bool {
-    has_there(session, placed).unwrap_or(false)
+/// Tells whether a folder is there, or a file with its contents, in the tree that is held. Refused
+/// only as a load is, and with `NoMemory`.
+fn is_there<'a, T>(
+    session: &mut Session<'a, T, KeptKey<'a>>,
+    placed: &Placed,
+) -> Result<bool, Refusal> {
+    match has_there(session, placed) {
+        Ok(is_there) => Ok(is_there),
+        Err(refusal) if is_of_load(&refusal) => Err(refusal),
+        Err(_) => Ok(false),
+    }
 }
 
 /// Tells whether a folder is there, or a file with its contents. Refuses a path that leads to

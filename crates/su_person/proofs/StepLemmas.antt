@@ -8,7 +8,7 @@ use Rattle.su_op.specs.declared.operations.Change.TheVariants.{Do}
 use Rattle.su_op.specs.Action.{some_batch}
 use Rattle.su_draft.specs.declared.commands.Command.{Command}
 use Rattle.su_view.specs.Holding.{HoldingState}
-use Rattle.su_client_work.specs.Member.{MemberState, Stays}
+use Rattle.su_client_work.specs.Member.{MemberState, IsClear, OnlyAsks}
 use Rattle.su_client_work.specs.Publishing.{IsPublished, SignsAtMost}
 use Rattle.su_person.specs.declared.carrying.Others.{Others}
 use Rattle.su_person.specs.declared.steps.Step.{Step}
@@ -34,14 +34,14 @@ committed [] batch s t n e is = absurd (let bad : Some batch ≡ None = e in cc)
 committed (op ∷ ops) batch s t n e is =
     (n, refl, subst (λ (x : List Op). IsPublished (Do x) s t n) (batch_is (op ∷ ops) batch e) is)
 
-pub uncommitted : (ops : List Op) (s t : MemberState) → None ≡ some_batch ops → Stays s t → CommitsAll ops s t None
+pub uncommitted : (ops : List Op) (s t : MemberState) → None ≡ some_batch ops → OnlyAsks s t → CommitsAll ops s t None
 uncommitted [] s t e stays = (stays, refl)
 uncommitted (op ∷ ops) s t e stays = absurd (let bad : None ≡ Some (op ∷ ops) = e in cc)
 
-pub tries_batch : (its : List Command) (done : ℕ) (ops batch : List Op) (s t : MemberState) → Some batch ≡ some_batch ops → IsPlannedStep its s.holding done ops
-    → SignsAtMost s.holding (Do batch) s t → t.holding ≡ s.holding → Tries its s t
-tries_batch its done ops batch s t e planned signs same =
-    inr (done, ops, planned, subst (λ (x : List Op). SignsAtMost s.holding (Do x) s t) (batch_is ops batch e) signs, same)
+pub tries_batch : (its : List Command) (done : ℕ) (ops batch : List Op) (s t : MemberState) → Some batch ≡ some_batch ops → (IsClear t → IsPlannedStep its s.holding done ops)
+    → (IsClear t → IsClear s) → SignsAtMost s.holding (Do batch) s t → t.holding ≡ s.holding → Tries its s t
+tries_batch its done ops batch s t e planned back signs same =
+    inr (done, ops, planned, back, subst (λ (x : List Op). SignsAtMost s.holding (Do x) s t) (batch_is ops batch e) signs, same)
 
 -- the first operations of a plan are some of its operations
 pub planned_in_part : (its : List Command) (v : HoldingState) (n : ℕ) (ops : List Op) → IsPlanned (take 1 its) v ops → IsPlannedStep its v 0 (take n ops)

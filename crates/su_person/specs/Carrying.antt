@@ -6,7 +6,7 @@ use Rattle.su_op.specs.declared.operations.Change.TheVariants.{Do}
 use Rattle.su_draft.specs.declared.commands.Command.{Command}
 use Rattle.su_plan.specs.Plan.{plan_all}
 use Rattle.su_view.specs.Holding.{HoldingState, tree_of_list}
-use Rattle.su_client_work.specs.Member.{MemberState, OnlyTakes, Stays}
+use Rattle.su_client_work.specs.Member.{MemberState, IsClear, OnlyAsks, OnlyTakes}
 use Rattle.su_client_work.specs.Publishing.{IsPublished, SignsAtMost}
 use Rattle.su_person.specs.Moving.{MovesOn}
 use Rattle.su_person.specs.declared.carrying.Others.{Others}
@@ -27,23 +27,26 @@ IsPlannedStep its v done ops = ((1 ≤ done) × IsPlanned (take done its) v ops)
 
 -- one commit is made of these operations, if there are any: its number
 abbrev pub CommitsAll : List Op → MemberState → MemberState → Option ℕ → Type 0
-CommitsAll [] s t number = Stays s t × (number ≡ None)
+CommitsAll [] s t number = OnlyAsks s t × (number ≡ None)
 CommitsAll (op ∷ ops) s t number =
     (n : ℕ) × (number ≡ Some n) × IsPublished (Do (op ∷ ops)) s t n
 
--- A step: of the commands so many are carried out, by one commit at most.
+-- A step: of the commands so many are carried out, by one commit at most. (Where nothing was mixed up
+-- its operations are what is planned.)
 pub record Steps (its : List Command) (s : MemberState) (step : Step) (t : MemberState)
     : Type 0 where
   pub few : step.done ≤ length its
   pub operations : List Op
-  pub planned : IsPlannedStep its s.holding step.done operations
+  pub planned : IsClear t → IsPlannedStep its s.holding step.done operations
+  pub clear : IsClear t → IsClear s
   pub commits : CommitsAll operations s t step.number
 
 -- where a step is refused: it signs one commit at most, of the operations of a step, and takes nothing
 abbrev pub Tries : List Command → MemberState → MemberState → Type 0
-Tries its s t = Stays s t
-    ⊎ ((done : ℕ) × (ops : List Op) × IsPlannedStep its s.holding done ops
-    × SignsAtMost s.holding (Do ops) s t × (t.holding ≡ s.holding))
+Tries its s t = OnlyAsks s t
+    ⊎ ((done : ℕ) × (ops : List Op) × (IsClear t → IsPlannedStep its s.holding done ops)
+    × (IsClear t → IsClear s) × SignsAtMost s.holding (Do ops) s t
+    × (t.holding ≡ s.holding))
 
 -- ---- what comes before a step
 
@@ -51,10 +54,10 @@ Tries its s t = Stays s t
 abbrev pub GoesAlong : MemberState → MemberState → Type 0
 GoesAlong s t = (moved : MemberState) × MovesOn s moved × ((t ≡ moved) ⊎ OnlyTakes moved t)
 
--- that comes, or nothing where it is unwelcome
+-- that comes, or nothing where it is unwelcome (but that it is asked)
 abbrev pub Before : Others → MemberState → MemberState → Type 0
 Before Welcome = GoesAlong
-Before Unwelcome = Stays
+Before Unwelcome = OnlyAsks
 
 -- that comes, and then this holds of what the client has and what it has afterwards
 pub record TakesThen (others : Others) (Then : MemberState → MemberState → Type 0)

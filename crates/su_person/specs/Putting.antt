@@ -10,7 +10,7 @@ use Rattle.su_pieces.specs.CarriedOut.{LeadsTo}
 use Rattle.su_pieces.specs.Put.{Put}
 use Rattle.su_table.specs.Query.{contents}
 use Rattle.su_view.specs.Holding.{HoldingState, tree_of_list}
-use Rattle.su_client_work.specs.Member.{MemberState}
+use Rattle.su_client_work.specs.Member.{MemberState, IsClear, OnlyAsks}
 use Rattle.su_person.specs.Carrying.{CarriesSome}
 use Rattle.su_person.specs.LastChange.{last_change}
 use Rattle.su_person.specs.declared.carrying.Others.TheVariants.{Unwelcome}
@@ -53,15 +53,18 @@ abbrev pub PutsOver : HoldingState → List ℕ → List ℕ → List Command �
 PutsOver v path new commands =
     (old : Option (List ℕ)) × StandsThere v path old × Put path old new commands
 
--- A round of a put: by what the client holds the user may write there, and the first of the commands
--- that put the new contents there are carried out, by the commits of these numbers, while no others
--- come.
+-- A round of a put: it is looked at what stands there; where nothing was mixed up the user may write
+-- there by what the client holds, and these commands put the new contents there; and the first of
+-- them are carried out, by the commits of these numbers, while no others come.
 pub record Round (seen : Option ℕ) (over : Bool) (path new : List ℕ) (s : MemberState)
     (ns : List ℕ) (t : MemberState) : Type 0 where
-  pub may : MayWrite seen over path s.holding
+  pub looked : MemberState
+  pub looks : OnlyAsks s looked
   pub commands : List Command
-  pub puts : PutsOver s.holding path new commands
-  pub carries : CarriesSome Unwelcome commands s ns t
+  pub may : IsClear t → MayWrite seen over path s.holding
+  pub puts : IsClear t → PutsOver s.holding path new commands
+  pub clear : IsClear t → IsClear s
+  pub carries : CarriesSome Unwelcome commands looked ns t
 
 -- so many rounds, one after another
 abbrev pub Rounds : Option ℕ → Bool → List ℕ → List ℕ → ℕ → MemberState → List ℕ → MemberState
@@ -70,6 +73,12 @@ Rounds seen over path new zero s ns t = (ns ≡ []) × (t ≡ s)
 Rounds seen over path new (suc k) s ns t =
     (between : MemberState) × (front last : List ℕ) × (ns ≡ front ++ last)
     × Rounds seen over path new k s front between × Round seen over path new between last t
+
+-- some rounds, and then it is looked at what stands there
+abbrev pub PutsByRounds : Option ℕ → Bool → List ℕ → List ℕ → MemberState → List ℕ → MemberState
+    → Type 0
+PutsByRounds seen over path new s ns t =
+    (k : ℕ) × (last : MemberState) × Rounds seen over path new k s ns last × OnlyAsks last t
 
 -- the commands put the new contents of a file at its path, where the user may write, by what the
 -- client holds; or there are none
@@ -84,15 +93,17 @@ PutsAll v (new ∷ news) commands =
     (front back : List Command) × (commands ≡ front ++ back)
     × PutsOne v new front × PutsAll v news back
 
--- A round of a put of several files: of some commands, and behind them those that put each file by
--- what the client holds, the first are carried out by the commits of these numbers, while no others
--- come; or none are.
+-- A round of a put of several files: it is looked at what stands there; of some commands, and behind
+-- them others, which where nothing was mixed up put each file by what the client holds, the first are
+-- carried out by the commits of these numbers, while no others come; or none are.
 pub record RoundTogether (its : List Command) (news : List NewContents) (s : MemberState)
     (ns : List ℕ) (t : MemberState) : Type 0 where
+  pub looked : MemberState
+  pub looks : OnlyAsks s looked
   pub commands : List Command
   pub puts : (commands ≡ []) ⊎ ((more : List Command) × (commands ≡ its ++ more)
-      × PutsAll s.holding news more)
-  pub carries : CarriesSome Unwelcome commands s ns t
+      × (IsClear t → PutsAll s.holding news more))
+  pub carries : CarriesSome Unwelcome commands looked ns t
 
 -- ---- refusals
 

@@ -2,7 +2,7 @@
 ghost use Rattle.std.specs.Prelude.{◌≡◌, ◌≤◌, ◌<◌, ◌++◌, ℕ, List, true, drop, length, IfErr, IfOk, OnErr, OnOk};
 ghost use Rattle.std.specs.Option.{IfSome, IsSome};
 ghost use Rattle.std.specs.Vec.{vec_capacity, vec_len};
-ghost use Rattle.su_client_work.specs.Member.{OnlyTakes, Stays};
+ghost use Rattle.su_client_work.specs.Member.{OnlyAsks, OnlyTakes};
 ghost use Rattle.su_client_work.specs.Work.{Works};
 ghost use Rattle.su_person.specs.Carrying.{Before, CarriedOut, CarriesSome, GoesAlong, IsStepped, numbers_of};
 ghost use Rattle.su_person.specs.Fault.{TellsNoChange};
@@ -209,7 +209,7 @@ where
     K: KeyStore + Drop,
     ensures works { Works member.old member.new }
     ensures takes { GoesAlong member.old member.new }
-    ensures before { IfOk result (λ goes_on. goes_on ≡ true → Stays member.old member.new) }
+    ensures before { IfOk result (λ goes_on. goes_on ≡ true → OnlyAsks member.old member.new) }
     ensures faults { IfErr result TellsNoChange }
 {
     if move_on(person, member) {

@@ -4,21 +4,19 @@ ghost use Rattle.std.specs.Thread.{IsSync};
 
 use std::io::{Read, Write};
 use std::thread::Threads;
-use su_block::Checked;
-use su_client::Outbox;
-use su_client_work::Surroundings;
+use su_client_work::{LinkSource, Surroundings};
 use su_lms::{KeyStore, Signer};
 use su_view::{View, ViewRefusal};
 
 /// What a person's client asks of the program around it, beside what each client does.
-pub trait Person<R: Read, W: Write, K: KeyStore>: Surroundings<R, W> {
+pub trait Person<R: Read + Drop, W: Write + Drop, K: KeyStore>: Surroundings<R, W> {
     /// How many commits, the first ones of the client's list, are kept.
     ghost kept: { Self → ℕ };
 
     /// Keeps the commits that the view holds and that aren't kept yet, and answers whether they are
     /// kept now. Why they aren't it tells by itself. It is called after each commit, and before
     /// anybody is told of that.
-    fn keep(&mut self, view: &View<Checked<Outbox<R, W>>>) -> bool
+    fn keep(&mut self, view: &View<LinkSource<R, W>>) -> bool
         ensures { result ≡ true → length view.now.holding.held ≤ kept self.new };
 
     /// Is told before each change how many leaves of the client's key have not signed, and where the

@@ -5,9 +5,10 @@ ghost use Rattle.su_bytes.specs.declared.refusals.Refusal.TheVariants.{TooBig};
 ghost use Rattle.su_draft.specs.declared.commands.Command.{Command as Command_};
 ghost use Rattle.su_op.specs.Limits.{largest_file};
 ghost use Rattle.su_view.specs.declared.refusals.ViewRefusal.TheVariants.{Plain};
+ghost use Rattle.su_client_work.specs.Member.{IsClear, OnlyAsks};
 ghost use Rattle.su_client_work.specs.Work.{Works};
 ghost use Rattle.su_person.specs.LastChange.{last_change};
-ghost use Rattle.su_person.specs.Putting.{HasBytes, HasThere, IsFileWith, IsStanding, KnowsBytes, MayWrite, PutsAll, PutsOne, PutsOver, Rounds, RoundTogether, TellsUnseen, TellsWhy};
+ghost use Rattle.su_person.specs.Putting.{HasBytes, HasThere, IsFileWith, IsStanding, KnowsBytes, MayWrite, PutsAll, PutsByRounds, PutsOne, PutsOver, RoundTogether, TellsUnseen, TellsWhy};
 ghost use Rattle.su_person.specs.declared.faults.Fault.TheVariants.{Refused};
 
 use crate::carrying::{Others, carry, kept};
@@ -67,17 +68,17 @@ where
     W: Write + Drop,
     K: KeyStore + Drop,
     ensures works { Works member.old member.new }
-    ensures there { OnOk result
+    ensures there { IsClear member.new → OnOk result
         (HasThere member.new.holding new.now.path.now new.now.bytes.now) }
     // It commits nothing else than commands of puts, each where the author may write by what the
     // client holds then.
-    ensures rounds { (k : ℕ) × (ns : List ℕ) × (numbers.new.items ≡ numbers.old.items ++ ns)
-        × Rounds new.now.seen new.now.over new.now.path.now new.now.bytes.now k
+    ensures rounds { (ns : List ℕ) × (numbers.new.items ≡ numbers.old.items ++ ns)
+        × PutsByRounds new.now.seen new.now.over new.now.path.now new.now.bytes.now
         member.old ns member.new }
     ensures kept { OnOk result (length member.new.holding.held ≤ P.kept person.new) }
     ensures too_big { largest_file NEWEST_FORMAT < length new.now.bytes.now
         → result ≡ Err (Refused (Plain TooBig)) }
-    ensures changed { IfErr result
+    ensures changed { IsClear member.new → IfErr result
         (TellsWhy new.now.seen new.now.over new.now.path.now member.new.holding) }
 {
     if is_too_big(new.bytes) {
@@ -148,10 +149,10 @@ where
     R: Read + Drop,
     W: Write + Drop,
     K: KeyStore + Drop,
-    ensures same { member.new ≡ member.old }
+    ensures asks { OnlyAsks member.old member.new }
     ensures puts { IfOk result (λ commands. (more : List Command_)
         × (commands.items ≡ first.items ++ more)
-        × PutsAll member.old.holding files.now more) }
+        × (IsClear member.new → PutsAll member.old.holding files.now more)) }
 {
     let mut commands = first;
     for new in files {
@@ -172,8 +173,8 @@ where
     R: Read + Drop,
     W: Write + Drop,
     K: KeyStore + Drop,
-    ensures same { member.new ≡ member.old }
-    ensures puts { IfOk result (λ commands.
+    ensures asks { OnlyAsks member.old member.new }
+    ensures puts { IsClear member.new → IfOk result (λ commands.
         PutsOne member.old.holding new.now commands.items) }
 {
     if is_too_big(new.bytes) {
@@ -212,8 +213,9 @@ where
     R: Read + Drop,
     W: Write + Drop,
     K: KeyStore + Drop,
-    ensures same { member.new ≡ member.old }
-    ensures standing { IfOk result (IsStanding member.old.holding path.now) }
+    ensures asks { OnlyAsks member.old member.new }
+    ensures standing { IsClear member.new
+        → IfOk result (IsStanding member.old.holding path.now) }
 {
     match member.find_held(path) {
         Ok(file) => file_at(member, &file),
@@ -228,8 +230,9 @@ where
     R: Read + Drop,
     W: Write + Drop,
     K: KeyStore + Drop,
-    ensures same { member.new ≡ member.old }
-    ensures standing { IfOk result (IsFileWith member.old.holding file.now) }
+    ensures asks { OnlyAsks member.old member.new }
+    ensures standing { IsClear member.new
+        → IfOk result (IsFileWith member.old.holding file.now) }
 {
     let bytes = member.contents_held(*file)?;
     Ok(Standing::File { file: *file, bytes })
@@ -247,13 +250,13 @@ where
     R: Read + Drop,
     W: Write + Drop,
     K: KeyStore + Drop,
-    requires length { length new.now.bytes.now ≤ largest_file NEWEST_FORMAT }
-    requires standing { IsStanding member.now.holding new.now.path.now standing.now }
-    ensures may { OnOk result
+    requires { length new.now.bytes.now ≤ largest_file NEWEST_FORMAT }
+    ensures may { IsStanding member.now.holding new.now.path.now standing.now → OnOk result
         (MayWrite new.now.seen new.now.over new.now.path.now member.now.holding) }
-    ensures puts { IfOk result (λ commands. PutsOver member.now.holding new.now.path.now
-        new.now.bytes.now commands.items) }
-    ensures changed { IfErr result
+    ensures puts { IsStanding member.now.holding new.now.path.now standing.now → IfOk result
+        (λ commands. PutsOver member.now.holding new.now.path.now new.now.bytes.now
+        commands.items) }
+    ensures changed { IsStanding member.now.holding new.now.path.now standing.now → IfErr result
         (TellsWhy new.now.seen new.now.over new.now.path.now member.now.holding) }
 {
     let commands = match standing {

@@ -1,5 +1,7 @@
 // One step of commands on paths: a commit of as many of them as an item has room for.
 ghost use Rattle.std.specs.Prelude.{◌≡◌, ◌≤◌, length, IfOk, OnErr};
+ghost use Rattle.su_client.specs.Link.{Follows};
+ghost use Rattle.su_client_work.specs.Member.{IsClear, OnlyAsks};
 ghost use Rattle.su_client_work.specs.Work.{Works};
 ghost use Rattle.su_person.specs.Carrying.{IsPlannedStep, Steps, Tries};
 
@@ -91,9 +93,10 @@ where
     K: KeyStore + Drop,
     requires some { 1 ≤ count }
     requires within { count ≤ length commands.now }
-    ensures same { member.new ≡ member.old }
-    ensures planned { IfOk result (λ planned. IsPlannedStep commands.now member.old.holding
-        planned.done planned.operations.items) }
+    ensures asks { OnlyAsks member.old member.new }
+    ensures follows { Follows member.old.link member.new.link }
+    ensures planned { IsClear member.new → IfOk result (λ planned.
+        IsPlannedStep commands.now member.old.holding planned.done planned.operations.items) }
     ensures few { IfOk result (λ planned. planned.done ≤ length commands.now) }
 {
     let mut operations = member.plan_held(&commands[..count])?;

@@ -1,9 +1,6 @@
-//! The planner: a command on paths becomes operations that are all accepted in turn.
+//! What a plan is: a command on paths becomes operations that are all accepted in turn.
 #![tactic(auto)]
 
-mod plans;
-
-pub use plans::{find, plan, plan_all};
 pub use su_draft::{
     Command, files_are_taken_once, numbers_are_counted_through, numbers_are_least,
     paths_have_one_spelling,

@@ -14,8 +14,8 @@ use Rattle.su_message.specs.Tagged.{ReadsTagged}
 use Rattle.su_frames.specs.Stream.{frame}
 
 -- the message is this request
-abbrev pub Asks : List ℕ → Request → Type 0
-Asks message q = IsRequest q × (message ≡ request_bytes q)
+abbrev pub IsMessageOf : List ℕ → Request → Type 0
+IsMessageOf message q = IsRequest q × (message ≡ request_bytes q)
 
 -- the message is no request, for this reason; want of memory is no such reason
 abbrev pub AsksNothing : List ℕ → Refusal → Type 0
@@ -66,7 +66,7 @@ module _ {S : Type 0} (answers : S → Request → Reply → S → Type 0) where
   -- service isn't asked
   abbrev pub Answered : S → List ℕ → Reply → S → Type 0
   Answered s message r t =
-      ((q : Request) × Asks message q × answers s q r t)
+      ((q : Request) × IsMessageOf message q × answers s q r t)
       ⊎ ((e : Refusal) × AsksNothing message e × (r ≡ refusal_reply e) × (t ≡ s))
 
   -- each message has its reply, in order

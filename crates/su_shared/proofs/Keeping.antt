@@ -15,7 +15,7 @@ use Rattle.su_book.specs.declared.events.Event.{Event}
 use Rattle.su_book.specs.declared.events.Event.TheVariants as event
 use Rattle.su_book.specs.declared.events.BookReply.{BookReply}
 use Rattle.su_book.specs.declared.events.BookReply.TheVariants as reply
-use Rattle.su_book.specs.Machine.{BookState, MayAct, Asks, Tells, with_step, stored_by, records_of, count_of}
+use Rattle.su_book.specs.Machine.{BookState, MayAct, AsksFor, Tells, with_step, stored_by, records_of, count_of}
 use Rattle.su_book.proofs.Public.{run_push, records_push}
 use Rattle.su_shared.specs.declared.seats.Kept.{Kept}
 use Rattle.su_keeper.specs.Kept.{KeptRecord}
@@ -79,7 +79,7 @@ added_is items (Stored n c) o none some = ap option_to_list (some n c refl)
 added_is items Given o none some = ap option_to_list (none refl)
 
 -- it is what is made of the event
-pub added_made : (cs : List Commit) (items : List (List ℕ)) (e : Event) (act : Act) (r : BookReply) → Asks e act → Tells cs act r → added items act ≡ made_of e items r
+pub added_made : (cs : List Commit) (items : List (List ℕ)) (e : Event) (act : Act) (r : BookReply) → AsksFor e act → Tells cs act r → added items act ≡ made_of e items r
 added_made cs items event.Grant (Granted n) (reply.Granted m last) asks tells = refl
 added_made cs items event.Grant (Granted n) (reply.Stored m) asks tells = absurd tells
 added_made cs items event.Grant (Granted n) reply.Given asks tells = absurd tells
@@ -225,7 +225,7 @@ counts b seat (Granted n) may = may.count
 counts b seat (Stored n c) may = may.number
 counts b seat Given may = tt
 
-gives_in : (cs : List Commit) (records : List Entry) (items : List (List ℕ)) (e : Event) (act : Act) (r : BookReply) → IsNumbered records → length records ≡ length cs → Asks e act → Counts cs act → Tells cs act r → Gives e items r (receipt_for r (records ++ made_of e items r))
+gives_in : (cs : List Commit) (records : List Entry) (items : List (List ℕ)) (e : Event) (act : Act) (r : BookReply) → IsNumbered records → length records ≡ length cs → AsksFor e act → Counts cs act → Tells cs act r → Gives e items r (receipt_for r (records ++ made_of e items r))
 gives_in cs records items event.Grant (Granted n) (reply.Granted m last) are long asks count tells =
     let is : length records ≡ m = omega (arith, tells.0, count) in
     subst (λ (l : List Entry). MatchOption (last_of l) (m ≡ 0) (λ r. r.number ≡ m)) (sym (append-nil records))
@@ -246,7 +246,7 @@ gives_in cs records items event.Give Given (reply.Granted m last) are long asks 
 gives_in cs records items event.Give Given (reply.Stored m) are long asks count tells = absurd tells
 gives_in cs records items event.Give Given reply.Given are long asks count tells = refl
 
-pub gives : (b : BookState) (records : List Entry) (items : List (List ℕ)) (seat : ℕ) (e : Event) (act : Act) (r : BookReply) → AreRecords records b.journal → Asks e act → MayAct b seat act → Tells (records_of b.journal) act r
+pub gives : (b : BookState) (records : List Entry) (items : List (List ℕ)) (seat : ℕ) (e : Event) (act : Act) (r : BookReply) → AreRecords records b.journal → AsksFor e act → MayAct b seat act → Tells (records_of b.journal) act r
     → Gives e items r (receipt_for r (records ++ made_of e items r))
 gives b records items seat e act r are asks may tells =
     gives_in (records_of b.journal) records items e act r are.numbers (count_is records b.journal are) asks (counts b seat act may) tells

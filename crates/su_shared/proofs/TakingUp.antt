@@ -8,7 +8,7 @@ use Rattle.su_book.specs.declared.events.Event.{Event}
 use Rattle.su_book.specs.declared.events.Event.TheVariants as event
 use Rattle.su_book.specs.declared.events.BookReply.{BookReply}
 use Rattle.su_book.specs.declared.events.BookReply.TheVariants as reply
-use Rattle.su_book.specs.Machine.{BookState, Asks, MayAct, Stepped, Tells, stored_by, records_of, count_of}
+use Rattle.su_book.specs.Machine.{BookState, AsksFor, MayAct, Stepped, Tells, stored_by, records_of, count_of}
 use Rattle.su_book.proofs.Public.{records_push}
 use Rattle.std.specs.Global.{Vec}
 use Rattle.su_keeper.specs.Kept.{KeptRecord, LeavesFound, first_found}
@@ -18,7 +18,7 @@ use Rattle.su_shared.specs.Shares.{IsFirstFound, IsOpened, KnowsFound, bare, fou
 use Rattle.su_shared.proofs.Keeping.{slice_get_push, step_of}
 
 -- the number of a commit that is stored
-number_of : (b : BookState) (seat : ℕ) (bytes : Vec ℕ) (n : ℕ) (act : Act) → Asks (event.Commit bytes) act → MayAct b seat act → Tells (records_of b.journal) act (reply.Stored n) → n ≡ count_of b.journal + 1
+number_of : (b : BookState) (seat : ℕ) (bytes : Vec ℕ) (n : ℕ) (act : Act) → AsksFor (event.Commit bytes) act → MayAct b seat act → Tells (records_of b.journal) act (reply.Stored n) → n ≡ count_of b.journal + 1
 number_of b seat bytes n (Granted m) asks may tells = absurd asks
 number_of b seat bytes n (Stored m c) asks may tells = tells ∙ may.number
 number_of b seat bytes n Given asks may tells = absurd asks
@@ -34,7 +34,7 @@ more_by event.Grant = 0
 more_by (event.Commit bytes) = 1
 more_by event.Give = 0
 
-more_is : (e : Event) (act : Act) → Asks e act → length (stored_by act) ≡ more_by e
+more_is : (e : Event) (act : Act) → AsksFor e act → length (stored_by act) ≡ more_by e
 more_is event.Grant (Granted n) asks = refl
 more_is event.Grant (Stored n c) asks = absurd asks
 more_is event.Grant Given asks = absurd asks

@@ -6,7 +6,7 @@ ghost use Rattle.su_version.specs.Commit.{Commit, commit_bytes};
 ghost use Rattle.su_version.specs.Chain.{chain_key};
 ghost use Rattle.su_book.specs.declared.events.Event.TheVariants.{Grant, Give};
 ghost use Rattle.su_book.specs.declared.steps.Act.TheVariants.{Stored};
-ghost use Rattle.su_book.specs.Machine.{Asks, IsRun, Stepped, TellsRecords, count_of, records_of, stored_by};
+ghost use Rattle.su_book.specs.Machine.{AsksFor, IsRun, Stepped, TellsRecords, count_of, records_of, stored_by};
 ghost use Rattle.su_keeper.specs.Kept.{KeptRecord};
 ghost use Rattle.su_shared.specs.Entry.{contents};
 ghost use Rattle.su_shared.specs.Seats.{Learns};
@@ -330,7 +330,7 @@ fn store<N: BookName, K: Keeper>(
     items: &Vec<Vec<u8>>,
 ) -> Result<Option<Receipt<N, K>>, Refusal>
     requires cells { cells.now ≡ N.cells }
-    requires asked { Asks event act.now }
+    requires asked { AsksFor event act.now }
     requires number { (n : ℕ) (c : Commit) → act.now ≡ Stored n c
         → (0 < n) × (n ≤ length N.cells) }
     requires holds { ∥ K.holds keeper.old (kept_all receipts.old.items) ∥₁ }

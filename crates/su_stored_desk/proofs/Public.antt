@@ -80,3 +80,11 @@ quiet_is_clear {S} may_give t quiet =
     let P : S × Vec Entry → Type 0 = λ x. (i : List ℕ) → may_give x.0 i → ⊥ in
     let Q : S × Vec Entry → Type 0 = λ x. NoneClash (HashedFor (tree_after t.state.settled.roster x.1.items)) (may_give x.0) in
     all_weaker P Q t.asked (λ x none a b hashed given same. absurd (none b given)) quiet.before
+
+-- a store that never gives anything, by its type, gave nothing
+pub gives_never : {S : Type 0} (may_give : S → List ℕ → Type 0) → ((s : S) (i : List ℕ) → may_give s i → ⊥) → (t : TrialOn S) → GivesOnly may_give (λ i. ⊥) t
+gives_never {S} may_give never t = record { now = never t.source; before = go t.asked }
+  where
+    go : (xs : List (S × Vec Entry)) → AllByRecursion (λ a. (i : List ℕ) → may_give a.0 i → ⊥) xs
+    go [] = tt
+    go (a ∷ xs) = (never a.0, go xs)

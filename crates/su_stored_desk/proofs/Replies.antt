@@ -19,7 +19,7 @@ use Rattle.su_desk.specs.Applied.{written_by}
 use Rattle.su_stored_desk.specs.Keeping.{Keeps, IsIndexOf}
 use Rattle.su_stored_desk.proofs.KeptOperations.{KeepsUndone, keeps_undo, written_there, last_kept, none_kept}
 use Rattle.su_stored_desk.proofs.KeptIndexes.{split_at}
-use Rattle.su_desk.proofs.FormatLemmas.{by_change, format_further}
+use Rattle.su_desk.proofs.FormatLemmas.{by_change, ends_with, format_further}
 use Rattle.su_desk.specs.Answer.{format_refusal, rekey_refusal, undo_refusal, refusal_of, reply, answer}
 
 pub answer_done : (ro : Membership) (h : List Entry) (e : Entry) → refusal_of ro h e ≡ None → answer ro h e ≡ Ok (length h + 1)
@@ -56,24 +56,9 @@ refusal_of-undo ro h a f n fits = by_change ro h (undo_by a f n) fits
 pub refusal_of-rekey : (ro : Membership) (h : List Entry) (a : ℕ) (f : Format) (k : List ℕ) → format_refusal h f (Rekey k) ≡ None → refusal_of ro h (rekey_by a f k) ≡ rekey_refusal ro h a k
 refusal_of-rekey ro h a f k fits = by_change ro h (rekey_by a f k) fits
 
--- a list ends with its last element
-ends_at : {A : Type 0} (xs : List A) (n : ℕ) (x : A) → length xs ≡ suc n → slice_get xs n ≡ Some x → xs ≡ take n xs ++ x ∷ []
-ends_at [] n x len e = absurd (let bad : None ≡ Some x = e in cc)
-ends_at (y ∷ []) zero x len e = let same : y ≡ x = cc in ap (λ z. z ∷ []) same
-ends_at (y ∷ z ∷ ys) zero x len e = absurd (omega arith)
-ends_at (y ∷ ys) (suc n) x len e = ap (λ t. y ∷ t) (ends_at ys n x (omega arith) e)
-
-pub ends_with : {A : Type 0} (xs : List A) (x : A) → slice_get xs (length xs - 1) ≡ Some x → xs ≡ take (length xs - 1) xs ++ x ∷ []
-ends_with [] x e = absurd (let bad : None ≡ Some x = e in cc)
-ends_with (y ∷ ys) x e = ends_at (y ∷ ys) (length (y ∷ ys) - 1) x (omega arith) e
-
 pub is_empty : {A : Type 0} (xs : List A) → slice_get xs (length xs - 1) ≡ None → xs ≡ []
 is_empty [] e = refl
 is_empty (y ∷ ys) e = let there = slice_get-get_or (y ∷ ys) (length (y ∷ ys) - 1) y (omega arith) in absurd (let bad : None ≡ Some (get_or (y ∷ ys) (length (y ∷ ys) - 1) y) = sym e ∙ there in cc)
-
--- the format of the last entry
-pub format_last : (h : List Entry) (e : Entry) → slice_get h (length h - 1) ≡ Some e → e.format ≡ format_after h
-format_last h e is = sym (ap format_after (ends_with h e is) ∙ format_further (take (length h - 1) h) e)
 
 -- ---- what is kept last
 

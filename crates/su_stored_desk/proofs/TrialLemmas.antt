@@ -27,7 +27,8 @@ use Rattle.su_stored_desk.specs.Keeping.{Keeps}
 use Rattle.su_desk.specs.Trial.{tree_of, before_last, with_handle, carried_handles}
 use Rattle.su_stored_desk.specs.Tried.{TakesChangeBack, TakesUndoBack}
 use Rattle.su_desk.proofs.Replays.{good_exact}
-use Rattle.su_stored_desk.proofs.Replies.{ends_with, is_empty}
+use Rattle.su_desk.proofs.FormatLemmas.{ends_with}
+use Rattle.su_stored_desk.proofs.Replies.{is_empty}
 use Rattle.su_stored_desk.proofs.KeptOperations.{tree_kept}
 use Rattle.su_stored_desk.proofs.TakingBack.{LastKept, left_by, last_done, kept_writes}
 

@@ -20,13 +20,12 @@ ghost use Rattle.su_stored_desk.specs.Tried.{IsKeptAt};
 mod attempts;
 mod joining;
 
-use crate::entries::{KeptEntry, format_after};
 use crate::kept::{KeptOperation, blocker_at, live_index, undo_index};
 use crate::versions::{first_versions, raise};
 use std::alloc::Global;
 use su_block::BlockSource;
 use su_bytes::{Format, KEY_LENGTH, Principal, Refusal, Roster, User};
-use su_desk::Entry;
+use su_desk::{Entry, KeptEntry, format_after};
 use su_lms::PublicKey;
 use su_op::{Area, Batch, Change, Footprint};
 use su_part_inverse::Inverse;
@@ -101,6 +100,32 @@ impl<S: BlockSource + Drop> Desk<S> {
             stored: stored.with_source(source),
             alloc,
         }
+    }
+
+    /// Takes the history of another one, and all that is kept of it, in the place of its own, and
+    /// keeps its store.
+    pub(crate) fn take<T: BlockSource + Drop>(&mut self, other: Desk<T>)
+        ensures right { IsRight other → IsRight self.new }
+        ensures roster { self.new.roster ≡ other.roster }
+        ensures entries { self.new.entries ≡ other.entries }
+        ensures counters { self.new.counters ≡ other.counters }
+        ensures source { self.new.stored.source ≡ self.old.stored.source }
+    {
+        let Desk {
+            roster,
+            entries,
+            kept,
+            counters,
+            used,
+            stored,
+            ..
+        } = other;
+        self.roster = roster;
+        self.entries = entries;
+        self.kept = kept;
+        self.counters = counters;
+        self.used = used;
+        self.stored.take_forest(stored);
     }
 }
 

@@ -7,8 +7,8 @@ ghost use Rattle.su_op.specs.Area.{meet, overlaps};
 ghost use Rattle.su_desk.specs.Answer.{live_refusal, undo_refusal};
 ghost use Rattle.su_stored_desk.specs.Keeping.{AreKept, IsIndexOf, last_kept_reader, kept_blocker};
 
-use crate::entries::{KeptEntry, entry_at, undoer_in};
 use su_bytes::{Refusal, Roster, User};
+use su_desk::{KeptEntry, entry_at, undoer_in};
 use su_op::{Area, Change, Footprint};
 use su_part_inverse::Inverse;
 

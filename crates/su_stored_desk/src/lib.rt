@@ -2,11 +2,9 @@
 #![tactic(auto)]
 
 mod desks;
-mod entries;
 mod kept;
 mod prepared;
 mod trials;
 mod versions;
 
-pub use entries::KeptEntry;
 pub use trials::TrialDesk;

@@ -26,14 +26,13 @@ mod reads;
 mod rehearsals;
 
 use crate::desks::Desk;
-use crate::entries::{KeptEntry, format_after};
 use crate::prepared::Tried;
 use http_server::Log;
 use std::alloc::Global;
 use std::marker::Model;
 use su_block::BlockSource;
 use su_bytes::{Digest, FIRST_FORMAT, FileId, Format, Group, Principal, Refusal, Roster, User};
-use su_desk::Prepared;
+use su_desk::{KeptEntry, Prepared, format_after};
 use su_op::Change;
 
 /// A desk on which one change can be prepared, so that it is known what it makes of the tree, and
@@ -103,6 +102,18 @@ impl<S: BlockSource + Drop> TrialDesk<S> {
             tried,
             asked: Log::new(),
         }
+    }
+
+    /// Takes the history and the tree of another desk of the same roster, whose store never gave
+    /// anything, in the place of its own, and keeps its store.
+    pub fn take<T: BlockSource + Drop>(&mut self, other: TrialDesk<T>)
+        requires roster { other.state.settled.roster ≡ self.old.state.settled.roster }
+        requires quiet { GivesOnly T.may_give (λ i. ⊥) other }
+        ensures { self.new ≡ record self.old { state = other.state } }
+    {
+        let TrialDesk { desk, tried, .. } = other;
+        self.desk.take(desk);
+        self.tried = tried;
     }
 }
 

@@ -70,6 +70,22 @@ impl<S: BlockSource + Drop> StoredForest<S> {
             groups,
         }
     }
+
+    /// Takes the forest of another one in the place of its own, and keeps its store.
+    pub fn take_forest<T: BlockSource + Drop>(&mut self, other: StoredForest<T>)
+        ensures holds { (V : Tree) → Holds other V → Holds self.new V }
+        ensures source { self.new.source ≡ self.old.source }
+    {
+        let StoredForest {
+            forest,
+            users,
+            groups,
+            ..
+        } = other;
+        self.forest = forest;
+        self.users = users;
+        self.groups = groups;
+    }
 }
 
 /// Makes so many fronts of tables of which no number is known. Fails only with `NoMemory`.

@@ -1,4 +1,4 @@
--- Plans of several commands, command by command. (As in `su_plan`, where these lemmas are private.)
+-- Plans of several commands, command by command.
 use Rattle.std.proofs.Common.{◌≡◌, ◌∙◌, ℕ, List, [], ◌∷◌, ◌++◌, Result, Ok, Err, refl, ap, sym, append_assoc}
 use Rattle.std.specs.Prelude.{IfErr}
 use Rattle.su_bytes.specs.Membership.{Membership}

@@ -1,10 +1,11 @@
-// Desks over sources with faults.
+// Desks over sources with faults, and one that leaves nothing.
 use crate::changes::key_of;
 use crate::sources::{Fault, Fickle};
 use std::alloc::Global;
 use su_block::{BlockSource, Checked};
 use su_block_cache::BlockCache;
 use su_bytes::{Digest, KEY_LENGTH, Refusal, Roster, User};
+use su_no_blocks::NoBlocks;
 use su_op::Change;
 use su_stored_desk::TrialDesk;
 
@@ -13,6 +14,14 @@ pub(crate) type Source = BlockCache<Checked<Fickle>>;
 
 /// A desk on whose source no trust is put.
 pub(crate) type StoredDesk = TrialDesk<Source>;
+
+/// A desk all of whose tree is in memory.
+pub(crate) type WholeDesk = TrialDesk<NoBlocks>;
+
+/// Makes a desk of two users all of whose tree is in memory.
+pub(crate) fn whole_desk(alloc: Global) -> Result<WholeDesk, Refusal> {
+    TrialDesk::new(alloc, two_users(alloc)?, NoBlocks::new())
+}
 
 /// Makes the roster of two users: group 0 has both, group 1 has user 0.
 pub(crate) fn two_users(alloc: Global) -> Result<Roster, Refusal> {
@@ -37,7 +46,10 @@ pub(crate) fn mend(desk: &mut StoredDesk) {
 }
 
 /// Returns the i-handle of a user, who names key 255 for that on trial.
-pub(crate) fn handle_of(desk: &mut StoredDesk, user: User) -> Result<Digest, Refusal> {
+pub(crate) fn handle_of<S: BlockSource>(
+    desk: &mut TrialDesk<S>,
+    user: User,
+) -> Result<Digest, Refusal> {
     let prepared = desk.prepare(user, Change::Rekey(key_of(255)))?;
     Ok(prepared.author_handle)
 }

@@ -1,19 +1,20 @@
-// A desk that is shed, over a source that has faults, beside one whose tree is in memory.
+// A desk that is shed, over a source that has faults, beside one all of whose tree is in memory.
 ghost use Rattle.std.specs.Prelude.{◌≡◌, []};
 
 use crate::changes::{some_change, some_file, some_number, some_user};
-use crate::desks::{StoredDesk, failures, handle_of, mend, set_fault, stored_desk, two_users};
+use crate::desks::{
+    StoredDesk, WholeDesk, failures, handle_of, mend, set_fault, stored_desk, whole_desk,
+};
 use crate::dice::Dice;
 use crate::sources::Fault;
 use std::alloc::Global;
 use std::process::Abort;
 use std::test::Fail;
 use su_bytes::{FileId, Group, Refusal, User};
-use su_desk::{Prepared, TrialDesk};
-use su_files::{Stat, list, read_at, stat};
+use su_desk::Prepared;
+use su_files::{list, read_at, stat};
 use su_op::Change;
 use su_reading::TreeReader;
-use su_table::Forest;
 
 /// Which step of which history is made.
 #[derive(Clone, Copy, Debug)]
@@ -53,7 +54,7 @@ impl Met {
 #[derive(Drop)]
 pub(crate) struct Pair {
     stored: StoredDesk,
-    plain: TrialDesk,
+    plain: WholeDesk,
     dice: Dice,
     /// How often the source has failed.
     failures: u64,
@@ -85,22 +86,6 @@ fn is_same(one: &Prepared, other: &Prepared) -> bool {
         && one.groups.as_slice() == other.groups.as_slice()
 }
 
-/// Tells what a file of a forest is.
-fn stat_in(forest: &Forest, file: &FileId) -> Result<Stat, Refusal> {
-    let Some((holder, number)) = forest.body(*file) else {
-        return Err(Refusal::NoFile(*file));
-    };
-    let Some(inode) = forest.inode(holder, number) else {
-        return Err(Refusal::WrongKind(*file));
-    };
-    Ok(Stat {
-        holder,
-        kind: inode.kind(),
-        size: inode.size(),
-        links: inode.links(),
-    })
-}
-
 impl Pair {
     /// Makes two desks without entries.
     pub(crate) fn new(alloc: Global, seed: u64) -> Result<Pair, Refusal> {
@@ -108,7 +93,7 @@ impl Pair {
         let capacity = dice.below(8) + 1;
         Ok(Pair {
             stored: stored_desk(alloc, capacity as usize)?,
-            plain: TrialDesk::new(alloc, two_users(alloc)?)?,
+            plain: whole_desk(alloc)?,
             dice,
             failures: 0,
             met: Met::nothing(),
@@ -173,8 +158,7 @@ impl Pair {
     /// A change is made, and settled or not.
     fn change(&mut self, rt: &impl Abort, alloc: Global, step: &Step) -> Result<(), Fail> {
         let entries = self.plain.history().len() as u64;
-        let forest = self.plain.forest_on_trial();
-        let (author, change) = some_change(alloc, &mut self.dice, forest, entries)?;
+        let (author, change) = some_change(alloc, &mut self.dice, &mut self.plain, entries)?;
         let author = self.who_may(author, &change);
         let told = self.plain.prepare(author, change.clone()?);
         let mut answer = self.stored.prepare(author, change.clone()?);
@@ -257,7 +241,7 @@ impl Pair {
 
     /// A file is asked about.
     fn read(&mut self, rt: &impl Abort, step: &Step) -> Result<(), Fail> {
-        let (_holder, file) = some_file(&mut self.dice, self.plain.forest_on_trial(), None)?;
+        let (_holder, file) = some_file(&mut self.dice, &mut self.plain, None)?;
         self.read_stat(rt, step, &file);
         self.upset();
         self.read_names(rt, step, &file);
@@ -270,7 +254,7 @@ impl Pair {
     }
 
     fn read_stat(&mut self, rt: &impl Abort, step: &Step, file: &FileId) {
-        let told = stat_in(self.plain.forest_on_trial(), file);
+        let told = stat(&mut self.plain, *file);
         let mut answer = stat(&mut self.stored, *file);
         if self.has_failed(rt, step, refusal_of(&answer)) {
             answer = stat(&mut self.stored, *file);
@@ -279,7 +263,7 @@ impl Pair {
     }
 
     fn read_names(&mut self, rt: &impl Abort, step: &Step, file: &FileId) {
-        let told = self.plain.forest_on_trial().list(*file);
+        let told = list(&mut self.plain, *file);
         let mut answer = list(&mut self.stored, *file);
         if self.has_failed(rt, step, refusal_of(&answer)) {
             answer = list(&mut self.stored, *file);
@@ -299,7 +283,7 @@ impl Pair {
 
     fn read_bytes(&mut self, rt: &impl Abort, step: &Step, file: &FileId) {
         let (off, len) = (self.dice.below(9_000), self.dice.below(9_000));
-        let told = self.plain.forest_on_trial().read_at(*file, off, len);
+        let told = read_at(&mut self.plain, *file, off, len);
         let mut answer = read_at(&mut self.stored, *file, off, len);
         if self.has_failed(rt, step, refusal_of(&answer)) {
             answer = read_at(&mut self.stored, *file, off, len);
@@ -320,27 +304,24 @@ impl Pair {
     fn read_free(&mut self, rt: &impl Abort, step: &Step) -> Result<(), Fail> {
         let user = some_user(&mut self.dice)?;
         let number = some_number(&mut self.dice)?;
-        let told = self.plain.forest_on_trial().free_number(user, number);
+        let told = self.plain.free_number(user, number);
         let mut answer = self.stored.free_number(user, number);
         if self.has_failed(rt, step, refusal_of(&answer)) {
             answer = self.stored.free_number(user, number);
         }
-        assert_eq!(rt; answer, Ok(told), "{step:?}: {user:?} from {number:?}");
+        assert_eq!(rt; answer, told, "{step:?}: {user:?} from {number:?}");
         Ok(())
     }
 
     fn read_free_in_group(&mut self, rt: &impl Abort, step: &Step) -> Result<(), Fail> {
         let group = Group::new(self.dice.below(2))?;
         let number = some_number(&mut self.dice)?;
-        let told = self
-            .plain
-            .forest_on_trial()
-            .free_group_number(group, number);
+        let told = self.plain.free_group_number(group, number);
         let mut answer = self.stored.free_group_number(group, number);
         if self.has_failed(rt, step, refusal_of(&answer)) {
             answer = self.stored.free_group_number(group, number);
         }
-        assert_eq!(rt; answer, Ok(told), "{step:?}: {group:?} from {number:?}");
+        assert_eq!(rt; answer, told, "{step:?}: {group:?} from {number:?}");
         Ok(())
     }
 
@@ -360,7 +341,7 @@ impl Pair {
     /// each undo.
     fn compare_histories(&self, rt: &impl Abort, step: &Step) -> Result<(), Fail>
         requires stored { self.now.stored.state.ready ≡ [] }
-        requires plain { self.now.plain.ready ≡ [] }
+        requires plain { self.now.plain.state.ready ≡ [] }
     {
         let entries = self.plain.history().len() as u64;
         assert_eq!(rt; self.stored.history().len() as u64, entries, "{step:?}");
@@ -381,7 +362,7 @@ impl Pair {
 
     /// The i-handles of a user are the same.
     fn compare_handles(&mut self, rt: &impl Abort, step: &Step, user: User) -> Result<(), Fail> {
-        let handle = self.plain.forest_on_trial().i_handle(user)?;
+        let handle = handle_of(&mut self.plain, user)?;
         assert_eq!(rt; handle_of(&mut self.stored, user)?, handle, "{step:?}");
         Ok(())
     }

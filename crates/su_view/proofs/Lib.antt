@@ -1,3 +1,4 @@
+pub mod AskLemmas
 pub mod HandleLemmas
 pub mod KeepingLemmas
 pub mod JoinLemmas

@@ -5,21 +5,21 @@ use Rattle.std.specs.List.{list_any}
 use Rattle.std.proofs.lemmas.Option.{slice_get-map}
 use Rattle.std.specs.Cmp.Lexicographic.{pointwise, bytes_decides}
 use Rattle.su_bytes.specs.Membership.{Membership}
-use Rattle.su_bytes.specs.Order.{Passes, RefusedBy}
-use Rattle.su_bytes.specs.declared.refusals.Refusal.TheVariants.{NoMemory}
 use Rattle.su_format.proofs.Public.{spelling_told}
 use Rattle.su_vector.specs.Vector.{number_of}
 use Rattle.su_version.specs.Commit.{Commit, IsCommit, commit_bytes}
-use Rattle.su_version.specs.Chain.{IsSignedBy, chain_key}
+use Rattle.su_version.specs.Chain.{ChainAfter, IsSignedBy, chain_key}
 use Rattle.su_version.proofs.Public.{commit_of, commit_lawful}
 use Rattle.su_chain.specs.ChainEnd.{IsEndOf}
-use Rattle.su_legal.specs.Legal.{Committed, commits_of, LegalAfter}
-use Rattle.su_view.specs.Holding.{HoldingState, IsHeld}
+use Rattle.su_legal.specs.Legal.{Committed, commits_of}
+use Rattle.su_view.specs.Holding.{IsHeld, HoldingState}
+use Rattle.su_view.specs.LastCommits.{last_by, own_last, IsNotBehind, IsShownSigned, own_order, shown_order, AreSigned}
 use Rattle.su_view.specs.Keeping.{commit_in, AreBytes, holding_of, IsKeeping}
 use Rattle.su_view.specs.Spelled.{IsSpelled}
-use Rattle.su_view.specs.LastCommits.{last_by, own_last, own_order, shown_order, AreSigned, IsNotBehind, IsShownSigned}
 use Rattle.su_view.specs.declared.records.Record.{Record}
 use Rattle.su_view.specs.declared.records.Keeping.{Keeping}
+use Rattle.su_bytes.specs.Order.{Passes, RefusedBy}
+use Rattle.su_bytes.specs.declared.refusals.Refusal.TheVariants.{NoMemory}
 use Rattle.su_view.specs.declared.refusals.ViewRefusal.{ViewRefusal}
 use Rattle.su_view.specs.declared.refusals.ViewRefusal.TheVariants.{Plain}
 
@@ -48,10 +48,10 @@ compared ro u n m r c is is_commit has held same xs ys xs_are ys_are b e = (
 
 -- ---- the user's last commit, as it is kept
 
-spelled_at : (ro : Membership) (before cs : List Committed) → LegalAfter ro before cs → (i : ℕ) (c : Committed) → slice_get cs i ≡ Some c → IsCommit c.commit
-spelled_at ro before [] legal i c at = absurd (cc)
-spelled_at ro before (x ∷ cs) (may, legal) zero c at = let same : x ≡ c = cc in subst (λ d. IsCommit d.commit) same may.next.spelled
-spelled_at ro before (x ∷ cs) (may, legal) (suc i) c at = spelled_at ro (before ++ x ∷ []) cs legal i c at
+spelled_at : (ro : Membership) (before cs : List Commit) → ChainAfter ro before cs → (i : ℕ) (c : Commit) → slice_get cs i ≡ Some c → IsCommit c
+spelled_at ro before [] chain i c at = absurd (cc)
+spelled_at ro before (x ∷ cs) (next, chain) zero c at = let same : x ≡ c = cc in subst IsCommit same next.spelled
+spelled_at ro before (x ∷ cs) (next, chain) (suc i) c at = spelled_at ro (before ++ x ∷ []) cs chain i c at
 
 bytes_at : (rs : List Record) (cs : List Committed) → AreBytes rs cs → (i : ℕ) (r : Record) (c : Committed) → slice_get rs i ≡ Some r → slice_get cs i ≡ Some c → r.bytes.items ≡ commit_bytes c.commit
 bytes_at [] [] are i r c here there = absurd (cc)
@@ -61,7 +61,7 @@ bytes_at (y ∷ rs) (x ∷ cs) (is, are) zero r c here there =
     let one : y ≡ r = cc in let other : x ≡ c = cc in sym (ap (λ z. z.bytes.items) one) ∙ is ∙ ap (λ z. commit_bytes z.commit) other
 bytes_at (y ∷ rs) (x ∷ cs) (is, are) (suc i) r c here there = bytes_at rs cs are i r c here there
 
-module _ (k : Keeping) (kept : IsKeeping k) (i : ℕ) (r : Record) (here : slice_get k.records.items i ≡ Some r) where
+module _ {S : Type 0} (M : S → List ℕ → Type 0) (k : Keeping S) (kept : IsKeeping M k) (i : ℕ) (r : Record) (here : slice_get k.records.items i ≡ Some r) where
   abbrev held : List Committed
   held = (holding_of k).held
 
@@ -72,7 +72,8 @@ module _ (k : Keeping) (kept : IsKeeping k) (i : ℕ) (r : Record) (here : slice
   spelled_by None there same = absurd (cc)
   spelled_by (Some c) there same =
       let is : c.commit ≡ commit_in r = cc in record {
-        is_commit = subst IsCommit is (spelled_at k.desk.settled.roster [] held kept.legal i c there);
+        is_commit = spelled_at k.desk.state.settled.roster [] (map commit_in k.records.items) kept.end_is.chain i (commit_in r)
+            (slice_get-map commit_in k.records.items i ∙ ap (option_map commit_in) here);
         bytes_are = bytes_at k.records.items held kept.bytes i r c here there ∙ ap commit_bytes is;
       }
 
@@ -108,12 +109,12 @@ at_any f (y ∷ xs) (suc i) x there so = or_true (f y) (list_any f xs) (at_any f
     or_true true b is = refl
     or_true false b is = is
 
-module _ (k : Keeping) (kept : IsKeeping k) (c : Commit) (is_commit : IsCommit c) (bytes : List ℕ) (spelled : bytes ≡ commit_bytes c) where
+module _ {S : Type 0} (M : S → List ℕ → Type 0) (k : Keeping S) (kept : IsKeeping M k) (c : Commit) (is_commit : IsCommit c) (bytes : List ℕ) (spelled : bytes ≡ commit_bytes c) where
   abbrev has : Record → Bool
   has r = pointwise nat_eq r.bytes.items bytes
 
   found_held : (i : ℕ) × (r : Record) × (slice_get k.records.items i ≡ Some r) × (has r ≡ true) → IsHeld (holding_of k) c
-  found_held (i, r, there, same) = held_so k kept i r there c is_commit (sym ((bytes_decides r.bytes.items bytes).0 same ∙ spelled))
+  found_held (i, r, there, same) = held_so M k kept i r there c is_commit (sym ((bytes_decides r.bytes.items bytes).0 same ∙ spelled))
 
   -- a record has its bytes just where the commit is held
   pub any_held : list_any has k.records.items ≡ true → IsHeld (holding_of k) c
@@ -126,19 +127,19 @@ module _ (k : Keeping) (kept : IsKeeping k) (c : Commit) (is_commit : IsCommit c
       go None is e = absurd (let clash : ◌≡◌ {A = Option Commit} None (Some c) = sym (ap (option_map commit_in) is) ∙ e in cc)
       go (Some r) is e =
           let same : commit_in r ≡ c = (let both : ◌≡◌ {A = Option Commit} (Some (commit_in r)) (Some c) = sym (ap (option_map commit_in) is) ∙ e in cc) in
-          let kept_r = spelled_kept k kept i r is in
+          let kept_r = spelled_kept M k kept i r is in
           at_any has k.records.items i r is ((bytes_decides r.bytes.items bytes).1 (kept_r.bytes_are ∙ ap commit_bytes same ∙ sym spelled))
 
 -- ---- whether a commit is known to be signed
 
 -- of one that isn't held: by its author's key
-pub shown_signed : (k : Keeping) → IsKeeping k → (c : Commit) → (IsHeld (holding_of k) c → ⊥) → (a : ℕ) → a ≡ c.version.author → (key found : Option (List ℕ))
+pub shown_signed : {S : Type 0} (M : S → List ℕ → Type 0) (k : Keeping S) → IsKeeping M k → (c : Commit) → (IsHeld (holding_of k) c → ⊥) → (a : ℕ) → a ≡ c.version.author → (key found : Option (List ℕ))
     → ((ro : Membership) (cs : List Commit) → IsEndOf ro cs k.end → key ≡ chain_key ro a cs) → found ≡ key → (b : Bool) → IsTrue b ↔ IsSignedBy found c → IsTrue b ↔ IsShownSigned (holding_of k) c
-shown_signed k kept c other a by key found key_is same b so = (λ yes. inr (subst (λ o. IsSignedBy o c) is (so.0 yes)), back)
+shown_signed M k kept c other a by key found key_is same b so = (λ yes. inr (subst (λ o. IsSignedBy o c) is (so.0 yes)), back)
   where
-    is : found ≡ chain_key k.desk.settled.roster c.version.author (commits_of (holding_of k).held)
-    is = same ∙ key_is k.desk.settled.roster (map commit_in k.records.items) kept.end_is
-        ∙ (λ i. chain_key k.desk.settled.roster (by i) (sym kept.commits i))
+    is : found ≡ chain_key k.desk.state.settled.roster c.version.author (commits_of (holding_of k).held)
+    is = same ∙ key_is k.desk.state.settled.roster (map commit_in k.records.items) kept.end_is
+        ∙ (λ i. chain_key k.desk.state.settled.roster (by i) (sym kept.commits i))
 
     back : IsShownSigned (holding_of k) c → IsTrue b
     back (inl held) = absurd (other held)

@@ -4,6 +4,7 @@ use Rattle.std.specs.Prelude.{◌≡◌, ℕ, List, ◌++◌, Some, slice_get}
 use Rattle.su_bytes.specs.Membership.{Membership}
 use Rattle.su_version.specs.Version.{Version}
 use Rattle.su_version.specs.Commit.{Commit}
+use Rattle.su_change.specs.Item.{IsChange, HasItem}
 use Rattle.su_table.specs.Tree.{Tree}
 use Rattle.su_desk.specs.Applied.{tree_after}
 use Rattle.su_legal.specs.Legal.{Committed, commits_of, history}
@@ -23,6 +24,10 @@ tree_of_list v = tree_after v.roster (history v.held)
 -- the commit is one of those that are held
 abbrev pub IsHeld : HoldingState → Commit → Type 0
 IsHeld v c = (i : ℕ) × (slice_get (commits_of v.held) i ≡ Some c)
+
+-- an item spells the change of the commit
+abbrev pub HasSpelledChange : Committed → Type 0
+HasSpelledChange c = IsChange c.change × HasItem c.change
 
 -- the same with these commits more
 abbrev pub with_more : HoldingState → List Committed → HoldingState

@@ -1,11 +1,12 @@
 pub mod Holding
 pub mod Acting
+pub mod Viewed
 pub mod Keeping
 pub mod Spelled
 pub mod Entry
-pub mod Stat
 pub mod OwnKey
 pub mod Making
+pub mod Drafting
 pub mod Joining
 pub mod Listing
 pub mod LastCommits

@@ -1,5 +1,5 @@
 -- What a client's user signs for a change of the user's own. (SUNDR, section 3.3.)
-use Rattle.std.specs.Prelude.{◌≡◌, ◌≤◌, ◌⊎◌, ℕ, length, List, ◌∷◌, [], ◌++◌, map, Option, Some, None}
+use Rattle.std.specs.Prelude.{◌≡◌, ◌⊎◌, ℕ, List, ◌∷◌, [], map, Option, Some, None}
 use Rattle.su_bytes.specs.Order.{Line, demand, Passes, RefusedBy}
 use Rattle.su_bytes.specs.declared.formats.Format.{Format as CommitFormat}
 use Rattle.su_bytes.specs.declared.refusals.Refusal.TheVariants.{BadNumber, BadSignature, KeySpent, KeyFileFault, TooBig}
@@ -9,19 +9,17 @@ use Rattle.su_op.specs.Action.{named_key}
 use Rattle.su_desk.specs.declared.entries.Entry.{Entry}
 use Rattle.su_desk.specs.Answer.{made_format, refusal_of}
 use Rattle.su_desk.specs.History.{entry_by}
-use Rattle.su_desk.specs.Version.{versions}
 use Rattle.su_lms.specs.Signature.{leaf_of}
 use Rattle.su_vector.specs.Vector.{bump}
 use Rattle.su_version.specs.Version.{Version}
 use Rattle.su_version.specs.Commit.{Commit}
 use Rattle.su_version.specs.Chain.{IsSignedBy, chain_key}
-use Rattle.su_change.specs.Item.{IsChange, HasItem, HasSpelling, IsTooLong, item_bytes, change_digest}
+use Rattle.su_change.specs.Item.{HasSpelling, IsTooLong, change_digest}
 use Rattle.su_legal.specs.Legal.{commits_of, history, head_of, vector_of, author_handle, group_handles}
 use Rattle.su_view.specs.Holding.{HoldingState}
 use Rattle.su_view.specs.Joining.{HasFailed, accepting}
 use Rattle.su_view.specs.declared.refusals.ViewRefusal.{ViewRefusal}
 use Rattle.su_view.specs.declared.refusals.ViewRefusal.TheVariants.{Plain, Change as ChangeRefused}
-use Rattle.su_view.specs.declared.holdings.drafts.Draft.{Draft}
 
 -- the format in which the client's user makes a change
 abbrev pub own_format : HoldingState → Change → CommitFormat
@@ -81,21 +79,3 @@ IsRefusedMaking before after key Spent v change e =
     × (HasFailed before after (change_digest change) e
     ⊎ ((e ≡ Plain KeySpent) × Spent)
     ⊎ ((e ≡ Plain KeyFileFault) × ¬ Spent)))
-
--- What is at hand of a change before it is signed: it is accepted, and these are its format, its
--- item, the next key that it names, and the i-handles and numbers of the tree with it.
-pub record IsDraft (v : HoldingState) (change : Change) (d : Draft) : Type 0 where
-  pub accepted : refusal_of v.roster (history v.held) (own_entry v change) ≡ None
-  pub format : d.format ≡ own_format v change
-  pub is_change : IsChange change
-  pub has_item : HasItem change
-  pub spelled : d.item.items ≡ item_bytes change
-  pub some_bytes : 1 ≤ length d.item.items
-  pub few_bytes : length d.item.items ≤ 70000
-  pub next_key : d.next_key ≡ named_key change
-  pub handle : d.prepared.author_handle
-      ≡ author_handle v.roster (history v.held) (own_entry v change)
-  pub groups : d.prepared.groups.items
-      ≡ group_handles v.roster (history v.held) (own_entry v change)
-  pub numbers : d.prepared.versions.items
-      ≡ versions v.roster (history v.held ++ own_entry v change ∷ [])

@@ -14,6 +14,7 @@ ghost use Rattle.su_view.specs.declared.refusals.ViewRefusal.TheVariants.{Plain}
 use crate::records::{Keeping, Record};
 use crate::refusals::ViewRefusal;
 use std::alloc::Global;
+use su_block::BlockSource;
 use su_bytes::{FileId, Refusal, Roster, User};
 use su_vector::{Vector, first_unordered};
 use su_version::{Commit, Verdict};
@@ -22,12 +23,12 @@ use su_version::{Commit, Verdict};
 /// commit isn't held, nor signed under its author's present key; `OwnMissing` where the user has a
 /// commit that is held, and none of the user's is shown or one that is behind the last;
 /// `NotOrdered` with the first pair of positions whose vectors aren't comparable; `NoMemory`.
-pub(crate) fn check_list(
+pub(crate) fn check_list<S: BlockSource>(
     alloc: Global,
-    keeping: &Keeping,
+    keeping: &Keeping<S>,
     shown: &[Commit],
 ) -> Result<(), ViewRefusal>
-    requires { IsKeeping keeping.now }
+    requires { IsKeeping S.may_give keeping.now }
     ensures passes { OnOk result (Passes (shown_order (holding_of keeping.now) shown.now)) }
     ensures refused { IfErr result (λ e. (e ≡ Plain NoMemory)
         ⊎ RefusedBy (shown_order (holding_of keeping.now) shown.now) e) }
@@ -49,8 +50,8 @@ pub(crate) fn check_list(
 }
 
 /// Finds the user's last commit that is kept, if there is one.
-fn own_record(keeping: &Keeping) -> Option<&Record>
-    requires { IsKeeping keeping.now }
+fn own_record<S: BlockSource>(keeping: &Keeping<S>) -> Option<&Record>
+    requires { IsKeeping S.may_give keeping.now }
     ensures spelled { IfSome (option_copied result) IsSpelled }
     ensures last { option_map commit_in (option_copied result) ≡ own_last (holding_of keeping.now) }
 {
@@ -94,8 +95,12 @@ fn check_own(
 
 /// Whether each commit is held, or signed under its author's present key. Fails only with
 /// `NoMemory`.
-fn are_signed(alloc: Global, keeping: &Keeping, shown: &[Commit]) -> Result<bool, Refusal>
-    requires { IsKeeping keeping.now }
+fn are_signed<S: BlockSource>(
+    alloc: Global,
+    keeping: &Keeping<S>,
+    shown: &[Commit],
+) -> Result<bool, Refusal>
+    requires { IsKeeping S.may_give keeping.now }
     ensures value { IfOk result (λ b. IsTrue b ↔ AreSigned (holding_of keeping.now) shown.now) }
     ensures refused { IfErr result (λ e. e ≡ NoMemory) }
 {
@@ -112,8 +117,12 @@ fn are_signed(alloc: Global, keeping: &Keeping, shown: &[Commit]) -> Result<bool
 
 /// Whether a commit is held, or signed under its author's present key. Of one that is held no
 /// signature is checked. Fails only with `NoMemory`.
-fn is_signed(alloc: Global, keeping: &Keeping, commit: &Commit) -> Result<bool, Refusal>
-    requires { IsKeeping keeping.now }
+fn is_signed<S: BlockSource>(
+    alloc: Global,
+    keeping: &Keeping<S>,
+    commit: &Commit,
+) -> Result<bool, Refusal>
+    requires { IsKeeping S.may_give keeping.now }
     ensures value { IfOk result (λ b.
         IsTrue b ↔ IsShownSigned (holding_of keeping.now) commit.now) }
     ensures refused { IfErr result (λ e. e ≡ NoMemory) }
@@ -130,8 +139,12 @@ fn is_signed(alloc: Global, keeping: &Keeping, commit: &Commit) -> Result<bool, 
 
 /// Whether a commit is held. It is looked for where its vector tells that it stands, and in all of
 /// the list only where it isn't there. Fails only with `NoMemory`.
-fn is_held(alloc: Global, keeping: &Keeping, commit: &Commit) -> Result<bool, Refusal>
-    requires { IsKeeping keeping.now }
+fn is_held<S: BlockSource>(
+    alloc: Global,
+    keeping: &Keeping<S>,
+    commit: &Commit,
+) -> Result<bool, Refusal>
+    requires { IsKeeping S.may_give keeping.now }
     ensures held { IfOk result (λ b. IsTrue b ↔ IsHeld (holding_of keeping.now) commit.now) }
     ensures refused { IfErr result (λ e. e ≡ NoMemory) }
 {

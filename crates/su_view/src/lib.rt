@@ -1,18 +1,15 @@
-//! A client's view: the legal list of commits that it holds, and the tree that this makes. It takes
-//! no other.
+//! A client's view whose tree may lie on a source that isn't trusted: the list of commits that it
+//! holds, which makes a chain, and is legal where nothing was mixed up.
 #![tactic(auto)]
 
 mod handles;
-mod holdings;
 mod keys;
 mod last_commits;
 mod lists;
 mod records;
 mod refusals;
-mod stats;
 mod views;
 
 pub use keys::OwnKey;
 pub use refusals::ViewRefusal;
-pub use stats::Stat;
 pub use views::View;

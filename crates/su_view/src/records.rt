@@ -1,21 +1,22 @@
 // How the commits that are held are kept.
-ghost use Rattle.std.specs.Prelude.{◌≡◌, ◌<◌, ◌∷◌, List, [], Some, cond, length, vec_capacity, OnOk};
+ghost use Rattle.std.specs.Prelude.{◌≡◌, ◌<◌, ◌∷◌, ℕ, List, [], true, Some, cond, length, vec_capacity, OnOk};
 ghost use Rattle.su_op.specs.declared.operations.Change.{Change};
-ghost use Rattle.su_desk.specs.Trial.{IsReady};
 ghost use Rattle.su_bytes.specs.Membership.{Membership};
-ghost use Rattle.su_version.specs.Commit.{Commit as CommitParts, commit_bytes};
+ghost use Rattle.su_desk.specs.Trial.{nothing_ready, with_ready};
+ghost use Rattle.su_version.specs.Commit.{Commit as CommitParts};
 ghost use Rattle.su_chain.specs.ChainEnd.{IsEndOf};
-ghost use Rattle.su_change.specs.Item.{item_bytes};
 ghost use Rattle.su_used_keys.specs.UsedKeys.{HasRoom};
-ghost use Rattle.su_legal.specs.Legal.{MayJoin};
+ghost use Rattle.su_stored_desk.specs.Asked.{GivesOnly};
 ghost use Rattle.su_view.specs.Holding.{with_more};
-ghost use Rattle.su_view.specs.Keeping.{holding_of, IsKeeping, JoinsNext};
+ghost use Rattle.su_view.specs.Keeping.{holding_of, view_of, IsKeeping, JoinsNext};
 
 use sha2::Sha256;
 use std::alloc::{AllocError, Global};
+use su_block::BlockSource;
 use su_bytes::{Digest, User};
 use su_chain::ChainEnd;
-use su_desk::{Prepared, TrialDesk};
+use su_desk::Prepared;
+use su_stored_desk::TrialDesk;
 use su_version::{Commit, VersionStructure};
 
 /// A commit that is held: its version structure, and its bytes.
@@ -27,20 +28,51 @@ pub(crate) struct Record {
 
 /// What a client keeps: whose client it is, the index of the user's last commit, the commits, how
 /// many of them have no item at hand, which are the first, the items of the others, what the commits
-/// come to for the next one, and the desk that their changes make. (It has no model, so that its
-/// fields can be lent; what it means is its owner's.)
+/// come to for the next one, and the desk that their changes make, with the source. (It has no model,
+/// so that its fields can be lent; what it means is its owner's.)
 #[derive(Drop)]
-pub(crate) struct Keeping {
+pub(crate) struct Keeping<S: BlockSource> {
     pub(crate) user: User,
     pub(crate) own: Option<usize>,
     pub(crate) records: Vec<Record>,
     pub(crate) itemless: usize,
     pub(crate) items: Vec<Vec<u8>>,
     pub(crate) end: ChainEnd,
-    pub(crate) desk: TrialDesk,
+    pub(crate) desk: TrialDesk<S>,
 }
 
-impl Keeping {
+impl<S: BlockSource + Drop> Keeping<S> {
+    /// Puts a source in the place of its own, which never gave anything of the tree.
+    pub fn with_source<T: BlockSource + Drop>(self, source: T) -> Keeping<T>
+        requires checked { T.is_checked ≡ true }
+        requires kept { IsKeeping S.may_give self }
+        requires quiet { GivesOnly S.may_give (λ i. ⊥) self.desk }
+        ensures kept { IsKeeping T.may_give result }
+        ensures view { view_of result
+            ≡ record { holding = holding_of self; source = source; asked = [] } }
+    {
+        let Keeping {
+            user,
+            own,
+            records,
+            itemless,
+            items,
+            end,
+            desk,
+        } = self;
+        Keeping {
+            user,
+            own,
+            records,
+            itemless,
+            items,
+            end,
+            desk: desk.with_source(source),
+        }
+    }
+}
+
+impl<S: BlockSource> Keeping<S> {
     /// Makes room for one commit more. Fails only where memory is refused.
     pub fn reserve(&mut self) -> Result<(), AllocError>
         ensures same { self.new
@@ -67,18 +99,20 @@ impl Keeping {
     /// Adds a commit whose change stands ready, with its bytes and the item of its change. It takes
     /// no memory.
     pub fn push(&mut self, commit: Commit, bytes: Vec<u8>, item: Vec<u8>, prepared: Prepared)
-        requires kept { IsKeeping self.old }
+        requires kept { IsKeeping S.may_give self.old }
         requires room { length self.old.records.items < vec_capacity self.old.records }
         requires item_room { length self.old.items.items < vec_capacity self.old.items }
         requires key_room { HasRoom self.old.end.used }
-        requires ready { IsReady self.old.desk prepared }
         requires joins { (change : Change)
-            × JoinsNext self.old commit change bytes.items item.items }
-        ensures kept { IsKeeping self.new }
+            × JoinsNext S.may_give self.old commit change bytes.items item.items }
+        ensures kept { IsKeeping S.may_give self.new }
         ensures pushed { (change : Change)
-            → JoinsNext self.old commit change bytes.items item.items
+            → JoinsNext S.may_give self.old commit change bytes.items item.items
             → holding_of self.new ≡ with_more (holding_of self.old)
             (record { commit = commit; change = change } ∷ []) }
+        ensures desk { self.new.desk ≡ record self.old.desk {
+          state = nothing_ready (with_ready self.old.desk.state.settled self.old.desk.state.ready);
+        } }
     {
         let digest = Digest::new(<Sha256 as sha2::Digest>::digest(bytes.as_slice()));
         let is_own = commit.version().author() == self.user;
@@ -94,11 +128,12 @@ impl Keeping {
 
     /// Forgets the items of all commits.
     pub fn leave_items(&mut self, alloc: Global)
-        requires kept { IsKeeping self.old }
-        ensures kept { IsKeeping self.new }
+        requires kept { IsKeeping S.may_give self.old }
+        ensures kept { IsKeeping S.may_give self.new }
         ensures left { holding_of self.new ≡ record (holding_of self.old) {
           itemless = length (holding_of self.old).held;
         } }
+        ensures desk { self.new.desk ≡ self.old.desk }
     {
         self.itemless = self.records.len();
         self.items = Vec::new(alloc);

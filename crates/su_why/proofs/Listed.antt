@@ -1,13 +1,16 @@
--- What a legal list has at a place, and what is read of it.
+-- What a list has at a place, and what is read of it.
 use Rattle.std.proofs.Common.{◌≡◌, ℕ, zero, suc, ◌+◌, ◌-◌, false, cond, List, [], ◌∷◌, ◌++◌, nat_eq, Some, None, option_map, Result, Ok, Err, sym, ap, ◌∙◌, subst, arith, slice_get, inl, inr, ◌⊎◌}
+use Rattle.std.specs.List.{AllByRecursion}
 use Rattle.std.proofs.lemmas.Option.{slice_get-map}
 use Rattle.su_bytes.specs.Membership.{Membership}
 use Rattle.su_bytes.specs.declared.refusals.Refusal.{Refusal}
 use Rattle.su_bytes.specs.declared.refusals.Refusal.TheVariants.{NoMemory}
 use Rattle.su_change.specs.Item.{IsChange, HasItem}
-use Rattle.su_version.specs.Commit.{IsCommit}
-use Rattle.su_legal.specs.Legal.{Committed, LegalAfter, entry_of, history}
+use Rattle.su_version.specs.Commit.{Commit, IsCommit}
+use Rattle.su_version.specs.Chain.{ChainAfter}
+use Rattle.su_legal.specs.Legal.{Committed, commits_of, entry_of, history}
 use Rattle.su_view.specs.Entry.{committed_at}
+use Rattle.su_view.specs.Holding.{HasSpelledChange}
 
 -- what can be spelled of a commit with its change
 pub record IsSpelled (c : Committed) : Type 0 where
@@ -15,12 +18,12 @@ pub record IsSpelled (c : Committed) : Type 0 where
   pub is_change : IsChange c.change
   pub has_item : HasItem c.change
 
-pub spelled_at : (ro : Membership) (before cs : List Committed) → LegalAfter ro before cs → (i : ℕ) (c : Committed) → slice_get cs i ≡ Some c → IsSpelled c
-spelled_at ro before [] legal i c at = absurd (let bad : None ≡ Some c = at in cc)
-spelled_at ro before (x ∷ cs) (may, legal) zero c at =
+pub spelled_at : (ro : Membership) (before : List Commit) (cs : List Committed) → ChainAfter ro before (commits_of cs) → AllByRecursion HasSpelledChange cs → (i : ℕ) (c : Committed) → slice_get cs i ≡ Some c → IsSpelled c
+spelled_at ro before [] chain changes i c at = absurd (let bad : None ≡ Some c = at in cc)
+spelled_at ro before (x ∷ cs) (next, chain) (change, changes) zero c at =
     let same : x ≡ c = cc in
-    subst IsSpelled same (record { is_commit = may.next.spelled; is_change = may.fits.is_change; has_item = may.fits.has_item })
-spelled_at ro before (x ∷ cs) (may, legal) (suc i) c at = spelled_at ro (before ++ x ∷ []) cs legal i c at
+    subst IsSpelled same (record { is_commit = next.spelled; is_change = change.0; has_item = change.1 })
+spelled_at ro before (x ∷ cs) (next, chain) (change, changes) (suc i) c at = spelled_at ro (before ++ x.commit ∷ []) cs chain changes i c at
 
 -- the commit behind so many
 pub behind : (cs : List Committed) (i : ℕ) (c : Committed) → committed_at cs (i + 1) ≡ Some c → slice_get cs i ≡ Some c

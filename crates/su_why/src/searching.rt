@@ -6,6 +6,7 @@ ghost use Rattle.su_desk.specs.Trial.{nothing_ready};
 ghost use Rattle.su_legal.specs.Legal.{history};
 ghost use Rattle.su_part_tree.specs.Loading.{IsLoadRefusal};
 ghost use Rattle.su_reasons.specs.Reasons.{AreReasons};
+ghost use Rattle.su_view.specs.Viewed.{IsClear};
 ghost use Rattle.su_why.specs.Quiet.{IsQuiet};
 
 use crate::entries::entries_of;
@@ -21,7 +22,8 @@ use su_view::View;
 /// in which they can be: `su_reasons::reasons` of the history that the list tells, which is gone
 /// through once more on a desk of its own. `roster` is the view's. `NoOperation`, `NotOperation`,
 /// `AlreadyUndone` where the number isn't that of a live operation; `MissingBlock` where the view has
-/// left an item of its list; `NoMemory`.
+/// left an item of its list; `NoMemory`. (Also what refuses a change of the list, as can be once the
+/// view's source has mixed items up.)
 pub fn reasons_in<S: BlockSource + Drop>(
     alloc: Global,
     roster: Roster,
@@ -31,7 +33,8 @@ pub fn reasons_in<S: BlockSource + Drop>(
     requires { roster ≡ view.now.holding.roster }
     ensures reasons { let v = view.now.holding in IfOk result (λ numbers.
         AreReasons v.roster (history v.held) number numbers.items) }
-    ensures refused { let v = view.now.holding in IfErr result (λ e. (e ≡ NoMemory)
+    ensures refused { let v = view.now.holding in IsClear S.may_give view.now
+        → IfErr result (λ e. (e ≡ NoMemory)
         ⊎ ((e ≡ MissingBlock) × (0 < v.itemless))
         ⊎ (live_refusal (history v.held) number ≡ Some e)) }
 {
@@ -73,18 +76,17 @@ fn authors_of(alloc: Global, entries: &[Entry]) -> Result<Vec<User>, AllocError>
     Ok(authors)
 }
 
-/// Makes the desk of a good history, all of it loaded, over a store that has nothing. Fails only with
-/// `NoMemory`.
+/// Makes the desk of a history, all of it loaded, over a store that has nothing. Fails only with
+/// `NoMemory` where the history is good, else with what refuses a change.
 fn desk_after(
     alloc: Global,
     roster: Roster,
     entries: Vec<Entry>,
 ) -> Result<TrialDesk<MemoryBlocks>, Refusal>
-    requires { Good roster entries.items }
     ensures state { IfOk result (λ desk.
         desk.state ≡ nothing_ready (record { roster = roster; history = entries.items })) }
     ensures quiet { IfOk result IsQuiet }
-    ensures refused { IfErr result (λ e. e ≡ NoMemory) }
+    ensures refused { Good roster entries.items → IfErr result (λ e. e ≡ NoMemory) }
 {
     // names the type for the prover (docs/ARCHITECTURE.md, "Forms the kit wants")
     let _file: Option<FileId> = None;

@@ -1,5 +1,5 @@
 // A client at work on a script.
-ghost use Rattle.std.specs.Prelude.{◌≡◌, ℕ, List, Some, true, length};
+ghost use Rattle.std.specs.Prelude.{◌≡◌, ℕ, List, Some, length};
 ghost use Rattle.su_arguments.specs.Ranges.{IsUserCount};
 ghost use Rattle.su_client_work.specs.Work.{Works};
 ghost use Rattle.sundr.specs.Run.{AddsUnlessFault};
@@ -18,15 +18,15 @@ use std::net::{Net, TcpListener, TcpStream};
 use std::thread::Threads;
 use su_arguments::ClientArgs;
 use su_audit::tell_refused;
-use su_block::{BlockSource, Checked, MemoryBlocks};
-use su_bytes::{Roster, User};
-use su_client::Outbox;
+use su_block::BlockSource;
+use su_bytes::{FileId, Refusal, Roster, User};
 use su_client_script::{Ending, Fault, Manner, run_client};
-use su_client_work::{LogFault, Member, take_log};
+use su_client_work::{LinkSource, LogFault, Member, source_over, take_log};
 use su_desk_script::Status;
 use su_host::{Link, connect};
 use su_kept_key::KeptKey;
 use su_lms::{PublicKey, Signer};
+use su_no_blocks::NoBlocks;
 use su_view::View;
 
 /// Runs a script at a server, for a user with a key, as the command line asks for it. Where there is
@@ -81,6 +81,7 @@ where
     let manner = Manner {
         stops: args.stop,
         batches: args.batch,
+        leaves: args.leave_tree,
     };
     let ending = run_client(&mut program, alloc, reader, writer, &mut member, manner);
     put_leaf_back(rt, member.store());
@@ -128,7 +129,7 @@ fn member_with<'a, T>(
     rt: &'a HostRuntime,
     host: &T,
     args: &ClientArgs,
-    view: View<Checked<Items>>,
+    view: View<Source>,
     signer: Signer<KeptKey<'a>>,
 ) -> Result<Member<BufReader<TcpStream>, TcpStream, KeptKey<'a>>, ClientFault>
 where
@@ -164,7 +165,7 @@ fn view_at<T>(
     host: &T,
     args: &ClientArgs,
     user: User,
-) -> Result<View<Checked<Items>>, ClientFault>
+) -> Result<View<Source>, ClientFault>
 where
     T: Net<Listener = TcpListener, Stream = TcpStream> + Threads + Sync,
     requires { IsUserCount (length args.now.keys.items) }
@@ -219,8 +220,8 @@ where
     }
 }
 
-/// The items of a view, as a server gives them and is given them.
-type Items = Outbox<BufReader<TcpStream>, TcpStream>;
+/// Where the items and the parts of the tree come from.
+type Source = LinkSource<BufReader<TcpStream>, TcpStream>;
 
 /// A log that is open.
 #[derive(Drop)]
@@ -249,9 +250,7 @@ fn take<T: Threads + Sync, S: BlockSource + Drop>(
     alloc: Global,
     log: OpenLog<'_>,
     view: &mut View<S>,
-) -> Result<(), ClientFault>
-    requires { S.is_checked ≡ true }
-{
+) -> Result<(), ClientFault> {
     match take_log(host, alloc, log.reader, view) {
         Ok(_) => Ok(()),
         Err(LogFault::Refused { number, refusal }) => {
@@ -269,7 +268,8 @@ fn unread(alloc: Global, path: &str, reason: io::Error) -> ClientFault {
     }
 }
 
-/// Makes the view of a user, and takes the commits of the log, whose items go to the server.
+/// Makes the view of a user, and takes the commits of the log, whose items go to the server: so one
+/// that lost some has them again.
 fn view_of<T: Threads + Sync>(
     host: &T,
     alloc: Global,
@@ -277,22 +277,48 @@ fn view_of<T: Threads + Sync>(
     user: User,
     link: Link,
     log: Option<OpenLog<'_>>,
-) -> Result<View<Checked<Items>>, ClientFault> {
-    let items = Checked::new(Outbox::new(alloc, link));
-    let mut view = View::new(alloc, roster, user, items)?;
+) -> Result<View<Source>, ClientFault> {
+    let mut view = View::new(alloc, roster, user, source_over(alloc, link)?)?;
     let Some(log) = log else {
         return Ok(view);
     };
-    let taken = take(host, alloc, log, &mut view);
-    let outbox = view.source_mut().source_mut();
-    let put = outbox.settle(alloc);
-    let has_failed = outbox.client_mut().has_failed();
-    match (taken, put) {
-        _ if has_failed => Err(ClientFault::LinkFailed),
-        (Err(fault), _) => Err(fault),
-        (Ok(()), Err(_)) => Err(ClientFault::NoMemory),
-        (Ok(()), Ok(())) => Ok(view),
+    take(host, alloc, log, &mut view)?;
+    let put = put_items(alloc, &mut view);
+    match put {
+        _ if has_failed(&mut view) => Err(ClientFault::LinkFailed),
+        Ok(()) => Ok(view),
+        Err(_) => Err(ClientFault::NoMemory),
     }
+}
+
+/// Tells whether the link of a view's source has failed.
+fn has_failed(view: &mut View<Source>) -> bool {
+    let outbox = view.source_mut().source_mut().source_mut();
+    outbox.client_mut().has_failed()
+}
+
+/// Puts the items of a view's list to the server. Refused with `SourceFailed` where the link fails,
+/// and with `NoMemory`.
+fn put_items(alloc: Global, view: &mut View<Source>) -> Result<(), Refusal> {
+    // names the type for the prover (docs/ARCHITECTURE.md, "Forms the kit wants")
+    let _file: Option<FileId> = None;
+    let (count, _) = view.head();
+    for before in 0..count {
+        put_item(alloc, view, before + 1)?;
+    }
+    view.source_mut().source_mut().source_mut().settle(alloc)
+}
+
+/// Puts the item of the commit of that number, if the view has it; but not into the cache.
+fn put_item(alloc: Global, view: &mut View<Source>, number: u64) -> Result<(), Refusal> {
+    // as in `put_items`
+    let _file: Option<FileId> = None;
+    let Some((_, item)) = view.entry(number) else {
+        return Ok(());
+    };
+    let item = Vec::from_slice(alloc, item)?;
+    view.source_mut().source_mut().put(alloc, item.as_slice())?;
+    Ok(())
 }
 
 /// Takes the commits of the log without a server, only to see whether all can be taken.
@@ -306,7 +332,7 @@ fn check_log<T: Threads + Sync>(
     let Some(log) = log else {
         return Ok(());
     };
-    let mut view = View::new(alloc, roster, user, MemoryBlocks::new(alloc))?;
+    let mut view = View::new(alloc, roster, user, NoBlocks::new())?;
     take(host, alloc, log, &mut view)
 }
 

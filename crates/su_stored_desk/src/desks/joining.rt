@@ -11,13 +11,12 @@ ghost use Rattle.su_desk.specs.Version.{versions};
 ghost use Rattle.su_stored_desk.specs.Joined.{HasEach, IsJoined, IsKeptBefore, all_read, all_written};
 
 use super::Desk;
-use crate::entries::KeptEntry;
 use crate::kept::KeptOperation;
 use crate::versions::raise;
 use std::alloc::Global;
 use su_block::BlockSource;
 use su_bytes::{Principal, Refusal};
-use su_desk::Entry;
+use su_desk::{Entry, KeptEntry};
 use su_op::{Area, Footprint};
 use su_part_inverse::Inverse;
 

@@ -21,7 +21,7 @@ returns-clause-works g c = works_same c.args.member.now c.args.member.now refl
 pub returns-in-Ok-Line-clause-steps : goal.returns-in-Ok-Line-clause-steps
 returns-in-Ok-Line-clause-steps g c = λ input known.
     let (rest, left, is) = reads_at (Line c.in-Ok-Line.line) _ _ input (rw c.in-Ok-Line.field-0-is at c.in-Ok-Line.ensures) known in
-    steps_so g.P.Surroundings.may_connect (files_of g.P.Program.saves g.P.Program.opens) c.args.batches c.args.number input c.in-Ok-Line.line.items rest c.args.member.now c.line_step.new.member _
+    steps_so g.P.Surroundings.may_connect (files_of g.P.Program.saves g.P.Program.opens) c.args.manner.batches c.args.number input c.in-Ok-Line.line.items rest c.args.member.now c.line_step.new.member _
     (g.O.Write.contents c.args.output.now) (g.O.Write.contents c.line_step.new.output) c.line_step.result left is
     (λ none. let empty : length c.as_slice.result.now ≡ 0 = ap length (c.as_slice.ensures.value ∙ none) in grind (arith, nat_tests))
     (rw c.as_slice.ensures.value at c.line_step.ensures.steps) (rw c.as_slice.ensures.value at c.line_step.ensures.some)

@@ -21,6 +21,7 @@ returns-in-Ok-clause-carries g c =
       turn = c.plan_parts.new.member;
       parts = c.in-Ok.parts.items;
       plans = c.in-Ok.ensures.plans;
+      clear = c.commit_all.ensures.works.clear;
       committed = commits;
     }))) c.commit_all.ensures.commits
 
@@ -32,5 +33,6 @@ returns-in-Ok-clause-some g c =
       turn = c.plan_parts.new.member;
       parts = c.in-Ok.parts.items;
       plans = c.in-Ok.ensures.plans;
+      clear = c.commit_all.ensures.works.clear;
       committed = commits;
     })) c.commit_all.ensures.some

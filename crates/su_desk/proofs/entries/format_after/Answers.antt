@@ -1,5 +1,5 @@
 use Rattle.std.proofs.Common.{◌∙◌, sym}
-use Rattle.su_desk.proofs.Replies.{format_last}
+use Rattle.su_desk.proofs.FormatLemmas.{format_last}
 use Rattle.su_desk.proofs.entries.format_after.Goals as goal
 
 pub returns-in-Some : goal.returns-in-Some

@@ -3,9 +3,9 @@ use Rattle.su_view.proofs.ShownLemmas.{order_passes, order_refuses}
 use Rattle.su_view.proofs.last_commits.check_list.Goals as goal
 
 pub returns-clause-passes : goal.returns-clause-passes
-returns-clause-passes c =
+returns-clause-passes g c =
     order_passes c.check_own.result (holding_of c.args.keeping.now) c.args.shown.now (c.in-Ok.ensures.value.0 c.if-not-signed.false) _ c.roster.ensures _ c.own_record.ensures.last c.check_own.ensures.passes
 
 pub returns-clause-refused : goal.returns-clause-refused
-returns-clause-refused c =
+returns-clause-refused g c =
     order_refuses c.check_own.result (holding_of c.args.keeping.now) c.args.shown.now (c.in-Ok.ensures.value.0 c.if-not-signed.false) _ c.roster.ensures _ c.own_record.ensures.last c.check_own.ensures.refused

@@ -12,7 +12,7 @@ returns-in_err-commit-clause-refused g c =
     let v = c.args.view.now.holding in
     let found = c.in-Some.ensures in
     let k = found.committed in
-    let spelled = spelled_at v.roster [] v.held c.head-head.ensures.legal c.args.before k (behind v.held c.args.before k found.found) in
+    let spelled = spelled_at v.roster [] v.held c.head-head.ensures.chain c.head-head.ensures.changes c.args.before k (behind v.held c.args.before k found.found) in
     refused_by (λ e. (e ≡ NoMemory) ⊎ ((e ≡ MissingBlock) × (0 < v.itemless))) c.from_residual.result c.in_err-commit.field-0.0 c.from_residual.ensures.1
     (inl (refused_so c.decode.result k.commit c.in_err-commit.field-0.0 c.in_err-commit.was (c.decode.ensures.only k.commit spelled.is_commit found.commit_is)))
 
@@ -21,7 +21,7 @@ returns-in_err-change-clause-refused g c =
     let v = c.args.view.now.holding in
     let found = c.in-Some.ensures in
     let k = found.committed in
-    let spelled = spelled_at v.roster [] v.held c.head-head.ensures.legal c.args.before k (behind v.held c.args.before k found.found) in
+    let spelled = spelled_at v.roster [] v.held c.head-head.ensures.chain c.head-head.ensures.changes c.args.before k (behind v.held c.args.before k found.found) in
     refused_by (λ e. (e ≡ NoMemory) ⊎ ((e ≡ MissingBlock) × (0 < v.itemless))) c.from_residual-in_err-change.result c.in_err-change.field-0.0 c.from_residual-in_err-change.ensures.1
     (inl (refused_so c.decode-2.result k.change c.in_err-change.field-0.0 c.in_err-change.was (c.decode-2.ensures.only k.change spelled.is_change spelled.has_item found.item_is)))
 
@@ -31,7 +31,7 @@ returns-clause-value g c =
     let found = c.in-Some.ensures in
     let k = found.committed in
     let at = behind v.held c.args.before k found.found in
-    let spelled = spelled_at v.roster [] v.held c.head-head.ensures.legal c.args.before k at in
+    let spelled = spelled_at v.roster [] v.held c.head-head.ensures.chain c.head-head.ensures.changes c.args.before k at in
     let commit : c.in_ok-commit.commit ≡ k.commit = read_so c.decode.result k.commit c.in_ok-commit.commit c.in_ok-commit.was (c.decode.ensures.only k.commit spelled.is_commit found.commit_is) in
     let change : c.in_ok-change.change ≡ k.change = read_so c.decode-2.result k.change c.in_ok-change.change c.in_ok-change.was (c.decode-2.ensures.only k.change spelled.is_change spelled.has_item found.item_is) in
     let author : c.author.result ≡ c.in_ok-commit.commit.version.author = c.author.ensures.value ∙ ap (λ (x : Version). x.author) c.version-version.ensures.value in

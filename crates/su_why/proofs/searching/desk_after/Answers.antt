@@ -10,11 +10,11 @@ use Rattle.su_why.proofs.Quiets.{quiet_clear, stays_quiet}
 use Rattle.su_why.proofs.searching.desk_after.Goals as goal
 
 pub returns-in-Err-clause-refused : goal.returns-in-Err-clause-refused
-returns-in-Err-clause-refused c =
+returns-in-Err-clause-refused c = λ history_good.
     let d = c.loop-entry.desk.state.settled in
     let i = c.loop-entry.invariant in
     let e = c.in-Some.entry in
-    let good = subst (λ es. GoodAfter c.args.roster d.history es) c.in-Some.ensures.steps.0 i.good in
+    let good = subst (λ es. GoodAfter c.args.roster d.history es) c.in-Some.ensures.steps.0 (i.good history_good) in
     let accepted = subst (λ (ro : Membership). refusal_of ro d.history e ≡ None) (sym i.roster) good.0 in
     let quiet = stays_quiet c.loop-entry.desk c.apply_as.new.self c.apply_as.ensures.asks i.quiet in
     let told = answers_accepted d e c.apply_as.result c.apply_as.new.self.state.settled (c.apply_as.ensures.answered (quiet_clear c.apply_as.new.self quiet)) accepted in
@@ -27,7 +27,6 @@ loop-entry-preserved c =
     let e = c.in-Some.entry in
     let rest = into_iter_items c.next.new.self in
     let step = c.in-Some.ensures.steps.0 in
-    let good = subst (λ es. GoodAfter c.args.roster d.history es) step i.good in
     let quiet = stays_quiet c.loop-entry.desk c.apply_as.new.self c.apply_as.ensures.asks i.quiet in
     let done : c.apply_as.new.self.state.settled ≡ with_entry d e = (c.in_default.ensures.answered (quiet_clear c.apply_as.new.self quiet)).1 in
     record {
@@ -37,7 +36,8 @@ loop-entry-preserved c =
           ∙ append_assoc d.history (e ∷ []) rest
           ∙ ap (λ es. d.history ++ es) (sym step)
           ∙ i.all;
-      good = subst (λ (x : DeskState). GoodAfter c.args.roster x.history rest) (sym done) good.1;
+      good = λ history_good.
+          subst (λ (x : DeskState). GoodAfter c.args.roster x.history rest) (sym done) (subst (λ es. GoodAfter c.args.roster d.history es) step (i.good history_good)).1;
       quiet = quiet;
       count = search rules;
     }

@@ -5,4 +5,4 @@ pub loop-init : goal.loop-init
 loop-init g c = follows_itself c.args.self.now
 
 pub loop-preserved : goal.loop-preserved
-loop-preserved g c = follows_on c.args.self.now c.loop.self c.pass_one.new.self c.loop.invariant c.pass_one.ensures
+loop-preserved g c = follows_on c.args.self.now c.loop.self c.pass_one.new.self c.loop.invariant c.pass_one.ensures.follows

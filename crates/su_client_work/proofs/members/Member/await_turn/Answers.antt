@@ -1,11 +1,10 @@
-use Rattle.std.proofs.Common.{refl}
 use Rattle.su_client.specs.Following.{follows_itself, follows_on}
-use Rattle.su_client_work.proofs.Turns.{granted_later, stays_then, ungranted_later}
+use Rattle.su_client_work.proofs.Turns.{granted_later, stays_itself, stays_then, ungranted_later}
 use Rattle.su_client_work.proofs.members.Member.await_turn.Goals as goal
 
 pub loop-init : goal.loop-init
 loop-init g c = record {
-  stays = record { holding = refl; signed = refl; next = refl };
+  stays = stays_itself c.args.self.now;
   follows = follows_itself c.args.self.now.link;
 }
 

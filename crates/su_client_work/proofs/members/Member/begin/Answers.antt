@@ -1,6 +1,7 @@
 use Rattle.std.proofs.Common.{inr}
 use Rattle.su_client.specs.Following.{follows_on}
 use Rattle.su_client_work.proofs.Turns.{comes_on, gives_up_after}
+use Rattle.su_client_work.proofs.Taking.{only_stays, only_then}
 use Rattle.su_client_work.proofs.members.Member.begin.Goals as goal
 
 pub returns-in-Ok-catch_up-clause-link : goal.returns-in-Ok-catch_up-clause-link
@@ -19,3 +20,12 @@ returns-clause-refused g c = inr (record {
   granted = c.in-Ok.ensures.granted;
   gives_up = gives_up_after c.take_turn.new.self.link c.catch_up.new.self.link c.give_up.new.self.link c.catch_up.ensures.follows c.give_up.ensures.gives_up;
 })
+
+pub returns-in-Ok-catch_up-clause-takes : goal.returns-in-Ok-catch_up-clause-takes
+returns-in-Ok-catch_up-clause-takes g c =
+    only_then c.args.self.now c.take_turn.new.self c.catch_up.new.self (only_stays c.args.self.now c.take_turn.new.self c.take_turn.ensures.stays) c.catch_up.ensures.takes
+
+pub returns-clause-takes : goal.returns-clause-takes
+returns-clause-takes g c =
+    only_then c.args.self.now c.take_turn.new.self c.give_up.new.self (only_stays c.args.self.now c.take_turn.new.self c.take_turn.ensures.stays)
+    (only_then c.take_turn.new.self c.catch_up.new.self c.give_up.new.self c.catch_up.ensures.takes (only_stays c.catch_up.new.self c.give_up.new.self c.give_up.ensures.stays))

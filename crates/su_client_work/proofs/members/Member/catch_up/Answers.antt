@@ -7,6 +7,7 @@ use Rattle.su_view.specs.LastCommits.{shown_order}
 use Rattle.su_client.specs.Following.{follows_on}
 use Rattle.su_client_work.specs.Member.{MemberState}
 use Rattle.su_client_work.proofs.Turns.{caught_so, passes_shown}
+use Rattle.su_client_work.proofs.Taking.{only_stays, only_then}
 use Rattle.su_client_work.proofs.members.Member.catch_up.Goals as goal
 
 pub returns-in_err-take_up_to-clause-follows : goal.returns-in_err-take_up_to-clause-follows
@@ -26,3 +27,14 @@ pub returns-clause-caught_up : goal.returns-clause-caught_up
 returns-clause-caught_up g c =
     caught_so c.check_list.result c.args.count c.take_up_to.new.self.holding c.args.self.now.link c.last_commits.new.self.link c.take_up_to.new.self.link
     c.last_commits.ensures.follows c.in_ok-take_up_to.ensures.caught_up
+
+pub returns-in_err-shown-clause-takes : goal.returns-in_err-shown-clause-takes
+returns-in_err-shown-clause-takes g c = only_stays c.args.self.now c.last_commits.new.self c.last_commits.ensures.stays
+
+pub returns-in_err-take_up_to-clause-takes : goal.returns-in_err-take_up_to-clause-takes
+returns-in_err-take_up_to-clause-takes g c =
+    only_then c.args.self.now c.last_commits.new.self c.take_up_to.new.self (only_stays c.args.self.now c.last_commits.new.self c.last_commits.ensures.stays) c.take_up_to.ensures.takes
+
+pub returns-clause-takes : goal.returns-clause-takes
+returns-clause-takes g c =
+    only_then c.args.self.now c.last_commits.new.self c.take_up_to.new.self (only_stays c.args.self.now c.last_commits.new.self c.last_commits.ensures.stays) c.take_up_to.ensures.takes

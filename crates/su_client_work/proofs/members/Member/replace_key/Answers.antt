@@ -9,6 +9,7 @@ returns g c =
     record {
       holding = ap (λ (x : MemberState). x.holding) c.self.view_is;
       link = ap (λ (x : MemberState). x.link) c.self.view_is;
+      asked = ap (λ (x : MemberState). x.asked) c.self.view_is;
       signed = c.replace.ensures.signed ∙ ap (λ (x : MemberState). x.signed) c.self.view_is;
       next = λ i. record { keys = keys i; leaf = c.replace.ensures.next i };
     }

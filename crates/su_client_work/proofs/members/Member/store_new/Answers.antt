@@ -1,16 +1,28 @@
 use Rattle.std.proofs.Common.{◌≡◌, length, sym, ap, subst, inr}
 use Rattle.su_client.specs.Link.{LinkState, Follows}
 use Rattle.su_client.specs.Following.{follows_on}
-use Rattle.su_client.specs.Outbox.{contents, IsHandedIn, WaitsToo}
-use Rattle.su_change.specs.Item.{item_bytes}
+use Rattle.su_client.specs.Outbox.{contents, IsHandedIn}
 use Rattle.su_client_work.specs.Member.{MemberState}
+use Rattle.su_client_work.proofs.Asked.{clear_back, clear_from, clear_to}
 use Rattle.su_client_work.proofs.Turns.{is_stored}
 use Rattle.su_client_work.proofs.members.Member.store_new.Goals.{in-Ok-hand_over, in-Err}
 use Rattle.su_client_work.proofs.members.Member.store_new.Goals as goal
 
+pub returns-clause-clear : goal.returns-clause-clear
+returns-clause-clear g c = clear_back _ c.args.self.now _ _ _ _ (ap (λ (x : MemberState). x.holding) c.self.view_is) (ap (λ (x : MemberState). x.asked) c.self.view_is) c.make.ensures.clear
+
 pub returns-clause-signs : goal.returns-clause-signs
 returns-clause-signs g c =
-    rw (sym c.self.view_is) (inr (c.in_ok-commit.commit, record { made = c.in_ok-commit.ensures.made; signed = c.in_ok-commit.ensures.signed; next = λ i. record { keys = length (c.in_ok-commit.ensures.same_former i); leaf = c.in_ok-commit.ensures.used i } }))
+    rw (sym c.self.view_is) (inr (
+      c.in_ok-commit.commit,
+      record {
+        of_change = c.in_ok-commit.ensures.of_change;
+        made = λ clear. c.in_ok-commit.ensures.made (clear_to _ _ _ clear);
+        clear = λ clear. clear_from _ _ _ (c.make.ensures.clear (clear_to _ _ _ clear));
+        signed = c.in_ok-commit.ensures.signed;
+        next = λ i. record { keys = length (c.in_ok-commit.ensures.same_former i); leaf = c.in_ok-commit.ensures.used i };
+      },
+    ))
 
 pub returns-clause-follows : goal.returns-clause-follows
 returns-clause-follows g c =
@@ -21,9 +33,9 @@ returns-clause-follows g c =
     let three = c.source_mut-3.ensures.value in
     let four = c.source_mut-outbox.ensures.value in
     let first : c.forget.new.self.client.link ≡ c.args.self.now.link = cc in
-    let second : c.source_mut-outbox.result.now.client.link ≡ c.make.new.self.source.source.client.link = cc in
-    follows_on c.args.self.now.link c.make.new.self.source.source.client.link c.hand_over.new.outbox.client.link
-    (subst (λ (l : LinkState). Follows l c.make.new.self.source.source.client.link) first c.make.ensures.follows)
+    let second : c.source_mut-outbox.result.now.client.link ≡ c.make.new.self.source.source.source.client.link = cc in
+    follows_on c.args.self.now.link c.make.new.self.source.source.source.client.link c.hand_over.new.outbox.client.link
+    (subst (λ (l : LinkState). Follows l c.make.new.self.source.source.source.client.link) first c.make.ensures.follows)
     (subst (λ (l : LinkState). Follows l c.hand_over.new.outbox.client.link) second c.hand_over.ensures.follows)
 
 pub returns-clause-stored : goal.returns-clause-stored
@@ -35,17 +47,45 @@ returns-clause-stored g c =
     let three = c.source_mut-3.ensures.value in
     let four = c.source_mut-outbox.ensures.value in
     let first : c.forget.new.self.client.link ≡ c.args.self.now.link = cc in
-    let second : c.source_mut-outbox.result.now ≡ c.make.new.self.source.source = cc in
+    let second : c.source_mut-outbox.result.now ≡ c.make.new.self.source.source.source = cc in
+    let (here, asked, waits) = c.in_ok-commit.ensures.puts in
     elim c.match-hand_over.branch [
       | in-Ok-hand_over w ↦ rw w.result-is (record {
-        signs = rw (sym c.self.view_is) (record { made = c.in_ok-commit.ensures.made; signed = c.in_ok-commit.ensures.signed; next = λ i. record { keys = length (c.in_ok-commit.ensures.same_former i); leaf = c.in_ok-commit.ensures.used i } });
-        stored = is_stored c.args.change c.in_ok-commit.commit c.in-Ok.bytes.items (contents c.forget.new.self.waiting.items) (contents c.make.new.self.source.source.waiting.items) c.args.self.now.link
-            c.make.new.self.source.source.client.link c.hand_over.new.outbox.client.link w.in-Ok-hand_over.field-0 (ap contents c.forget.ensures.waiting)
-            (subst (λ (l : LinkState). WaitsToo (contents c.forget.new.self.waiting.items) (item_bytes c.args.change) l (contents c.make.new.self.source.source.waiting.items)
-            c.make.new.self.source.source.client.link) first c.in_ok-commit.ensures.puts)
-            c.in-Ok.ensures.value
+        signs = rw (sym c.self.view_is) (record {
+          of_change = c.in_ok-commit.ensures.of_change;
+          made = λ clear. c.in_ok-commit.ensures.made (clear_to _ _ _ clear);
+          clear = λ clear. clear_from _ _ _ (c.make.ensures.clear (clear_to _ _ _ clear));
+          signed = c.in_ok-commit.ensures.signed;
+          next = λ i. record { keys = length (c.in_ok-commit.ensures.same_former i); leaf = c.in_ok-commit.ensures.used i };
+        });
+        stored = is_stored c.args.change c.in_ok-commit.commit c.in-Ok.bytes.items (contents here.source.source.waiting.items) (contents c.make.new.self.source.source.source.waiting.items) c.args.self.now.link
+            here.source.source.client.link c.make.new.self.source.source.source.client.link c.hand_over.new.outbox.client.link w.in-Ok-hand_over.field-0
+            (subst (λ (l : LinkState). Follows l here.source.source.client.link) first asked) waits c.in-Ok.ensures.value
             (subst (λ o. IsHandedIn (contents o.waiting.items) c.in-Ok.bytes.items o.client.link c.hand_over.new.outbox.client.link w.in-Ok-hand_over.field-0) second
             w.in-Ok-hand_over.ensures.handed_in);
       })
       | in-Err w ↦ rw w.result-is tt
     ]
+
+-- ---- it was signed, and not handed in
+
+pub returns-in_default-clause-clear : goal.returns-in_default-clause-clear
+returns-in_default-clause-clear g c = clear_back _ c.args.self.now _ _ _ _ (ap (λ (x : MemberState). x.holding) c.self.view_is) (ap (λ (x : MemberState). x.asked) c.self.view_is) c.make.ensures.clear
+
+pub returns-in_default-clause-signs : goal.returns-in_default-clause-signs
+returns-in_default-clause-signs g c =
+    rw (sym c.self.view_is) (inr (
+      c.in_ok-commit.commit,
+      record {
+        of_change = c.in_ok-commit.ensures.of_change;
+        made = λ clear. c.in_ok-commit.ensures.made (clear_to _ _ _ clear);
+        clear = λ clear. clear_from _ _ _ (c.make.ensures.clear (clear_to _ _ _ clear));
+        signed = c.in_ok-commit.ensures.signed;
+        next = λ i. record { keys = length (c.in_ok-commit.ensures.same_former i); leaf = c.in_ok-commit.ensures.used i };
+      },
+    ))
+
+-- ---- none was made
+
+pub returns-in_err-commit-clause-clear : goal.returns-in_err-commit-clause-clear
+returns-in_err-commit-clause-clear g c = clear_back _ c.args.self.now _ _ _ _ (ap (λ (x : MemberState). x.holding) c.self.view_is) (ap (λ (x : MemberState). x.asked) c.self.view_is) c.make.ensures.clear

@@ -1,16 +1,11 @@
-use Rattle.std.proofs.Common.{◌∙◌, subst}
 use Rattle.su_client.specs.Following.{follows_on}
-use Rattle.su_view.specs.Holding.{HoldingState}
-use Rattle.su_view.specs.Acting.{TakesSome}
+use Rattle.su_client_work.proofs.Taking.{only_stays, only_then}
 use Rattle.su_client_work.proofs.Turns.{more_after}
 use Rattle.su_client_work.proofs.members.Member.take_next.Goals as goal
 
 pub returns-clause-takes : goal.returns-clause-takes
-returns-clause-takes g c = record {
-  takes = subst (λ (v : HoldingState). TakesSome v c.take_one.new.self.holding) c.make_ready.ensures.stays.holding c.take_one.ensures.takes.takes;
-  signed = c.take_one.ensures.takes.signed ∙ c.make_ready.ensures.stays.signed;
-  next = c.take_one.ensures.takes.next ∙ c.make_ready.ensures.stays.next;
-}
+returns-clause-takes g c =
+    only_then c.args.self.now c.make_ready.new.self c.take_one.new.self (only_stays c.args.self.now c.make_ready.new.self c.make_ready.ensures.stays) c.take_one.ensures.takes
 
 pub returns-clause-follows : goal.returns-clause-follows
 returns-clause-follows g c = follows_on c.args.self.now.link c.make_ready.new.self.link c.take_one.new.self.link c.make_ready.ensures.follows c.take_one.ensures.follows

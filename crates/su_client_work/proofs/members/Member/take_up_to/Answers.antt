@@ -1,36 +1,20 @@
-use Rattle.std.proofs.Common.{◌∙◌, ap, arith, inl, length, refl, sym}
-use Rattle.su_client.specs.Following.{follows_itself, follows_on}
-use Rattle.su_client_work.specs.Member.{MemberState}
-use Rattle.su_client_work.proofs.Taking.{takes_none}
-use Rattle.su_client_work.proofs.Turns.{only_then, caught_one, lacks_many}
+use Rattle.std.proofs.Common.{subst, sym}
+use Rattle.su_client.specs.Following.{follows_on}
+use Rattle.su_view.specs.Holding.{HoldingState}
+use Rattle.su_client_work.specs.Turn.{IsCaughtUp}
+use Rattle.su_client_work.proofs.Taking.{only_stays, only_then}
+use Rattle.su_client_work.proofs.Turns.{caught_on}
 use Rattle.su_client_work.proofs.members.Member.take_up_to.Goals as goal
 
-pub loop-before-init : goal.loop-before-init
-loop-before-init g c =
-    let told = ap (λ p. p.0) c.head-held.ensures.value in
-    let held = ap (λ (x : MemberState). length x.holding.held) c.self.view_is in
-    record {
-      takes = record { takes = takes_none c.args.self.now.holding; signed = refl; next = refl };
-      follows = follows_itself c.args.self.now.link;
-      caught_up = inl (omega (arith, told, held));
-    }
+pub returns-clause-takes : goal.returns-clause-takes
+returns-clause-takes g c =
+    only_then c.args.self.now c.take_many.new.self c.pass_over.new.self c.take_many.ensures.takes (only_stays c.take_many.new.self c.pass_over.new.self c.pass_over.ensures.stays)
 
-pub returns-in_err-take_next-clause-takes : goal.returns-in_err-take_next-clause-takes
-returns-in_err-take_next-clause-takes g c = only_then c.args.self.now c.loop-before.self c.take_next.new.self c.loop-before.invariant.takes c.take_next.ensures.takes
+pub returns-clause-follows : goal.returns-clause-follows
+returns-clause-follows g c =
+    follows_on c.args.self.now.link c.take_many.new.self.link c.pass_over.new.self.link c.take_many.ensures.follows c.pass_over.ensures.follows
 
-pub returns-in_err-take_next-clause-follows : goal.returns-in_err-take_next-clause-follows
-returns-in_err-take_next-clause-follows g c =
-    follows_on c.args.self.now.link c.loop-before.self.link c.take_next.new.self.link c.loop-before.invariant.follows c.take_next.ensures.follows
-
-pub loop-before-preserved : goal.loop-before-preserved
-loop-before-preserved g c = record {
-  takes = only_then c.args.self.now c.loop-before.self c.take_next.new.self c.loop-before.invariant.takes c.take_next.ensures.takes;
-  follows = follows_on c.args.self.now.link c.loop-before.self.link c.take_next.new.self.link c.loop-before.invariant.follows c.take_next.ensures.follows;
-  caught_up = caught_one c.loop-before.before c.loop-before.self.holding c.take_next.new.self.holding c.args.self.now.link c.loop-before.self.link c.take_next.new.self.link
-      c.loop-before.invariant.follows c.take_next.ensures.follows c.loop-before.invariant.caught_up c.in_ok-take_next.ensures.more;
-}
-
-pub returns-then-lacks_many-clause-caught_up : goal.returns-then-lacks_many-clause-caught_up
-returns-then-lacks_many-clause-caught_up g c =
-    lacks_many c.args.count c.loop-before.before c.loop-before.self.holding c.args.self.now.link c.loop-before.self.link (sym c.lacks_many.ensures ∙ c.if-lacks_many.true)
-    c.loop-before.invariant.caught_up
+pub returns-clause-caught_up : goal.returns-clause-caught_up
+returns-clause-caught_up g c =
+    subst (λ (v : HoldingState). IsCaughtUp c.args.count v c.args.self.now.link c.pass_over.new.self.link) (sym c.pass_over.ensures.stays.holding)
+    (caught_on c.args.count c.take_many.new.self.holding c.args.self.now.link c.take_many.new.self.link c.pass_over.new.self.link c.in_ok-take_many.ensures.caught_up c.pass_over.ensures.follows)

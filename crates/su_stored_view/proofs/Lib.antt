@@ -1,6 +1,0 @@
-pub mod AskLemmas
-pub mod KeepingLemmas
-pub mod JoinLemmas
-pub mod ShownLemmas
-pub mod MakeLemmas
-pub mod ListLemmas

@@ -1,5 +1,0 @@
-use Rattle.std.proofs.Common.{length}
-use Rattle.su_view.proofs.holdings.drafts.+are_carried.Given as goal
-
-abbrev pub decreases-are_carried : goal.decreases-are_carried
-decreases-are_carried l = length l.groups.now
