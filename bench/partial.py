@@ -5,8 +5,9 @@ hand: `bench/partial.py [FOLDER]`; the log is kept in FOLDER for the next time, 
 The log makes 100,000 files in one directory, some ten kilobytes each, and one file of 1 MiB: 1 GiB in all, as many files as have room in
 one commit, and ends with a rekey to a key that the clients sign with (bench/audit.py says of what kind its own key is). A server with a
 store has it. In one run it prints
-- of a client that takes the log (--log), makes a commit, reads the large file, twice, and makes another commit: seconds until each of
-  them was answered, bytes that went over the link meanwhile, and the client's memory then, and at the highest;
+- of a client that keeps its tree (--keep-tree): it takes the log (--log), makes a commit, reads the large file, twice, and makes another
+  commit: seconds until each of them was answered, bytes that went over the link meanwhile, and the client's memory then, and at the
+  highest;
 - the same of one that leaves its tree on the server behind each of its commits;
 - of git: seconds of a clone without blobs of a repository of the same files, and of one file's blob, with the bytes that came, and memory
   at the highest.
@@ -156,7 +157,7 @@ def clients(room, folder, sizes):
     read = b"cat /f%d 0 %d" % (sizes["files"] + 2, LARGE)
     store.feed(roster, f"{room}/store", log, count)
     with storing.Keeping(roster, f"{room}/store", cache=sizes["cache"]) as server:
-        for number, (name, options) in enumerate((("a client", []), ("one with --leave-tree", ["--leave-tree"]))):
+        for number, (name, options) in enumerate((("one with --keep-tree", ["--keep-tree"]), ("a client", []))):
             with open(key, "wb") as file:
                 file.write(signing_key().file(2 * number))
             lines = (("commits", b"mkdir /a%d" % number), ("reads", read), ("reads again", read), ("commits again", b"mkdir /b%d" % number))

@@ -43,7 +43,7 @@ _sundr() {
         audit) options="--log" files=-f ;;
         serve)
             options="--port --listen --workers --capacity --turn-seconds --idle-minutes --sessions --store --cache" files=-f ;;
-        client) options="--port --user --key --log --tries --leaves-ahead --next-key --stop --batch --leave-tree" files=-f ;;
+        client) options="--port --user --key --log --tries --leaves-ahead --next-key --stop --batch --keep-tree" files=-f ;;
         backup) options="--port --to" files=-f ;;
         help)
             [ "$COMP_CWORD" -gt 2 ] || _sundr_words "init put get ls cat mkdir mv rm ln history show diff undo status compare

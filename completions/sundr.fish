@@ -89,5 +89,5 @@ complete -c sundr -n '__sundr_at client' -l leaves-ahead -x -d 'Signatures of on
 complete -c sundr -n '__sundr_at client' -l next-key -r -F -d 'How the files of next keys begin'
 complete -c sundr -n '__sundr_at client' -l stop -d 'End at the first refusal'
 complete -c sundr -n '__sundr_at client' -l batch -d 'Commit a command as one'
-complete -c sundr -n '__sundr_at client' -l leave-tree -d 'Leave the tree on the server'
+complete -c sundr -n '__sundr_at client' -l keep-tree -d 'Keep the tree in memory'
 complete -c sundr -n '__sundr_at backup' -l to -x -a '(__fish_complete_directories)' -d 'The folder of the copy'

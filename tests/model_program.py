@@ -47,7 +47,7 @@ def arguments():
     client.add_argument("--leaves-ahead", type=in_range(1, 16), default=16)
     client.add_argument("--stop", action="store_true")
     client.add_argument("--batch", action="store_true")
-    client.add_argument("--leave-tree", action="store_true")
+    client.add_argument("--keep-tree", action="store_true")
     audit = programs.add_parser("audit")
     audit.add_argument("--log", required=True)
     for program in (serve, client, audit):

@@ -1,5 +1,5 @@
 #!/usr/bin/env python3
-"""Tries `sundr client --leave-tree`, whose tree lies on the server, which is a second one (model_server.py) that may lack, lie about or
+"""Tries `sundr client`, whose tree lies on the server, which is a second one (model_server.py) that may lack, lie about or
 forget what a client left there: more than the client's cache keeps, so that what is asked of the tree is asked of the server.
 
 usage: partial.py [PART..]    without the built program it tries nothing
@@ -77,7 +77,7 @@ BATCH_LEAF = 16  # the first leaf that no commit of the list was signed with
 class Walk:
     """A client at a server of trees, once it has left its tree there."""
 
-    def __init__(self, at, options=("--leave-tree",)):
+    def __init__(self, at, options=()):
         self.room, self.options = serving.Room(at), options
         records, self.names = many(self.room)
         self.service = Trees(self.room.public_keys, records)
@@ -117,8 +117,8 @@ def left(at):
 
 
 def unleft(at):
-    """A client that isn't told to leaves nothing of its tree, and asks for nothing of it."""
-    with Walk(at, ()) as walk:
+    """A client that is told to keep its tree leaves nothing of it, and asks for nothing of it."""
+    with Walk(at, ("--keep-tree",)) as walk:
         yield "a_commit", walk.say(b"create /g") == [b"ok %d" % (walk.count + 1)]
         yield f"nothing_is_left: {walk.service.puts}", walk.service.puts == 1
         yield f"or_asked_for: {walk.service.gets}", walk.say(b"ls /") == sorted([*walk.names, b"g G0:2"]) and walk.service.gets == 0
@@ -177,7 +177,7 @@ def at_a_server(at):
         stored = [serving.hand_in(link, commit, item) for commit, item in records]
         yield f"it_is_handed_in: {stored[-1:]}", stored[-1:] == [("stored", len(records))]
         link.close()
-        zero, one = (room.client(server.port, user, "--leave-tree", key=key) for user, key in enumerate(keys))
+        zero, one = (room.client(server.port, user, key=key) for user, key in enumerate(keys))
         with zero, one:
             yield "zero_leaves_its_tree", zero.say(b"create /g") == [b"ok %d" % (len(records) + 1)]
             both = sorted([*names, b"g G0:2"])

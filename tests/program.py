@@ -99,7 +99,7 @@ CASES = {
     "help_of_keys": (["keygen", "--help"], "", ("--entropy <FILE>",), 0),
     "help_of_the_server": (["serve", "--help"], "", ("--port", "--workers", "--capacity", "--sessions", "--store", "--cache"), 0),
     "help_of_backups": (["backup", "--help"], "", ("--port", "--to", "ok N new M"), 0),
-    "help_of_the_client": (["client", "--help"], "", ("undo_last", "save FILE", "--user", "--key", "--log", "--tries", "--leaves-ahead", "--next-key", "rekey FILE", "--stop", "--leave-tree", *["--batch"] * serving.CLIENT_BATCHES), 0),
+    "help_of_the_client": (["client", "--help"], "", ("undo_last", "save FILE", "--user", "--key", "--log", "--tries", "--leaves-ahead", "--next-key", "rekey FILE", "--stop", "--keep-tree", *["--batch"] * serving.CLIENT_BATCHES), 0),
     "version": (["-V"], "", "sundr 0.1.0\n", 0),
 }
 

@@ -414,7 +414,14 @@ def small_cache(at):
 # ---- items that no commit names
 
 SHARDS, LEAST_STAYING, LARGEST_ITEM = 16, 1_048_576, 70_000  # of these items a shard has room for some, however small the cache is
+OUTSIDE_TURNS = LEAST_STAYING // 4 * 3  # what of that is for items that come outside a turn
+COST = 256  # what an item counts for besides its bytes
 ITEMS = 400
+
+
+def fit(room):
+    """How many of the largest items there is room for in so many bytes of each shard."""
+    return SHARDS * (room // (LARGEST_ITEM + COST))
 
 
 def item_of(number):
@@ -441,7 +448,7 @@ def room_of_items(at):
     with Keeping(room, store, cache=1) as server:
         link = wire.connect(server.port)
         held, refused = put_all(link, range(ITEMS))
-        is_full = len(held) == SHARDS * (LEAST_STAYING // LARGEST_ITEM) and len(held) + len(refused) == ITEMS
+        is_full = len(held) == fit(OUTSIDE_TURNS) and len(held) + len(refused) == ITEMS
         yield f"as_many_as_there_is_room_for: {len(held)} {len(refused)}", is_full
         given = [serving.reply_to(link, wire.get(sha256(item_of(number)))) == ("item", item_of(number)) for number in held]
         yield "those_that_were_put_stay", all(given)
@@ -455,7 +462,13 @@ def room_of_items(at):
         yield f"which_makes_room_for_one: {more}", len(more) == 1
         yield "and_is_there_still", serving.reply_to(link, wire.get(sha256(kept))) == ("item", kept)
         yield "and_may_be_put_again", put_all(link, held[:1]) == (held[:1], [])
-        yield "which_takes_no_room", put_all(link, more) == (more, []) and put_all(link, set(refused) - set(more))[0] == []
+        left = sorted(set(refused) - set(more))
+        yield "which_takes_no_room", put_all(link, more) == (more, []) and put_all(link, left) == ([], left)
+        yield "the_turn_is_taken", serving.reply_to(link, wire.GRANT)[0] == "granted"
+        within, beyond = put_all(link, left)
+        yield f"within_it_there_is_room_besides: {len(within)}", len(within) == fit(LEAST_STAYING) - fit(OUTSIDE_TURNS)
+        given = serving.reply_to(link, wire.GIVE)
+        yield f"which_ends_with_it: {given}", given[0] == "given" and put_all(link, beyond) == ([], beyond)
         link.close()
         server.kill()
     with Keeping(room, store, cache=1) as server:
@@ -508,8 +521,8 @@ def tiny_items(at):
         while count < 200_000 and serving.reply_to(link, wire.put(count.to_bytes(4, "big")))[0] != "refused":
             count += 1
         grown = serving.memory(server, "VmHWM") - before
-        print(f"storing: {count} items of 4 bytes fill a room of 16 MiB, {grown // 1000000} MB of memory")
-        yield f"as_many_as_are_counted: {count}", count <= SHARDS * LEAST_STAYING // 260
+        print(f"storing: {count} items of 4 bytes fill a room of 12 MiB, {grown // 1000000} MB of memory")
+        yield f"as_many_as_are_counted: {count}", count <= SHARDS * OUTSIDE_TURNS // 260
         yield f"and_no_more_memory_than_that_by_half: {grown}", 0 < grown < SHARDS * LEAST_STAYING * 3 // 2
         link.close()
 

@@ -190,8 +190,9 @@ Each operation that a command comes to is a commit. With --batch all that an
 item has room for are one, which is taken back as one: 256 operations, with
 70,000 bytes, at most.
 
-With --leave-tree the client leaves its tree on the server behind each commit,
-and asks for what it needs of it: it has less in memory, and the server more.
+Behind a command that made a commit the client leaves its tree on the server, as
+long as its session lasts, and asks for what it needs of it. With --keep-tree it
+keeps the tree in memory, and the server needs no room for it.
 
 A script has a command a line. Each is answered before the next line is read. A
 run knows no commits but those of its `--log`: without one any list that follows

@@ -53,7 +53,7 @@ pub struct ClientArgs {
     pub next_key: Option<String>,
     pub stop: bool,
     pub batch: bool,
-    pub leave_tree: bool,
+    pub keep_tree: bool,
     pub keys: Vec<String>,
 }
 
@@ -140,7 +140,7 @@ pub(crate) fn client_command<'a>(alloc: Global, help: &'a str) -> Result<Command
     let next_key = "Near a key's end the next one is made, in a file PREFIX-..";
     let stop = "It ends at the first command that is refused, with status 1";
     let batch = "Commits a command as one, as far as an item has room";
-    let leave_tree = "Leaves the tree on the server behind each commit";
+    let keep_tree = "Keeps the tree in memory, and doesn't leave it on the server";
     Draft::of(command)
         .arg(needed_port(alloc, SERVER_PORT))
         .arg(user(alloc))
@@ -151,7 +151,7 @@ pub(crate) fn client_command<'a>(alloc: Global, help: &'a str) -> Result<Command
         .arg(option(alloc, "next-key", "PREFIX", next_key))
         .arg(flag(alloc, "stop", stop))
         .arg(flag(alloc, "batch", batch))
-        .arg(flag(alloc, "leave-tree", leave_tree))
+        .arg(flag(alloc, "keep-tree", keep_tree))
         .arg(needed_keys(alloc))
         .finish()
 }
@@ -251,7 +251,7 @@ pub(crate) fn backup_of(alloc: Global, values: &ArgMatches<'_>) -> Result<Line, 
 }
 
 /// `client --port P --user U --key FILE [--log FILE] [--tries T] [--leaves-ahead N]
-/// [--next-key PREFIX] [--stop] [--batch] [--leave-tree] PUB..`
+/// [--next-key PREFIX] [--stop] [--batch] [--keep-tree] PUB..`
 pub(crate) fn client_of(alloc: Global, values: &ArgMatches<'_>) -> Result<Line, LineFault>
     ensures { IfOk result HasGoodNumbers }
 {
@@ -278,7 +278,7 @@ pub(crate) fn client_of(alloc: Global, values: &ArgMatches<'_>) -> Result<Line, 
         next_key: copy(alloc, values.get_str("next-key"))?,
         stop: values.get_flag("stop"),
         batch: values.get_flag("batch"),
-        leave_tree: values.get_flag("leave-tree"),
+        keep_tree: values.get_flag("keep-tree"),
         keys,
     }))
 }

@@ -7,7 +7,7 @@ use std::test::Fail;
 use std::thread::{Threads, join};
 use su_block::digest_of;
 use su_bytes::{Digest, Refusal};
-use su_shared_items::{SessionItems, SharedBlocks};
+use su_shared_items::{Purpose, SessionItems, SharedBlocks};
 
 #[test]
 fn two_threads_put_and_another_gets(rt: HostRuntime) -> Result<(), Fail> {
@@ -45,7 +45,7 @@ fn lend<R: Wait>(
     session: &mut SessionItems<'_>,
     item: &[u8],
 ) -> Option<Digest> {
-    session.put(rt, alloc, item).ok()
+    session.put(rt, alloc, item, Purpose::Commit).ok()
 }
 
 fn share<R: Wait>(rt: &R, alloc: Global, blocks: &SharedBlocks, item: &[u8]) -> bool {

@@ -18,7 +18,7 @@ use su_message::{Bytes, Reply, Request};
 use su_own_service::{reply_or_refusal, told};
 use su_session::{Attend, Service};
 use su_shared::{BookName, Record, Seat, SharedBook};
-use su_shared_items::{SessionItems, SharedBlocks};
+use su_shared_items::{Purpose, SessionItems, SharedBlocks};
 
 /// A service over a book and items that are shared, which asks the book from a seat of its own.
 /// What its session puts and names by no commit goes when the session ends. Its model is that seat.
@@ -210,10 +210,17 @@ impl<'a, N: BookName, K: Keeper, R: Wait> Worker<'a, N, K, R> {
         }
     }
 
+    /// Puts an item: for a commit where the seat has the turn, since who takes the turn hands one in
+    /// next, and else for something else, as a tree that is left.
     fn put(&mut self, alloc: Global, item: &Bytes) -> Result<Reply, Refusal>
         ensures { Answers K.may_fail self.old (request.Put item.now) (said result) self.new }
     {
-        let put = self.items.put(self.rt, alloc, item.as_slice());
+        let purpose = if self.seat.kept().turn {
+            Purpose::Commit
+        } else {
+            Purpose::Other
+        };
+        let put = self.items.put(self.rt, alloc, item.as_slice(), purpose);
         if let Err(Refusal::NoMemory) = put {
             self.lacks_item = true;
         }

@@ -1,10 +1,12 @@
 -- What a shard holds: items that stay, and others that may go, since they are kept elsewhere too.
-use Rattle.std.specs.Prelude.{◌≡◌, ◌⊎◌, ℕ, ◌+◌, ◌<◌, ◌≤◌, List, ◌∷◌, length, take, Option, None, IsSome, MatchOption}
+use Rattle.std.specs.Prelude.{◌≡◌, ◌⊎◌, ℕ, ◌+◌, ◌-◌, ◌/◌, ◌<◌, ◌≤◌, List, ◌∷◌, length, take, Option, None, IsSome, MatchOption}
 use Rattle.std.specs.List.{sum_by}
 use Rattle.std.specs.Map.{lookup, remove_entry, values_of}
 use Rattle.std.specs.Str.{bytes_eq}
 use Rattle.su_block.specs.Memory.{AreUnderTheirDigests}
 use Rattle.su_shared_items.specs.declared.items.TheConstants.{ITEM_COST}
+use Rattle.su_shared_items.specs.declared.purposes.Purpose.{Purpose}
+use Rattle.su_shared_items.specs.declared.purposes.Purpose.TheVariants as purpose
 
 -- items, each beside the digest that it is under
 abbrev pub Items : Type 0
@@ -22,6 +24,12 @@ cost_of item = length item + ITEM_COST
 -- the bytes that the items take
 abbrev pub bytes_of : Items → ℕ
 bytes_of items = sum_by cost_of (values_of items)
+
+-- how many bytes of room the items that stay may take once one is put for this: a quarter is for those
+-- of commits alone
+abbrev pub room_for : Purpose → ℕ → ℕ
+room_for purpose.Commit room = room
+room_for purpose.Other room = room - room / 4
 
 -- the items that stay, and the bytes that they may take
 pub record Staying : Type 0 where

@@ -3,6 +3,7 @@
 
 mod items;
 mod pins;
+mod purposes;
 mod sections;
 mod sessions;
 mod shard;
@@ -10,5 +11,6 @@ mod shared;
 mod spare;
 mod staying;
 
+pub use purposes::Purpose;
 pub use sessions::SessionItems;
 pub use shared::SharedBlocks;

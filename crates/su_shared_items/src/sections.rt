@@ -1,13 +1,14 @@
 // A shard, what it was told, and what is pinned in it.
-ghost use Rattle.std.specs.Prelude.{◌≡◌, ◌⊎◌, true, false, is_some, None, IsSome, IfOk, IfErr, OnOk, OnErr, MatchBool};
+ghost use Rattle.std.specs.Prelude.{◌≡◌, ◌⊎◌, ◌≤◌, true, false, is_some, None, IsSome, IfOk, IfErr, OnOk, OnErr, MatchBool};
 ghost use Rattle.std.specs.Map.{remove_entry};
 ghost use Rattle.std.specs.Str.{bytes_eq};
 ghost use Rattle.sha2.specs.Sha256.{sha256};
 ghost use Rattle.su_bytes.specs.declared.refusals.Refusal.TheVariants.{MissingBlock, NoMemory};
-ghost use Rattle.su_shared_items.specs.Shard.{item_under};
+ghost use Rattle.su_shared_items.specs.Shard.{item_under, bytes_of, room_for};
 ghost use Rattle.su_shared_items.specs.Section.{is_elsewhere, pins_of, Recounts, one_more, one_fewer, once_put, once_unpinned};
 
 use crate::pins::Pins;
+use crate::purposes::Purpose;
 use crate::shard::Shard;
 use std::alloc::{AllocError, Global};
 use std::collections::BTreeSet;
@@ -71,7 +72,7 @@ impl Section {
         if self.elsewhere.contains(digest.as_bytes()) {
             return self.shard.share(alloc, digest, item);
         }
-        let put = self.shard.put(alloc, digest, item);
+        let put = self.shard.put(alloc, digest, item, Purpose::Commit);
         if put.is_ok() {
             self.pins.forget(digest);
         }
@@ -81,12 +82,13 @@ impl Section {
     /// Puts an item under its digest for a session, which pins it from then on, and returns whether
     /// it does: it doesn't where the item stays for good, nor where it is kept elsewhere too, and
     /// then it may go. `NoMemory` where there is no memory for it, or where it would stay and there
-    /// is no room for it among those that do.
+    /// is no room among those that do for what is put for this purpose.
     pub(crate) fn put_pinned(
         &mut self,
         alloc: Global,
         digest: &Digest,
         item: &[u8],
+        purpose: Purpose,
     ) -> Result<bool, Refusal>
         requires { sha256 item.now ≡ digest.now }
         ensures stays { is_elsewhere self.old.elsewhere digest.now ≡ false
@@ -100,6 +102,10 @@ impl Section {
         ensures elsewhere { is_elsewhere self.old.elsewhere digest.now ≡ true
             → IfOk result (λ pinned. pinned ≡ false) × (self.new.pins ≡ self.old.pins)
             × (self.new.held.staying ≡ self.old.held.staying) }
+        // One more that stays, and is put for something else than a commit, leaves room for those of
+        // commits.
+        ensures spares { OnOk result ((self.new.held.staying ≡ self.old.held.staying)
+            ⊎ (bytes_of self.new.held.staying ≤ room_for purpose self.new.held.staying_room)) }
         ensures refused { IfErr result (λ e. e ≡ NoMemory) }
         // What stays, and what is pinned, doesn't change then.
         ensures unchanged { OnErr result ((self.new.held.staying ≡ self.old.held.staying)
@@ -113,7 +119,7 @@ impl Section {
             return self.pin_staying(digest);
         }
         self.pins.add(digest)?;
-        match self.shard.put(alloc, digest, item) {
+        match self.shard.put(alloc, digest, item, purpose) {
             Ok(()) => Ok(true),
             Err(refusal) => {
                 self.pins.forget(digest);

@@ -5,6 +5,7 @@ ghost use Rattle.su_block.specs.Item.{is_item};
 ghost use Rattle.su_bytes.specs.declared.refusals.Refusal.TheVariants.{TooBig, NoMemory};
 ghost use Rattle.su_shared_items.specs.Section.{with_one, without};
 
+use crate::purposes::Purpose;
 use crate::shared::SharedBlocks;
 use std::alloc::Global;
 use std::collections::BTreeSet;
@@ -53,12 +54,19 @@ impl<'a> SessionItems<'a> {
         }
     }
 
-    /// Puts an item, and answers its digest. It stays until the session has ended, and for longer
+    /// Puts an item for this purpose, and answers its digest. It stays until the session has ended, and for longer
     /// where others pin it, where it stays for good, or where a commit names it; it may go where it
     /// is kept elsewhere. `TooBig` where it has not 1 to 70,000 bytes, and just there; `NoMemory`
-    /// where there is no memory for it, or no room in its shard among the items that stay, and then
-    /// nothing changes. Putting what stays already is answered whatever the room.
-    pub fn put(&mut self, rt: &impl Wait, alloc: Global, item: &[u8]) -> Result<Digest, Refusal>
+    /// where there is no memory for it, or no room in its shard among the items that stay, of which
+    /// a quarter is for commits alone, and then nothing changes. Putting what stays already is
+    /// answered whatever the room.
+    pub fn put(
+        &mut self,
+        rt: &impl Wait,
+        alloc: Global,
+        item: &[u8],
+        purpose: Purpose,
+    ) -> Result<Digest, Refusal>
         ensures digest { IfOk result (λ digest. digest ≡ sha256 item.now) }
         ensures too_big { (result ≡ Err TooBig) ↔ (is_item item.now ≡ false) }
         ensures refused { IfErr result (λ e. (e ≡ TooBig) ⊎ (e ≡ NoMemory)) }
@@ -67,7 +75,7 @@ impl<'a> SessionItems<'a> {
             (self.new ≡ self.old) ⊎ (self.new ≡ with_one digest self.old)) }
         ensures unchanged { OnErr result (self.new ≡ self.old) }
     {
-        let (digest, pinned) = self.blocks.put_pinned(rt, alloc, item)?;
+        let (digest, pinned) = self.blocks.put_pinned(rt, alloc, item, purpose)?;
         if pinned && !self.note(rt, digest) {
             return Err(Refusal::NoMemory);
         }

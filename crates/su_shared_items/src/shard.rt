@@ -5,9 +5,10 @@ ghost use Rattle.std.specs.Str.{bytes_eq};
 ghost use Rattle.sha2.specs.Sha256.{sha256};
 ghost use Rattle.lru.specs.LruCache.{promoted};
 ghost use Rattle.su_bytes.specs.declared.refusals.Refusal.TheVariants.{MissingBlock, NoMemory};
-ghost use Rattle.su_shared_items.specs.Shard.{item_under, bytes_of, cost_of, Holds, HoldsNone, LetsGo};
+ghost use Rattle.su_shared_items.specs.Shard.{item_under, bytes_of, room_for, cost_of, Holds, HoldsNone, LetsGo};
 
 use crate::items::Item;
+use crate::purposes::Purpose;
 use crate::spare::SpareItems;
 use crate::staying::StayingItems;
 use std::alloc::{AllocError, Global};
@@ -72,9 +73,15 @@ impl Shard {
     }
 
     /// Puts an item under its digest, where it stays. One that stays already is answered whatever
-    /// the room. `NoMemory` where there is no room for it among those that stay, or no memory; then
-    /// nothing changes.
-    pub(crate) fn put(&mut self, alloc: Global, digest: &Digest, item: &[u8]) -> Result<(), Refusal>
+    /// the room. `NoMemory` where there is no room among those that stay for what is put for this
+    /// purpose, or no memory; then nothing changes.
+    pub(crate) fn put(
+        &mut self,
+        alloc: Global,
+        digest: &Digest,
+        item: &[u8],
+        purpose: Purpose,
+    ) -> Result<(), Refusal>
         requires { sha256 item.now ≡ digest.now }
         ensures held { OnOk result (IsSome (item_under self.new.staying digest.now)) }
         // What stayed stays.
@@ -86,13 +93,16 @@ impl Shard {
             → (result ≡ Ok tt) × (self.new ≡ self.old) }
         // Those that stay take no more than there is room for.
         ensures bounded { bytes_of self.new.staying ≤ self.new.staying_room }
+        // One more that is put for something else than a commit leaves room for those of commits.
+        ensures spares { OnOk result ((self.new ≡ self.old)
+            ⊎ (bytes_of self.new.staying ≤ room_for purpose self.new.staying_room)) }
         ensures staying_room { self.new.staying_room ≡ self.old.staying_room }
         ensures unchanged { OnErr result (self.new ≡ self.old) }
     {
         if self.staying.contains(digest) {
             return Ok(());
         }
-        let put = self.staying.put(alloc, digest, item);
+        let put = self.staying.put(alloc, digest, item, purpose);
         if put.is_ok() {
             drop(self.spare.take(digest));
         }

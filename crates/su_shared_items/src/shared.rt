@@ -4,6 +4,7 @@ ghost use Rattle.sha2.specs.Sha256.{sha256};
 ghost use Rattle.su_block.specs.Item.{is_item};
 ghost use Rattle.su_bytes.specs.declared.refusals.Refusal.TheVariants.{MissingBlock, TooBig, NoMemory};
 
+use crate::purposes::Purpose;
 use crate::sections::Section;
 use std::alloc::{AllocError, Global};
 use std::sync::{Mutex, Wait};
@@ -22,7 +23,8 @@ const LEAST_STAYING: usize = 1 << 20;
 /// An item that was put stays, until it is told that it is kept elsewhere. One that sessions alone
 /// have put (`SessionItems`) is pinned by them: it stays until the last of them has ended, and for
 /// good once a commit names it. Those that stay take a bounded room in each shard: where there is
-/// none for another one, that one is refused, as what was acknowledged isn't dropped before.
+/// none for another one, that one is refused, as what was acknowledged isn't dropped before. A
+/// quarter of it is for those that are put for a commit (`Purpose`).
 ///
 /// Items that are kept elsewhere, those that came by `share`, and those of either kind that are put
 /// once more take a bounded room in each shard too: where there is none for another one, those go
@@ -97,6 +99,7 @@ impl SharedBlocks {
         rt: &impl Wait,
         alloc: Global,
         item: &[u8],
+        purpose: Purpose,
     ) -> Result<(Digest, bool), Refusal>
         ensures digest { IfOk result (λ put. put.0 ≡ sha256 item.now) }
         ensures too_big { (result ≡ Err TooBig) ↔ (is_item item.now ≡ false) }
@@ -109,7 +112,7 @@ impl SharedBlocks {
         let pinned = self
             .shard(&digest)
             .lock(rt)
-            .put_pinned(alloc, &digest, item)?;
+            .put_pinned(alloc, &digest, item, purpose)?;
         Ok((digest, pinned))
     }
 

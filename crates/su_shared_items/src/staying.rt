@@ -4,9 +4,10 @@ ghost use Rattle.std.specs.Map.{remove_entry};
 ghost use Rattle.std.specs.Str.{bytes_eq};
 ghost use Rattle.sha2.specs.Sha256.{sha256};
 ghost use Rattle.su_bytes.specs.declared.refusals.Refusal.TheVariants.{NoMemory};
-ghost use Rattle.su_shared_items.specs.Shard.{item_under, bytes_of};
+ghost use Rattle.su_shared_items.specs.Shard.{item_under, bytes_of, room_for};
 
 use crate::items::{Item, cost_of};
+use crate::purposes::Purpose;
 use std::alloc::Global;
 use std::collections::BTreeMap;
 use std::marker::Model;
@@ -62,20 +63,29 @@ impl StayingItems {
     }
 
     /// Puts an item under its digest, under which there is none. `NoMemory` where there is no room
-    /// for it, or no memory; then nothing changes.
-    pub(crate) fn put(&mut self, alloc: Global, digest: &Digest, item: &[u8]) -> Result<(), Refusal>
+    /// for what is put for this purpose, or no memory; then nothing changes.
+    pub(crate) fn put(
+        &mut self,
+        alloc: Global,
+        digest: &Digest,
+        item: &[u8],
+        purpose: Purpose,
+    ) -> Result<(), Refusal>
         requires own { sha256 item.now ≡ digest.now }
         requires new { item_under self.old.items digest.now ≡ None }
         ensures held { OnOk result (item_under self.new.items digest.now ≡ Some item.now) }
         ensures stays { (d item : List ℕ) → item_under self.old.items d ≡ Some item
             → item_under self.new.items d ≡ Some item }
         ensures bounded { bytes_of self.new.items ≤ self.new.room }
+        // What is put for something else than a commit leaves room for those of commits.
+        ensures spares { OnOk result (bytes_of self.new.items ≤ room_for purpose self.new.room) }
         ensures room { self.new.room ≡ self.old.room }
         ensures refused { IfErr result (λ e. e ≡ NoMemory) }
         ensures unchanged { OnErr result (self.new ≡ self.old) }
     {
         let cost = cost_of(item);
-        if cost > self.room - self.taken {
+        let room = purpose.share_of(self.room);
+        if cost > room.saturating_sub(self.taken) {
             return Err(Refusal::NoMemory);
         }
         prove!(self.taken + cost <= self.room);

@@ -81,7 +81,7 @@ where
     let manner = Manner {
         stops: args.stop,
         batches: args.batch,
-        leaves: args.leave_tree,
+        leaves: !args.keep_tree,
     };
     let ending = run_client(&mut program, alloc, reader, writer, &mut member, manner);
     put_leaf_back(rt, member.store());
