@@ -70,19 +70,6 @@ push_behind u v w a c is =
 abbrev pub all_areas : List Return → List KeptSize → List Reset → List KeptBlocks → List Area
 all_areas rs zs ss bs = map return_area rs ++ (map size_area zs ++ (map reset_area ss ++ map blocks_area bs))
 
-module _ (rs : List Return) (zs : List KeptSize) (ss : List Reset) (bs : List KeptBlocks) (c : Cell) where
-  pub push_return : (r : Return) → has (all_areas (rs ++ r ∷ []) zs ss bs) c ≡ (has (all_areas rs zs ss bs) c || in_area (return_area r) c)
-  push_return r = push_here return_area rs r (map size_area zs ++ (map reset_area ss ++ map blocks_area bs)) c
-
-  pub push_size : (k : KeptSize) → has (all_areas rs (zs ++ k ∷ []) ss bs) c ≡ (has (all_areas rs zs ss bs) c || in_area (size_area k) c)
-  push_size k = push_behind (map return_area rs) _ _ (size_area k) c (push_here size_area zs k (map reset_area ss ++ map blocks_area bs) c)
-
-  pub push_reset : (r : Reset) → has (all_areas rs zs (ss ++ r ∷ []) bs) c ≡ (has (all_areas rs zs ss bs) c || in_area (reset_area r) c)
-  push_reset r = push_behind (map return_area rs) _ _ (reset_area r) c (push_behind (map size_area zs) _ _ (reset_area r) c (push_here reset_area ss r (map blocks_area bs) c))
-
-  pub push_blocks : (k : KeptBlocks) → has (all_areas rs zs ss (bs ++ k ∷ [])) c ≡ (has (all_areas rs zs ss bs) c || in_area (blocks_area k) c)
-  push_blocks k = push_behind (map return_area rs) _ _ (blocks_area k) c (push_behind (map size_area zs) _ _ (blocks_area k) c (push_behind (map reset_area ss) _ _ (blocks_area k) c (push_last blocks_area bs k c)))
-
 -- ---- what is left
 
 kind_or_not : (a : Area) (p : Place) (f : Field) → in_area (widened a) (At p KindOf) ≡ true → in_area (widened a) (At p f) ≡ true

@@ -1,4 +1,3 @@
-pub mod ResultLemmas
 pub mod MixedLemmas
 pub mod AreaListLemmas
 pub mod HeldLemmas

@@ -6,22 +6,18 @@ use Rattle.su_bytes.specs.declared.file_ids.FileId.{FileId}
 use Rattle.su_bytes.specs.declared.file_ids.FileId.TheVariants.{Group}
 use Rattle.su_node.specs.Name.{Name}
 use Rattle.su_node.specs.Inode.{Inode, Content, Content.Bytes, Content.Names}
-use Rattle.su_node.specs.Field.{Field.KindOf, Field.NameOf, Value.Nothing, file_value, field_value}
-use Rattle.su_node.specs.InodeChange.{InodeChange.Named, InodeChange.Copied, inode_after}
+use Rattle.su_node.specs.Field.{Field.NameOf, Value.Nothing, file_value, field_value}
+use Rattle.su_node.specs.InodeChange.{InodeChange.Named, inode_after}
 use Rattle.su_bytes.specs.Place.{Place}
 use Rattle.su_table.specs.Tree.{Tree}
 use Rattle.su_table.specs.Cell.{Cell.At, Cell.Pointer, place_value, val}
-use Rattle.su_table.specs.Query.{is_nothing, is_free_at, is_name_free_at, body}
-use Rattle.su_table.specs.Edit.{Edit.Inodes, Edit.Pointers, edit, back, restoring}
+use Rattle.su_table.specs.Query.{is_nothing, is_name_free_at, body}
+use Rattle.su_table.specs.Edit.{Edit.Inodes, Edit.Pointers, edit, back}
 use Rattle.su_op.proofs.Public.{get-set_name, name_eq-itself, place_eq-itself, field_after, pointer_is}
 use Rattle.su_inverse.specs.declared.returns.Return.{Return}
-use Rattle.su_inverse.specs.declared.returns.Return.TheVariants.{Inode as InodeReturn, Name as NameReturn, Pointer as PointerReturn}
+use Rattle.su_inverse.specs.declared.returns.Return.TheVariants.{Name as NameReturn, Pointer as PointerReturn}
 use Rattle.su_inverse.specs.Kept.{return_edit}
 use Rattle.su_inverse.proofs.HeldLemmas.{pointer_in, name_there}
-
-pub overwritten_inode : (T : Tree) (r : Return) (p : Place) (i : Inode) (o : Option Inode) → r ≡ InodeReturn p i → o ≡ get T.inodes p → Inodes p (restoring o) ≡ back T (return_edit r)
-unfolding back
-overwritten_inode T r p i o is was = ap (λ o. Inodes p (restoring o)) was ∙ sym (ap (λ r. back T (return_edit r)) is)
 
 pub overwritten_name : (T : Tree) (r : Return) (p : Place) (x y : Name) (f : FileId) (o : Option FileId) → r ≡ NameReturn p x f → y ≡ x → file_value o ≡ val T (At p (NameOf x)) → Inodes p (Named y o) ≡ back T (return_edit r)
 unfolding back
@@ -30,9 +26,6 @@ overwritten_name T r p x y f o is same was = ap (λ y. Inodes p (Named y o)) sam
 pub overwritten_pointer : (T : Tree) (r : Return) (g p : Place) (o : Option Place) → r ≡ PointerReturn g p → o ≡ body T (Group g.0 g.1) → Pointers g o ≡ back T (return_edit r)
 unfolding back
 overwritten_pointer T r g p o is was = ap (Pointers g) (pointer_in T g.0 g.1 o was) ∙ sym (ap (λ r. back T (return_edit r)) is)
-
-pub room_inode : (T : Tree) (r : Return) (p : Place) (i : Inode) → r ≡ InodeReturn p i → is_free_at (edit T (return_edit r)) p ≡ false
-room_inode T r p i is = ap (λ r. is_free_at (edit T (return_edit r)) p) is ∙ ap is_nothing (field_after T p (Copied i) KindOf)
 
 some_file : {P : Type 0} (o : Option FileId) → is_some o ≡ true → file_value o ≡ Nothing → P
 some_file None s e = absurd cc

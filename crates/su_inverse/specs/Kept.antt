@@ -1,5 +1,5 @@
 -- What an inverse keeps: the values that the cells of some areas hold in a tree.
-use Rattle.std.specs.Prelude.{◌≡◌, ℕ, ◌+◌, ◌*◌, ◌≤◌, Bool, true, false, List, [], ◌∷◌, ◌++◌, map, Some, None, option_map, length}
+use Rattle.std.specs.Prelude.{◌≡◌, ℕ, ◌+◌, ◌*◌, Bool, true, false, List, [], ◌∷◌, ◌++◌, map, Some, None, option_map}
 use Rattle.std.specs.List.{AllByRecursion}
 use Rattle.std.specs.FinMap.{get}
 use Rattle.su_node.specs.Inode.{bytes_of, within}
@@ -21,8 +21,6 @@ use Rattle.su_inverse.specs.declared.returns.Return.{Return}
 use Rattle.su_inverse.specs.declared.returns.Return.TheVariants.{Inode as InodeReturn, Name as NameReturn, Pointer as PointerReturn}
 use Rattle.su_inverse.specs.declared.resets.Reset.{Reset}
 use Rattle.su_inverse.specs.declared.resets.Reset.TheVariants.{Nothing as NothingReset, Links as LinksReset}
-use Rattle.su_inverse.specs.declared.inverses.Kept.{Kept}
-use Rattle.su_inverse.specs.declared.inverses.Kept.TheVariants.{Return as ReturnKept, Size as SizeKept, Reset as ResetKept, Blocks as BlocksKept}
 use Rattle.su_inverse.specs.declared.contents.KeptSize.{KeptSize}
 use Rattle.su_inverse.specs.declared.contents.KeptBlocks.{KeptBlocks}
 use Rattle.su_inverse.specs.declared.inverses.Inverse.{Inverse}
@@ -51,13 +49,6 @@ size_area k = InodeArea k.place SizePart
 -- the blocks of the file
 abbrev pub blocks_area : KeptBlocks → Area
 blocks_area k = InodeArea k.place (BlocksPart k.run)
-
--- where what is kept stood
-abbrev pub kept_area : Kept → Area
-kept_area (ReturnKept r) = return_area r
-kept_area (SizeKept k) = size_area k
-kept_area (ResetKept r) = reset_area r
-kept_area (BlocksKept k) = blocks_area k
 
 -- all areas of which an inverse keeps something
 abbrev pub inverse_areas : Inverse → List Area
@@ -99,13 +90,6 @@ bytes_in r = within (BLOCK_SIZE * r.first) (BLOCK_SIZE * (r.more + 1))
 abbrev pub HoldsBlocks : Tree → KeptBlocks → Type 0
 HoldsBlocks T k = option_map (bytes_in k.run) (bytes_of (get T.inodes k.place)) ≡ Some k.bytes.items
 
--- T holds what is kept of one area
-abbrev pub HoldsKept : Tree → Kept → Type 0
-HoldsKept T (ReturnKept r) = HoldsReturn T r
-HoldsKept T (SizeKept k) = HoldsSize T k
-HoldsKept T (ResetKept r) = HoldsReset T r
-HoldsKept T (BlocksKept k) = HoldsBlocks T k
-
 -- the kept values are those of T
 pub record IsKeptOf (i : Inverse) (T : Tree) : Type 0 where
   pub returns : AllByRecursion (HoldsReturn T) i.returns.items
@@ -134,10 +118,6 @@ size_edit F p n = Inodes p (Resized (size_at F p) n)
 abbrev pub blocks_edit : Tree → KeptBlocks → Edit
 blocks_edit F k =
     Inodes k.place (Written (size_at F k.place) (BLOCK_SIZE * k.run.first) k.bytes.items)
-
--- the file of F is long enough for them
-abbrev pub HasLengthFor : Tree → KeptBlocks → Type 0
-HasLengthFor F k = BLOCK_SIZE * k.run.first + length k.bytes.items ≤ size_at F k.place
 
 -- the edit that brings it back
 abbrev pub return_edit : Return → Edit

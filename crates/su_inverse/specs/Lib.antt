@@ -1,4 +1,3 @@
 pub mod Kept
-pub mod Overwritten
 pub mod Remaining
 pub mod Whole

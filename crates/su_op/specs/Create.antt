@@ -1,6 +1,6 @@
 -- A create by user a: a new empty file or directory at (a, body), for which a directory gets a
 -- name.
-use Rattle.std.specs.Prelude.{ℕ, Bool, true, ◌&&◌, List, ◌∷◌, Some, nat_eq}
+use Rattle.std.specs.Prelude.{ℕ, Bool, true, ◌&&◌, ◌∷◌, Some, nat_eq}
 use Rattle.su_bytes.specs.declared.file_ids.FileId.{FileId}
 use Rattle.su_bytes.specs.declared.file_ids.FileId.TheVariants.{User, Group}
 use Rattle.su_bytes.specs.declared.refusals.Refusal.TheVariants.{BadNumber, NotMember, NoFile, WrongKind, NotHolder, Held, Exists}
@@ -9,11 +9,9 @@ use Rattle.su_bytes.specs.Place.{Place}
 use Rattle.su_table.specs.Tree.{Tree}
 use Rattle.su_table.specs.Query.{body, is_dir_at, is_free_at, is_name_free_at, is_pointer_free}
 use Rattle.su_node.specs.InodeChange.{InodeChange.Made, InodeChange.Named}
-use Rattle.su_table.specs.Edit.{Edit, Edit.Inodes}
+use Rattle.su_table.specs.Edit.{Edit.Inodes}
 use Rattle.su_op.specs.declared.create.Create.{Create}
-use Rattle.su_op.specs.declared.create.AcceptedCreate.{AcceptedCreate}
 use Rattle.su_op.specs.Area.{kind_cell, links_cell, size_cell, name_cell}
-use Rattle.su_op.specs.Growth.{AreFreeFor}
 use Rattle.su_op.specs.Rule.{Plan, HasRow, Rule, Rule.Accept, Rule.Demand, Rule.Find, may_touch, group_of, pointer_edits, pointer_areas, file_areas}
 
 -- a user's file stands at its own place, and a group file at any number of its maker
@@ -42,23 +40,6 @@ create_rule ro T a c =
     (Demand (is_pointer_free T c.file && is_free_at T (a, c.body)) Held
     (Demand (is_name_free_at T d c.name) Exists
     (Accept (create_plan a c d)))))))))
-
--- ---- what it does once it is accepted
-
--- its plan
-abbrev pub accepted_create_plan : AcceptedCreate → Plan
-accepted_create_plan x = create_plan x.author x.create.now x.directory
-
--- behind the name: the inode, and a group file's pointer
-abbrev pub added_file_edits : AcceptedCreate → List Edit
-added_file_edits x =
-    let place : Place = (x.author, x.create.now.body) in
-    Inodes place (Made x.create.now.file x.create.now.kind)
-    ∷ pointer_edits x.create.now.file (Some place)
-
--- in T what it adds still stands nowhere
-abbrev pub CreateFits : Tree → AcceptedCreate → Type 0
-CreateFits T x = AreFreeFor T (accepted_create_plan x).edits
 
 -- reads the directory's kind and pointer; writes the name at the directory, kind, links and size of
 -- the new inode, and the new file's pointer

@@ -12,7 +12,6 @@ use Rattle.su_table.specs.Query.{is_free_at}
 use Rattle.su_table.specs.Edit.{Edit.Inodes}
 use Rattle.su_op.specs.declared.areas.Area.TheVariants.{Pointer as PointerArea}
 use Rattle.su_op.specs.declared.drop_body.DropBody.{DropBody}
-use Rattle.su_op.specs.declared.drop_body.AcceptedDrop.{AcceptedDrop}
 use Rattle.su_op.specs.Area.{all_cells}
 use Rattle.su_op.specs.Rule.{Plan, HasRow, Rule, Rule.Accept, Rule.Demand, Rule.Find}
 
@@ -52,12 +51,6 @@ drop_rule T a d =
     Demand (not (is_free_at T (a, d.body))) (NoFile (User a d.body))
     (Find (stale_home T (a, d.body)) Held (λ home.
     Accept (drop_plan a d home)))
-
--- ---- what it does once it is accepted
-
--- its plan
-abbrev pub accepted_drop_plan : AcceptedDrop → Plan
-accepted_drop_plan x = drop_plan x.author x.dropped.now x.home
 
 -- reads the pointer of the group file that the body was made for; writes all of the body
 abbrev pub DropRow : DropBody → Type 0

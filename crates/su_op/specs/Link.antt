@@ -1,5 +1,5 @@
 -- A link by user a: a directory gets a further name for a file.
-use Rattle.std.specs.Prelude.{◌≡◌, ℕ, ◌+◌, [], ◌∷◌, ◌++◌, Some, nat_eq, nat_lt}
+use Rattle.std.specs.Prelude.{ℕ, ◌+◌, [], ◌∷◌, ◌++◌, Some, nat_eq, nat_lt}
 use Rattle.su_bytes.specs.declared.refusals.Refusal.TheVariants.{NotMember, NoFile, WrongKind, NotHolder, Exists, TooManyLinks}
 use Rattle.su_bytes.specs.Membership.{Membership}
 use Rattle.su_node.specs.InodeChange.{InodeChange.Named, InodeChange.Linked}
@@ -8,7 +8,6 @@ use Rattle.su_table.specs.Tree.{Tree}
 use Rattle.su_table.specs.Query.{body, is_dir_at, is_file_at, is_name_free_at, links_at}
 use Rattle.su_table.specs.Edit.{Edit.Inodes}
 use Rattle.su_op.specs.declared.link.Link.{Link}
-use Rattle.su_op.specs.declared.link.AcceptedLink.{AcceptedLink}
 use Rattle.su_op.specs.Area.{kind_cell, links_cell, name_cell}
 use Rattle.su_op.specs.Limits.{most_links}
 use Rattle.su_op.specs.Rule.{Plan, HasRow, Rule, Rule.Accept, Rule.Demand, Rule.Find, may_touch, group_of, pointer_areas, file_areas}
@@ -35,16 +34,6 @@ link_rule ro T a l =
     (Demand (is_name_free_at T d l.name) Exists
     (Demand (nat_lt (links_at T f) most_links) TooManyLinks
     (Accept (link_plan (links_at T f) l d f))))))))))))
-
--- ---- what it does once it is accepted
-
--- its plan
-abbrev pub accepted_link_plan : AcceptedLink → Plan
-accepted_link_plan x = link_plan x.links x.link.now x.directory x.place
-
--- in T the file still has as many links
-abbrev pub LinkFits : Tree → AcceptedLink → Type 0
-LinkFits T x = links_at T x.place ≡ x.links
 
 -- reads kind and pointer of the directory and of the file; writes the name at the directory, and
 -- the file's links

@@ -1,5 +1,5 @@
 -- The operations by cases: whether one is accepted, and what it then makes of the tree.
-use Rattle.std.specs.Prelude.{List, Option, ⊤}
+use Rattle.std.specs.Prelude.{List, Option}
 use Rattle.su_bytes.specs.declared.refusals.Refusal.{Refusal}
 use Rattle.su_bytes.specs.declared.refusals.Refusal.TheVariants.{NoUser}
 use Rattle.su_bytes.specs.Membership.{Membership, has_user}
@@ -8,18 +8,16 @@ use Rattle.su_table.specs.Edit.{edits}
 use Rattle.su_op.specs.declared.areas.Area.{Area}
 use Rattle.su_op.specs.declared.operations.Op.{Op}
 use Rattle.su_op.specs.declared.operations.Op.TheVariants.{Create, Unlink, Write, Truncate, Take, Link, Rename, Drop}
-use Rattle.su_op.specs.declared.operations.Accepted.{Accepted}
-use Rattle.su_op.specs.declared.operations.Accepted.TheVariants as accepted
 use Rattle.su_op.specs.Action.{Action}
-use Rattle.su_op.specs.Rule.{Plan, Rule, Rule.Demand, refusal, plan_of, plan_reads, plan_writes}
-use Rattle.su_op.specs.Create.{create_rule, accepted_create_plan, CreateFits, CreateRow}
-use Rattle.su_op.specs.Unlink.{unlink_rule, accepted_unlink_plan, UnlinkFits, UnlinkRow}
-use Rattle.su_op.specs.Write.{write_rule, accepted_write_plan, WriteFits, WriteRow}
-use Rattle.su_op.specs.Truncate.{truncate_rule, accepted_truncate_plan, TruncateFits, TruncateRow}
-use Rattle.su_op.specs.Take.{take_rule, accepted_take_plan, TakeFits, TakeRow}
-use Rattle.su_op.specs.Link.{link_rule, accepted_link_plan, LinkFits, LinkRow}
-use Rattle.su_op.specs.Rename.{rename_rule, accepted_rename_plan, RenameRow}
-use Rattle.su_op.specs.DropBody.{drop_rule, accepted_drop_plan, DropRow}
+use Rattle.su_op.specs.Rule.{Rule, Rule.Demand, refusal, plan_of, plan_reads, plan_writes}
+use Rattle.su_op.specs.Create.{create_rule, CreateRow}
+use Rattle.su_op.specs.Unlink.{unlink_rule, UnlinkRow}
+use Rattle.su_op.specs.Write.{write_rule, WriteRow}
+use Rattle.su_op.specs.Truncate.{truncate_rule, TruncateRow}
+use Rattle.su_op.specs.Take.{take_rule, TakeRow}
+use Rattle.su_op.specs.Link.{link_rule, LinkRow}
+use Rattle.su_op.specs.Rename.{rename_rule, RenameRow}
+use Rattle.su_op.specs.DropBody.{drop_rule, DropRow}
 
 -- the rule of an action by one of the users, by cases over its operation
 abbrev pub rule_by_user : Membership → Tree → Action → Op → Rule
@@ -35,28 +33,6 @@ rule_by_user ro T x (Drop d) = drop_rule T x.author d
 -- the rule of an action, whose author has to be a user
 abbrev pub rule_of : Membership → Tree → Action → Rule
 rule_of ro T x = Demand (has_user ro x.author) (NoUser x.author) (rule_by_user ro T x x.op)
-
--- what an accepted operation does in T
-abbrev pub accepted_plan : Tree → Accepted → Plan
-accepted_plan T (accepted.Create x) = accepted_create_plan x
-accepted_plan T (accepted.Unlink x) = accepted_unlink_plan x
-accepted_plan T (accepted.Write x) = accepted_write_plan x
-accepted_plan T (accepted.Truncate x) = accepted_truncate_plan x
-accepted_plan T (accepted.Take x) = accepted_take_plan T x
-accepted_plan T (accepted.Link x) = accepted_link_plan x
-accepted_plan T (accepted.Rename x) = accepted_rename_plan x
-accepted_plan T (accepted.Drop x) = accepted_drop_plan x
-
--- what its check found, as far as it matters, holds in T
-abbrev pub StillFits : Tree → Accepted → Type 0
-StillFits T (accepted.Create x) = CreateFits T x
-StillFits T (accepted.Unlink x) = UnlinkFits T x
-StillFits T (accepted.Write x) = WriteFits T x
-StillFits T (accepted.Truncate x) = TruncateFits T x
-StillFits T (accepted.Take x) = TakeFits T x
-StillFits T (accepted.Link x) = LinkFits T x
-StillFits T (accepted.Rename x) = ⊤
-StillFits T (accepted.Drop x) = ⊤
 
 -- The table of cells, by operations: what each reads besides what it writes, and what it writes.
 -- The places are those of the bodies of the files that it names.

@@ -11,7 +11,6 @@ use Rattle.su_table.specs.Query.{body, is_dir_at, leads_to_at, is_name_free_at}
 use Rattle.su_table.specs.Edit.{Edit.Inodes}
 use Rattle.su_op.specs.declared.areas.Area.{Area}
 use Rattle.su_op.specs.declared.rename.Rename.{Rename}
-use Rattle.su_op.specs.declared.rename.AcceptedRename.{AcceptedRename}
 use Rattle.su_op.specs.Area.{kind_cell, name_cell}
 use Rattle.su_op.specs.Rule.{Plan, HasRow, Rule, Rule.Accept, Rule.Demand, Rule.Find, may_touch, group_of, pointer_areas, file_areas}
 
@@ -61,12 +60,6 @@ rename_rule ro T a r =
     (Find (body T r.to_) (NoFile r.to_) (λ t.
     (Demand (stays r || is_some (moved T r)) (NoFile r.file)
     (rename_rule_at T a r (moved T r) d t)))))))
-
--- ---- what it does once it is accepted
-
--- its plan
-abbrev pub accepted_rename_plan : AcceptedRename → Plan
-accepted_rename_plan x = rename_plan x.moved x.rename.now x.source x.target
 
 -- reads kind and pointer of both directories, and of the file where it goes from one to the other
 -- (then `moved` is its place); writes the new name at the directory that gets it, and the old name

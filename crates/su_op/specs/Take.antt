@@ -1,6 +1,6 @@
 -- A take by user a: the inode of a group file that another user holds is copied to (a, body), and
 -- the group's pointer points there.
-use Rattle.std.specs.Prelude.{◌≡◌, ℕ, Bool, true, false, not, ◌&&◌, ◌∷◌, Option, Some, None, nat_eq}
+use Rattle.std.specs.Prelude.{ℕ, Bool, true, false, not, ◌&&◌, ◌∷◌, Option, Some, None, nat_eq}
 use Rattle.std.specs.FinMap.{get}
 use Rattle.su_bytes.specs.declared.file_ids.FileId.{FileId}
 use Rattle.su_bytes.specs.declared.file_ids.FileId.TheVariants.{User, Group}
@@ -12,7 +12,6 @@ use Rattle.su_bytes.specs.Place.{Place}
 use Rattle.su_table.specs.Tree.{Tree}
 use Rattle.su_table.specs.Query.{body, is_free_at}
 use Rattle.su_table.specs.Edit.{Edit.Inodes}
-use Rattle.su_op.specs.declared.take.AcceptedTake.{AcceptedTake}
 use Rattle.su_op.specs.Area.{kind_cell, all_cells}
 use Rattle.su_op.specs.declared.take.Take.{Take}
 use Rattle.su_op.specs.Rule.{Plan, HasRow, Rule, Rule.Accept, Rule.Demand, Rule.Find, may_touch, group_of, pointer_edits, pointer_areas, file_areas}
@@ -42,16 +41,6 @@ take_rule ro T a t =
     (Find (body T t.file) (NoFile t.file) (λ f.
     Demand (not (nat_eq f.0 a) && is_free_at T (a, t.body)) Held
     (Accept (take_plan (get T.inodes f) a t f)))))
-
--- ---- what it does once it is accepted
-
--- its plan in T, whose inode is copied
-abbrev pub accepted_take_plan : Tree → AcceptedTake → Plan
-accepted_take_plan T x = take_plan (get T.inodes x.place) x.author x.take.now x.place
-
--- in T nothing stands where the inode is copied to
-abbrev pub TakeFits : Tree → AcceptedTake → Type 0
-TakeFits T x = is_free_at T (x.author, x.take.now.body) ≡ true
 
 -- reads kind and pointer of the file, and all of its old body; writes all of the new body, and the
 -- pointer

@@ -1,5 +1,5 @@
 -- A truncate by user a: a file is cut to a size, or has zeros behind it up to that size.
-use Rattle.std.specs.Prelude.{◌≡◌, ℕ, [], ◌∷◌, min, max, nat_eq, nat_le, if◌then◌else◌}
+use Rattle.std.specs.Prelude.{ℕ, [], ◌∷◌, min, max, nat_eq, nat_le, if◌then◌else◌}
 use Rattle.su_bytes.specs.declared.refusals.Refusal.TheVariants.{NotMember, NoFile, WrongKind, NotHolder, TooBig}
 use Rattle.su_bytes.specs.declared.formats.Format.{Format}
 use Rattle.su_bytes.specs.Membership.{Membership}
@@ -8,7 +8,6 @@ use Rattle.su_bytes.specs.Place.{Place}
 use Rattle.su_table.specs.Tree.{Tree}
 use Rattle.su_table.specs.Query.{body, is_file_at, size_at}
 use Rattle.su_table.specs.Edit.{Edit.Inodes}
-use Rattle.su_op.specs.declared.truncate.AcceptedTruncate.{AcceptedTruncate}
 use Rattle.su_op.specs.Area.{blocks_between, kind_cell, size_cell, block_cells}
 use Rattle.su_op.specs.declared.truncate.Truncate.{Truncate}
 use Rattle.su_op.specs.Limits.{largest_file}
@@ -30,16 +29,6 @@ truncate_rule ro T a format t =
     (Demand (nat_eq f.0 a) (NotHolder f.0)
     (Demand (nat_le t.size (largest_file format)) TooBig
     (Accept (truncate_plan (size_at T f) t f))))))
-
--- ---- what it does once it is accepted
-
--- its plan
-abbrev pub accepted_truncate_plan : AcceptedTruncate → Plan
-accepted_truncate_plan x = truncate_plan x.size x.truncate.now x.place
-
--- in T the file still has that size
-abbrev pub TruncateFits : Tree → AcceptedTruncate → Type 0
-TruncateFits T x = size_at T x.place ≡ x.size
 
 -- reads the file's size, kind and pointer; writes the size, and the blocks between the old end and
 -- the new one

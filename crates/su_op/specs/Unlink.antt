@@ -1,6 +1,6 @@
 -- An unlink by user a: the name leaves its directory, and with the last link the inode and a group
 -- file's pointer go.
-use Rattle.std.specs.Prelude.{◌≡◌, ℕ, ◌-◌, List, [], ◌∷◌, ◌++◌, None, nat_eq, nat_le, if◌then◌else◌}
+use Rattle.std.specs.Prelude.{ℕ, ◌-◌, List, [], ◌∷◌, ◌++◌, None, nat_eq, nat_le, if◌then◌else◌}
 use Rattle.su_bytes.specs.declared.file_ids.FileId.{FileId}
 use Rattle.su_bytes.specs.declared.refusals.Refusal.TheVariants.{NotMember, NoFile, WrongKind, NotHolder, NoName, NotEmpty}
 use Rattle.su_bytes.specs.Membership.{Membership}
@@ -10,7 +10,6 @@ use Rattle.su_table.specs.Query.{body, is_dir_at, leads_to_at, is_bare_at, links
 use Rattle.su_node.specs.InodeChange.{InodeChange.Named, InodeChange.Linked, InodeChange.Gone}
 use Rattle.su_table.specs.Edit.{Edit, Edit.Inodes}
 use Rattle.su_op.specs.declared.unlink.Unlink.{Unlink}
-use Rattle.su_op.specs.declared.unlink.AcceptedUnlink.{AcceptedUnlink}
 use Rattle.su_op.specs.Area.{kind_cell, links_cell, name_cell, all_cells}
 use Rattle.su_op.specs.Rule.{Plan, HasRow, Rule, Rule.Accept, Rule.Demand, Rule.Find, may_touch, group_of, pointer_edits, pointer_areas, file_areas}
 
@@ -46,16 +45,6 @@ unlink_rule ro T a u =
     (Demand (leads_to_at T d u.name u.file) NoName
     (Demand (is_bare_at T f) NotEmpty
     (Accept (unlink_plan (links_at T f) u d f))))))))))
-
--- ---- what it does once it is accepted
-
--- its plan
-abbrev pub accepted_unlink_plan : AcceptedUnlink → Plan
-accepted_unlink_plan x = unlink_plan x.links x.unlink.now x.directory x.place
-
--- in T the file still has as many links
-abbrev pub UnlinkFits : Tree → AcceptedUnlink → Type 0
-UnlinkFits T x = links_at T x.place ≡ x.links
 
 -- reads kind and pointer of the directory and of the file; writes the name at the directory, and of
 -- the file the links where there are two or more, else the whole inode and its pointer

@@ -1,6 +1,6 @@
 -- A write by user a: the bytes of a file from an offset on are these, and a gap before them is
 -- zeros.
-use Rattle.std.specs.Prelude.{◌≡◌, ℕ, ◌+◌, ◌&&◌, [], ◌∷◌, length, min, nat_eq, nat_le, if◌then◌else◌}
+use Rattle.std.specs.Prelude.{ℕ, ◌+◌, ◌&&◌, [], ◌∷◌, length, min, nat_eq, nat_le, if◌then◌else◌}
 use Rattle.su_bytes.specs.declared.refusals.Refusal.TheVariants.{BadNumber, NotMember, NoFile, WrongKind, NotHolder, TooBig}
 use Rattle.su_bytes.specs.declared.formats.Format.{Format}
 use Rattle.su_bytes.specs.Membership.{Membership}
@@ -9,7 +9,6 @@ use Rattle.su_bytes.specs.Place.{Place}
 use Rattle.su_table.specs.Tree.{Tree}
 use Rattle.su_table.specs.Query.{body, is_file_at, size_at}
 use Rattle.su_table.specs.Edit.{Edit.Inodes}
-use Rattle.su_op.specs.declared.write.AcceptedWrite.{AcceptedWrite}
 use Rattle.su_op.specs.Area.{blocks_between, kind_cell, size_cell, block_cells}
 use Rattle.su_op.specs.Writing.{Writing}
 use Rattle.su_op.specs.Limits.{largest_write, largest_file}
@@ -32,16 +31,6 @@ write_rule ro T a format w =
     (Demand (nat_eq f.0 a) (NotHolder f.0)
     (Demand (nat_le (w.off + length w.bytes) (largest_file format)) TooBig
     (Accept (write_plan (size_at T f) w f)))))))
-
--- ---- what it does once it is accepted
-
--- its plan
-abbrev pub accepted_write_plan : AcceptedWrite → Plan
-accepted_write_plan x = write_plan x.size x.write.now x.place
-
--- in T the file still has that size
-abbrev pub WriteFits : Tree → AcceptedWrite → Type 0
-WriteFits T x = size_at T x.place ≡ x.size
 
 -- reads the file's size, kind and pointer; writes the blocks that it touches, and where the file
 -- grows its size, and the blocks from the old end on

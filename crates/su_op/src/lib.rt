@@ -11,7 +11,6 @@ mod laws;
 mod limits;
 mod link;
 mod operations;
-mod pointers;
 mod rename;
 mod take;
 mod truncate;
@@ -22,7 +21,7 @@ pub use access::closed_group;
 pub use areas::{Area, BlockRun, Part};
 pub use batches::Batch;
 pub use create::Create;
-pub use drop_body::{DropBody, stale_home};
+pub use drop_body::DropBody;
 pub use footprints::{Footprint, blocks_between, push_file, push_pointer};
 pub use laws::{
     batches_are_local, batches_are_their_operations, batches_change_whole, kinds_change_whole,
@@ -30,7 +29,7 @@ pub use laws::{
 };
 pub use limits::{LARGEST_WRITE, MOST_LINKS, largest_file};
 pub use link::Link;
-pub use operations::{Accepted, Change, Op, apply, footprint};
+pub use operations::{Change, Op};
 pub use rename::Rename;
 pub use take::Take;
 pub use truncate::Truncate;
