@@ -1,0 +1,10 @@
+//! A source of items that leaves what is put there in a file of one's own, and asks another source for
+//! what isn't there.
+#![tactic(auto)]
+
+mod blocks;
+mod places;
+mod scratches;
+
+pub use blocks::ScratchBlocks;
+pub use scratches::Scratch;
