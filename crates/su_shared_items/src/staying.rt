@@ -85,7 +85,7 @@ impl StayingItems {
     {
         let cost = cost_of(item);
         let room = purpose.share_of(self.room);
-        if cost > room.saturating_sub(self.taken) {
+        if self.taken > room || cost > room - self.taken {
             return Err(Refusal::NoMemory);
         }
         prove!(self.taken + cost <= self.room);

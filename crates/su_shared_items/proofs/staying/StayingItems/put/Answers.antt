@@ -34,3 +34,8 @@ returns-clause-stays c = λ d item was.
 pub returns-clause-bounded : goal.returns-clause-bounded
 returns-clause-bounded c =
     within_room c.insert.new.self.entries (c.self.inside.taken + c.cost_of-cost.result) c.self.inside.room (invariant_of-self-2 c)
+
+pub returns-clause-spares : goal.returns-clause-spares
+returns-clause-spares c =
+    let taken = (invariant_of-self-2 c).counted in
+    omega (arith, taken, c.share_of-room.ensures.value, c.if-self-room.false, c.if-cost-room.false)
