@@ -167,7 +167,7 @@ pub(crate) fn take_commit<S: BlockSource + Drop>(
 
 /// Returns the log of a view's list behind its first `from_` commits: of each commit its bytes and the
 /// item of its change, each with its length before it. `MissingBlock` where the view has left one of
-/// the items, `NoMemory`.
+/// these entries, `NoMemory`.
 pub fn log_behind<S: BlockSource + Drop>(
     alloc: Global,
     view: &View<S>,

@@ -123,22 +123,23 @@ impl<R: Read + Drop, W: Write + Drop, K: KeyStore + Drop> Member<R, W, K> {
         self.key.replace(signer);
     }
 
-    /// Leaves the items of the changes to whoever has them elsewhere, as `View::leave_items` does.
-    pub fn leave_items(&mut self)
+    /// Leaves the bytes of the commits, and the items of their changes, to whoever has them elsewhere,
+    /// as `View::leave_entries` does.
+    pub fn leave_entries(&mut self)
         ensures { self.new ≡ record self.old {
           holding = record self.old.holding {
             itemless = length self.old.holding.held;
           };
         } }
     {
-        self.view.leave_items();
+        self.view.leave_entries();
     }
 
     /// Leaves all of the tree to the server, but for the digests of its i-tables, as `View::shed`
     /// does: what is asked of the tree then is loaded. The server has it as long as the link lasts.
     /// Refused with `SourceFailed` where the server could not be asked, as a load is refused, and with
     /// `NoMemory`, also where the server has no room: then the tree is made anew in memory, unless the
-    /// items are left, and isn't left over this link any more.
+    /// view has left entries, and isn't left over this link any more.
     pub fn shed(&mut self) -> Result<(), Refusal>
         ensures refused { IsClear self.new → IfErr result IsLoadRefusal }
         ensures asks { OnlyAsks self.old self.new }
@@ -334,7 +335,7 @@ impl<R: Read + Drop, W: Write + Drop, K: KeyStore + Drop> Member<R, W, K> {
     }
 
     /// Makes the tree anew in memory, where some of it may be left to a server that may have let it
-    /// go. Where it can't be, for want of memory or of items that the view has left, what is left is
+    /// go. Where it can't be, for want of memory or of entries that the view has left, what is left is
     /// asked for as before.
     fn reload(&mut self)
         ensures { self.new ≡ self.old }

@@ -24,7 +24,6 @@ use su_files::Stat;
 use su_lms::KeyStore;
 use su_op::Op;
 use su_plan::Command;
-use su_version::Commit;
 use su_view::{View, ViewRefusal};
 
 impl<R: Read + Drop, W: Write + Drop, K: KeyStore + Drop> Member<R, W, K> {
@@ -171,27 +170,23 @@ impl<R: Read + Drop, W: Write + Drop, K: KeyStore + Drop> Member<R, W, K> {
     }
 
     /// Finds the number of the user's own last commit in the list; none where there is none. It is
-    /// for what a user is told, on which nothing rests: so no clause speaks of it, and where there is
-    /// no memory to read a commit, that one is passed over.
+    /// for what a user is told, on which nothing rests: so no clause speaks of it.
     pub fn own_last(&self) -> Option<u64> {
         let (count, _) = self.view.head();
         for before in 0..count {
-            let number = count - before;
-            if self.is_own(number) {
-                return Some(number);
+            let index = count - 1 - before;
+            if self.is_own(index as usize) {
+                return Some(index + 1);
             }
         }
         None
     }
 
-    /// Tells whether the commit of that number is the user's own.
-    fn is_own(&self, number: u64) -> bool {
-        let Some(bytes) = self.view.commit(number) else {
-            return false;
-        };
-        match Commit::decode(self.alloc, bytes) {
-            Ok(commit) => commit.version().author() == self.view.user(),
-            Err(_) => false,
+    /// Tells whether the entry at that index of the history is the user's own.
+    fn is_own(&self, index: usize) -> bool {
+        match self.view.history().get(index) {
+            Some(entry) => entry.author() == self.view.user(),
+            None => false,
         }
     }
 }

@@ -5,6 +5,7 @@ use Rattle.su_bytes.specs.Membership.{Membership}
 use Rattle.su_bytes.specs.RosterBytes.{roster_digest}
 use Rattle.su_version.specs.Chain.{chain_head, last_digest}
 use Rattle.std.specs.Option.{option_map}
+use Rattle.sha2.specs.Sha256.{sha256}
 use Rattle.su_version.specs.Commit.{commit_bytes, commit_digest}
 use Rattle.su_legal.specs.Legal.{Committed, commits_of}
 use Rattle.su_view.specs.Entry.{committed_at}
@@ -41,13 +42,13 @@ head_at_first ro cs n le e = go (nat_eq n 0) refl e
     go true is e = let none : n ≡ 0 = grind arith in ap (λ k. last_digest (roster_digest ro) (commits_of (take k cs))) none
     go false is e = let past = there (n - 1) e in let some : 1 ≤ n = grind arith in absurd (omega (arith, past, some, le))
 
--- ---- the commit whose bytes are lent
+-- ---- the commit whose digest is told
 
-pub commit_lent : (o : Option Committed) (bytes : List ℕ) → ◌≡◌ {A = Option (List ℕ)} (Some bytes) (option_map (λ (c : Committed). commit_bytes c.commit) o)
-    → (c : Committed) × (o ≡ Some c) × (bytes ≡ commit_bytes c.commit)
-commit_lent None bytes is = absurd (cc)
-commit_lent (Some c) bytes is = (c, refl, cc)
+pub digest_told : (o : Option Committed) (digest : List ℕ) → ◌≡◌ {A = Option (List ℕ)} (Some digest) (option_map (λ (c : Committed). sha256 (commit_bytes c.commit)) o)
+    → (c : Committed) × (o ≡ Some c) × (digest ≡ sha256 (commit_bytes c.commit))
+digest_told None digest is = absurd (cc)
+digest_told (Some c) digest is = (c, refl, cc)
 
-pub none_lent : (o : Option Committed) → ◌≡◌ {A = Option (List ℕ)} None (option_map (λ (c : Committed). commit_bytes c.commit) o) → o ≡ None
-none_lent None is = refl
-none_lent (Some c) is = absurd (cc)
+pub none_told : (o : Option Committed) → ◌≡◌ {A = Option (List ℕ)} None (option_map (λ (c : Committed). sha256 (commit_bytes c.commit)) o) → o ≡ None
+none_told None is = refl
+none_told (Some c) is = absurd (cc)

@@ -2,7 +2,7 @@
 ghost use Rattle.std.specs.Prelude.{◌≡◌, ◌≤◌, length};
 ghost use Rattle.su_compare.specs.Standing.{Stands, head_at};
 
-use su_block::{BlockSource, digest_of};
+use su_block::BlockSource;
 use su_bytes::Digest;
 use su_view::View;
 
@@ -42,8 +42,8 @@ fn head_at<S: BlockSource + Drop>(view: &View<S>, number: u64) -> Digest
     requires { number ≤ length view.now.holding.held }
     ensures { result ≡ head_at view.now.holding.roster view.now.holding.held number }
 {
-    match view.commit(number) {
-        Some(bytes) => digest_of(bytes),
+    match view.digest(number) {
+        Some(digest) => digest,
         None => view.roster().digest(),
     }
 }

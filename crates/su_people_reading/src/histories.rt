@@ -7,7 +7,7 @@ ghost use Rattle.su_people_reading.specs.Reading.{AreNewest};
 use crate::listings::escaped;
 use std::alloc::{AllocError, Global};
 use std::io::{Read, Write};
-use su_block::{BlockSource, digest_of};
+use su_block::BlockSource;
 use su_bytes::{Digest, Refusal};
 use su_client_work::Member;
 use su_compare::{Standing, compare};
@@ -181,8 +181,8 @@ fn standing_of<S: BlockSource + Drop>(view: &View<S>, args: &CompareArgs) -> Sta
 /// Returns the digest of the head that a view's list had when it had so many commits; of the
 /// roster where it never had.
 fn digest_at<S: BlockSource + Drop>(view: &View<S>, number: u64) -> Digest {
-    match view.commit(number) {
-        Some(bytes) => digest_of(bytes),
+    match view.digest(number) {
+        Some(digest) => digest,
         None => view.roster().digest(),
     }
 }

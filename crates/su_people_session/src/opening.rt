@@ -72,7 +72,7 @@ fn view_of<T: Threads + Sync>(
         }
         length = length.saturating_add(portion.len() as u64);
         if items == Items::Left {
-            view.leave_items();
+            view.leave_entries();
         }
     }
     Ok(view)

@@ -30,12 +30,12 @@ pub struct Session<'a, T, K: KeyStore> {
 }
 
 impl<T, K: KeyStore + Drop> Session<'_, T, K> {
-    /// Leaves the items of the changes to the log of the state folder, where that has all of them: no
-    /// memory holds them then.
-    pub fn leave_items(&mut self) {
+    /// Leaves the bytes of the commits, and the items of their changes, to the log of the state folder,
+    /// where that has all of them: no memory holds them then.
+    pub fn leave_entries(&mut self) {
         let (count, _) = self.member.view().head();
         if self.helper.has_kept(count) {
-            self.member.leave_items();
+            self.member.leave_entries();
         }
     }
 }
@@ -71,7 +71,7 @@ where
     let Opened { folder, view } = open(rt, host, given, Items::Left)?;
     let signer = signer_for(rt, host, &folder, &view)?;
     let mut session = caught_up(session_of(rt, host, Opened { folder, view }, signer)?)?;
-    session.leave_items();
+    session.leave_entries();
     follow_key(&mut session)?;
     Ok(session)
 }

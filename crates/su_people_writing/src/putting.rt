@@ -110,7 +110,7 @@ where
         }
     }
     group.clear();
-    session.leave_items();
+    session.leave_entries();
     Ok(())
 }
 

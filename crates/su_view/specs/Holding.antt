@@ -3,7 +3,8 @@
 use Rattle.std.specs.Prelude.{◌≡◌, ℕ, List, ◌++◌, Some, slice_get}
 use Rattle.su_bytes.specs.Membership.{Membership}
 use Rattle.su_version.specs.Version.{Version}
-use Rattle.su_version.specs.Commit.{Commit}
+use Rattle.sha2.specs.Sha256.{sha256}
+use Rattle.su_version.specs.Commit.{Commit, commit_bytes}
 use Rattle.su_change.specs.Item.{IsChange, HasItem}
 use Rattle.su_table.specs.Tree.{Tree}
 use Rattle.su_desk.specs.Applied.{tree_after}
@@ -14,16 +15,17 @@ pub record HoldingState : Type 0 where
   pub roster : Membership
   pub user : ℕ
   pub held : List Committed
-  -- of so many commits, the first ones, the items aren't at hand
+  -- of so many commits, the first ones, neither the bytes nor the items are at hand
   pub itemless : ℕ
 
 -- the tree that the list makes
 abbrev pub tree_of_list : HoldingState → Tree
 tree_of_list v = tree_after v.roster (history v.held)
 
--- the commit is one of those that are held
+-- the commit is one of those that are held, by its digest, as the commits behind it name it
 abbrev pub IsHeld : HoldingState → Commit → Type 0
-IsHeld v c = (i : ℕ) × (slice_get (commits_of v.held) i ≡ Some c)
+IsHeld v c = (i : ℕ) × (held : Commit) × (slice_get (commits_of v.held) i ≡ Some held)
+    × (sha256 (commit_bytes held) ≡ sha256 (commit_bytes c))
 
 -- an item spells the change of the commit
 abbrev pub HasSpelledChange : Committed → Type 0

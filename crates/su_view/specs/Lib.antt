@@ -2,7 +2,7 @@ pub mod Holding
 pub mod Acting
 pub mod Viewed
 pub mod Keeping
-pub mod Spelled
+pub mod KeptCommit
 pub mod Entry
 pub mod OwnKey
 pub mod Making

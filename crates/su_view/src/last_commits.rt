@@ -1,21 +1,21 @@
 // The last commits of the users, as a server shows them.
-ghost use Rattle.std.specs.Prelude.{◌≡◌, ◌⊎◌, ◌↔◌, IsTrue, true, nat_eq, IfOk, IfErr, IfSome, OnOk, option_map};
+ghost use Rattle.std.specs.Prelude.{◌≡◌, ◌⊎◌, ◌↔◌, IsTrue, true, IfOk, IfErr, OnOk};
 ghost use Rattle.std.specs.List.{AllByRecursion, list_any};
-ghost use Rattle.std.specs.Cmp.Lexicographic.{pointwise};
 ghost use Rattle.std.specs.Option.{option_copied};
 ghost use Rattle.su_bytes.specs.declared.refusals.Refusal.TheVariants.{NoMemory};
 ghost use Rattle.su_bytes.specs.Order.{Passes, RefusedBy};
-ghost use Rattle.su_view.specs.Keeping.{commit_in, holding_of, IsKeeping};
-ghost use Rattle.su_view.specs.Spelled.{IsSpelled};
-ghost use Rattle.su_view.specs.LastCommits.{own_last, own_order, AreSigned, is_by, IsNotBehind, IsShownSigned, ShowsLast, ShowsOwn, shown_order};
+ghost use Rattle.su_view.specs.Keeping.{holding_of, IsKeeping};
+ghost use Rattle.su_view.specs.KeptCommit.{has_digest};
+ghost use Rattle.su_view.specs.LastCommits.{own_order, AreSigned, is_by, IsNotBehind, IsShownSigned, ShowsLast, ShowsOwn, shown_order};
 ghost use Rattle.su_view.specs.Holding.{IsHeld};
 ghost use Rattle.su_view.specs.declared.refusals.ViewRefusal.TheVariants.{Plain};
 
-use crate::records::{Keeping, Record};
+use crate::kept_commits::KeptCommit;
+use crate::records::Keeping;
 use crate::refusals::ViewRefusal;
 use std::alloc::Global;
-use su_block::BlockSource;
-use su_bytes::{FileId, Refusal, Roster, User};
+use su_block::{BlockSource, digest_of};
+use su_bytes::{Digest, FileId, Refusal, Roster, User};
 use su_vector::{Vector, first_unordered};
 use su_version::{Commit, Verdict};
 
@@ -44,21 +44,9 @@ pub(crate) fn check_list<S: BlockSource>(
         alloc,
         keeping.desk.roster(),
         keeping.user,
-        own_record(keeping),
+        keeping.own.as_ref(),
         shown,
     )
-}
-
-/// Finds the user's last commit that is kept, if there is one.
-fn own_record<S: BlockSource>(keeping: &Keeping<S>) -> Option<&Record>
-    requires { IsKeeping S.may_give keeping.now }
-    ensures spelled { IfSome (option_copied result) IsSpelled }
-    ensures last { option_map commit_in (option_copied result) ≡ own_last (holding_of keeping.now) }
-{
-    match keeping.own {
-        None => None,
-        Some(index) => Some(&keeping.records[index]),
-    }
 }
 
 /// Checks commits that are shown as the users' last ones, for a client of that user, by the user's
@@ -69,14 +57,13 @@ fn check_own(
     alloc: Global,
     roster: &Roster,
     user: User,
-    last: Option<&Record>,
+    last: Option<&Commit>,
     shown: &[Commit],
 ) -> Result<(), ViewRefusal>
-    requires { IfSome (option_copied last) IsSpelled }
     ensures passes { OnOk result (Passes (own_order roster.now user
-        (option_map commit_in (option_copied last.entry)) shown.now)) }
+        (option_copied last.entry) shown.now)) }
     ensures refused { IfErr result (λ e. (e ≡ Plain NoMemory) ⊎ RefusedBy (own_order roster.now
-        user (option_map commit_in (option_copied last.entry)) shown.now) e) }
+        user (option_copied last.entry) shown.now) e) }
 {
     // names the type for the prover (docs/ARCHITECTURE.md, "Forms the kit wants")
     let _file: Option<FileId> = None;
@@ -150,31 +137,29 @@ fn is_held<S: BlockSource>(
 {
     let place = place_of(keeping.desk.roster(), commit.version().vector());
     let bytes = commit.encode(alloc)?;
+    let digest = digest_of(bytes.as_slice());
     let records = keeping.records.as_slice();
-    if has_at(records, place, bytes.as_slice()) {
+    if has_at(records, place, digest) {
         return Ok(true);
     }
-    Ok(has_bytes(records, bytes.as_slice()))
+    Ok(has_digest(records, digest))
 }
 
-/// Whether the record at that place has these bytes.
-fn has_at(records: &[Record], place: usize, bytes: &[u8]) -> bool
-    ensures { result ≡ true → list_any (λ r. pointwise nat_eq r.bytes.items bytes.now) records.now
-        ≡ true }
+/// Whether the commit at that place has this digest.
+fn has_at(records: &[KeptCommit], place: usize, digest: Digest) -> bool
+    ensures { result ≡ true → list_any (has_digest digest) records.now ≡ true }
 {
     match records.get(place) {
-        Some(record) => record.bytes.as_slice() == bytes,
+        Some(record) => record.digest() == digest,
         None => false,
     }
 }
 
-/// Whether a record has these bytes.
-fn has_bytes(records: &[Record], bytes: &[u8]) -> bool
-    ensures { result ≡ list_any (λ r. pointwise nat_eq r.bytes.items bytes.now) records.now }
+/// Whether one of the commits has this digest.
+fn has_digest(records: &[KeptCommit], digest: Digest) -> bool
+    ensures { result ≡ list_any (has_digest digest) records.now }
 {
-    records
-        .iter()
-        .any(|record| record.bytes.as_slice() == bytes)
+    records.iter().any(|record| record.digest() == digest)
 }
 
 /// Where in a list, counted from 0, a commit of that vector stands: its numbers of the users count
@@ -192,12 +177,11 @@ fn shows_own(
     alloc: Global,
     roster: &Roster,
     user: User,
-    last: Option<&Record>,
+    last: Option<&Commit>,
     shown: &[Commit],
 ) -> Result<bool, Refusal>
-    requires { IfSome (option_copied last) IsSpelled }
     ensures value { IfOk result (λ b. IsTrue b ↔ ShowsOwn roster.now user
-        (option_map commit_in (option_copied last.entry)) shown.now) }
+        (option_copied last.entry) shown.now) }
     ensures refused { IfErr result (λ e. e ≡ NoMemory) }
 {
     match last {
@@ -212,12 +196,11 @@ fn shows_last(
     alloc: Global,
     roster: &Roster,
     user: User,
-    last: &Record,
+    last: &Commit,
     shown: &[Commit],
 ) -> Result<bool, Refusal>
-    requires { IsSpelled last.now }
     ensures value { IfOk result (λ b.
-        IsTrue b ↔ ShowsLast roster.now user (commit_in last.now) shown.now) }
+        IsTrue b ↔ ShowsLast roster.now user last.now shown.now) }
     ensures refused { IfErr result (λ e. e ≡ NoMemory) }
 {
     if !has_own(user, shown) {
@@ -238,12 +221,11 @@ fn are_not_behind(
     alloc: Global,
     roster: &Roster,
     user: User,
-    last: &Record,
+    last: &Commit,
     shown: &[Commit],
 ) -> Result<bool, Refusal>
-    requires { IsSpelled last.now }
     ensures value { IfOk result (λ b. IsTrue b ↔ AllByRecursion (λ c. is_by user c ≡ true
-        → IsNotBehind roster.now user (commit_in last.now) c) shown.now) }
+        → IsNotBehind roster.now user last.now c) shown.now) }
     ensures refused { IfErr result (λ e. e ≡ NoMemory) }
 {
     // names the type for the prover (docs/ARCHITECTURE.md, "Forms the kit wants")
@@ -263,12 +245,11 @@ fn is_other_or_not_behind(
     alloc: Global,
     roster: &Roster,
     user: User,
-    last: &Record,
+    last: &Commit,
     commit: &Commit,
 ) -> Result<bool, Refusal>
-    requires { IsSpelled last.now }
     ensures value { IfOk result (λ b. IsTrue b ↔ (is_by user commit.now ≡ true
-        → IsNotBehind roster.now user (commit_in last.now) commit.now)) }
+        → IsNotBehind roster.now user last.now commit.now)) }
     ensures refused { IfErr result (λ e. e ≡ NoMemory) }
 {
     if commit.version().author() != user {
@@ -282,23 +263,23 @@ fn is_not_behind(
     alloc: Global,
     roster: &Roster,
     user: User,
-    last: &Record,
+    last: &Commit,
     commit: &Commit,
 ) -> Result<bool, Refusal>
-    requires { IsSpelled last.now }
     ensures value { IfOk result (λ b.
-        IsTrue b ↔ IsNotBehind roster.now user (commit_in last.now) commit.now) }
+        IsTrue b ↔ IsNotBehind roster.now user last.now commit.now) }
     ensures refused { IfErr result (λ e. e ≡ NoMemory) }
 {
     let Some(number) = commit.version().vector().number_of(roster, user) else {
         return Ok(false);
     };
-    let Some(held) = last.version.vector().number_of(roster, user) else {
+    let Some(held) = last.version().vector().number_of(roster, user) else {
         return Ok(true);
     };
     if held != number {
         return Ok(held < number);
     }
     let bytes = commit.encode(alloc)?;
-    Ok(bytes.as_slice() == last.bytes.as_slice())
+    let last_bytes = last.encode(alloc)?;
+    Ok(bytes.as_slice() == last_bytes.as_slice())
 }

@@ -3,6 +3,7 @@
 #![tactic(auto)]
 
 mod handles;
+mod kept_commits;
 mod keys;
 mod last_commits;
 mod lists;

@@ -1,42 +1,43 @@
 // How the commits that are held are kept.
-ghost use Rattle.std.specs.Prelude.{◌≡◌, ◌<◌, ◌∷◌, ℕ, List, [], true, Some, cond, length, vec_capacity, OnOk};
+ghost use Rattle.std.specs.Prelude.{◌≡◌, ◌<◌, ◌∷◌, ℕ, List, [], length, vec_capacity, IfOk, IfErr, OnOk};
 ghost use Rattle.su_op.specs.declared.operations.Change.{Change};
 ghost use Rattle.su_bytes.specs.Membership.{Membership};
 ghost use Rattle.su_desk.specs.Trial.{nothing_ready, with_ready};
-ghost use Rattle.su_version.specs.Commit.{Commit as CommitParts};
+ghost use Rattle.su_bytes.specs.declared.refusals.Refusal.TheVariants.{NoMemory};
+ghost use Rattle.su_version.specs.Commit.{Commit as CommitParts, commit_bytes};
 ghost use Rattle.su_chain.specs.ChainEnd.{IsEndOf};
 ghost use Rattle.su_used_keys.specs.UsedKeys.{HasRoom};
 ghost use Rattle.su_stored_desk.specs.Asked.{GivesOnly};
 ghost use Rattle.su_view.specs.Holding.{with_more};
-ghost use Rattle.su_view.specs.Keeping.{holding_of, view_of, IsKeeping, JoinsNext};
+ghost use Rattle.su_view.specs.Keeping.{holding_of, if_by, view_of, IsKeeping, JoinsNext};
 
-use sha2::Sha256;
+use crate::kept_commits::KeptCommit;
 use std::alloc::{AllocError, Global};
-use su_block::BlockSource;
-use su_bytes::{Digest, User};
+use su_block::{BlockSource, digest_of};
+use su_bytes::{Refusal, User};
 use su_chain::ChainEnd;
 use su_desk::Prepared;
 use su_stored_desk::TrialDesk;
-use su_version::{Commit, VersionStructure};
+use su_version::Commit;
 
-/// A commit that is held: its version structure, and its bytes.
+/// The bytes of a commit, and the item of its change.
 #[derive(Drop)]
-pub(crate) struct Record {
-    pub(crate) version: VersionStructure,
-    pub(crate) bytes: Vec<u8>,
+pub(crate) struct Spelling {
+    pub(crate) commit: Vec<u8>,
+    pub(crate) item: Vec<u8>,
 }
 
-/// What a client keeps: whose client it is, the index of the user's last commit, the commits, how
-/// many of them have no item at hand, which are the first, the items of the others, what the commits
-/// come to for the next one, and the desk that their changes make, with the source. (It has no model,
-/// so that its fields can be lent; what it means is its owner's.)
+/// What a client keeps: whose client it is, the user's last commit, the commits, how many of them have
+/// neither bytes nor items at hand, which are the first, those of the others, what the commits come to
+/// for the next one, and the desk that their changes make, with the source. (It has no model, so that
+/// its fields can be lent; what it means is its owner's.)
 #[derive(Drop)]
 pub(crate) struct Keeping<S: BlockSource> {
     pub(crate) user: User,
-    pub(crate) own: Option<usize>,
-    pub(crate) records: Vec<Record>,
+    pub(crate) own: Option<Commit>,
+    pub(crate) records: Vec<KeptCommit>,
     pub(crate) itemless: usize,
-    pub(crate) items: Vec<Vec<u8>>,
+    pub(crate) spellings: Vec<Spelling>,
     pub(crate) end: ChainEnd,
     pub(crate) desk: TrialDesk<S>,
 }
@@ -56,7 +57,7 @@ impl<S: BlockSource + Drop> Keeping<S> {
             own,
             records,
             itemless,
-            items,
+            spellings,
             end,
             desk,
         } = self;
@@ -65,7 +66,7 @@ impl<S: BlockSource + Drop> Keeping<S> {
             own,
             records,
             itemless,
-            items,
+            spellings,
             end,
             desk: desk.with_source(source),
         }
@@ -78,56 +79,59 @@ impl<S: BlockSource> Keeping<S> {
         ensures same { self.new
             ≡ record self.old {
               records = self.new.records;
-              items = self.new.items;
+              spellings = self.new.spellings;
               end = self.new.end;
             } }
         ensures records { self.new.records.items ≡ self.old.records.items }
-        ensures items { self.new.items.items ≡ self.old.items.items }
+        ensures spellings { self.new.spellings.items ≡ self.old.spellings.items }
         ensures end { (ro : Membership) (cs : List CommitParts)
             → IsEndOf ro cs self.old.end → IsEndOf ro cs self.new.end }
         ensures room { OnOk result
             (length self.new.records.items < vec_capacity self.new.records) }
-        ensures item_room { OnOk result
-            (length self.new.items.items < vec_capacity self.new.items) }
+        ensures spelling_room { OnOk result
+            (length self.new.spellings.items < vec_capacity self.new.spellings) }
         ensures key_room { OnOk result (HasRoom self.new.end.used) }
     {
         self.records.reserve(1)?;
-        self.items.reserve(1)?;
+        self.spellings.reserve(1)?;
         self.end.reserve()
     }
 
-    /// Adds a commit whose change stands ready, with its bytes and the item of its change. It takes
-    /// no memory.
-    pub fn push(&mut self, commit: Commit, bytes: Vec<u8>, item: Vec<u8>, prepared: Prepared)
+    /// Adds a commit whose change stands ready, with a copy of it if it is the user's own, its bytes, and
+    /// the item of its change. It takes no memory.
+    pub fn push(
+        &mut self,
+        commit: Commit,
+        own: Option<Commit>,
+        spelling: Spelling,
+        prepared: Prepared,
+    )
         requires kept { IsKeeping S.may_give self.old }
         requires room { length self.old.records.items < vec_capacity self.old.records }
-        requires item_room { length self.old.items.items < vec_capacity self.old.items }
+        requires spelling_room { length self.old.spellings.items < vec_capacity self.old.spellings }
         requires key_room { HasRoom self.old.end.used }
-        requires joins { (change : Change)
-            × JoinsNext S.may_give self.old commit change bytes.items item.items }
+        requires own_is { own ≡ if_by self.old.user commit }
+        requires joins { (change : Change) × JoinsNext S.may_give self.old commit change
+            spelling.commit.items spelling.item.items }
         ensures kept { IsKeeping S.may_give self.new }
-        ensures pushed { (change : Change)
-            → JoinsNext S.may_give self.old commit change bytes.items item.items
+        ensures pushed { (change : Change) → JoinsNext S.may_give self.old commit change
+            spelling.commit.items spelling.item.items
             → holding_of self.new ≡ with_more (holding_of self.old)
             (record { commit = commit; change = change } ∷ []) }
         ensures desk { self.new.desk ≡ record self.old.desk {
           state = nothing_ready (with_ready self.old.desk.state.settled self.old.desk.state.ready);
         } }
     {
-        let digest = Digest::new(<Sha256 as sha2::Digest>::digest(bytes.as_slice()));
-        let is_own = commit.version().author() == self.user;
-        self.own = last_index(self.own, is_own, self.records.len());
+        let digest = digest_of(spelling.commit.as_slice());
+        self.own = own.or(self.own.take());
         self.end.push(self.desk.roster(), &commit, digest);
         self.desk.settle(prepared);
-        self.items.push_reserved(item);
-        self.records.push_reserved(Record {
-            version: commit.into_version(),
-            bytes,
-        });
+        self.spellings.push_reserved(spelling);
+        self.records.push_reserved(KeptCommit::new(commit, digest));
     }
 
-    /// Forgets the items of all commits.
-    pub fn leave_items(&mut self, alloc: Global)
+    /// Forgets the bytes of all commits, and the items of their changes.
+    pub fn leave_entries(&mut self, alloc: Global)
         requires kept { IsKeeping S.may_give self.old }
         ensures kept { IsKeeping S.may_give self.new }
         ensures left { holding_of self.new ≡ record (holding_of self.old) {
@@ -136,13 +140,26 @@ impl<S: BlockSource> Keeping<S> {
         ensures desk { self.new.desk ≡ self.old.desk }
     {
         self.itemless = self.records.len();
-        self.items = Vec::new(alloc);
+        self.spellings = Vec::new(alloc);
     }
 }
 
-/// The index of a user's last commit, where one more is added at this index.
-fn last_index(own: Option<usize>, is_own: bool, index: usize) -> Option<usize>
-    ensures { result ≡ cond is_own (Some index) own }
+/// Copies a commit of these bytes, if that user made it. Fails only with `NoMemory`.
+pub(crate) fn copy_of_own(
+    alloc: Global,
+    user: User,
+    commit: &Commit,
+    bytes: &[u8],
+) -> Result<Option<Commit>, Refusal>
+    requires { bytes.now ≡ commit_bytes commit.now }
+    ensures copied { IfOk result (λ own. own ≡ if_by user commit.now) }
+    ensures refused { IfErr result (λ e. e ≡ NoMemory) }
 {
-    if is_own { Some(index) } else { own }
+    if commit.version().author() != user {
+        return Ok(None);
+    }
+    match Commit::decode(alloc, bytes) {
+        Ok(copy) => Ok(Some(copy)),
+        Err(_) => Err(Refusal::NoMemory),
+    }
 }

@@ -1,7 +1,8 @@
 // A client's view.
-ghost use Rattle.std.specs.Prelude.{◌≡◌, ◌⊎◌, ◌≤◌, ℕ, List, [], true, length, None, IfOk, IfErr, OnOk, MatchOption, option_copied, option_map};
+ghost use Rattle.std.specs.Prelude.{◌≡◌, ◌⊎◌, ◌≤◌, ℕ, List, [], true, length, None, IfOk, IfErr, OnOk, MatchOption, option_map};
 ghost use Rattle.std.specs.Borrow.{Lends, sem};
 ghost use Rattle.std.specs.List.{AllByRecursion};
+ghost use Rattle.sha2.specs.Sha256.{sha256};
 ghost use Rattle.su_bytes.specs.Membership.{has_user};
 ghost use Rattle.su_bytes.specs.Order.{Passes, RefusedBy};
 ghost use Rattle.su_bytes.specs.declared.refusals.Refusal.TheVariants.{BadKey, NoUser, NoMemory};
@@ -85,7 +86,7 @@ impl<S: BlockSource + Drop> View<S> {
             own: None,
             records: Vec::new(alloc),
             itemless: 0,
-            items: Vec::new(alloc),
+            spellings: Vec::new(alloc),
             end,
             desk: TrialDesk::new(alloc, roster, source)?,
         };
@@ -177,7 +178,7 @@ impl<S: BlockSource> View<S> {
     }
 
     /// Lends the bytes of the commit of that number, from 1, and the item of its change; none
-    /// where the view holds no commit of that number, or its item was left.
+    /// where the view holds no commit of that number, or its entry was left.
     pub fn entry(&self, number: u64) -> Option<(&[u8], &[u8])>
         ensures { let v = self.now.holding in MatchOption result
             ((committed_at v.held number ≡ None) ⊎ (number ≤ v.itemless))
@@ -190,15 +191,14 @@ impl<S: BlockSource> View<S> {
         if self.number() < number {
             return None;
         }
-        let index = (number - 1) as usize;
-        let record = &self.keeping.records[index];
-        let item = &self.keeping.items[index - itemless];
-        Some((record.bytes.as_slice(), item.as_slice()))
+        let spelling = &self.keeping.spellings[(number - 1) as usize - itemless];
+        Some((spelling.commit.as_slice(), spelling.item.as_slice()))
     }
 
-    /// Lends the bytes of the commit of that number, from 1, if the view holds one.
-    pub fn commit(&self, number: u64) -> Option<&[u8]>
-        ensures { option_copied result ≡ option_map (λ c. commit_bytes c.commit)
+    /// Returns the digest of the commit of that number, from 1, if the view holds one: the head of
+    /// the list when it had so many.
+    pub fn digest(&self, number: u64) -> Option<Digest>
+        ensures { result ≡ option_map (λ c. sha256 (commit_bytes c.commit))
             (committed_at self.now.holding.held number) }
     {
         if number == 0 {
@@ -207,19 +207,18 @@ impl<S: BlockSource> View<S> {
         if self.number() < number {
             return None;
         }
-        let record = &self.keeping.records[(number - 1) as usize];
-        Some(record.bytes.as_slice())
+        Some(self.keeping.records[(number - 1) as usize].digest())
     }
 
-    /// Leaves the items of the changes to whoever has them elsewhere, as in a log: of the commits
-    /// that the view holds now `entry` lends none from then on, and no memory holds their items.
-    /// Nothing else of the view changes.
-    pub fn leave_items(&mut self)
+    /// Leaves the bytes of the commits, and the items of their changes, to whoever has them elsewhere,
+    /// as in a log: of the commits that the view holds now `entry` lends none from then on, and no
+    /// memory holds them. Nothing else of the view changes.
+    pub fn leave_entries(&mut self)
         ensures { self.new ≡ record self.old {
           holding = record self.old.holding { itemless = length self.old.holding.held };
         } }
     {
-        self.keeping.leave_items(self.alloc);
+        self.keeping.leave_entries(self.alloc);
     }
 
     /// Returns the version numbers of the users of the roster, and then of its groups: of a user

@@ -13,10 +13,12 @@ ghost use Rattle.su_view.specs.Joining.{AscendFrom, HasFailed, IsNotNext, IsOthe
 ghost use Rattle.su_view.specs.Listing.{IsRefusedBytes};
 ghost use Rattle.su_view.specs.declared.refusals.ViewRefusal.TheVariants.{Plain, Change as ChangeRefused};
 ghost use Rattle.su_view.specs.Viewed.{FailsToLoad};
+ghost use Rattle.su_view.specs.Keeping.{if_by};
 
 use super::View;
 use crate::handles::first_other;
 use crate::lists::first_record;
+use crate::records::{Spelling, copy_of_own};
 use crate::refusals::ViewRefusal;
 use sha2::Sha256;
 use su_block::BlockSource;
@@ -241,8 +243,8 @@ impl<S: BlockSource> View<S> {
         self.copy_and_join(commit, bytes, item)
     }
 
-    /// Takes a commit that may be the next, with a copy of its bytes and the item of its change.
-    /// The refusals are those of `join`.
+    /// Takes a commit that may be the next, with a copy of its bytes and the item of its change, and
+    /// another copy of it where it is the user's own. The refusals are those of `join`.
     fn copy_and_join(
         &mut self,
         commit: Commit,
@@ -263,16 +265,27 @@ impl<S: BlockSource> View<S> {
         let Ok(copy) = Vec::from_slice(self.alloc, bytes) else {
             return Err(ViewRefusal::Plain(Refusal::NoMemory));
         };
-        self.join(commit, copy, item)
+        let Ok(own) = copy_of_own(self.alloc, self.keeping.user, &commit, bytes) else {
+            return Err(ViewRefusal::Plain(Refusal::NoMemory));
+        };
+        self.join(commit, own, copy, item)
     }
 
-    /// Takes a commit that may be the next, with its bytes and the item of its change. `Change`
+    /// Takes a commit that may be the next, with a copy of it if it is the user's own, its bytes, and
+    /// the item of its change. `Change`
     /// where the item is that of no change, or the change is refused; `WrongKey` where the commit
     /// has another next key of its author than the change names; `WrongHandle` where it holds
     /// another i-handle than the tree has then; or as a load is refused. A refusal leaves the list as
     /// it was.
-    fn join(&mut self, commit: Commit, bytes: Vec<u8>, item: Vec<u8>) -> Result<(), ViewRefusal>
+    fn join(
+        &mut self,
+        commit: Commit,
+        own: Option<Commit>,
+        bytes: Vec<u8>,
+        item: Vec<u8>,
+    ) -> Result<(), ViewRefusal>
         requires next { let v = self.old.holding in MayBeNext v.roster (commits_of v.held) commit }
+        requires own_is { own ≡ if_by self.old.holding.user commit }
         requires bytes { bytes.items ≡ commit_bytes commit }
         requires named { sha256 item.items ≡ commit.version.change }
         ensures took { OnOk result ((change : Change_) × (item.items ≡ item_bytes change)
@@ -303,7 +316,11 @@ impl<S: BlockSource> View<S> {
         if self.keeping.reserve().is_err() {
             return Err(ViewRefusal::Plain(Refusal::NoMemory));
         }
-        self.keeping.push(commit, bytes, item, prepared);
+        let spelling = Spelling {
+            commit: bytes,
+            item,
+        };
+        self.keeping.push(commit, own, spelling, prepared);
         Ok(())
     }
 }

@@ -13,7 +13,7 @@ use su_stored_desk::TrialDesk;
 
 impl<S: BlockSource + Drop> View<S> {
     /// Makes the tree anew from the changes that the view holds, all of it in memory; the source isn't
-    /// asked. Nothing that is held changes. `MissingBlock` where the view has left one of their items,
+    /// asked. Nothing that is held changes. `MissingBlock` where the view has left the entry of one,
     /// `NoMemory`; then the tree stays where it was.
     pub fn reload(&mut self) -> Result<(), Refusal>
         ensures { self.new ≡ self.old }
@@ -42,7 +42,7 @@ impl<S: BlockSource + Drop> View<S> {
     }
 
     /// Returns the entry that the commit of that number makes, from 1. `MissingBlock` where the view
-    /// has left its item, `NoMemory`.
+    /// has left its entry, `NoMemory`.
     fn entry_made(&self, number: u64) -> Result<Entry, Refusal>
         requires some { 0 < number }
         requires held { number ≤ length self.now.holding.held }
@@ -53,7 +53,7 @@ impl<S: BlockSource + Drop> View<S> {
             return Err(Refusal::MissingBlock);
         };
         let change = decode(self.alloc, item)?;
-        let version = &self.keeping.records[(number - 1) as usize].version;
+        let version = self.keeping.records[(number - 1) as usize].version();
         Ok(Entry {
             author: version.author(),
             format: version.format(),

@@ -4,8 +4,8 @@ use Rattle.su_view.proofs.last_commits.check_list.Goals as goal
 
 pub returns-clause-passes : goal.returns-clause-passes
 returns-clause-passes g c =
-    order_passes c.check_own.result (holding_of c.args.keeping.now) c.args.shown.now (c.in-Ok.ensures.value.0 c.if-not-signed.false) _ c.roster.ensures _ c.own_record.ensures.last c.check_own.ensures.passes
+    order_passes c.check_own.result (holding_of c.args.keeping.now) c.args.shown.now (c.in-Ok.ensures.value.0 c.if-not-signed.false) _ c.roster.ensures _ (c.as_ref.ensures ∙ c.requires.last_own) c.check_own.ensures.passes
 
 pub returns-clause-refused : goal.returns-clause-refused
 returns-clause-refused g c =
-    order_refuses c.check_own.result (holding_of c.args.keeping.now) c.args.shown.now (c.in-Ok.ensures.value.0 c.if-not-signed.false) _ c.roster.ensures _ c.own_record.ensures.last c.check_own.ensures.refused
+    order_refuses c.check_own.result (holding_of c.args.keeping.now) c.args.shown.now (c.in-Ok.ensures.value.0 c.if-not-signed.false) _ c.roster.ensures _ (c.as_ref.ensures ∙ c.requires.last_own) c.check_own.ensures.refused
