@@ -1,5 +1,5 @@
 // How the commits that are held are kept.
-ghost use Rattle.std.specs.Prelude.{◌≡◌, ◌<◌, ◌∷◌, ℕ, List, [], length, vec_capacity, IfOk, IfErr, OnOk};
+ghost use Rattle.std.specs.Prelude.{◌≡◌, ◌<◌, ◌∷◌, ℕ, List, [], true, length, vec_capacity, IfOk, IfErr, OnOk};
 ghost use Rattle.su_op.specs.declared.operations.Change.{Change};
 ghost use Rattle.su_bytes.specs.Membership.{Membership};
 ghost use Rattle.su_desk.specs.Trial.{nothing_ready, with_ready};

@@ -1,4 +1,5 @@
 use Rattle.std.proofs.Common.{◌≡◌, ◌∷◌, ◌++◌, [], sym, ap, ◌∙◌, subst}
+use Rattle.std.specs.Option.{option_or}
 use Rattle.sha2.specs.Sha256.{sha256}
 use Rattle.su_op.specs.declared.operations.Change.{Change}
 use Rattle.su_desk.specs.Desk.{with_entry}
@@ -13,7 +14,7 @@ use Rattle.su_view.proofs.records.Keeping.push.Given.{Over}
 use Rattle.su_view.proofs.records.Keeping.push.Goals as goal
 
 pub new-requires : goal.new-requires
-new-requires g c = c.digest_of.ensures ∙ ap sha256 (c.as_slice.ensures.value ∙ c.requires.joins.1.bytes_are)
+new-requires g c = c.digest_of-digest.ensures ∙ ap sha256 (c.as_slice.ensures.value ∙ c.requires.joins.1.bytes_are)
 
 settled_is : (g : Over) (c : goal.After-push_reserved-2 g) (change : Change) → JoinsNext g.S.BlockSource.may_give c.args.self.now c.args.commit change c.args.spelling.commit.items c.args.spelling.item.items
     → c.settle.new.self.state.settled ≡ with_entry c.args.self.now.desk.state.settled (entry_made c.args.commit change)
@@ -45,4 +46,4 @@ returns-clause-kept g c =
     (subst (λ ro. IsEndOf ro k.records.items k.end) (sym c.roster.ensures) c.requires.kept.end_is)
     (subst (λ ro. MayBeNext ro k.records.items c.args.commit) (sym c.roster.ensures) commit)) in
     keeping_more m k c.args.commit change c.requires.kept c.args.spelling next _ (λ i. k.user) records (λ i. k.itemless) c.push_reserved.ensures.items (settled_is g c change next)
-    (ap (λ (t : TrialOn g.row.S.Denot). t.asked) c.settle.ensures.settled) end c.args.own c.requires.own_is (c.or.ensures ∙ ap (λ o. _) c.take.ensures.value)
+    (ap (λ (t : TrialOn g.row.S.Denot). t.asked) c.settle.ensures.settled) end c.args.own c.requires.own_is (c.or.ensures ∙ ap (option_or c.args.own) c.take.ensures.value)

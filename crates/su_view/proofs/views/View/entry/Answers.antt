@@ -16,7 +16,7 @@ returns g c =
     let behind : k.itemless ≤ c.args.number - 1 = omega (arith, c.if-number-itemless.false) in
     let at_hand : c.args.number - 1 - k.itemless < length k.spellings.items = omega (arith, within, behind, counted) in
     subst (λ (v : ViewOn g.row.S.Denot). AreBytesAt v.holding.held c.args.number c.as_slice.result.now c.as_slice-2.result.now) c.self.view_is
-    (entry_found g.S.BlockSource.may_give k c.self.invariant c.args.number c.index.result.now c.as_slice.result.now c.as_slice-2.result.now (omega (arith, c.if-number-itemless.false))
+    (entry_found g.S.BlockSource.may_give k c.self.invariant c.args.number c.index-spelling.result.now c.as_slice.result.now c.as_slice-2.result.now (omega (arith, c.if-number-itemless.false))
     behind
-    (slice_get_read k.spellings.items (length k.spellings.items) (c.args.number - 1 - k.itemless) c.index.result.now refl at_hand c.index.ensures)
+    (slice_get_read k.spellings.items (length k.spellings.items) (c.args.number - 1 - k.itemless) c.index-spelling.result.now refl at_hand c.index-spelling.ensures)
     c.as_slice.ensures.value c.as_slice-2.ensures.value)

@@ -23,4 +23,4 @@ returns g c =
     ap (λ cs. slice_get (history cs) (c.args.number - 1)) (sym is)
     ∙ entry_kept m k kept (c.args.number - 1) c.index.result.now x c.author.result c.format.result c.in_ok-change.change
     (slice_get_read k.records.items (length k.records.items) (c.args.number - 1) c.index.result.now refl within c.index.ensures)
-    there (c.author.ensures.value ∙ ap (λ (v : Version). v.author) c.version.ensures) (c.format.ensures ∙ ap (λ (v : Version). v.format) c.version.ensures) change
+    there (c.author.ensures.value ∙ ap (λ (v : Version). v.author) c.version-version.ensures) (c.format.ensures ∙ ap (λ (v : Version). v.format) c.version-version.ensures) change
