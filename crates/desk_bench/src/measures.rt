@@ -1,6 +1,6 @@
 // What is measured, in seconds of the thread's processor time.
 use crate::faults::Fault;
-use crate::works::{FILES, WORKS, Work, author, change_of, first_of};
+use crate::works::{FILES, Time, WORKS, Work, author, change_of, first_of};
 use std::alloc::Global;
 use std::io;
 use std::time::CpuClock;
@@ -96,12 +96,12 @@ fn measure_all<R: CpuClock + AllocGlobal, S: BlockSource>(
     least: &mut Times,
 ) -> Result<(), Fault> {
     for (index, work) in WORKS.iter().enumerate() {
-        do_all(rt, desk, *work, 0)?;
+        do_all(rt, desk, *work, Time::First)?;
         if work.is_once() {
             let undo = undo_all(rt, desk)?;
             least.undo = lesser(undo, least.undo);
         }
-        let seconds = do_all(rt, desk, *work, 1)?;
+        let seconds = do_all(rt, desk, *work, Time::Second)?;
         least.works[index] = lesser(seconds, least.works[index]);
     }
     Ok(())
@@ -116,7 +116,7 @@ fn do_all<R: CpuClock + AllocGlobal, S: BlockSource>(
     rt: &R,
     desk: &mut TrialDesk<S>,
     work: Work,
-    time: u32,
+    time: Time,
 ) -> Result<f64, Fault> {
     let mut seconds = 0.0;
     for index in 0..FILES {

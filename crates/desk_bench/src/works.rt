@@ -45,32 +45,43 @@ impl Work {
     }
 }
 
+/// Which of the two times it is that a work is done with a file.
+#[derive(Clone, Copy, Debug, PartialEq, Eq)]
+pub(crate) enum Time {
+    First,
+    Second,
+}
+
 /// How many files there are, in one directory.
 pub(crate) const FILES: u32 = 2_000;
 
 /// How many bytes each has.
 const SIZE: u32 = 4_096;
 
-/// Returns the change that does this work with the file of an index, below 2,000, for the time of that
-/// number, 0 or 1.
+/// Returns the change that does this work with the file of an index, below 2,000, the first or the second
+/// time.
 pub(crate) fn change_of(
     alloc: Global,
     work: Work,
     index: u32,
-    time: u32,
+    time: Time,
 ) -> Result<Change, Refusal> {
+    let other = FILES.saturating_add(index);
     let operation = match work {
         Work::Write => Op::Write(write_of(alloc, index, time)?),
         Work::Truncate => Op::Truncate(Truncate {
             file: file_of(index)?,
-            size: SIZE.saturating_sub(1 + time),
+            size: match time {
+                Time::First => SIZE - 1,
+                Time::Second => SIZE - 2,
+            },
         }),
         Work::Rename => Op::Rename(rename_of(alloc, index, time)?),
-        Work::Create => Op::Create(create_of(alloc, b'n', index, FILES + index)?),
+        Work::Create => Op::Create(create_of(alloc, b'n', index, other)?),
         Work::Unlink => Op::Unlink(Unlink {
             dir: FileId::ROOT,
             name: name_of(alloc, b'n', index)?,
-            file: file_of(FILES + index)?,
+            file: file_of(other)?,
         }),
     };
     Ok(Change::of(alloc, operation))
@@ -141,8 +152,8 @@ fn create_of(alloc: Global, letter: u8, index: u32, number: u32) -> Result<Creat
     })
 }
 
-fn write_of(alloc: Global, index: u32, time: u32) -> Result<Write, Refusal> {
-    let byte = if time == 0 { b'y' } else { b'z' };
+fn write_of(alloc: Global, index: u32, time: Time) -> Result<Write, Refusal> {
+    let byte = if time == Time::First { b'y' } else { b'z' };
     Ok(Write {
         file: file_of(index)?,
         off: 7,
@@ -151,8 +162,8 @@ fn write_of(alloc: Global, index: u32, time: u32) -> Result<Write, Refusal> {
 }
 
 /// Returns the change of a file's name to the other of its two, or back.
-fn rename_of(alloc: Global, index: u32, time: u32) -> Result<Rename, Refusal> {
-    let (old, new) = if time == 0 {
+fn rename_of(alloc: Global, index: u32, time: Time) -> Result<Rename, Refusal> {
+    let (old, new) = if time == Time::First {
         (b'a', b'b')
     } else {
         (b'b', b'a')
