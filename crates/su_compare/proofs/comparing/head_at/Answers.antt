@@ -13,4 +13,4 @@ returns-in-Some g c =
 pub returns-in-None : goal.returns-in-None
 returns-in-None g c =
     let v = c.args.view.now.holding in
-    c.digest-digest.ensures ∙ ap roster_digest c.roster.ensures ∙ sym (head_at_first v.roster v.held c.args.number c.requires (none_told (committed_at v.held c.args.number) (sym c.in-None.is ∙ c.digest.ensures)))
+    c.digest-in-None.ensures ∙ ap roster_digest c.roster.ensures ∙ sym (head_at_first v.roster v.held c.args.number c.requires (none_told (committed_at v.held c.args.number) (sym c.in-None.is ∙ c.digest.ensures)))
