@@ -653,6 +653,50 @@ def cut_log(room):
         team.end()
 
 
+def make_megabytes(at, files, seed):
+    """A folder of files of 1 MB each."""
+    chance = random.Random(seed)
+    os.makedirs(at)
+    for number in range(files):
+        with open(f"{at}/{number}", "wb") as it:
+            it.write(chance.randbytes(1_000_000))
+
+
+def left_tree(room):
+    """A tree of more bytes than stay in memory is put and got byte by byte, changed and taken back; also where no scratch can be made."""
+    team = team_of(room)
+    try:
+        tree, scratch = f"{room}/tree", f"{team.at('ann')}/.sundr/scratch"
+        make_megabytes(tree, 40, 7)
+        ended = team.do("ann", "put", "-r", tree, "/tree")
+        check("a tree of 40 MB is put", ended.status == 0 and "40 files, 40000000 bytes" in ended.text, ended)
+        check("its name is gone", not os.path.exists(scratch))
+        ended = team.do("bob", "get", "-r", "/tree", f"{room}/got")
+        check("it is got", ended.status == 0, ended)
+        check("it is what was put", tree_of(tree) == tree_of(f"{room}/got"))
+        ended, made = commits_of(team, "ann", "put", "-r", tree, "/tree")
+        check("another put of it writes nothing", ended.status == 0 and made == 0, (made, ended))
+        old = open(f"{tree}/3", "rb").read()
+        with open(f"{tree}/3", "wb") as it:
+            it.write(old[:500_000] + b"in the middle" + old[500_013:])
+        ended = team.do("ann", "put", f"{tree}/3", "/tree/3")
+        check("a file that was left is changed", ended.status == 0, ended)
+        number = head_of(team, "ann")
+        check("the change is read", team.do("bob", "cat", "/tree/3").printed == open(f"{tree}/3", "rb").read())
+        os.mkdir(scratch)
+        ended = team.do("ann", "undo", str(number))
+        check("it is taken back without a scratch", ended.status == 0, ended)
+        check("and what was there is read", team.do("ann", "cat", "/tree/3").printed == old)
+        ended = team.do("ann", "get", "-r", "/tree", f"{room}/again")
+        check("the tree is got without a scratch", ended.status == 0, ended)
+        os.rmdir(scratch)
+        with open(f"{tree}/3", "wb") as it:
+            it.write(old)
+        check("it is as it was", tree_of(tree) == tree_of(f"{room}/again"))
+    finally:
+        team.end()
+
+
 def kills(room):
     """A put that is killed goes on by the same command, and in the end what is there is what was put."""
     team = team_of(room)
@@ -684,7 +728,7 @@ def example(room):
     check("the example", (ended.stdout, ended.stderr, ended.returncode) == (wanted, b"", 0), (ended.stdout[-3000:], ended.stderr, ended.returncode))
 
 
-PARTS = {"walk": walk, "together": together, "cut_log": cut_log, "kills": kills, "example": example}
+PARTS = {"walk": walk, "together": together, "cut_log": cut_log, "left_tree": left_tree, "kills": kills, "example": example}
 
 
 def main():

@@ -1,5 +1,5 @@
 -- What a client at work has, and what it tells of its list.
-use Rattle.std.specs.Prelude.{◌≡◌, ◌+◌, ◌⊎◌, ℕ, List, Ok, Option, Contains}
+use Rattle.std.specs.Prelude.{◌≡◌, ◌+◌, ◌⊎◌, ℕ, Bool, List, Ok, Option, Contains, true}
 use Rattle.std.specs.Global.{Vec}
 use Rattle.std.specs.List.{AllByRecursion}
 use Rattle.su_bytes.specs.Membership.{Membership}
@@ -18,17 +18,21 @@ use Rattle.su_view.specs.Acting.{TakesSome}
 use Rattle.su_client.specs.Link.{LinkState, MayGive}
 use Rattle.su_client.specs.Outbox.{IsAtHand}
 
--- A time when its source was asked about the tree: the items that the cache kept; what was at hand of
--- what was put, with its digest, and the link then; and the history then, with what stood ready.
+-- A time when its source was asked about the tree: the items that the cache kept; whether it had a file
+-- of its own for what is left; what was at hand of what was put, with its digest, and the link then;
+-- and the history then, with what stood ready.
 pub record Question : Type 0 where
   pub kept : List (List ℕ)
+  pub has_scratch : Bool
   pub at_hand : Option (List ℕ × Vec ℕ)
   pub link : LinkState
   pub history : List Entry
 
--- what the source might have given then
+-- what the source might have given then: a file gives anything
 abbrev pub might_give : Question → List ℕ → Type 0
-might_give q item = (IsAtHand q.at_hand item ⊎ MayGive q.link item) ⊎ Contains q.kept item
+might_give q item =
+    ((q.has_scratch ≡ true) ⊎ (IsAtHand q.at_hand item ⊎ MayGive q.link item))
+    ⊎ Contains q.kept item
 
 -- no byte string that is hashed for the tree of then had the digest of another one that the source
 -- might have given

@@ -225,7 +225,9 @@ impl<R: Read + Drop, W: Write + Drop, K: KeyStore + Drop> Member<R, W, K> {
         ensures follows { Follows self.old.link self.new.link }
         ensures stored { IfOk result (λ c. HandsIn change self.old c self.new) }
     {
-        self.view.source_mut().source_mut().source_mut().forget();
+        let scratch = self.view.source_mut().source_mut().source_mut();
+        scratch.leave(false);
+        scratch.source_mut().forget();
         let commit = self.view.make(change, &mut self.key)?;
         let Ok(bytes) = commit.encode(self.alloc) else {
             return Err(ViewRefusal::Plain(Refusal::NoMemory));
@@ -233,7 +235,12 @@ impl<R: Read + Drop, W: Write + Drop, K: KeyStore + Drop> Member<R, W, K> {
         let (held, _) = self.view.head();
         self.early
             .note_own(self.view.user(), held.saturating_add(1));
-        let outbox = self.view.source_mut().source_mut().source_mut();
+        let outbox = self
+            .view
+            .source_mut()
+            .source_mut()
+            .source_mut()
+            .source_mut();
         match hand_over(self.alloc, outbox, bytes, &mut self.early, is_followed) {
             Ok(_) => Ok(commit),
             Err(refusal) => Err(ViewRefusal::Plain(refusal)),

@@ -15,5 +15,5 @@ mod surroundings;
 
 pub use logs::{LogFault, log_behind, saved_logs_are_logs, take_log};
 pub use members::Member;
-pub use sources::{LinkSource, source_over};
+pub use sources::{LinkSource, leave_in_scratch, source_over, source_with};
 pub use surroundings::Surroundings;

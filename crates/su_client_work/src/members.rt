@@ -15,7 +15,7 @@ use crate::early::Early;
 use crate::logs::{presumed_keys, take_commit};
 use crate::ready::{Fetched, MOST_READY, Ready};
 use crate::shown::Shown;
-use crate::sources::LinkSource;
+use crate::sources::{LinkSource, leave_in_scratch};
 use crate::surroundings::Surroundings;
 use std::alloc::Global;
 use std::io::{Read, Write};
@@ -55,18 +55,19 @@ pub struct Member<R: Read + Drop, W: Write + Drop, K: KeyStore> {
 
 impl<R: Read + Drop, W: Write + Drop, K: KeyStore> Model for Member<R, W, K> {
     ghost use Rattle.std.specs.Map.{values_of};
-    ghost use Rattle.std.specs.Prelude.{length, map};
+    ghost use Rattle.std.specs.Prelude.{is_some, length, map};
     ghost use Rattle.su_client_work.specs.Member.{MemberState};
 
     ghost Value = { MemberState };
 
     ghost view = { λ s. record {
       holding = s.view.holding;
-      link = s.view.source.source.source.client.link;
+      link = s.view.source.source.source.source.client.link;
       asked = map (λ a. record {
         kept = values_of a.0.kept;
-        at_hand = a.0.source.source.at_hand;
-        link = a.0.source.source.client.link;
+        has_scratch = is_some a.0.source.source.scratch.file;
+        at_hand = a.0.source.source.source.at_hand;
+        link = a.0.source.source.source.client.link;
         history = a.1.items;
       }) s.view.asked;
       signed = s.key.signed;
@@ -84,7 +85,7 @@ impl<R: Read + Drop, W: Write + Drop, K: KeyStore + Drop> Member<R, W, K> {
         tries: u32,
     ) -> Member<R, W, K>
         ensures holding { result.holding ≡ view.holding }
-        ensures link { result.link ≡ view.source.source.source.client.link }
+        ensures link { result.link ≡ view.source.source.source.source.client.link }
         ensures clear { IsClear result
             ↔ IsClearView ⟦<LinkSource<R, W> as BlockSource>⟧.may_give view }
         ensures signed { result.signed ≡ [] }
@@ -111,6 +112,7 @@ impl<R: Read + Drop, W: Write + Drop, K: KeyStore + Drop> Member<R, W, K> {
             .source_mut()
             .source_mut()
             .source_mut()
+            .source_mut()
             .client_mut()
             .has_failed()
     }
@@ -133,6 +135,17 @@ impl<R: Read + Drop, W: Write + Drop, K: KeyStore + Drop> Member<R, W, K> {
         } }
     {
         self.view.leave_entries();
+    }
+
+    /// Leaves all of the tree in the scratch of the client's own, as `leave_in_scratch` does: what is
+    /// asked of the tree then is loaded from there. Refused as a load is, and with `SourceFailed` where
+    /// there is no scratch: what isn't left then stays in memory.
+    pub fn set_aside(&mut self) -> Result<(), Refusal>
+        ensures refused { IsClear self.new → IfErr result IsLoadRefusal }
+        ensures asks { OnlyAsks self.old self.new }
+        ensures follows { Follows self.old.link self.new.link }
+    {
+        leave_in_scratch(&mut self.view)
     }
 
     /// Leaves all of the tree to the server, but for the digests of its i-tables, as `View::shed`
@@ -166,7 +179,12 @@ impl<R: Read + Drop, W: Write + Drop, K: KeyStore + Drop> Member<R, W, K> {
         if let Err(refusal) = self.view.shed() {
             return Err(refusal);
         }
-        let outbox = self.view.source_mut().source_mut().source_mut();
+        let outbox = self
+            .view
+            .source_mut()
+            .source_mut()
+            .source_mut()
+            .source_mut();
         outbox.settle(self.alloc)
     }
 
@@ -231,6 +249,7 @@ impl<R: Read + Drop, W: Write + Drop, K: KeyStore + Drop> Member<R, W, K> {
             .source_mut()
             .source_mut()
             .source_mut()
+            .source_mut()
             .client_mut()
             .give()
     }
@@ -255,6 +274,7 @@ impl<R: Read + Drop, W: Write + Drop, K: KeyStore + Drop> Member<R, W, K> {
             .source_mut()
             .source_mut()
             .source_mut()
+            .source_mut()
             .client_mut()
             .send_ahead(request)
     }
@@ -269,6 +289,7 @@ impl<R: Read + Drop, W: Write + Drop, K: KeyStore + Drop> Member<R, W, K> {
             .source_mut()
             .source_mut()
             .source_mut()
+            .source_mut()
             .client_mut()
             .pass_ahead();
     }
@@ -278,7 +299,12 @@ impl<R: Read + Drop, W: Write + Drop, K: KeyStore + Drop> Member<R, W, K> {
         ensures stays { Stays self.old self.new }
         ensures follows { Follows self.old.link self.new.link }
     {
-        let outbox = self.view.source_mut().source_mut().source_mut();
+        let outbox = self
+            .view
+            .source_mut()
+            .source_mut()
+            .source_mut()
+            .source_mut();
         let _ = outbox.settle(self.alloc);
         outbox.forget();
     }
@@ -330,7 +356,12 @@ impl<R: Read + Drop, W: Write + Drop, K: KeyStore + Drop> Member<R, W, K> {
     fn put_link(&mut self, link: Client<R, W>)
         ensures { self.new ≡ record self.old { link = link.link } }
     {
-        let outbox = self.view.source_mut().source_mut().source_mut();
+        let outbox = self
+            .view
+            .source_mut()
+            .source_mut()
+            .source_mut()
+            .source_mut();
         *outbox.client_mut() = link;
     }
 
@@ -394,6 +425,7 @@ impl<R: Read + Drop, W: Write + Drop, K: KeyStore + Drop> Member<R, W, K> {
             .source_mut()
             .source_mut()
             .source_mut()
+            .source_mut()
             .client_mut()
             .grant()
     }
@@ -417,7 +449,12 @@ impl<R: Read + Drop, W: Write + Drop, K: KeyStore + Drop> Member<R, W, K> {
         ensures stays { Stays self.old self.new }
         ensures ahead { GoesAhead self.old.link self.new.link }
     {
-        let outbox = self.view.source_mut().source_mut().source_mut();
+        let outbox = self
+            .view
+            .source_mut()
+            .source_mut()
+            .source_mut()
+            .source_mut();
         self.early.send_turn(outbox.client_mut());
     }
 
@@ -530,6 +567,7 @@ impl<R: Read + Drop, W: Write + Drop, K: KeyStore + Drop> Member<R, W, K> {
             self.new.link (kept_or_nothing bytes)) }
     {
         self.view
+            .source_mut()
             .source_mut()
             .source_mut()
             .source_mut()

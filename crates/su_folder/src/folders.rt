@@ -4,15 +4,16 @@ ghost use Rattle.std.specs.Prelude.{◌≤◌, IfOk};
 use crate::appended::Appended;
 use crate::creating::spelled_place;
 use crate::faults::{FolderFault, Mistake};
-use crate::files::{folder_path, is_folder, read_file, replace};
+use crate::files::{PRIVATE, folder_path, is_folder, read_file, replace};
 use crate::locks::lock_folder;
 use crate::members::{Me, is_key_path, read_me, spelled_me};
 use crate::seen::SeenLines;
 use crate::servers::Server;
-use std::fs::File;
+use std::fs::{File, OpenOptions};
 use std::io::BufReader;
-use std::str;
+use std::os::unix::fs::OpenOptionsExt;
 use std::time::{SystemTime, UNIX_EPOCH};
+use std::{fs, str};
 use su_bytes::User;
 use su_team::{Team, TextFault, read_team, time_of};
 
@@ -158,6 +159,22 @@ impl<'a> StateFolder<'a> {
             Ok(reader) => Ok(reader),
             Err(reason) => Err(FolderFault::unread(alloc, self.growing.log.path(), reason)),
         }
+    }
+
+    /// Makes an empty file that no name leads to, for what this process need not hold in memory: the disk
+    /// has its room again when the process ends. `None` where that can't be.
+    pub fn scratch(&self) -> Option<File> {
+        let path = format!(in self.rt.alloc(); "{}/scratch", self.folder).ok()?;
+        let file = OpenOptions::new()
+            .read(true)
+            .write(true)
+            .create(true)
+            .truncate(true)
+            .mode(PRIVATE)
+            .open(self.rt, path.as_str())
+            .ok()?;
+        fs::remove_file(self.rt, path.as_str()).ok()?;
+        Some(file)
     }
 
     /// Returns how many bytes the log has.

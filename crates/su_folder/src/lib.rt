@@ -10,6 +10,7 @@
 //! | `times` | eight bytes for each of them: the second in which it was taken, or 0 |
 //! | `seen` | lines that tell up to which commit files were seen, as `su_seen` spells them |
 //! | `lock` | the number of the process that works here |
+//! | `scratch` | (its name stands for a moment alone) what a process need not hold in memory |
 //!
 //! Nothing is proved of what the disk does: no clause says what stands in a file. Of texts that are
 //! read, clauses say that they are the ones that would be written.

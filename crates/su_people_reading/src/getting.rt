@@ -125,6 +125,7 @@ fn get_one<T>(
         tally.written.add(bytes.len() as u64);
     }
     session.helper.progress.file_done(bytes.len() as u64);
+    session.leave_tree(bytes.len() as u64);
     let (head, _) = session.member.view().head();
     session.helper.folder.note_seen(head, at)?;
     Ok(())

@@ -36,17 +36,21 @@ pub struct Helper<'a, T> {
     pub progress: Progress<'a>,
     /// How many commits the log of the state folder has.
     kept: u64,
+    /// How many bytes of contents may have come into memory since the tree was left.
+    pub(crate) grown: u64,
     /// Whether no next key is made any more, as that has failed.
     has_failed: bool,
 }
 
 impl<'a, T> Helper<'a, T> {
-    /// Makes it of a state folder, whose log has so many commits.
+    /// Makes it of a state folder, whose log has so many commits; so many bytes of them may have come
+    /// into memory since the tree was left.
     pub(crate) fn new(
         rt: &'a HostRuntime,
         host: &'a T,
         folder: StateFolder<'a>,
         kept: u64,
+        grown: u64,
     ) -> Helper<'a, T> {
         Helper {
             rt,
@@ -54,6 +58,7 @@ impl<'a, T> Helper<'a, T> {
             folder,
             progress: Progress::untold(rt),
             kept,
+            grown,
             has_failed: false,
         }
     }
@@ -97,6 +102,7 @@ impl<'a, T> Helper<'a, T> {
         self.folder.append(log.as_slice(), count - self.kept)?;
         self.progress.committed(count - self.kept);
         self.kept = count;
+        self.grown = self.grown.saturating_add(log.len() as u64);
         Ok(())
     }
 }

@@ -1,15 +1,14 @@
 // A client at work for a person: one that only looks, or one that signs.
 use crate::helpers::{Helper, LEAVES_AHEAD};
 use crate::keyless::{Keyless, no_signer};
-use crate::links::{Link, connect};
-use crate::opening::{Items, Opened, open};
+use crate::opening::{Items, MOST_GROWN, Opened, open};
 use crate::troubles::Trouble;
 use std::alloc::Global;
 use std::io::{BufReader, Read, Write};
 use std::net::{Net, TcpListener, TcpStream};
 use std::thread::Threads;
 use su_block::BlockSource;
-use su_client_work::{Member, source_over};
+use su_client_work::Member;
 use su_folder::StateFolder;
 use su_kept_key::{KeptKey, signer_of};
 use su_keygen::next_key_path;
@@ -30,6 +29,17 @@ pub struct Session<'a, T, K: KeyStore> {
 }
 
 impl<T, K: KeyStore + Drop> Session<'_, T, K> {
+    /// Leaves the tree in the scratch once more than 16,777,216 bytes of contents may have come into
+    /// memory since it was left last: those of the commits that came, and so many more, which were
+    /// read. What can't be left stays in memory.
+    pub fn leave_tree(&mut self, read: u64) {
+        self.helper.grown = self.helper.grown.saturating_add(read);
+        if MOST_GROWN < self.helper.grown {
+            self.helper.grown = 0;
+            let _ = self.member.set_aside();
+        }
+    }
+
     /// Leaves the bytes of the commits, and the items of their changes, to the log of the state folder,
     /// where that has all of them: no memory holds them then.
     pub fn leave_entries(&mut self) {
@@ -55,7 +65,7 @@ where
 {
     let opened = open(rt, host, given, items)?;
     let signer = no_signer(rt.alloc())?;
-    caught_up(session_of(rt, host, opened, signer)?)
+    caught_up(session_of(rt, host, opened, signer))
 }
 
 /// Begins a session that signs with the key that its user has by the log, and takes the commits
@@ -68,9 +78,9 @@ pub fn sign<'a, T>(
 where
     T: Net<Listener = TcpListener, Stream = TcpStream> + Threads + Sync,
 {
-    let Opened { folder, view } = open(rt, host, given, Items::Left)?;
-    let signer = signer_for(rt, host, &folder, &view)?;
-    let mut session = caught_up(session_of(rt, host, Opened { folder, view }, signer)?)?;
+    let opened = open(rt, host, given, Items::Left)?;
+    let signer = signer_for(rt, host, &opened.folder, &opened.view)?;
+    let mut session = caught_up(session_of(rt, host, opened, signer))?;
     session.leave_entries();
     follow_key(&mut session)?;
     Ok(session)
@@ -90,40 +100,26 @@ where
     Ok(Session { helper, member })
 }
 
-/// Connects to the server, and makes the client that holds what the view does.
+/// Makes the client that holds what an opened view does.
 fn session_of<'a, T, K>(
     rt: &'a HostRuntime,
     host: &'a T,
     opened: Opened<'a>,
     signer: Signer<K>,
-) -> Result<Session<'a, T, K>, Trouble>
+) -> Session<'a, T, K>
 where
     T: Net<Listener = TcpListener, Stream = TcpStream> + Threads + Sync,
     K: KeyStore + Drop,
 {
-    let alloc = rt.alloc();
-    let Opened { folder, view } = opened;
-    let link = link_to(alloc, host, &folder)?;
+    let Opened {
+        folder,
+        view,
+        grown,
+    } = opened;
     let (kept, _) = view.head();
-    let view = view.with_source(source_over(alloc, link)?);
-    Ok(Session {
-        helper: Helper::new(rt, host, folder, kept),
-        member: Member::new(alloc, view, signer, TRIES),
-    })
-}
-
-/// Connects to the server of a state folder.
-fn link_to<T>(alloc: Global, host: &T, folder: &StateFolder<'_>) -> Result<Link, Trouble>
-where
-    T: Net<Listener = TcpListener, Stream = TcpStream> + Threads + Sync,
-{
-    let server = folder.server();
-    match connect(alloc, host, server.host.as_str(), server.port) {
-        Ok(link) => Ok(link),
-        Err(reason) => Err(Trouble::Unlinked {
-            server: format!(in alloc; "{server}")?,
-            reason,
-        }),
+    Session {
+        helper: Helper::new(rt, host, folder, kept, grown),
+        member: Member::new(rt.alloc(), view, signer, TRIES),
     }
 }
 

@@ -37,7 +37,7 @@ pub(crate) struct Placed {
 pub(crate) struct Group {
     pub(crate) placed: Vec<Placed>,
     /// How many bytes their paths and contents have.
-    bytes: usize,
+    pub(crate) bytes: usize,
     /// How many there are at most.
     most: usize,
 }

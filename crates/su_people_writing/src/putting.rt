@@ -109,8 +109,10 @@ where
             pass_over(&session.helper, trouble, tally)?;
         }
     }
+    let bytes = group.bytes as u64;
     group.clear();
     session.leave_entries();
+    session.leave_tree(bytes);
     Ok(())
 }
 

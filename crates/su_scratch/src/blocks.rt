@@ -1,6 +1,7 @@
 // A source that leaves items in a scratch.
 ghost use Rattle.std.specs.Prelude.{◌≡◌, ◌⊎◌, ◌↔◌, ℕ, List, true, false, IfOk, IfErr, OnOk, OnErr, Err, None, Some, MatchBool, MatchOption, is_some};
 ghost use Rattle.std.specs.Borrow.{Lends, sem};
+ghost use Rattle.std.proofs.Common.{◌∙◌};
 ghost use Rattle.sha2.specs.Sha256.{sha256};
 ghost use Rattle.su_block.specs.Item.{is_item};
 ghost use Rattle.su_block.specs.Failure.{failures_after};
@@ -141,15 +142,17 @@ impl<F: Scratch, S: BlockSource> BlockSource for ScratchBlocks<F, S> {
 
     ghost failed = { λ c. c.failures };
 
-    ghost follows = { λ c d. S.follows c.source d.source };
+    // Whether it leaves what is put is said by `leave` alone.
+    ghost follows = { λ c d. (d.leaves ≡ c.leaves) × S.follows c.source d.source };
 
     // It is in the scratch from then on, where it is left there; else the source within took it.
     ghost puts = { λ c item d. MatchBool c.leaves
         (is_some (place_under d.places (sha256 item)) ≡ true) (S.puts c.source item d.source) };
 
-    ghost follows_itself = { λ c. S.follows_itself c.source };
+    ghost follows_itself = { λ c. ((λ i. c.leaves), S.follows_itself c.source) };
 
-    ghost follows_on = { λ a b c. S.follows_on a.source b.source c.source };
+    ghost follows_on = { λ a b c ab bc.
+        (bc.0 ∙ ab.0, S.follows_on a.source b.source c.source ab.1 bc.1) };
 
     /// Gets the item of a digest: what was left under it, as it is read, and else what the source
     /// within answers.
@@ -165,6 +168,7 @@ impl<F: Scratch, S: BlockSource> BlockSource for ScratchBlocks<F, S> {
         ensures left { is_some (place_under self.old.places digest) ≡ true
             → (self.new.source ≡ self.old.source)
             × IfOk result (λ item. F.may_give self.old.scratch item.items) }
+        ensures leaves { self.new.leaves ≡ self.old.leaves }
         ensures follows { S.follows self.old.source self.new.source }
         ensures counted { self.new.failures ≡ failures_after result digest self.old.failures }
     {
@@ -191,6 +195,7 @@ impl<F: Scratch, S: BlockSource> BlockSource for ScratchBlocks<F, S> {
         ensures puts { OnOk result (MatchBool self.old.leaves
             (is_some (place_under self.new.places (sha256 item.now)) ≡ true)
             (S.puts self.old.source item.now self.new.source)) }
+        ensures leaves { self.new.leaves ≡ self.old.leaves }
         ensures follows { S.follows self.old.source self.new.source }
         // What is left isn't put into the source.
         ensures left { self.old.leaves ≡ true → self.new.source ≡ self.old.source }

@@ -3,8 +3,10 @@
 #![tactic(auto)]
 
 mod blocks;
+mod files;
 mod places;
 mod scratches;
 
 pub use blocks::ScratchBlocks;
+pub use files::FileScratch;
 pub use scratches::Scratch;

@@ -293,7 +293,7 @@ fn view_of<T: Threads + Sync>(
 
 /// Tells whether the link of a view's source has failed.
 fn has_failed(view: &mut View<Source>) -> bool {
-    let outbox = view.source_mut().source_mut().source_mut();
+    let outbox = view.source_mut().source_mut().source_mut().source_mut();
     outbox.client_mut().has_failed()
 }
 
@@ -306,7 +306,8 @@ fn put_items(alloc: Global, view: &mut View<Source>) -> Result<(), Refusal> {
     for before in 0..count {
         put_item(alloc, view, before + 1)?;
     }
-    view.source_mut().source_mut().source_mut().settle(alloc)
+    let outbox = view.source_mut().source_mut().source_mut().source_mut();
+    outbox.settle(alloc)
 }
 
 /// Puts the item of the commit of that number, if the view has it; but not into the cache.

@@ -33,9 +33,9 @@ returns-clause-follows g c =
     let three = c.source_mut-3.ensures.value in
     let four = c.source_mut-outbox.ensures.value in
     let first : c.forget.new.self.client.link ≡ c.args.self.now.link = cc in
-    let second : c.source_mut-outbox.result.now.client.link ≡ c.make.new.self.source.source.source.client.link = cc in
-    follows_on c.args.self.now.link c.make.new.self.source.source.source.client.link c.hand_over.new.outbox.client.link
-    (subst (λ (l : LinkState). Follows l c.make.new.self.source.source.source.client.link) first c.make.ensures.follows)
+    let second : c.source_mut-outbox.result.now.client.link ≡ c.make.new.self.source.source.source.source.client.link = cc in
+    follows_on c.args.self.now.link c.make.new.self.source.source.source.source.client.link c.hand_over.new.outbox.client.link
+    (subst (λ (l : LinkState). Follows l c.make.new.self.source.source.source.source.client.link) first c.make.ensures.follows)
     (subst (λ (l : LinkState). Follows l c.hand_over.new.outbox.client.link) second c.hand_over.ensures.follows)
 
 pub returns-clause-stored : goal.returns-clause-stored
@@ -47,7 +47,7 @@ returns-clause-stored g c =
     let three = c.source_mut-3.ensures.value in
     let four = c.source_mut-outbox.ensures.value in
     let first : c.forget.new.self.client.link ≡ c.args.self.now.link = cc in
-    let second : c.source_mut-outbox.result.now ≡ c.make.new.self.source.source.source = cc in
+    let second : c.source_mut-outbox.result.now ≡ c.make.new.self.source.source.source.source = cc in
     let (here, asked, waits) = c.in_ok-commit.ensures.puts in
     elim c.match-hand_over.branch [
       | in-Ok-hand_over w ↦ rw w.result-is (record {
@@ -58,9 +58,9 @@ returns-clause-stored g c =
           signed = c.in_ok-commit.ensures.signed;
           next = λ i. record { keys = length (c.in_ok-commit.ensures.same_former i); leaf = c.in_ok-commit.ensures.used i };
         });
-        stored = is_stored c.args.change c.in_ok-commit.commit c.in-Ok.bytes.items (contents here.source.source.waiting.items) (contents c.make.new.self.source.source.source.waiting.items) c.args.self.now.link
-            here.source.source.client.link c.make.new.self.source.source.source.client.link c.hand_over.new.outbox.client.link w.in-Ok-hand_over.field-0
-            (subst (λ (l : LinkState). Follows l here.source.source.client.link) first asked) waits c.in-Ok.ensures.value
+        stored = is_stored c.args.change c.in_ok-commit.commit c.in-Ok.bytes.items (contents here.source.source.source.waiting.items) (contents c.make.new.self.source.source.source.source.waiting.items) c.args.self.now.link
+            here.source.source.source.client.link c.make.new.self.source.source.source.source.client.link c.hand_over.new.outbox.client.link w.in-Ok-hand_over.field-0
+            (subst (λ (l : LinkState). Follows l here.source.source.source.client.link) first asked) waits c.in-Ok.ensures.value
             (subst (λ o. IsHandedIn (contents o.waiting.items) c.in-Ok.bytes.items o.client.link c.hand_over.new.outbox.client.link w.in-Ok-hand_over.field-0) second
             w.in-Ok-hand_over.ensures.handed_in);
       })
