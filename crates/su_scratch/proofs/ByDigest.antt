@@ -1,5 +1,5 @@
 -- The keys of a tree are compared as digests are.
-use Rattle.std.proofs.Common.{◌≡◌, ℕ, cond, List, Option, Some, sym, ap, ◌∙◌}
+use Rattle.std.proofs.Common.{◌≡◌, ℕ, cond, List, Some, sym, ap, ◌∙◌}
 use Rattle.std.specs.Map.{lookup}
 use Rattle.std.specs.Str.{bytes_eq}
 use Rattle.std.specs.BTreeMap.{is_at}

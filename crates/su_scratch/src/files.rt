@@ -31,13 +31,6 @@ impl FileScratch {
     {
         FileScratch { file: None, end: 0 }
     }
-
-    /// Tells whether it has a file.
-    pub fn has_file(&self) -> bool
-        ensures { result ≡ is_some self.now.file }
-    {
-        self.file.is_some()
-    }
 }
 
 impl Scratch for FileScratch {
