@@ -2,6 +2,7 @@
 ghost use Rattle.std.specs.Prelude.{◌≤◌, length, OnOk};
 
 use crate::links::{Link, Source, connect};
+use crate::opening::items_behind;
 use crate::progress::Progress;
 use crate::sentences::tell;
 use crate::troubles::Trouble;
@@ -36,15 +37,15 @@ pub struct Helper<'a, T> {
     pub progress: Progress<'a>,
     /// How many commits the log of the state folder has.
     kept: u64,
-    /// How many bytes of contents may have come into memory since the tree was left.
+    /// How many bytes may have come into the tree in memory since that was left.
     pub(crate) grown: u64,
     /// Whether no next key is made any more, as that has failed.
     has_failed: bool,
 }
 
 impl<'a, T> Helper<'a, T> {
-    /// Makes it of a state folder, whose log has so many commits; so many bytes of them may have come
-    /// into memory since the tree was left.
+    /// Makes it of a state folder, whose log has so many commits; so many bytes may have come into the
+    /// tree in memory since that was left.
     pub(crate) fn new(
         rt: &'a HostRuntime,
         host: &'a T,
@@ -101,8 +102,8 @@ impl<'a, T> Helper<'a, T> {
         };
         self.folder.append(log.as_slice(), count - self.kept)?;
         self.progress.committed(count - self.kept);
+        self.grown = self.grown.saturating_add(items_behind(view, self.kept));
         self.kept = count;
-        self.grown = self.grown.saturating_add(log.len() as u64);
         Ok(())
     }
 }

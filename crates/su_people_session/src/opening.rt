@@ -18,7 +18,8 @@ use su_view::{View, ViewRefusal};
 /// How many bytes an entry of a log has at most: a commit and an item, each with its length.
 const LONGEST_ENTRY: u64 = 200_000;
 
-/// How many bytes of contents may come into the tree in memory before it is left in the scratch.
+/// How many bytes of items, or of contents that are read, may come into the tree in memory before it
+/// is left in the scratch.
 pub(crate) const MOST_GROWN: u64 = 16_777_216;
 
 /// What of the items of a list a command needs.
@@ -36,7 +37,7 @@ pub enum Items {
 pub(crate) struct Opened<'a> {
     pub(crate) folder: StateFolder<'a>,
     pub(crate) view: View<Source>,
-    /// How many bytes of the log were taken since the tree was left in the scratch.
+    /// How many bytes the items had that were taken since the tree was left in the scratch.
     pub(crate) grown: u64,
 }
 
@@ -92,7 +93,7 @@ fn scratch_of(folder: &StateFolder<'_>) -> FileScratch {
 }
 
 /// Takes the commits of a folder's log in a view that holds none, and leaves the tree in the view's
-/// scratch each time that it has grown; tells by how many bytes of the log it may have grown since.
+/// scratch each time that it has grown; tells by how many bytes it may have grown since.
 fn take_kept<T: Threads + Sync>(
     rt: &HostRuntime,
     host: &T,
@@ -109,13 +110,13 @@ fn take_kept<T: Threads + Sync>(
             return Ok(grown);
         };
         let (before, _) = view.head();
-        grown = grown.saturating_add(portion.len() as u64);
         if let Err(fault) = take_log(host, alloc, portion, view) {
             let whole = length.saturating_add(length_behind(view, before));
             drop_cut_entry(rt, folder, whole, behind(fault, before, length))?;
             return Ok(grown);
         }
         length = length.saturating_add(portion.len() as u64);
+        grown = grown.saturating_add(items_behind(view, before));
         if items == Items::Left {
             view.leave_entries();
         }
@@ -174,6 +175,19 @@ fn drop_cut_entry(
         "sundr: .sundr/log ended in an entry that was cut, of {dropped} bytes, which was dropped"
     );
     Ok(())
+}
+
+/// Returns how many bytes the items have of the commits that a view holds behind its first `from_`
+/// ones, those that it has left not counted.
+pub(crate) fn items_behind<S: BlockSource + Drop>(view: &View<S>, from_: u64) -> u64 {
+    let (count, _) = view.head();
+    let mut bytes = 0u64;
+    for before in from_..count {
+        if let Some((_, item)) = view.entry(before + 1) {
+            bytes = bytes.saturating_add(item.len() as u64);
+        }
+    }
+    bytes
 }
 
 /// Returns how many bytes the log of a view's list has behind its first `from_` commits.

@@ -29,9 +29,9 @@ pub struct Session<'a, T, K: KeyStore> {
 }
 
 impl<T, K: KeyStore + Drop> Session<'_, T, K> {
-    /// Leaves the tree in the scratch once more than 16,777,216 bytes of contents may have come into
-    /// memory since it was left last: those of the commits that came, and so many more, which were
-    /// read. What can't be left stays in memory.
+    /// Leaves the tree in the scratch once more than 16,777,216 bytes may have come into memory since
+    /// it was left last: the items of the commits that came, and so many bytes more, which were read.
+    /// What can't be left stays in memory.
     pub fn leave_tree(&mut self, read: u64) {
         self.helper.grown = self.helper.grown.saturating_add(read);
         if MOST_GROWN < self.helper.grown {
