@@ -1,5 +1,5 @@
 // A client that works with a server, and how it begins what it does.
-ghost use Rattle.std.specs.Prelude.{◌≡◌, ◌↔◌, ◌<◌, ◌+◌, ℕ, [], Some, length, nat_le, slice_get, IfOk, IfErr, IfNone, OnOk, OnErr};
+ghost use Rattle.std.specs.Prelude.{◌≡◌, ◌↔◌, ◌<◌, ◌+◌, ℕ, [], Some, false, length, nat_le, slice_get, IfOk, IfErr, IfNone, OnOk, OnErr};
 ghost use Rattle.su_client_work.specs.declared.ready.TheConstants.{MOST_READY};
 ghost use Rattle.su_bytes.specs.declared.refusals.Refusal.TheVariants.{LinkFailed};
 ghost use Rattle.su_message.specs.declared.requests.Request.TheVariants.{Grant, Give, Fetch};
@@ -236,6 +236,37 @@ impl<R: Read + Drop, W: Write + Drop, K: KeyStore + Drop> Member<R, W, K> {
             Ok(()) => Ok(()),
             Err(refusal) => Err(ViewRefusal::Plain(refusal)),
         }
+    }
+
+    /// Looks as `look` does where the list lacks `most` commits at most, and answers `false`. Else it
+    /// takes some `most` of those that the list lacks, gives the turn back, and answers `true`: there
+    /// are more, if the server tells no lies. What it shows as last commits is passed by then. The
+    /// refusals are those of `begin`.
+    pub fn look_some<A: Surroundings<R, W>>(
+        &mut self,
+        around: &mut A,
+        most: u64,
+    ) -> Result<bool, ViewRefusal>
+        ensures takes { OnlyTakes self.old self.new }
+        ensures link { Comes A.may_connect self.old.link self.new.link }
+        ensures looks { IfOk result (λ has_more. has_more ≡ false
+            → Looks A.may_connect self.old.link self.new.holding self.new.link) }
+        ensures refused { IfErr result
+            (IsRefusedTurn A.may_connect self.old.link self.new.link) }
+    {
+        let (count, last) = match self.take_turn(around) {
+            Ok(granted) => granted,
+            Err(refusal) => return Err(ViewRefusal::Plain(refusal)),
+        };
+        let caught_up = self.catch_up_some(around, count, last.as_slice(), most);
+        if let Ok(false) = caught_up {
+            return match self.give() {
+                Ok(()) => Ok(false),
+                Err(refusal) => Err(ViewRefusal::Plain(refusal)),
+            };
+        }
+        self.give_up();
+        caught_up
     }
 
     /// Gives the turn back.
@@ -476,6 +507,33 @@ impl<R: Read + Drop, W: Write + Drop, K: KeyStore + Drop> Member<R, W, K> {
         let shown = self.last_commits(last)?;
         self.take_up_to(around, count, &shown)?;
         self.view.check_list(shown.commits())
+    }
+
+    /// Catches up as `catch_up` does where the list lacks `most` commits at most, and answers `false`;
+    /// else takes so many, and answers `true`.
+    fn catch_up_some<A: Surroundings<R, W>>(
+        &mut self,
+        around: &mut A,
+        count: u64,
+        last: &[(User, u64)],
+        most: u64,
+    ) -> Result<bool, ViewRefusal>
+        ensures takes { OnlyTakes self.old self.new }
+        ensures follows { Follows self.old.link self.new.link }
+        ensures passes { IfOk result (λ has_more. has_more ≡ false
+            → PassesShown self.new.holding last.now self.old.link self.new.link) }
+        ensures caught_up { IfOk result (λ has_more. has_more ≡ false
+            → IsCaughtUp count self.new.holding self.old.link self.new.link) }
+    {
+        let (held, _) = self.view.head();
+        let end_ = held.saturating_add(most);
+        if end_ < count {
+            self.pass_over();
+            self.take_up_to(around, end_, &Shown::new(self.alloc))?;
+            return Ok(true);
+        }
+        self.catch_up(around, count, last)?;
+        Ok(false)
     }
 
     /// Fetches these last commits. What the server says that it hasn't is left out.

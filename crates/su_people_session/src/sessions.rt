@@ -16,6 +16,9 @@ use su_lms::{KeyStore, PublicKey, Signer};
 use su_person::Person;
 use su_view::{View, ViewRefusal};
 
+/// How many commits are taken at a time of those that came: their items have 18 MB at most.
+const MOST_TAKEN: u64 = 256;
+
 /// How often the turn is asked for that another has, a millisecond apart.
 const TRIES: u32 = 10_000;
 
@@ -50,6 +53,55 @@ impl<T, K: KeyStore + Drop> Session<'_, T, K> {
     }
 }
 
+impl<T, K> Session<'_, T, K>
+where
+    T: Net<Listener = TcpListener, Stream = TcpStream> + Threads + Sync,
+    K: KeyStore + Drop,
+{
+    /// Takes the commits that came, some at a time, and keeps them. No memory holds their items then,
+    /// unless the command needs these.
+    fn catch_up(&mut self, items: Items) -> Result<(), Trouble> {
+        for _ in 0..u64::MAX {
+            let has_more = self.take_some()?;
+            if items == Items::Left {
+                self.leave_entries();
+            }
+            self.leave_tree(0);
+            if !has_more {
+                break;
+            }
+        }
+        Ok(())
+    }
+
+    /// Takes some of the commits that came, and keeps them; tells whether there may be more.
+    fn take_some(&mut self) -> Result<bool, Trouble> {
+        let (before, _) = self.member.view().head();
+        let looked = self.member.look_some(&mut self.helper, MOST_TAKEN);
+        let (after, _) = self.member.view().head();
+        match looked {
+            // (the server told of more, and gave none)
+            Ok(true) if after == before => {
+                let looked = self.member.look(&mut self.helper);
+                self.keep_taken(looked)?;
+                Ok(false)
+            }
+            looked => self.keep_taken(looked),
+        }
+    }
+
+    /// Keeps the commits that were taken, and answers what taking them did. `Partly` where they can't
+    /// be kept.
+    fn keep_taken<X>(&mut self, looked: Result<X, ViewRefusal>) -> Result<X, Trouble> {
+        let kept = self.helper.keep(self.member.view());
+        match looked {
+            Ok(_) if !kept => Err(Trouble::Partly),
+            Ok(found) => Ok(found),
+            Err(refusal) => Err(Trouble::shown(refusal)),
+        }
+    }
+}
+
 /// Begins a session that only looks, for which no key is needed, and takes the commits that came.
 /// The state folder is in the directory that is given, else in the current one or upwards from it.
 /// Refuses a state folder or a log that can't be used, a server that can't be reached, and what
@@ -65,7 +117,9 @@ where
 {
     let opened = open(rt, host, given, items)?;
     let signer = no_signer(rt.alloc())?;
-    caught_up(session_of(rt, host, opened, signer))
+    let mut session = session_of(rt, host, opened, signer);
+    session.catch_up(items)?;
+    Ok(session)
 }
 
 /// Begins a session that signs with the key that its user has by the log, and takes the commits
@@ -80,24 +134,10 @@ where
 {
     let opened = open(rt, host, given, Items::Left)?;
     let signer = signer_for(rt, host, &opened.folder, &opened.view)?;
-    let mut session = caught_up(session_of(rt, host, opened, signer))?;
-    session.leave_entries();
+    let mut session = session_of(rt, host, opened, signer);
+    session.catch_up(Items::Left)?;
     follow_key(&mut session)?;
     Ok(session)
-}
-
-/// Takes the commits that came, and keeps them.
-fn caught_up<'a, T, K>(session: Session<'a, T, K>) -> Result<Session<'a, T, K>, Trouble>
-where
-    T: Net<Listener = TcpListener, Stream = TcpStream> + Threads + Sync,
-    K: KeyStore + Drop,
-{
-    let Session {
-        mut helper,
-        mut member,
-    } = session;
-    catch_up(&mut helper, &mut member)?;
-    Ok(Session { helper, member })
 }
 
 /// Makes the client that holds what an opened view does.
@@ -120,24 +160,6 @@ where
     Session {
         helper: Helper::new(rt, host, folder, kept, grown),
         member: Member::new(rt.alloc(), view, signer, TRIES),
-    }
-}
-
-/// Takes the commits that came, and keeps them.
-fn catch_up<'a, T, K>(
-    helper: &mut Helper<'a, T>,
-    member: &mut Member<BufReader<TcpStream>, TcpStream, K>,
-) -> Result<(), Trouble>
-where
-    T: Net<Listener = TcpListener, Stream = TcpStream> + Threads + Sync,
-    K: KeyStore + Drop,
-{
-    let looked = member.look(helper);
-    let kept = helper.keep(member.view());
-    match looked {
-        Ok(()) if kept => Ok(()),
-        Ok(()) => Err(Trouble::Partly),
-        Err(refusal) => Err(Trouble::shown(refusal)),
     }
 }
 
