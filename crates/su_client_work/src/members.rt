@@ -528,8 +528,9 @@ impl<R: Read + Drop, W: Write + Drop, K: KeyStore + Drop> Member<R, W, K> {
         let (held, _) = self.view.head();
         let end_ = held.saturating_add(most);
         if end_ < count {
+            let shown = Shown::new(self.alloc);
             self.pass_over();
-            self.take_up_to(around, end_, &Shown::new(self.alloc))?;
+            self.take_up_to(around, end_, &shown)?;
             return Ok(true);
         }
         self.catch_up(around, count, last)?;
