@@ -260,10 +260,8 @@ impl<R: Read + Drop, W: Write + Drop, K: KeyStore + Drop> Member<R, W, K> {
         };
         let caught_up = self.catch_up_some(around, count, last.as_slice(), most);
         if let Ok(false) = caught_up {
-            return match self.give() {
-                Ok(()) => Ok(false),
-                Err(refusal) => Err(ViewRefusal::Plain(refusal)),
-            };
+            self.give()?;
+            return Ok(false);
         }
         self.give_up();
         caught_up

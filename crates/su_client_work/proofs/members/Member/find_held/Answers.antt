@@ -20,7 +20,7 @@ returns-clause-asks g c =
 
 pub returns-clause-follows : goal.returns-clause-follows
 returns-clause-follows g c =
-    subst (λ (l : LinkState). Follows l c.find.new.self.source.source.source.source.client.link) (ap (λ (x : MemberState). x.link) c.self.view_is) c.find.ensures.asks.source.follows
+    subst (λ (l : LinkState). Follows l c.find.new.self.source.source.source.source.client.link) (ap (λ (x : MemberState). x.link) c.self.view_is) c.find.ensures.asks.source.follows.1
 
 pub returns-clause-found : goal.returns-clause-found
 returns-clause-found g c = λ clear.

@@ -22,7 +22,7 @@ returns-in_err-live-clause-asks g c =
 
 pub returns-in_err-live-clause-follows : goal.returns-in_err-live-clause-follows
 returns-in_err-live-clause-follows g c =
-    subst (λ (l : LinkState). Follows l c.live.new.self.source.source.source.source.client.link) (ap (λ (x : MemberState). x.link) c.self.view_is) c.live.ensures.asks.source.follows
+    subst (λ (l : LinkState). Follows l c.live.new.self.source.source.source.source.client.link) (ap (λ (x : MemberState). x.link) c.self.view_is) c.live.ensures.asks.source.follows.1
 
 pub returns-clause-value : goal.returns-clause-value
 returns-clause-value g c = λ clear.
@@ -42,4 +42,4 @@ returns-clause-asks g c =
 
 pub returns-clause-follows : goal.returns-clause-follows
 returns-clause-follows g c =
-    subst (λ (l : LinkState). Follows l c.live.new.self.source.source.source.source.client.link) (ap (λ (x : MemberState). x.link) c.self.view_is) c.live.ensures.asks.source.follows
+    subst (λ (l : LinkState). Follows l c.live.new.self.source.source.source.source.client.link) (ap (λ (x : MemberState). x.link) c.self.view_is) c.live.ensures.asks.source.follows.1

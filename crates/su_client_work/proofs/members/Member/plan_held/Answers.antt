@@ -20,7 +20,7 @@ returns-clause-asks g c =
 
 pub returns-clause-follows : goal.returns-clause-follows
 returns-clause-follows g c =
-    subst (λ (l : LinkState). Follows l c.plan_all.new.self.source.source.source.source.client.link) (ap (λ (x : MemberState). x.link) c.self.view_is) c.plan_all.ensures.asks.source.follows
+    subst (λ (l : LinkState). Follows l c.plan_all.new.self.source.source.source.source.client.link) (ap (λ (x : MemberState). x.link) c.self.view_is) c.plan_all.ensures.asks.source.follows.1
 
 pub returns-clause-planned : goal.returns-clause-planned
 returns-clause-planned g c = λ clear.

@@ -46,5 +46,5 @@ returns-clause-follows g c =
     let three = c.source_mut-outbox.ensures.value in
     let second : c.source_mut-outbox.result.now.client.link ≡ c.shed.new.self.source.source.source.source.client.link = cc in
     follows_on c.args.self.now.link c.shed.new.self.source.source.source.source.client.link c.settle.new.self.client.link
-    (subst (λ (l : LinkState). Follows l c.shed.new.self.source.source.source.source.client.link) (ap (λ (x : MemberState). x.link) c.self.view_is) c.shed.ensures.follows)
+    (subst (λ (l : LinkState). Follows l c.shed.new.self.source.source.source.source.client.link) (ap (λ (x : MemberState). x.link) c.self.view_is) c.shed.ensures.follows.1)
     (subst (λ (l : LinkState). Follows l c.settle.new.self.client.link) second c.settle.ensures.follows)

@@ -19,7 +19,7 @@ returns-clause-asks g c =
 
 pub returns-clause-follows : goal.returns-clause-follows
 returns-clause-follows g c =
-    subst (λ (l : LinkState). Follows l c.read_at.new.self.source.source.source.source.client.link) (ap (λ (x : MemberState). x.link) c.self.view_is) c.read_at.ensures.asks.source.follows
+    subst (λ (l : LinkState). Follows l c.read_at.new.self.source.source.source.source.client.link) (ap (λ (x : MemberState). x.link) c.self.view_is) c.read_at.ensures.asks.source.follows.1
 
 pub returns-clause-ok : goal.returns-clause-ok
 returns-clause-ok g c = λ clear.

@@ -16,4 +16,4 @@ returns-clause-takes g c =
 
 pub returns-clause-follows : goal.returns-clause-follows
 returns-clause-follows g c =
-    subst (λ (l : LinkState). Follows l c.accept_bytes.new.self.source.source.source.source.client.link) (ap (λ (x : MemberState). x.link) c.self.view_is) c.accept_bytes.ensures.asks.source.follows
+    subst (λ (l : LinkState). Follows l c.accept_bytes.new.self.source.source.source.source.client.link) (ap (λ (x : MemberState). x.link) c.self.view_is) c.accept_bytes.ensures.asks.source.follows.1

@@ -15,7 +15,7 @@ returns-in_err-accept_known-clause-clear g c =
 
 pub returns-in_err-accept_known-clause-follows : goal.returns-in_err-accept_known-clause-follows
 returns-in_err-accept_known-clause-follows g c =
-    subst (λ (l : LinkState). Follows l c.accept_known.new.self.source.source.source.source.client.link) (ap (λ (x : MemberState). x.link) c.self.view_is) c.accept_known.ensures.asks.source.follows
+    subst (λ (l : LinkState). Follows l c.accept_known.new.self.source.source.source.source.client.link) (ap (λ (x : MemberState). x.link) c.self.view_is) c.accept_known.ensures.asks.source.follows.1
 
 pub returns-clause-clear : goal.returns-clause-clear
 returns-clause-clear g c =
@@ -23,7 +23,7 @@ returns-clause-clear g c =
 
 pub returns-clause-follows : goal.returns-clause-follows
 returns-clause-follows g c =
-    subst (λ (l : LinkState). Follows l c.accept_known.new.self.source.source.source.source.client.link) (ap (λ (x : MemberState). x.link) c.self.view_is) c.accept_known.ensures.asks.source.follows
+    subst (λ (l : LinkState). Follows l c.accept_known.new.self.source.source.source.source.client.link) (ap (λ (x : MemberState). x.link) c.self.view_is) c.accept_known.ensures.asks.source.follows.1
 
 pub returns-clause-took : goal.returns-clause-took
 returns-clause-took g c =

@@ -16,4 +16,4 @@ returns-clause-takes g c =
 
 pub returns-clause-follows : goal.returns-clause-follows
 returns-clause-follows g c =
-    subst (λ (l : LinkState). Follows l c.take_commit.new.view.source.source.source.source.client.link) (ap (λ (x : MemberState). x.link) c.self.view_is) c.take_commit.ensures.asks.source.follows
+    subst (λ (l : LinkState). Follows l c.take_commit.new.view.source.source.source.source.client.link) (ap (λ (x : MemberState). x.link) c.self.view_is) c.take_commit.ensures.asks.source.follows.1
