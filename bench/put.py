@@ -13,7 +13,7 @@ is measured once, by the clock; a tiny folder is put and got before. What was go
 - seconds of `sundr ls`, the best of five, with a log of 10,000 and of 100,000 commits in the state folder, and of the `sundr init` that
   took them. Their author's key has a tree of height 20 (bench/audit.py makes it), since keys of `sundr keygen` sign 1,024 times; another
   key stands in the state folder for it, as none of the two commands signs. These servers keep their stores in memory (/dev/shm);
-- the peak of memory (VmHWM, each 2 ms) of a put of 100 files of 1 MB into an empty store, and of `sundr ls` after it; and of `sundr ls`
+- the peak of memory (VmHWM, each 2 ms) of a put of 100 files of 1 MB into an empty store, of `sundr ls` after it, and of a get by another; and of `sundr ls`
   where one file of 1 MB was put 100 times with other bytes.
 
 SUNDR names another program to measure.
@@ -322,13 +322,14 @@ def peak_of(words):
 
 
 def memory(room, sizes):
-    """Peaks of memory of a put, and of an `ls` after it."""
+    """Peaks of memory of a put, of an `ls` after it, and of a get of all by another, to whom all of it is new."""
     os.makedirs(f"{room}/memory")
     contents = Contents(f"{room}/contents", "megabytes", MEGABYTE, sizes["memory"])
     with contextlib.ExitStack() as closing:
         team = Sundr(f"{room}/memory", closing)
         state = ["--in", f"{room}/memory/ann"]
-        for name, words in (("put -r", ["put", *state, "-r", contents.path, "/megabytes"]), ("ls", ["ls", *state, "/megabytes"])):
+        get = ["get", "--in", f"{room}/memory/bob", "-r", "/megabytes", f"{room}/memory/got"]
+        for name, words in (("put -r", ["put", *state, "-r", contents.path, "/megabytes"]), ("ls", ["ls", *state, "/megabytes"]), ("get -r", get)):
             took, peak = peak_of([*serving.program, *words])
             print(f"{name:8} {contents.told}: {peak / MEGABYTE:,.1f} MB at the peak, {took:.3f} s", flush=True)
         print(f"{team.head():,} commits have been made by then", flush=True)
