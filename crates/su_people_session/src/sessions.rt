@@ -83,8 +83,7 @@ where
             // (the server told of more, and gave none)
             Ok(true) if after == before => {
                 let looked = self.member.look(&mut self.helper);
-                self.keep_taken(looked)?;
-                Ok(false)
+                self.keep_taken(looked.map(|()| false))
             }
             looked => self.keep_taken(looked),
         }
@@ -92,11 +91,11 @@ where
 
     /// Keeps the commits that were taken, and answers what taking them did. `Partly` where they can't
     /// be kept.
-    fn keep_taken<X>(&mut self, looked: Result<X, ViewRefusal>) -> Result<X, Trouble> {
+    fn keep_taken(&mut self, looked: Result<bool, ViewRefusal>) -> Result<bool, Trouble> {
         let kept = self.helper.keep(self.member.view());
         match looked {
             Ok(_) if !kept => Err(Trouble::Partly),
-            Ok(found) => Ok(found),
+            Ok(has_more) => Ok(has_more),
             Err(refusal) => Err(Trouble::shown(refusal)),
         }
     }
