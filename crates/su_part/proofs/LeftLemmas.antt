@@ -1,7 +1,6 @@
 -- Blocks that are left on a store and put back as they are.
-use Rattle.std.proofs.Common.{◌≡◌, ◌≢◌, ◌∙◌, ℕ, ◌+◌, ◌*◌, ◌<◌, ◌≤◌, ◌^◌, Bool, true, false, cond, max, IsTrue, List, length, map, get_or, Option, Some, None, refl, sym, ap, subst, arith, ◌⊎◌, inl, inr, lit<}
+use Rattle.std.proofs.Common.{◌≡◌, ◌∙◌, ℕ, ◌+◌, ◌*◌, ◌<◌, ◌≤◌, ◌^◌, Bool, true, false, cond, max, IsTrue, List, length, get_or, Option, Some, None, refl, sym, ap, subst, arith, ◌⊎◌, inl, inr, lit<}
 use Rattle.std.specs.Prelude.{IsSome}
-use Rattle.std.specs.List.{range_with_len}
 use Rattle.std.specs.BTreeMap.{is_at}
 use Rattle.std.specs.FinMap.{get}
 use Rattle.std.specs.Ordering.{nat_cmp}

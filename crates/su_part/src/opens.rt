@@ -1,7 +1,5 @@
 // Whether what an edit needs of an inode is loaded.
-ghost use Rattle.std.specs.Prelude.{◌≡◌, ◌↔◌, ◌<◌, ◌≤◌, ℕ, IsTrue};
-ghost use Rattle.su_tree.specs.Number.{number_bits};
-ghost use Rattle.su_part_tree.specs.Part.{reaches};
+ghost use Rattle.std.specs.Prelude.{◌↔◌, ℕ, IsTrue};
 ghost use Rattle.su_table.specs.Tree.{Tree};
 ghost use Rattle.su_part.specs.Bytes.{HasBlock, HasBlocks, HasCut, HasWrite};
 ghost use Rattle.su_part.specs.Cut.{HasCutOf};
