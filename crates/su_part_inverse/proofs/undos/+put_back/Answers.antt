@@ -18,13 +18,12 @@ use Rattle.su_part_inverse.proofs.ReadyLemmas.{each, ready_on}
 use Rattle.su_part_inverse.proofs.undos.+put_back.Goals as goal
 
 pub returns-in-None-clause-ok : goal.returns-in-None-clause-ok
-returns-in-None-clause-ok t c F T h back ready =
+returns-in-None-clause-ok t c F T h back ready is =
     let i = c.args.inverse.now in
     let none = nil_from_length c.args.returns.now c.in-None.ensures.cases in
     let whole = c.as_slice.ensures.value in
-    subst (λ rs. OnOk c.lengthen.result (Stands c.lengthen.new.forest (returned rs i F))) (sym none)
-    (subst (λ ks. OnOk c.lengthen.result (Stands c.lengthen.new.forest (finished i (grown ks F)))) whole
-    (c.lengthen.ensures.ok F T h (subst (AllByRecursion (SizeIsReady [] F T c.args.forest.now)) (sym whole) ready.sizes) ready))
+    c.lengthen.ensures.ok F T h (subst (AllByRecursion (SizeIsReady [] F T c.args.forest.now)) (sym whole) ready.sizes) ready
+    (subst (λ ks. finished i (grown ks F) ≡ T) (sym whole) (subst (λ rs. returned rs i F ≡ T) none is))
 
 pub returns-in-None-clause-err : goal.returns-in-None-clause-err
 returns-in-None-clause-err t c F T h back ready =
@@ -35,7 +34,7 @@ returns-in-None-clause-err_known t c F T h back ready =
     c.lengthen.ensures.err_known F T h (subst (AllByRecursion (SizeIsReady [] F T c.args.forest.now)) (sym c.as_slice.ensures.value) ready.sizes) ready
 
 pub returns-in_default-clause-ok : goal.returns-in_default-clause-ok
-returns-in_default-clause-ok t c F T h back ready =
+returns-in_default-clause-ok t c F T h back ready done =
     let i = c.args.inverse.now in
     let f = c.args.forest.now in
     let g = c.bring_back.new.forest in
@@ -46,8 +45,8 @@ returns-in_default-clause-ok t c F T h back ready =
     let known = c.in_ok-overwritten-in-Some.ensures.known F h in
     let apart = ap (λ ks. comes_with ks first) (sym c.as_slice-in-Some.ensures.value) ∙ sym c.if-comes_with.ensures in
     let back' = ready_named i.inodes.items first rest F T apart (subst (λ rs. ReturnsAreReady [] i.inodes.items rs F T) is back) in
-    subst (λ rs. Stands c.put_back-in-Some.new.forest (returned rs i F)) (sym is)
-    (c.in_default.ensures.ok G T (c.in_ok-overwritten-in-Some.ensures.ok F h) back' (ready_on [] F G T f g known (name_moves F T first) i.sizes.items i.resets.items i.blocks.items ready))
+    c.in_default.ensures.ok G T (c.in_ok-overwritten-in-Some.ensures.ok F h) back' (ready_on [] F G T f g known (name_moves F T first) i.sizes.items i.resets.items i.blocks.items ready)
+    (subst (λ rs. returned rs i F ≡ T) is done)
 
 pub returns-in-Err-clause-err : goal.returns-in-Err-clause-err
 returns-in-Err-clause-err t c F T h back ready =
@@ -92,7 +91,7 @@ returns-in-Err-clause-err_known t c F T h back ready w x =
     (c.take_back.ensures.known G mid (between (want_of (overwritten_area o)) (c.in_ok-overwritten-in-Some.ensures.added F h)) (c.in_ok-overwritten-in-Some.ensures.room F h) w (between w (known w x)))
 
 pub returns-then-comes_with-clause-ok : goal.returns-then-comes_with-clause-ok
-returns-then-comes_with-clause-ok t c F T h back ready =
+returns-then-comes_with-clause-ok t c F T h back ready done =
     let i = c.args.inverse.now in
     let first = c.in-Some.first.now in
     let rest = c.in-Some.rest.now in
@@ -100,9 +99,8 @@ returns-then-comes_with-clause-ok t c F T h back ready =
     let comes = ap (λ ks. comes_with ks first) (sym c.as_slice-in-Some.ensures.value) ∙ sym c.if-comes_with.ensures in
     let back' = subst (λ rs. ReturnsAreReady [] i.inodes.items rs F T) is back in
     let same = came_back i.inodes.items first F T back'.back back'.held.0 comes in
-    subst (λ rs. OnOk c.put_back.result (Stands c.put_back.new.forest (returned rs i F))) (sym is)
-    (subst (λ V. OnOk c.put_back.result (Stands c.put_back.new.forest (returned rest i V))) (sym same)
-    (c.put_back.ensures.ok F T h (ready_behind i.inodes.items first rest F T back') ready))
+    c.put_back.ensures.ok F T h (ready_behind i.inodes.items first rest F T back') ready
+    (subst (λ V. returned rest i V ≡ T) same (subst (λ rs. returned rs i F ≡ T) is done))
 
 pub returns-then-comes_with-clause-err : goal.returns-then-comes_with-clause-err
 returns-then-comes_with-clause-err t c F T h back ready =

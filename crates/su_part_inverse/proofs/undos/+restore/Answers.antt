@@ -1,4 +1,4 @@
-use Rattle.std.proofs.Common.{◌≡◌, sym, subst, [], ◌∷◌, OnOk}
+use Rattle.std.proofs.Common.{◌≡◌, sym, subst, [], ◌∷◌}
 use Rattle.std.proofs.lemmas.List.{nil_from_length}
 use Rattle.std.proofs.lemmas.Result.{err_from_is_err_and}
 use Rattle.std.specs.List.{AllByRecursion}
@@ -21,13 +21,12 @@ use Rattle.su_part_inverse.proofs.Rolling.{given_back, taken}
 use Rattle.su_part_inverse.proofs.undos.+restore.Goals as goal
 
 pub returns-in-None-clause-ok : goal.returns-in-None-clause-ok
-returns-in-None-clause-ok t c F T h held back ready =
+returns-in-None-clause-ok t c F T h held back ready is =
     let i = c.args.inverse.now in
     let none = nil_from_length c.args.inodes.now c.in-None.ensures.cases in
     let whole = c.as_slice.ensures.value in
-    subst (λ ks. OnOk c.put_back.result (Stands c.put_back.new.forest (restored T ks i F))) (sym none)
-    (subst (λ rs. OnOk c.put_back.result (Stands c.put_back.new.forest (returned rs i F))) whole
-    (c.put_back.ensures.ok F T h (subst (λ rs. ReturnsAreReady [] i.inodes.items rs F T) (sym whole) (subst (λ ks. ReturnsAreReady ks i.inodes.items i.returns.items F T) none back)) (subst (λ ks. IsReady ks i F T c.args.forest.now) none ready)))
+    c.put_back.ensures.ok F T h (subst (λ rs. ReturnsAreReady [] i.inodes.items rs F T) (sym whole) (subst (λ ks. ReturnsAreReady ks i.inodes.items i.returns.items F T) none back)) (subst (λ ks. IsReady ks i F T c.args.forest.now) none ready)
+    (subst (λ rs. returned rs i F ≡ T) (sym whole) (subst (λ ks. restored T ks i F ≡ T) none is))
 
 pub returns-in-None-clause-err : goal.returns-in-None-clause-err
 returns-in-None-clause-err t c F T h held back ready =
@@ -45,7 +44,7 @@ returns-in-None-clause-err_known t c F T h held back ready =
     (subst (λ ks. IsReady ks i F T c.args.forest.now) none ready))
 
 pub returns-in_default-clause-ok : goal.returns-in_default-clause-ok
-returns-in_default-clause-ok t c F T h held back ready =
+returns-in_default-clause-ok t c F T h held back ready done =
     let i = c.args.inverse.now in
     let f = c.args.forest.now in
     let g = c.bring_back.new.forest in
@@ -57,9 +56,8 @@ returns-in_default-clause-ok t c F T h held back ready =
     let ready' = subst (λ ks. IsReady ks i F T f) is ready in
     let known = c.in_ok-was-in-Some.ensures.known F T h one in
     let added = c.in_ok-was-in-Some.ensures.added F T h one in
-    subst (λ ks. Stands c.restore.new.forest (restored T ks i F)) (sym is)
-    (c.in_default.ensures.ok (edit F (inode_edit T first)) T (c.in_ok-was-in-Some.ensures.ok F T h one) more back'
-    (ready_back rest first F T f g (inode_held T first one) known added i.sizes.items i.resets.items i.blocks.items ready'))
+    c.in_default.ensures.ok (edit F (inode_edit T first)) T (c.in_ok-was-in-Some.ensures.ok F T h one) more back'
+    (ready_back rest first F T f g (inode_held T first one) known added i.sizes.items i.resets.items i.blocks.items ready') (subst (λ ks. restored T ks i F ≡ T) is done)
 
 pub returns-in-Err-clause-err : goal.returns-in-Err-clause-err
 returns-in-Err-clause-err t c F T h held back ready =

@@ -29,12 +29,11 @@ loop-kept-preserved c F T h ready =
     )
 
 pub returns : goal.returns
-returns c F T h ready =
+returns c F T h ready back =
     let l = c.loop-kept in
     let i = c.args.self.now in
     let whole = ap length c.deref-kept-items.ensures.value in
     let done = drop_all l.kept-index i.sizes.items (omega (arith, c.loop-kept-test.false, whole)) in
     let (G, stands, left, same) = l.invariant F T h ready in
     let is : G ≡ cut i.sizes.items F = sym (ap (λ zs. cut zs G) done) ∙ same in
-    subst (λ V. Stands c.set.new.forest (written i.blocks.items (reset i.resets.items V))) is
-    (c.set.ensures G T stands (subst (λ zs. AreReady [] zs i.resets.items i.blocks.items G T l.forest) done left))
+    c.set.ensures G T stands (subst (λ zs. AreReady [] zs i.resets.items i.blocks.items G T l.forest) done left) (ap (λ V. written i.blocks.items (reset i.resets.items V)) is ∙ back)

@@ -31,12 +31,11 @@ loop-reset-preserved c F T h ready =
     )
 
 pub returns : goal.returns
-returns c F T h ready =
+returns c F T h ready back =
     let l = c.loop-reset in
     let i = c.args.self.now in
     let whole = ap length c.deref-reset-items.ensures.value in
     let done = drop_all l.reset-index i.resets.items (omega (arith, c.loop-reset-test.false, whole)) in
     let (G, stands, left, same) = l.invariant F T h ready in
     let is : G ≡ reset i.resets.items F = sym (ap (λ rs. reset rs G) done) ∙ same in
-    subst (λ V. Stands c.write.new.forest (written i.blocks.items V)) is
-    (c.write.ensures G T stands (subst (λ rs. AreReady [] [] rs i.blocks.items G T l.forest) done left))
+    c.write.ensures G T stands (subst (λ rs. AreReady [] [] rs i.blocks.items G T l.forest) done left) (ap (written i.blocks.items) is ∙ back)
