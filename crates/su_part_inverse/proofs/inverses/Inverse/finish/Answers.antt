@@ -1,6 +1,5 @@
 use Rattle.std.proofs.Common.{◌≡◌, ◌+◌, ◌<◌, ◌∙◌, sym, ap, subst, refl, [], drop, get_or, length, ◌∷◌, arith}
 use Rattle.std.proofs.lemmas.List.{at_drop_more, drop_all}
-use Rattle.su_part_forest.specs.Forest.{Stands}
 use Rattle.su_undone.specs.Undone.{cut, cut_to, reset, written}
 use Rattle.su_part_inverse.specs.Ready.{AreReady}
 use Rattle.su_part_inverse.proofs.Moves.{cut_moves}

@@ -1,7 +1,6 @@
 use Rattle.std.proofs.Common.{◌≡◌, ◌+◌, ◌<◌, ◌∙◌, sym, ap, subst, [], drop, get_or, length, ◌∷◌, arith}
 use Rattle.std.proofs.lemmas.List.{at_drop_more, drop_all}
 use Rattle.su_table.specs.Edit.{edits}
-use Rattle.su_part_forest.specs.Forest.{Stands}
 use Rattle.su_inverse.specs.Kept.{reset_edits}
 use Rattle.su_undone.specs.Undone.{reset, written}
 use Rattle.su_part_inverse.specs.Ready.{AreReady}
