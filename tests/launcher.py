@@ -45,6 +45,7 @@ class Tree:
             os.makedirs(f"{self.top}/crates/{crate}/src")
         for script in ("sundr", "prove"):
             shutil.copy(f"{TOP}/{script}", self.top)
+        shutil.copytree(f"{TOP}/kit", f"{self.top}/kit")
         self.write("crates.txt", CRATES)
         self.write("crates/aside/stdout", "")
         self.write("crates/sundr/src/main.rt", "first")

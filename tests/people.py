@@ -663,11 +663,21 @@ def make_megabytes(at, files, seed):
 
 
 def left_tree(room):
-    """A tree of more bytes than stay in memory is put and got byte by byte, changed and taken back; also where no scratch can be made."""
+    """A tree of more bytes than stay in memory is put and got byte by byte, changed and taken back; also where no scratch can be made.
+    What earlier changes replaced is left as well, and taken back."""
     team = team_of(room)
     try:
         tree, scratch = f"{room}/tree", f"{team.at('ann')}/.sundr/scratch"
         make_megabytes(tree, 40, 7)
+        chance, replaced = random.Random(8), {}
+        for name, sizes in (("plan", (60_000, 60_000)), ("list", (50_000, 20_000)), ("note", (5_000, 55_000))):
+            for size in sizes:
+                was = replaced.get(name, (0, b""))[1]
+                with open(f"{room}/{name}", "wb") as it:
+                    it.write(chance.randbytes(size))
+                ended = team.do("ann", "put", f"{room}/{name}", f"/{name}")
+                check(f"{name} is put", ended.status == 0, ended)
+                replaced[name] = head_of(team, "ann"), open(f"{room}/{name}", "rb").read(), was
         ended = team.do("ann", "put", "-r", tree, "/tree")
         check("a tree of 40 MB is put", ended.status == 0 and "40 files, 40000000 bytes" in ended.text, ended)
         check("its name is gone", not os.path.exists(scratch))
@@ -676,6 +686,12 @@ def left_tree(room):
         check("it is what was put", tree_of(tree) == tree_of(f"{room}/got"))
         ended, made = commits_of(team, "ann", "put", "-r", tree, "/tree")
         check("another put of it writes nothing", ended.status == 0 and made == 0, (made, ended))
+        for name, (number, present, was) in replaced.items():
+            check(f"{name} is there", team.do("bob", "cat", f"/{name}").printed == present)
+            ended = team.do("ann", "undo", str(number))
+            check(f"what was put over {name} is taken back", ended.status == 0, ended)
+            check(f"what it replaced in {name} is read", team.do("ann", "cat", f"/{name}").printed == was)
+            check(f"another reads that of {name} too", team.do("bob", "cat", f"/{name}").printed == was)
         old = open(f"{tree}/3", "rb").read()
         with open(f"{tree}/3", "wb") as it:
             it.write(old[:500_000] + b"in the middle" + old[500_013:])

@@ -1034,6 +1034,25 @@ def silent(at):
         idle.close()
 
 
+def pauses_of_turns(at):
+    """The pauses of one turn aren't those of the next, also where one read brings the end of the one and the request for the other."""
+    if program == MODEL:
+        return
+    room = Room(at)
+    with Server(room, "--turn-seconds", 3) as server:
+        link = raw(server.port)
+        replies = [reply_to(link, wire.GRANT)]
+        try:
+            for _ in range(4):
+                time.sleep(1.5)
+                link.write(wire.frame(wire.GIVE) + wire.frame(wire.GRANT))
+                replies += [wire.reply_in(link.receive()) for _ in range(2)]
+        except wire.LinkEnded:
+            replies.append("ended")
+        link.close()
+        yield f"pauses_of_turns_do_not_add_up: {replies}", replies == [("granted", (0, {}))] + [("given", None), ("granted", (0, {}))] * 4
+
+
 def crowded(at):
     """Silent sessions make room for connections that wait; who waits for ten seconds is told so."""
     if program == MODEL:
@@ -2159,7 +2178,7 @@ def same_log(seed, folder, room, client, team):
 
 PARTS = (
     walk, logs_taken_up, little_room, operations, at_once, many_users, at_a_keyboard, lines, stops, saves, streams, faults, keys, leaves_ahead, signatures, kills,
-    kills_ahead, kills_at_calls, busy, silent, deaf, crowded, unanswered, turns, many_turns, lies, sessions, ended_sessions, asides, bytes_of_sessions,
+    kills_ahead, kills_at_calls, busy, silent, pauses_of_turns, deaf, crowded, unanswered, turns, many_turns, lies, sessions, ended_sessions, asides, bytes_of_sessions,
     stored_bytes, formats, batches, commands_in_batches, book, rekeys, next_keys, example, by_chance)
 
 

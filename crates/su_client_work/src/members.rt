@@ -137,9 +137,9 @@ impl<R: Read + Drop, W: Write + Drop, K: KeyStore + Drop> Member<R, W, K> {
         self.view.leave_entries();
     }
 
-    /// Leaves all of the tree in the scratch of the client's own, as `leave_in_scratch` does: what is
-    /// asked of the tree then is loaded from there. Refused as a load is, and with `SourceFailed` where
-    /// there is no scratch: what isn't left then stays in memory.
+    /// Leaves all of the tree in the scratch of the client's own, and what is kept of live operations,
+    /// as `leave_in_scratch` does: what is asked of the tree then is loaded from there. Refused as a load
+    /// is, and with `SourceFailed` where there is no scratch: what isn't left then stays in memory.
     pub fn set_aside(&mut self) -> Result<(), Refusal>
         ensures refused { IsClear self.new → IfErr result IsLoadRefusal }
         ensures asks { OnlyAsks self.old self.new }

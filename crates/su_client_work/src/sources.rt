@@ -49,9 +49,9 @@ pub fn source_with<R: Read + Drop, W: Write + Drop>(
     BlockCache::new(alloc, Checked::new(blocks), MOST_CACHED)
 }
 
-/// Leaves the tree of a view in its scratch, but for the digests of its i-tables, as `View::shed` does.
-/// Refused as a load is, and with `SourceFailed` where there is no scratch: what isn't left then stays
-/// in memory.
+/// Leaves the tree of a view in its scratch, but for the digests of its i-tables, as `View::shed` does,
+/// and then what is kept of live operations, as `View::leave_kept` does. Refused as a load is, and with
+/// `SourceFailed` where there is no scratch: what isn't left then stays in memory.
 pub fn leave_in_scratch<R: Read + Drop, W: Write + Drop>(
     view: &mut View<LinkSource<R, W>>,
 ) -> Result<(), Refusal>
@@ -64,7 +64,19 @@ pub fn leave_in_scratch<R: Read + Drop, W: Write + Drop>(
         view.new.source.source.source.source.client.link }
 {
     view.source_mut().source_mut().source_mut().leave(true);
-    let left = view.shed();
+    let left = leave_on_source(view);
     view.source_mut().source_mut().source_mut().leave(false);
     left
+}
+
+/// Leaves the tree of a view on its source, and then what is kept of live operations. Refused as
+/// `leave_in_scratch` is.
+fn leave_on_source<S: BlockSource>(view: &mut View<S>) -> Result<(), Refusal>
+    ensures holding { view.new.holding ≡ view.old.holding }
+    ensures refused { IsClear S.may_give view.new → IfErr result IsLoadRefusal }
+    ensures clear { IsClear S.may_give view.new → IsClear S.may_give view.old }
+    ensures follows { S.follows view.old.source view.new.source }
+{
+    view.shed()?;
+    view.leave_kept()
 }

@@ -240,7 +240,7 @@ module _ (size : ℕ) (bs : List ℕ) (within : size ≤ length bs) where
 -- one block more, of which the digest is there
 pub stepped_in : (bs new : List ℕ) (k : ℕ) (c d : PartBytes) → Midway bs new k c → IsReplaced k (block k new) c d → k < 2 ^ 32 → k < block_count (length bs) → Midway bs new (k + 1) d
 stepped_in bs new k c d m r small lt =
-    stepped_by bs new k c d m small r.size (r.digests (numbered (mixed_digest bs new k) 0 (max (block_count (length bs)) k)) m.digests (value_some (mixed bs new k) (max (block_count (length bs)) k) c.digests m.digests k small (omega (arith, lt)))) r.blocks
+    stepped_by bs new k c d m small r.size (r.digests (numbered (mixed_digest bs new k) 0 (max (block_count (length bs)) k)) m.digests (value_some (mixed bs new k) (max (block_count (length bs)) k) c.digests m.digests k small (omega (arith, lt)))) (Some (block k new)) refl r.blocks
 
 -- a block that is written, and one that isn't touched
 pub part_written : (n off first last : ℕ) (xs old bs new : List ℕ) → old ≡ block n bs → off + length xs ≤ length bs → first ≡ max off (n * 4096) → last ≡ min (off + length xs) (n * 4096 + length old) → first < last

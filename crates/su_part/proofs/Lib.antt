@@ -14,3 +14,4 @@ pub mod KnownLemmas
 pub mod SeenLemmas
 pub mod FreshLemmas
 pub mod Public
+pub mod LeftLemmas

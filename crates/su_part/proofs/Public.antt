@@ -94,14 +94,14 @@ module _ (u : ℕ) (T : Tree) (n : ℕ) (p : UserPart) (number : n < 2 ^ 32) (st
 
 -- of the other inodes, after an edit of the one of a number
 module _ (u : ℕ) (T : Tree) (n : ℕ) (ch : InodeChange) (p q : UserPart) (stays : StaysLoaded n p q) where
-  inode_beside : (m : ℕ) → is_at (nat_cmp n) m ≡ false → KnowsInode u T m p → KnowsInode u (edit T (Inodes (u, n) ch)) m q
+  pub inode_beside : (m : ℕ) → is_at (nat_cmp n) m ≡ false → KnowsInode u T m p → KnowsInode u (edit T (Inodes (u, n) ch)) m q
   inode_beside m other w = record { number = w.number; path = go w.path; there = there_beside u T n ch p q stays m other w.there }
     where
       go : IsTrue (reaches number_bits m p.table) ⊎ (get T.inodes (u, m) ≡ None) → IsTrue (reaches number_bits m q.table) ⊎ (get (edit T (Inodes (u, n) ch)).inodes (u, m) ≡ None)
       go (inl r) = inl (stays.paths m r)
       go (inr none) = inr (edit_there T u n m ch other ∙ none)
 
-  part_beside : (P : PartContent → Content → Type 0) (m : ℕ) → is_at (nat_cmp n) m ≡ false → OfLoaded P (at_number p.inodes.entries m) (get T.inodes (u, m))
+  pub part_beside : (P : PartContent → Content → Type 0) (m : ℕ) → is_at (nat_cmp n) m ≡ false → OfLoaded P (at_number p.inodes.entries m) (get T.inodes (u, m))
       → OfLoaded P (at_number q.inodes.entries m) (get (edit T (Inodes (u, n) ch)).inodes (u, m))
   part_beside P m other w =
       subst (λ o. OfLoaded P o (get (edit T (Inodes (u, n) ch)).inodes (u, m))) (sym (stays.others m other))

@@ -207,15 +207,15 @@ begun b off xs bs k h k_is = record {
     alike n true e = mixed_rest bs (with_bytes_at off xs bs) k n (leb-true k n e)
     alike n false e = let lt = leb-false k n e in mixed_done bs (with_bytes_at off xs bs) k n lt ∙ before n lt
 
--- one block more
+-- one block more, which may be loaded or not
 pub stepped_by : (bs new : List ℕ) (k : ℕ) (c d : PartBytes) → Midway bs new k c → k < 2 ^ 32 → d.size ≡ c.size
     → StandsFor number_sort d.digests (with_value number_bits k (sha256 (block_item (block k new))) (numbered (mixed_digest bs new k) 0 (max (block_count (length bs)) k)))
-    → ((n : ℕ) → loaded_block d n ≡ cond (is_at (nat_cmp k) n) (Some (block k new)) (loaded_block c n)) → Midway bs new (k + 1) d
-stepped_by bs new k c d m small size digests blocks = record {
+    → (o : Option (List ℕ)) → IsBlockOf new k o → ((n : ℕ) → loaded_block d n ≡ cond (is_at (nat_cmp k) n) o (loaded_block c n)) → Midway bs new (k + 1) d
+stepped_by bs new k c d m small size digests o here blocks = record {
   size = size ∙ m.size;
   digests = subst (StandsFor number_sort d.digests) put digests;
   done = λ n lt. subst (IsBlockOf new n) (sym (blocks n)) (there n lt (is_at (nat_cmp k) n) refl);
-  rest = λ n le. subst (IsBlockOf bs n) (sym (blocks n ∙ ap (λ t. cond t (Some (block k new)) (loaded_block c n)) (apart n le))) (m.rest n (omega (arith, le)));
+  rest = λ n le. subst (IsBlockOf bs n) (sym (blocks n ∙ ap (λ t. cond t o (loaded_block c n)) (apart n le))) (m.rest n (omega (arith, le)));
 }
   where
     was : List (ℕ × List ℕ)
@@ -237,12 +237,12 @@ stepped_by bs new k c d m small size digests blocks = record {
         ∙ numbered_put (mixed_digest bs new k) (mixed_digest bs new (k + 1)) k (sha256 (block_item (block k new))) 0 (max (block_count (length bs)) k) (max (block_count (length bs)) (k + 1))
         (ap (λ x. sha256 (block_item x)) (mixed_done bs new (k + 1) k (omega arith))) same (omega arith) (omega arith) (omega arith)
 
-    there : (n : ℕ) → n < k + 1 → (t : Bool) → is_at (nat_cmp k) n ≡ t → IsBlockOf new n (cond t (Some (block k new)) (loaded_block c n))
-    there n lt true e = ap (λ j. block j new) (same_number k n e)
+    there : (n : ℕ) → n < k + 1 → (t : Bool) → is_at (nat_cmp k) n ≡ t → IsBlockOf new n (cond t o (loaded_block c n))
+    there n lt true e = subst (λ j. IsBlockOf new j o) (same_number k n e) here
     there n lt false e = m.done n (grind (arith, nat_tests, e, lt))
 
 pub stepped : (bs new : List ℕ) (k : ℕ) (c d : PartBytes) → Midway bs new k c → IsRewritten k (block k new) c d → k < 2 ^ 32 → Midway bs new (k + 1) d
-stepped bs new k c d m r small = stepped_by bs new k c d m small r.size (r.digests (numbered (mixed_digest bs new k) 0 (max (block_count (length bs)) k)) m.digests) r.blocks
+stepped bs new k c d m r small = stepped_by bs new k c d m small r.size (r.digests (numbered (mixed_digest bs new k) 0 (max (block_count (length bs)) k)) m.digests) (Some (block k new)) refl r.blocks
 
 -- blocks that are ready are put, and each has a place
 pub record Writing (bs new : List ℕ) (k until : ℕ) (c : PartBytes) (es : List (ℕ × Ready)) : Type 0 where

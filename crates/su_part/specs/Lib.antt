@@ -8,3 +8,4 @@ pub mod Seen
 pub mod Loads
 pub mod Fetches
 pub mod Sheds
+pub mod Left

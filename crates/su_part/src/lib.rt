@@ -9,6 +9,7 @@ mod fetches;
 mod fresh;
 mod inodes;
 mod items;
+mod left;
 mod opens;
 mod overwrites;
 mod reads;

@@ -1,10 +1,9 @@
 // Whether what an edit needs of an inode is loaded.
-ghost use Rattle.std.specs.Prelude.{◌≡◌, ◌↔◌, ◌<◌, ◌≤◌, ℕ, IsTrue};
-ghost use Rattle.su_tree.specs.Number.{number_bits};
-ghost use Rattle.su_part_tree.specs.Part.{reaches};
+ghost use Rattle.std.specs.Prelude.{◌↔◌, ℕ, IsTrue};
 ghost use Rattle.su_table.specs.Tree.{Tree};
 ghost use Rattle.su_part.specs.Bytes.{HasBlock, HasBlocks, HasCut, HasWrite};
 ghost use Rattle.su_part.specs.Cut.{HasCutOf};
+ghost use Rattle.su_part.specs.Left.{HasPaths, HasPathsOf};
 ghost use Rattle.su_part.specs.Part.{HasAt, HasInode, HasName, HasWriteOf, StandsUser};
 
 use crate::blocks::{PartBytes, count_for};
@@ -59,8 +58,7 @@ impl PartBytes {
 
     /// Tells whether the paths of the block numbers from `first` on and before `until` are loaded.
     fn has_paths(&self, first: u32, until: u32) -> bool
-        ensures { IsTrue result ↔ ((n : ℕ) → first ≤ n → n < until
-            → IsTrue (reaches number_bits n self.now.digests)) }
+        ensures { IsTrue result ↔ HasPaths first until self.now }
     {
         for number in first..until {
             if !self.digests.reaches(&number) {
@@ -98,6 +96,17 @@ impl PartInode {
     {
         match &self.content {
             PartContent::Bytes(bytes) => bytes.has_cut(size),
+            PartContent::Names(_) => true,
+        }
+    }
+
+    /// Tells whether the paths of the block numbers from `first` on and before `until` are loaded;
+    /// a directory has none.
+    fn has_paths(&self, first: u32, until: u32) -> bool
+        ensures { IsTrue result ↔ HasPathsOf first until self.now }
+    {
+        match &self.content {
+            PartContent::Bytes(bytes) => bytes.has_paths(first, until),
             PartContent::Names(_) => true,
         }
     }
@@ -164,6 +173,22 @@ impl UserPart {
         }
         match self.inodes.get(&number.number()) {
             Some(inode) => inode.has_cut(size),
+            None => true,
+        }
+    }
+
+    /// Tells so, and whether the paths of its block numbers from `first` on and before `until` are
+    /// loaded.
+    pub fn has_paths(&self, number: Inum, first: u32, until: u32) -> bool
+        ensures found { IsTrue result → HasAt number (HasPathsOf first until) self.now }
+        ensures told { (u : ℕ) (T : Tree) → StandsUser u self.now T
+            → HasAt number (HasPathsOf first until) self.now → IsTrue result }
+    {
+        if !self.has_inode(number) {
+            return false;
+        }
+        match self.inodes.get(&number.number()) {
+            Some(inode) => inode.has_paths(first, until),
             None => true,
         }
     }

@@ -130,11 +130,7 @@ impl PartInode {
     /// own. Of its content only the digest stays. Refused with `SourceFailed` where the source
     /// could not be asked, and with `NoMemory` where memory is wanting; then what wasn't put is
     /// still loaded.
-    pub(crate) fn shed<S: BlockSource>(
-        &mut self,
-        alloc: Global,
-        source: &mut S,
-    ) -> Result<(), Refusal>
+    pub fn shed<S: BlockSource>(&mut self, alloc: Global, source: &mut S) -> Result<(), Refusal>
         ensures sheds { ShedsInode S.may_give S.failed S.follows S.puts self.old self.new
             source.old source.new result }
         ensures put { OnOk result ((i : List ℕ) → IsItemInInode self.old i

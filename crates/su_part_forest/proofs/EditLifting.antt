@@ -23,13 +23,14 @@ use Rattle.su_part_tree.specs.Part.{StandsFor}
 use Rattle.su_node.specs.Inode.{Content}
 use Rattle.su_part.specs.Bytes.{number_sort}
 use Rattle.su_part.specs.Known.{Want.AnInode, Want.AName, Want.ABlock, Want as PartWant, Knows as KnowsOf, KnowsInode, KnowsNameIn, KnowsBlockIn, OfLoaded, StaysKnown as StaysKnownOf}
+use Rattle.su_part.specs.Left.{KnowsPath, KnowsPathIn, StaysKnownBut as StaysKnownButOf}
 use Rattle.su_part.specs.Part.{HasAll, MeantAt, StandsAt, StandsUser, StaysLoaded, at_number}
 use Rattle.su_part.specs.declared.inodes.PartContent.{PartContent}
 use Rattle.su_part.specs.declared.users.UserPart.{UserPart}
 use Rattle.su_group_part.specs.Part.{KnowsPointer, StandsGroup, place_sort}
 use Rattle.su_group_part.specs.declared.groups.GroupPart.{GroupPart}
 use Rattle.su_part_forest.specs.Forest.{IsPart, Stands, user_part, group_part}
-use Rattle.su_part_forest.specs.Known.{IsBeside, Knows, Want, Want.OfUser, Want.OfGroup, StaysKnown, StaysKnownBeside}
+use Rattle.su_part_forest.specs.Known.{IsBeside, IsNoneOf, Knows, KnowsPathAt, Want, Want.OfUser, Want.OfGroup, StaysKnown, StaysKnownBeside, StaysKnownBut}
 use Rattle.su_part_forest.specs.Loading.{IsKept, KeepsBeside, KeepsLoaded, KeepsPointers}
 use Rattle.su_part_forest.specs.declared.forests.PartForest.{PartForest}
 use Rattle.su_part_forest.proofs.Asked.{part_is, part_got, no_part}
@@ -96,6 +97,9 @@ module _ (T : Tree) (u n : ℕ) (ch : InodeChange) where
   known_beside v (AnInode m) x other h = known_inode_beside v m x other h
   known_beside v (AName m y) x other h = record { name = h.name; inode = known_inode_beside v m x other h.inode; part = part_beside (KnowsNameIn y) v m x other h.part }
   known_beside v (ABlock m k) x other h = record { inode = known_inode_beside v m x other h.inode; part = part_beside (KnowsBlockIn k) v m x other h.part }
+
+  path_beside : (v m k : ℕ) (x : UserPart) → ¬ (v ≡ u) → KnowsPath v T m k x → KnowsPath v (edit T (Inodes (u, n) ch)) m k x
+  path_beside v m k x other h = record { inode = known_inode_beside v m x other h.inode; part = part_beside (KnowsPathIn k) v m x other h.part }
 
 -- ---- a user's part was got by its number, and what is written through it stands there then
 
@@ -174,6 +178,30 @@ module _ (f : PartForest) (m u : ℕ) (p : UserPart) (within : m < length f.user
       -- but for names and blocks of what stood there
       pub user_known_beside : ((want : PartWant) → IsBeside (u, n) (OfUser u want) → KnowsOf u T want p → KnowsOf u (edit T (Inodes (u, n) ch)) want q) → StaysKnownBeside (u, n) T (edit T (Inodes (u, n) ch)) f (with_user f m q)
       user_known_beside this w beside = want_known w (λ want e. this want (subst (IsBeside (u, n)) e beside))
+
+      -- the path of a block
+      path_known : ((i k : ℕ) → KnowsPath u T i k p → KnowsPath u (edit T (Inodes (u, n) ch)) i k q) → (r : Place) (k : ℕ) → KnowsPathAt T r k f → KnowsPathAt (edit T (Inodes (u, n) ch)) r k (with_user f m q)
+      path_known this r k w = subst (λ i. IfSome (slice_get (slice_set f.users.items i q) r.0) (KnowsPath r.0 (edit T (Inodes (u, n) ch)) r.1 k)) (sym same) (go (nat_eq r.0 u) refl)
+        where
+          other : (o : Option UserPart) → ¬ (r.0 ≡ u) → IfSome o (KnowsPath r.0 T r.1 k) → IfSome o (KnowsPath r.0 (edit T (Inodes (u, n) ch)) r.1 k)
+          other None e w = tt
+          other (Some x) e w = path_beside T u n ch r.0 r.1 k x e w
+
+          here : r.0 ≡ u → IfSome (slice_get (slice_set f.users.items u q) r.0) (KnowsPath r.0 (edit T (Inodes (u, n) ch)) r.1 k)
+          here e = subst (λ i. IfSome (slice_get (slice_set f.users.items u q) i) (KnowsPath i (edit T (Inodes (u, n) ch)) r.1 k)) (sym e)
+              (subst (λ o. IfSome o (KnowsPath u (edit T (Inodes (u, n) ch)) r.1 k)) (sym (get_same f.users.items u q p got))
+              (this r.1 k (of_part (KnowsPath u T r.1 k) (user_part u f) p got (subst (λ i. IfSome (user_part i f) (KnowsPath i T r.1 k)) e w))))
+
+          go : (c : Bool) → nat_eq r.0 u ≡ c → IfSome (slice_get (slice_set f.users.items u q) r.0) (KnowsPath r.0 (edit T (Inodes (u, n) ch)) r.1 k)
+          go false e = subst (λ o. IfSome o (KnowsPath r.0 (edit T (Inodes (u, n) ch)) r.1 k)) (sym (get_other f.users.items u r.0 q (eqb-false r.0 u e))) (other (slice_get f.users.items r.0) (eqb-false r.0 u e) w)
+          go true e = here (eqb-true r.0 u e)
+
+      -- but for some blocks of what stood there
+      pub user_known_but : (first end_ : ℕ) → StaysKnownButOf u n first end_ T (edit T (Inodes (u, n) ch)) p q → StaysKnownBut (u, n) first end_ T (edit T (Inodes (u, n) ch)) f (with_user f m q)
+      user_known_but first end_ this = record {
+        known = λ w none. want_known w (λ want e. this.known want (subst (IsNoneOf (u, n) first end_) e none refl));
+        paths = path_known this.paths;
+      }
 
     -- what the user's part has
     pub user_has : (P : UserPart → Type 0) → P q → IfSome (user_part u (with_user f m q)) P

@@ -1,5 +1,5 @@
 // Single edits, of which operations and undos are made.
-ghost use Rattle.std.specs.Prelude.{◌≡◌, ◌⊎◌, ◌+◌, ◌<◌, ◌≤◌, ◌^◌, IsOk, length, Some, None, true, false, OnOk, OnErr, IfOk, IfErr};
+ghost use Rattle.std.specs.Prelude.{◌≡◌, ◌⊎◌, ◌+◌, ◌*◌, ◌<◌, ◌≤◌, ◌^◌, ℕ, List, IsOk, length, Some, None, true, false, OnOk, OnErr, IfOk, IfErr};
 ghost use Rattle.std.specs.FinMap.{get};
 ghost use Rattle.su_bytes.specs.FileId.{is_file_id};
 ghost use Rattle.su_bytes.specs.declared.refusals.Refusal.TheVariants.{MissingBlock, NoMemory};
@@ -11,14 +11,16 @@ ghost use Rattle.su_table.specs.Query.{is_free_at, is_name_free_at, is_nothing, 
 ghost use Rattle.su_table.specs.Tree.{Tree};
 ghost use Rattle.su_part.specs.Item.{MeantInode};
 ghost use Rattle.su_part.specs.Known.{Want.AnInode, Want.AName};
+ghost use Rattle.su_part.specs.Left.{AreDigestsOf};
 ghost use Rattle.su_part.specs.Part.{StandsInode, StandsJust};
 ghost use Rattle.su_part.specs.declared.fetches.Wanted.TheVariants.{Name as NameOf, Nothing, Write};
 ghost use Rattle.su_part_forest.specs.Forest.{Stands, HasPointerAt};
-ghost use Rattle.su_part_forest.specs.Known.{Want.OfUser, Want.OfGroup, HasCutAt, Knows, StaysKnown, StaysKnownBeside};
+ghost use Rattle.su_part_forest.specs.Known.{Want.OfUser, Want.OfGroup, HasCutAt, HasPathsAt, Knows, StaysKnown, StaysKnownBeside, StaysKnownBut};
 ghost use Rattle.su_part_forest.specs.Loading.{HasAt, KeepsBeside, KeepsLoaded};
 
 use crate::forests::PartForest;
-use su_bytes::{FileId, GroupFile, Kind, Name, Place, Refusal};
+use su_bytes::{Digest, FileId, GroupFile, Kind, Name, Place, Refusal};
+use su_node::BLOCK_SIZE;
 use su_part::PartInode;
 use su_tree::TreeKey;
 
@@ -305,6 +307,46 @@ impl PartForest {
                     return Err(Refusal::MissingBlock);
                 }
                 part.write_at(number, off, bytes)
+            }
+            None => Ok(()),
+        }
+    }
+
+    /// Puts blocks that are left on the store into the file at `place`, in the place of those from
+    /// number `first` on: of each its digest. Does nothing where no file stands. Refused with
+    /// `MissingBlock` where what stands there or the path of one of these numbers isn't loaded; then
+    /// the forest stands for what it stood for. What was known stays known, but for these blocks,
+    /// of which the paths do. It takes no memory.
+    pub fn put_left(&mut self, place: Place, first: u32, digests: &[Digest]) -> Result<(), Refusal>
+        requires small { first + length digests.now < 2 ^ 32 }
+        ensures ok { (T : Tree) (xs : List ℕ) → Stands self.old T
+            → BLOCK_SIZE * first + length xs ≤ size_at T place
+            → AreDigestsOf first xs (get T.inodes place) digests.now
+            → OnOk result (Stands self.new (edit T (Inodes place
+            (Written (size_at T place) (BLOCK_SIZE * first) xs)))) }
+        ensures known { (T : Tree) (xs : List ℕ) → Stands self.old T
+            → BLOCK_SIZE * first + length xs ≤ size_at T place
+            → OnOk result (StaysKnownBut place first (first + length digests.now) T
+            (edit T (Inodes place (Written (size_at T place) (BLOCK_SIZE * first) xs)))
+            self.old self.new) }
+        ensures refused { IfErr result (λ e. e ≡ MissingBlock) }
+        ensures succeeds { (T : Tree) → Stands self.old T
+            → HasPathsAt place first (first + length digests.now) self.old → IsOk result }
+        ensures err { (T : Tree) → Stands self.old T → OnErr result (Stands self.new T) }
+        ensures err_known { (T : Tree) → Stands self.old T
+            → OnErr result (StaysKnown T T self.old self.new) }
+        ensures err_keeps { OnErr result (KeepsLoaded self.old self.new) }
+    {
+        let (user, number) = place;
+        // names the number's range for the prover (docs/ARCHITECTURE.md, "Forms the kit wants")
+        let _number = number.number();
+        match self.users.get_mut(usize::from(user.number())) {
+            Some(part) => {
+                if !part.has_paths(number, first, first + digests.len() as u32) {
+                    return Err(Refusal::MissingBlock);
+                }
+                part.put_left(number, first, digests);
+                Ok(())
             }
             None => Ok(()),
         }

@@ -21,7 +21,7 @@ use Rattle.su_undone.specs.Undone.{brought_back, cut, grown, reset, written}
 use Rattle.su_undone.proofs.UndoneLemmas.{brought_left, cut_left, grown_left, reset_left, written_left}
 use Rattle.su_part.specs.Item.{MeantInode}
 use Rattle.su_part.specs.Part.{MeantAt, StandsInode, StandsJust}
-use Rattle.su_part_inverse.specs.Kept.{inode_area, return_area, inverse_areas, HoldsInode, HoldsReturn, IsKeptOf, IsPutBack}
+use Rattle.su_part_inverse.specs.Kept.{inode_area, return_area, inverse_areas, runs, runs_of, HoldsInode, HoldsReturn, IsKeptOf, IsPutBack}
 use Rattle.su_part_inverse.specs.Steps.{or_new, plain_inode, plain_return, restored}
 use Rattle.su_part_inverse.specs.declared.inverses.Inverse.{Inverse}
 use Rattle.su_part_inverse.specs.declared.returns.KeptInode.{KeptInode}
@@ -34,12 +34,12 @@ rest i = record {
   returns = record { ptr = i.returns.ptr; len = 0; cap = i.returns.cap; alloc = i.returns.alloc; items = []; ok = (refl, omega arith); small = i.returns.small };
   sizes = i.sizes;
   resets = i.resets;
-  blocks = i.blocks;
+  blocks = runs_of i.left i.blocks;
 }
 
 -- their areas
 abbrev pub others : Inverse → List Area
-others i = map size_area i.sizes.items ++ (map reset_area i.resets.items ++ map blocks_area i.blocks.items)
+others i = map size_area i.sizes.items ++ (map reset_area i.resets.items ++ map blocks_area (runs i))
 
 -- what it brings back, as it is of plain trees
 abbrev plains : Tree → List KeptInode → List Return → List PlainReturn
@@ -96,9 +96,9 @@ put_back_is i F T put =
     let F2 = grown i.sizes.items F1 in
     let cut' = cut_left i.sizes.items (rest i) F2 T all all.sizes (agree, room) in
     let F3 = cut i.sizes.items F2 in
-    let reset' = reset_left i.resets.items i.blocks.items F3 T all.resets cut' in
-    ap (λ V. written i.blocks.items (reset i.resets.items (cut i.sizes.items (grown i.sizes.items V)))) (sym (brought_joined (map (plain_inode T) i.inodes.items) (map plain_return i.returns.items) F))
-    ∙ all_back _ T (written_left i.blocks.items (reset i.resets.items F3) T all.blocks reset')
+    let reset' = reset_left i.resets.items (runs i) F3 T all.resets cut' in
+    ap (λ V. written (runs i) (reset i.resets.items (cut i.sizes.items (grown i.sizes.items V)))) (sym (brought_joined (map (plain_inode T) i.inodes.items) (map plain_return i.returns.items) F))
+    ∙ all_back _ T (written_left (runs i) (reset i.resets.items F3) T all.blocks reset')
   where
     at_first : AgreeOutside (left (plains T i.inodes.items i.returns.items) (rest i)) F T
     at_first = record {

@@ -37,7 +37,7 @@ use Rattle.su_part_inverse.proofs.LoadedLemmas.{areas_left, areas_right}
 use Rattle.su_inverse.specs.Kept.{blocks_area, reset_area, size_area, HoldsBlocks, HoldsReset, HoldsSize}
 use Rattle.su_inverse.specs.declared.contents.KeptSize.{KeptSize}
 use Rattle.su_inverse.proofs.SizeLemmas.{sized}
-use Rattle.su_part_inverse.specs.Kept.{inode_area, return_area, inverse_areas, HoldsReturn, IsPutBack}
+use Rattle.su_part_inverse.specs.Kept.{inode_area, return_area, inverse_areas, runs, HoldsReturn, IsPutBack}
 use Rattle.su_part_inverse.specs.Open.{AreOpen, InodeIsOpen, ReturnIsOpen, SizeIsOpen}
 use Rattle.su_part_inverse.specs.Ready.{BlocksAreReady, IsReady, KnowsArea, KnowsBlock, ResetIsReady, SizeIsReady, stood_at}
 use Rattle.su_part_inverse.specs.declared.inverses.Inverse.{Inverse}
@@ -269,19 +269,19 @@ module _ (i : Inverse) (F T : Tree) (f : PartForest) (h : Stands f F) (loaded : 
         inodes = both inode_area (λ k. stood_at i.inodes.items k.place ≡ true) (InodeIsOpen i.inodes.items F f) F f (λ k among has. record { among = among; loaded = has }) i.inodes.items (all_among i.inodes.items)
             (areas_left f F (map inode_area i.inodes.items) (map return_area i.returns.items ++ others i) loaded);
         returns = both return_area (HoldsReturn T) (ReturnIsOpen i.inodes.items F f) F f (λ r held has out. has) i.returns.items put.kept.returns (areas_left f F (map return_area i.returns.items) (others i) behind);
-        sizes = both size_area (HoldsSize T) (SizeIsOpen i.inodes.items F f) F f size_open i.sizes.items put.kept.sizes (areas_left f F (map size_area i.sizes.items) (map reset_area i.resets.items ++ map blocks_area i.blocks.items) later);
+        sizes = both size_area (HoldsSize T) (SizeIsOpen i.inodes.items F f) F f size_open i.sizes.items put.kept.sizes (areas_left f F (map size_area i.sizes.items) (map reset_area i.resets.items ++ map blocks_area (runs i)) later);
       }
 
   pub ready_first : IsReady i.inodes.items i F T f
   ready_first =
       let behind = areas_right f F (map inode_area i.inodes.items) (map return_area i.returns.items ++ others i) loaded in
       let later = areas_right f F (map return_area i.returns.items) (others i) behind in
-      let last = areas_right f F (map size_area i.sizes.items) (map reset_area i.resets.items ++ map blocks_area i.blocks.items) later in
+      let last = areas_right f F (map size_area i.sizes.items) (map reset_area i.resets.items ++ map blocks_area (runs i)) later in
       record {
-        sizes = both size_area (HoldsSize T) (SizeIsReady i.inodes.items F T f) F f size_ready i.sizes.items put.kept.sizes (areas_left f F (map size_area i.sizes.items) (map reset_area i.resets.items ++ map blocks_area i.blocks.items) later);
+        sizes = both size_area (HoldsSize T) (SizeIsReady i.inodes.items F T f) F f size_ready i.sizes.items put.kept.sizes (areas_left f F (map size_area i.sizes.items) (map reset_area i.resets.items ++ map blocks_area (runs i)) later);
         resets = both reset_area (HoldsReset T) (ResetIsReady F T f) F f (λ r held has. record { held = held; known = area_known F f h (reset_area r) has }) i.resets.items put.kept.resets
-            (areas_left f F (map reset_area i.resets.items) (map blocks_area i.blocks.items) last);
+            (areas_left f F (map reset_area i.resets.items) (map blocks_area (runs i)) last);
         blocks = both blocks_area (HoldsBlocks T) (BlocksAreReady F T f) F f
             (λ k held has. record { held = held; known = area_known F f h (blocks_area k) has; blocks = inr (run_known F f h k.place k.run has) })
-            i.blocks.items put.kept.blocks (areas_right f F (map reset_area i.resets.items) (map blocks_area i.blocks.items) last);
+            (runs i) put.kept.blocks (areas_right f F (map reset_area i.resets.items) (map blocks_area (runs i)) last);
       }

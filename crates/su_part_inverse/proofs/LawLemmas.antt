@@ -19,7 +19,7 @@ use Rattle.su_undo.specs.Batch.{all_ok, all_acted, all_writes}
 use Rattle.su_inverse.specs.Kept.{size_area, reset_area, blocks_area, HoldsReset, HoldsSize, HoldsBlocks, HoldsSame}
 use Rattle.su_inverse.proofs.KeptLemmas.{in_first, in_second, in_inode, each_again, field_again, size_again, reset_again, blocks_again}
 use Rattle.su_inverse.proofs.WholeLemmas.{front_ok, front_out}
-use Rattle.su_part_inverse.specs.Kept.{inode_area, return_area, inverse_areas, HoldsInode, HoldsReturn, IsKeptOf, IsPutBack}
+use Rattle.su_part_inverse.specs.Kept.{inode_area, return_area, inverse_areas, runs, HoldsInode, HoldsReturn, IsKeptOf, IsPutBack}
 use Rattle.su_part_inverse.specs.declared.inverses.Inverse.{Inverse}
 use Rattle.su_part_inverse.specs.declared.returns.KeptInode.{KeptInode}
 use Rattle.su_part_inverse.specs.declared.returns.Return.{Return}
@@ -40,7 +40,7 @@ kept_again i S T same held =
     let rs = map return_area i.returns.items in
     let zs = map size_area i.sizes.items in
     let es = map reset_area i.resets.items in
-    let bs = map blocks_area i.blocks.items in
+    let bs = map blocks_area (runs i) in
     let behind = in_second ns (rs ++ (zs ++ (es ++ bs))) S T same in
     let later = in_second rs (zs ++ (es ++ bs)) S T behind in
     let last = in_second zs (es ++ bs) S T later in
@@ -49,7 +49,7 @@ kept_again i S T same held =
       returns = each_again return_area HoldsReturn S T (return_again S T) i.returns.items (in_first rs (zs ++ (es ++ bs)) S T behind) held.returns;
       sizes = each_again size_area HoldsSize S T (size_again S T) i.sizes.items (in_first zs (es ++ bs) S T later) held.sizes;
       resets = each_again reset_area HoldsReset S T (reset_again S T) i.resets.items (in_first es bs S T last) held.resets;
-      blocks = each_again blocks_area HoldsBlocks S T (blocks_again S T) i.blocks.items (in_second es bs S T last) held.blocks;
+      blocks = each_again blocks_area HoldsBlocks S T (blocks_again S T) (runs i) (in_second es bs S T last) held.blocks;
     }
 
 pub put_back_after : (ro : Membership) (T : Tree) (x : Action) (i : Inverse) → Sound T → why ro T x ≡ None

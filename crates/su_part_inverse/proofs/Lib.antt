@@ -13,3 +13,5 @@ pub mod WholeAreas
 pub mod LoadedLemmas
 pub mod Answering
 pub mod Bodies
+pub mod LeftLemmas
+pub mod LeaveLemmas

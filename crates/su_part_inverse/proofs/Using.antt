@@ -41,7 +41,7 @@ use Rattle.su_part_inverse.proofs.Initial.{size_in, small_size}
 use Rattle.su_part_inverse.proofs.Reading.{meant_at, user_stands}
 
 -- an inode that is known and stands there is loaded
-inode_loaded : (u n : ℕ) (T : Tree) (p : UserPart) → StandsUser u p T → KnowsInode u T n p → get T.inodes (u, n) ≢ None → HasInode n p
+pub inode_loaded : (u n : ℕ) (T : Tree) (p : UserPart) → StandsUser u p T → KnowsInode u T n p → get T.inodes (u, n) ≢ None → HasInode n p
 inode_loaded u n T p h w some = known_inode n p (go w.path) u T h w.there
   where
     go : IsTrue (reaches number_bits n p.table) ⊎ (get T.inodes (u, n) ≡ None) → IsTrue (reaches number_bits n p.table)
@@ -49,7 +49,7 @@ inode_loaded u n T p h w some = known_inode n p (go w.path) u T h w.there
     go (inr none) = absurd (some none)
 
 -- a file with bytes stands there
-sized_some : (F : Tree) (p : Place) (n : ℕ) → n < size_at F p → get F.inodes p ≢ None
+pub sized_some : (F : Tree) (p : Place) (n : ℕ) → n < size_at F p → get F.inodes p ≢ None
 unfolding val
 sized_some F p n lt none = let z : size_at F p ≡ 0 = ap (λ o. value_number (field_value o SizeOf)) none in omega (arith, lt, z)
 
@@ -154,7 +154,7 @@ module _ (F : Tree) (f : PartForest) (h : Stands f F) (p : Place) where
         go (Some q) is c k = record { inode = k; part = part (at_number q.inodes.entries p.1) (get F.inodes p) refl ((user_stands f F h p q is).inodes p.1) c.part }
 
 -- the kept bytes lie in the run
-run_long : (T : Tree) (k : KeptBlocks) → HoldsBlocks T k → length k.bytes.items ≤ 4096 * (k.run.more + 1)
+pub run_long : (T : Tree) (k : KeptBlocks) → HoldsBlocks T k → length k.bytes.items ≤ 4096 * (k.run.more + 1)
 run_long T k held = go (bytes_of (get T.inodes k.place)) held
   where
     go : (o : Option (List ℕ)) → option_map (within (4096 * k.run.first) (4096 * (k.run.more + 1))) o ≡ Some k.bytes.items → length k.bytes.items ≤ 4096 * (k.run.more + 1)

@@ -1,6 +1,7 @@
 -- What an inverse keeps of a forest of parts: the values that the cells of some areas hold in a
 -- tree. Of a whole inode that is what stands for it, of which parts may be left on a store.
-use Rattle.std.specs.Prelude.{◌≡◌, false, List, Some, ◌++◌, map}
+use Rattle.std.specs.Prelude.{◌≡◌, false, List, Option, Some, None, ◌++◌, map}
+use Rattle.std.specs.Global.{Vec}
 use Rattle.std.specs.List.{AllByRecursion}
 use Rattle.std.specs.FinMap.{get}
 use Rattle.su_node.specs.Field.{Field.NameOf, Value.AFile, Value.APlace}
@@ -12,12 +13,25 @@ use Rattle.su_op.specs.declared.areas.Area.TheVariants.{Inode as InodeArea, Poin
 use Rattle.su_op.specs.Area.{has}
 use Rattle.su_part.specs.Part.{MeantAt, StandsJust}
 use Rattle.su_inverse.specs.Kept.{reset_area, size_area, blocks_area, HoldsReset, HoldsSize, HoldsBlocks}
+use Rattle.su_inverse.specs.declared.contents.KeptBlocks.{KeptBlocks}
 use Rattle.su_part_inverse.specs.declared.returns.KeptInode.{KeptInode}
 use Rattle.su_part_inverse.specs.declared.returns.Return.{Return}
 use Rattle.su_part_inverse.specs.declared.returns.Return.TheVariants.{Name as NameReturn, Pointer as PointerReturn}
 use Rattle.su_part_inverse.specs.declared.inverses.Kept.{Kept}
 use Rattle.su_part_inverse.specs.declared.inverses.Kept.TheVariants.{Inode as InodeKept, Return as ReturnKept, Size as SizeKept, Reset as ResetKept, Blocks as BlocksKept}
 use Rattle.su_part_inverse.specs.declared.inverses.Inverse.{Inverse}
+
+-- ---- runs of blocks
+
+-- what is kept of runs of blocks: their bytes, or in their place what is left on a store, of which
+-- the bytes are known as well
+abbrev pub runs_of : Option (Vec KeptBlocks) → Vec KeptBlocks → Vec KeptBlocks
+runs_of None at_hand = at_hand
+runs_of (Some left) at_hand = left
+
+-- so of an inverse
+abbrev pub runs : Inverse → List KeptBlocks
+runs i = (runs_of i.left i.blocks).items
 
 -- ---- the areas
 
@@ -45,7 +59,7 @@ inverse_areas i =
     ++ (map return_area i.returns.items
     ++ (map size_area i.sizes.items
     ++ (map reset_area i.resets.items
-    ++ map blocks_area i.blocks.items)))
+    ++ map blocks_area (runs i))))
 
 -- ---- their values: the tree holds what is kept
 
@@ -73,7 +87,7 @@ pub record IsKeptOf (i : Inverse) (T : Tree) : Type 0 where
   pub returns : AllByRecursion (HoldsReturn T) i.returns.items
   pub sizes : AllByRecursion (HoldsSize T) i.sizes.items
   pub resets : AllByRecursion (HoldsReset T) i.resets.items
-  pub blocks : AllByRecursion (HoldsBlocks T) i.blocks.items
+  pub blocks : AllByRecursion (HoldsBlocks T) (runs i)
 
 -- T has the kept values in the areas, and those of F in all other cells
 pub record IsPutBack (i : Inverse) (F : Tree) (T : Tree) : Type 0 where

@@ -2,3 +2,4 @@ pub mod Kept
 pub mod Steps
 pub mod Ready
 pub mod Open
+pub mod Lefts

@@ -22,7 +22,7 @@ use Rattle.su_inverse.specs.Kept.{blocks_area, reset_area, size_area, HoldsBlock
 use Rattle.su_inverse.specs.declared.contents.KeptBlocks.{KeptBlocks}
 use Rattle.su_inverse.specs.declared.contents.KeptSize.{KeptSize}
 use Rattle.su_inverse.specs.declared.resets.Reset.{Reset}
-use Rattle.su_part_inverse.specs.Kept.{inode_area, HoldsReturn}
+use Rattle.su_part_inverse.specs.Kept.{inode_area, runs, HoldsReturn}
 use Rattle.su_part_inverse.specs.declared.inverses.Inverse.{Inverse}
 use Rattle.su_part_inverse.specs.declared.returns.KeptInode.{KeptInode}
 use Rattle.su_part_inverse.specs.declared.returns.Overwritten.{Overwritten}
@@ -124,7 +124,7 @@ pub record AreReady (left : List KeptInode) (ks : List KeptSize) (rs : List Rese
 
 -- all of an inverse
 abbrev pub IsReady : List KeptInode → Inverse → Tree → Tree → PartForest → Type 0
-IsReady left i F T f = AreReady left i.sizes.items i.resets.items i.blocks.items F T f
+IsReady left i F T f = AreReady left i.sizes.items i.resets.items (runs i) F T f
 
 -- ---- what was overwritten can be put back
 

@@ -12,6 +12,7 @@ use Rattle.su_inverse.specs.Kept.{return_edit}
 use Rattle.su_inverse.specs.declared.returns.Return.{Return as PlainReturn}
 use Rattle.su_inverse.specs.declared.returns.Return.TheVariants.{Inode as PlainInode, Name as PlainName, Pointer as PlainPointer}
 use Rattle.su_undone.specs.Undone.{brought_back, grown, cut, reset, written}
+use Rattle.su_part_inverse.specs.Kept.{runs}
 use Rattle.su_part_inverse.specs.declared.returns.KeptInode.{KeptInode}
 use Rattle.su_part_inverse.specs.declared.returns.Overwritten.{Overwritten}
 use Rattle.su_part_inverse.specs.declared.returns.Overwritten.TheVariants.{Name as NameOverwritten, Pointer as PointerOverwritten}
@@ -49,7 +50,7 @@ overwritten_edit (PointerOverwritten g o) = Pointers g o
 
 -- files that are long enough are cut; links are set, and what wasn't there goes; blocks are written
 abbrev pub finished : Inverse → Tree → Tree
-finished i F = written i.blocks.items (reset i.resets.items (cut i.sizes.items F))
+finished i F = written (runs i) (reset i.resets.items (cut i.sizes.items F))
 
 -- before that files are lengthened
 abbrev pub lengthened : Inverse → Tree → Tree

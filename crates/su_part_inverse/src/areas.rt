@@ -9,6 +9,7 @@ use crate::returns::{KeptInode, Return};
 use std::alloc::Global;
 use su_bytes::Refusal;
 use su_inverse::{KeptBlocks, KeptSize, Reset};
+use su_left_blocks::LeftBlocks;
 use su_op::{Area, Part};
 
 impl Inverse {
@@ -22,7 +23,10 @@ impl Inverse {
         add_areas(self.returns.as_slice(), &mut areas)?;
         add_areas(self.sizes.as_slice(), &mut areas)?;
         add_areas(self.resets.as_slice(), &mut areas)?;
-        add_areas(self.blocks.as_slice(), &mut areas)?;
+        match &self.left {
+            None => add_areas(self.blocks.as_slice(), &mut areas)?,
+            Some(left) => add_areas(left.as_slice(), &mut areas)?,
+        }
         Ok(areas)
     }
 }
@@ -85,6 +89,14 @@ impl OfArea for KeptBlocks {
 
     fn area(&self) -> Result<Area, Refusal> {
         Ok(Area::Inode(self.place, Part::Blocks(self.run)))
+    }
+}
+
+impl OfArea for LeftBlocks {
+    ghost stood_in = { blocks_area };
+
+    fn area(&self) -> Result<Area, Refusal> {
+        Ok(Area::Inode(self.place(), Part::Blocks(self.run())))
     }
 }
 

@@ -1,5 +1,5 @@
 // Inverses: the values of cells, kept from a forest, and put back into one.
-ghost use Rattle.std.specs.Prelude.{◌≡◌, ◌||◌, ◌⊎◌, Some, IfOk, IfErr, OnOk};
+ghost use Rattle.std.specs.Prelude.{◌≡◌, ◌||◌, ◌⊎◌, Some, None, IfOk, IfErr, OnOk};
 ghost use Rattle.std.specs.List.{All};
 ghost use Rattle.std.specs.FinMap.{get};
 ghost use Rattle.su_op.specs.declared.areas.Part.TheVariants.{Name as NamePart, Blocks as BlocksPart};
@@ -23,12 +23,13 @@ use crate::returns::{KeptInode, Return, name_at};
 use std::alloc::Global;
 use su_bytes::{FileId, GroupFile, Name, Place, Refusal};
 use su_inverse::{KeptBlocks, KeptSize, Reset};
+use su_left_blocks::LeftBlocks;
 use su_node::BLOCK_SIZE;
 use su_op::{Area, BlockRun, Part};
 use su_part::PartInode;
 use su_part_forest::PartForest;
 
-/// The values that the cells of some areas held, in five lists by how they are put back. The lists
+/// The values that the cells of some areas held, in lists by how they are put back. The lists
 /// are private: what they come to is told in terms of the cells of trees.
 #[derive(Drop)]
 pub struct Inverse {
@@ -37,6 +38,8 @@ pub struct Inverse {
     pub(crate) sizes: Vec<KeptSize>,
     pub(crate) resets: Vec<Reset>,
     pub(crate) blocks: Vec<KeptBlocks>,
+    /// Where the bytes of blocks are left on a store: the same runs, and `blocks` counts no more.
+    pub(crate) left: Option<Vec<LeftBlocks>>,
 }
 
 /// What one area held.
@@ -67,6 +70,7 @@ pub fn build(alloc: Global, forest: &PartForest, areas: &[Area]) -> Result<Inver
         sizes: Vec::new(alloc),
         resets: Vec::new(alloc),
         blocks: Vec::new(alloc),
+        left: None,
     };
     for area in areas {
         inverse.add(keep(forest, area)?)?;
@@ -75,13 +79,15 @@ pub fn build(alloc: Global, forest: &PartForest, areas: &[Area]) -> Result<Inver
 }
 
 impl Inverse {
-    /// Adds what one area more held. Fails only with `NoMemory`.
+    /// Adds what one area more held, where all is at hand. Fails only with `NoMemory`.
     fn add(&mut self, kept: Kept) -> Result<(), Refusal>
+        requires { self.old.left ≡ None }
         ensures areas { OnOk result ((c : Cell)
             → has (inverse_areas self.new) c
             ≡ (has (inverse_areas self.old) c || in_area (kept_area kept) c)) }
         ensures kept { OnOk result ((T : Tree) → IsKeptOf self.old T → HoldsKept T kept
             → IsKeptOf self.new T) }
+        ensures at_hand { OnOk result (self.new.left ≡ None) }
         ensures refused { IfErr result (λ e. e ≡ NoMemory) }
     {
         match kept {

@@ -5,6 +5,7 @@ mod areas;
 mod contents;
 mod inverses;
 mod laws;
+mod lefts;
 mod resets;
 mod returns;
 mod undos;

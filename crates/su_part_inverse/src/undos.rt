@@ -8,13 +8,14 @@ ghost use Rattle.su_part_forest.specs.Forest.{Stands};
 ghost use Rattle.su_part_forest.specs.Known.{StaysKnown};
 ghost use Rattle.su_perform.specs.Loaded.{HasAreas};
 ghost use Rattle.su_undone.specs.Undone.{brought_back, grown, written, reset};
-ghost use Rattle.su_part_inverse.specs.Kept.{HoldsInode, IsPutBack, inverse_areas};
+ghost use Rattle.su_part_inverse.specs.Kept.{HoldsInode, IsPutBack, inverse_areas, runs};
 ghost use Rattle.su_part_inverse.specs.Open.{AreOpen, SizeIsOpen};
 ghost use Rattle.su_part_inverse.specs.Ready.{AreReady, IsReady, InodesStayKnown, ReturnsAreReady, SizeIsReady};
 ghost use Rattle.su_part_inverse.specs.Steps.{finished, lengthened, restored, returned};
 
 use crate::contents::{cut, grow, write};
 use crate::inverses::Inverse;
+use crate::lefts::put_back_left;
 use crate::resets::set;
 use crate::returns::{KeptInode, Return, give_back_inode};
 use su_bytes::Refusal;
@@ -44,7 +45,7 @@ impl Inverse {
     /// each file is long enough.
     fn finish(&self, forest: &mut PartForest)
         ensures { (F T : Tree) → Stands forest.old F → IsReady [] self.now F T forest.old
-            → Stands forest.new (finished self.now F) }
+            → finished self.now F ≡ T → Stands forest.new T }
     {
         for kept in &self.sizes {
             cut(kept, forest);
@@ -55,21 +56,24 @@ impl Inverse {
     /// Restores links and absences, and then blocks. Takes no memory.
     fn set(&self, forest: &mut PartForest)
         ensures { (F T : Tree) → Stands forest.old F
-            → AreReady [] [] self.now.resets.items self.now.blocks.items F T forest.old
-            → Stands forest.new (written self.now.blocks.items
-            (reset self.now.resets.items F)) }
+            → AreReady [] [] self.now.resets.items (runs self.now) F T forest.old
+            → written (runs self.now) (reset self.now.resets.items F) ≡ T
+            → Stands forest.new T }
     {
         for reset in &self.resets {
             set(reset, forest);
         }
-        self.write(forest);
+        match &self.left {
+            None => self.write(forest),
+            Some(left) => put_back_left(left.as_slice(), forest),
+        }
     }
 
-    /// Restores blocks. Takes no memory.
+    /// Restores blocks that are at hand. Takes no memory.
     fn write(&self, forest: &mut PartForest)
         ensures { (F T : Tree) → Stands forest.old F
             → AreReady [] [] [] self.now.blocks.items F T forest.old
-            → Stands forest.new (written self.now.blocks.items F) }
+            → written self.now.blocks.items F ≡ T → Stands forest.new T }
     {
         for kept in &self.blocks {
             write(kept, forest);
@@ -83,7 +87,7 @@ fn restore(inodes: &[KeptInode], inverse: &Inverse, forest: &mut PartForest) -> 
     ensures ok { (F T : Tree) → Stands forest.old F → AllByRecursion (HoldsInode T) inodes.now
         → ReturnsAreReady inodes.now inverse.now.inodes.items inverse.now.returns.items F T
         → IsReady inodes.now inverse.now F T forest.old
-        → OnOk result (Stands forest.new (restored T inodes.now inverse.now F)) }
+        → restored T inodes.now inverse.now F ≡ T → OnOk result (Stands forest.new T) }
     ensures refused { IfErr result (λ e. (e ≡ NoMemory) ⊎ (e ≡ MissingBlock)) }
     ensures loaded { (F T : Tree) → Stands forest.old F → AllByRecursion (HoldsInode T) inodes.now
         → IsReady inodes.now inverse.now F T forest.old
@@ -119,7 +123,7 @@ fn put_back(returns: &[Return], inverse: &Inverse, forest: &mut PartForest) -> R
     ensures ok { (F T : Tree) → Stands forest.old F
         → ReturnsAreReady [] inverse.now.inodes.items returns.now F T
         → IsReady [] inverse.now F T forest.old
-        → OnOk result (Stands forest.new (returned returns.now inverse.now F)) }
+        → returned returns.now inverse.now F ≡ T → OnOk result (Stands forest.new T) }
     ensures refused { IfErr result (λ e. (e ≡ NoMemory) ⊎ (e ≡ MissingBlock)) }
     ensures loaded { (F T : Tree) → Stands forest.old F → IsReady [] inverse.now F T forest.old
         → AreOpen [] inverse.now.inodes.items returns.now inverse.now.sizes.items F forest.old
@@ -155,7 +159,7 @@ fn lengthen(sizes: &[KeptSize], inverse: &Inverse, forest: &mut PartForest) -> R
     ensures ok { (F T : Tree) → Stands forest.old F
         → AllByRecursion (SizeIsReady [] F T forest.old) sizes.now
         → IsReady [] inverse.now F T forest.old
-        → OnOk result (Stands forest.new (finished inverse.now (grown sizes.now F))) }
+        → finished inverse.now (grown sizes.now F) ≡ T → OnOk result (Stands forest.new T) }
     ensures refused { IfErr result (λ e. (e ≡ NoMemory) ⊎ (e ≡ MissingBlock)) }
     ensures loaded { (F T : Tree) → Stands forest.old F
         → AllByRecursion (SizeIsReady [] F T forest.old) sizes.now

@@ -7,6 +7,7 @@ use std::net::{Net, TcpListener, TcpStream};
 use std::thread::Threads;
 use su_folder::{Server, StateFolder};
 use su_kept_key::KeptKey;
+use su_lms::KeyStore;
 use su_people_line::{Deed, PeopleLine};
 use su_people_reading::{
     cat, compare_heads, diff, get_all, history, list, show, status, verify, why,
@@ -204,9 +205,9 @@ fn history_at<T>(
 
 /// Carries out a command that signs, and writes its answer. What it refuses is told by the names
 /// of the team.
-fn changed<T, W: Write>(
-    rt: &HostRuntime,
-    host: &T,
+fn changed<'a, T, W: Write>(
+    rt: &'a HostRuntime,
+    host: &'a T,
     deed: &Deed,
     given: Option<&str>,
     writer: &mut W,
@@ -219,9 +220,24 @@ where
         _ => Vec::new(rt.alloc()),
     };
     let mut session = sign(rt, host, given)?;
-    let mut numbers = Vec::new(rt.alloc());
-    let answered = change_deed(&mut session, deed, &undone, &mut numbers);
-    finish(&mut session);
+    let outcome = carry_out(&mut session, deed, &undone, writer);
+    close(session);
+    outcome
+}
+
+/// Carries out a command in a session that signs, ends that, and writes the command's answer.
+fn carry_out<'a, T, W: Write>(
+    session: &mut Session<'a, T, KeptKey<'a>>,
+    deed: &Deed,
+    undone: &[u64],
+    writer: &mut W,
+) -> Result<Outcome, Trouble>
+where
+    T: Net<Listener = TcpListener, Stream = TcpStream> + Threads + Sync,
+{
+    let mut numbers = Vec::new(session.helper.rt.alloc());
+    let answered = change_deed(session, deed, undone, &mut numbers);
+    finish(session);
     match answered {
         Ok(answer) => write_answer(writer, &answer),
         Err(trouble) => {
@@ -230,6 +246,11 @@ where
             Ok(ending_of(&trouble))
         }
     }
+}
+
+/// Lets a session go, with the locks that it has.
+fn close<T, K: KeyStore + Drop>(session: Session<'_, T, K>) {
+    drop(session);
 }
 
 /// Returns the answer of a command that signs, and appends the numbers of its commits; `undone` are

@@ -16,8 +16,8 @@ use su_lms::{KeyStore, PublicKey, Signer};
 use su_person::Person;
 use su_view::{View, ViewRefusal};
 
-/// How many commits are taken at a time of those that came: their items have 18 MB at most.
-const MOST_TAKEN: u64 = 256;
+/// How many commits are taken at a time of those that came: their items have 4.5 MB at most.
+const MOST_TAKEN: u64 = 64;
 
 /// How often the turn is asked for that another has, a millisecond apart.
 const TRIES: u32 = 10_000;
@@ -41,6 +41,11 @@ impl<T, K: KeyStore + Drop> Session<'_, T, K> {
             self.helper.grown = 0;
             let _ = self.member.set_aside();
         }
+    }
+
+    /// Goes on with another key.
+    fn replace_key(&mut self, signer: Signer<K>) {
+        self.member.replace_key(signer);
     }
 
     /// Leaves the bytes of the commits, and the items of their changes, to the log of the state folder,
@@ -132,10 +137,48 @@ where
     T: Net<Listener = TcpListener, Stream = TcpStream> + Threads + Sync,
 {
     let opened = open(rt, host, given, Items::Left)?;
+    let session = signing_session(rt, host, opened)?;
+    let next = next_signer(&session);
+    with_key(session, next)
+}
+
+/// Makes the client that holds what an opened view does and signs with the key that its user has by
+/// the log, and takes the commits that came. Refuses what `sign` refuses of these.
+fn signing_session<'a, T>(
+    rt: &'a HostRuntime,
+    host: &'a T,
+    opened: Opened<'a>,
+) -> Result<Session<'a, T, KeptKey<'a>>, Trouble>
+where
+    T: Net<Listener = TcpListener, Stream = TcpStream> + Threads + Sync,
+{
     let signer = signer_for(rt, host, &opened.folder, &opened.view)?;
-    let mut session = session_of(rt, host, opened, signer);
+    caught_up(session_of(rt, host, opened, signer))
+}
+
+/// Takes the commits that came.
+fn caught_up<'a, T, K>(session: Session<'a, T, K>) -> Result<Session<'a, T, K>, Trouble>
+where
+    T: Net<Listener = TcpListener, Stream = TcpStream> + Threads + Sync,
+    K: KeyStore + Drop,
+{
+    let mut session = session;
     session.catch_up(Items::Left)?;
-    follow_key(&mut session)?;
+    Ok(session)
+}
+
+/// Goes on with that key, if there is one.
+fn with_key<'a, T, K>(
+    session: Session<'a, T, K>,
+    next: Result<Option<Signer<K>>, Trouble>,
+) -> Result<Session<'a, T, K>, Trouble>
+where
+    K: KeyStore + Drop,
+{
+    let mut session = session;
+    if let Some(signer) = next? {
+        session.replace_key(signer);
+    }
     Ok(session)
 }
 
@@ -234,16 +277,19 @@ fn digits_of(alloc: Global, key: &PublicKey) -> Result<String, Trouble> {
     Ok(hex::encode(alloc, &key.as_bytes()[8..24])?)
 }
 
-/// Goes on with the key that the user has by the commits that came, where that is another one now.
-fn follow_key<'a, T>(session: &mut Session<'a, T, KeptKey<'a>>) -> Result<(), Trouble>
+/// Makes the signer of the key that the user has by the commits that came, where that is another one
+/// than the session's.
+fn next_signer<'a, T>(
+    session: &Session<'a, T, KeptKey<'a>>,
+) -> Result<Option<Signer<KeptKey<'a>>>, Trouble>
 where
     T: Net<Listener = TcpListener, Stream = TcpStream> + Threads + Sync,
 {
     let Some(present) = session.member.present_key() else {
-        return Ok(());
+        return Ok(None);
     };
     if present == session.member.public_key() {
-        return Ok(());
+        return Ok(None);
     }
     let helper = &session.helper;
     let signer = signer_for(
@@ -252,8 +298,7 @@ where
         &helper.folder,
         session.member.view(),
     )?;
-    session.member.replace_key(signer);
-    Ok(())
+    Ok(Some(signer))
 }
 
 /// Ends a session that signed: puts the next leaf back in the key file, and syncs the state

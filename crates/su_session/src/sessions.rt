@@ -80,6 +80,7 @@ pub fn serve<R: Incoming, W: Write, S: Service>(
         frames: Frames::new(alloc),
         answered: 0,
         turn: false,
+        was_free: false,
         reads: 0,
     };
     let end = talk.converse(alloc, reader, writer, service);
@@ -166,6 +167,7 @@ impl Talk {
                 match exchange(alloc, message.as_slice(), &mut self.turn, writer, service) {
                     Sent::Whole => {
                         self.answered += 1;
+                        self.was_free |= !self.turn;
                         Progress::Answered
                     }
                     Sent::Unflushed => {
@@ -182,7 +184,8 @@ impl Talk {
         }
     }
 
-    /// Reads once, where no whole message waits, and tells before whether the turn is held.
+    /// Reads once, where no whole message waits, and tells before whether the turn is held, and
+    /// that it was given back where one read brought that and the request for the next turn.
     fn refill<R: Incoming>(&mut self, reader: &mut R) -> Refill
         requires few { self.old.reads < 10000000 }
         requires partial { length self.old.frames < 131076 }
@@ -191,7 +194,11 @@ impl Talk {
         ensures reads { self.new.reads ≡ self.old.reads + 1 }
     {
         self.reads += 1;
+        if self.was_free {
+            reader.note_turn(false);
+        }
         reader.note_turn(self.turn);
+        self.was_free = false;
         let mut chunk = [0u8; CHUNK];
         match reader.read(&mut chunk) {
             Ok(0) => Refill::Ended,

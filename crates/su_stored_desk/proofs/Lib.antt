@@ -13,3 +13,4 @@ pub mod JoiningReady
 pub mod JoinedLemmas
 pub mod Doing
 pub mod Rightness
+pub mod Leaving

@@ -1,5 +1,5 @@
 -- The answers of a desk from what it keeps.
-use Rattle.std.proofs.Common.{◌⊎◌, ⊎_elim, inl, inr, Result, IsErrAnd, Option, ◌≡◌, ◌∙◌, sym, refl, ap, ℕ, ◌+◌, ◌-◌, List, [], ◌∷◌, ◌++◌, length, Some, None, Ok, Err, slice_get, get_or, take, drop, subst, zero, suc, arith}
+use Rattle.std.proofs.Common.{◌⊎◌, ⊎_elim, inl, inr, Result, IsErrAnd, Option, ◌≡◌, ◌∙◌, sym, refl, ap, ℕ, ◌+◌, ◌-◌, List, [], ◌∷◌, ◌++◌, length, Some, None, Ok, Err, slice_get, get_or, take, drop, subst, arith}
 use Rattle.std.specs.Option.{unwrap_or}
 use Rattle.std.proofs.lemmas.Option.{slice_get-get_or}
 use Rattle.su_bytes.specs.Membership.{Membership}
@@ -10,7 +10,7 @@ use Rattle.su_op.specs.Batch.{Action}
 use Rattle.su_op.specs.declared.operations.Change.TheVariants.{Do, Undo, Rekey}
 use Rattle.su_op.specs.Batch.{why}
 use Rattle.su_desk.specs.declared.entries.Entry.{Entry}
-use Rattle.su_desk.specs.History.{entry_doing, undo_by, rekey_by, tree, last_live, format_after}
+use Rattle.su_desk.specs.History.{entry_doing, undo_by, rekey_by, tree, last_live}
 use Rattle.su_stored_desk.specs.declared.kept.KeptOperation.{KeptOperation}
 use Rattle.su_desk.specs.Desk.{DeskState}
 use Rattle.su_part_tree.specs.Loading.{IsLoadRefusal}
@@ -19,7 +19,7 @@ use Rattle.su_desk.specs.Applied.{written_by}
 use Rattle.su_stored_desk.specs.Keeping.{Keeps, IsIndexOf}
 use Rattle.su_stored_desk.proofs.KeptOperations.{KeepsUndone, keeps_undo, written_there, last_kept, none_kept}
 use Rattle.su_stored_desk.proofs.KeptIndexes.{split_at}
-use Rattle.su_desk.proofs.FormatLemmas.{by_change, ends_with, format_further}
+use Rattle.su_desk.proofs.FormatLemmas.{by_change, ends_with}
 use Rattle.su_desk.specs.Answer.{format_refusal, rekey_refusal, undo_refusal, refusal_of, reply, answer}
 
 pub answer_done : (ro : Membership) (h : List Entry) (e : Entry) → refusal_of ro h e ≡ None → answer ro h e ≡ Ok (length h + 1)

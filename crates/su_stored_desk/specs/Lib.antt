@@ -4,3 +4,4 @@ pub mod Joined
 pub mod Right
 pub mod Asked
 pub mod Trusted
+pub mod Hashed

@@ -22,6 +22,7 @@ ghost use Rattle.su_stored_desk.specs.Asked.{Answers, Runs};
 
 mod batches;
 mod changes;
+mod leaving;
 mod reads;
 mod rehearsals;
 

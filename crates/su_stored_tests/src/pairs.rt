@@ -230,11 +230,24 @@ impl Pair {
         Ok(())
     }
 
-    /// All is left on the store.
+    /// All is left on the store, and at times what is kept of live operations.
     fn shed(&mut self, rt: &impl Abort, step: &Step) -> Result<(), Fail> {
         let answer = self.stored.shed();
         if self.has_failed(rt, step, refusal_of(&answer)) {
             self.stored.shed()?;
+        }
+        if self.dice.one_of(2) {
+            self.upset();
+            self.leave_kept(rt, step)?;
+        }
+        Ok(())
+    }
+
+    /// What is kept of live operations is left on the store too.
+    fn leave_kept(&mut self, rt: &impl Abort, step: &Step) -> Result<(), Fail> {
+        let answer = self.stored.leave_kept();
+        if self.has_failed(rt, step, refusal_of(&answer)) {
+            self.stored.leave_kept()?;
         }
         Ok(())
     }

@@ -42,13 +42,14 @@ fn write(alloc: Global, off: u32, bytes: &[u8]) -> Result<Change, Refusal> {
     Ok(Change::of(alloc, Op::Write(write)))
 }
 
-// User 0 makes a change, and all is left on the store. Tells the number of it, and the i-handle of
-// user 0 then.
+// User 0 makes a change, and all is left on the store, with what is kept of live operations. Tells
+// the number of it, and the i-handle of user 0 then.
 fn carry_out(desk: &mut StoredDesk, change: Change) -> Result<(u64, Digest), Refusal> {
     let prepared = desk.prepare(User::FIRST, change)?;
     let handle = prepared.author_handle;
     let number = desk.settle(prepared);
     desk.shed()?;
+    desk.leave_kept()?;
     Ok((number, handle))
 }
 

@@ -9,6 +9,7 @@ ghost use Rattle.su_op.specs.Batch.{first_refusal};
 ghost use Rattle.su_part_forest.specs.Loading.{HashedFor};
 ghost use Rattle.su_part_tree.specs.Loading.{IsLoadRefusal};
 ghost use Rattle.su_plan.specs.Plan.{plan, plan_all};
+ghost use Rattle.su_stored_desk.specs.Hashed.{WasHashed};
 ghost use Rattle.su_table.specs.Query.{contents, contents_within, listing};
 ghost use Rattle.su_view.specs.Holding.{tree_of_list};
 
@@ -20,7 +21,7 @@ use su_files::Stat;
 use su_op::Op;
 
 impl<S: BlockSource> View<S> {
-    ghost use Rattle.su_view.specs.Viewed.{AsksOn, AsksOnly, IsClear};
+    ghost use Rattle.su_view.specs.Viewed.{desk_of, AsksOn, AsksOnly, IsClear};
 
     /// Returns the numbers of the live operations, ascending. Fails as a load does, and with
     /// `NoMemory`.
@@ -166,5 +167,23 @@ impl<S: BlockSource> View<S> {
     {
         self.keeping.desk.take_back()?;
         self.keeping.desk.shed()
+    }
+
+    /// Leaves the bytes that are kept of live operations, so that these can be undone, on the source:
+    /// of each block its digest stays. Refused with `SourceFailed` where the source could not be asked,
+    /// and with `NoMemory`; then what wasn't put stays. Or as a load is refused.
+    pub fn leave_kept(&mut self) -> Result<(), Refusal>
+        ensures holding { self.new.holding ≡ self.old.holding }
+        ensures refused { IsClear S.may_give self.new → IfErr result IsLoadRefusal }
+        ensures follows { S.follows self.old.source self.new.source }
+        ensures clear { IsClear S.may_give self.new → IsClear S.may_give self.old }
+        ensures only { AsksOnly S.may_give self.old self.new }
+        // The source may give items of trees that were before the live operations as well from now on,
+        // and no other that it might not give before.
+        ensures more { IsClear S.may_give self.new → (i : List ℕ) → S.may_give self.new.source i
+            → S.may_give self.old.source i ⊎ WasHashed (desk_of self.old).state i }
+    {
+        self.keeping.desk.take_back()?;
+        self.keeping.desk.leave_kept()
     }
 }

@@ -22,6 +22,7 @@ loop-area-preserved c =
           ∙ sym (has-push (take l.area-index all) c.area-item.result x) ∙ ap (λ w. has w x) (sym more);
       kept = λ T h can. c.in_ok-add.ensures.kept T (l.invariant.kept T h can)
           (c.in_ok-keep.ensures.holds T h (subst (CanKeep T) (sym c.area-item.is) (All-get_or (CanKeep T) all l.area-index c.area-item.result c.loop-area-test.true can)));
+      at_hand = c.in_ok-add.ensures.at_hand;
     }
 
 pub returns-in_err-keep-clause-loaded : goal.returns-in_err-keep-clause-loaded

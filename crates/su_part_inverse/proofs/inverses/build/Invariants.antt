@@ -1,4 +1,4 @@
-use Rattle.std.proofs.Common.{◌≡◌, take}
+use Rattle.std.proofs.Common.{◌≡◌, None, take}
 use Rattle.std.specs.List.{All}
 use Rattle.su_table.specs.Cell.{Cell}
 use Rattle.su_table.specs.Tree.{Tree}
@@ -12,4 +12,5 @@ abbrev pub invariant-loop-area : goal.invariant-loop-area
 invariant-loop-area l = record {
   areas : (c : Cell) → has (inverse_areas l.inverse) c ≡ has (take l.area-index l.areas) c;
   kept : (T : Tree) → Stands l.forest T → All (CanKeep T) l.areas → IsKeptOf l.inverse T;
+  at_hand : l.inverse.left ≡ None;
 }

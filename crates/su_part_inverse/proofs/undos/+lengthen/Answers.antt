@@ -1,4 +1,4 @@
-use Rattle.std.proofs.Common.{◌≡◌, ◌∙◌, sym, subst, [], ◌∷◌}
+use Rattle.std.proofs.Common.{◌≡◌, ◌∙◌, subst, [], ◌∷◌}
 use Rattle.std.proofs.lemmas.List.{nil_from_length}
 use Rattle.std.proofs.lemmas.Result.{err_from_is_err_and}
 use Rattle.std.specs.List.{AllByRecursion}
@@ -6,6 +6,7 @@ use Rattle.su_part_forest.specs.Forest.{Stands}
 use Rattle.su_part_forest.proofs.EditLifting.{small_inum}
 use Rattle.su_undone.specs.Undone.{grown, grown_to}
 use Rattle.su_inverse.specs.Kept.{HoldsSize}
+use Rattle.su_part_inverse.specs.Kept.{runs}
 use Rattle.su_part_inverse.specs.Open.{SizeIsOpen}
 use Rattle.su_part_inverse.specs.Ready.{SizeIsReady}
 use Rattle.su_part_inverse.specs.Steps.{finished}
@@ -17,12 +18,12 @@ use Rattle.su_part_inverse.proofs.Using.{size_known}
 use Rattle.su_part_inverse.proofs.undos.+lengthen.Goals as goal
 
 pub returns-in-None-clause-ok : goal.returns-in-None-clause-ok
-returns-in-None-clause-ok t c F T h sizes ready =
+returns-in-None-clause-ok t c F T h sizes ready is =
     let none = nil_from_length c.args.sizes.now c.in-None.ensures.cases in
-    subst (λ ks. Stands c.finish.new.forest (finished c.args.inverse.now (grown ks F))) (sym none) (c.finish.ensures F T h ready)
+    c.finish.ensures F T h ready (subst (λ ks. finished c.args.inverse.now (grown ks F) ≡ T) none is)
 
 pub returns-in_default-clause-ok : goal.returns-in_default-clause-ok
-returns-in_default-clause-ok t c F T h sizes ready =
+returns-in_default-clause-ok t c F T h sizes ready done =
     let i = c.args.inverse.now in
     let f = c.args.forest.now in
     let g = c.grow.new.forest in
@@ -32,9 +33,8 @@ returns-in_default-clause-ok t c F T h sizes ready =
     let (one, more) = subst (AllByRecursion (SizeIsReady [] F T f)) is sizes in
     let known = c.in_ok-grow-in-Some.ensures.known F h one.known in
     let moves = grown_moves F T first one.held in
-    subst (λ ks. Stands c.lengthen.new.forest (finished i (grown ks F))) (sym is)
-    (c.in_default.ensures.ok (grown_to first F) T (c.in_ok-grow-in-Some.ensures.ok F h one.known) (sizes_on [] F (grown_to first F) T f g known moves rest more)
-    (ready_on [] F (grown_to first F) T f g known moves i.sizes.items i.resets.items i.blocks.items ready))
+    c.in_default.ensures.ok (grown_to first F) T (c.in_ok-grow-in-Some.ensures.ok F h one.known) (sizes_on [] F (grown_to first F) T f g known moves rest more)
+    (ready_on [] F (grown_to first F) T f g known moves i.sizes.items i.resets.items (runs i) ready) (subst (λ ks. finished i (grown ks F) ≡ T) is done)
 
 pub returns-in-Err-clause-err : goal.returns-in-Err-clause-err
 returns-in-Err-clause-err t c F T h sizes ready =
@@ -50,7 +50,7 @@ returns-in-Err-clause-err t c F T h sizes ready =
     let moves = grown_moves F T first one.held in
     let stands = c.in_ok-grow-in-Some.ensures.ok F h one.known in
     let sizes' = sizes_on [] F (grown_to first F) T f g known moves rest more in
-    let ready' = ready_on [] F (grown_to first F) T f g known moves i.sizes.items i.resets.items i.blocks.items ready in
+    let ready' = ready_on [] F (grown_to first F) T f g known moves i.sizes.items i.resets.items (runs i) ready in
     let mid = c.in-Err.ensures.err (grown_to first F) T stands sizes' ready' in
     let between = c.in-Err.ensures.err_known (grown_to first F) T stands sizes' ready' in
     let small = small_inum c.number-number.result first.place.1 c.number-number.ensures.range.1 c.number-number.ensures.value in
@@ -74,7 +74,7 @@ returns-in-Err-clause-err_known t c F T h sizes ready =
     let moves = grown_moves F T first one.held in
     let stands = c.in_ok-grow-in-Some.ensures.ok F h one.known in
     let sizes' = sizes_on [] F (grown_to first F) T f g known moves rest more in
-    let ready' = ready_on [] F (grown_to first F) T f g known moves i.sizes.items i.resets.items i.blocks.items ready in
+    let ready' = ready_on [] F (grown_to first F) T f g known moves i.sizes.items i.resets.items (runs i) ready in
     let mid = c.in-Err.ensures.err (grown_to first F) T stands sizes' ready' in
     let between = c.in-Err.ensures.err_known (grown_to first F) T stands sizes' ready' in
     let small = small_inum c.number-number.result first.place.1 c.number-number.ensures.range.1 c.number-number.ensures.value in

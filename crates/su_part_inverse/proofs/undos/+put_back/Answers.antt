@@ -1,4 +1,4 @@
-use Rattle.std.proofs.Common.{◌≡◌, ◌∙◌, sym, ap, subst, [], ◌∷◌, OnOk}
+use Rattle.std.proofs.Common.{◌≡◌, ◌∙◌, sym, ap, subst, [], ◌∷◌}
 use Rattle.std.proofs.lemmas.List.{nil_from_length}
 use Rattle.std.proofs.lemmas.Result.{err_from_is_err_and}
 use Rattle.std.specs.List.{AllByRecursion}
@@ -8,6 +8,7 @@ use Rattle.su_part_forest.specs.Forest.{Stands}
 use Rattle.su_part_forest.specs.Known.{Knows}
 use Rattle.su_undone.specs.Undone.{grown}
 use Rattle.su_inverse.specs.Kept.{HoldsSize}
+use Rattle.su_part_inverse.specs.Kept.{runs}
 use Rattle.su_part_inverse.specs.Open.{AreOpen, SizeIsOpen}
 use Rattle.su_part_inverse.specs.Ready.{ReturnsAreReady, SizeIsReady, comes_with, overwritten_area, want_of}
 use Rattle.su_part_inverse.specs.Steps.{finished, name_edit, returned}
@@ -18,13 +19,12 @@ use Rattle.su_part_inverse.proofs.ReadyLemmas.{each, ready_on}
 use Rattle.su_part_inverse.proofs.undos.+put_back.Goals as goal
 
 pub returns-in-None-clause-ok : goal.returns-in-None-clause-ok
-returns-in-None-clause-ok t c F T h back ready =
+returns-in-None-clause-ok t c F T h back ready is =
     let i = c.args.inverse.now in
     let none = nil_from_length c.args.returns.now c.in-None.ensures.cases in
     let whole = c.as_slice.ensures.value in
-    subst (λ rs. OnOk c.lengthen.result (Stands c.lengthen.new.forest (returned rs i F))) (sym none)
-    (subst (λ ks. OnOk c.lengthen.result (Stands c.lengthen.new.forest (finished i (grown ks F)))) whole
-    (c.lengthen.ensures.ok F T h (subst (AllByRecursion (SizeIsReady [] F T c.args.forest.now)) (sym whole) ready.sizes) ready))
+    c.lengthen.ensures.ok F T h (subst (AllByRecursion (SizeIsReady [] F T c.args.forest.now)) (sym whole) ready.sizes) ready
+    (subst (λ ks. finished i (grown ks F) ≡ T) (sym whole) (subst (λ rs. returned rs i F ≡ T) none is))
 
 pub returns-in-None-clause-err : goal.returns-in-None-clause-err
 returns-in-None-clause-err t c F T h back ready =
@@ -35,7 +35,7 @@ returns-in-None-clause-err_known t c F T h back ready =
     c.lengthen.ensures.err_known F T h (subst (AllByRecursion (SizeIsReady [] F T c.args.forest.now)) (sym c.as_slice.ensures.value) ready.sizes) ready
 
 pub returns-in_default-clause-ok : goal.returns-in_default-clause-ok
-returns-in_default-clause-ok t c F T h back ready =
+returns-in_default-clause-ok t c F T h back ready done =
     let i = c.args.inverse.now in
     let f = c.args.forest.now in
     let g = c.bring_back.new.forest in
@@ -46,8 +46,8 @@ returns-in_default-clause-ok t c F T h back ready =
     let known = c.in_ok-overwritten-in-Some.ensures.known F h in
     let apart = ap (λ ks. comes_with ks first) (sym c.as_slice-in-Some.ensures.value) ∙ sym c.if-comes_with.ensures in
     let back' = ready_named i.inodes.items first rest F T apart (subst (λ rs. ReturnsAreReady [] i.inodes.items rs F T) is back) in
-    subst (λ rs. Stands c.put_back-in-Some.new.forest (returned rs i F)) (sym is)
-    (c.in_default.ensures.ok G T (c.in_ok-overwritten-in-Some.ensures.ok F h) back' (ready_on [] F G T f g known (name_moves F T first) i.sizes.items i.resets.items i.blocks.items ready))
+    c.in_default.ensures.ok G T (c.in_ok-overwritten-in-Some.ensures.ok F h) back' (ready_on [] F G T f g known (name_moves F T first) i.sizes.items i.resets.items (runs i) ready)
+    (subst (λ rs. returned rs i F ≡ T) is done)
 
 pub returns-in-Err-clause-err : goal.returns-in-Err-clause-err
 returns-in-Err-clause-err t c F T h back ready =
@@ -63,7 +63,7 @@ returns-in-Err-clause-err t c F T h back ready =
     let G = edit F (name_edit first) in
     let known = c.in_ok-overwritten-in-Some.ensures.known F h in
     let stands = c.in_ok-overwritten-in-Some.ensures.ok F h in
-    let ready' = ready_on [] F G T f g known (name_moves F T first) i.sizes.items i.resets.items i.blocks.items ready in
+    let ready' = ready_on [] F G T f g known (name_moves F T first) i.sizes.items i.resets.items (runs i) ready in
     let mid = c.in-Err.ensures.err G T stands back' ready' in
     let between = c.in-Err.ensures.err_known G T stands back' ready' in
     let same = ap (edit G) (c.in_ok-overwritten-in-Some.ensures.overwritten F h) ∙ edit-back F (name_edit first) in
@@ -84,7 +84,7 @@ returns-in-Err-clause-err_known t c F T h back ready w x =
     let G = edit F (name_edit first) in
     let known = c.in_ok-overwritten-in-Some.ensures.known F h in
     let stands = c.in_ok-overwritten-in-Some.ensures.ok F h in
-    let ready' = ready_on [] F G T f g known (name_moves F T first) i.sizes.items i.resets.items i.blocks.items ready in
+    let ready' = ready_on [] F G T f g known (name_moves F T first) i.sizes.items i.resets.items (runs i) ready in
     let mid = c.in-Err.ensures.err G T stands back' ready' in
     let between = c.in-Err.ensures.err_known G T stands back' ready' in
     let same = ap (edit G) (c.in_ok-overwritten-in-Some.ensures.overwritten F h) ∙ edit-back F (name_edit first) in
@@ -92,7 +92,7 @@ returns-in-Err-clause-err_known t c F T h back ready w x =
     (c.take_back.ensures.known G mid (between (want_of (overwritten_area o)) (c.in_ok-overwritten-in-Some.ensures.added F h)) (c.in_ok-overwritten-in-Some.ensures.room F h) w (between w (known w x)))
 
 pub returns-then-comes_with-clause-ok : goal.returns-then-comes_with-clause-ok
-returns-then-comes_with-clause-ok t c F T h back ready =
+returns-then-comes_with-clause-ok t c F T h back ready done =
     let i = c.args.inverse.now in
     let first = c.in-Some.first.now in
     let rest = c.in-Some.rest.now in
@@ -100,9 +100,8 @@ returns-then-comes_with-clause-ok t c F T h back ready =
     let comes = ap (λ ks. comes_with ks first) (sym c.as_slice-in-Some.ensures.value) ∙ sym c.if-comes_with.ensures in
     let back' = subst (λ rs. ReturnsAreReady [] i.inodes.items rs F T) is back in
     let same = came_back i.inodes.items first F T back'.back back'.held.0 comes in
-    subst (λ rs. OnOk c.put_back.result (Stands c.put_back.new.forest (returned rs i F))) (sym is)
-    (subst (λ V. OnOk c.put_back.result (Stands c.put_back.new.forest (returned rest i V))) (sym same)
-    (c.put_back.ensures.ok F T h (ready_behind i.inodes.items first rest F T back') ready))
+    c.put_back.ensures.ok F T h (ready_behind i.inodes.items first rest F T back') ready
+    (subst (λ V. returned rest i V ≡ T) same (subst (λ rs. returned rs i F ≡ T) is done))
 
 pub returns-then-comes_with-clause-err : goal.returns-then-comes_with-clause-err
 returns-then-comes_with-clause-err t c F T h back ready =
@@ -155,5 +154,5 @@ returns-in-Err-clause-loaded t c F T h ready opens =
     let known = c.in_ok-overwritten-in-Some.ensures.known F h in
     let stands = c.in_ok-overwritten-in-Some.ensures.ok F h in
     let held = each (SizeIsReady [] F T f) (HoldsSize T) (λ k r. r.held) i.sizes.items ready.sizes in
-    c.in-Err.ensures.loaded G T stands (ready_on [] F G T f g known (name_moves F T first) i.sizes.items i.resets.items i.blocks.items ready)
+    c.in-Err.ensures.loaded G T stands (ready_on [] F G T f g known (name_moves F T first) i.sizes.items i.resets.items (runs i) ready)
     (open_named i.inodes.items first F T f g h stands c.in_ok-overwritten-in-Some.ensures.keeps rest i.sizes.items held (subst (λ rs. AreOpen [] i.inodes.items rs i.sizes.items F f) is opens))

@@ -1,4 +1,4 @@
-use Rattle.std.proofs.Common.{◌≡◌, sym, subst, [], ◌∷◌, OnOk}
+use Rattle.std.proofs.Common.{◌≡◌, sym, subst, [], ◌∷◌}
 use Rattle.std.proofs.lemmas.List.{nil_from_length}
 use Rattle.std.proofs.lemmas.Result.{err_from_is_err_and}
 use Rattle.std.specs.List.{AllByRecursion}
@@ -8,7 +8,7 @@ use Rattle.su_part_forest.specs.Forest.{Stands}
 use Rattle.su_part_forest.specs.Known.{Knows, Want.OfUser}
 use Rattle.su_part_forest.proofs.EditLifting.{on_err}
 use Rattle.su_inverse.specs.Kept.{HoldsSize}
-use Rattle.su_part_inverse.specs.Kept.{HoldsInode}
+use Rattle.su_part_inverse.specs.Kept.{runs, HoldsInode}
 use Rattle.su_part_inverse.specs.Open.{AreOpen}
 use Rattle.su_part_inverse.specs.Ready.{IsReady, ReturnsAreReady, SizeIsReady}
 use Rattle.su_part_inverse.specs.Steps.{inode_edit, restored, returned}
@@ -21,13 +21,12 @@ use Rattle.su_part_inverse.proofs.Rolling.{given_back, taken}
 use Rattle.su_part_inverse.proofs.undos.+restore.Goals as goal
 
 pub returns-in-None-clause-ok : goal.returns-in-None-clause-ok
-returns-in-None-clause-ok t c F T h held back ready =
+returns-in-None-clause-ok t c F T h held back ready is =
     let i = c.args.inverse.now in
     let none = nil_from_length c.args.inodes.now c.in-None.ensures.cases in
     let whole = c.as_slice.ensures.value in
-    subst (λ ks. OnOk c.put_back.result (Stands c.put_back.new.forest (restored T ks i F))) (sym none)
-    (subst (λ rs. OnOk c.put_back.result (Stands c.put_back.new.forest (returned rs i F))) whole
-    (c.put_back.ensures.ok F T h (subst (λ rs. ReturnsAreReady [] i.inodes.items rs F T) (sym whole) (subst (λ ks. ReturnsAreReady ks i.inodes.items i.returns.items F T) none back)) (subst (λ ks. IsReady ks i F T c.args.forest.now) none ready)))
+    c.put_back.ensures.ok F T h (subst (λ rs. ReturnsAreReady [] i.inodes.items rs F T) (sym whole) (subst (λ ks. ReturnsAreReady ks i.inodes.items i.returns.items F T) none back)) (subst (λ ks. IsReady ks i F T c.args.forest.now) none ready)
+    (subst (λ rs. returned rs i F ≡ T) (sym whole) (subst (λ ks. restored T ks i F ≡ T) none is))
 
 pub returns-in-None-clause-err : goal.returns-in-None-clause-err
 returns-in-None-clause-err t c F T h held back ready =
@@ -45,7 +44,7 @@ returns-in-None-clause-err_known t c F T h held back ready =
     (subst (λ ks. IsReady ks i F T c.args.forest.now) none ready))
 
 pub returns-in_default-clause-ok : goal.returns-in_default-clause-ok
-returns-in_default-clause-ok t c F T h held back ready =
+returns-in_default-clause-ok t c F T h held back ready done =
     let i = c.args.inverse.now in
     let f = c.args.forest.now in
     let g = c.bring_back.new.forest in
@@ -57,9 +56,8 @@ returns-in_default-clause-ok t c F T h held back ready =
     let ready' = subst (λ ks. IsReady ks i F T f) is ready in
     let known = c.in_ok-was-in-Some.ensures.known F T h one in
     let added = c.in_ok-was-in-Some.ensures.added F T h one in
-    subst (λ ks. Stands c.restore.new.forest (restored T ks i F)) (sym is)
-    (c.in_default.ensures.ok (edit F (inode_edit T first)) T (c.in_ok-was-in-Some.ensures.ok F T h one) more back'
-    (ready_back rest first F T f g (inode_held T first one) known added i.sizes.items i.resets.items i.blocks.items ready'))
+    c.in_default.ensures.ok (edit F (inode_edit T first)) T (c.in_ok-was-in-Some.ensures.ok F T h one) more back'
+    (ready_back rest first F T f g (inode_held T first one) known added i.sizes.items i.resets.items (runs i) ready') (subst (λ ks. restored T ks i F ≡ T) is done)
 
 pub returns-in-Err-clause-err : goal.returns-in-Err-clause-err
 returns-in-Err-clause-err t c F T h held back ready =
@@ -75,7 +73,7 @@ returns-in-Err-clause-err t c F T h held back ready =
     let added = c.in_ok-was-in-Some.ensures.added F T h one in
     let stands = c.in_ok-was-in-Some.ensures.ok F T h one in
     let back' = ready_brought rest i.inodes.items first i.returns.items F T one (subst (λ ks. ReturnsAreReady ks i.inodes.items i.returns.items F T) is back) in
-    let ready' = ready_back rest first F T f g (inode_held T first one) known added i.sizes.items i.resets.items i.blocks.items (subst (λ ks. IsReady ks i F T f) is ready) in
+    let ready' = ready_back rest first F T f g (inode_held T first one) known added i.sizes.items i.resets.items (runs i) (subst (λ ks. IsReady ks i F T f) is ready) in
     let mid = c.in-Err.ensures.err G T stands more back' ready' in
     let between = c.in-Err.ensures.err_known G T stands more back' ready' in
     subst (Stands c.give_back_inode.new.forest) (given_back F T first)
@@ -95,7 +93,7 @@ returns-in-Err-clause-err_known t c F T h held back ready p x =
     let added = c.in_ok-was-in-Some.ensures.added F T h one in
     let stands = c.in_ok-was-in-Some.ensures.ok F T h one in
     let back' = ready_brought rest i.inodes.items first i.returns.items F T one (subst (λ ks. ReturnsAreReady ks i.inodes.items i.returns.items F T) is back) in
-    let ready' = ready_back rest first F T f g (inode_held T first one) known added i.sizes.items i.resets.items i.blocks.items (subst (λ ks. IsReady ks i F T f) is ready) in
+    let ready' = ready_back rest first F T f g (inode_held T first one) known added i.sizes.items i.resets.items (runs i) (subst (λ ks. IsReady ks i F T f) is ready) in
     let mid = c.in-Err.ensures.err G T stands more back' ready' in
     let between = c.in-Err.ensures.err_known G T stands more back' ready' in
     subst (λ V. Knows V (OfUser p.0 (AnInode p.1)) c.give_back_inode.new.forest) (given_back F T first)
@@ -133,5 +131,5 @@ returns-in-Err-clause-loaded t c F T h held ready opens =
     let added = c.in_ok-was-in-Some.ensures.added F T h one in
     let stands = c.in_ok-was-in-Some.ensures.ok F T h one in
     let sizes = each (SizeIsReady (first ∷ rest) F T f) (HoldsSize T) (λ k r. r.held) i.sizes.items ready'.sizes in
-    c.in-Err.ensures.loaded (edit F (inode_edit T first)) T stands more (ready_back rest first F T f g (inode_held T first one) known added i.sizes.items i.resets.items i.blocks.items ready')
+    c.in-Err.ensures.loaded (edit F (inode_edit T first)) T stands more (ready_back rest first F T f g (inode_held T first one) known added i.sizes.items i.resets.items (runs i) ready')
     (open_brought rest i.inodes.items first F T f g opens'.inodes.0.among one h stands c.in_ok-was-in-Some.ensures.beside added i.returns.items i.sizes.items sizes opens')

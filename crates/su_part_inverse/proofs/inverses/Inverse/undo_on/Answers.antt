@@ -1,6 +1,5 @@
-use Rattle.std.proofs.Common.{sym, subst, OnOk}
+use Rattle.std.proofs.Common.{◌≡◌, sym, subst}
 use Rattle.std.specs.List.{AllByRecursion}
-use Rattle.su_part_forest.specs.Forest.{Stands}
 use Rattle.su_part_inverse.specs.Kept.{HoldsInode}
 use Rattle.su_part_inverse.specs.Open.{AreOpen}
 use Rattle.su_part_inverse.specs.Ready.{IsReady, ReturnsAreReady}
@@ -15,10 +14,9 @@ returns-clause-ok c F T h loaded put =
     let i = c.args.self.now in
     let f = c.args.forest.now in
     let whole = c.as_slice.ensures.value in
-    subst (λ V. OnOk c.restore.result (Stands c.restore.new.forest V)) (put_back_is i F T put)
-    (subst (λ ks. OnOk c.restore.result (Stands c.restore.new.forest (restored T ks i F))) whole
-    (c.restore.ensures.ok F T h (subst (AllByRecursion (HoldsInode T)) (sym whole) put.kept.inodes)
-    (subst (λ ks. ReturnsAreReady ks i.inodes.items i.returns.items F T) (sym whole) (record { back = none_back i.inodes.items F T; held = put.kept.returns })) (subst (λ ks. IsReady ks i F T f) (sym whole) (ready_first i F T f h loaded put))))
+    c.restore.ensures.ok F T h (subst (AllByRecursion (HoldsInode T)) (sym whole) put.kept.inodes)
+    (subst (λ ks. ReturnsAreReady ks i.inodes.items i.returns.items F T) (sym whole) (record { back = none_back i.inodes.items F T; held = put.kept.returns })) (subst (λ ks. IsReady ks i F T f) (sym whole) (ready_first i F T f h loaded put))
+    (subst (λ ks. restored T ks i F ≡ T) (sym whole) (put_back_is i F T put))
 
 pub returns-clause-err : goal.returns-clause-err
 returns-clause-err c F T h loaded put =

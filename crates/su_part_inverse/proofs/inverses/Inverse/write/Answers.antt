@@ -29,11 +29,11 @@ loop-kept-preserved c F T h ready =
     )
 
 pub returns : goal.returns
-returns c F T h ready =
+returns c F T h ready back =
     let l = c.loop-kept in
     let i = c.args.self.now in
     let whole = ap length c.deref-kept-items.ensures.value in
     let done = drop_all l.kept-index i.blocks.items (omega (arith, c.loop-kept-test.false, whole)) in
     let (G, stands, left, same) = l.invariant F T h ready in
     let is : G ≡ written i.blocks.items F = sym (ap (λ ks. written ks G) done) ∙ same in
-    subst (Stands l.forest) is stands
+    subst (Stands l.forest) (is ∙ back) stands
