@@ -1,17 +1,21 @@
 #!/usr/bin/env python3
 """Tries the program where one call of the system fails, for one call after the other: a write, a sync, a change of length or a read of a
-server's store; the same of a client's key file, of a state folder at a put, and of what a get leaves in a file of its own for a while; and
-a read or a write of a connection, at a client and at a server. A library in C, which is loaded in front of the C library, fails the Nth of
-these calls, and tells whether it came. What was acknowledged is there afterwards, nothing else is half there, no leaf signs twice, and the
-same once more goes through.
+server's store; the same of a client's key file, of a state folder at a put, and of what a get leaves in a file of its own for a while; a
+read or a write of a connection, at a client and at a server; and a call for memory (a growth), at each of these, at an audit and where a
+key is made. A library in C, which is loaded in front of the C library, fails the Nth of these calls, and tells whether it came. What was
+acknowledged is there afterwards, nothing else is half there, no leaf signs twice, and the same once more goes through. (Of the desk
+memory.py tries each call for memory.)
 
-usage: failing.py [PART..]
+usage: failing.py [--runs N] [PART..]    N runs of a kind of call at most, of which the others are passed over
 
 Prints a line for each case that isn't as it should be, and last 'N passed, M failed'.
 """
 import concurrent.futures
+import itertools
 import os
+import re
 import shutil
+import socket
 import subprocess
 import sys
 import tempfile
@@ -24,11 +28,14 @@ import tally
 import wire
 from desk_model import Refused
 
-RUNS = 150  # of a kind of call at most: with more calls some are passed over
+RUNS = 40  # of a kind of call at most
 RUNS_AT_ONCE = 4
 
-# Calls of the kinds that FAILS names are counted, on files whose path begins with WITHIN, or on sockets where WITHIN is empty. The one of the
-# number REFUSED fails, and that it came is told on the descriptor TELLING, as a byte. At the end of the program the number of calls follows.
+runs_of_a_kind = RUNS
+
+# Calls of the kinds that FAILS names are counted, on files whose path begins with WITHIN, or on sockets where WITHIN is empty; those for memory
+# wherever they come. The one of the number REFUSED fails, and that it came is told on the descriptor TELLING, as a byte. At the end of the
+# program the number of calls follows.
 SHIM = r"""
 #define _GNU_SOURCE
 #include <errno.h>
@@ -41,6 +48,7 @@ SHIM = r"""
 #include <sys/syscall.h>
 #include <unistd.h>
 
+extern void *__libc_malloc(size_t), *__libc_calloc(size_t, size_t), *__libc_realloc(void *, size_t), *__libc_memalign(size_t, size_t);
 extern char **environ;
 
 static unsigned long calls;
@@ -81,6 +89,31 @@ static int fails(int fd, const char *kind)
     return 1;
 }
 
+static int is_grown(void)
+{
+    static int grows = -1;
+    if (grows < 0 && environ)
+        grows = strstr(text("FAILS"), "growth") != 0;
+    if (grows < 1 || __atomic_add_fetch(&calls, 1, __ATOMIC_SEQ_CST) != strtoul(text("REFUSED"), 0, 10))
+        return 1;
+    syscall(SYS_write, atoi(text("TELLING")), "!", 1);
+    errno = ENOMEM;
+    return 0;
+}
+
+void *malloc(size_t n) { return is_grown() ? __libc_malloc(n) : 0; }
+void *calloc(size_t count, size_t n) { return is_grown() ? __libc_calloc(count, n) : 0; }
+void *realloc(void *old, size_t n) { return is_grown() ? __libc_realloc(old, n) : 0; }
+void *aligned_alloc(size_t align, size_t n) { return is_grown() ? __libc_memalign(align, n) : 0; }
+
+int posix_memalign(void **to, size_t align, size_t n)
+{
+    void *made = is_grown() ? __libc_memalign(align, n) : 0;
+    if (made)
+        *to = made;
+    return made ? 0 : ENOMEM;
+}
+
 ssize_t write(int fd, const void *from, size_t n) { return fails(fd, "write") ? -1 : syscall(SYS_write, fd, from, n); }
 ssize_t pwrite(int fd, const void *from, size_t n, off_t at) { return fails(fd, "write") ? -1 : syscall(SYS_pwrite64, fd, from, n, at); }
 ssize_t pwrite64(int fd, const void *from, size_t n, off_t at) { return fails(fd, "write") ? -1 : syscall(SYS_pwrite64, fd, from, n, at); }
@@ -104,6 +137,19 @@ void _exit(int status)
         syscall(SYS_exit_group, status);
 }
 """
+
+
+# Several servers begin at once: no two of them look for a port at the same place, nor where connections get theirs.
+PORTS = itertools.count(12_000 + os.getpid() % 8_000)
+
+
+def free_port():
+    for port in PORTS:
+        try:
+            with socket.create_server(("127.0.0.1", port)):
+                return port
+        except OSError:
+            continue
 
 
 class Shim:
@@ -147,9 +193,10 @@ def spread(count, most):
     return range(1, count + 1, max(1, -(-count // most)))
 
 
-def each(name, at, scenario, most=RUNS):
+def each(name, at, scenario, most=None):
     """A scenario with each of its calls failing once, so many of them at most. A scenario gets a folder of its own and the number of the
     call, and returns what the library told and what isn't as it should be."""
+    most = most or runs_of_a_kind
     def tried(number):
         folder = f"{at}/{name} {number}"
         os.makedirs(folder)
@@ -179,7 +226,7 @@ class Keeping(serving.Running):
     """A server with a store, which listens once this is made, or has ended."""
 
     def __init__(self, room, store, **how):
-        self.port = serving.free_port()
+        self.port = free_port()
         words = ["serve", "--port", self.port, "--workers", 2, "--capacity", 100, "--store", store, "--cache", 1]
         super().__init__([*words, *room.publics], **how)
         self.said = self.told.next()
@@ -247,7 +294,7 @@ def store_fails(room, records, library, kinds, folder, number):
 def store(at, library):
     room = serving.Room(at)
     records = room.log(SCRIPT, form=4).records
-    for kinds in ("write", "sync", "length", "read"):
+    for kinds in ("write", "sync", "length", "read", "growth"):
         yield from each(f"a_{kinds}_of_the_store", at, lambda folder, number, kinds=kinds: store_fails(room, records, library, kinds, folder, number))
 
 
@@ -263,7 +310,7 @@ def key_fails(room, library, kinds, folder, number):
     with open(key, "wb") as file:
         file.write(room.keys[0].file())
     told = Told(Shim(library, kinds, folder), number)
-    with serving.Server(room, workers=2) as server:
+    with serving.Server(room, workers=2, port=free_port()) as server:
         words = ["client", "--port", server.port, "--user", 0, "--key", key, "--leaves-ahead", 2, *room.publics]
         with serving.Running(words, **told.how) as client:
             client.write(b"mkdir /a\nmkdir /b\nmkdir /c\n")
@@ -321,7 +368,7 @@ def link_fails(room, library, kinds, folder, number):
     with open(f"{folder}/key", "wb") as file:
         file.write(room.keys[0].file())
     told = Told(Shim(library, kinds), number)
-    with serving.Server(room, workers=2) as server:
+    with serving.Server(room, workers=2, port=free_port()) as server:
         with serving.Running(room.words(server.port, 0, key=f"{folder}/key"), **told.how) as client:
             client.write(b"\n".join(LINES) + b"\n")
             printed, _, status = client.end()
@@ -338,7 +385,7 @@ def server_link_fails(room, library, kinds, folder, number):
     with open(f"{folder}/key", "wb") as file:
         file.write(room.keys[0].file())
     told = Told(Shim(library, kinds), number)
-    port = serving.free_port()
+    port = free_port()
     words = ["serve", "--port", port, "--workers", 2, "--capacity", 100, *room.publics]
     with serving.Running(words, **told.how) as server:
         server.told.next()
@@ -385,8 +432,8 @@ def put_fails(room, library, kinds, folder, number):
         with serving.Running([*words, "--in", here], **how) as running:
             return running.end()
 
-    with serving.Server(room, workers=2) as server:
-        with serving.Running(["init", "--server", f"localhost:{server.port}", "--team", team, "--user", "ann", "--key", key, here]) as made:
+    with serving.Server(room, workers=2, port=free_port()) as server:
+        with serving.Running(["init", "--server", f"127.0.0.1:{server.port}", "--team", team, "--user", "ann", "--key", key, here]) as made:
             if made.end()[2] != 0:
                 wrong.append("it isn't made")
         told = Told(Shim(library, kinds, f"{here}/.sundr"), number)
@@ -406,7 +453,7 @@ def put_fails(room, library, kinds, folder, number):
 
 def puts(at, library):
     room = serving.Room(at)
-    for kinds in ("write", "sync", "read"):
+    for kinds in ("write", "sync", "read", "growth"):
         yield from each(f"a_{kinds}_of_the_state_folder", at, lambda folder, number, kinds=kinds: put_fails(room, library, kinds, folder, number))
 
 
@@ -458,11 +505,11 @@ def gets(at, library):
     for name, data in contents.items():
         with open(f"{at}/from/{name}", "wb") as file:
             file.write(data)
-    port = serving.free_port()
+    port = free_port()
     with serving.Running(["serve", "--port", port, "--workers", RUNS_AT_ONCE + 2, "--capacity", 1000, *publics]) as server:
         server.told.next()
         for name in ("ann", "bob"):
-            made = said_of("init", "--server", f"localhost:{port}", "--team", team, "--user", name, "--key", f"{at}/{name}.key", f"{at}/{name}")
+            made = said_of("init", "--server", f"127.0.0.1:{port}", "--team", team, "--user", name, "--key", f"{at}/{name}.key", f"{at}/{name}")
             yield f"{name}_has_a_folder: {made}", made[2] == 0
         put = said_of("put", "-r", f"{at}/from", "/to", "--in", f"{at}/ann")
         yield f"ann_puts: {put}", put[2] == 0
@@ -473,15 +520,176 @@ def gets(at, library):
                             lambda folder, number, kinds=kinds: get_fails(library, kinds, f"{at}/bob", contents, folder, number), MOST_GETS)
 
 
-PARTS = (store, keys, links, puts, gets)
+# ---- memory
+
+NO_MEMORY = b"no 30 NoMemory"
+
+
+def is_want_of_memory(ended, wanted):
+    """Whether a run ended since it had no memory, or a link had none, and said so, and printed no more than a front of what it might."""
+    printed, told, status = ended
+    is_said = any(it in line for line in [*told, *printed[-1:]] for it in (b"memory", b"30 NoMemory", b"43 LinkFailed", b"7 SourceFailed"))
+    lines = printed[:-1] if printed[-1:] and printed[-1].startswith(b"no ") else printed
+    if lines[-1:] and re.fullmatch(rb"at [0-9]+", lines[-1]) and printed[-1] == NO_MEMORY:
+        lines = lines[:-1]
+    return status == 1 and is_said and lines == wanted[:len(lines)]
+
+
+# Lines of user 0 behind a `mkdir /d` of user 1, each twice: what the first answers, each `ok` for a commit, and what it answers where it was
+# carried out before. The first two are a take and an operation.
+PLANNED = (
+    (b"create /d/f", [b"ok 3", b"ok 4"], [b"no 19 Exists"]),
+    (b"rename /d/f /f", [b"ok 5", b"ok 6"], [b"no 18 NoName"]),
+    (b"create d", [b"no 29 BadPath"], [b"no 29 BadPath"]),
+    (b"remove /x", [b"no 18 NoName"], [b"no 18 NoName"]),
+    (b"ls /", [b"d G0:2", b"f G0:3"], [b"d G0:2", b"f G0:3"]))
+IN_THE_END = [b"d G0:2", b"f G0:3"]
+COMMITS = 6
+
+
+def answers(wanted_at=None, told=0, made=0):
+    """What the lines answer, where memory is wanting at one of them (a line of PLANNED and whether it is its second time) with so many of
+    its commits told, and so many made."""
+    lines = []
+    for n, (_, first, again) in enumerate(PLANNED):
+        if wanted_at == (n, False):
+            lines += [*first[:told], NO_MEMORY, *(first[made:] if first[made:] and first[0].startswith(b"ok ") else again)]
+        elif wanted_at == (n, True):
+            lines += [*first, NO_MEMORY]
+        else:
+            lines += first + again
+    return lines
+
+
+def may_be_answered():
+    """All that the lines may answer where memory is wanting at one of them, or at none. A commit may be stored where there is none to take
+    it: then it isn't told, but that the command may have been carried out is, and the next line takes it."""
+    places = [(n, again, told, made) for n, (_, first, _) in enumerate(PLANNED) for again in (False, True)
+              for told in range(len(first) if first[0].startswith(b"ok ") and not again else 1) for made in (told, told + 1)]
+    return [answers(), *(answers((n, again), told, made) for n, again, told, made in places)]
+
+
+def client_grows(room, library, folder, number):
+    wrong, script = [], b"".join((line + b"\n") * 2 for line, _, _ in PLANNED)
+    for user in (0, 1):
+        with open(f"{folder}/key{user}", "wb") as file:
+            file.write(room.keys[user].file())
+    told = Told(Shim(library, "growth"), number)
+    with serving.Server(room, workers=2, port=free_port()) as server:
+        room.run(server.port, 1, b"mkdir /d\n", key=f"{folder}/key1")
+        words = room.words(server.port, 0, key=f"{folder}/key0")
+        with serving.Running(words, **told.how) as client:
+            client.write(script)
+            ended = client.end()
+        told.read()
+        printed = ended[0]
+        is_warned = NO_MEMORY not in printed or "wanting" in client.asides
+        if ended[2] == 0 and (printed not in may_be_answered() or not is_warned):
+            wrong.append(f"{printed} {client.asides}")
+        if ended[2] != 0 and not any(is_want_of_memory(ended, it) for it in may_be_answered()):
+            wrong.append(f"ended: {ended}")
+        there = len(shown(server.port))
+        left = [line for line, before in ((b"create /d/f", 4), (b"rename /d/f /f", 6)) if there < before]
+        with serving.Running(words) as client:
+            client.write(b"\n".join([*left, b"ls /", b""]))
+            again = client.end()
+        if again[2] != 0 or again[0] != [b"ok %d" % n for n in range(there + 1, COMMITS + 1)] + IN_THE_END:
+            wrong.append(f"again, with {there} commits: {again}")
+    return told, wrong
+
+
+def runs_again(library, words, wanted, folder, number):
+    """A program that changes nothing prints the same as without a fault, or says that memory is wanting and ends; and then the same again."""
+    wrong, told = [], Told(Shim(library, "growth"), number)
+    with serving.Running(words, cwd=folder, **told.how) as running:
+        ended = running.end()
+    told.read()
+    if ended != wanted and not is_want_of_memory(ended, wanted[0]):
+        wrong.append(f"{ended}")
+    if said_of(*words) != wanted:
+        wrong.append(f"again: {said_of(*words)}")
+    return told, wrong
+
+
+def audits_grow(room, library, at):
+    """An audit of a good log, of one whose second commit has a wrong i-handle of group 0, and of one whose third is shown again."""
+    good = room.log(SCRIPT, form=4)
+    wrong_handle, again = room.log("0 create G0:1 a U0:2", form=4), [*good.records[:3], good.records[2]]
+    version = wrong_handle.version(1, ("take", ("G", 0, 1), 1))
+    version.groups = [(group, bytes(32)) for group, _ in version.groups]
+    bad = [*wrong_handle.records, (wrong_handle.sign(version), logs.item_of(("take", ("G", 0, 1), 1)))]
+    for name, records, answer in (("good", good.records, [b"ok 6"]), ("bad", bad, [b"at 2", b"no 38 WrongHandle G0"]),
+                                  ("shown_again", again, [b"at 4", b"no 34 WrongPrev 3"])):
+        path = room.file(logs.log_bytes(records))
+        words = ["audit", "--log", path, *room.publics]
+        wanted = said_of(*words)
+        yield f"the_audit_of_a_{name}_log: {wanted}", wanted[0] == answer
+        yield from each(f"a_growth_of_an_audit_of_a_{name}_log", at,
+                        lambda folder, number, words=words, wanted=wanted: runs_again(library, words, wanted, folder, number))
+
+
+def key_is_made(library, folder, number):
+    """A key is made whole, and its public key beside it, or the run ends and says why; the same once more makes one."""
+    wrong, told = [], Told(Shim(library, "growth"), number)
+    words = ["keygen", "--out", f"{folder}/key", "--height", 5, "--width", 8]
+    with serving.Running(words, **told.how) as running:
+        ended = running.end()
+    told.read()
+    sizes = [os.path.getsize(it) if os.path.exists(it) else 0 for it in (f"{folder}/key", f"{folder}/key.pub")]
+    is_right = sizes == KEY_SIZES if ended[2] == 0 else is_want_of_memory(ended, []) and sizes in ([0, 0], KEY_SIZES)
+    if not is_right:
+        wrong.append(f"{ended}, sizes {sizes}")
+    again = said_of(*words)
+    if again[2] != 0 or [os.path.getsize(it) for it in (f"{folder}/key", f"{folder}/key.pub")] != KEY_SIZES:
+        wrong.append(f"again: {again}")
+    return told, wrong
+
+
+KEY_SIZES = [64, 56]
+READING = (["ls", "-l", "/"], ["cat", "/to/f1"], ["history", "-n", "4"], ["show", "1"], ["status"], ["verify"], ["undo", "--why", "1"])
+
+
+def readings_grow(room, library, at):
+    """Commands of people that commit nothing."""
+    team, here = f"{at}/team", f"{at}/ann"
+    with open(team, "w", encoding="utf-8") as file:
+        file.write("sundr team 1\n" + "".join(f"{name} {public.hex()}\n" for name, public in zip(("ann", "bob"), room.public_keys)))
+    os.mkdir(f"{at}/from")
+    for n in (1, 2):
+        with open(f"{at}/from/f{n}", "wb") as file:
+            file.write(bytes([48 + n]) * 3000 + b"\n")
+    with serving.Server(room, workers=RUNS_AT_ONCE + 2, port=free_port(), sessions=100_000) as server:
+        made = said_of("init", "--server", f"127.0.0.1:{server.port}", "--team", team, "--user", "ann", "--key", room.key_files[0], here)
+        put = said_of("put", "-r", f"{at}/from", "/to", "--in", here)
+        yield f"a_folder_with_two_files: {made} {put}", made[2] == put[2] == 0
+        for reading in READING:
+            def scenario(folder, number, reading=reading):
+                shutil.copytree(here, f"{folder}/here")
+                words = [*reading, "--in", f"{folder}/here"]
+                return runs_again(library, words, said_of(*words), folder, number)
+            yield from each(f"a_growth_of_{reading[0]}", at, scenario)
+
+
+def growths(at, library):
+    room = serving.Room(at)
+    yield from each("a_growth_of_a_client", at, lambda folder, number: client_grows(room, library, folder, number))
+    yield from audits_grow(room, library, at)
+    yield from each("a_growth_where_a_key_is_made", at, lambda folder, number: key_is_made(library, folder, number))
+    yield from readings_grow(room, library, at)
+
+
+PARTS = (store, keys, links, puts, gets, growths)
 
 
 def main():
+    global runs_of_a_kind
     if not tally.is_there("failing", serving.PROGRAM[0]):
         return 1
     if not shutil.which("cc"):
         return tally.told("failing", {"there is no C compiler": False})
     wanted, results = sys.argv[1:], {}
+    if wanted[:1] == ["--runs"]:
+        runs_of_a_kind, wanted = int(wanted[1]), wanted[2:]
     for part in PARTS:
         if wanted and part.__name__ not in wanted:
             continue

@@ -59,6 +59,7 @@ ASIDES = {
     "other_list": rb"the server shows another list than before: it hides or exchanges commits, or was set back",
     "lacks": rb"the server lacks commit [0-9]+, which is yours: it was set back to an older copy, or shows another folder",
     "unknown": rb"whether the last command was carried out is not known: look before you repeat it",
+    "wanting": rb"memory was wanting, here or at the server: look before you repeat the last command, since it may have been carried out",
     "others_turn": rb"another client has the turn: the same line again may go through",
     "no_worker": rb"the server has no worker free: the same line again may go through",
     "taken_between": rb"another user took the file over between this command's take and the operation behind it: the same line again may "

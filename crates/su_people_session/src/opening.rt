@@ -167,6 +167,10 @@ fn drop_cut_entry(
             refusal: ViewRefusal::Plain(Refusal::Malformed(place)),
             ..
         } if whole <= place => {}
+        LogFault::Refused {
+            refusal: ViewRefusal::Plain(Refusal::NoMemory),
+            ..
+        } => return Err(Trouble::NoMemory),
         LogFault::Refused { number, refusal } => return Err(Trouble::Log { number, refusal }),
         LogFault::Unread(reason) => return Err(Trouble::UnreadLog(reason)),
     }

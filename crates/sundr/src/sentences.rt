@@ -63,6 +63,9 @@ was set back";
 const UNKNOWN: &str =
     "whether the last command was carried out is not known: look before you repeat it";
 
+const WANTING: &str = "memory was wanting, here or at the server: look before you repeat the last \
+command, since it may have been carried out";
+
 const OTHERS_TURN: &str = "another client has the turn: the same line again may go through";
 
 const NO_WORKER: &str = "the server has no worker free: the same line again may go through";
@@ -77,6 +80,7 @@ fn plain_text(refusal: &Refusal) -> Option<&'static str> {
         Refusal::WrongPrev(0) => Some(OTHER_KEYS),
         Refusal::WrongPrev(_) => Some(OTHER_LIST),
         Refusal::LinkFailed => Some(UNKNOWN),
+        Refusal::NoMemory => Some(WANTING),
         Refusal::Busy(NO_SEAT) => Some(NO_WORKER),
         Refusal::Busy(_) => Some(OTHERS_TURN),
         _ => None,
