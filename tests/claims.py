@@ -91,9 +91,18 @@ def rows_of_table():
             yield cells[0].strip("`"), WORD.findall(cells[1]), [WORD.findall(it) for it in cells[2:]]
 
 
+def crates_of_tests():
+    """The crates of which the second table says which tests meet their refusals."""
+    text = open(f"{TOP}/docs/CLAIMS.md", encoding="utf-8").read().split("\n### Which tests meet them\n")[1].split("\n## ")[0]
+    rows = [[it.strip() for it in line.strip().strip("|").split("|")] for line in text.split("\n")]
+    return [crate for cells in rows if len(cells) == 3 for crate in WORD.findall(cells[0])]
+
+
 def main():
     calls, told = calls_of_code(), set()
-    results = {}
+    tested = crates_of_tests()
+    results = {f"each crate of the table has tests once: {sorted(crate for crate, _, _ in rows_of_table() if tested.count(crate) != 1)}":
+               all(tested.count(crate) == 1 for crate, _, _ in rows_of_table())}
     for crate, names, cells in rows_of_table():
         for name in names:
             owner, _, call = name.rpartition("::")
