@@ -145,11 +145,12 @@ PORTS = itertools.count(12_000 + os.getpid() % 8_000)
 
 def free_port():
     for port in PORTS:
-        try:
-            with socket.create_server(("127.0.0.1", port)):
+        with socket.socket() as tried:  # not to be shared, as a server's port isn't
+            try:
+                tried.bind(("127.0.0.1", port))
                 return port
-        except OSError:
-            continue
+            except OSError:
+                continue
 
 
 class Shim:
@@ -276,7 +277,8 @@ def store_fails(room, records, library, kinds, folder, number):
         stored = handed_in(server.port, records) if server.listens() else 0
         status = server.stop()[2]
     told.read()
-    if status not in (0, 1):
+    # (without memory for what reads its input a server hears no `stop`, and is killed)
+    if status not in (0, 1) and (kinds, status) != ("growth", None):
         wrong.append(f"status {status}")
     with Keeping(room, store) as server:
         if not server.listens():
@@ -528,7 +530,7 @@ NO_MEMORY = b"no 30 NoMemory"
 def is_want_of_memory(ended, wanted):
     """Whether a run ended since it had no memory, or a link had none, and said so, and printed no more than a front of what it might."""
     printed, told, status = ended
-    is_said = any(it in line for line in [*told, *printed[-1:]] for it in (b"memory", b"30 NoMemory", b"43 LinkFailed", b"7 SourceFailed"))
+    is_said = any(it in line for line in [*told, *printed[-1:]] for it in (b"memory", b"30 NoMemory", b"link to the server failed", b"43 LinkFailed"))
     lines = printed[:-1] if printed[-1:] and printed[-1].startswith(b"no ") else printed
     if lines[-1:] and re.fullmatch(rb"at [0-9]+", lines[-1]) and printed[-1] == NO_MEMORY:
         lines = lines[:-1]
@@ -561,11 +563,11 @@ def answers(wanted_at=None, told=0, made=0):
     return lines
 
 
-def may_be_answered():
+def may_be_answered(is_warned):
     """All that the lines may answer where memory is wanting at one of them, or at none. A commit may be stored where there is none to take
-    it: then it isn't told, but that the command may have been carried out is, and the next line takes it."""
+    it: then it isn't told, but that the command may have been carried out is (a warning), and the next line takes it."""
     places = [(n, again, told, made) for n, (_, first, _) in enumerate(PLANNED) for again in (False, True)
-              for told in range(len(first) if first[0].startswith(b"ok ") and not again else 1) for made in (told, told + 1)]
+              for told in range(len(first) if first[0].startswith(b"ok ") and not again else 1) for made in range(told, told + 1 + is_warned)]
     return [answers(), *(answers((n, again), told, made) for n, again, told, made in places)]
 
 
@@ -583,10 +585,10 @@ def client_grows(room, library, folder, number):
             ended = client.end()
         told.read()
         printed = ended[0]
-        is_warned = NO_MEMORY not in printed or "wanting" in client.asides
-        if ended[2] == 0 and (printed not in may_be_answered() or not is_warned):
+        may_be = may_be_answered("wanting" in client.asides)
+        if ended[2] == 0 and printed not in may_be:
             wrong.append(f"{printed} {client.asides}")
-        if ended[2] != 0 and not any(is_want_of_memory(ended, it) for it in may_be_answered()):
+        if ended[2] != 0 and not any(is_want_of_memory(ended, it) for it in may_be):
             wrong.append(f"ended: {ended}")
         there = len(shown(server.port))
         left = [line for line, before in ((b"create /d/f", 4), (b"rename /d/f /f", 6)) if there < before]
@@ -604,7 +606,9 @@ def runs_again(library, words, wanted, folder, number):
     with serving.Running(words, cwd=folder, **told.how) as running:
         ended = running.end()
     told.read()
-    if ended != wanted and not is_want_of_memory(ended, wanted[0]):
+    is_like = [line for line in ended[0] if b"can't be read" not in line] == [
+        line for line, said in zip(wanted[0], ended[0]) if b"can't be read" not in said]
+    if not is_want_of_memory(ended, wanted[0]) and not (ended[1:] == wanted[1:] and len(ended[0]) == len(wanted[0]) and is_like):
         wrong.append(f"{ended}")
     if said_of(*words) != wanted:
         wrong.append(f"again: {said_of(*words)}")
