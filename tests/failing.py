@@ -277,7 +277,7 @@ def store_fails(room, records, library, kinds, folder, number):
         stored = handed_in(server.port, records) if server.listens() else 0
         status = server.stop()[2]
     told.read()
-    # (without memory for what reads its input a server hears no `stop`, and is killed)
+    # (one server was seen that didn't end, and was killed; why isn't known)
     if status not in (0, 1) and (kinds, status) != ("growth", None):
         wrong.append(f"status {status}")
     with Keeping(room, store) as server:
