@@ -15,7 +15,7 @@ import tally
 
 TOP = os.path.dirname(os.path.dirname(os.path.abspath(__file__)))
 # Crates that nothing stands on, or that are no part of the product.
-OTHERS = {"sundr", "su_bad", "su_tests", "su_loopback", "su_client_runs", "su_restart", "su_stored_tests", "lms_bench", "desk_bench"}
+OTHERS = {"sundr", "su_bad", "su_tests", "su_loopback", "su_client_runs", "su_restart", "su_stored_tests", "lms_bench", "desk_bench", "refusals"}
 FUNCTION = re.compile(r"(?m)^ *(?:#\[[^\n]*\]\n *)*(pub )?(?:const )?fn (\w+)")
 CLAUSE = re.compile(r"\bensures(?: (\w+))? \{")
 WORD = re.compile(r"`([^`]+)`")

@@ -109,6 +109,13 @@ ENDED = ("1 undo_last", "0 undo_last", "0 undo_last", "1 undo 8", "0 create U0:3
 QUESTIONS = ("versions", "ls G0:1", "ls U0:3", "cat U0:4 0 5", "cat U0:4 4094 9", "cat G0:2 0 9", "stat U0:4", "stat U0:3", "ihandle U0", "ihandle U1", "ihandle G0")
 
 
+# A worked script with what it prints: an undo gives a file the bytes that it had, and all but the versions is as it was.
+WORKED = (
+    ("0 mkdir G0:1 d U0:2", "ok 1"), ("0 create U0:2 f U0:3", "ok 2"), ("0 write U0:3 0 68656c6c6f", "ok 3"), ("mark", None),
+    ("0 write U0:3 5 20796f75", "ok 4"), ("cat U0:3 0 9", "68656c6c6f20796f75"), ("0 undo_last", "ok 5"), ("same", "same"),
+    ("cat U0:3 0 9", "68656c6c6f"), ("versions", "U0=5 U1=0 G0=0 G1=0"))
+
+
 def with_questions(changes):
     return [line for change in changes for line in (change, *QUESTIONS)]
 
@@ -229,11 +236,35 @@ def refused_once(at):
           f"{ {kind: sum(it[1] == kind for it in kinds) for kind in ('left out', 'ended', 'alike')} }")
 
 
+def worked_refused_once(shim):
+    """The worked script with each call for memory refused, for one after the other until none is: what stands before the line that is refused
+    is as it is without that, and that line is answered so, or the run ends with status 1 and says why."""
+    script, printed = [line for line, _ in WORKED], [answer for _, answer in WORKED if answer is not None]
+    whole = Ended(shim, 0, script)
+    yield f"the worked script prints what it should: {whole.printed}", whole.status == 0 and whole.printed == printed
+    with concurrent.futures.ThreadPoolExecutor(RUNS_AT_ONCE) as pool:
+        runs = list(pool.map(lambda n: (n, Ended(shim, n, script)), range(1, whole.calls + 2)))
+    wrong, kinds = [], {"answered": 0, "ended": 0, "passed by": 0}
+    for n, run in runs:
+        at = run.printed.index(NO_MEMORY) if NO_MEMORY in run.printed else len(run.printed)
+        is_answered, is_whole = run.status == 0 and at < len(run.printed), run.status == 0 and run.printed == printed
+        is_ended = run.status == 1 and at == len(run.printed) and b"memory" in run.told
+        if run.printed[:at] != printed[:at] or not (is_answered or is_ended or is_whole) or run.was_refused != (n <= whole.calls):
+            wrong.append((n, run.status, run.printed, run.told))
+        kinds["answered" if is_answered else "ended" if is_ended else "passed by"] += 1
+    yield f"the worked script is answered as it should be until a call is refused: {wrong[:3]}", wrong == []
+    yield f"a line of the worked script is refused: {kinds}", kinds["answered"] > 0
+    print(f"memory: a worked script: {whole.calls} calls, {len(runs)} runs: {kinds}")
+
+
 def main():
     if not tally.is_there("memory", PROGRAM):
         return 1
     with tempfile.TemporaryDirectory() as at:
-        return tally.told("memory", dict(refused_once(at)))
+        results = dict(refused_once(at))
+        if shutil.which("cc"):
+            results |= dict(worked_refused_once(compiled(at)))
+        return tally.told("memory", results)
 
 
 if __name__ == "__main__":

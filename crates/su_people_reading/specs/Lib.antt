@@ -1,1 +1,2 @@
+pub mod Getting
 pub mod Reading

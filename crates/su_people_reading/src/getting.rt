@@ -1,9 +1,15 @@
 // Files and folders of the store are written to local ones.
+ghost use Rattle.std.specs.Prelude.{◌≡◌, ◌++◌, ◌∷◌, [], ℕ, List, true, Ok, IfOk};
+ghost use Rattle.su_table.specs.Query.{contents};
+ghost use Rattle.su_view.specs.Holding.{tree_of_list};
+ghost use Rattle.su_client_work.specs.Member.{IsClear};
+ghost use Rattle.su_people_reading.specs.Getting.{HandsOn};
+
+use crate::targets::{LocalFile, Target};
 use std::alloc::{AllocError, Global};
 use std::str;
-use su_bytes::{Kind, NEWEST_FORMAT, Refusal};
-use su_local::{LocalKind, joined, kind_of, make_folder, read_whole, write_whole};
-use su_op::largest_file;
+use su_bytes::{FileId, Kind, Refusal};
+use su_local::{LocalKind, joined, kind_of, make_folder};
 use su_people_line::GetArgs;
 use su_people_session::{
     Amount, Answer, Found, Keyless, Progress, Session, Trouble, counted, is_of_source, is_of_state,
@@ -114,21 +120,56 @@ fn get_one<T>(
             Err(reason) => Err(Trouble::local(local, alloc, reason)),
         };
     }
-    let at = found.path.as_slice();
-    let bytes = named(alloc, at, session.member.contents_held(found.file))?;
-    if is_same(rt, local, &bytes, over)? {
-        tally.same = tally.same.saturating_add(1);
+    let mut target = LocalFile::new(rt, local, over);
+    let got = got_into(session, found.path.as_slice(), found.file, &mut target)?;
+    if got.is_written {
+        tally.written.add(got.size);
     } else {
-        if let Err(reason) = write_whole(rt, local, &bytes) {
-            return Err(Trouble::local(local, alloc, reason));
-        }
-        tally.written.add(bytes.len() as u64);
+        tally.same = tally.same.saturating_add(1);
     }
-    session.helper.progress.file_done(bytes.len() as u64);
-    session.leave_tree(bytes.len() as u64);
+    session.helper.progress.file_done(got.size);
+    session.leave_tree(got.size);
     let (head, _) = session.member.view().head();
-    session.helper.folder.note_seen(head, at)?;
+    session
+        .helper
+        .folder
+        .note_seen(head, found.path.as_slice())?;
     Ok(())
+}
+
+/// A file that was got.
+#[derive(Clone, Copy, Debug, PartialEq, Eq)]
+pub struct Got {
+    /// How many bytes it has.
+    pub size: u64,
+    /// Whether the target had other bytes, or none, and was handed these.
+    pub is_written: bool,
+}
+
+/// Hands the bytes of the file at a path to a target, unless that has them already. Refuses what
+/// isn't a file; what the target refuses; or as a load is refused; `NoMemory`.
+pub fn got_into<T, G: Target>(
+    session: &mut Session<'_, T, Keyless>,
+    path: &[u8],
+    file: FileId,
+    target: &mut G,
+) -> Result<Got, Trouble>
+    ensures hands { IsClear session.new.member
+        → HandsOn session.old.member.holding file (G.handed target.old) (G.handed target.new) }
+    ensures got { IsClear session.new.member → IfOk result (λ got. (got.is_written ≡ true)
+        → (bytes : List ℕ) × (contents (tree_of_list session.old.member.holding) file ≡ Ok bytes)
+        × (G.handed target.new ≡ G.handed target.old ++ bytes ∷ [])) }
+{
+    let alloc = session.helper.rt.alloc();
+    let bytes = named(alloc, path, session.member.contents_held(file))?;
+    let has = target.has(alloc, &bytes)?;
+    if !has {
+        target.hand(alloc, &bytes)?;
+    }
+    Ok(Got {
+        size: bytes.len() as u64,
+        is_written: !has,
+    })
 }
 
 /// Returns the local path of what was found behind a path of the store.
@@ -151,26 +192,6 @@ fn local_of(alloc: Global, local: &str, path: &[u8], found: &Found) -> Result<St
         return Ok(String::from_str(alloc, local)?);
     }
     Ok(joined(alloc, local, behind)?)
-}
-
-/// Tells whether a local file has these bytes already. Where it has others, which aren't to be
-/// written over, that is told.
-fn is_same(rt: &HostRuntime, local: &str, bytes: &[u8], over: bool) -> Result<bool, Trouble> {
-    let alloc = rt.alloc();
-    match kind_of(rt, local) {
-        Ok(None) => return Ok(false),
-        Ok(Some(LocalKind::File { .. })) => {}
-        Ok(Some(_)) => return Err(Trouble::told(format!(in alloc; "{local}: it is no file"))),
-        Err(reason) => return Err(Trouble::local(local, alloc, reason)),
-    }
-    match read_whole(rt, local, largest_file(NEWEST_FORMAT)) {
-        Ok(Some(held)) if held.as_slice() == bytes => Ok(true),
-        Ok(_) if over => Ok(false),
-        Ok(_) => Err(Trouble::told(format!(in alloc;
-            "{local}: it differs from what is in the store: put it first, or get --over"
-        ))),
-        Err(reason) => Err(Trouble::local(local, alloc, reason)),
-    }
 }
 
 /// Returns the line that tells what was got.

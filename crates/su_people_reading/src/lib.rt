@@ -8,12 +8,14 @@ mod histories;
 mod listings;
 mod reasons;
 mod showing;
+mod targets;
 mod verifying;
 
 pub use differences::diff;
-pub use getting::get_all;
+pub use getting::{Got, get_all, got_into};
 pub use histories::{compare_heads, history, status};
 pub use listings::{cat, list};
 pub use reasons::why;
 pub use showing::show;
+pub use targets::Target;
 pub use verifying::verify;

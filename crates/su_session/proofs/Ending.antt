@@ -32,6 +32,7 @@ pub whole_end : ((bytes more : List ℕ) (e : Refusal) → fault bytes ≡ Some 
 whole_end for_good ended.Closed n known rest rs out (e, r, w) = subst IsRest (sym (ap (λ t. t ++ left known) r ∙ at_end known e)) (inl (refl, inl (omega arith)))
 whole_end for_good ended.Cut n known rest rs out (e, p, l, w) = subst IsRest (sym (ap (λ t. rest ++ t) (at_end known e) ∙ append-nil rest)) (inl p)
 whole_end for_good ended.Refused n known rest rs out (e, f, w, a) = inr (e, for_good rest (left known) e f)
+whole_end for_good ended.ReadFailed n known rest rs out w = tt
 whole_end for_good ended.Spent n known rest rs out w = tt
 whole_end for_good ended.LinkFailed n known rest rs out w = tt
 
@@ -40,12 +41,13 @@ partial_end [] f l = absurd (omega (arith, l))
 partial_end (b ∷ bs) f l = ap (λ o. end_by o (b ∷ bs)) f
 
 -- where the link held, a session ended as the rest says
-pub own_end : ((bytes more : List ℕ) (e : Refusal) → fault bytes ≡ Some e → fault (bytes ++ more) ≡ Some e) → (end : End) (n : ℕ) (known : Option (List ℕ)) (rest : List ℕ) (rs : List Reply) (out : List ℕ) → (end ≡ ended.LinkFailed → ⊥) → (end ≡ ended.Spent → ⊥) → Ends end n known rest rs out → (IsRest (rest ++ left known)) × (end ≡ end_of (rest ++ left known))
-own_end for_good ended.Closed n known rest rs out f s w = (whole_end for_good ended.Closed n known rest rs out w, sym (ap end_of (ap (λ t. t ++ left known) w.1 ∙ at_end known w.0)))
-own_end for_good ended.Cut n known rest rs out f s w = (whole_end for_good ended.Cut n known rest rs out w, sym (ap end_of (ap (λ t. rest ++ t) (at_end known w.0) ∙ append-nil rest) ∙ partial_end rest w.1.0 w.2))
-own_end for_good ended.Refused n known rest rs out f s (e, is, w, a) = (inr (e, for_good rest (left known) e is), sym (ap (λ o. end_by o (rest ++ left known)) (for_good rest (left known) e is)))
-own_end for_good ended.Spent n known rest rs out f s w = absurd (s refl)
-own_end for_good ended.LinkFailed n known rest rs out f s w = absurd (f refl)
+pub own_end : ((bytes more : List ℕ) (e : Refusal) → fault bytes ≡ Some e → fault (bytes ++ more) ≡ Some e) → (end : End) (n : ℕ) (known : Option (List ℕ)) (rest : List ℕ) (rs : List Reply) (out : List ℕ) → (end ≡ ended.ReadFailed → ⊥) → (end ≡ ended.LinkFailed → ⊥) → (end ≡ ended.Spent → ⊥) → Ends end n known rest rs out → (IsRest (rest ++ left known)) × (end ≡ end_of (rest ++ left known))
+own_end for_good ended.Closed n known rest rs out r f s w = (whole_end for_good ended.Closed n known rest rs out w, sym (ap end_of (ap (λ t. t ++ left known) w.1 ∙ at_end known w.0)))
+own_end for_good ended.Cut n known rest rs out r f s w = (whole_end for_good ended.Cut n known rest rs out w, sym (ap end_of (ap (λ t. rest ++ t) (at_end known w.0) ∙ append-nil rest) ∙ partial_end rest w.1.0 w.2))
+own_end for_good ended.Refused n known rest rs out r f s (e, is, w, a) = (inr (e, for_good rest (left known) e is), sym (ap (λ o. end_by o (rest ++ left known)) (for_good rest (left known) e is)))
+own_end for_good ended.ReadFailed n known rest rs out r f s w = absurd (r refl)
+own_end for_good ended.Spent n known rest rs out r f s w = absurd (s refl)
+own_end for_good ended.LinkFailed n known rest rs out r f s w = absurd (f refl)
 
 -- lists that begin with each other are one
 pub same_lists : {A : Type 0} (xs ys more less : List A) → xs ≡ ys ++ more → ys ≡ xs ++ less → more ≡ []

@@ -38,6 +38,8 @@ ends-later ended.Cut n known rest before rs out (e, p, l, (w, a)) =
     (e, p, l, (ap (λ t. written_of before ++ t) w ∙ sym (flat_map-append reply_frame before rs), omega (arith, a, length-append before rs)))
 ends-later ended.Refused n known rest before rs out (e, f, w, a) =
     (e, f, ap (λ t. written_of before ++ t) w ∙ sym (append_assoc (written_of before) (written_of rs) (reply_frame (refusal_reply e))) ∙ ap (λ t. t ++ reply_frame (refusal_reply e)) (sym (flat_map-append reply_frame before rs)), omega (arith, a, length-append before rs))
+ends-later ended.ReadFailed n known rest before rs out (p, (w, a)) =
+    (p, (ap (λ t. written_of before ++ t) w ∙ sym (flat_map-append reply_frame before rs), omega (arith, a, length-append before rs)))
 ends-later ended.Spent n known rest before rs out (p, (w, a)) =
     (p, (ap (λ t. written_of before ++ t) w ∙ sym (flat_map-append reply_frame before rs), omega (arith, a, length-append before rs)))
 ends-later ended.LinkFailed n known rest before rs out (inl b) = inl (record {
@@ -230,6 +232,7 @@ module _ {S : Type 0} (step : S → Request → Reply → S → Type 0) where
       session-here _ _ ended.LinkFailed [] old [] (take k (reply_frame (refusal_reply e))) 0 refl refl (All-nil IsMessage) refl wrote (omega arith) refl (breaks-refusal old e k f)
   step-refused ended.Closed e s turn n old new known held held' f wrote = absurd wrote
   step-refused ended.Cut e s turn n old new known held held' f wrote = absurd wrote
+  step-refused ended.ReadFailed e s turn n old new known held held' f wrote = absurd wrote
   step-refused ended.Spent e s turn n old new known held held' f wrote = absurd wrote
 
   -- what was read waits too
@@ -286,8 +289,27 @@ module _ {S : Type 0} (step : S → Request → Reply → S → Type 0) where
   }
 
   -- a read failed
-  pub end-failed : (a b : Moment S) (piece : List ℕ) → b.service ≡ a.service → b.turn ≡ a.turn → b.answered ≡ a.answered → b.held ≡ a.held → Consumes a.known b.known piece → Session step a ended.LinkFailed b
-  end-failed a b piece s t n h read = record {
+  pub end-unread : (a b : Moment S) → b.service ≡ a.service → b.turn ≡ a.turn → b.answered ≡ a.answered → b.held ≡ a.held → Consumes a.known b.known [] → IsPartial a.waits → Session step a ended.ReadFailed b
+  end-unread a b s t n h read partial = record {
+    input = [];
+    messages = [];
+    rest = a.waits;
+    replies = [];
+    out = [];
+    count = 0;
+    read = read;
+    whole = append-nil a.waits;
+    each = All-nil IsMessage;
+    run = s;
+    written = subst (λ k. Appends a.held k []) (sym h) (Appends-nil a.held);
+    counted = n ∙ omega arith;
+    turn_is = t;
+    ends = (partial, (refl, refl));
+  }
+
+  -- there was no memory for what was read
+  pub end-lost : (a b : Moment S) (piece : List ℕ) → b.service ≡ a.service → b.turn ≡ a.turn → b.answered ≡ a.answered → b.held ≡ a.held → Consumes a.known b.known piece → Session step a ended.LinkFailed b
+  end-lost a b piece s t n h read = record {
     input = piece;
     messages = [];
     rest = a.waits ++ piece;

@@ -5,7 +5,7 @@ use Rattle.su_bytes.specs.declared.refusals.Refusal.{Refusal}
 use Rattle.su_message.specs.declared.requests.Request.{Request}
 use Rattle.su_message.specs.declared.replies.Reply.{Reply}
 use Rattle.su_session.specs.declared.sessions.End.{End}
-use Rattle.su_session.specs.declared.sessions.End.TheVariants.{Closed, Cut, Refused, LinkFailed, Spent}
+use Rattle.su_session.specs.declared.sessions.End.TheVariants.{Closed, Cut, Refused, ReadFailed, LinkFailed, Spent}
 use Rattle.su_session.specs.declared.sessions.Served.{Served}
 use Rattle.su_frames.specs.Stream.{fault, stream, IsMessage, IsPartial, IsRest}
 use Rattle.su_session.specs.Answer.{refusal_reply, reply_frame, written_of, refusal_frame, turn_after, Replies, GivesBack}
@@ -41,7 +41,8 @@ Breaks answered rest replies out =
     BreaksReply answered replies out ⊎ BreaksBetween answered replies rest out
 
 -- How a session ended, by how many messages were answered, what the reader has left, what was read
--- and isn't answered, the replies, and what was written.
+-- and isn't answered, the replies, and what was written. Where a read failed, no whole message had
+-- come that wasn't answered.
 abbrev pub Ends : End → ℕ → Option (List ℕ) → List ℕ → List Reply → List ℕ → Type 0
 Ends Closed answered known rest replies out =
     IsAtEnd known × (rest ≡ []) × SaysAll answered replies out
@@ -50,6 +51,7 @@ Ends Cut answered known rest replies out =
 Ends Refused answered known rest replies out =
     (e : Refusal) × (fault rest ≡ Some e)
     × (out ≡ written_of replies ++ reply_frame (refusal_reply e)) × (answered ≡ length replies)
+Ends ReadFailed answered known rest replies out = IsPartial rest × SaysAll answered replies out
 Ends Spent answered known rest replies out = IsPartial rest × SaysAll answered replies out
 Ends LinkFailed answered known rest replies out = Breaks answered rest replies out
 
@@ -80,11 +82,12 @@ abbrev pub left : Option (List ℕ) → List ℕ
 left None = []
 left (Some bytes) = bytes
 
--- no whole message is left, unless the link failed or was read too often
+-- no whole message is left, unless a read or the link failed, or it was read too often
 abbrev pub IsWhole : End → List ℕ → Type 0
 IsWhole Closed rest = IsRest rest
 IsWhole Cut rest = IsRest rest
 IsWhole Refused rest = IsRest rest
+IsWhole ReadFailed rest = Unit {0}
 IsWhole Spent rest = Unit {0}
 IsWhole LinkFailed rest = Unit {0}
 

@@ -40,13 +40,14 @@ abbrev pub Keeps : Talk → List ℕ → Talk → Type 0
 Keeps old waits new =
     (new.frames ≡ waits) × (new.answered ≡ old.answered) × (new.turn ≡ old.turn)
 
--- what one read took waits; where the read failed, some of it may be gone
+-- what one read took waits; where there was no memory for it, some of it may be gone
 abbrev pub Refills : Talk → Option (List ℕ) → Refill → Talk → Option (List ℕ) → Type 0
 Refills old known refills.More new known' =
     (piece : List ℕ) × Consumes known known' piece × Keeps old (old.frames ++ piece) new
 Refills old known refills.Ended new known' =
     Consumes known known' [] × IsAtEnd known' × Keeps old old.frames new
-Refills old known refills.Failed new known' =
+Refills old known refills.Failed new known' = Consumes known known' [] × Keeps old old.frames new
+Refills old known refills.Lost new known' =
     (piece : List ℕ) × Consumes known known' piece × Keeps old old.frames new
 
 module _ {S : Type 0} (answers : S → Request → Reply → S → Type 0) where

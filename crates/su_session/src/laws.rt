@@ -2,7 +2,7 @@
 ghost use Rattle.std.specs.Prelude.{◌≡◌, ◌++◌, ℕ, List, Some};
 ghost use Rattle.su_frames.specs.Stream.{IsRest, Splits};
 ghost use Rattle.su_session.specs.declared.sessions.End.{End};
-ghost use Rattle.su_session.specs.declared.sessions.End.TheVariants.{LinkFailed, Spent};
+ghost use Rattle.su_session.specs.declared.sessions.End.TheVariants.{ReadFailed, LinkFailed, Spent};
 ghost use Rattle.su_session.specs.Session.{end_of, left, IsWhole, Moment, Session};
 
 use crate::services::Service;
@@ -25,7 +25,7 @@ pub fn first_messages<S: Service>()
 pub fn all_messages<S: Service>()
     ensures { (a b : Moment S) (end : End) (all last : List ℕ) (messages : List (List ℕ))
         → (x : Session S.answers a end b) → a.known ≡ Some all
-        → (end ≡ LinkFailed → ⊥) → (end ≡ Spent → ⊥)
+        → (end ≡ ReadFailed → ⊥) → (end ≡ LinkFailed → ⊥) → (end ≡ Spent → ⊥)
         → Splits (a.waits ++ all) messages last → IsRest last
         → (x.messages ≡ messages) × (end ≡ end_of last) }
 {

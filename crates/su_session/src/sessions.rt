@@ -26,7 +26,9 @@ pub enum End {
     Cut,
     /// A length of 0, or above the longest, was refused.
     Refused,
-    /// A read or a write failed, or there was no memory for the session itself.
+    /// A read failed.
+    ReadFailed,
+    /// A write failed, or there was no memory for the session itself.
     LinkFailed,
     /// The reader was read as often as it may be.
     Spent,
@@ -59,8 +61,10 @@ enum Refill {
     More,
     /// The input has ended.
     Ended,
-    /// The read failed, or there was no memory for what came.
+    /// The read failed.
     Failed,
+    /// There was no memory for what came.
+    Lost,
 }
 
 /// Serves a session: the service answers each message of the reader, in order, and each reply is
@@ -117,7 +121,8 @@ impl Talk {
                     }
                     return End::Cut;
                 }
-                Refill::Failed => return End::LinkFailed,
+                Refill::Failed => return End::ReadFailed,
+                Refill::Lost => return End::LinkFailed,
             }
         }
         match self.answer_ready(alloc, writer, service) {
@@ -204,7 +209,7 @@ impl Talk {
             Ok(0) => Refill::Ended,
             Ok(count) => match self.frames.feed(&chunk[..count]) {
                 Ok(()) => Refill::More,
-                Err(_) => Refill::Failed,
+                Err(_) => Refill::Lost,
             },
             Err(error) => {
                 if error.kind() == ErrorKind::Interrupted {

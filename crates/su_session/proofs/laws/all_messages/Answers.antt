@@ -5,9 +5,9 @@ use Rattle.su_session.specs.Session.{left, end_of}
 use Rattle.su_session.proofs.laws.all_messages.Goals as goal
 
 pub returns : goal.returns
-returns g c = λ a b end all last messages x known f s cut is_rest.
+returns g c = λ a b end all last messages x known r f s cut is_rest.
     let mine = known_splits g.S.Service.answers a b end all x known in
-    let (rest, ended) = own_end c.refused_for_good.ensures end x.count b.known x.rest x.replies x.out f s x.ends in
+    let (rest, ended) = own_end c.refused_for_good.ensures end x.count b.known x.rest x.replies x.out r f s x.ends in
     let (more, there, here) = c.one_cut.ensures (a.waits ++ all) (x.rest ++ left b.known) last x.messages messages mine cut is_rest in
     let (less, back, forth) = c.one_cut.ensures (a.waits ++ all) last (x.rest ++ left b.known) messages x.messages cut mine rest in
     let none = same_lists messages x.messages more less there back in

@@ -1,5 +1,5 @@
 use Rattle.std.proofs.Common.{◌∙◌, sym, refl, arith}
-use Rattle.su_session.proofs.Going.{none, some, goes-none, goes-then, goes-end, goes-read, end-closed, end-cut, end-failed, end-spent}
+use Rattle.su_session.proofs.Going.{none, some, goes-none, goes-then, goes-end, goes-read, end-closed, end-cut, end-unread, end-lost, end-spent}
 use Rattle.su_session.proofs.Waiting.{partial_short}
 use Rattle.su_session.proofs.talks.Talk.converse.Goals as goal
 
@@ -30,8 +30,14 @@ returns-in-Ended g c =
 pub returns-in-Failed : goal.returns-in-Failed
 returns-in-Failed g c =
     let ready = c.in_default.ensures.says (g.R.Read.remaining c.loop.reader) in
-    let (piece, read, (frames, answered, turn)) = c.in-Failed.ensures.bytes in
-    goes-end g.S.Service.answers _ _ _ _ (goes-then g.S.Service.answers _ _ _ c.loop.invariant.1 ready.0) (end-failed g.S.Service.answers _ _ piece refl turn answered refl read)
+    let (read, (frames, answered, turn)) = c.in-Failed.ensures.bytes in
+    goes-end g.S.Service.answers _ _ _ _ (goes-then g.S.Service.answers _ _ _ c.loop.invariant.1 ready.0) (end-unread g.S.Service.answers _ _ refl turn answered refl read ready.1)
+
+pub returns-in-Lost : goal.returns-in-Lost
+returns-in-Lost g c =
+    let ready = c.in_default.ensures.says (g.R.Read.remaining c.loop.reader) in
+    let (piece, read, (frames, answered, turn)) = c.in-Lost.ensures.bytes in
+    goes-end g.S.Service.answers _ _ _ _ (goes-then g.S.Service.answers _ _ _ c.loop.invariant.1 ready.0) (end-lost g.S.Service.answers _ _ piece refl turn answered refl read)
 
 pub loop-preserved : goal.loop-preserved
 loop-preserved g c =
