@@ -194,9 +194,10 @@ def spread(count, most):
     return range(1, count + 1, max(1, -(-count // most)))
 
 
-def each(name, at, scenario, most=None):
+def each(name, at, scenario, most=None, by_the_clock=False):
     """A scenario with each of its calls failing once, so many of them at most. A scenario gets a folder of its own and the number of the
-    call, and returns what the library told and what isn't as it should be."""
+    call, and returns what the library told and what isn't as it should be. How many calls of a kind there are may go by the clock (a read
+    finds what has come by then, of a message or of several): a run may have too few of them then, but the first one always comes."""
     most = most or runs_of_a_kind
     def tried(number):
         folder = f"{at}/{name} {number}"
@@ -211,8 +212,11 @@ def each(name, at, scenario, most=None):
     with concurrent.futures.ThreadPoolExecutor(RUNS_AT_ONCE) as pool:
         runs = list(pool.map(tried, spread(whole.calls, most)))
     unmet = [number for number, told, _ in runs if not told.met]
+    passed_by = [number for number, told, _ in runs if not told.met and told.calls >= number]
     wrong = [(number, wrong) for number, _, wrong in runs if wrong]
-    yield f"{name}_each_call_is_met_but_few: {unmet}", len(unmet) * 2 <= len(runs)
+    yield f"{name}_each_call_that_came_is_met: {passed_by}", passed_by == [] and 1 not in unmet
+    if not by_the_clock:
+        yield f"{name}_each_call_is_met_but_few: {unmet}", len(unmet) * 2 <= len(runs)
     yield f"{name}_nothing_is_lost: {len(wrong)} of {len(runs)}, {wrong[:2]}", wrong == []
     print(f"failing: {name}: {whole.calls} calls, {len(runs)} runs, {len(runs) - len(unmet)} met")
 
@@ -410,9 +414,9 @@ def links(at, library):
     room = serving.Room(at)
     for kinds in ("write", "read"):
         yield from each(f"a_{kinds}_of_a_client's_connection", at,
-                        lambda folder, number, kinds=kinds: link_fails(room, library, kinds, folder, number))
+                        lambda folder, number, kinds=kinds: link_fails(room, library, kinds, folder, number), by_the_clock=kinds == "read")
         yield from each(f"a_{kinds}_of_a_server's_connection", at,
-                        lambda folder, number, kinds=kinds: server_link_fails(room, library, kinds, folder, number))
+                        lambda folder, number, kinds=kinds: server_link_fails(room, library, kinds, folder, number), by_the_clock=kinds == "read")
 
 
 # ---- a state folder

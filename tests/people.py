@@ -360,6 +360,8 @@ def undos(room, team):
     check("nor is what others did for another's", ended.status == 1 and "only ann can" in ended.told, ended)
     ended = team.do("ann", "undo", "--with-blockers", mine[0])
     check("what is another's isn't taken back", ended.status == 1 and "only bob can" in ended.told, ended)
+    ended = team.do("ann", "undo", "--with-blockers", 99_999)
+    check("there is no such commit", ended.status == 1 and "there is no commit 99999 (24 NoOperation 99999)" in ended.told, ended)
     with open(f"{room}/own", "w") as it:
         it.write("one\n")
     check("a file of one's own", team.do("ann", "put", f"{room}/own", "/tree/own").status == 0)

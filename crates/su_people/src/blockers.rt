@@ -1,30 +1,39 @@
 // What has to be taken back before an operation can be.
+ghost use Rattle.std.specs.Prelude.{IfOk};
+ghost use Rattle.su_legal.specs.Legal.{history};
+ghost use Rattle.su_why.specs.Own.{AreMadeBy, AreWithReasons};
+
+use crate::outcomes::{Outcome, ending_of};
 use std::alloc::Global;
 use std::net::{Net, TcpListener, TcpStream};
 use std::thread::Threads;
-use su_block::BlockSource;
-use su_bytes::User;
 use su_people_session::{Items, Keyless, Session, Trouble, look, name_of};
-use su_view::View;
-use su_why::reasons_in;
+use su_why::{OwnReasons, own_reasons_in};
 
 /// Finds the operations that have to be taken back before that one can be, in an order in which they
 /// can be, and that one behind them, where all are the user's own. It looks at the server for that, in
 /// a session of its own, as it takes the items of all commits. Else who has to take one back is told,
-/// as nothing is done then. The refusals of `look` and of `su_why::reasons_in`.
+/// or why they aren't known (the refusals of `su_why::own_reasons_in`), and so how the command ends, as
+/// nothing is done then. The refusals of `look`.
 pub(crate) fn own_blockers<T>(
     rt: &HostRuntime,
     host: &T,
     given: Option<&str>,
     number: u64,
-) -> Result<Vec<u64>, Trouble>
+) -> Result<Result<Vec<u64>, Outcome>, Trouble>
 where
     T: Net<Listener = TcpListener, Stream = TcpStream> + Threads + Sync,
 {
     let mut session = look(rt, host, given, Items::AtHand)?;
     let found = blockers_in(rt.alloc(), &session, number);
     session.helper.end();
-    found
+    match found {
+        Ok(all) => Ok(Ok(all)),
+        Err(trouble) => {
+            session.helper.tell(&trouble);
+            Ok(Err(ending_of(&trouble)))
+        }
+    }
 }
 
 /// Finds them by what a session holds.
@@ -32,32 +41,21 @@ fn blockers_in<T>(
     alloc: Global,
     session: &Session<'_, T, Keyless>,
     number: u64,
-) -> Result<Vec<u64>, Trouble> {
+) -> Result<Vec<u64>, Trouble>
+    ensures reasons { let v = session.now.member.holding in IfOk result (λ all.
+        AreWithReasons v.roster (history v.held) number all.items) }
+    ensures own { let v = session.now.member.holding in IfOk result (λ all.
+        AreMadeBy (history v.held) v.user all.items) }
+{
     let team = session.helper.folder.team();
     let view = session.member.view();
-    let mut all = reasons_in(alloc, view.roster().copy()?, view, number)?;
-    all.push(number)?;
-    if let Some((other, author)) = first_of_others(view, view.user(), &all) {
-        let name = name_of(alloc, team, author)?;
-        return Err(Trouble::told(format!(in alloc;
-            "commit {other} has to be taken back for that, which only {name} can: nothing is done"
-        )));
-    }
-    Ok(all)
-}
-
-/// Returns the first of some commits that another user made, with its author.
-fn first_of_others<S: BlockSource + Drop>(
-    view: &View<S>,
-    user: User,
-    numbers: &[u64],
-) -> Option<(u64, User)> {
-    let entries = view.history();
-    for number in numbers {
-        let entry = entries.get((*number as usize).saturating_sub(1))?;
-        if entry.author() != user {
-            return Some((*number, entry.author()));
+    match own_reasons_in(alloc, view.roster().copy()?, view, number)? {
+        OwnReasons::Own(all) => Ok(all),
+        OwnReasons::Another { number, author } => {
+            let name = name_of(alloc, team, author)?;
+            Err(Trouble::told(format!(in alloc;
+                "commit {number} has to be taken back for that, which only {name} can: nothing is done"
+            )))
         }
     }
-    None
 }

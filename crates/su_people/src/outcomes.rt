@@ -2,6 +2,8 @@
 ghost use Rattle.std.specs.Prelude.{◌≡◌};
 ghost use Rattle.su_people.specs.Outcome.{code_of};
 
+use su_people_session::{Trouble, is_lie};
+
 /// How a command of people ends.
 #[derive(Clone, Copy, Debug, PartialEq, Eq)]
 pub enum Outcome {
@@ -23,5 +25,13 @@ impl Outcome {
             Outcome::Refused => 1,
             Outcome::Lied => 3,
         }
+    }
+}
+
+/// Returns how a command ends that isn't done.
+pub(crate) fn ending_of(trouble: &Trouble) -> Outcome {
+    match trouble {
+        Trouble::Refused { refusal, takes, .. } if is_lie(*takes, refusal) => Outcome::Lied,
+        _ => Outcome::Refused,
     }
 }

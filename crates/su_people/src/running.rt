@@ -1,6 +1,6 @@
 // What a command line of people does.
 use crate::blockers::own_blockers;
-use crate::outcomes::Outcome;
+use crate::outcomes::{Outcome, ending_of};
 use std::alloc::Global;
 use std::io::Write;
 use std::net::{Net, TcpListener, TcpStream};
@@ -13,7 +13,7 @@ use su_people_reading::{
     cat, compare_heads, diff, get_all, history, list, show, status, verify, why,
 };
 use su_people_session::{
-    Answer, Helper, Items, Keyless, Session, Trouble, finish, is_lie, look, sign, tell,
+    Answer, Helper, Items, Keyless, Session, Trouble, finish, look, sign, tell,
 };
 use su_people_writing::{
     done_line, first_look, link, make_folders, new_folder, put_all, rekey, remove, rename,
@@ -33,14 +33,6 @@ where
             tell(rt, None, &trouble);
             ending_of(&trouble)
         }
-    }
-}
-
-/// Returns how a command ends that isn't done.
-fn ending_of(trouble: &Trouble) -> Outcome {
-    match trouble {
-        Trouble::Refused { refusal, takes, .. } if is_lie(*takes, refusal) => Outcome::Lied,
-        _ => Outcome::Refused,
     }
 }
 
@@ -216,7 +208,10 @@ where
     T: Net<Listener = TcpListener, Stream = TcpStream> + Threads + Sync,
 {
     let undone = match deed {
-        Deed::UndoWithBlockers { number } => own_blockers(rt, host, given, *number)?,
+        Deed::UndoWithBlockers { number } => match own_blockers(rt, host, given, *number)? {
+            Ok(undone) => undone,
+            Err(outcome) => return Ok(outcome),
+        },
         _ => Vec::new(rt.alloc()),
     };
     let mut session = sign(rt, host, given)?;

@@ -1,9 +1,7 @@
 // Files and folders of the store are written to local ones.
-ghost use Rattle.std.specs.Prelude.{◌≡◌, ◌++◌, ◌∷◌, [], ℕ, List, true, Ok, IfOk};
-ghost use Rattle.su_table.specs.Query.{contents};
-ghost use Rattle.su_view.specs.Holding.{tree_of_list};
+ghost use Rattle.std.specs.Prelude.{IfOk};
 ghost use Rattle.su_client_work.specs.Member.{IsClear};
-ghost use Rattle.su_people_reading.specs.Getting.{HandsOn};
+ghost use Rattle.su_people_reading.specs.Getting.{HandsOn, IsGot};
 
 use crate::targets::{LocalFile, Target};
 use std::alloc::{AllocError, Global};
@@ -156,9 +154,10 @@ pub fn got_into<T, G: Target>(
 ) -> Result<Got, Trouble>
     ensures hands { IsClear session.new.member
         → HandsOn session.old.member.holding file (G.handed target.old) (G.handed target.new) }
-    ensures got { IsClear session.new.member → IfOk result (λ got. (got.is_written ≡ true)
-        → (bytes : List ℕ) × (contents (tree_of_list session.old.member.holding) file ≡ Ok bytes)
-        × (G.handed target.new ≡ G.handed target.old ++ bytes ∷ [])) }
+    ensures got { IsClear session.new.member → IfOk result (λ got.
+        IsGot session.old.member.holding file got
+        (record { handed = G.handed target.old; found = G.found target.old })
+        (record { handed = G.handed target.new; found = G.found target.new })) }
 {
     let alloc = session.helper.rt.alloc();
     let bytes = named(alloc, path, session.member.contents_held(file))?;

@@ -1,5 +1,5 @@
 // Where the bytes of a file go that is got.
-ghost use Rattle.std.specs.Prelude.{◌≡◌, ◌++◌, ◌∷◌, [], ℕ, List, OnOk};
+ghost use Rattle.std.specs.Prelude.{◌≡◌, ◌++◌, ◌∷◌, [], ℕ, List, cond, IfOk, OnOk};
 
 use http_server::Log;
 use std::alloc::Global;
@@ -13,13 +13,19 @@ pub trait Target {
     // What it was handed, in order: each time all the bytes of a file.
     ghost handed: { Self → List (List ℕ) };
 
+    // What it said that it has, likewise.
+    ghost found: { Self → List (List ℕ) };
+
     /// Tells whether it has just these bytes already. Refuses what may not be written over.
     fn has(&mut self, alloc: Global, bytes: &Vec<u8>) -> Result<bool, Trouble>
-        ensures same { handed self.new ≡ handed self.old };
+        ensures same { handed self.new ≡ handed self.old }
+        ensures found { IfOk result (λ has. found self.new
+            ≡ found self.old ++ cond has (bytes.now.items ∷ []) []) };
 
     /// Hands it the bytes of a file, with which it replaces what it had.
     fn hand(&mut self, alloc: Global, bytes: &Vec<u8>) -> Result<(), Trouble>
-        ensures handed { handed self.new ≡ handed self.old ++ bytes.now.items ∷ [] };
+        ensures handed { handed self.new ≡ handed self.old ++ bytes.now.items ∷ [] }
+        ensures same { found self.new ≡ found self.old };
 }
 
 /// A path of a local file, which is replaced where it has other bytes, if that is asked for.
@@ -29,18 +35,21 @@ pub(crate) struct LocalFile<'a> {
     path: &'a str,
     over: bool,
     handed: Log<Vec<u8>, ()>,
+    found: Log<Vec<u8>, ()>,
 }
 
 impl<'a> LocalFile<'a> {
     /// Makes the target of a path; where `over`, a file there is written over.
     pub(crate) fn new(rt: &'a HostRuntime, path: &'a str, over: bool) -> LocalFile<'a>
-        ensures { result.handed.items ≡ [] }
+        ensures handed { result.handed.items ≡ [] }
+        ensures found { result.found.items ≡ [] }
     {
         LocalFile {
             rt,
             path,
             over,
             handed: Log::new(),
+            found: Log::new(),
         }
     }
 }
@@ -50,24 +59,16 @@ impl Target for LocalFile<'_> {
 
     ghost handed = { λ f. files_in f.handed.items };
 
+    ghost found = { λ f. files_in f.found.items };
+
     /// Tells whether a file stands at the path that has just these bytes. Where it has others, which
     /// aren't to be written over, or something else stands there, that is told.
     fn has(&mut self, alloc: Global, bytes: &Vec<u8>) -> Result<bool, Trouble> {
-        let path = self.path;
-        match kind_of(self.rt, path) {
-            Ok(None) => return Ok(false),
-            Ok(Some(LocalKind::File { .. })) => {}
-            Ok(Some(_)) => return Err(Trouble::told(format!(in alloc; "{path}: it is no file"))),
-            Err(reason) => return Err(Trouble::local(path, alloc, reason)),
+        let has = is_at(self.rt, alloc, self.path, self.over, bytes)?;
+        if has {
+            self.found = self.found.and(bytes, &());
         }
-        match read_whole(self.rt, path, largest_file(NEWEST_FORMAT)) {
-            Ok(Some(held)) if held.as_slice() == bytes.as_slice() => Ok(true),
-            Ok(_) if self.over => Ok(false),
-            Ok(_) => Err(Trouble::told(format!(in alloc;
-                "{path}: it differs from what is in the store: put it first, or get --over"
-            ))),
-            Err(reason) => Err(Trouble::local(path, alloc, reason)),
-        }
+        Ok(has)
     }
 
     /// Puts a file with these bytes in the place of what stands at the path. After an error the old
@@ -78,5 +79,31 @@ impl Target for LocalFile<'_> {
             Ok(()) => Ok(()),
             Err(reason) => Err(Trouble::local(self.path, alloc, reason)),
         }
+    }
+}
+
+/// Tells whether a file stands at a path that has just these bytes. Where it has others, which aren't
+/// to be written over, or something else stands there, that is told.
+fn is_at(
+    rt: &HostRuntime,
+    alloc: Global,
+    path: &str,
+    over: bool,
+    bytes: &Vec<u8>,
+) -> Result<bool, Trouble> {
+    match kind_of(rt, path) {
+        Ok(None) => return Ok(false),
+        Ok(Some(LocalKind::File { .. })) => {}
+        Ok(Some(_)) => return Err(Trouble::told(format!(in alloc; "{path}: it is no file"))),
+        Err(reason) => return Err(Trouble::local(path, alloc, reason)),
+    }
+    match read_whole(rt, path, largest_file(NEWEST_FORMAT)) {
+        Ok(Some(held)) if held.as_slice() == bytes.as_slice() => Ok(true),
+        Ok(_) if over => Ok(false),
+        Ok(_) => Err(Trouble::told(format!(in alloc;
+            "{path}: it differs from what is in the store: put it first, get that under another \
+name, or get --over"
+        ))),
+        Err(reason) => Err(Trouble::local(path, alloc, reason)),
     }
 }

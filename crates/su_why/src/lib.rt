@@ -2,7 +2,9 @@
 #![tactic(auto)]
 
 mod entries;
+mod own;
 mod searching;
 
 pub use entries::entries_of;
+pub use own::{OwnReasons, own_reasons_in};
 pub use searching::reasons_in;
