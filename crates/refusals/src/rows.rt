@@ -91,7 +91,7 @@ fn once<R: Threads + Wait + Clock + Sync>(
         Row::Plans => plans::of_two_users(alloc, seen),
         Row::Seats => seats::in_two_threads(rt, alloc, seen),
         Row::FailingStore => signatures::where_a_store_fails(alloc, seen),
-        Row::FailingSource => sources::where_a_source_fails(alloc, seen),
+        Row::FailingSource => sources::where_a_source_fails(alloc),
         Row::FailingReads => sessions::where_a_read_fails(alloc),
         Row::FailingWrites => sessions::where_a_write_fails(alloc),
     }

@@ -1,5 +1,5 @@
 // What a command line of people does.
-use crate::blockers::own_blockers;
+use crate::blockers::{own_blockers, undo_own};
 use crate::outcomes::{Outcome, ending_of};
 use std::alloc::Global;
 use std::io::Write;
@@ -313,25 +313,10 @@ where
             link(session, &path, &other, numbers)
         }
         Deed::Undo { first, last } => undo_range(session, *first, *last, numbers),
-        Deed::UndoWithBlockers { .. } => undo_each(session, undone, numbers),
+        Deed::UndoWithBlockers { .. } => undo_own(session, undone, numbers),
         Deed::Rekey => rekey(session, numbers),
         _ => Ok(()),
     }
-}
-
-/// Takes operations back, one after another.
-fn undo_each<'a, T>(
-    session: &mut Session<'a, T, KeptKey<'a>>,
-    undone: &[u64],
-    numbers: &mut Vec<u64>,
-) -> Result<(), Trouble>
-where
-    T: Net<Listener = TcpListener, Stream = TcpStream> + Threads + Sync,
-{
-    for number in undone {
-        undo_range(session, *number, *number, numbers)?;
-    }
-    Ok(())
 }
 
 /// Reads paths of the store, as they are given.

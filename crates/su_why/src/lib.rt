@@ -6,5 +6,5 @@ mod own;
 mod searching;
 
 pub use entries::entries_of;
-pub use own::{OwnReasons, own_reasons_in};
+pub use own::{OwnReasons, first_of_others, own_reasons_in};
 pub use searching::reasons_in;

@@ -52,7 +52,7 @@ pub fn own_reasons_in<S: BlockSource + Drop>(
 
 /// Returns the first of some operations that isn't a user's own, with who made it. `NoOperation` with
 /// the first number that no entry has.
-fn first_of_others(
+pub fn first_of_others(
     entries: &[KeptEntry],
     user: User,
     numbers: &[u64],
