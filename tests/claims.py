@@ -1,6 +1,7 @@
 #!/usr/bin/env python3
 """Compares the table of calls in docs/CLAIMS.md with the code: each call that the table has is a public function of that crate, each
-clause that is named there stands at it, and no public function that can refuse is left out.
+clause that is named there stands at it, and no public function that can refuse is left out. Its last column names tests by words, each of
+which is explained above the table by a script or a crate that there is; whether these tests meet the call, bench/met.py tells.
 
 usage: claims.py
 
@@ -69,10 +70,14 @@ def is_refusable(head):
     return answered is not None and "Refusal" in answered[1]
 
 
+def sources():
+    return sorted(glob.glob(f"{TOP}/crates/*/src/**/*.rt", recursive=True))
+
+
 def calls_of_code():
     """Each public call of the product's crates: its clauses, and whether it can refuse."""
     calls = {}
-    for path in sorted(glob.glob(f"{TOP}/crates/*/src/**/*.rt", recursive=True)):
+    for path in sources():
         crate = path.removeprefix(f"{TOP}/crates/").split("/")[0]
         names = set() if crate in OTHERS else exported(crate)
         for owner, name, is_public, head in functions_of(path):
@@ -82,37 +87,67 @@ def calls_of_code():
     return calls
 
 
+def section():
+    """The section of the table: what stands above it, and the table."""
+    return open(f"{TOP}/docs/CLAIMS.md", encoding="utf-8").read().split("\n## Calls that can refuse\n")[1].split("\n## ")[0]
+
+
 def rows_of_table():
-    """The rows of the table: the crate, the calls, and the clauses that are named of them."""
-    text = open(f"{TOP}/docs/CLAIMS.md", encoding="utf-8").read().split("\n## Calls that can refuse\n")[1].split("\n## ")[0]
-    for line in text.split("\n"):
+    """The rows of the table: the crate, the calls, the clauses that are named of them, and the cell of their tests."""
+    for line in section().split("\n"):
         cells = [it.strip() for it in line.strip().strip("|").split("|")]
-        if len(cells) == 5 and cells[0].startswith("`"):
-            yield cells[0].strip("`"), WORD.findall(cells[1]), [WORD.findall(it) for it in cells[2:]]
+        if len(cells) == 6 and cells[0].startswith("`"):
+            yield cells[0].strip("`"), WORD.findall(cells[1]), [WORD.findall(it) for it in cells[2:5]], cells[5]
 
 
-def crates_of_tests():
-    """The crates of which the second table says which tests meet their refusals."""
-    text = open(f"{TOP}/docs/CLAIMS.md", encoding="utf-8").read().split("\n### Which tests meet them\n")[1].split("\n## ")[0]
-    rows = [[it.strip() for it in line.strip().strip("|").split("|")] for line in text.split("\n")]
-    return [crate for cells in rows if len(cells) == 3 for crate in WORD.findall(cells[0])]
+def words_of_tests():
+    """The words of the last column, of two kinds (tests that meet want of memory, and those that meet what lacks, lies or fails), each with
+    the scripts and crates that explain it."""
+    kinds = []
+    for line in section().split("\n| ")[0].split("\n"):
+        if line.startswith("Want of memory") or line.startswith("What lacks"):
+            kinds.append({})
+        if kinds and line.startswith("- `"):
+            words, _, meaning = line.removeprefix("- ").partition(": ")
+            kinds[-1].update(dict.fromkeys(WORD.findall(words), WORD.findall(meaning)))
+    return kinds
+
+
+def is_there(name):
+    """Whether a script or a crate that explains a word is there."""
+    return os.path.exists(f"{TOP}/{name}" if "/" in name else f"{TOP}/crates/{name}")
+
+
+def wrong_tests(cell, kinds):
+    """What of a cell of tests isn't as it should be: before a semicolon it names tests of the first kind, or says that there are none or
+    that no memory is taken, and behind it tests of the second kind, or that there are none."""
+    parts = [it.strip() for it in cell.split(";")]
+    if cell == "not called" or len(parts) > len(kinds):
+        return [] if cell == "not called" else [cell]
+    return [part for n, (part, words) in enumerate(zip(parts, kinds))
+            if part not in ("none", "takes none")[:2 - n] and (WORD.sub("", part).strip() or not set(WORD.findall(part)) <= set(words) or part == "")]
 
 
 def main():
-    calls, told = calls_of_code(), set()
-    tested = crates_of_tests()
-    results = {f"each crate of the table has tests once: {sorted(crate for crate, _, _ in rows_of_table() if tested.count(crate) != 1)}":
-               all(tested.count(crate) == 1 for crate, _, _ in rows_of_table())}
-    for crate, names, cells in rows_of_table():
+    calls, told, kinds = calls_of_code(), [], words_of_tests()
+    results = {"the words of both kinds of tests are explained": len(kinds) == 2 and all(kinds)}
+    for place, word, meant in [(n, *it) for n, words in enumerate(kinds) for it in words.items()]:
+        lacking = [it for it in meant if not is_there(it)]
+        is_used = any(word in WORD.findall(part) for row in rows_of_table() for part in row[3].split(";")[place:place + 1])
+        results[f"`{word}` is used, {is_used}, and explained by what is there: {meant}, lacking {lacking}"] = is_used and meant != [] and lacking == []
+    for crate, names, cells, tests in rows_of_table():
+        wrong = wrong_tests(tests, kinds)
+        results[f"{crate} {names}: no words of tests {wrong}"] = wrong == []
         for name in names:
             owner, _, call = name.rpartition("::")
             found = calls.get((crate, owner, call))
-            told.add((crate, owner, call))
+            told.append((crate, owner, call))
             if found is None:
                 results[f"{crate} {name}: there is no such public call"] = False
                 continue
             lacking = {it for cell in cells for it in cell} - found[0]
             results[f"{crate} {name}: has no clause {sorted(lacking)}"] = not lacking
+    results[f"each call stands in one row: {sorted(it for it in set(told) if told.count(it) > 1)}"] = len(told) == len(set(told))
     for call, (_, refusable) in calls.items():
         if refusable and call not in told:
             results[f"{call[0]} {call[1]}::{call[2]}: can refuse, and isn't in the table"] = False

@@ -490,7 +490,7 @@ def get_fails(library, kinds, state, contents, folder, number):
     found = tree_at(f"{folder}/back")
     if status not in (0, 1) or (status == 0 and found != contents) or any(contents.get(name) != found[name] for name in found):
         wrong.append(f"status {status}, {sorted(found)}")
-    if status == 1 and kinds != "read":
+    if status == 1 and kinds == "write":
         wrong.append("what can't be left doesn't stay in memory")
     again = said_of(*get)
     if again[2] != 0 or tree_at(f"{folder}/back") != contents:
@@ -521,7 +521,7 @@ def gets(at, library):
         yield f"ann_puts: {put}", put[2] == 0
         looks = said_of("ls", "/", "--in", f"{at}/bob")
         yield f"bob_looks: {looks}", looks[2] == 0
-        for kinds in ("write", "read"):
+        for kinds in ("write", "read", "growth"):
             yield from each(f"a_{kinds}_of_the_scratch", at,
                             lambda folder, number, kinds=kinds: get_fails(library, kinds, f"{at}/bob", contents, folder, number), MOST_GETS)
 
@@ -548,9 +548,12 @@ PLANNED = (
     (b"rename /d/f /f", [b"ok 5", b"ok 6"], [b"no 18 NoName"]),
     (b"create d", [b"no 29 BadPath"], [b"no 29 BadPath"]),
     (b"remove /x", [b"no 18 NoName"], [b"no 18 NoName"]),
-    (b"ls /", [b"d G0:2", b"f G0:3"], [b"d G0:2", b"f G0:3"]))
+    (b"ls /", [b"d G0:2", b"f G0:3"], [b"d G0:2", b"f G0:3"]),
+    (b"cat /f 0 9", [b""], [b""]),
+    (b"tidy", [b"ok 7"], []))
 IN_THE_END = [b"d G0:2", b"f G0:3"]
-COMMITS = 6
+MAKES = ((b"create /d/f", 4), (b"rename /d/f /f", 6), (b"tidy", 7))  # and how many commits there are then
+COMMITS = 7
 
 
 def answers(wanted_at=None, told=0, made=0):
@@ -595,12 +598,46 @@ def client_grows(room, library, folder, number):
         if ended[2] != 0 and not any(is_want_of_memory(ended, it) for it in may_be):
             wrong.append(f"ended: {ended}")
         there = len(shown(server.port))
-        left = [line for line, before in ((b"create /d/f", 4), (b"rename /d/f /f", 6)) if there < before]
+        left = [line for line, before in MAKES if there < before]
         with serving.Running(words) as client:
             client.write(b"\n".join([*left, b"ls /", b""]))
             again = client.end()
         if again[2] != 0 or again[0] != [b"ok %d" % n for n in range(there + 1, COMMITS + 1)] + IN_THE_END:
             wrong.append(f"again, with {there} commits: {again}")
+    return told, wrong
+
+
+GOING_ON = ("create", "undo", "rekey", "create")  # what its lines make, one each
+
+
+def goes_on(room, library, folder, number):
+    """Lines that undo, save and go on with another key: what is told as stored is there, what is saved is a log, no leaf signs twice, and
+    the client goes on with the key that its user has by then."""
+    wrong, keys, saved = [], [f"{folder}/key", f"{folder}/other"], f"{folder}/saved"
+    for path, key in zip(keys, (room.keys[0], logs.key_of("goes on", width=4))):
+        with open(path, "wb") as file:
+            file.write(key.file())
+    told = Told(Shim(library, "growth"), number)
+    with serving.Server(room, workers=2, port=free_port()) as server:
+        with serving.Running(room.words(server.port, 0, key=keys[0]), cwd=folder, **told.how) as client:
+            client.write(b"mkdir /a\nundo_last\nsave saved\nrekey other\nmkdir /b\n")
+            printed, said, status = client.end()
+        told.read()
+        made = [audit_model.change_in(item)[0] for _, item in shown(server.port)]
+        stored = [int(line[3:]) for line in printed if line.startswith(b"ok ")]
+        rest = iter(GOING_ON)
+        if status not in (0, 1) or stored != sorted(set(stored)) or not all(n <= len(made) and made[n - 1] in rest for n in stored):
+            wrong.append(f"status {status}, {printed}, {said}, {made}")
+        if os.path.exists(saved) and serving.audit(room, saved)[2] != 0:
+            wrong.append(f"saved: {serving.audit(room, saved)}")
+        with serving.Running(room.words(server.port, 0, key=keys["rekey" in made])) as client:
+            client.write(b"mkdir /z\n")
+            again = client.end()
+        if again[0] != [b"ok %d" % (len(made) + 1)] or again[2] != 0:
+            wrong.append(f"again: {again}, {made}")
+        leaves, at = [leaf_of(commit) for commit, _ in shown(server.port)], made.index("rekey") + 1 if "rekey" in made else len(made)
+        if len(set(leaves[:at])) < at or len(set(leaves[at:])) < len(leaves) - at:
+            wrong.append(f"leaves {leaves}, {made}")
     return told, wrong
 
 
@@ -681,6 +718,7 @@ def readings_grow(room, library, at):
 def growths(at, library):
     room = serving.Room(at)
     yield from each("a_growth_of_a_client", at, lambda folder, number: client_grows(room, library, folder, number))
+    yield from each("a_growth_of_a_client_that_goes_on", at, lambda folder, number: goes_on(room, library, folder, number))
     yield from audits_grow(room, library, at)
     yield from each("a_growth_where_a_key_is_made", at, lambda folder, number: key_is_made(library, folder, number))
     yield from readings_grow(room, library, at)

@@ -109,11 +109,11 @@ ENDED = ("1 undo_last", "0 undo_last", "0 undo_last", "1 undo 8", "0 create U0:3
 QUESTIONS = ("versions", "ls G0:1", "ls U0:3", "cat U0:4 0 5", "cat U0:4 4094 9", "cat G0:2 0 9", "stat U0:4", "stat U0:3", "ihandle U0", "ihandle U1", "ihandle G0")
 
 
-# A worked script with what it prints: an undo gives a file the bytes that it had, and all but the versions is as it was.
+# A worked script with what it prints: an undo gives a file the bytes that it had, and all but the versions is as it was; then it is grown.
 WORKED = (
     ("0 mkdir G0:1 d U0:2", "ok 1"), ("0 create U0:2 f U0:3", "ok 2"), ("0 write U0:3 0 68656c6c6f", "ok 3"), ("mark", None),
     ("0 write U0:3 5 20796f75", "ok 4"), ("cat U0:3 0 9", "68656c6c6f20796f75"), ("0 undo_last", "ok 5"), ("same", "same"),
-    ("cat U0:3 0 9", "68656c6c6f"), ("versions", "U0=5 U1=0 G0=0 G1=0"))
+    ("cat U0:3 0 9", "68656c6c6f"), ("0 truncate U0:3 9000", "ok 6"), ("cat U0:3 4 3", "6f0000"), ("versions", "U0=6 U1=0 G0=0 G1=0"))
 
 
 def with_questions(changes):

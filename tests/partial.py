@@ -17,6 +17,8 @@ import tally
 import wire
 from desk_model import sha256
 
+# Lines that ask for what is left, and are refused where it isn't there.
+ASKING = (b"cat /f1000 0 9", b"write /f1200 0 68", b"remove /f300", b"rename /f40 /k", b"link /f500 /m", b"create /n", b"tidy")
 MANY = 1536  # names of the root: with their inodes and what joins them more than the 1,024 items that a client's cache keeps
 BATCH = 256
 
@@ -134,6 +136,8 @@ def untrusted(at):
             walk.service.how = how
             said = walk.say(b"ls /")
             yield f"a_server_that_{how}: {said[:2]}", said == [refusal]
+            answers = {line: walk.say(line) for line in ASKING}
+            yield f"what_asks_of_a_server_that_{how}: {answers}", all(it == [refusal] for it in answers.values())
             walk.service.how = "whole"
             yield f"and_then_is_whole_after_it_{how}", walk.say(b"ls /") == names
             yield f"a_commit_after_it_{how}", walk.say(b"write /g 0 68") == [b"ok %d" % (walk.count + (2 if how == "lacks" else 3))]
