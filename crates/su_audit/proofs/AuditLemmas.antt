@@ -17,7 +17,9 @@ use Rattle.su_audit.specs.Step.{Takes, IsRefusedRecord, IsRefusedNext}
 use Rattle.su_audit.proofs.StepLemmas.{wider_source}
 use Rattle.su_audit.specs.declared.audits.Ending.{Ending}
 use Rattle.su_audit.specs.declared.audits.Ending.TheVariants.{Taken, Refused, Failed}
-use Rattle.su_audit.specs.Audit.{AreBytesOf, AreItemsOf, items_of, BeginsLegally, IsLegalLog, IsRefusedAt, held_by_first, taken_text, refused_text, Tells, Prints, PrintsSome}
+use Rattle.su_audit.specs.declared.audits.Fault.{Fault}
+use Rattle.su_audit.specs.declared.audits.Fault.TheVariants.{Reading, Writing, NoView, NoMemory}
+use Rattle.su_audit.specs.Audit.{AreBytesOf, AreItemsOf, items_of, BeginsLegally, IsLegalLog, IsRefusedAt, held_by_first, taken_text, refused_text, Tells, Prints, PrintsSome, WritesNothing}
 
 -- So far the log begins with the records of what is held, and this is left; the next is the nth.
 pub record Stands (ro : Membership) (log : List ℕ) (v : HoldingState) (has : List (List ℕ)) (Left : ℕ → List ℕ → Type 0) (n : ℕ) : Type 0 where
@@ -185,13 +187,13 @@ module _ (ro : Membership) (log : List ℕ) (v : HoldingState) (has : List (List
 
 pub told_taken : (ro : Membership) (log before text : List ℕ) (after : Option (List ℕ)) (m : ℕ) (result : Ending)
     → IsLegalLog ro log m → text ≡ taken_text m → Tells Taken text before after result → Prints ro log before after result
-told_taken ro log before text after m (Failed fault) legal is t = tt
+told_taken ro log before text after m (Failed fault) legal is t = t
 told_taken ro log before text after m Taken legal is t = (m, legal, t.1 ∙ ap (λ x. Some (before ++ x)) is)
 told_taken ro log before text after m Refused legal is t = absurd (let bad : Refused ≡ Taken = t.0 in cc)
 
 pub told_refused : (ro : Membership) (log before text : List ℕ) (after : Option (List ℕ)) (n : ℕ) (e : ViewRefusal) (result : Ending)
     → IsRefusedAt ro log n e → text ≡ refused_text n e → Tells Refused text before after result → Prints ro log before after result
-told_refused ro log before text after n e (Failed fault) why is t = tt
+told_refused ro log before text after n e (Failed fault) why is t = t
 told_refused ro log before text after n e Refused why is t = (n, e, why, t.1 ∙ ap (λ x. Some (before ++ x)) is)
 told_refused ro log before text after n e Taken why is t = absurd (let bad : Taken ≡ Refused = t.0 in cc)
 
@@ -199,9 +201,16 @@ told_refused ro log before text after n e Taken why is t = absurd (let bad : Tak
 pub some_taken : (n : ℕ) (before : List ℕ) (after : Option (List ℕ)) (r : Ending) → Tells Taken (taken_text n) before after r → PrintsSome before after r
 some_taken n before after Taken (is, written) = (n, written)
 some_taken n before after Refused (is, written) = absurd (let clash : Refused ≡ Taken = is in cc)
-some_taken n before after (Failed fault) told = tt
+some_taken n before after (Failed fault) told = told
 
 pub some_refused : (n : ℕ) (e : ViewRefusal) (before : List ℕ) (after : Option (List ℕ)) (r : Ending) → Tells Refused (refused_text n e) before after r → PrintsSome before after r
 some_refused n e before after Taken (is, written) = absurd (let clash : Taken ≡ Refused = is in cc)
 some_refused n e before after Refused (is, written) = (n, e, written)
-some_refused n e before after (Failed fault) told = tt
+some_refused n e before after (Failed fault) told = told
+
+-- where nothing was written
+pub wrote_nothing : (fault : Fault) (before : List ℕ) (after : Option (List ℕ)) → after ≡ Some before → WritesNothing fault before after
+wrote_nothing (Writing error) before after same = tt
+wrote_nothing (Reading error) before after same = same
+wrote_nothing (NoView refusal) before after same = same
+wrote_nothing NoMemory before after same = same

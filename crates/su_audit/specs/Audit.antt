@@ -12,6 +12,8 @@ use Rattle.su_log.specs.Log.{LogRecord, log_bytes}
 use Rattle.su_audit.specs.Step.{IsRefusedNext}
 use Rattle.su_audit.specs.declared.audits.Ending.{Ending}
 use Rattle.su_audit.specs.declared.audits.Ending.TheVariants.{Taken, Refused, Failed}
+use Rattle.su_audit.specs.declared.audits.Fault.{Fault}
+use Rattle.su_audit.specs.declared.audits.Fault.TheVariants.{Reading, Writing, NoView, NoMemory}
 
 -- ---- texts
 
@@ -73,24 +75,31 @@ pub record IsRefusedAt (ro : Membership) (log : List ℕ) (n : ℕ) (e : ViewRef
   pub begins : BeginsLegally ro log commits place rest
   pub why : IsRefusedNext (held_by_first ro commits) (items_of begins.records) place rest e
 
+-- What is written where something fails: nothing, unless it is the writing that failed.
+abbrev pub WritesNothing : Fault → List ℕ → Option (List ℕ) → Type 0
+WritesNothing (Writing error) before after = ⊤
+WritesNothing (Reading error) before after = after ≡ Some before
+WritesNothing (NoView refusal) before after = after ≡ Some before
+WritesNothing NoMemory before after = after ≡ Some before
+
 -- A text is written after what was there, and the run ends so, unless something fails.
 abbrev pub Tells : Ending → List ℕ → List ℕ → Option (List ℕ) → Ending → Type 0
-Tells ending text before after (Failed fault) = ⊤
+Tells ending text before after (Failed fault) = WritesNothing fault before after
 Tells ending text before after result = (result ≡ ending) × (after ≡ Some (before ++ text))
 
 -- What an audit prints after what was there: `ok`, with the number of commits, only where the log
 -- is that of so many, which make a legal list; a refusal only where those before are legal and the
--- next is refused so.
+-- next is refused so; and nothing where something else than the writing failed.
 abbrev pub Prints : Membership → List ℕ → List ℕ → Option (List ℕ) → Ending → Type 0
 Prints ro log before after Taken =
     (n : ℕ) × IsLegalLog ro log n × (after ≡ Some (before ++ taken_text n))
 Prints ro log before after Refused =
     (n : ℕ) × (e : ViewRefusal) × IsRefusedAt ro log n e × (after ≡ Some (before ++ refused_text n e))
-Prints ro log before after (Failed fault) = ⊤
+Prints ro log before after (Failed fault) = WritesNothing fault before after
 
 -- What it prints of any log: of how many commits, or of which and why.
 abbrev pub PrintsSome : List ℕ → Option (List ℕ) → Ending → Type 0
 PrintsSome before after Taken = (n : ℕ) × (after ≡ Some (before ++ taken_text n))
 PrintsSome before after Refused =
     (n : ℕ) × (e : ViewRefusal) × (after ≡ Some (before ++ refused_text n e))
-PrintsSome before after (Failed fault) = ⊤
+PrintsSome before after (Failed fault) = WritesNothing fault before after

@@ -10,7 +10,7 @@ ghost use Rattle.su_version.specs.Commit.{Commit as CommitParts, commit_bytes};
 ghost use Rattle.su_view.specs.Holding.{Took};
 ghost use Rattle.su_view.specs.Joining.{IsRefusedCommit};
 ghost use Rattle.su_view.specs.Viewed.{FailsToLoad};
-ghost use Rattle.su_log.specs.Record.{IsExamined, IsVerdict, spelled};
+ghost use Rattle.su_log.specs.Record.{AreDigests, IsExamined, IsVerdict, spelled};
 ghost use Rattle.su_log_ahead.specs.Ahead.{IsLeft};
 ghost use Rattle.su_audit.specs.declared.steps.NotTaken.TheVariants.{Refused, Unloaded};
 ghost use Rattle.su_audit.specs.declared.steps.Step.TheVariants as step;
@@ -22,7 +22,7 @@ use std::io::Read;
 use std::thread::Threads;
 use su_block::{BlockSource, MemoryBlocks};
 use su_bytes::Refusal;
-use su_log::{Record, Stop};
+use su_log::{Digests, Record, Stop};
 use su_log_ahead::Ahead;
 use su_no_blocks::NoBlocks;
 use su_version::{Commit, Verdict};
@@ -106,7 +106,11 @@ fn take(
         commit,
         key: _key,
         verdict,
+        digests,
     } = next;
+    let Some(digests) = digests else {
+        unreachable!()
+    };
     let _digest = match items.put(alloc, item.as_slice()) {
         Ok(digest) => digest,
         Err(refusal) => return Err(refused(refusal)),
@@ -117,9 +121,33 @@ fn take(
     };
     let change = commit.version().change();
     match items.get(alloc, change) {
-        Ok(found) => join(view, commit, bytes.as_slice(), verdict, found, true),
+        Ok(found) => {
+            let digests = Digests {
+                commit: digests.commit,
+                item: change,
+            };
+            join(
+                view,
+                commit,
+                bytes.as_slice(),
+                found,
+                digests,
+                verdict,
+                true,
+            )
+        }
         // The view looks whether the commit may be the next before it looks at the item.
-        Err(Refusal::MissingBlock) => { join(view, commit, bytes.as_slice(), verdict, item, false) }
+        Err(Refusal::MissingBlock) => {
+            join(
+                view,
+                commit,
+                bytes.as_slice(),
+                item,
+                digests,
+                verdict,
+                false,
+            )
+        }
         Err(refusal) => Err(refused(refusal)),
     }
 }
@@ -131,17 +159,19 @@ fn refused(refusal: Refusal) -> NotTaken
     NotTaken::Refused(ViewRefusal::Plain(refusal))
 }
 
-/// Lets the view take a commit, with an item; `is_named` tells whether that has the digest that the
-/// commit names. `MissingBlock` where it hasn't.
+/// Lets the view take a commit, with an item and the digests of both; `is_named` tells whether the item
+/// has the digest that the commit names. `MissingBlock` where it hasn't.
 fn join(
     view: &mut View<NoBlocks>,
     commit: Commit,
     bytes: &[u8],
-    verdict: Option<Verdict>,
     item: Vec<u8>,
+    digests: Digests,
+    verdict: Option<Verdict>,
     is_named: bool,
 ) -> Result<(), NotTaken>
     requires bytes { bytes.now ≡ commit_bytes commit }
+    requires digests { AreDigests bytes.now item.items digests }
     requires verdict { IsVerdict (Ok commit) verdict }
     requires other { is_named ≡ false → sha256 item.items ≢ commit.version.change }
     ensures took { OnOk result ((change : Change)
@@ -152,7 +182,7 @@ fn join(
         ⊎ IsRefusedCommit (λ i. i ≡ item.items) view.old.holding commit e)) }
     ensures err { OnErr result (view.new.holding ≡ view.old.holding) }
 {
-    match view.accept_with(commit, bytes, verdict_or_none(verdict), item) {
+    match view.accept_with(commit, bytes, item, digests, verdict_or_none(verdict)) {
         Ok(()) => Ok(()),
         Err(refusal) => Err(not_taken(refusal, is_named)),
     }

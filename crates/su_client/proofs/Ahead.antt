@@ -1,5 +1,6 @@
 -- A link over which requests were sent ahead of their time.
-use Rattle.std.proofs.Common.{◌≡◌, ◌∙◌, sym, ap, refl, subst, ℕ, true, false, inl, inr, List, [], ◌∷◌, ◌++◌, append_assoc, append-nil, length, ◌<◌, arith, nat_eq, Bool, true≢false, Option, None, Some}
+use Rattle.std.proofs.Common.{◌≡◌, ◌∙◌, sym, ap, refl, subst, ℕ, true, false, inl, inr, List, [], ◌∷◌, ◌++◌, append_assoc, append-nil, length, ◌<◌, arith, nat_eq, Bool, true≢false, Option, None, Some, Result, Ok, Err}
+use Rattle.std.specs.Prelude.{drop, slice_index_or, OnErr}
 use Rattle.std.specs.Io.KnownBytes.{Appends, Consumes, Keeps}
 use Rattle.std.proofs.KnownBytes.{Consumes-nil, Consumes-trans, Keeps-refl, Keeps-trans}
 use Rattle.su_message.specs.declared.requests.Request.{Request}
@@ -7,7 +8,7 @@ use Rattle.su_message.specs.declared.replies.Reply.{Reply}
 use Rattle.su_client.specs.Link.{LinkState, Exchanged, Follows, GoesAhead, IsToldOf, MayGive, Waits}
 use Rattle.su_client.specs.Following.{follows_itself, follows_on}
 use Rattle.std.specs.Global.{Vec}
-use Rattle.su_client.specs.Outbox.{contents, PutsAll, PutsFirst}
+use Rattle.su_client.specs.Outbox.{contents, PutsAll, PutsFirst, PutsSome}
 use Rattle.sha2.specs.Sha256.{sha256}
 use Rattle.su_message.specs.declared.requests.Request.TheVariants.{Put}
 use Rattle.su_message.specs.declared.replies.Reply.TheVariants.{PutDone}
@@ -126,14 +127,43 @@ pub fewer_wait : (ms ms' : List (Vec ℕ)) (b c : LinkState) → (length ms ≡ 
 fewer_wait [] ms' b c some first = absurd (some refl)
 fewer_wait (m ∷ ms) ms' b c some (left, put) = omega (arith, ap length left)
 
-pub puts_first : (ms : List (Vec ℕ)) (m : Vec ℕ) (ms' : List (Vec ℕ)) (item : List ℕ) (a b c : LinkState) → ms ≡ m ∷ ms' → item ≡ m.items → GoesAhead a b → Exchanged (Put item) b c (PutDone (sha256 item))
-    → PutsFirst ms a ms' c
-puts_first ms m ms' item a b c is same ahead put =
-    subst (λ (l : List (Vec ℕ)). PutsFirst l a ms' c) (sym is)
-    (refl, exchanged_ahead (Put m.items) a b c _ ahead (subst (λ (i : List ℕ). Exchanged (Put i) b c (PutDone (sha256 i))) same put))
+-- the first of those that wait was put, and taken away
+pub puts_front : (ms ms' : List (Vec ℕ)) (m : Vec ℕ) (item : List ℕ) (a b c : LinkState) → m ≡ slice_index_or ms 0 m → ms' ≡ drop 1 ms → item ≡ m.items → GoesAhead a b
+    → Exchanged (Put item) b c (PutDone (sha256 item)) → PutsFirst ms a ms' c
+puts_front [] ms' m item a b c is rest same ahead put = rest
+puts_front (x ∷ xs) ms' m item a b c is rest same ahead put =
+    (rest, exchanged_ahead (Put x.items) a b c _ ahead (subst (λ (i : List ℕ). Exchanged (Put i) b c (PutDone (sha256 i))) (same ∙ ap (λ (v : Vec ℕ). v.items) is) put))
 
 pub all_put : (all : List (List ℕ)) (a : LinkState) (left : List (List ℕ)) (b : LinkState) → ArePut all a left b → left ≡ [] → PutsAll all a b
 all_put all a left b p none = subst (λ (l : List (List ℕ)). PutsAll l a b) (sym (p.split ∙ ap (λ (l : List (List ℕ)). p.done ++ l) none ∙ append-nil p.done)) p.put
 
 pub some_wait : (len : ℕ) (ms : List (Vec ℕ)) (r : Bool) → len ≡ length ms → r ≡ nat_eq len 0 → r ≡ false → length ms ≡ 0 → ⊥
 some_wait len ms r long is not none = true≢false (sym (is ∙ ap (λ (n : ℕ). nat_eq n 0) (long ∙ none)) ∙ not)
+
+-- where putting fails behind those that were put, the others wait still
+pub some_put : (all : List (List ℕ)) (a : LinkState) (left : List (List ℕ)) (b c : LinkState) → ArePut all a left b → Follows b c → PutsSome all a left c
+some_put all a left b c p follows = record { put = p.done; parts = p.split; between = b; puts = p.put; follows = follows }
+
+pub waits_still : (all : List (List ℕ)) (a c : LinkState) → Follows a c → PutsSome all a all c
+waits_still all a c follows = some_put all a all a c (none_put all a) follows
+
+pub none_waits : (all : List (List ℕ)) (a b c : LinkState) (left : List (List ℕ)) → PutsAll all a b → left ≡ [] → Follows b c → PutsSome all a left c
+none_waits all a b c left puts none follows = record {
+  put = all;
+  parts = sym (ap (λ (l : List (List ℕ)). all ++ l) none ∙ append-nil all);
+  between = b;
+  puts = puts;
+  follows = follows;
+}
+
+pub left_none : (all : List (List ℕ)) (a b c : LinkState) (left : List (List ℕ)) → PutsAll all a b → left ≡ [] → c ≡ b → PutsSome all a left c
+left_none all a b c left puts none same = none_waits all a b c left puts none (subst (Follows b) (sym same) (follows_itself b))
+
+pub left_all : (all : List (List ℕ)) (a b : LinkState) (left : List (List ℕ)) → left ≡ all → b ≡ a → PutsSome all a left b
+left_all all a b left same still =
+    subst (λ (l : List (List ℕ)). PutsSome all a l b) (sym same) (waits_still all a b (subst (Follows a) (sym still) (follows_itself a)))
+
+-- where nothing is said unless it fails
+pub on_err : {A E : Type 0} {P : Type 0} (r : Result A E) → P → OnErr r P
+on_err (Ok x) p = tt
+on_err (Err e) p = p

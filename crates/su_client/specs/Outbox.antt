@@ -4,7 +4,9 @@ use Rattle.std.specs.Global.{Vec}
 use Rattle.sha2.specs.Sha256.{sha256}
 use Rattle.su_message.specs.declared.requests.Request.TheVariants as request
 use Rattle.su_message.specs.declared.replies.Reply.TheVariants.{PutDone, Stored}
-use Rattle.su_client.specs.Link.{LinkState, Exchanged}
+use Rattle.su_bytes.specs.declared.refusals.Refusal.{Refusal}
+use Rattle.su_bytes.specs.declared.refusals.Refusal.TheVariants.{SourceFailed, NoMemory}
+use Rattle.su_client.specs.Link.{LinkState, Exchanged, Follows, IsRefusal}
 
 -- the bytes of each
 abbrev pub contents : List (Vec ℕ) → List (List ℕ)
@@ -29,6 +31,16 @@ WaitsToo waiting item a waiting' b =
     ((waiting' ≡ waiting ++ item ∷ []) × (b ≡ a))
     ⊎ ((waiting' ≡ item ∷ []) × PutsAll waiting a b)
 
+-- Where putting fails, none of the items is lost: the first of them were put, whatever the link was
+-- used for then, and the others wait still.
+pub record PutsSome (waiting : List (List ℕ)) (a : LinkState) (waiting' : List (List ℕ))
+    (b : LinkState) : Type 0 where
+  pub put : List (List ℕ)
+  pub parts : waiting ≡ put ++ waiting'
+  pub between : LinkState
+  pub puts : PutsAll put a between
+  pub follows : Follows between b
+
 -- the item that was put last is at hand, with its digest
 abbrev pub IsAtHand : Option (List ℕ × Vec ℕ) → List ℕ → Type 0
 IsAtHand None item = ⊥
@@ -41,3 +53,11 @@ pub record IsHandedIn (items : List (List ℕ)) (commit : List ℕ) (a b : LinkS
   pub between : LinkState
   pub put : PutsAll items a between
   pub stored : Exchanged (request.Commit commit) between b (Stored number)
+
+-- Why no commit of these bytes is stored: an item of these couldn't be put; or all of them were, and
+-- then the commit is refused.
+abbrev pub IsRefusedHandIn : List (List ℕ) → List ℕ → LinkState → LinkState → Refusal → Type 0
+IsRefusedHandIn items commit a b e =
+    (e ≡ SourceFailed) ⊎ (e ≡ NoMemory)
+    ⊎ ((between : LinkState) × PutsAll items a between
+    × IsRefusal (request.Commit commit) between b e)

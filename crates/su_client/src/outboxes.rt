@@ -7,7 +7,7 @@ ghost use Rattle.su_block.specs.Failure.{failures_after};
 ghost use Rattle.su_bytes.specs.declared.refusals.Refusal.TheVariants.{MissingBlock, SourceFailed, TooBig, NoMemory};
 ghost use Rattle.su_client.specs.Following.{follows_itself, follows_on};
 ghost use Rattle.su_client.specs.Link.{Follows, GoesAhead, MayGive};
-ghost use Rattle.su_client.specs.Outbox.{contents, IsAtHand, IsHandedIn, PutsAll, PutsFirst, WaitsToo};
+ghost use Rattle.su_client.specs.Outbox.{contents, IsAtHand, IsHandedIn, IsRefusedHandIn, PutsAll, PutsFirst, PutsSome, WaitsToo};
 ghost use Rattle.su_client.specs.contracts.outboxes.Outbox.{the_row};
 ghost use Rattle.su_client.specs.contracts.clients.Client.{the_row as client_row};
 
@@ -116,12 +116,14 @@ impl<R: Read + Drop, W: Write + Drop> Outbox<R, W> {
         true
     }
 
-    /// Puts all items that wait, in order. `SourceFailed` where the link fails, `NoMemory`: then some
-    /// of them don't wait any more.
+    /// Puts all items that wait, in order. `SourceFailed` where the link fails, `NoMemory`: then those
+    /// that weren't put wait still.
     pub fn settle(&mut self, alloc: Global) -> Result<(), Refusal>
         ensures put { OnOk result (PutsAll (contents self.old.waiting.items)
             self.old.client.link self.new.client.link) }
         ensures waiting { OnOk result (self.new.waiting.items ≡ []) }
+        ensures err { OnErr result (PutsSome (contents self.old.waiting.items)
+            self.old.client.link (contents self.new.waiting.items) self.new.client.link) }
         ensures refused { IfErr result (λ e. (e ≡ SourceFailed) ⊎ (e ≡ NoMemory)) }
         ensures follows { Follows self.old.client.link self.new.client.link }
         ensures no_more { (s : List ℕ) → MayGive self.new.client.link s
@@ -137,10 +139,11 @@ impl<R: Read + Drop, W: Write + Drop> Outbox<R, W> {
         Ok(())
     }
 
-    /// Puts the first item that waits.
+    /// Puts the first item that waits. Where that fails, it waits still.
     fn put_next(&mut self, alloc: Global) -> Result<(), Refusal>
         ensures put { OnOk result (PutsFirst self.old.waiting.items self.old.client.link
             self.new.waiting.items self.new.client.link) }
+        ensures err { OnErr result (self.new.waiting ≡ self.old.waiting) }
         ensures refused { IfErr result (λ e. (e ≡ SourceFailed) ⊎ (e ≡ NoMemory)) }
         ensures follows { Follows self.old.client.link self.new.client.link }
         ensures no_more { (s : List ℕ) → MayGive self.new.client.link s
@@ -149,21 +152,27 @@ impl<R: Read + Drop, W: Write + Drop> Outbox<R, W> {
         ensures failures { self.new.failures ≡ self.old.failures }
     {
         self.send_ahead(alloc);
-        let Some(item) = self.waiting.pop_front() else {
+        let Some(item) = self.waiting.front() else {
             return Ok(());
         };
-        self.sent = self.sent.saturating_sub(1);
-        match self.client.put(alloc, item.as_slice()) {
-            Ok(_) => Ok(()),
-            Err(refusal) => Err(of_source(refusal)),
+        if let Err(refusal) = self.client.put(alloc, item.as_slice()) {
+            return Err(of_source(refusal));
         }
+        let _put = self.waiting.pop_front();
+        self.sent = self.sent.saturating_sub(1);
+        Ok(())
     }
 
     /// Puts all items that wait, and hands in a commit by its bytes. Returns the number of its
-    /// record. The refusals of `settle`, and then of `Client::commit`.
+    /// record. The refusals are those of `settle`, and then of `Client::commit`; items that weren't
+    /// put wait still.
     pub fn hand_in(&mut self, alloc: Global, commit: Vec<u8>) -> Result<u64, Refusal>
         ensures handed_in { IfOk result (IsHandedIn (contents self.old.waiting.items) commit.items
             self.old.client.link self.new.client.link) }
+        ensures err { OnErr result (PutsSome (contents self.old.waiting.items)
+            self.old.client.link (contents self.new.waiting.items) self.new.client.link) }
+        ensures refused { IfErr result (IsRefusedHandIn (contents self.old.waiting.items)
+            commit.items self.old.client.link self.new.client.link) }
         ensures follows { Follows self.old.client.link self.new.client.link }
         ensures at_hand { self.new.at_hand ≡ self.old.at_hand }
     {
@@ -177,6 +186,8 @@ impl<R: Read + Drop, W: Write + Drop> Outbox<R, W> {
             self.old.client.link (contents self.new.waiting.items) self.new.client.link) }
         ensures at_hand { OnOk result ((s : List ℕ) → IsAtHand self.new.at_hand s → s ≡ item.now) }
         ensures err { OnErr result (self.new.at_hand ≡ self.old.at_hand) }
+        ensures unput { OnErr result (PutsSome (contents self.old.waiting.items)
+            self.old.client.link (contents self.new.waiting.items) self.new.client.link) }
         ensures refused { IfErr result (λ e. (e ≡ SourceFailed) ⊎ (e ≡ NoMemory)) }
         ensures follows { Follows self.old.client.link self.new.client.link }
         ensures no_more { (s : List ℕ) → MayGive self.new.client.link s
@@ -216,6 +227,8 @@ impl<R: Read + Drop, W: Write + Drop> Outbox<R, W> {
     /// ahead before the request for it is passed by: what lies in a cache above isn't asked for.
     fn get_put(&mut self, alloc: Global, digest: Digest) -> Result<Vec<u8>, Refusal>
         ensures given { IfOk result (λ item. MayGive self.old.client.link item.items) }
+        ensures err { OnErr result (PutsSome (contents self.old.waiting.items)
+            self.old.client.link (contents self.new.waiting.items) self.new.client.link) }
         ensures refused { IfErr result (λ e.
             (e ≡ MissingBlock) ⊎ (e ≡ SourceFailed) ⊎ (e ≡ NoMemory)) }
         ensures follows { Follows self.old.client.link self.new.client.link }
@@ -284,6 +297,9 @@ impl<R: Read + Drop, W: Write + Drop> BlockSource for Outbox<R, W> {
         ensures err { OnErr result ((s : List ℕ)
             → IsAtHand self.new.at_hand s ⊎ MayGive self.new.client.link s
             → IsAtHand self.old.at_hand s ⊎ MayGive self.old.client.link s) }
+        // No item is lost.
+        ensures unput { OnErr result (PutsSome (contents self.old.waiting.items)
+            self.old.client.link (contents self.new.waiting.items) self.new.client.link) }
         ensures counted { self.new.failures
             ≡ failures_after result (sha256 item.now) self.old.failures }
     {

@@ -1,9 +1,10 @@
 // What a run does with one line of a script.
-ghost use Rattle.std.specs.Prelude.{◌≡◌, ◌⊎◌, ℕ, List, false, Result, IfOk, OnOk, OnErr};
+ghost use Rattle.std.specs.Prelude.{◌≡◌, ◌⊎◌, ℕ, List, false, Result, IfErr, IfOk, OnOk, OnErr};
 ghost use Rattle.std.specs.Io.KnownBytes.{Appends};
 ghost use Rattle.su_view.specs.declared.refusals.ViewRefusal.{ViewRefusal as Refusal_};
 ghost use Rattle.su_view.specs.declared.refusals.ViewRefusal.TheVariants.{Plain};
 ghost use Rattle.su_client_work.specs.Member.{OnlyTakes};
+ghost use Rattle.su_client_work.specs.Turn.{IsRefusedTurn};
 ghost use Rattle.su_client_work.specs.Work.{Works};
 ghost use Rattle.su_desk_script.specs.Answer.{bad_text};
 ghost use Rattle.su_client_script.specs.Carrying.{Carries, CarriesChange, CarriesRekey, CarriesSave, CarriesSome, CarriesSomeChange, CarriesSomeRekey, CommitsIn, CommitsSome, CommitsUntil, PlansParts};
@@ -306,6 +307,8 @@ where
     ensures takes { OnlyTakes member.old member.new }
     ensures plans { IfOk result (λ parts.
         PlansParts P.may_connect batches command.now member.old member.new parts.items) }
+    ensures refused { IfErr result
+        (IsRefusedTurn P.may_connect member.old.link member.new.link) }
 {
     let operations = member.plan(program, command)?;
     match cut(alloc, operations, batches) {

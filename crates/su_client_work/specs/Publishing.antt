@@ -16,7 +16,7 @@ use Rattle.su_view.specs.Making.{IsMade}
 use Rattle.su_view.specs.Drafting.{IsOfChange}
 use Rattle.su_view.specs.declared.refusals.ViewRefusal.{ViewRefusal}
 use Rattle.su_client_work.specs.Member.{MemberState, Grew, IsClear, OnlyTakes, ReplacesKey, leaf_behind}
-use Rattle.su_client_work.specs.Turn.{GivesUp, TakesTurn}
+use Rattle.su_client_work.specs.Turn.{GivesUp, IsRefusedTurn, TakesTurn}
 
 -- ---- what is signed
 
@@ -105,6 +105,14 @@ pub record WasStored (change : Change) (s t : MemberState) : Type 0 where
 -- the turn is over: it was given up, or a commit of the change was stored
 abbrev pub EndsTurn : Change → MemberState → MemberState → Type 0
 EndsTurn change s t = GivesUp s.link t.link ⊎ WasStored change s t
+
+-- Nothing is left of a turn in which a change was to be committed: it wasn't granted, or it was given
+-- up; or a commit of the change was stored.
+abbrev pub IsOver : (LinkState → Type 0) → Change → MemberState → MemberState → ViewRefusal → Type 0
+IsOver MayConnect change s t e =
+    IsRefusedTurn MayConnect s.link t.link e
+    ⊎ ((turn : MemberState) × TakesTurn MayConnect s.link turn.holding turn.link
+    × WasStored change turn t)
 
 -- The client takes its turn and what commits it lacks, and then publishes the change.
 pub record Publishes (MayConnect : LinkState → Type 0) (change_of : HoldingState → Change)

@@ -6,13 +6,13 @@ ghost use Rattle.su_client.specs.Outbox.{contents, IsHandedIn};
 ghost use Rattle.su_desk.specs.History.{last_live};
 ghost use Rattle.su_legal.specs.Legal.{history};
 ghost use Rattle.su_lms.specs.PrivateKey.{key_of};
-ghost use Rattle.su_op.specs.declared.operations.Change.TheVariants.{Undo};
+ghost use Rattle.su_op.specs.declared.operations.Change.TheVariants.{Rekey, Undo};
 ghost use Rattle.su_plan.specs.Plan.{plan};
 ghost use Rattle.su_version.specs.Chain.{IsSignedBy};
 ghost use Rattle.su_view.specs.Holding.{tree_of_list};
 ghost use Rattle.su_view.specs.Making.{own_key};
 ghost use Rattle.su_client_work.specs.Member.{IsClear, OnlyAsks, OnlyTakes, Stays};
-ghost use Rattle.su_client_work.specs.Publishing.{always, last_undo, CommitsAtMost, EndsTurn, HandsIn, IsPublished, Publishes, Rekeys, RekeysAtMost, SignsAtMost, SignsNone, TakesOwn};
+ghost use Rattle.su_client_work.specs.Publishing.{always, last_undo, CommitsAtMost, EndsTurn, HandsIn, IsOver, IsPublished, Publishes, Rekeys, RekeysAtMost, SignsAtMost, SignsNone, TakesOwn};
 ghost use Rattle.su_client_work.specs.Turn.{Comes, GivesUp, IsRefusedTurn, TakesTurn};
 ghost use Rattle.su_client_work.specs.Work.{Works};
 
@@ -21,6 +21,7 @@ use crate::members::Member;
 use crate::surroundings::Surroundings;
 use std::alloc::Global;
 use std::io::{Read, Write};
+use su_block::digest_of;
 use su_bytes::Refusal;
 use su_client::Outbox;
 use su_lms::{KeyStore, Signer};
@@ -97,6 +98,7 @@ impl<R: Read + Drop, W: Write + Drop, K: KeyStore + Drop> Member<R, W, K> {
         ensures link { Comes A.may_connect self.old.link self.new.link }
         ensures published { IfOk result
             (Publishes A.may_connect (always change) self.old self.new) }
+        ensures over { IfErr result (IsOver A.may_connect change self.old self.new) }
     {
         self.begin(around)?;
         self.publish(change, is_followed)
@@ -116,6 +118,8 @@ impl<R: Read + Drop, W: Write + Drop, K: KeyStore + Drop> Member<R, W, K> {
             × CommitsAtMost (always (Undo number)) self.old result self.new }
         ensures undone { IfOk result (λ n. (number : ℕ)
             × Publishes A.may_connect (always (Undo number)) self.old self.new n) }
+        ensures over { IfErr result (λ e. (number : ℕ)
+            × IsOver A.may_connect (Undo number) self.old self.new e) }
     {
         self.begin(around)?;
         match self.last_live() {
@@ -141,6 +145,8 @@ impl<R: Read + Drop, W: Write + Drop, K: KeyStore + Drop> Member<R, W, K> {
         ensures link { Comes A.may_connect self.old.link self.new.link }
         ensures published { IfOk result
             (Rekeys A.may_connect (key_of signer.key) signer.next self.old self.new) }
+        ensures over { IfErr result
+            (IsOver A.may_connect (Rekey (key_of signer.key)) self.old self.new) }
     {
         let change = Change::Rekey(*signer.public().as_bytes());
         let number = self.change(around, change, false)?;
@@ -194,7 +200,9 @@ impl<R: Read + Drop, W: Write + Drop, K: KeyStore + Drop> Member<R, W, K> {
             key: self.view.key(self.view.user()),
             is_signed: true,
         };
-        self.view.accept_known(commit, bytes.as_slice(), verdict)?;
+        let digest = digest_of(bytes.as_slice());
+        self.view
+            .accept_known(commit, bytes.as_slice(), digest, verdict)?;
         let (number, _) = self.view.head();
         Ok(number)
     }

@@ -105,7 +105,11 @@ fn take_record<S: BlockSource + Drop>(
         commit,
         key,
         verdict,
+        digests,
     } = next;
+    let Some(digests) = digests else {
+        unreachable!()
+    };
     if !is_item(item.as_slice()) {
         return Err(ViewRefusal::Plain(Refusal::TooBig));
     }
@@ -117,7 +121,7 @@ fn take_record<S: BlockSource + Drop>(
         Ok(verdict) => verdict,
         Err(refusal) => return Err(ViewRefusal::Plain(refusal)),
     };
-    view.accept_with(commit, bytes.as_slice(), verdict, item)
+    view.accept_with(commit, bytes.as_slice(), item, digests, verdict)
 }
 
 /// Returns the verdict on a commit's signature, if there is one; else finds it under that key. Fails
@@ -158,9 +162,12 @@ pub(crate) fn take_commit<S: BlockSource + Drop>(
         commit,
         key: _key,
         verdict,
+        digests,
     } = next;
-    match (commit, verdict) {
-        (Ok(commit), Some(verdict)) => view.accept_known(commit, bytes.as_slice(), verdict),
+    match (commit, verdict, digests) {
+        (Ok(commit), Some(verdict), Some(digests)) => {
+            view.accept_known(commit, bytes.as_slice(), digests.commit, verdict)
+        }
         _ => view.accept_bytes(bytes.as_slice()),
     }
 }

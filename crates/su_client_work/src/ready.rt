@@ -78,6 +78,7 @@ impl Fetched {
             key: self.keys.presume(&commit),
             commit,
             verdict: None,
+            digests: None,
         };
         self.records.push(found)?;
         Ok(digest)

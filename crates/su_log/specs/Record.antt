@@ -1,5 +1,6 @@
 -- The next record of a log, and what is known of it.
-use Rattle.std.specs.Prelude.{◌≡◌, ◌≢◌, ◌+◌, ◌⊎◌, ◌↔◌, ℕ, IsTrue, List, [], length, ⊤, Option, Some, None, Result, Ok, Err}
+use Rattle.std.specs.Prelude.{◌≡◌, ◌≢◌, ◌+◌, ◌≤◌, ◌⊎◌, ◌↔◌, ℕ, IsTrue, List, [], length, ⊤, Option, Some, None, Result, Ok, Err}
+use Rattle.sha2.specs.Sha256.{sha256}
 use Rattle.su_bytes.specs.declared.refusals.Refusal.{Refusal}
 use Rattle.su_format.specs.Reading.{Decodes}
 use Rattle.su_version.specs.Commit.{Commit, IsCommit, commit_bytes, commit_format}
@@ -7,6 +8,7 @@ use Rattle.su_version.specs.Chain.{IsSignedBy}
 use Rattle.su_version.specs.declared.chains.Verdict.{Verdict}
 use Rattle.su_log.specs.Part.{BeginWith}
 use Rattle.su_log.specs.Log.{LogRecord, record_bytes, HasNoPart}
+use Rattle.su_log.specs.declared.records.Digests.{Digests}
 use Rattle.su_log.specs.declared.records.Record.{Record}
 use Rattle.su_log.specs.declared.records.Stop.{Stop}
 use Rattle.su_log.specs.declared.records.Stop.TheVariants.{End, Cut, Failed}
@@ -33,9 +35,23 @@ IsVerdict (Ok c) (Some verdict) = IsTrue verdict.is_signed ↔ IsSignedBy verdic
 IsVerdict (Ok c) None = ⊤
 IsVerdict (Err e) verdict = ⊤
 
+-- these are the SHA-256 of the commit's bytes and of the item
+pub record AreDigests (bytes item : List ℕ) (d : Digests) : Type 0 where
+  pub commit_is : d.commit ≡ sha256 bytes
+  pub item_is : d.item ≡ sha256 item
+
+-- the digests of both are found
+abbrev pub AreFound : List ℕ → List ℕ → Option Digests → Type 0
+AreFound bytes item (Some d) = AreDigests bytes item d
+AreFound bytes item None = ⊥
+
+abbrev pub HasDigests : Record → Type 0
+HasDigests r = AreFound r.bytes.items r.item.items r.digests
+
 pub record IsExamined (r : Record) : Type 0 where
   pub read : IsRead r.bytes.items r.commit
   pub verdict : IsVerdict r.commit r.verdict
+  pub digests : HasDigests r
 
 -- ---- what comes next
 
@@ -61,3 +77,10 @@ ReadsNext (Ok r) place input place' known =
     (rest : List ℕ) × BeginsWithRecord input (spelled r) rest × (known ≡ Some rest)
     × (place' ≡ place + length (record_bytes (spelled r)))
 ReadsNext (Err stop) place input place' known = StopsSo stop place input
+
+-- where a log stands that stopped: where it stood, at its end; at the place that is named; or,
+-- where it couldn't be read, no further back
+abbrev pub StaysAt : Stop → ℕ → ℕ → Type 0
+StaysAt End place place' = place' ≡ place
+StaysAt (Cut at) place place' = place' ≡ at
+StaysAt (Failed error) place place' = place ≤ place'

@@ -4,4 +4,4 @@
 mod parts;
 mod records;
 
-pub use records::{Log, Record, Stop};
+pub use records::{Digests, Log, Record, Stop};

@@ -82,6 +82,7 @@ known_then : (x y : Record) → IsRead x.bytes.items x.commit → IsExaminedFrom
 known_then x y read is = record {
   read = subst (λ (z : Record). IsRead z.bytes.items z.commit) (sym is.same) read;
   verdict = is.verdict;
+  digests = is.digests;
 }
 
 -- what was read is examined

@@ -1,7 +1,7 @@
 -- A log of which records are read ahead: what is still to be taken of it.
 use Rattle.std.specs.Prelude.{◌≡◌, ◌+◌, ◌<◌, ℕ, List, [], ◌∷◌, length, map, slice_index_or, Option, Some, None}
 use Rattle.su_log.specs.Log.{LogRecord, record_bytes}
-use Rattle.su_log.specs.Record.{spelled, IsVerdict, BeginsWithRecord, StopsSo}
+use Rattle.su_log.specs.Record.{spelled, IsVerdict, HasDigests, BeginsWithRecord, StopsSo}
 use Rattle.su_log.specs.declared.records.Record.{Record}
 use Rattle.su_log.specs.declared.records.Stop.{Stop}
 
@@ -37,10 +37,12 @@ pub record IsLeft (s : AheadState) (place : ℕ) (input : List ℕ) : Type 0 whe
   pub goes_on : GoesOn (map spelled s.records) place input place' rest
   pub behind : IsBehind s.stop s.place s.known place' rest
 
--- of a record it was found out whether the commit is signed, and nothing else has changed
+-- of a record it was found out whether the commit is signed, and which digests the bytes have, and
+-- nothing else has changed
 pub record IsExaminedFrom (old new : Record) : Type 0 where
   pub verdict : IsVerdict new.commit new.verdict
-  pub same : new ≡ record old { verdict = new.verdict }
+  pub digests : HasDigests new
+  pub same : new ≡ record old { verdict = new.verdict; digests = new.digests }
 
 -- the same of each of these records
 abbrev pub AreExaminedFrom : List Record → List Record → Type 0

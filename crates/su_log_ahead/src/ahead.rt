@@ -20,8 +20,8 @@ const MOST_RECORDS: usize = 256;
 /// Once the records that were read ahead have so many bytes, no more are.
 const MANY_BYTES: usize = 16_777_216;
 
-/// A log of which records are read ahead. Of each of these it is known whether its commit is
-/// signed, unless memory was refused for that.
+/// A log of which records are read ahead. Of each of these the digests are known, and whether its
+/// commit is signed, unless memory was refused for that.
 #[derive(Drop)]
 pub struct Ahead<R: Read> {
     log: Log<R>,
@@ -156,8 +156,9 @@ fn read_records<R: Read + Drop>(
     Ok((records, None))
 }
 
-/// Finds out on all cores which of the commits are signed, each under the key that its record has.
-/// Of a record without a commit, or where memory is refused, it isn't known.
+/// Finds out on all cores which of the commits are signed, each under the key that its record has, and
+/// the digests of their bytes and items. Of a record without a commit, or where memory is refused, it
+/// isn't known whether it is signed.
 pub fn examine<T: Threads + Sync>(rt: &T, alloc: Global, records: &mut [Record])
     ensures { AreExaminedFrom records.old records.new }
 {

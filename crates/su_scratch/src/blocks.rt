@@ -6,7 +6,7 @@ ghost use Rattle.sha2.specs.Sha256.{sha256};
 ghost use Rattle.su_block.specs.Item.{is_item};
 ghost use Rattle.su_block.specs.Failure.{failures_after};
 ghost use Rattle.su_bytes.specs.declared.refusals.Refusal.TheVariants.{MissingBlock, WrongBlock, SourceFailed, TooBig, NoMemory};
-ghost use Rattle.su_scratch.specs.Places.{place_under};
+ghost use Rattle.su_scratch.specs.Places.{AreAlike, place_under};
 ghost use Rattle.su_scratch.specs.contracts.blocks.ScratchBlocks.{the_row};
 
 use crate::places::{Place, Places};
@@ -90,6 +90,7 @@ impl<F: Scratch, S: BlockSource> ScratchBlocks<F, S> {
     fn put_here(&mut self, item: &[u8]) -> Result<Digest, Refusal>
         ensures digest { IfOk result (λ digest. digest ≡ sha256 item.now) }
         ensures left { OnOk result (is_some (place_under self.new.places (sha256 item.now)) ≡ true) }
+        ensures unnoted { OnErr result (AreAlike self.old.places self.new.places) }
         ensures too_big { (result ≡ Err TooBig) ↔ (is_item item.now ≡ false) }
         ensures refused { IfErr result (λ e.
             (e ≡ TooBig) ⊎ (e ≡ SourceFailed) ⊎ (e ≡ NoMemory)) }
@@ -111,6 +112,8 @@ impl<F: Scratch, S: BlockSource> ScratchBlocks<F, S> {
     /// Leaves an item in the scratch, unless it is there.
     fn leave_item(&mut self, digest: Digest, item: &[u8]) -> Result<(), Refusal>
         ensures left { OnOk result (is_some (place_under self.new.places digest) ≡ true) }
+        // What isn't left isn't noted as left.
+        ensures unnoted { OnErr result (AreAlike self.old.places self.new.places) }
         ensures refused { IfErr result (λ e. (e ≡ SourceFailed) ⊎ (e ≡ NoMemory)) }
         ensures more { (s : List ℕ) → F.may_give self.new.scratch s
             → F.may_give self.old.scratch s ⊎ (s ≡ item.now) }
@@ -127,11 +130,11 @@ impl<F: Scratch, S: BlockSource> ScratchBlocks<F, S> {
             count: item.len(),
         };
         self.places.add(&digest, place)?;
-        let appended = self.scratch.append(item);
-        if appended.is_err() {
+        if let Err(refusal) = self.scratch.append(item) {
             self.places.forget(&digest);
+            return Err(refusal);
         }
-        appended
+        Ok(())
     }
 }
 
@@ -199,6 +202,8 @@ impl<F: Scratch, S: BlockSource> BlockSource for ScratchBlocks<F, S> {
         ensures follows { S.follows self.old.source self.new.source }
         // What is left isn't put into the source.
         ensures left { self.old.leaves ≡ true → self.new.source ≡ self.old.source }
+        // What isn't left isn't noted as left.
+        ensures unnoted { OnErr result (AreAlike self.old.places self.new.places) }
         ensures counted { self.new.failures
             ≡ failures_after result (sha256 item.now) self.old.failures }
     {

@@ -1,6 +1,6 @@
 // Where items lie in a scratch.
 ghost use Rattle.std.specs.Prelude.{◌≡◌, Some, OnOk, OnErr, is_some, option_copied};
-ghost use Rattle.su_scratch.specs.Places.{place_under, AlsoHas};
+ghost use Rattle.su_scratch.specs.Places.{place_under, AlsoHas, HasNoLonger};
 
 use std::alloc::{AllocError, Global};
 use std::collections::BTreeMap;
@@ -54,7 +54,9 @@ impl Places {
     }
 
     /// Forgets where the item of a digest lies.
-    pub(crate) fn forget(&mut self, digest: &Digest) {
+    pub(crate) fn forget(&mut self, digest: &Digest)
+        ensures { HasNoLonger digest.now self.old self.new }
+    {
         let _ = self.places.remove(digest.as_bytes());
     }
 }

@@ -67,7 +67,13 @@ impl Section {
         // Nobody pins it from then on.
         ensures for_good { is_elsewhere self.old.elsewhere digest.now ≡ false
             → OnOk result (Recounts digest.now None self.old.pins self.new.pins) }
+        ensures elsewhere { is_elsewhere self.old.elsewhere digest.now ≡ true
+            → (self.new.pins ≡ self.old.pins)
+            × (self.new.held.staying ≡ self.old.held.staying) }
         ensures refused { IfErr result (λ e. e ≡ NoMemory) }
+        // What stays, and what is pinned, doesn't change then.
+        ensures unchanged { OnErr result ((self.new.held.staying ≡ self.old.held.staying)
+            × (self.new.pins ≡ self.old.pins)) }
     {
         if self.elsewhere.contains(digest.as_bytes()) {
             return self.shard.share(alloc, digest, item);

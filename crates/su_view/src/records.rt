@@ -1,5 +1,6 @@
 // How the commits that are held are kept.
 ghost use Rattle.std.specs.Prelude.{◌≡◌, ◌<◌, ◌∷◌, ℕ, List, [], true, length, vec_capacity, IfOk, IfErr, OnOk};
+ghost use Rattle.sha2.specs.Sha256.{sha256};
 ghost use Rattle.su_op.specs.declared.operations.Change.{Change};
 ghost use Rattle.su_bytes.specs.Membership.{Membership};
 ghost use Rattle.su_desk.specs.Trial.{nothing_ready, with_ready};
@@ -13,8 +14,8 @@ ghost use Rattle.su_view.specs.Keeping.{holding_of, if_by, view_of, IsKeeping, J
 
 use crate::kept_commits::KeptCommit;
 use std::alloc::{AllocError, Global};
-use su_block::{BlockSource, digest_of};
-use su_bytes::{Refusal, User};
+use su_block::BlockSource;
+use su_bytes::{Digest, Refusal, User};
 use su_chain::ChainEnd;
 use su_desk::Prepared;
 use su_stored_desk::TrialDesk;
@@ -97,13 +98,14 @@ impl<S: BlockSource> Keeping<S> {
         self.end.reserve()
     }
 
-    /// Adds a commit whose change stands ready, with a copy of it if it is the user's own, its bytes, and
-    /// the item of its change. It takes no memory.
+    /// Adds a commit whose change stands ready, with a copy of it if it is the user's own, its bytes, the
+    /// item of its change, and the digest of its bytes. It takes no memory.
     pub fn push(
         &mut self,
         commit: Commit,
         own: Option<Commit>,
         spelling: Spelling,
+        digest: Digest,
         prepared: Prepared,
     )
         requires kept { IsKeeping S.may_give self.old }
@@ -111,6 +113,7 @@ impl<S: BlockSource> Keeping<S> {
         requires spelling_room { length self.old.spellings.items < vec_capacity self.old.spellings }
         requires key_room { HasRoom self.old.end.used }
         requires own_is { own ≡ if_by self.old.user commit }
+        requires digest { digest ≡ sha256 spelling.commit.items }
         requires joins { (change : Change) × JoinsNext S.may_give self.old commit change
             spelling.commit.items spelling.item.items }
         ensures kept { IsKeeping S.may_give self.new }
@@ -122,7 +125,6 @@ impl<S: BlockSource> Keeping<S> {
           state = nothing_ready (with_ready self.old.desk.state.settled self.old.desk.state.ready);
         } }
     {
-        let digest = digest_of(spelling.commit.as_slice());
         self.own = own.or(self.own.take());
         self.end.push(self.desk.roster(), &commit, digest);
         self.desk.settle(prepared);

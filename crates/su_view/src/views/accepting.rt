@@ -5,6 +5,7 @@ ghost use Rattle.su_bytes.specs.Order.{RefusedBy};
 ghost use Rattle.su_bytes.specs.declared.refusals.Refusal.TheVariants.{MissingBlock, NoMemory};
 ghost use Rattle.su_change.specs.Item.{item_bytes};
 ghost use Rattle.su_legal.specs.Legal.{Committed, commits_of};
+ghost use Rattle.su_log.specs.Record.{AreDigests};
 ghost use Rattle.su_op.specs.declared.operations.Change.{Change as Change_};
 ghost use Rattle.su_part_tree.specs.Loading.{IsLoadRefusal};
 ghost use Rattle.su_version.specs.Chain.{IsSignedBy, MayBeNext, next_order, tip};
@@ -20,11 +21,11 @@ use crate::handles::first_other;
 use crate::lists::first_record;
 use crate::records::{Spelling, copy_of_own};
 use crate::refusals::ViewRefusal;
-use sha2::Sha256;
-use su_block::BlockSource;
+use su_block::{BlockSource, digest_of};
 use su_bytes::{Digest, KEY_LENGTH, Principal, Refusal};
 use su_change::decode;
 use su_desk::Prepared;
+use su_log::Digests;
 use su_version::{Commit, Verdict, VersionStructure};
 
 impl<S: BlockSource> View<S> {
@@ -112,17 +113,19 @@ impl<S: BlockSource> View<S> {
         Ok(self.number())
     }
 
-    /// Takes a commit by its bytes, on whose signature there is a verdict: if that was found under
-    /// the author's key, no signature is checked. The refusals are those of `accept`. A refusal
-    /// leaves the list as it was.
+    /// Takes a commit by its bytes and their digest, on whose signature there is a verdict: if that
+    /// was found under the author's key, no signature is checked. The refusals are those of `accept`.
+    /// A refusal leaves the list as it was.
     pub fn accept_known(
         &mut self,
         commit: Commit,
         bytes: &[u8],
+        digest: Digest,
         verdict: Verdict,
     ) -> Result<(), ViewRefusal>
         requires checked { S.is_checked ≡ true }
         requires bytes { bytes.now ≡ commit_bytes commit }
+        requires digest { digest ≡ sha256 bytes.now }
         requires known { IsTrue verdict.is_signed ↔ IsSignedBy verdict.key commit }
         ensures took { OnOk result ((change : Change_)
             × S.may_give self.old.source (item_bytes change) × Grows S.may_give self.old
@@ -137,20 +140,23 @@ impl<S: BlockSource> View<S> {
         if let Err(refusal) = self.check_known(verdict, &commit) {
             return Err(ViewRefusal::Plain(refusal));
         }
-        self.fetch(commit, bytes)
+        self.fetch(commit, bytes, digest)
     }
 
     /// Takes a commit by its bytes, on whose signature there is a verdict, with the item of its
-    /// change, for which the source isn't asked. `MissingBlock` where the commit names another item;
-    /// else the refusals are those of `accept`. A refusal leaves the list as it was.
+    /// change, for which the source isn't asked, and the digests of both. `MissingBlock` where the
+    /// commit names another item; else the refusals are those of `accept`. A refusal leaves the list
+    /// as it was. No digest of what is given is found anew.
     pub fn accept_with(
         &mut self,
         commit: Commit,
         bytes: &[u8],
-        verdict: Verdict,
         item: Vec<u8>,
+        digests: Digests,
+        verdict: Verdict,
     ) -> Result<(), ViewRefusal>
         requires bytes { bytes.now ≡ commit_bytes commit }
+        requires digests { AreDigests bytes.now item.items digests }
         requires known { IsTrue verdict.is_signed ↔ IsSignedBy verdict.key commit }
         ensures took { OnOk result ((change : Change_) × (item.items ≡ item_bytes change)
             × Grows S.may_give self.old (record { commit = commit; change = change } ∷ [])
@@ -164,11 +170,10 @@ impl<S: BlockSource> View<S> {
         if let Err(refusal) = self.check_known(verdict, &commit) {
             return Err(ViewRefusal::Plain(refusal));
         }
-        let digest = Digest::new(<Sha256 as sha2::Digest>::digest(item.as_slice()));
-        if digest != commit.version().change() {
+        if digests.item != commit.version().change() {
             return Err(ViewRefusal::Plain(Refusal::MissingBlock));
         }
-        self.copy_and_join(commit, bytes, item)
+        self.copy_and_join(commit, bytes, digests.commit, item)
     }
 
     /// Takes a commit by its bytes, with the item of its change, which the source is asked for. The
@@ -189,7 +194,7 @@ impl<S: BlockSource> View<S> {
         if let Err(refusal) = self.check(&commit) {
             return Err(ViewRefusal::Plain(refusal));
         }
-        self.fetch(commit, bytes)
+        self.fetch(commit, bytes, digest_of(bytes))
     }
 
     /// Checks whether a commit may be the next, as `ChainEnd::check` does.
@@ -220,11 +225,12 @@ impl<S: BlockSource> View<S> {
     }
 
     /// Asks the source for the item of the change of a commit that may be the next, and takes the
-    /// commit. A refusal leaves the list as it was.
-    fn fetch(&mut self, commit: Commit, bytes: &[u8]) -> Result<(), ViewRefusal>
+    /// commit, whose bytes have that digest. A refusal leaves the list as it was.
+    fn fetch(&mut self, commit: Commit, bytes: &[u8], digest: Digest) -> Result<(), ViewRefusal>
         requires checked { S.is_checked ≡ true }
         requires next { let v = self.old.holding in MayBeNext v.roster (commits_of v.held) commit }
         requires bytes { bytes.now ≡ commit_bytes commit }
+        requires digest { digest ≡ sha256 bytes.now }
         ensures took { OnOk result ((change : Change_)
             × S.may_give self.old.source (item_bytes change) × Grows S.may_give self.old
             (record { commit = commit; change = change } ∷ []) self.new) }
@@ -235,24 +241,26 @@ impl<S: BlockSource> View<S> {
         ensures err { OnErr result (self.new.holding ≡ self.old.holding) }
         ensures asks { AsksOn S.may_give S.follows self.old self.new }
     {
-        let digest = commit.version().change();
-        let item = match self.keeping.desk.source_mut().get(self.alloc, digest) {
+        let change = commit.version().change();
+        let item = match self.keeping.desk.source_mut().get(self.alloc, change) {
             Ok(item) => item,
             Err(refusal) => return Err(ViewRefusal::Plain(refusal)),
         };
-        self.copy_and_join(commit, bytes, item)
+        self.copy_and_join(commit, bytes, digest, item)
     }
 
-    /// Takes a commit that may be the next, with a copy of its bytes and the item of its change, and
-    /// another copy of it where it is the user's own. The refusals are those of `join`.
+    /// Takes a commit that may be the next, with a copy of its bytes, their digest and the item of its
+    /// change, and another copy of it where it is the user's own. The refusals are those of `join`.
     fn copy_and_join(
         &mut self,
         commit: Commit,
         bytes: &[u8],
+        digest: Digest,
         item: Vec<u8>,
     ) -> Result<(), ViewRefusal>
         requires next { let v = self.old.holding in MayBeNext v.roster (commits_of v.held) commit }
         requires bytes { bytes.now ≡ commit_bytes commit }
+        requires digest { digest ≡ sha256 bytes.now }
         requires named { sha256 item.items ≡ commit.version.change }
         ensures took { OnOk result ((change : Change_) × (item.items ≡ item_bytes change)
             × Grows S.may_give self.old (record { commit = commit; change = change } ∷ [])
@@ -268,25 +276,26 @@ impl<S: BlockSource> View<S> {
         let Ok(own) = copy_of_own(self.alloc, self.keeping.user, &commit, bytes) else {
             return Err(ViewRefusal::Plain(Refusal::NoMemory));
         };
-        self.join(commit, own, copy, item)
+        self.join(commit, own, copy, digest, item)
     }
 
-    /// Takes a commit that may be the next, with a copy of it if it is the user's own, its bytes, and
-    /// the item of its change. `Change`
-    /// where the item is that of no change, or the change is refused; `WrongKey` where the commit
-    /// has another next key of its author than the change names; `WrongHandle` where it holds
-    /// another i-handle than the tree has then; or as a load is refused. A refusal leaves the list as
-    /// it was.
+    /// Takes a commit that may be the next, with a copy of it if it is the user's own, its bytes, their
+    /// digest, and the item of its change. `Change` where the item is that of no change, or the change
+    /// is refused; `WrongKey` where the commit has another next key of its author than the change
+    /// names; `WrongHandle` where it holds another i-handle than the tree has then; or as a load is
+    /// refused. A refusal leaves the list as it was.
     fn join(
         &mut self,
         commit: Commit,
         own: Option<Commit>,
         bytes: Vec<u8>,
+        digest: Digest,
         item: Vec<u8>,
     ) -> Result<(), ViewRefusal>
         requires next { let v = self.old.holding in MayBeNext v.roster (commits_of v.held) commit }
         requires own_is { own ≡ if_by self.old.holding.user commit }
         requires bytes { bytes.items ≡ commit_bytes commit }
+        requires digest { digest ≡ sha256 bytes.items }
         requires named { sha256 item.items ≡ commit.version.change }
         ensures took { OnOk result ((change : Change_) × (item.items ≡ item_bytes change)
             × Grows S.may_give self.old (record { commit = commit; change = change } ∷ [])
@@ -320,7 +329,7 @@ impl<S: BlockSource> View<S> {
             commit: bytes,
             item,
         };
-        self.keeping.push(commit, own, spelling, prepared);
+        self.keeping.push(commit, own, spelling, digest, prepared);
         Ok(())
     }
 }

@@ -3,7 +3,7 @@ use Rattle.su_block.specs.Memory.{Memory}
 use Rattle.su_audit.specs.Audit.{held_by_first}
 use Rattle.su_log_ahead.specs.Ahead.{IsLeft}
 use Rattle.su_log_ahead.proofs.Public.{all_left}
-use Rattle.su_audit.proofs.AuditLemmas.{none_yet, further, at_end, refused_next, told_taken, told_refused, some_taken, some_refused}
+use Rattle.su_audit.proofs.AuditLemmas.{none_yet, further, at_end, refused_next, told_taken, told_refused, some_taken, some_refused, wrote_nothing}
 use Rattle.su_audit.proofs.audits.run_audit.Goals as goal
 
 pub loop-number-init : goal.loop-number-init
@@ -39,3 +39,9 @@ returns-in-Ended-clause-text g c before there = some_taken _ before _ c.tell_tak
 pub returns-in-Refused-clause-text : goal.returns-in-Refused-clause-text
 returns-in-Refused-clause-text g c before there =
     some_refused c.loop-number.number c.in-Refused.refusal before _ c.tell_refused.result (c.tell_refused.ensures before (c.loop-number.invariant.writer ∙ there))
+
+pub returns-in-Failed-clause-prints : goal.returns-in-Failed-clause-prints
+returns-in-Failed-clause-prints g c = λ log before is there. wrote_nothing c.in-Failed.fault before _ (c.loop-number.invariant.writer ∙ there)
+
+pub returns-in-Failed-clause-text : goal.returns-in-Failed-clause-text
+returns-in-Failed-clause-text g c before there = wrote_nothing c.in-Failed.fault before _ (c.loop-number.invariant.writer ∙ there)

@@ -1,7 +1,7 @@
-use Rattle.std.proofs.Common.{◌∙◌, arith, refl}
+use Rattle.std.proofs.Common.{◌∙◌, ap, arith, refl, subst, sym, ℕ, List}
 use Rattle.su_client.specs.Following.{follows_itself, follows_on}
 use Rattle.su_client.specs.Outbox.{contents}
-use Rattle.su_client.proofs.Ahead.{fewer_wait, first_put, none_put, some_wait}
+use Rattle.su_client.proofs.Ahead.{ArePut, fewer_wait, first_put, none_put, on_err, some_put, some_wait}
 use Rattle.su_client.proofs.outboxes.Outbox.settle.Goals as goal
 
 pub loop-alloc-init : goal.loop-alloc-init
@@ -28,3 +28,11 @@ loop-alloc-preserved g c = (
 
 pub returns-in_err-put_next-clause-follows : goal.returns-in_err-put_next-clause-follows
 returns-in_err-put_next-clause-follows g c = follows_on c.args.self.now.client.link c.loop-alloc.self.client.link c.put_next.new.self.client.link c.loop-alloc.invariant.1 c.put_next.ensures.follows
+
+pub returns-in_err-put_next-clause-err : goal.returns-in_err-put_next-clause-err
+returns-in_err-put_next-clause-err g c =
+    on_err c.from_residual.result
+    (some_put (contents c.args.self.now.waiting.items) c.args.self.now.client.link (contents c.put_next.new.self.waiting.items) c.loop-alloc.self.client.link c.put_next.new.self.client.link
+    (subst (λ (left : List (List ℕ)). ArePut (contents c.args.self.now.waiting.items) c.args.self.now.client.link left c.loop-alloc.self.client.link)
+    (ap (λ w. contents w.items) (sym c.in_err-put_next.ensures.err)) c.loop-alloc.invariant.0)
+    c.put_next.ensures.follows)

@@ -3,7 +3,7 @@ use Rattle.std.proofs.lemmas.Result.{err_from_is_err_and}
 use Rattle.su_lms.specs.PrivateKey.{key_of}
 use Rattle.su_op.specs.declared.operations.Change.TheVariants.{Rekey}
 use Rattle.su_client.specs.Link.{LinkState}
-use Rattle.su_client_work.specs.Publishing.{always, CommitsAtMost, Publishes, RekeysAtMost}
+use Rattle.su_client_work.specs.Publishing.{always, CommitsAtMost, IsOver, Publishes, RekeysAtMost}
 use Rattle.su_client_work.specs.Turn.{Comes}
 use Rattle.su_client_work.proofs.Working.{works_then, works_replaced}
 use Rattle.su_client_work.proofs.members.Member.rekey.Goals as goal
@@ -18,6 +18,12 @@ returns-in_err-number-clause-signs g c =
       commits = subst (λ (k : List ℕ). CommitsAtMost (always (Rekey k)) c.args.self.now (Err c.in_err-number.field-0.0) c.change.new.self) key c.in_err-number.ensures.signs;
       replaces = refl;
     })
+
+pub returns-in_err-number-clause-over : goal.returns-in_err-number-clause-over
+returns-in_err-number-clause-over g c =
+    let p = err_from_is_err_and c.from_residual.result c.from_residual.ensures.1 in
+    let key = c.as_bytes.ensures.value ∙ c.public.ensures in
+    rw (p.1, p.2) (subst (λ (k : List ℕ). IsOver g.A.Surroundings.may_connect (Rekey k) c.args.self.now c.change.new.self c.in_err-number.field-0.0) key c.in_err-number.ensures.over)
 
 pub returns-clause-works : goal.returns-clause-works
 returns-clause-works g c =

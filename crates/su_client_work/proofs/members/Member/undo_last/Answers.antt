@@ -1,4 +1,5 @@
-use Rattle.std.proofs.Common.{ℕ, Result, Ok, Err, OnOk, ap, subst, sym, ◌∙◌, ◌≡◌}
+use Rattle.std.proofs.Common.{ℕ, Result, Ok, Err, OnOk, inl, inr, ap, subst, sym, ◌∙◌, ◌≡◌}
+use Rattle.std.proofs.lemmas.Result.{err_from_is_err_and}
 use Rattle.su_client.specs.Link.{Follows}
 use Rattle.su_client.specs.Following.{follows_on}
 use Rattle.su_desk.specs.History.{last_live}
@@ -7,8 +8,8 @@ use Rattle.su_op.specs.declared.operations.Change.TheVariants.{Undo}
 use Rattle.su_view.specs.Holding.{HoldingState}
 use Rattle.su_client_work.specs.Publishing.{IsPublished, SignsAtMost, always, last_undo}
 use Rattle.su_client_work.proofs.Taking.{only_asks, only_stays, only_then}
-use Rattle.su_client_work.proofs.Turns.{comes_on}
-use Rattle.su_client_work.proofs.Undoing.{publishes_undo, publishes_last, undone_last}
+use Rattle.su_client_work.proofs.Turns.{comes_on, gives_turn_up, gives_up_after}
+use Rattle.su_client_work.proofs.Undoing.{over_undo, publishes_undo, publishes_last, undone_last}
 use Rattle.su_client_work.proofs.Working.{commits_none, commits_then, works_takes, works_then}
 use Rattle.su_client_work.proofs.members.Member.undo_last.Goals as goal
 
@@ -23,7 +24,17 @@ returns-in_err-begin-clause-signs g c = λ clear. commits_none last_undo c.args.
 pub returns-in_err-begin-clause-undoes : goal.returns-in_err-begin-clause-undoes
 returns-in_err-begin-clause-undoes g c = (0, commits_none (always (Undo 0)) c.args.self.now _ c.begin.new.self c.begin.ensures.takes)
 
+pub returns-in_err-begin-clause-over : goal.returns-in_err-begin-clause-over
+returns-in_err-begin-clause-over g c =
+    let p = err_from_is_err_and c.from_residual.result c.from_residual.ensures.1 in
+    rw (p.1, p.2) (0, inl c.in_err-begin.ensures.refused)
+
 -- ---- it was published
+
+pub returns-in-Ok-clause-over : goal.returns-in-Ok-clause-over
+returns-in-Ok-clause-over g c =
+    over_undo _ c.publish.result c.in-Ok.last c.args.self.now c.begin.new.self c.last_live.new.self c.publish.new.self c.in_ok-begin.ensures.turn
+    c.last_live.ensures.asks c.last_live.ensures.follows c.publish.ensures.ends
 
 pub returns-in-Ok-clause-works : goal.returns-in-Ok-clause-works
 returns-in-Ok-clause-works g c =
@@ -93,4 +104,11 @@ returns-in-Err-clause-undoes g c = (
       (only_then c.args.self.now c.begin.new.self c.give_up.new.self c.begin.ensures.takes
       (only_then c.begin.new.self c.last_live.new.self c.give_up.new.self (only_asks c.begin.new.self c.last_live.new.self c.last_live.ensures.asks)
       (only_stays c.last_live.new.self c.give_up.new.self c.give_up.ensures.stays))),
+)
+
+pub returns-in-Err-clause-over : goal.returns-in-Err-clause-over
+returns-in-Err-clause-over g c = (
+  0,
+  inl (inr (gives_turn_up _ c.args.self.now.link c.begin.new.self.holding c.begin.new.self.link c.give_up.new.self.link c.in_ok-begin.ensures.turn
+      (gives_up_after c.begin.new.self.link c.last_live.new.self.link c.give_up.new.self.link c.last_live.ensures.follows c.give_up.ensures.gives_up))),
 )

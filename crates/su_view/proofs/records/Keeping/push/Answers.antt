@@ -14,7 +14,7 @@ use Rattle.su_view.proofs.records.Keeping.push.Given.{Over}
 use Rattle.su_view.proofs.records.Keeping.push.Goals as goal
 
 pub new-requires : goal.new-requires
-new-requires g c = c.digest_of-digest.ensures ∙ ap sha256 (c.as_slice.ensures.value ∙ c.requires.joins.1.bytes_are)
+new-requires g c = c.requires.digest ∙ ap sha256 c.requires.joins.1.bytes_are
 
 settled_is : (g : Over) (c : goal.After-push_reserved-2 g) (change : Change) → JoinsNext g.S.BlockSource.may_give c.args.self.now c.args.commit change c.args.spelling.commit.items c.args.spelling.item.items
     → c.settle.new.self.state.settled ≡ with_entry c.args.self.now.desk.state.settled (entry_made c.args.commit change)
