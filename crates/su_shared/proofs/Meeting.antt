@@ -1,17 +1,16 @@
 -- What a seat may be refused.
 use Rattle.std.proofs.Common.{◌≡◌, ◌≢◌, ◌⊎◌, ℕ, ◌==◌, Bool, true, false, List, Option, None, Some, refl, ap, sym, ◌∙◌, subst, arith, inl, inr}
 use Rattle.std.proofs.lemmas.Bool.Decides.{nat_tests}
-use Rattle.std.specs.Prelude.{Result, Err}
 use Rattle.su_bytes.specs.declared.refusals.Refusal.{Refusal}
 use Rattle.su_bytes.proofs.Public.{EachSays, refused_says}
 use Rattle.su_version.specs.Commit.{Commit}
-use Rattle.su_bytes.specs.declared.refusals.Refusal.TheVariants.{Busy, NotYourTurn, BookFull, NoMemory}
+use Rattle.su_bytes.specs.declared.refusals.Refusal.TheVariants.{Busy, NotYourTurn, BookFull, SourceFailed, NoMemory}
 use Rattle.su_book.specs.declared.events.Event.{Event}
 use Rattle.su_book.specs.declared.events.Event.TheVariants as event
 use Rattle.su_book.specs.Machine.{BookState, storing_order, IsUnfit, IsRefused, holder_of}
 use Rattle.su_shared.specs.declared.seats.Kept.{Kept}
 use Rattle.std.specs.Global.{Vec}
-use Rattle.su_shared.specs.Shares.{IsCommitRefusal, IsStepRefusal, IsStorable, IsStoreFault, MayMeet, MayMeetOrFull, is_grant, has_turn}
+use Rattle.su_shared.specs.Shares.{IsCommitRefusal, IsStepRefusal, IsStorable, IsUnmadeStep, MayMeet, MayMeetOrFull, is_grant, has_turn}
 
 has_no_turn : (seat : ℕ) (h : Option ℕ) → h ≢ Some seat → has_turn seat h ≡ false
 has_no_turn seat None none = refl
@@ -89,10 +88,13 @@ module _ (b : BookState) (seat : ℕ) (k : Kept) (told : k.turn ≡ has_turn sea
         without = λ none _. absurd cc;
       }
 
-  fault_says : {F : Type 0} (x : Refusal) → IsStoreFault F x → NotOfTheTurn x
+  failed_says : (x : Refusal) → x ≡ SourceFailed → NotOfTheTurn x
   unfolding NotOfTheTurn
-  fault_says x (inl full) = ((λ n is. absurd cc), (λ is. absurd cc))
-  fault_says x (inr (failed, _)) = ((λ n is. absurd cc), (λ is. absurd cc))
+  failed_says x failed = ((λ n is. absurd cc), (λ is. absurd cc))
+
+  full_says : (x : Refusal) → x ≡ BookFull → NotOfTheTurn x
+  unfolding NotOfTheTurn
+  full_says x full = ((λ n is. absurd cc), (λ is. absurd cc))
 
   -- whose commit isn't stored, has the turn
   not_stored_meets : (e : Event) (x : Refusal) → NotOfTheTurn x → IsStorable b seat e → MayMeet k seat (is_grant e) x
@@ -100,28 +102,32 @@ module _ (b : BookState) (seat : ℕ) (k : Kept) (told : k.turn ≡ has_turn sea
   not_stored_meets (event.Commit bytes) x other (n, c, spelled, may) = holder_meets false x other may.turn
   not_stored_meets event.Give x other storable = absurd storable
 
-  pub meets : {F : Type 0} (e : Event) (x : Refusal) → IsStepRefusal F b seat e x → MayMeet k seat (is_grant e) x
+  meets : {F : Type 0} (e : Event) (x : Refusal) → IsStepRefusal F b seat e x → MayMeet k seat (is_grant e) x
   meets e x (inl refused) = refused_meets e x refused
   meets e x (inr (inl none)) = no_memory_meets k seat (is_grant e) x none.0
-  meets {F = F} e x (inr (inr (fault, storable))) = not_stored_meets e x (fault_says {F = F} x fault) storable
+  meets e x (inr (inr (failed, may, storable))) = not_stored_meets e x (failed_says x failed) storable
+
+  pub unmade_meets : (F : Type 0) (e : Event) (x : Refusal) (taken : Option ℕ) → IsUnmadeStep F b seat e x taken → MayMeet k seat (is_grant e) x
+  unmade_meets F e x None refused = meets e x refused
+  unmade_meets F e x (Some number) (full, is, storable) = not_stored_meets e x (full_says x full) storable
 
 -- ---- the bytes of a commit
 
 -- a seat that isn't the book's is refused so, and one that is as the book or the lock refuses it
-pub refused_commit : {X F : Type 0} (b : BookState) (n : ℕ) (same : Vec ℕ) (bytes : List ℕ) (e : Refusal) (Is : Type 0) → same.items ≡ bytes
-    → Is ⊎ (◌≡◌ {A = Result X Refusal} (Err e) (Err BookFull))
-    → (Is → IsStepRefusal F b n (event.Commit same) e)
+pub refused_commit : {F : Type 0} (b : BookState) (n : ℕ) (same : Vec ℕ) (bytes : List ℕ) (e : Refusal) (taken : Option ℕ) (Is : Type 0) → same.items ≡ bytes
+    → Is ⊎ ((e ≡ BookFull) × (taken ≡ None))
+    → (Is → IsUnmadeStep F b n (event.Commit same) e taken)
     → IsCommitRefusal F n bytes e
-refused_commit b n same bytes e Is spelled (inr full) refused = let is : e ≡ BookFull = cc in inr (inr (inl is))
-refused_commit b n same bytes e Is spelled (inl is) refused = elim (refused is) [
+refused_commit b n same bytes e taken Is spelled (inr (full, none)) refused = inr (inr (inl full))
+refused_commit b n same bytes e None Is spelled (inl is) refused = elim (refused is) [
   | inl by_book ↦ inl (b, same, spelled, by_book)
   | inr (inl none) ↦ inr (inl none.0)
-  | inr (inr (inl full, storable)) ↦ inr (inr (inl full))
-  | inr (inr (inr failed, storable)) ↦ inr (inr (inr failed))
+  | inr (inr (failed, may, storable)) ↦ inr (inr (inr (failed, may)))
 ]
+refused_commit b n same bytes e (Some number) Is spelled (inl is) refused = inr (inr (inl (refused is).0))
 
 -- what a seat of the book meets, and one that isn't told apart
-pub meets_or_full : {X : Type 0} (k : Kept) (n : ℕ) (grant : Bool) (e : Refusal) (Is : Type 0)
-    → Is ⊎ (◌≡◌ {A = Result X Refusal} (Err e) (Err BookFull)) → (Is → MayMeet k n grant e) → MayMeetOrFull k n grant e
-meets_or_full k n grant e Is (inl is) meets = inl (meets is)
-meets_or_full k n grant e Is (inr full) meets = let is : e ≡ BookFull = cc in inr is
+pub meets_or_full : (k : Kept) (n : ℕ) (grant : Bool) (e : Refusal) (taken : Option ℕ) (Is : Type 0)
+    → Is ⊎ ((e ≡ BookFull) × (taken ≡ None)) → (Is → MayMeet k n grant e) → MayMeetOrFull k n grant e
+meets_or_full k n grant e taken Is (inl is) meets = inl (meets is)
+meets_or_full k n grant e taken Is (inr (full, none)) meets = inr full

@@ -184,16 +184,26 @@ IsStorable b seat (event.Commit bytes) =
     (n : ℕ) × (c : Commit) × (bytes.items ≡ commit_bytes c) × MayBeStored b seat n c
 IsStorable b seat _ = ⊥
 
--- a record couldn't be stored: its cell didn't take it, or the keeper failed, where it may
-abbrev pub IsStoreFault : Type 0 → Refusal → Type 0
-IsStoreFault may_fail refusal = (refusal ≡ BookFull) ⊎ ((refusal ≡ SourceFailed) × may_fail)
-
 -- Why the step isn't made that a seat asks for: the book refuses it; or there is no memory, but for
--- giving the turn back; or the book takes the commit, and it couldn't be stored.
+-- giving the turn back; or the book takes the commit, and the keeper failed, where it may.
 abbrev pub IsStepRefusal : Type 0 → BookState → ℕ → Event → Refusal → Type 0
 IsStepRefusal may_fail b seat e refusal =
     IsRefused b seat e refusal ⊎ (((refusal ≡ NoMemory) × (e ≢ event.Give))
-    ⊎ (IsStoreFault may_fail refusal × IsStorable b seat e))
+    ⊎ ((refusal ≡ SourceFailed) × may_fail × IsStorable b seat e))
+
+-- Why a record isn't stored that an act makes: there is no memory, or the keeper failed, where it may;
+-- or this is its number, and the cell holds one already.
+abbrev pub IsUnstored : Type 0 → Act → Refusal → Option ℕ → Type 0
+IsUnstored may_fail act refusal None = (refusal ≡ NoMemory) ⊎ ((refusal ≡ SourceFailed) × may_fail)
+IsUnstored may_fail act refusal (Some number) =
+    (refusal ≡ BookFull) × ((c : Commit) × (act ≡ Stored number c))
+
+-- The same of a step; or the book takes the commit, and this is the number of its record, of which
+-- the cell holds one already.
+abbrev pub IsUnmadeStep : Type 0 → BookState → ℕ → Event → Refusal → Option ℕ → Type 0
+IsUnmadeStep may_fail b seat e refusal None = IsStepRefusal may_fail b seat e refusal
+IsUnmadeStep may_fail b seat e refusal (Some number) =
+    (refusal ≡ BookFull) × (number ≡ count_of b.journal + 1) × IsStorable b seat e
 
 -- who takes the turn may be refused because another seat has it, for want of memory, or because the
 -- seat was told something else than is kept for it

@@ -2,14 +2,14 @@
 ghost use Rattle.std.specs.Prelude.{◌≡◌, ℕ, ◌<◌, ◌-◌, ◌≤◌, length, replicate, true, None, ◌⊎◌, IfNone, IfErr, IfOk, IfSome, slice_get, Some};
 ghost use Rattle.once_cell.specs.Once.{cell_name};
 ghost use Rattle.sha2.specs.Sha256.{sha256};
-ghost use Rattle.su_bytes.specs.declared.refusals.Refusal.TheVariants.{NoMemory, BookFull, BadNumber};
+ghost use Rattle.su_bytes.specs.declared.refusals.Refusal.TheVariants.{NoMemory, BadNumber};
 ghost use Rattle.su_version.specs.Commit.{commit_bytes};
 ghost use Rattle.su_book.specs.Machine.{IsCapacity};
 ghost use Rattle.su_shared.specs.Entry.{IsBy, contents, kept_as};
 ghost use Rattle.su_shared.specs.Seats.{names_of, known_of};
 ghost use Rattle.su_shared.specs.Shares.{HoldsLast};
 
-use crate::notes::Receipt;
+use crate::notes::{Receipt, Taken};
 use once_cell::race::{Note, OnceBox};
 use std::alloc::{AllocError, Global};
 use std::marker::{Brand, Model, PhantomData};
@@ -188,24 +188,24 @@ impl<K: Keeper> Cells<K> {
         Ok(notes)
     }
 
-    /// Sets the cell of a record that the keeper holds, and gives a receipt for it. `BookFull` where
-    /// the cell doesn't take it.
+    /// Sets the cell of a record that the keeper holds, and gives a receipt for it. Where the cell
+    /// holds a record already, it tells so.
     pub(crate) fn publish<N: BookName>(
         &self,
         keeper: &K,
         entry: Box<Record<K>>,
-    ) -> Result<Receipt<N, K>, Refusal>
+    ) -> Result<Receipt<N, K>, Taken<N, K>>
         requires cells { self.now ≡ N.cells }
         requires number { (0 < entry.value.number) × (entry.value.number ≤ length N.cells) }
         requires kept { HoldsLast K.holds keeper.now (kept_as entry.value) }
         ensures receipt { IfOk result (λ receipt. receipt ≡ entry.value) }
-        ensures refused { IfErr result (λ e. e ≡ BookFull) }
+        ensures taken { IfErr result (λ taken. taken ≡ entry.value.number) }
     {
         let number = entry.number();
         let cell = self.cell((number - 1) as usize);
         let mut note = cell.note();
         if cell.set_as(entry, &mut note).is_err() {
-            return Err(Refusal::BookFull);
+            return Err(Taken::of(number, note));
         }
         Ok(Receipt::of(number, note))
     }

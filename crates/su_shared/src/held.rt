@@ -1,5 +1,5 @@
 // What lies under the lock, beside the keeper.
-ghost use Rattle.std.specs.Prelude.{◌≡◌, ◌≢◌, ◌-◌, ◌+◌, ◌≤◌, ◌<◌, ◌++◌, [], ◌⊎◌, length, true, false, IfSome, IfNone, IfOk, IfErr, OnOk, OnErr, Err, None, Some, vec_len, vec_capacity, option_to_list, replicate, map, slice_get, ℕ, List, ◌∷◌, IsPermutation};
+ghost use Rattle.std.specs.Prelude.{◌≡◌, ◌≢◌, ◌-◌, ◌+◌, ◌≤◌, ◌<◌, ◌++◌, [], ◌⊎◌, length, true, false, IfSome, IfNone, IfOk, IfErr, IsErrAnd, OnOk, OnErr, None, Some, vec_len, vec_capacity, option_to_list, replicate, map, slice_get, ℕ, List, ◌∷◌, IsPermutation};
 ghost use Rattle.std.specs.List.Sorted.{IsNonDecreasingBy};
 ghost use Rattle.su_bytes.specs.declared.refusals.Refusal.TheVariants.{NoMemory, BookFull, BadNumber, SourceFailed};
 ghost use Rattle.su_version.specs.Commit.{Commit, commit_bytes};
@@ -10,9 +10,10 @@ ghost use Rattle.su_book.specs.Machine.{AsksFor, IsRun, Stepped, TellsRecords, c
 ghost use Rattle.su_keeper.specs.Kept.{KeptRecord};
 ghost use Rattle.su_shared.specs.Entry.{contents};
 ghost use Rattle.su_shared.specs.Seats.{Learns};
-ghost use Rattle.su_shared.specs.Shares.{kept_of, kept_after, kept_all, made_of, receipt_for, learned, AreRecords, AreInOrder, IsOrderly, IsFresh, IsStepRefusal, IsStoreFault, LeavesBehind, MayMeet, is_grant, Gives, nothing, AreAll, Knows, EachKnows, IsSeat, last_of};
+ghost use Rattle.su_shared.specs.Shares.{kept_of, kept_after, kept_all, made_of, receipt_for, learned, AreRecords, AreInOrder, IsOrderly, IsFresh, IsUnmadeStep, IsUnstored, LeavesBehind, MayMeet, is_grant, Gives, nothing, AreAll, Knows, EachKnows, IsSeat, last_of};
 
 use crate::cells::{BookName, Cells, Record};
+use crate::faults::Unmade;
 use crate::notes::{Notes, Receipt};
 use crate::seats::{Kept, Seat};
 use std::alloc::Global;
@@ -99,9 +100,9 @@ impl<N: BookName, K: Keeper> Held<N, K> {
     /// Makes the step of the book that a seat asks for. A record that it stores is kept, with the
     /// items that it needs, before its cell is set; where the keeper found one there, it has to be
     /// that one. The refusals are those of `Book::step`; and `BookFull`, before these where what the
-    /// seat was told isn't what is kept for it, and after them where the cell doesn't take the
-    /// record; and after these `SourceFailed`, where the record couldn't be kept. A refusal changes
-    /// nothing but the keeper.
+    /// seat was told isn't what is kept for it; and after these `SourceFailed`, where the record
+    /// couldn't be kept, and `BookFull` where its cell holds one already, which is told then. A
+    /// refusal changes nothing but the keeper.
     pub fn step(
         &mut self,
         alloc: Global,
@@ -110,7 +111,7 @@ impl<N: BookName, K: Keeper> Held<N, K> {
         seat: &mut Seat<N, K>,
         event: Event,
         items: &Vec<Vec<u8>>,
-    ) -> Result<(BookReply, Option<Receipt<N, K>>), Refusal>
+    ) -> Result<(BookReply, Option<Receipt<N, K>>), Unmade<N, K>>
         requires cells { cells.now ≡ N.cells }
         requires holds { ∥ K.holds keeper.old (kept_all self.old.records) ∥₁ }
         ensures holds { ∥ K.holds keeper.new (kept_all self.new.records) ∥₁ }
@@ -137,17 +138,18 @@ impl<N: BookName, K: Keeper> Held<N, K> {
             IfSome r.1 (λ x. Learns seat.old.known x seat.new.known)) }
         ensures fresh { IfOk result (λ r. IsFresh seat.old.kept.top r.0) }
         ensures holder { OnOk result (event ≢ Grant → seat.old.kept.turn ≡ true) }
-        ensures meets { IsSeat seat.old self.old → IfErr result (λ e.
-            MayMeet seat.old.kept seat.old.number (is_grant event) e) }
+        ensures meets { IsSeat seat.old self.old → IfErr result (λ u.
+            MayMeet seat.old.kept seat.old.number (is_grant event) u.refusal) }
         ensures err { OnErr result ((self.new ≡ self.old) × (seat.new ≡ seat.old)) }
-        ensures give { event ≡ Give → IfErr result (λ e. e ≢ NoMemory) }
-        ensures other { IsSeat seat.old self.old ⊎ (result ≡ Err BookFull) }
-        ensures refused { IsSeat seat.old self.old → IfErr result
-            (IsStepRefusal K.may_fail self.old.book seat.old.number event) }
+        ensures give { event ≡ Give → IfErr result (λ u. u.refusal ≢ NoMemory) }
+        ensures other { IsSeat seat.old self.old
+            ⊎ IsErrAnd result (λ u. (u.refusal ≡ BookFull) × (u.taken ≡ None)) }
+        ensures refused { IsSeat seat.old self.old → IfErr result (λ u.
+            IsUnmadeStep K.may_fail self.old.book seat.old.number event u.refusal u.taken) }
     {
         self.orders();
         if !self.is_of(seat) {
-            return Err(Refusal::BookFull);
+            return Err(Unmade::from(Refusal::BookFull));
         }
         let (reply, mut receipt, kept) = self.take(
             alloc,
@@ -271,7 +273,7 @@ impl<N: BookName, K: Keeper> Held<N, K> {
         mut event: Event,
         items: &Vec<Vec<u8>>,
         mark: &mut Share<N>,
-    ) -> Result<(BookReply, Option<Receipt<N, K>>, Kept), Refusal>
+    ) -> Result<(BookReply, Option<Receipt<N, K>>, Kept), Unmade<N, K>>
         requires cells { cells.now ≡ N.cells }
         requires holds { ∥ K.holds keeper.old (kept_all self.old.records) ∥₁ }
         requires number { number < self.old.seats }
@@ -295,17 +297,17 @@ impl<N: BookName, K: Keeper> Held<N, K> {
             (r.2 ≡ kept_after (kept_of number self.old.book.journal) r.0)
             × (r.2 ≡ kept_of number self.new.book.journal)) }
         ensures err { OnErr result (self.new ≡ self.old) }
-        ensures refused { IfErr result
-            (IsStepRefusal K.may_fail self.old.book number event) }
+        ensures refused { IfErr result (λ u.
+            IsUnmadeStep K.may_fail self.old.book number event u.refusal u.taken) }
     {
         let step = self.book.answer(number, &mut event)?;
         let Ok(reply) = self.book.reply(&step.act) else {
-            return Err(Refusal::NoMemory);
+            return Err(Unmade::from(Refusal::NoMemory));
         };
         let receipts = &mut self.receipts;
         let mut stored = store(alloc, cells, keeper, receipts, &step.act, event, items)?;
         let Ok(()) = self.book.apply(step) else {
-            return Err(Refusal::NoMemory);
+            return Err(Unmade::from(Refusal::NoMemory));
         };
         let _steps = self.book.len();
         self.calls.add(mark, 1);
@@ -328,7 +330,7 @@ fn store<N: BookName, K: Keeper>(
     act: &Act,
     event: Event,
     items: &Vec<Vec<u8>>,
-) -> Result<Option<Receipt<N, K>>, Refusal>
+) -> Result<Option<Receipt<N, K>>, Unmade<N, K>>
     requires cells { cells.now ≡ N.cells }
     requires asked { AsksFor event act.now }
     requires number { (n : ℕ) (c : Commit) → act.now ≡ Stored n c
@@ -351,28 +353,33 @@ fn store<N: BookName, K: Keeper>(
           bytes = commit_bytes c;
           items = contents items.now.items;
         })) }
-    ensures refused { IfErr result (λ e. ((e ≡ NoMemory) ⊎ IsStoreFault K.may_fail e)
-        × (event ≢ Grant) × (event ≢ Give)) }
+    ensures refused { IfErr result (λ u.
+        IsUnstored K.may_fail act.now u.refusal u.taken × (event ≢ Grant) × (event ≢ Give)) }
 {
     let (Act::Stored(number, commit), Event::Commit(offer)) = (act, event) else {
         return Ok(None);
     };
     let bytes = offer.into_bytes();
     if receipts.reserve(1).is_err() {
-        return Err(Refusal::NoMemory);
+        return Err(Unmade::from(Refusal::NoMemory));
     }
     let entry = Record::new(alloc, *number, &bytes, items, commit)?;
     let Ok(entry) = Box::new(alloc, entry) else {
-        return Err(Refusal::NoMemory);
+        return Err(Unmade::from(Refusal::NoMemory));
     };
     let Ok(()) = keeper.keep(alloc, bytes.as_slice(), items.as_slice()) else {
-        return Err(Refusal::SourceFailed);
+        return Err(Unmade::from(Refusal::SourceFailed));
     };
-    let Ok(receipt) = cells.publish(keeper, entry) else {
-        keeper.stop();
-        return Err(Refusal::BookFull);
-    };
-    Ok(Some(receipt))
+    match cells.publish(keeper, entry) {
+        Ok(receipt) => Ok(Some(receipt)),
+        Err(taken) => {
+            keeper.stop();
+            Err(Unmade {
+                refusal: Refusal::BookFull,
+                taken: Some(taken),
+            })
+        }
+    }
 }
 
 /// Keeps a second receipt of a new record.

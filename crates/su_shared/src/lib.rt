@@ -12,9 +12,9 @@ mod seats;
 mod shared;
 
 pub use cells::{BookName, Cells, Record};
-pub use faults::BookFault;
+pub use faults::{BookFault, Unmade};
 pub use held::Held;
 pub use laws::{runs_are_orderly, steps_are_counted};
-pub use notes::Receipt;
+pub use notes::{Receipt, Taken};
 pub use seats::{Kept, Seat};
 pub use shared::{Closed, SharedBook, Unshared};

@@ -1,7 +1,7 @@
 // What receipts and seats know of the cells.
 ghost use Rattle.std.specs.Prelude.{◌≡◌, ◌-◌, ◌+◌, ◌<◌, slice_get, slice_index_or, slice_set, length, replicate, IfSome, IfNone, IfOk, None, Some};
 ghost use Rattle.once_cell.specs.Once.{Agrees};
-ghost use Rattle.su_shared.specs.Seats.{known_at, shown, IsReceipt, Learns};
+ghost use Rattle.su_shared.specs.Seats.{known_at, shown, IsReceipt, IsTaken, Learns};
 
 use crate::cells::{BookName, Cells, Record};
 use once_cell::race::Note;
@@ -26,6 +26,25 @@ impl<N: BookName, K: Keeper> Model for Receipt<N, K> {
     ghost view = { λ r. shown r.note.known };
 
     ghost invariant = { λ r. IsReceipt N.cells r.number r.note };
+}
+
+/// Knows that the cell of a number holds a record already. Its model is that number.
+#[derive(Drop)]
+pub struct Taken<N: BookName, K: Keeper> {
+    number: u64,
+    note: Note<Record<K>>,
+    of: PhantomData<N>,
+}
+
+impl<N: BookName, K: Keeper> Model for Taken<N, K> {
+    ghost use Rattle.std.specs.Prelude.{ℕ};
+    ghost use Rattle.su_shared.specs.Seats.{IsTaken};
+
+    ghost Value = { ℕ };
+
+    ghost view = { λ t. t.number };
+
+    ghost invariant = { λ t. IsTaken N.cells t.number t.note };
 }
 
 /// What one seat knows of each cell. Its model is the records that are known, by index.
@@ -74,6 +93,20 @@ impl<N: BookName, K: Keeper> Receipt<N, K> {
         Receipt {
             number: self.number,
             note: self.note.again(),
+            of: PhantomData,
+        }
+    }
+}
+
+impl<N: BookName, K: Keeper> Taken<N, K> {
+    /// Makes it of a note that knows what the cell of this number holds.
+    pub(crate) fn of(number: u64, note: Note<Record<K>>) -> Taken<N, K>
+        requires { IsTaken N.cells number note }
+        ensures { result ≡ number }
+    {
+        Taken {
+            number,
+            note,
             of: PhantomData,
         }
     }

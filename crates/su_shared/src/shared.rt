@@ -141,9 +141,10 @@ impl<N: BookName, K: Keeper> SharedBook<N, K> {
         let locked = &mut *self.locked.lock(rt);
         let keeper = &mut locked.keeper;
         let no_items = Vec::new(alloc);
-        locked
+        let granted = locked
             .held
-            .step(alloc, &self.cells, keeper, seat, Event::Grant, &no_items)
+            .step(alloc, &self.cells, keeper, seat, Event::Grant, &no_items)?;
+        Ok(granted)
     }
 
     /// Stores a commit by its bytes, which is kept with the items that it needs, and gives the turn

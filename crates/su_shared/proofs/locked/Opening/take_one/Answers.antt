@@ -37,9 +37,9 @@ returns-in_err-reply-clause-err g c =
 pub returns-in_err-reply-clause-refused : goal.returns-in_err-reply-clause-refused
 returns-in_err-reply-clause-refused g c =
     let p = err_from_is_err_and c.from_residual-in_err-reply.result c.from_residual-in_err-reply.ensures.1 in
-    let e : Refusal = c.in_err-reply.field-0.0 in
+    let e : Refusal = c.in_err-reply.field-0.0.refusal in
     let number : c.step.new.seat.number ≡ c.args.seat.now.number = ap (λ (s : SeatView). s.number) c.in_ok-step.ensures.seat in
-    let refused = refused_commit c.step.new.self.book c.step.new.seat.number c.new.result c.new.result.items e _ refl c.in_err-reply.ensures.other c.in_err-reply.ensures.refused in
+    let refused = refused_commit c.step.new.self.book c.step.new.seat.number c.new.result c.new.result.items e c.in_err-reply.field-0.0.taken _ refl c.in_err-reply.ensures.other c.in_err-reply.ensures.refused in
     rw (p.1, p.2) (subst (λ (n : ℕ). IsRecordRefusal g.K.Keeper.may_fail n e) number (inr (inr (c.new.result.items, refused))))
 
 pub returns-clause-taken : goal.returns-clause-taken
