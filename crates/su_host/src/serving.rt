@@ -88,7 +88,7 @@ where
     serve_until_asked(&setting, terms, roster, options.store)
 }
 
-/// Serves, and ends once standard input asks for it.
+/// Serves, and ends once standard input asks for it; where no thread can wait for that, at once.
 fn serve_until_asked<T>(
     setting: &Setting<'_, T>,
     terms: Terms,
@@ -106,12 +106,18 @@ where
         move |scope| -> bool
             requires { IsSync T.row }
         {
-            let _spawned = scope.spawn(move || {
+            let asking = scope.spawn(move || {
                 if is_asked_to_stop(rt, host, over) {
                     ends.stop.set();
                     wake(host, terms.address);
                 }
             });
+            if asking.is_err() {
+                return tell_fault(
+                    rt,
+                    "no thread for standard input, which may ask for the end",
+                );
+            }
             let good = match store {
                 Some(folder) => serve_kept(setting, terms, roster, folder),
                 None => serve_over(setting, terms, roster, Forgetful).0,
