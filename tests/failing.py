@@ -38,8 +38,10 @@ runs_of_a_kind = RUNS
 # program the number of calls follows.
 SHIM = r"""
 #define _GNU_SOURCE
+#include <dlfcn.h>
 #include <errno.h>
 #include <fcntl.h>
+#include <pthread.h>
 #include <stdio.h>
 #include <stdlib.h>
 #include <string.h>
@@ -126,6 +128,15 @@ int fsync(int fd) { return fails(fd, "sync") ? -1 : syscall(SYS_fsync, fd); }
 int fdatasync(int fd) { return fails(fd, "sync") ? -1 : syscall(SYS_fdatasync, fd); }
 int ftruncate(int fd, off_t n) { return fails(fd, "length") ? -1 : syscall(SYS_ftruncate, fd, n); }
 int ftruncate64(int fd, off_t n) { return fails(fd, "length") ? -1 : syscall(SYS_ftruncate, fd, n); }
+
+int pthread_create(pthread_t *to, const pthread_attr_t *how, void *(*work)(void *), void *with)
+{
+    int (*next)(pthread_t *, const pthread_attr_t *, void *(*)(void *), void *) = dlsym(RTLD_NEXT, "pthread_create");
+    if (!strstr(text("FAILS"), "thread") || __atomic_add_fetch(&calls, 1, __ATOMIC_SEQ_CST) != strtoul(text("REFUSED"), 0, 10))
+        return next(to, how, work, with);
+    syscall(SYS_write, atoi(text("TELLING")), "!", 1);
+    return EAGAIN;
+}
 
 /* the program ends so, and no destructor is called */
 void _exit(int status)
@@ -227,12 +238,15 @@ SCRIPT = "; ".join(["0 create G0:1 a U0:2", f"0 write U0:2 0 {'61' * 5000}", "1 
                     "0 undo 5"])
 
 
+WORKERS, MOST_THREADS = 2, 12  # how many threads aren't started, one in each run, at most
+
+
 class Keeping(serving.Running):
     """A server with a store, which listens once this is made, or has ended."""
 
     def __init__(self, room, store, **how):
         self.port = free_port()
-        words = ["serve", "--port", self.port, "--workers", 2, "--capacity", 100, "--store", store, "--cache", 1]
+        words = ["serve", "--port", self.port, "--workers", WORKERS, "--capacity", 100, "--store", store, "--cache", 1]
         super().__init__([*words, *room.publics], **how)
         self.said = self.told.next()
 
@@ -281,8 +295,7 @@ def store_fails(room, records, library, kinds, folder, number):
         stored = handed_in(server.port, records) if server.listens() else 0
         status = server.stop()[2]
     told.read()
-    # (one server was seen that didn't end, and was killed; why isn't known)
-    if status not in (0, 1) and (kinds, status) != ("growth", None):
+    if status not in (0, 1):
         wrong.append(f"status {status}")
     with Keeping(room, store) as server:
         if not server.listens():
@@ -297,11 +310,93 @@ def store_fails(room, records, library, kinds, folder, number):
     return told, wrong
 
 
+def shown_first(port):
+    """The commits that a server gives, each with its item, up to the first that it doesn't give."""
+    found = []
+    try:
+        link = wire.connect(port)
+        for number in range(1, 100):
+            reply = serving.reply_to(link, wire.fetch(number))
+            item = serving.reply_to(link, wire.get(audit_model.commit_in(reply[1])[0].change)) if reply[0] == "kept" else reply
+            if item[0] != "item":
+                break
+            found.append((reply[1], item[1]))
+        link.close()
+    except (OSError, wire.LinkEnded, Refused):
+        pass
+    return found
+
+
+def is_settled(port):
+    """Waits until nobody has the turn: what was on its way to a server is stored then, or never is. Tells whether that came."""
+    link, is_free = wire.connect(port), False
+    for _ in range(int(serving.WAIT * 100)):
+        is_free = serving.reply_to(link, wire.GRANT)[0] == "granted"
+        if is_free:
+            serving.reply_to(link, wire.GIVE)
+            break
+        time.sleep(0.01)
+    link.close()
+    return is_free
+
+
+def kept_is_shown(room, records, kept, library, kinds, folder, number):
+    """A server takes up the records of its store and shows them, or says that it can't and ends; each that it shows is right, and the next
+    server shows them all."""
+    store, wrong = f"{folder}/store", []
+    shutil.copytree(kept, store)
+    told = Told(Shim(library, kinds, store), number)
+    with Keeping(room, store, **told.how) as server:
+        there = shown_first(server.port) if server.listens() else []
+        _, said, status = server.stop()
+    told.read()
+    if status not in (0, 1) or there != records[:len(there)] or not told.met and (status, len(there)) != (0, len(records)):
+        wrong.append(f"status {status}, {said}, {len(there)} were shown")
+    with Keeping(room, store) as server:
+        if not server.listens() or shown(server.port) != records:
+            wrong.append(f"not all are shown: {server.said}")
+        if server.stop()[2] != 0:
+            wrong.append("no end in order")
+    return told, wrong
+
+
+def thread_fails(room, records, library, folder, number):
+    """Where the first thread can't be started, which waits for `stop`, or that of a worker, a server serves nobody, and says so. Without one
+    of those behind the workers', with which it waits, a session may end. The next server goes on."""
+    store, wrong = f"{folder}/store", []
+    os.mkdir(store)
+    told, is_needed = Told(Shim(library, "thread"), number), 0 < number <= 1 + WORKERS
+    with Keeping(room, store, **told.how) as server:
+        stored = handed_in(server.port, records) if server.listens() else 0
+        _, said, status = server.stop()
+    told.read()
+    is_right = (stored, status) == (0, 1) and (said or b"no thread" in server.said) if is_needed else status == 0
+    if not is_right or number == 0 and stored != len(records):
+        wrong.append(f"status {status}, {stored} were stored, {server.said}, {said}")
+    with Keeping(room, store) as server:
+        there = shown(server.port) if server.listens() else []
+        if there[:stored] != records[:stored] or there != records[:len(there)]:
+            wrong.append(f"{stored} were stored, and {len(there)} are there")
+        if handed_in(server.port, records[len(there):]) != len(records) - len(there) or shown(server.port) != records:
+            wrong.append("the rest isn't taken")
+        if server.stop()[2] != 0:
+            wrong.append("no end in order")
+    return told, wrong
+
+
 def store(at, library):
     room = serving.Room(at)
     records = room.log(SCRIPT, form=4).records
     for kinds in ("write", "sync", "length", "read", "growth"):
         yield from each(f"a_{kinds}_of_the_store", at, lambda folder, number, kinds=kinds: store_fails(room, records, library, kinds, folder, number))
+    kept = f"{at}/kept"
+    os.mkdir(kept)
+    with Keeping(room, kept) as server:
+        yield "all_are_kept", server.listens() and handed_in(server.port, records) == len(records) and server.stop()[2] == 0
+    for kinds in ("read", "growth"):
+        yield from each(f"a_{kinds}_of_a_store_with_records", at,
+                        lambda folder, number, kinds=kinds: kept_is_shown(room, records, kept, library, kinds, folder, number))
+    yield from each("a_thread_of_a_server", at, lambda folder, number: thread_fails(room, records, library, folder, number), MOST_THREADS)
 
 
 # ---- a key file at a client
@@ -417,6 +512,8 @@ def links(at, library):
                         lambda folder, number, kinds=kinds: link_fails(room, library, kinds, folder, number), by_the_clock=kinds == "read")
         yield from each(f"a_{kinds}_of_a_server's_connection", at,
                         lambda folder, number, kinds=kinds: server_link_fails(room, library, kinds, folder, number), by_the_clock=kinds == "read")
+        yield from each(f"a_{kinds}_of_the_connection_of_a_client_that_goes_on", at,
+                        lambda folder, number, kinds=kinds: goes_on(room, library, kinds, folder, number), by_the_clock=kinds == "read")
 
 
 # ---- a state folder
@@ -610,19 +707,21 @@ def client_grows(room, library, folder, number):
 GOING_ON = ("create", "undo", "rekey", "create")  # what its lines make, one each
 
 
-def goes_on(room, library, folder, number):
+def goes_on(room, library, kinds, folder, number):
     """Lines that undo, save and go on with another key: what is told as stored is there, what is saved is a log, no leaf signs twice, and
     the client goes on with the key that its user has by then."""
     wrong, keys, saved = [], [f"{folder}/key", f"{folder}/other"], f"{folder}/saved"
     for path, key in zip(keys, (room.keys[0], logs.key_of("goes on", width=4))):
         with open(path, "wb") as file:
             file.write(key.file())
-    told = Told(Shim(library, "growth"), number)
+    told = Told(Shim(library, kinds), number)
     with serving.Server(room, workers=2, port=free_port()) as server:
         with serving.Running(room.words(server.port, 0, key=keys[0]), cwd=folder, **told.how) as client:
             client.write(b"mkdir /a\nundo_last\nsave saved\nrekey other\nmkdir /b\n")
             printed, said, status = client.end()
         told.read()
+        if not is_settled(server.port):
+            wrong.append("the turn isn't given back")
         made = [audit_model.change_in(item)[0] for _, item in shown(server.port)]
         stored = [int(line[3:]) for line in printed if line.startswith(b"ok ")]
         rest = iter(GOING_ON)
@@ -718,7 +817,7 @@ def readings_grow(room, library, at):
 def growths(at, library):
     room = serving.Room(at)
     yield from each("a_growth_of_a_client", at, lambda folder, number: client_grows(room, library, folder, number))
-    yield from each("a_growth_of_a_client_that_goes_on", at, lambda folder, number: goes_on(room, library, folder, number))
+    yield from each("a_growth_of_a_client_that_goes_on", at, lambda folder, number: goes_on(room, library, "growth", folder, number))
     yield from audits_grow(room, library, at)
     yield from each("a_growth_where_a_key_is_made", at, lambda folder, number: key_is_made(library, folder, number))
     yield from readings_grow(room, library, at)

@@ -18,7 +18,8 @@ import wire
 from desk_model import sha256
 
 # Lines that ask for what is left, and are refused where it isn't there.
-ASKING = (b"cat /f1000 0 9", b"write /f1200 0 68", b"remove /f300", b"rename /f40 /k", b"link /f500 /m", b"create /n", b"tidy")
+ASKING = (b"cat /f1000 0 9", b"write /f1200 0 68", b"remove /f300", b"rename /f40 /k", b"link /f500 /m", b"create /n", b"tidy",
+          b"undo 6")
 MANY = 1536  # names of the root: with their inodes and what joins them more than the 1,024 items that a client's cache keeps
 BATCH = 256
 
@@ -30,7 +31,7 @@ class Trees(bad_server.Show):
     def __init__(self, publics, records):
         super().__init__(publics, records)
         self.changes = {sha256(item) for _, item in records}
-        self.how, self.puts, self.gets, self.left = "whole", 0, 0, None
+        self.how, self.puts, self.gets, self.left, self.ends_at = "whole", 0, 0, None, None
 
     def grant(self, seat, field):
         if self.left is not None:
@@ -46,6 +47,8 @@ class Trees(bad_server.Show):
 
     def put(self, seat, item):
         self.puts += 1
+        if self.puts == self.ends_at:
+            raise bad_server.Instead(b"")
         return super().put(seat, item)
 
     def get(self, seat, digest):
@@ -76,18 +79,28 @@ def many(room):
 BATCH_LEAF = 16  # the first leaf that no commit of the list was signed with
 
 
+def large(room):
+    """The records of a list with files of more bytes than wait at a client to be put, a mebibyte; and the lines that `ls /` prints of them."""
+    maker = room.log("; ".join(
+        f"0 batch create G0:1 f{n} U0:{n} + write U0:{n} 0 {n:02x}{'61' * (LARGE_SIZE - 1)}" for n in LARGE), form=4)
+    return maker.records, sorted(b"f%d U0:%d" % (n, n) for n in LARGE)
+
+
+LARGE, LARGE_SIZE = range(2, 20), 60_000
+
+
 class Walk:
     """A client at a server of trees, once it has left its tree there."""
 
-    def __init__(self, at, options=()):
+    def __init__(self, at, options=(), list_of=many):
         self.room, self.options = serving.Room(at), options
-        records, self.names = many(self.room)
+        records, self.names = list_of(self.room)
         self.service = Trees(self.room.public_keys, records)
         self.count = len(records)
 
     def __enter__(self):
         self.server = bad_server.Server(self.service)
-        key = self.room.file(self.room.keys[0].file(BATCH_LEAF))
+        key = self.room.file(self.room.keys[0].file(max(BATCH_LEAF, self.count)))
         self.client = self.room.client(self.server.port, 0, *self.options, key=key)
         return self
 
@@ -136,7 +149,8 @@ def untrusted(at):
             walk.service.how = how
             said = walk.say(b"ls /")
             yield f"a_server_that_{how}: {said[:2]}", said == [refusal]
-            answers = {line: walk.say(line) for line in ASKING}
+            lines = (*ASKING, b"undo_last") if how == "lacks" else ASKING  # (later the last operation is one of which all is at hand)
+            answers = {line: walk.say(line) for line in lines}
             yield f"what_asks_of_a_server_that_{how}: {answers}", all(it == [refusal] for it in answers.values())
             walk.service.how = "whole"
             yield f"and_then_is_whole_after_it_{how}", walk.say(b"ls /") == names
@@ -171,6 +185,42 @@ def ended(at):
         yield f"a_link_that_ends: {end}", serving.is_failed(end, refusal=b"no 7 SourceFailed")
 
 
+def cut_short(at):
+    """A link that ends while the tree is left to the server: what is left of that stays in memory, and nothing is lost. The next line comes
+    over a link that is made anew, over which the tree is left again."""
+    with Walk(at) as walk:
+        walk.service.ends_at = MANY // 2
+        said = walk.say(b"create /g")
+        yield f"the_commit_is_made_before: {said[:2]}", said == [b"ok %d" % (walk.count + 1)]
+        yield f"not_all_is_left: {walk.service.puts}", walk.service.puts == walk.service.ends_at
+        before = walk.service.gets
+        names = walk.say(b"ls /")
+        yield f"its_names: {names[:2]}", names == sorted([*walk.names, b"g G0:2"])
+        yield f"that_the_server_is_not_asked_for: {walk.service.gets - before}", walk.service.gets == before
+        before = walk.service.puts
+        said = walk.say(b"write /g 0 6869")
+        yield f"and_a_commit: {said[:2]}", said == [b"ok %d" % (walk.count + 2)]
+        yield f"behind_which_it_is_left: {walk.service.puts - before}", walk.service.puts - before > MANY
+        yield "and_is_asked_for", walk.say(b"cat /g 0 9") == [b"6869"] and walk.service.gets > 0
+        printed, told, status = walk.client.end()
+        yield f"it_ends: {told} {walk.client.asides}", (printed, told, status) == ([], [], 0) and walk.client.asides == ["without_log", "anew"]
+
+
+def cut_earlier(at):
+    """The same where so many bytes are left that some are put before the others are at hand."""
+    with Walk(at, list_of=large) as walk:
+        walk.service.ends_at = 3
+        said = walk.say(b"create /g")
+        yield f"the_commit_is_made_before: {said[:2]}", said == [b"ok %d" % (walk.count + 1)]
+        yield f"not_all_is_left: {walk.service.puts}", walk.service.puts == walk.service.ends_at
+        names = walk.say(b"ls /")
+        yield f"its_names: {names[:2]}", names == sorted([*walk.names, b"g G0:2"])
+        said = [walk.say(b"cat /f%d %d 9" % (n, offset)) for n in (2, 19) for offset in (0, LARGE_SIZE - 2)]
+        yield f"its_bytes: {said}", said == [[b"%02x" % n + b"61" * 8] if offset == 0 else [b"6161"] for n in (2, 19) for offset in (0, 1)]
+        printed, told, status = walk.client.end()
+        yield f"it_ends: {told} {walk.client.asides}", (printed, told, status) == ([], [], 0) and walk.client.asides == ["without_log", "anew"]
+
+
 def at_a_server(at):
     """The same at the server of the program: a client that left its tree there, and another that comes later."""
     room = serving.Room(at)
@@ -198,7 +248,7 @@ def at_a_server(at):
             yield "which_is_seen", one.say(b"ls /") == both and one.end() == ([], [], 0)
 
 
-PARTS = (left, unleft, untrusted, anew, ended, at_a_server)
+PARTS = (left, unleft, untrusted, anew, ended, cut_short, cut_earlier, at_a_server)
 
 
 def main():
