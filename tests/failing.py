@@ -205,10 +205,11 @@ def spread(count, most):
     return range(1, count + 1, max(1, -(-count // most)))
 
 
-def each(name, at, scenario, most=None, by_the_clock=False):
+def each(name, at, scenario, most=None, sure=None):
     """A scenario with each of its calls failing once, so many of them at most. A scenario gets a folder of its own and the number of the
     call, and returns what the library told and what isn't as it should be. How many calls of a kind there are may go by the clock (a read
-    finds what has come by then, of a message or of several): a run may have too few of them then, but the first one always comes."""
+    finds what has come by then, of a message or of several): then the first ones, `sure` of them, come in each run and are all tried, and a
+    run may have too few of the others."""
     most = most or runs_of_a_kind
     def tried(number):
         folder = f"{at}/{name} {number}"
@@ -219,14 +220,15 @@ def each(name, at, scenario, most=None, by_the_clock=False):
 
     _, whole, wrong = tried(0)
     yield f"{name}_without_a_fault: {wrong}", wrong == [] and not whole.met
-    yield f"{name}_makes_such_calls: {whole.calls}", whole.calls > 0
+    yield f"{name}_makes_such_calls: {whole.calls}", whole.calls >= (sure or 1)
+    numbers = sorted({*range(1, (sure or 1) + 1), *spread(whole.calls, most)})
     with concurrent.futures.ThreadPoolExecutor(RUNS_AT_ONCE) as pool:
-        runs = list(pool.map(tried, spread(whole.calls, most)))
+        runs = list(pool.map(tried, numbers))
     unmet = [number for number, told, _ in runs if not told.met]
-    passed_by = [number for number, told, _ in runs if not told.met and told.calls >= number]
+    passed_by = [number for number, told, _ in runs if not told.met and (told.calls >= number or number <= (sure or 1))]
     wrong = [(number, wrong) for number, _, wrong in runs if wrong]
-    yield f"{name}_each_call_that_came_is_met: {passed_by}", passed_by == [] and 1 not in unmet
-    if not by_the_clock:
+    yield f"{name}_each_call_that_came_is_met: {passed_by}", passed_by == []
+    if sure is None:
         yield f"{name}_each_call_is_met_but_few: {unmet}", len(unmet) * 2 <= len(runs)
     yield f"{name}_nothing_is_lost: {len(wrong)} of {len(runs)}, {wrong[:2]}", wrong == []
     print(f"failing: {name}: {whole.calls} calls, {len(runs)} runs, {len(runs) - len(unmet)} met")
@@ -396,7 +398,8 @@ def store(at, library):
     for kinds in ("read", "growth"):
         yield from each(f"a_{kinds}_of_a_store_with_records", at,
                         lambda folder, number, kinds=kinds: kept_is_shown(room, records, kept, library, kinds, folder, number))
-    yield from each("a_thread_of_a_server", at, lambda folder, number: thread_fails(room, records, library, folder, number), MOST_THREADS)
+    yield from each("a_thread_of_a_server", at, lambda folder, number: thread_fails(room, records, library, folder, number), MOST_THREADS,
+                    sure=1 + WORKERS)
 
 
 # ---- a key file at a client
@@ -509,11 +512,11 @@ def links(at, library):
     room = serving.Room(at)
     for kinds in ("write", "read"):
         yield from each(f"a_{kinds}_of_a_client's_connection", at,
-                        lambda folder, number, kinds=kinds: link_fails(room, library, kinds, folder, number), by_the_clock=kinds == "read")
+                        lambda folder, number, kinds=kinds: link_fails(room, library, kinds, folder, number), sure=1 if kinds == "read" else None)
         yield from each(f"a_{kinds}_of_a_server's_connection", at,
-                        lambda folder, number, kinds=kinds: server_link_fails(room, library, kinds, folder, number), by_the_clock=kinds == "read")
+                        lambda folder, number, kinds=kinds: server_link_fails(room, library, kinds, folder, number), sure=1 if kinds == "read" else None)
         yield from each(f"a_{kinds}_of_the_connection_of_a_client_that_goes_on", at,
-                        lambda folder, number, kinds=kinds: goes_on(room, library, kinds, folder, number), by_the_clock=kinds == "read")
+                        lambda folder, number, kinds=kinds: goes_on(room, library, kinds, folder, number), sure=1 if kinds == "read" else None)
 
 
 # ---- a state folder
