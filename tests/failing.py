@@ -24,6 +24,7 @@ import time
 import audit_model
 import logs
 import serving
+import shims
 import tally
 import wire
 from desk_model import Refused
@@ -193,11 +194,7 @@ class Told:
 
 
 def compiled(at):
-    library = f"{at}/failing.so"
-    with open(f"{at}/failing.c", "w", encoding="utf-8") as file:
-        file.write(SHIM)
-    subprocess.run(["cc", "-O1", "-shared", "-fPIC", "-o", library, f"{at}/failing.c"], check=True)
-    return library
+    return shims.compiled(at, "failing", SHIM)
 
 
 def spread(count, most):
@@ -289,6 +286,22 @@ def shown(port):
     return found
 
 
+def of_next_server(room, store, records, stored):
+    """What isn't as it should be of the server that takes up a store next: it shows the commits that were stored, and takes the others."""
+    wrong = []
+    with Keeping(room, store) as server:
+        if not server.listens():
+            return [f"no further start: {server.said}"]
+        there = shown(server.port)
+        if there[:stored] != records[:stored] or there != records[:len(there)]:
+            wrong.append(f"{stored} were stored, and {len(there)} are there")
+        if handed_in(server.port, records[len(there):]) != len(records) - len(there) or shown(server.port) != records:
+            wrong.append("the rest isn't taken")
+        if server.stop()[2] != 0:
+            wrong.append("no end in order")
+    return wrong
+
+
 def store_fails(room, records, library, kinds, folder, number):
     store, wrong = f"{folder}/store", []
     os.mkdir(store)
@@ -299,17 +312,7 @@ def store_fails(room, records, library, kinds, folder, number):
     told.read()
     if status not in (0, 1):
         wrong.append(f"status {status}")
-    with Keeping(room, store) as server:
-        if not server.listens():
-            return told, [*wrong, f"no further start: {server.said}"]
-        there = shown(server.port)
-        if there[:stored] != records[:stored] or there != records[:len(there)]:
-            wrong.append(f"{stored} were stored, and {len(there)} are there")
-        if handed_in(server.port, records[len(there):]) != len(records) - len(there) or shown(server.port) != records:
-            wrong.append("the rest isn't taken")
-        if server.stop()[2] != 0:
-            wrong.append("no end in order")
-    return told, wrong
+    return told, wrong + of_next_server(room, store, records, stored)
 
 
 def shown_first(port):
@@ -375,15 +378,7 @@ def thread_fails(room, records, library, folder, number):
     is_right = (stored, status) == (0, 1) and (said or b"no thread" in server.said) if is_needed else status == 0
     if not is_right or number == 0 and stored != len(records):
         wrong.append(f"status {status}, {stored} were stored, {server.said}, {said}")
-    with Keeping(room, store) as server:
-        there = shown(server.port) if server.listens() else []
-        if there[:stored] != records[:stored] or there != records[:len(there)]:
-            wrong.append(f"{stored} were stored, and {len(there)} are there")
-        if handed_in(server.port, records[len(there):]) != len(records) - len(there) or shown(server.port) != records:
-            wrong.append("the rest isn't taken")
-        if server.stop()[2] != 0:
-            wrong.append("no end in order")
-    return told, wrong
+    return told, wrong + of_next_server(room, store, records, stored)
 
 
 def store(at, library):

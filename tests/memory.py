@@ -16,6 +16,7 @@ import sys
 import tempfile
 
 import desk_model
+import shims
 import tally
 
 HERE = os.path.dirname(os.path.abspath(__file__))
@@ -185,14 +186,6 @@ class Ended:
         return f"status {self.status}, told {self.told!r}, differs at line {differs}: {self.printed[differs:differs + 3]}, and not {wanted[differs:differs + 3]}"
 
 
-def compiled(at):
-    shim = f"{at}/refusing.so"
-    with open(f"{at}/refusing.c", "w", encoding="utf-8") as file:
-        file.write(SHIM)
-    subprocess.run(["cc", "-O1", "-shared", "-fPIC", "-o", shim, f"{at}/refusing.c"], check=True)
-    return shim
-
-
 def numbers(shim, calls):
     """Which calls are refused, one in each run: those that come in batches and in the lines behind them, which take back what still stands,
     and as many others as may be; and how many calls of batches there are."""
@@ -215,7 +208,7 @@ def refused_once(at):
     if not shutil.which("cc"):
         yield "there is no C compiler", False
         return
-    shim = compiled(at)
+    shim = shims.compiled(at, "refusing", SHIM)
     whole = Ended(shim, 0, SCRIPT)
     yield f"without a refusal all is as it should be: {whole}", whole.kind() == "alike" and not whole.was_refused
     if whole.calls < len(SCRIPT):
@@ -263,7 +256,7 @@ def main():
     with tempfile.TemporaryDirectory() as at:
         results = dict(refused_once(at))
         if shutil.which("cc"):
-            results |= dict(worked_refused_once(compiled(at)))
+            results |= dict(worked_refused_once(shims.compiled(at, "refusing", SHIM)))
         return tally.told("memory", results)
 
 
