@@ -310,7 +310,8 @@ def store_fails(room, records, library, kinds, folder, number):
         stored = handed_in(server.port, records) if server.listens() else 0
         status = server.stop()[2]
     told.read()
-    if status not in (0, 1):
+    # (a server that had no memory for what waits for `stop` serves on, and is killed: docs/SEEN.md)
+    if status not in (0, 1) and (kinds, status) != ("growth", None):
         wrong.append(f"status {status}")
     return told, wrong + of_next_server(room, store, records, stored)
 
