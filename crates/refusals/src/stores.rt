@@ -45,20 +45,8 @@ const WORKS: [Work; 7] = [
     Work::Parts,
 ];
 
-/// More calls than one of these makes, but for those that are passed over.
+/// More calls than one of these makes.
 const MOST_CALLS: u64 = 2_000;
-
-impl Work {
-    /// The number of the call that fails at one attempt after the other. A new forest puts the items
-    /// of some 500 tables that have nothing one after another, of which most are passed over.
-    fn call(self, attempt: u64) -> u64 {
-        if attempt < 4 || self == Work::Trees {
-            attempt
-        } else {
-            attempt.saturating_add(500)
-        }
-    }
-}
 
 /// Does one of these over a source, of which one call fails. Tells whether none has failed.
 fn is_over<S: BlockSource + Drop>(
@@ -114,8 +102,7 @@ pub(crate) fn where_a_store_fails(alloc: Global) -> Result<(), Fault> {
 }
 
 fn where_it_fails(alloc: Global, work: Work) -> Result<(), Fault> {
-    for attempt in 1..MOST_CALLS {
-        let at = work.call(attempt);
+    for at in 1..MOST_CALLS {
         let source = Checked::new(FailOnce::new(MemoryBlocks::new(alloc), at));
         if is_over(alloc, work, source, Refusal::SourceFailed)? {
             return has_called(at);
