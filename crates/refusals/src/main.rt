@@ -14,6 +14,7 @@ mod lapses;
 mod lists;
 mod meets;
 mod parts;
+mod planned;
 mod plans;
 mod rows;
 mod seats;

@@ -1,13 +1,14 @@
 // Each call of a store fails once, lacks an item or gives other bytes; or memory is refused.
 ghost use Rattle.std.specs.Prelude.{◌≡◌, true};
 
-use crate::asked::{plans, reads, why};
+use crate::asked::reads;
 use crate::desks::changes;
 use crate::faults::{Fault, Mistake};
 use crate::forests::operations;
 use crate::lapses::{Lapse, LapseOnce};
 use crate::meets::Meets;
 use crate::parts::parts;
+use crate::planned::{plans, why};
 use crate::seen::Seen;
 use crate::trees::trees;
 use std::alloc::Global;
