@@ -1,8 +1,9 @@
 #!/usr/bin/env python3
 """Tries the program `refusals` where one call for memory is refused, for one after the other until a run meets none, by the library of
-failing.py: rows of signatures, lists of commits, plans and a book's seats, in which a call that is refused has changed nothing, and answers
-once more as the row says; or the values with which a row begins couldn't be made, and are made anew; or the program ends with status 1
-where its start or its output wants the memory. Each of these rows meets a refused call. (Of a desk memory.py tries each call for memory.)
+failing.py: rows of signatures, lists of commits, plans, a book's seats, and of desks, forests and trees that are left on a store before
+each call, in which a call that is refused has changed nothing, and answers once more as the row says; or the values with which a row
+begins couldn't be made, and are made anew; or the program ends with status 1 where its start or its output wants the memory. Each of these
+rows meets a refused call. (Of a desk all of which is in memory memory.py tries each call for memory.)
 
 Prints a line for each case that isn't as it should be, and last 'N passed, M failed'.
 """
@@ -25,8 +26,22 @@ RUNS = 600  # of a row at most: with more calls some are passed over, with equal
 GOOD = "as it should be"
 ANEW = f"{GOOD}, with values that were made anew"
 AGAIN = f"{GOOD}, with a call that was refused, and made once more"
-# The rows that take memory where a call of them could be refused; what fails within the others are reads, writes and calls of a source.
-ROWS = ("as many signatures as leaves", "lists that don't follow", "a wrong i-handle", "plans of two users", "two seats of a book")
+# The rows that take memory where a call of them could be refused, with their numbers; what fails within the others are reads, writes and
+# calls of a source.
+ROWS = {
+    1: "as many signatures as leaves",
+    2: "lists that don't follow",
+    3: "a wrong i-handle",
+    4: "plans of two users",
+    5: "two seats of a book",
+    10: "changes of a desk that is left on its store",
+    11: "questions to a desk that is left on its store",
+    12: "plans on a desk that is left on its store",
+    13: "what stands in the way, on a desk that is left on its store",
+    14: "operations on a forest that is left on its store",
+    15: "trees that are left on a store",
+    16: "parts of a forest that are left on a store",
+}
 
 
 class Ended:
@@ -34,7 +49,7 @@ class Ended:
 
     def __init__(self, library, row, number):
         self.number, told = number, failing.Told(failing.Shim(library, "growth"), number)
-        words = [PROGRAM, str(row + 1)]
+        words = [PROGRAM, str(row)]
         ended = subprocess.run(words, stdin=subprocess.DEVNULL, capture_output=True, timeout=WAIT, check=False, **told.how)
         told.read()
         self.met, self.calls, self.status, self.told = told.met, told.calls, ended.returncode, ended.stderr
@@ -71,7 +86,7 @@ def row_refused(library, row):
 
 
 def refused_once(library):
-    for row in range(len(ROWS)):
+    for row in ROWS:
         yield from row_refused(library, row)
 
 

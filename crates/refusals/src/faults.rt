@@ -33,6 +33,10 @@ pub(crate) enum Mistake {
     Reply,
     /// Another number of calls is made, or there is no end of them.
     Calls,
+    /// A file has other bytes.
+    Content,
+    /// Something else is found, or nothing is.
+    Found,
 }
 
 /// Why a row stops.

@@ -5,9 +5,16 @@
 //! row that is carried out alone.
 #![tactic(auto)]
 
+mod asked;
 mod clients;
+mod desks;
 mod faults;
+mod forests;
+mod lapses;
 mod lists;
+mod meets;
+mod parts;
+mod planned;
 mod plans;
 mod rows;
 mod seats;
@@ -15,6 +22,8 @@ mod seen;
 mod sessions;
 mod signatures;
 mod sources;
+mod stores;
+mod trees;
 
 use faults::Stop;
 use rows::{ROWS, Row, carry_out};

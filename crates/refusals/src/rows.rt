@@ -1,7 +1,9 @@
 // The rows.
 use crate::faults::Fault;
+use crate::lapses::Lapse;
 use crate::seen::Seen;
-use crate::{lists, plans, seats, sessions, signatures, sources};
+use crate::stores::Work;
+use crate::{lists, plans, seats, sessions, signatures, sources, stores};
 use std::alloc::Global;
 use std::sync::Wait;
 use std::thread::Threads;
@@ -29,10 +31,16 @@ pub(crate) enum Row {
     FailingReads,
     /// A session of ten messages of which a write fails.
     FailingWrites,
+    /// What is made over a store that is whole.
+    Store(Work),
+    /// The same over a store that fails once.
+    FailingStores,
+    /// The same over a store that has a lapse.
+    LapsingStores(Lapse),
 }
 
 /// All rows, in the order in which they are carried out.
-pub(crate) const ROWS: [Row; 9] = [
+pub(crate) const ROWS: [Row; 19] = [
     Row::Signatures,
     Row::Lists,
     Row::Handles,
@@ -42,6 +50,16 @@ pub(crate) const ROWS: [Row; 9] = [
     Row::FailingSource,
     Row::FailingReads,
     Row::FailingWrites,
+    Row::Store(Work::Changes),
+    Row::Store(Work::Reads),
+    Row::Store(Work::Plans),
+    Row::Store(Work::Why),
+    Row::Store(Work::Operations),
+    Row::Store(Work::Trees),
+    Row::Store(Work::Parts),
+    Row::FailingStores,
+    Row::LapsingStores(Lapse::Lacks),
+    Row::LapsingStores(Lapse::Lies),
 ];
 
 impl Row {
@@ -57,6 +75,16 @@ impl Row {
             Row::FailingSource => "each call of a source fails once",
             Row::FailingReads => "each read of a session fails once",
             Row::FailingWrites => "each write of a session fails once",
+            Row::Store(Work::Changes) => "changes of a desk that is left on its store",
+            Row::Store(Work::Reads) => "questions to a desk that is left on its store",
+            Row::Store(Work::Plans) => "plans on a desk that is left on its store",
+            Row::Store(Work::Why) => "what stands in the way, on a desk that is left on its store",
+            Row::Store(Work::Operations) => "operations on a forest that is left on its store",
+            Row::Store(Work::Trees) => "trees that are left on a store",
+            Row::Store(Work::Parts) => "parts of a forest that are left on a store",
+            Row::FailingStores => "each call of a store fails once",
+            Row::LapsingStores(Lapse::Lacks) => "a store lacks each item once",
+            Row::LapsingStores(Lapse::Lies) => "a store gives other bytes once for each item",
         }
     }
 }
@@ -94,5 +122,8 @@ fn once<R: Threads + Wait + Clock + Sync>(
         Row::FailingSource => sources::where_a_source_fails(alloc),
         Row::FailingReads => sessions::where_a_read_fails(alloc),
         Row::FailingWrites => sessions::where_a_write_fails(alloc),
+        Row::Store(work) => stores::without_memory(alloc, work, seen),
+        Row::FailingStores => stores::where_a_store_fails(alloc),
+        Row::LapsingStores(lapse) => stores::where_a_store_lapses(alloc, lapse),
     }
 }
