@@ -55,9 +55,21 @@ pub(crate) fn client_over<S: BlockSource + Drop>(
 ) -> Result<Client<S>, Refusal>
     requires { S.is_checked ≡ true }
 {
+    client_of(alloc, roster(alloc)?, user, source)
+}
+
+/// The same of a roster that is there.
+pub(crate) fn client_of<S: BlockSource + Drop>(
+    alloc: Global,
+    roster: Roster,
+    user: u8,
+    source: S,
+) -> Result<Client<S>, Refusal>
+    requires { S.is_checked ≡ true }
+{
     let whose = User::new(u64::from(user))?;
     let key = OwnKey::new(signer(alloc, user)?);
-    let view = View::new(alloc, roster(alloc)?, whose, source)?;
+    let view = View::new(alloc, roster, whose, source)?;
     Ok(Client { view, key })
 }
 

@@ -5,16 +5,23 @@
 //! row that is carried out alone.
 #![tactic(auto)]
 
+mod books;
 mod clients;
 mod faults;
+mod flaws;
+mod items;
+mod keepers;
 mod lists;
 mod plans;
 mod rows;
 mod seats;
 mod seen;
 mod sessions;
+mod shared_books;
 mod signatures;
 mod sources;
+mod views;
+mod whys;
 
 use faults::Stop;
 use rows::{ROWS, Row, carry_out};

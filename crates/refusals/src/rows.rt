@@ -1,7 +1,10 @@
 // The rows.
 use crate::faults::Fault;
+use crate::flaws::Flaw;
 use crate::seen::Seen;
-use crate::{lists, plans, seats, sessions, signatures, sources};
+use crate::{
+    books, items, lists, plans, seats, sessions, shared_books, signatures, sources, views, whys,
+};
 use std::alloc::Global;
 use std::sync::Wait;
 use std::thread::Threads;
@@ -29,10 +32,28 @@ pub(crate) enum Row {
     FailingReads,
     /// A session of ten messages of which a write fails.
     FailingWrites,
+    /// Each call of a view.
+    Views,
+    /// Each call of a view whose source fails once.
+    FailingViews,
+    /// Each call of a view whose source lacks an item once.
+    LackingViews,
+    /// Each call of a view whose source gives another item once.
+    LyingViews,
+    /// Why operations of a view aren't undone yet.
+    Whys,
+    /// Two seats of a book take steps.
+    Books,
+    /// Two seats of a book that is shared take turns.
+    SharedBooks,
+    /// Two seats of a book that is shared take turns, and its keeper fails once.
+    FailingKeeper,
+    /// Items that threads share.
+    Items,
 }
 
 /// All rows, in the order in which they are carried out.
-pub(crate) const ROWS: [Row; 9] = [
+pub(crate) const ROWS: [Row; 18] = [
     Row::Signatures,
     Row::Lists,
     Row::Handles,
@@ -42,6 +63,15 @@ pub(crate) const ROWS: [Row; 9] = [
     Row::FailingSource,
     Row::FailingReads,
     Row::FailingWrites,
+    Row::Views,
+    Row::FailingViews,
+    Row::LackingViews,
+    Row::LyingViews,
+    Row::Whys,
+    Row::Books,
+    Row::SharedBooks,
+    Row::FailingKeeper,
+    Row::Items,
 ];
 
 impl Row {
@@ -57,6 +87,15 @@ impl Row {
             Row::FailingSource => "each call of a source fails once",
             Row::FailingReads => "each read of a session fails once",
             Row::FailingWrites => "each write of a session fails once",
+            Row::Views => "each call of a view",
+            Row::FailingViews => "each call of a view, whose source fails once",
+            Row::LackingViews => "each call of a view, whose source lacks an item once",
+            Row::LyingViews => "each call of a view, whose source gives another item once",
+            Row::Whys => "why an operation isn't undone",
+            Row::Books => "steps of a book",
+            Row::SharedBooks => "turns at a shared book",
+            Row::FailingKeeper => "turns at a shared book, each call of whose keeper fails once",
+            Row::Items => "items that are shared",
         }
     }
 }
@@ -94,5 +133,14 @@ fn once<R: Threads + Wait + Clock + Sync>(
         Row::FailingSource => sources::where_a_source_fails(alloc),
         Row::FailingReads => sessions::where_a_read_fails(alloc),
         Row::FailingWrites => sessions::where_a_write_fails(alloc),
+        Row::Views => views::where_memory_is_refused(alloc, seen),
+        Row::FailingViews => views::where_a_source_has(alloc, Flaw::Fails),
+        Row::LackingViews => views::where_a_source_has(alloc, Flaw::Lacks),
+        Row::LyingViews => views::where_a_source_has(alloc, Flaw::Lies),
+        Row::Whys => whys::of_five_commits(alloc, seen),
+        Row::Books => books::of_two_seats(alloc, seen),
+        Row::SharedBooks => shared_books::where_memory_is_refused(rt, alloc, seen),
+        Row::FailingKeeper => shared_books::where_a_keeper_fails(rt, alloc),
+        Row::Items => items::put_and_shared(rt, alloc, seen),
     }
 }
