@@ -34,6 +34,11 @@ impl FailingKeeper {
         self.left == 0
     }
 
+    /// How many records it keeps.
+    pub(crate) fn count(&self) -> usize {
+        self.records.len()
+    }
+
     /// Counts a call, and tells whether it is the one that fails.
     fn is_due(&mut self) -> bool {
         let is_due = self.left == 1;

@@ -5,6 +5,7 @@
 //! row that is carried out alone.
 #![tactic(auto)]
 
+mod asking;
 mod books;
 mod clients;
 mod faults;
@@ -20,6 +21,8 @@ mod sessions;
 mod shared_books;
 mod signatures;
 mod sources;
+mod taking;
+mod trying;
 mod views;
 mod whys;
 

@@ -5,7 +5,7 @@ use crate::clients::{Client, Items};
 use crate::faults::{Fault, Mistake, check};
 use crate::keepers::FailingKeeper;
 use crate::seen::{Seen, asked_again};
-use crate::views::five_commits;
+use crate::taking::five_commits;
 use std::alloc::Global;
 use std::marker::Brand;
 use std::sync::Wait;
@@ -96,6 +96,7 @@ fn over_keeper<N: BookName, R: Wait>(
     };
     let has_failed = closed.keeper.has_failed();
     check(closed.records == records, Mistake::Book)?;
+    check(closed.keeper.count() as u64 == records, Mistake::Record)?;
     check(has_failed == (seen == Seen::Call), Mistake::Calls)?;
     check(has_failed || records == 2, Mistake::Record)?;
     Ok(has_failed)

@@ -2,7 +2,7 @@
 use crate::clients::{Client, Items};
 use crate::faults::{Fault, Mistake, check};
 use crate::seen::{Seen, again};
-use crate::views::five_commits;
+use crate::taking::five_commits;
 use std::alloc::Global;
 use su_bytes::{FileId, Refusal, User};
 use su_why::{OwnReasons, entries_of, first_of_others, own_reasons_in, reasons_in};
