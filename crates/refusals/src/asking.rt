@@ -9,7 +9,7 @@ use su_bytes::{FileId, Kind, Refusal, User};
 use su_draft::Command;
 use su_files::Stat;
 
-/// The operations with these numbers are live.
+/// Sees that the operations with these numbers are live.
 pub(crate) fn live(
     alloc: Global,
     zero: &mut Client<Source>,
@@ -90,7 +90,7 @@ fn find(
     leave(alloc, zero, trial, seen)
 }
 
-/// The file `a` has these bytes.
+/// Sees that the file `a` has these bytes.
 pub(crate) fn contents(
     alloc: Global,
     zero: &mut Client<Source>,

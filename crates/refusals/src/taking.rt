@@ -7,8 +7,9 @@ use crate::lists::follow;
 use crate::seen::{Seen, view_asked_again};
 use crate::trying::{Source, Trial, Trying, is_same, leave, leave_new, new_trial, set};
 use std::alloc::Global;
-use su_block::{BlockSource, Checked, digest_of};
+use su_block::{Checked, digest_of};
 use su_bytes::{FileId, Principal, Refusal, User};
+use su_lms::{NoStore, Signer};
 use su_log::Digests;
 use su_op::Change;
 use su_version::{Commit, Verdict};
@@ -37,7 +38,16 @@ pub(crate) fn with_three(
     flaw: Flaw,
 ) -> Result<Client<Source>, Fault> {
     let view = view_of_three(alloc, of, flaw)?;
-    Ok(Client::of(view, signer(alloc, 0)?))
+    Ok(Client::of(view, signer_behind_three(alloc)?))
+}
+
+// Makes the key of user 0 of which three leaves have signed.
+fn signer_behind_three(alloc: Global) -> Result<Signer<NoStore>, Refusal> {
+    let mut signer = signer(alloc, 0)?;
+    for _ in 0..3 {
+        signer.sign(b"a commit")?;
+    }
+    Ok(signer)
 }
 
 /// Begins anew with three commits; with a new key where each leaf of the last one has signed.

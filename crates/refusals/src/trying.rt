@@ -27,7 +27,8 @@ pub(crate) struct Trial {
     pub(crate) reading: Vec<u8>,
 }
 
-/// Lets the call of that number of its source have the flaw; 0 where none has. Returns what it was.
+/// Lets the call of that number of a client's source have the flaw, and none where it is 0. Returns what
+/// that number was.
 pub(crate) fn set(zero: &mut Client<Source>, at: u64) -> u64 {
     zero.view.source_mut().source_mut().set(at)
 }
@@ -42,7 +43,7 @@ fn reading_aside(alloc: Global, zero: &mut Client<Source>) -> Result<Vec<u8>, Fa
     Ok(reading)
 }
 
-/// What the view shows before calls of which one may be refused.
+/// Reads what the view shows before calls of which one may be refused.
 pub(crate) fn new_trial(
     alloc: Global,
     zero: &mut Client<Source>,
@@ -57,7 +58,7 @@ pub(crate) fn new_trial(
     })
 }
 
-/// Whether the view shows what it showed before.
+/// Tells whether the view shows what it showed before.
 pub(crate) fn is_same(
     alloc: Global,
     zero: &mut Client<Source>,
