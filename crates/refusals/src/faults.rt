@@ -37,6 +37,12 @@ pub(crate) enum Mistake {
     Content,
     /// Something else is found, or nothing is.
     Found,
+    /// Something else is read of a tree.
+    Reading,
+    /// Something else has to be undone before an operation.
+    Reasons,
+    /// An item is there, or isn't, otherwise.
+    Item,
 }
 
 /// Why a row stops.

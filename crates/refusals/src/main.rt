@@ -6,10 +6,15 @@
 #![tactic(auto)]
 
 mod asked;
+mod asking;
+mod books;
 mod clients;
 mod desks;
 mod faults;
+mod flaws;
 mod forests;
+mod items;
+mod keepers;
 mod lapses;
 mod lists;
 mod meets;
@@ -20,10 +25,15 @@ mod rows;
 mod seats;
 mod seen;
 mod sessions;
+mod shared_books;
 mod signatures;
 mod sources;
 mod stores;
+mod taking;
 mod trees;
+mod trying;
+mod views;
+mod whys;
 
 use faults::Stop;
 use rows::{ROWS, Row, carry_out};

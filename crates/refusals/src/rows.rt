@@ -1,9 +1,13 @@
 // The rows.
 use crate::faults::Fault;
+use crate::flaws::Flaw;
 use crate::lapses::Lapse;
 use crate::seen::Seen;
 use crate::stores::Work;
-use crate::{lists, plans, seats, sessions, signatures, sources, stores};
+use crate::{
+    books, items, lists, plans, seats, sessions, shared_books, signatures, sources, stores, views,
+    whys,
+};
 use std::alloc::Global;
 use std::sync::Wait;
 use std::thread::Threads;
@@ -37,10 +41,28 @@ pub(crate) enum Row {
     FailingStores,
     /// The same over a store that has a lapse.
     LapsingStores(Lapse),
+    /// Each call of a view.
+    Views,
+    /// Each call of a view whose source fails once.
+    FailingViews,
+    /// Each call of a view whose source lacks an item once.
+    LackingViews,
+    /// Each call of a view whose source gives another item once.
+    LyingViews,
+    /// Why operations of a view aren't undone yet.
+    Whys,
+    /// Two seats of a book take steps.
+    Books,
+    /// Two seats of a book that is shared take turns.
+    SharedBooks,
+    /// Two seats of a book that is shared take turns, and its keeper fails once.
+    FailingKeeper,
+    /// Items that threads share.
+    Items,
 }
 
 /// All rows, in the order in which they are carried out.
-pub(crate) const ROWS: [Row; 19] = [
+pub(crate) const ROWS: [Row; 28] = [
     Row::Signatures,
     Row::Lists,
     Row::Handles,
@@ -60,6 +82,15 @@ pub(crate) const ROWS: [Row; 19] = [
     Row::FailingStores,
     Row::LapsingStores(Lapse::Lacks),
     Row::LapsingStores(Lapse::Lies),
+    Row::Views,
+    Row::FailingViews,
+    Row::LackingViews,
+    Row::LyingViews,
+    Row::Whys,
+    Row::Books,
+    Row::SharedBooks,
+    Row::FailingKeeper,
+    Row::Items,
 ];
 
 impl Row {
@@ -85,6 +116,15 @@ impl Row {
             Row::FailingStores => "each call of a store fails once",
             Row::LapsingStores(Lapse::Lacks) => "a store lacks each item once",
             Row::LapsingStores(Lapse::Lies) => "a store gives other bytes once for each item",
+            Row::Views => "each call of a view",
+            Row::FailingViews => "each call of a view, whose source fails once",
+            Row::LackingViews => "each call of a view, whose source lacks an item once",
+            Row::LyingViews => "each call of a view, whose source gives another item once",
+            Row::Whys => "why an operation isn't undone",
+            Row::Books => "steps of a book",
+            Row::SharedBooks => "turns at a shared book",
+            Row::FailingKeeper => "turns at a shared book, each call of whose keeper fails once",
+            Row::Items => "items that are shared",
         }
     }
 }
@@ -125,5 +165,14 @@ fn once<R: Threads + Wait + Clock + Sync>(
         Row::Store(work) => stores::without_memory(alloc, work, seen),
         Row::FailingStores => stores::where_a_store_fails(alloc),
         Row::LapsingStores(lapse) => stores::where_a_store_lapses(alloc, lapse),
+        Row::Views => views::where_memory_is_refused(alloc, seen),
+        Row::FailingViews => views::where_a_source_has(alloc, Flaw::Fails),
+        Row::LackingViews => views::where_a_source_has(alloc, Flaw::Lacks),
+        Row::LyingViews => views::where_a_source_has(alloc, Flaw::Lies),
+        Row::Whys => whys::of_five_commits(alloc, seen),
+        Row::Books => books::of_two_seats(alloc, seen),
+        Row::SharedBooks => shared_books::where_memory_is_refused(rt, alloc, seen),
+        Row::FailingKeeper => shared_books::where_a_keeper_fails(rt, alloc),
+        Row::Items => items::put_and_shared(rt, alloc, seen),
     }
 }
