@@ -15,7 +15,6 @@ mod flaws;
 mod forests;
 mod items;
 mod keepers;
-mod lapses;
 mod lists;
 mod meets;
 mod parts;

@@ -1,7 +1,6 @@
 // The rows.
 use crate::faults::Fault;
 use crate::flaws::Flaw;
-use crate::lapses::Lapse;
 use crate::seen::Seen;
 use crate::stores::Work;
 use crate::{
@@ -37,18 +36,12 @@ pub(crate) enum Row {
     FailingWrites,
     /// What is made over a store that is whole.
     Store(Work),
-    /// The same over a store that fails once.
-    FailingStores,
-    /// The same over a store that has a lapse.
-    LapsingStores(Lapse),
+    /// The same over a store of which one call has a flaw.
+    FlawedStores(Flaw),
     /// Each call of a view.
     Views,
-    /// Each call of a view whose source fails once.
-    FailingViews,
-    /// Each call of a view whose source lacks an item once.
-    LackingViews,
-    /// Each call of a view whose source gives another item once.
-    LyingViews,
+    /// Each call of a view whose source has a flaw once.
+    FlawedViews(Flaw),
     /// Why operations of a view aren't undone yet.
     Whys,
     /// Two seats of a book take steps.
@@ -79,13 +72,13 @@ pub(crate) const ROWS: [Row; 28] = [
     Row::Store(Work::Operations),
     Row::Store(Work::Trees),
     Row::Store(Work::Parts),
-    Row::FailingStores,
-    Row::LapsingStores(Lapse::Lacks),
-    Row::LapsingStores(Lapse::Lies),
+    Row::FlawedStores(Flaw::Fails),
+    Row::FlawedStores(Flaw::Lacks),
+    Row::FlawedStores(Flaw::Lies),
     Row::Views,
-    Row::FailingViews,
-    Row::LackingViews,
-    Row::LyingViews,
+    Row::FlawedViews(Flaw::Fails),
+    Row::FlawedViews(Flaw::Lacks),
+    Row::FlawedViews(Flaw::Lies),
     Row::Whys,
     Row::Books,
     Row::SharedBooks,
@@ -113,13 +106,14 @@ impl Row {
             Row::Store(Work::Operations) => "operations on a forest that is left on its store",
             Row::Store(Work::Trees) => "trees that are left on a store",
             Row::Store(Work::Parts) => "parts of a forest that are left on a store",
-            Row::FailingStores => "each call of a store fails once",
-            Row::LapsingStores(Lapse::Lacks) => "a store lacks each item once",
-            Row::LapsingStores(Lapse::Lies) => "a store gives other bytes once for each item",
+            Row::FlawedStores(Flaw::Fails) => "each call of a store fails once",
+            Row::FlawedStores(Flaw::Lacks) => "a store lacks each item once",
+            Row::FlawedStores(Flaw::Lies) => "a store gives other bytes once for each item",
             Row::Views => "each call of a view",
-            Row::FailingViews => "each call of a view, whose source fails once",
-            Row::LackingViews => "each call of a view, whose source lacks an item once",
-            Row::LyingViews => "each call of a view, whose source gives another item once",
+            Row::FlawedViews(Flaw::Fails) => "each call of a view, whose source fails once",
+            Row::FlawedViews(Flaw::Lacks) => "each call of a view, whose source lacks an item once",
+            Row::FlawedViews(Flaw::Lies) =>
+                "each call of a view, whose source gives another item once",
             Row::Whys => "why an operation isn't undone",
             Row::Books => "steps of a book",
             Row::SharedBooks => "turns at a shared book",
@@ -163,12 +157,9 @@ fn once<R: Threads + Wait + Clock + Sync>(
         Row::FailingReads => sessions::where_a_read_fails(alloc),
         Row::FailingWrites => sessions::where_a_write_fails(alloc),
         Row::Store(work) => stores::without_memory(alloc, work, seen),
-        Row::FailingStores => stores::where_a_store_fails(alloc),
-        Row::LapsingStores(lapse) => stores::where_a_store_lapses(alloc, lapse),
+        Row::FlawedStores(flaw) => stores::where_a_store_has(alloc, flaw),
         Row::Views => views::where_memory_is_refused(alloc, seen),
-        Row::FailingViews => views::where_a_source_has(alloc, Flaw::Fails),
-        Row::LackingViews => views::where_a_source_has(alloc, Flaw::Lacks),
-        Row::LyingViews => views::where_a_source_has(alloc, Flaw::Lies),
+        Row::FlawedViews(flaw) => views::where_a_source_has(alloc, flaw),
         Row::Whys => whys::of_five_commits(alloc, seen),
         Row::Books => books::of_two_seats(alloc, seen),
         Row::SharedBooks => shared_books::where_memory_is_refused(rt, alloc, seen),

@@ -1,11 +1,11 @@
-// Each call of a store fails once, lacks an item or gives other bytes; or memory is refused.
+// Each call of a store has a flaw once, or memory is refused.
 ghost use Rattle.std.specs.Prelude.{◌≡◌, true};
 
 use crate::asked::reads;
 use crate::desks::changes;
 use crate::faults::{Fault, Mistake};
+use crate::flaws::{Flaw, Flawed};
 use crate::forests::operations;
-use crate::lapses::{Lapse, LapseOnce};
 use crate::meets::Meets;
 use crate::parts::parts;
 use crate::planned::{plans, why};
@@ -14,7 +14,6 @@ use crate::trees::trees;
 use std::alloc::Global;
 use su_block::{BlockSource, Checked, MemoryBlocks};
 use su_bytes::Refusal;
-use su_fail_once::FailOnce;
 
 /// What is made over a store.
 #[derive(Clone, Copy, Debug, PartialEq, Eq)]
@@ -93,37 +92,20 @@ pub(crate) fn without_memory(alloc: Global, work: Work, seen: &mut Seen) -> Resu
     Ok(())
 }
 
-/// Does all of these over a store of which one call fails, for one after the other, until there is no
-/// such call.
-pub(crate) fn where_a_store_fails(alloc: Global) -> Result<(), Fault> {
+/// Does all of these over a store of which one call has a flaw, for one after the other, until there
+/// is no such call.
+pub(crate) fn where_a_store_has(alloc: Global, flaw: Flaw) -> Result<(), Fault> {
     for work in WORKS {
-        where_it_fails(alloc, work)?;
+        where_it_has(alloc, flaw, work)?;
     }
     Ok(())
 }
 
-fn where_it_fails(alloc: Global, work: Work) -> Result<(), Fault> {
+fn where_it_has(alloc: Global, flaw: Flaw, work: Work) -> Result<(), Fault> {
     for at in 1..MOST_CALLS {
-        let source = Checked::new(FailOnce::new(MemoryBlocks::new(alloc), at));
-        if is_over(alloc, work, source, Refusal::SourceFailed)? {
-            return has_called(at);
-        }
-    }
-    Err(Fault::Wrong(Mistake::Calls))
-}
-
-/// The same of a store of which one call has a lapse.
-pub(crate) fn where_a_store_lapses(alloc: Global, lapse: Lapse) -> Result<(), Fault> {
-    for work in WORKS {
-        where_it_lapses(alloc, lapse, work)?;
-    }
-    Ok(())
-}
-
-fn where_it_lapses(alloc: Global, lapse: Lapse, work: Work) -> Result<(), Fault> {
-    for at in 1..MOST_CALLS {
-        let source = Checked::new(LapseOnce::new(alloc, lapse, at));
-        if is_over(alloc, work, source, lapse.refusal())? {
+        let mut flawed = Flawed::new(alloc, flaw);
+        let _none = flawed.set(at);
+        if is_over(alloc, work, Checked::new(flawed), flaw.refusal())? {
             return has_called(at);
         }
     }
