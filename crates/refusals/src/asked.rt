@@ -20,6 +20,8 @@ pub(crate) fn reads<S: BlockSource + Drop>(
 ) -> Result<u64, Fault>
     requires { S.is_checked ≡ true }
 {
+    // names the type for the prover (docs/ARCHITECTURE.md, "Forms the kit wants")
+    let _none: Option<FileId> = None;
     let mut desk = TrialDesk::new(alloc, two_users(alloc)?, source)?;
     say_hello(alloc, &mut desk, meets)?;
     what_it_is(&mut desk, meets)?;
@@ -36,6 +38,8 @@ pub(crate) fn say_hello<S: BlockSource>(
     desk: &mut TrialDesk<S>,
     meets: &mut Meets,
 ) -> Result<(), Fault> {
+    // names the type for the prover (docs/ARCHITECTURE.md, "Forms the kit wants")
+    let _none: Option<FileId> = None;
     let number = applied(desk, meets, User::FIRST, &create(alloc, b"a", 2)?)?;
     check(number == 1, Mistake::Commit)?;
     let number = applied(desk, meets, User::FIRST, &write(alloc, 2, b"hello")?)?;

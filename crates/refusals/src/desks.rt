@@ -58,6 +58,8 @@ pub(crate) fn is_settled<S: BlockSource>(
     desk: &mut TrialDesk<S>,
     before: &DeskState,
 ) -> Result<bool, Fault> {
+    // names the type for the prover (docs/ARCHITECTURE.md, "Forms the kit wants")
+    let _none: Option<FileId> = None;
     let now = settled(desk)?;
     Ok(
         now.count == before.count
@@ -71,6 +73,8 @@ pub(crate) fn left<S: BlockSource>(
     desk: &mut TrialDesk<S>,
     meets: &mut Meets,
 ) -> Result<DeskState, Fault> {
+    // names the type for the prover (docs/ARCHITECTURE.md, "Forms the kit wants")
+    let _none: Option<FileId> = None;
     leave(desk, meets)?;
     settled(desk)
 }
@@ -197,6 +201,8 @@ pub(crate) fn says<S: BlockSource>(
     of: FileId,
     bytes: &[u8],
 ) -> Result<(), Fault> {
+    // names the type for the prover (docs/ARCHITECTURE.md, "Forms the kit wants")
+    let _none: Option<FileId> = None;
     let before = left(desk, meets)?;
     let told = once_more!(meets, is_settled(desk, &before)?, read(desk, of))?;
     check(told.as_slice() == bytes, Mistake::Content)
@@ -211,6 +217,8 @@ pub(crate) fn changes<S: BlockSource + Drop>(
 ) -> Result<u64, Fault>
     requires { S.is_checked ≡ true }
 {
+    // names the type for the prover (docs/ARCHITECTURE.md, "Forms the kit wants")
+    let _none: Option<FileId> = None;
     let mut desk = TrialDesk::new(alloc, two_users(alloc)?, source)?;
     let number = made_ready(&mut desk, meets, &create(alloc, b"a", 2)?)?;
     check(number == 1, Mistake::Commit)?;
@@ -218,10 +226,8 @@ pub(crate) fn changes<S: BlockSource + Drop>(
     undo_both(alloc, &mut desk, meets)?;
     batch(alloc, &mut desk, meets)?;
     take_over(alloc, &mut desk, meets)?;
-    check(
-        settled(&mut desk)?.live() == [1, 6, 7, 8].as_slice(),
-        Mistake::Live,
-    )?;
+    let now = settled(&mut desk)?;
+    check(now.live() == [1, 6, 7, 8].as_slice(), Mistake::Live)?;
     Ok(desk.source_mut().failures())
 }
 
@@ -230,6 +236,8 @@ fn says_hello<S: BlockSource>(
     desk: &mut TrialDesk<S>,
     meets: &mut Meets,
 ) -> Result<(), Fault> {
+    // names the type for the prover (docs/ARCHITECTURE.md, "Forms the kit wants")
+    let _none: Option<FileId> = None;
     let number = applied(desk, meets, User::FIRST, &write(alloc, 2, b"hello")?)?;
     check(number == 2, Mistake::Commit)?;
     taken_back(desk, meets, &write(alloc, 2, b"HELLO")?)?;
@@ -241,6 +249,8 @@ fn undo_both<S: BlockSource>(
     desk: &mut TrialDesk<S>,
     meets: &mut Meets,
 ) -> Result<(), Fault> {
+    // names the type for the prover (docs/ARCHITECTURE.md, "Forms the kit wants")
+    let _none: Option<FileId> = None;
     let number = applied(desk, meets, User::FIRST, &create(alloc, b"b", 3)?)?;
     check(number == 3, Mistake::Commit)?;
     check(undone(desk, meets)? == 4, Mistake::Commit)?;
@@ -250,12 +260,15 @@ fn undo_both<S: BlockSource>(
 }
 
 // What user 0 writes and makes as one.
-fn two_operations(alloc: Global) -> Result<[Op; 2], Fault> {
-    match (
-        write(alloc, 2, b"you")?.operation(),
-        create(alloc, b"c", 4)?.operation(),
-    ) {
-        (Some(first), Some(second)) => Ok([first.clone()?, second.clone()?]),
+fn two_operations(alloc: Global) -> Result<Vec<Op>, Fault> {
+    // names the type for the prover (docs/ARCHITECTURE.md, "Forms the kit wants")
+    let _none: Option<FileId> = None;
+    let (first, second) = (write(alloc, 2, b"you")?, create(alloc, b"c", 4)?);
+    match (first.operation(), second.operation()) {
+        (Some(write), Some(create)) => {
+            let operations = vec![in alloc; write.clone()?, create.clone()?]?;
+            Ok(operations)
+        }
         _ => Err(Fault::Wrong(Mistake::Plan)),
     }
 }
@@ -265,12 +278,14 @@ fn batch<S: BlockSource>(
     desk: &mut TrialDesk<S>,
     meets: &mut Meets,
 ) -> Result<(), Fault> {
+    // names the type for the prover (docs/ARCHITECTURE.md, "Forms the kit wants")
+    let _none: Option<FileId> = None;
     let operations = two_operations(alloc)?;
     rehearsed(desk, meets, operations.as_slice())?;
     rehearsed_on(desk, meets, operations.as_slice())?;
-    let [first, second] = operations;
-    let mut batch = Batch::of(alloc, first);
-    batch.push(second)?;
+    let Some(batch) = Batch::of_operations(operations) else {
+        return Err(Fault::Wrong(Mistake::Plan));
+    };
     let number = applied(desk, meets, User::FIRST, &Change::Do(batch))?;
     check(number == 6, Mistake::Commit)?;
     says(desk, meets, file(2)?, b"you")
@@ -281,6 +296,8 @@ fn take_over<S: BlockSource>(
     desk: &mut TrialDesk<S>,
     meets: &mut Meets,
 ) -> Result<(), Fault> {
+    // names the type for the prover (docs/ARCHITECTURE.md, "Forms the kit wants")
+    let _none: Option<FileId> = None;
     let number = applied(desk, meets, other()?, &take(alloc, 2)?)?;
     check(number == 7, Mistake::Commit)?;
     let number = applied(desk, meets, other()?, &write(alloc, 2, b"me")?)?;

@@ -41,6 +41,8 @@ pub(crate) fn operations<S: BlockSource + Drop>(
 ) -> Result<u64, Fault>
     requires { S.is_checked ≡ true }
 {
+    // names the type for the prover (docs/ARCHITECTURE.md, "Forms the kit wants")
+    let _none: Option<FileId> = None;
     let roster = two_users(alloc)?;
     let mut stored = StoredForest::genesis(alloc, &roster, source)?;
     performed(alloc, &mut stored, meets, &create(alloc, b"a", 2)?)?;
@@ -61,6 +63,8 @@ fn performed<S: BlockSource>(
     meets: &mut Meets,
     change: &Change,
 ) -> Result<Inverse, Fault> {
+    // names the type for the prover (docs/ARCHITECTURE.md, "Forms the kit wants")
+    let _none: Option<FileId> = None;
     match change.operation() {
         Some(operation) => performed_one(alloc, stored, meets, operation),
         None => Err(Fault::Wrong(Mistake::Plan)),

@@ -21,6 +21,8 @@ fn root() -> Place {
 
 // Where the file stands.
 fn second() -> Result<Place, Refusal> {
+    // names the type for the prover (docs/ARCHITECTURE.md, "Forms the kit wants")
+    let _none: Option<FileId> = None;
     Ok((User::FIRST, Inum::new(2)?))
 }
 
@@ -34,6 +36,8 @@ pub(crate) fn parts<S: BlockSource + Drop>(
 ) -> Result<u64, Fault>
     requires { S.is_checked ≡ true }
 {
+    // names the type for the prover (docs/ARCHITECTURE.md, "Forms the kit wants")
+    let _none: Option<FileId> = None;
     let mut source = source;
     let mut forest = made(alloc, meets)?;
     left(&mut forest, &mut source, meets)?;

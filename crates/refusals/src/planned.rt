@@ -24,6 +24,8 @@ pub(crate) fn plans<S: BlockSource + Drop>(
 ) -> Result<u64, Fault>
     requires { S.is_checked ≡ true }
 {
+    // names the type for the prover (docs/ARCHITECTURE.md, "Forms the kit wants")
+    let _none: Option<FileId> = None;
     let mut desk = TrialDesk::new(alloc, two_users(alloc)?, source)?;
     let path = Vec::from_slice(alloc, b"/d")?;
     planned(alloc, &mut desk, meets, &Command::Mkdir { path })?;
@@ -33,10 +35,8 @@ pub(crate) fn plans<S: BlockSource + Drop>(
     let path = Vec::from_slice(alloc, b"/d")?;
     planned(alloc, &mut desk, meets, &Command::Remove { path })?;
     says(&mut desk, meets, file(3)?, b"hello")?;
-    check(
-        settled(&mut desk)?.live() == [1, 2, 3, 4, 5].as_slice(),
-        Mistake::Live,
-    )?;
+    let now = settled(&mut desk)?;
+    check(now.live() == [1, 2, 3, 4, 5].as_slice(), Mistake::Live)?;
     Ok(desk.source_mut().failures())
 }
 
@@ -99,6 +99,8 @@ fn carry_out<S: BlockSource>(
     meets: &mut Meets,
     operations: Vec<Op>,
 ) -> Result<(), Fault> {
+    // names the type for the prover (docs/ARCHITECTURE.md, "Forms the kit wants")
+    let _none: Option<FileId> = None;
     for operation in operations {
         applied(desk, meets, User::FIRST, &Change::of(alloc, operation))?;
     }
@@ -114,11 +116,13 @@ pub(crate) fn why<S: BlockSource + Drop>(
 ) -> Result<u64, Fault>
     requires { S.is_checked ≡ true }
 {
+    // names the type for the prover (docs/ARCHITECTURE.md, "Forms the kit wants")
+    let _none: Option<FileId> = None;
     let mut desk = TrialDesk::new(alloc, two_users(alloc)?, source)?;
     say_hello(alloc, &mut desk, meets)?;
     reasons_for_the_first(alloc, &mut desk, meets)?;
-    let settled = settled(&mut desk)?;
-    check(settled.live() == [1].as_slice(), Mistake::Live)?;
+    let now = settled(&mut desk)?;
+    check(now.live() == [1].as_slice(), Mistake::Live)?;
     check(desk.history().len() == 3, Mistake::Commit)?;
     Ok(desk.source_mut().failures())
 }
@@ -129,6 +133,8 @@ fn reasons_for_the_first<S: BlockSource>(
     desk: &mut TrialDesk<S>,
     meets: &mut Meets,
 ) -> Result<(), Fault> {
+    // names the type for the prover (docs/ARCHITECTURE.md, "Forms the kit wants")
+    let _none: Option<FileId> = None;
     let before = left(desk, meets)?;
     let told = reasons_of(alloc, desk, 1);
     if !meets.is_met(&told) {
