@@ -8,6 +8,7 @@
 mod asking;
 mod books;
 mod clients;
+mod commits;
 mod faults;
 mod flaws;
 mod items;
