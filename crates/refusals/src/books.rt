@@ -1,7 +1,7 @@
 // A book's steps, one after another, where memory is refused.
+use crate::commits::five_commits;
 use crate::faults::{Fault, Mistake, check};
 use crate::seen::{Seen, again};
-use crate::taking::five_commits;
 use std::alloc::Global;
 use su_book::{Book, BookReply, Event, Offer};
 use su_bytes::{Refusal, User};

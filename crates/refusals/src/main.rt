@@ -9,6 +9,7 @@ mod asked;
 mod asking;
 mod books;
 mod clients;
+mod commits;
 mod desks;
 mod faults;
 mod flaws;

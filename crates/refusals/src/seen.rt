@@ -69,9 +69,13 @@ macro_rules! viewed_again {
 macro_rules! asked_again {
     ($seen:expr, $flaw:expr, $is_same:expr, $call:expr) => {
         match $call {
-            Err(refusal) if refusal == Refusal::NoMemory || refusal == $flaw => {
-                $seen.note_call($is_same)?;
-                $call
+            Err(refusal) => {
+                if refusal == Refusal::NoMemory || refusal == $flaw {
+                    $seen.note_call($is_same)?;
+                    $call
+                } else {
+                    Err(refusal)
+                }
             }
             told => told,
         }
@@ -82,11 +86,13 @@ macro_rules! asked_again {
 macro_rules! view_asked_again {
     ($seen:expr, $flaw:expr, $is_same:expr, $call:expr) => {
         match $call {
-            Err(ViewRefusal::Plain(refusal))
-                if refusal == Refusal::NoMemory || refusal == $flaw =>
-            {
-                $seen.note_call($is_same)?;
-                $call
+            Err(ViewRefusal::Plain(refusal)) => {
+                if refusal == Refusal::NoMemory || refusal == $flaw {
+                    $seen.note_call($is_same)?;
+                    $call
+                } else {
+                    Err(ViewRefusal::Plain(refusal))
+                }
             }
             told => told,
         }

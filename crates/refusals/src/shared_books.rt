@@ -2,10 +2,10 @@
 ghost use Rattle.std.specs.Prelude.{◌≡◌, ◌≤◌};
 
 use crate::clients::{Client, Items};
+use crate::commits::five_commits;
 use crate::faults::{Fault, Mistake, check};
 use crate::keepers::FailingKeeper;
 use crate::seen::{Seen, asked_again};
-use crate::taking::five_commits;
 use std::alloc::Global;
 use std::marker::Brand;
 use std::sync::Wait;

@@ -1,9 +1,8 @@
 // Commits that a view takes and makes.
 use crate::asking::{contents, live};
-use crate::clients::{Client, Items, create, signer, take, two_clients, write};
+use crate::clients::{Client, Items, signer};
 use crate::faults::{Fault, Mistake, check};
 use crate::flaws::{Flaw, Flawed};
-use crate::lists::follow;
 use crate::seen::{Seen, view_asked_again};
 use crate::trying::{Source, Trial, Trying, is_same, leave, leave_new, new_trial, set};
 use std::alloc::Global;
@@ -15,22 +14,7 @@ use su_op::Change;
 use su_version::{Commit, Verdict};
 use su_view::{View, ViewRefusal};
 
-/// Makes the client of user 1 with five commits: user 0 has made a file and written to it twice; and
-/// user 1 has taken the root directory over, and made a second file.
-pub(crate) fn five_commits(alloc: Global, seen: &mut Seen) -> Result<Client<Items>, Fault> {
-    let (mut zero, mut one) = two_clients(alloc)?;
-    zero.commit(create(alloc, b"a", 2)?, seen)?;
-    zero.commit(write(alloc, 2, b"hello")?, seen)?;
-    zero.commit(write(alloc, 2, b"howdy")?, seen)?;
-    for number in 1..4 {
-        follow(alloc, &mut one, &zero, number, seen)?;
-    }
-    one.commit(take(alloc, 1)?, seen)?;
-    one.commit(create(alloc, b"b", 3)?, seen)?;
-    Ok(one)
-}
-
-/// Makes the client of user 0 with the first three of these commits, over a source of which no call
+/// Makes the client of user 0 with the first three of five commits, over a source of which no call
 /// has this flaw yet.
 pub(crate) fn with_three(
     alloc: Global,

@@ -1,10 +1,11 @@
 // Each call of a view whose tree lies on its source, where the source has a flaw or memory is refused.
 use crate::asking::reads;
 use crate::clients::{Client, Items};
+use crate::commits::five_commits;
 use crate::faults::{Fault, Mistake, check};
 use crate::flaws::Flaw;
 use crate::seen::{Seen, again};
-use crate::taking::{begin_anew, five_commits, takes, with_three};
+use crate::taking::{begin_anew, takes, with_three};
 use crate::trying::{Source, Trial, Trying, is_same, new_trial, set};
 use std::alloc::Global;
 use su_bytes::Refusal;

@@ -1,8 +1,8 @@
 // Why an operation isn't undone yet, where memory is refused, and where entries were left.
 use crate::clients::{Client, Items};
+use crate::commits::five_commits;
 use crate::faults::{Fault, Mistake, check};
 use crate::seen::{Seen, again};
-use crate::taking::five_commits;
 use std::alloc::Global;
 use su_bytes::{FileId, Refusal, User};
 use su_why::{OwnReasons, entries_of, first_of_others, own_reasons_in, reasons_in};
