@@ -13,7 +13,7 @@ use crate::seen::Seen;
 use crate::trees::trees;
 use std::alloc::Global;
 use su_block::{BlockSource, Checked, MemoryBlocks};
-use su_bytes::Refusal;
+use su_bytes::{FileId, Refusal};
 
 /// What is made over a store.
 #[derive(Clone, Copy, Debug, PartialEq, Eq)]
@@ -83,6 +83,8 @@ fn done<S: BlockSource + Drop>(
 
 /// Does one of these over a whole store; a call that memory is refused for is made once more.
 pub(crate) fn without_memory(alloc: Global, work: Work, seen: &mut Seen) -> Result<(), Fault> {
+    // names the type for the prover (docs/ARCHITECTURE.md, "Forms the kit wants")
+    let _none: Option<FileId> = None;
     let mut meets = Meets::once(Refusal::NoMemory);
     let source = Checked::new(MemoryBlocks::new(alloc));
     done(alloc, work, source, &mut meets)?;
@@ -95,6 +97,8 @@ pub(crate) fn without_memory(alloc: Global, work: Work, seen: &mut Seen) -> Resu
 /// Does all of these over a store of which one call has a flaw, for one after the other, until there
 /// is no such call.
 pub(crate) fn where_a_store_has(alloc: Global, flaw: Flaw) -> Result<(), Fault> {
+    // names the type for the prover (docs/ARCHITECTURE.md, "Forms the kit wants")
+    let _none: Option<FileId> = None;
     for work in WORKS {
         where_it_has(alloc, flaw, work)?;
     }
