@@ -310,8 +310,7 @@ def store_fails(room, records, library, kinds, folder, number):
         stored = handed_in(server.port, records) if server.listens() else 0
         status = server.stop()[2]
     told.read()
-    # (a server that had no memory for what waits for `stop` serves on, and is killed: docs/SEEN.md)
-    if status not in (0, 1) and (kinds, status) != ("growth", None):
+    if status not in (0, 1):
         wrong.append(f"status {status}")
     return told, wrong + of_next_server(room, store, records, stored)
 

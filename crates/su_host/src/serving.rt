@@ -11,7 +11,7 @@ use crate::guards::{Closing, Guard};
 use crate::ports::Port;
 use crate::settings::Setting;
 use crate::stores::{DiskFile, FULL, Folder, options};
-use crate::words::is_asked_to_stop;
+use crate::words::is_to_stop;
 use std::marker::Brand;
 use std::net::{Net, SocketAddr, TcpListener, TcpStream};
 use std::sync::Wait;
@@ -88,7 +88,8 @@ where
     serve_until_asked(&setting, terms, roster, options.store)
 }
 
-/// Serves, and ends once standard input asks for it; where no thread can wait for that, at once.
+/// Serves, and ends once standard input asks for it; where no thread can wait for that, at once, and
+/// where memory is refused to the one that waits, then.
 fn serve_until_asked<T>(
     setting: &Setting<'_, T>,
     terms: Terms,
@@ -107,8 +108,7 @@ where
             requires { IsSync T.row }
         {
             let asking = scope.spawn(move || {
-                if is_asked_to_stop(rt, host, over) {
-                    ends.stop.set();
+                if is_to_stop(rt, host, ends, over) {
                     wake(host, terms.address);
                 }
             });

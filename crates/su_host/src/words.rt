@@ -1,8 +1,10 @@
 // The word on standard input that ends a server.
+use crate::ends::Ends;
+use crate::faults::tell_fault;
 use mio::unix::SourceFd;
 use mio::{Events, Interest, Poll, Token};
 use std::io;
-use std::io::{IsTerminal, Read};
+use std::io::{ErrorKind, IsTerminal, Read};
 use std::net::Net;
 use std::time::Duration;
 use su_server::Stop;
@@ -13,14 +15,31 @@ const WORD: &[u8] = b"stop";
 /// How many milliseconds input is waited for, before it is looked whether the server is over.
 const LOOK: u64 = 100;
 
-/// Reads standard input until a line `stop` comes, and returns whether one came before the input
-/// ended or the server was over. Where input can't be waited for, as from a file, none comes. A
-/// terminal is left alone: a server in the background that reads from it would be halted.
-pub(crate) fn is_asked_to_stop<T: Net>(rt: &HostRuntime, host: &T, over: &Stop) -> bool {
-    read_word(rt, host, over).unwrap_or(false)
+/// Reads standard input until a line `stop` comes, and returns whether the server is to end: for
+/// that line, where it came before the input ended or the server was over, or since memory is
+/// refused to what waits for it, of which standard error tells. Where input can't be waited for, as
+/// from a file, none comes. A terminal is left alone: a server in the background that reads from it
+/// would be halted.
+pub(crate) fn is_to_stop<T: Net>(rt: &HostRuntime, host: &T, ends: &Ends, over: &Stop) -> bool {
+    match read_word(rt, host, over) {
+        Ok(false) => false,
+        Ok(true) => {
+            ends.stop.set();
+            true
+        }
+        Err(fault) if fault.kind() == ErrorKind::OutOfMemory => {
+            ends.fail();
+            tell_fault(
+                rt,
+                "out of memory to wait for standard input, which may ask for the end",
+            );
+            true
+        }
+        Err(_) => false,
+    }
 }
 
-/// The same; fails where input can't be waited for, or read.
+/// Whether a line `stop` came; fails where input can't be waited for, or read.
 fn read_word<T: Net>(rt: &HostRuntime, host: &T, over: &Stop) -> io::Result<bool> {
     if rt.stdin().is_terminal() {
         return Ok(false);
