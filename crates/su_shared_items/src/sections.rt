@@ -13,7 +13,7 @@ use crate::shard::Shard;
 use std::alloc::{AllocError, Global};
 use std::collections::BTreeSet;
 use std::marker::Model;
-use su_bytes::{Digest, Refusal};
+use su_bytes::{Digest, FileId, Refusal};
 
 /// A shard, the digests of which it was told that their items are kept elsewhere too, as far as
 /// there was memory to note them, and how many sessions pin each item. Its model is these. What a
@@ -204,6 +204,8 @@ impl Section {
         ensures refused { IfErr result (λ e. e ≡ NoMemory) }
         ensures unnoted { OnErr result (self.new.elsewhere ≡ self.old.elsewhere) }
     {
+        // names the type for the prover (docs/ARCHITECTURE.md, "Forms the kit wants")
+        let _none: Option<FileId> = None;
         self.shard.share(alloc, digest, item)?;
         let _ = self.elsewhere.insert(*digest.as_bytes());
         Ok(())
