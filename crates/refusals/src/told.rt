@@ -5,9 +5,9 @@ use crate::faults::{Fault, Mistake, check};
 use crate::inodes::{root, second};
 use crate::seen::{Seen, again};
 use std::alloc::Global;
-use su_block::{Checked, MemoryBlocks};
-use su_bytes::{FileId, Format, Kind, Principal, Refusal, User};
-use su_change::digest;
+use su_block::{Checked, MemoryBlocks, digest_of};
+use su_bytes::{FileId, Format, Group, Kind, Principal, Refusal, User};
+use su_change::{digest, encode};
 use su_desk::DeskReply;
 use su_draft::Command;
 use su_format::Reader;
@@ -200,6 +200,27 @@ fn drafted(alloc: Global, desk: &mut TrialDesk<Store>, seen: &mut Seen) -> Resul
 pub(crate) fn of_bytes(alloc: Global, commit: &Commit, seen: &mut Seen) -> Result<(), Fault> {
     // names the types for the prover (docs/ARCHITECTURE.md, "Forms the kit wants")
     let _none: (Option<FileId>, Option<Principal>) = (None, None);
+    refusals_are_told(alloc, seen)?;
+    have_digests(alloc, commit, seen)?;
+    let bytes = again!(seen, true, commit.version().encode(alloc))?;
+    let read = again!(
+        seen,
+        true,
+        VersionStructure::decode(alloc, bytes.as_slice())
+    )?;
+    check(read.author() == commit.version().author(), Mistake::Commit)?;
+    let mut reader = Reader::new(&[1, 0, 7]);
+    check(
+        reader.take_principal() == Ok(Principal::Group(Group::FIRST)),
+        Mistake::Message,
+    )?;
+    check(reader.take_principal().is_err(), Mistake::Message)?;
+    check(reader.place() == 2, Mistake::Message)
+}
+
+fn refusals_are_told(alloc: Global, seen: &mut Seen) -> Result<(), Fault> {
+    // names the type for the prover (docs/ARCHITECTURE.md, "Forms the kit wants")
+    let _none: Option<FileId> = None;
     let mut told = Vec::from_slice(alloc, b"no ")?;
     again!(seen, told.len() == 3, Refusal::KeySpent.show(&mut told))?;
     check(
@@ -214,29 +235,17 @@ pub(crate) fn of_bytes(alloc: Global, commit: &Commit, seen: &mut Seen) -> Resul
     check(
         told.as_slice() == b"no 8 KeySpent40 OwnMissing".as_slice(),
         Mistake::Reply,
-    )?;
+    )
+}
+
+fn have_digests(alloc: Global, commit: &Commit, seen: &mut Seen) -> Result<(), Fault> {
+    // names the type for the prover (docs/ARCHITECTURE.md, "Forms the kit wants")
+    let _none: Option<FileId> = None;
     let change = create(alloc, b"a", 2)?;
     let found = again!(seen, true, digest(alloc, &change))?;
-    let item = again!(seen, true, su_change::encode(alloc, &change))?;
-    check(found == su_block::digest_of(item.as_slice()), Mistake::Item)?;
+    let item = again!(seen, true, encode(alloc, &change))?;
+    check(found == digest_of(item.as_slice()), Mistake::Item)?;
     let found = again!(seen, true, commit.digest(alloc))?;
     let bytes = again!(seen, true, commit.encode(alloc))?;
-    check(
-        found == su_block::digest_of(bytes.as_slice()),
-        Mistake::Commit,
-    )?;
-    let bytes = again!(seen, true, commit.version().encode(alloc))?;
-    let read = again!(
-        seen,
-        true,
-        VersionStructure::decode(alloc, bytes.as_slice())
-    )?;
-    check(read.author() == commit.version().author(), Mistake::Commit)?;
-    let mut reader = Reader::new(&[1, 0, 7]);
-    check(
-        reader.take_principal() == Ok(Principal::Group(su_bytes::Group::FIRST)),
-        Mistake::Message,
-    )?;
-    check(reader.take_principal().is_err(), Mistake::Message)?;
-    check(reader.place() == 2, Mistake::Message)
+    check(found == digest_of(bytes.as_slice()), Mistake::Commit)
 }
