@@ -183,8 +183,8 @@ pub(crate) fn reads(
     trial: &Trial,
     seen: &mut Seen,
 ) -> Result<(), Fault> {
-    // names the type for the prover (docs/ARCHITECTURE.md, "Forms the kit wants")
-    let _none: Option<FileId> = None;
+    // names the types for the prover (docs/ARCHITECTURE.md, "Forms the kit wants")
+    let _none: (Option<FileId>, Option<Refusal>) = (None, None);
     live(alloc, zero, trial, &[1, 2, 3], seen)?;
     stat(alloc, zero, trial, seen)?;
     list(alloc, zero, trial, seen)?;

@@ -49,8 +49,8 @@ impl Meets {
     /// Tells whether nothing was. Fails where a source failed so often and no call was refused, or a
     /// call was and none failed.
     pub(crate) fn is_over(&self, failures: u64) -> Result<bool, Fault> {
-        // names the type for the prover (docs/ARCHITECTURE.md, "Forms the kit wants")
-        let _none: Option<FileId> = None;
+        // names the types for the prover (docs/ARCHITECTURE.md, "Forms the kit wants")
+        let _none: (Option<FileId>, Option<Refusal>) = (None, None);
         let is_over = self.seen == Seen::Nothing;
         check(is_over == (failures == 0), Mistake::Calls)?;
         Ok(is_over)

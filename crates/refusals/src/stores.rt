@@ -99,8 +99,8 @@ pub(crate) fn without_memory(alloc: Global, work: Work, seen: &mut Seen) -> Resu
 /// Does all of these over a store of which one call has a flaw, for one after the other, until there
 /// is no such call.
 pub(crate) fn where_a_store_has(alloc: Global, flaw: Flaw) -> Result<(), Fault> {
-    // names the type for the prover (docs/ARCHITECTURE.md, "Forms the kit wants")
-    let _none: Option<FileId> = None;
+    // names the types for the prover (docs/ARCHITECTURE.md, "Forms the kit wants")
+    let _none: (Option<FileId>, Option<Refusal>) = (None, None);
     for work in WORKS {
         where_it_has(alloc, flaw, work)?;
     }
