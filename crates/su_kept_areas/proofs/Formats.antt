@@ -1,5 +1,5 @@
 -- Areas as a format: each has one spelling, which begins no other.
-use Rattle.std.proofs.Common.{◌≡◌, ℕ, ◌<◌, ◌≤◌, ◌^◌, ◌||◌, nat_eq, nat_lt, true, List, [], ◌∷◌, ◌++◌, length, inl, inr, refl, ap, append_assoc, arith}
+use Rattle.std.proofs.Common.{◌≡◌, ℕ, ◌<◌, ◌≤◌, ◌^◌, ◌||◌, nat_eq, nat_lt, true, List, ◌++◌, length, inl, inr, refl, ap, append_assoc, arith}
 use Rattle.std.proofs.lemmas.Bool.{or_parts, not-true, ltb-false}
 use Rattle.std.specs.Cmp.{first_so}
 use Rattle.su_bytes.specs.Principal.{is_user, is_group}
@@ -13,7 +13,7 @@ use Rattle.su_op.specs.declared.areas.Part.{Part}
 use Rattle.su_op.specs.declared.areas.Part.TheVariants.{Kind as KindPart, Links as LinksPart, Size as SizePart, Name as NamePart, Blocks as BlocksPart, Whole as WholePart}
 use Rattle.su_op.specs.declared.areas.Area.{Area}
 use Rattle.su_op.specs.declared.areas.Area.TheVariants.{Inode as InodeArea, Pointer as PointerArea}
-use Rattle.su_format.specs.Format.{Format, part, making, ◌>>=◌, IsLawful}
+use Rattle.su_format.specs.Format.{part, making, ◌>>=◌, IsLawful}
 use Rattle.su_format.specs.Part.{u8_bytes, u32_bytes, name_bytes, group_part}
 use Rattle.su_format.specs.Reading.{Reading, Refuses}
 use Rattle.su_format.proofs.Public.{Makes, said_as, known_as, last_of, in_order_of, told_by, part_makes, part_lawful, in_order, making_lawful, group_lawful, u8_of, u32_of, bytes_of, user_of, inum_of}
@@ -21,7 +21,7 @@ use Rattle.su_kept_areas.specs.declared.kinds.PartKind.{PartKind}
 use Rattle.su_kept_areas.specs.declared.kinds.PartKind.TheVariants.{Kind, Links, Size, Whole, Blocks, Name}
 use Rattle.su_kept_areas.specs.declared.kinds.AreaKind.{AreaKind}
 use Rattle.su_kept_areas.specs.declared.kinds.AreaKind.TheVariants.{Inode, Pointer}
-use Rattle.su_kept_areas.specs.Spelling.{part_kind, kind_of, kind_number, place_bytes, part_bytes, fields_bytes, area_bytes, IsPart, IsArea, BeginsWith}
+use Rattle.su_kept_areas.specs.Spelling.{part_kind, kind_of, kind_number, place_bytes, part_bytes, fields_bytes, IsPart, IsArea, BeginsWith}
 use Rattle.su_kept_areas.specs.Format.{AnyKind, kind_byte, kind_part, place_format, group_file_format, run_format, short_format, part_format, fields_format, area_format}
 
 -- ---- kinds

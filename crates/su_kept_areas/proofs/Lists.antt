@@ -1,5 +1,5 @@
 -- Areas that are spelled one after another, and those of them that are left.
-use Rattle.std.proofs.Common.{◌≡◌, ℕ, ◌+◌, ◌<◌, Bool, true, false, ◌||◌, List, [], ◌∷◌, ◌++◌, length, refl, sym, ◌∙◌, ap, subst, append_assoc, append-nil, length-append, arith}
+use Rattle.std.proofs.Common.{◌≡◌, ℕ, ◌<◌, Bool, true, false, ◌||◌, List, [], ◌∷◌, ◌++◌, length, refl, sym, ◌∙◌, ap, subst, append_assoc, append-nil, length-append, arith}
 use Rattle.std.specs.List.{list_any}
 use Rattle.su_op.specs.declared.areas.Area.{Area}
 use Rattle.su_kept_areas.specs.Spelling.{fields_bytes, area_bytes, areas_bytes, IsArea, BeginsWith, BeginWithOne, Spells, SpellSome}

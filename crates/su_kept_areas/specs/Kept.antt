@@ -1,5 +1,5 @@
 -- A footprint as a desk keeps it.
-use Rattle.std.specs.Prelude.{◌≡◌, ℕ, ◌≤◌, List, [], ◌∷◌, length, take, drop}
+use Rattle.std.specs.Prelude.{ℕ, ◌≤◌, List, [], ◌∷◌, length, take, drop}
 use Rattle.std.specs.Global.{Vec}
 use Rattle.std.proofs.Common.{refl, zero-le}
 use Rattle.su_op.specs.declared.areas.Area.{Area}

@@ -5,7 +5,6 @@ use Rattle.std.specs.List.{AllByRecursion, flat_map}
 use Rattle.su_bytes.specs.Principal.{is_user, is_group}
 use Rattle.su_bytes.specs.FileId.{is_inum}
 use Rattle.su_bytes.specs.Name.{is_name}
-use Rattle.su_bytes.specs.Place.{Place, GroupFile}
 use Rattle.su_op.specs.declared.areas.Part.{Part}
 use Rattle.su_op.specs.declared.areas.Part.TheVariants.{Kind as KindPart, Links as LinksPart, Size as SizePart, Name as NamePart, Blocks as BlocksPart, Whole as WholePart}
 use Rattle.su_op.specs.declared.areas.Area.{Area}

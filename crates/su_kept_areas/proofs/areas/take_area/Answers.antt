@@ -1,4 +1,4 @@
-use Rattle.std.proofs.Common.{IfOk, IfErr, sym, subst, ◌∙◌}
+use Rattle.std.proofs.Common.{sym, subst, ◌∙◌}
 use Rattle.std.proofs.lemmas.Result.{IfOk-weaker}
 use Rattle.su_kept_areas.specs.Spelling.{IsArea}
 use Rattle.su_kept_areas.proofs.Formats.{area_told, area_refused}

@@ -1,4 +1,4 @@
-use Rattle.std.proofs.Common.{◌≡◌, List, length}
+use Rattle.std.proofs.Common.{length}
 use Rattle.su_kept_areas.specs.Pointer.{is_pointer_of}
 use Rattle.su_kept_areas.proofs.Lists.{Leaves}
 use Rattle.su_kept_areas.proofs.spelled.carries.Given as goal

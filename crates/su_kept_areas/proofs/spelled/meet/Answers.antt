@@ -3,7 +3,7 @@ use Rattle.std.proofs.lemmas.Bool.Decides.{nat_tests}
 use Rattle.std.specs.List.{list_any}
 use Rattle.su_op.specs.Area.{overlaps}
 use Rattle.su_kept_areas.specs.Lent.{area_of}
-use Rattle.su_kept_areas.proofs.Lists.{all_left, one_left, none_left, found, passed}
+use Rattle.su_kept_areas.proofs.Lists.{one_left, none_left, found, passed}
 use Rattle.su_kept_areas.proofs.spelled.meet.Goals as goal
 
 pub split_first-first-requires : goal.split_first-first-requires

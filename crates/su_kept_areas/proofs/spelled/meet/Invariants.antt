@@ -1,4 +1,4 @@
-use Rattle.std.proofs.Common.{◌≡◌, List, length}
+use Rattle.std.proofs.Common.{List, length}
 use Rattle.std.specs.List.{list_any}
 use Rattle.su_op.specs.Area.{overlaps}
 use Rattle.su_op.specs.declared.areas.Area.{Area}

@@ -1,4 +1,4 @@
-use Rattle.std.proofs.Common.{◌≡◌, List, length}
+use Rattle.std.proofs.Common.{length}
 use Rattle.su_op.specs.Area.{overlaps}
 use Rattle.su_kept_areas.specs.Lent.{area_of}
 use Rattle.su_kept_areas.proofs.Lists.{Leaves}

@@ -1,4 +1,4 @@
-use Rattle.std.proofs.Common.{◌≡◌, List, length}
+use Rattle.std.proofs.Common.{length}
 use Rattle.su_kept_areas.proofs.Lists.{AreRead}
 use Rattle.su_kept_areas.proofs.spelled.take_areas.Given as goal
 
