@@ -33,6 +33,8 @@ ROWS = (
     "plans on a desk that is left on its store", "what stands in the way, on a desk that is left on its store",
     "operations on a forest that is left on its store", "trees that are left on a store", "parts of a forest that are left on a store",
     "each call of a view", "why an operation isn't undone", "steps of a book", "turns at a shared book", "items that are shared",
+    "inodes in memory", "a forest in memory", "what is told of a forest that is left on its store", "changes of a desk in a row, and a draft",
+    "what is spelled",
 )
 TOLD = f"{os.path.dirname(HERE)}/crates/refusals/stdout"  # what the program prints, a line for each of its rows
 

@@ -4,8 +4,8 @@ use crate::flaws::Flaw;
 use crate::seen::Seen;
 use crate::stores::Work;
 use crate::{
-    books, items, lists, plans, seats, sessions, shared_books, signatures, sources, stores, views,
-    whys,
+    books, commits, inodes, items, lists, plans, seats, sessions, shared_books, signatures,
+    sources, stores, told, views, whys,
 };
 use std::alloc::Global;
 use std::sync::Wait;
@@ -52,10 +52,20 @@ pub(crate) enum Row {
     FailingKeeper,
     /// Items that threads share.
     Items,
+    /// Inodes that are in memory.
+    Inodes,
+    /// A forest that is in memory.
+    Forest,
+    /// What is told of a forest that is left on its store.
+    ToldOfForest,
+    /// What a desk tells of changes in a row.
+    ToldOfDesk,
+    /// What is spelled in bytes.
+    Spelled,
 }
 
 /// All rows, in the order in which they are carried out.
-pub(crate) const ROWS: [Row; 28] = [
+pub(crate) const ROWS: [Row; 33] = [
     Row::Signatures,
     Row::Lists,
     Row::Handles,
@@ -84,6 +94,11 @@ pub(crate) const ROWS: [Row; 28] = [
     Row::SharedBooks,
     Row::FailingKeeper,
     Row::Items,
+    Row::Inodes,
+    Row::Forest,
+    Row::ToldOfForest,
+    Row::ToldOfDesk,
+    Row::Spelled,
 ];
 
 impl Row {
@@ -119,6 +134,11 @@ impl Row {
             Row::SharedBooks => "turns at a shared book",
             Row::FailingKeeper => "turns at a shared book, each call of whose keeper fails once",
             Row::Items => "items that are shared",
+            Row::Inodes => "inodes in memory",
+            Row::Forest => "a forest in memory",
+            Row::ToldOfForest => "what is told of a forest that is left on its store",
+            Row::ToldOfDesk => "changes of a desk in a row, and a draft",
+            Row::Spelled => "what is spelled",
         }
     }
 }
@@ -169,5 +189,10 @@ fn once<R: Threads + Wait + Clock + Sync>(
         Row::SharedBooks => shared_books::where_memory_is_refused(rt, alloc, seen),
         Row::FailingKeeper => shared_books::where_a_keeper_fails(rt, alloc),
         Row::Items => items::put_and_shared(rt, alloc, seen),
+        Row::Inodes => inodes::by_themselves(alloc, seen),
+        Row::Forest => inodes::in_a_forest(alloc, seen),
+        Row::ToldOfForest => told::of_a_forest(alloc, seen),
+        Row::ToldOfDesk => told::of_a_desk(alloc, seen),
+        Row::Spelled => told::of_bytes(alloc, &commits::first_commit(alloc, seen)?, seen),
     }
 }

@@ -1,5 +1,5 @@
 -- Parts of a session one after another are a part of it.
-use Rattle.std.proofs.Common.{◌≡◌, ◌∙◌, sym, refl, ap, subst, ℕ, zero, suc, ◌+◌, ◌<◌, Bool, true, false, List, [], ◌∷◌, ◌++◌, length, take, drop, Option, Some, append_assoc, append-nil, length-append, take-append-drop, length-drop, ◌⊎◌, ◌==◌, arith, All, inl, inr}
+use Rattle.std.proofs.Common.{◌≡◌, ◌∙◌, sym, refl, ap, subst, ℕ, zero, suc, ◌+◌, ◌<◌, ◌≤◌, Bool, true, false, List, [], ◌∷◌, ◌++◌, length, take, drop, Option, Some, append_assoc, append-nil, length-append, take-append-drop, length-drop, ◌⊎◌, ◌==◌, arith, All, inl, inr}
 use Rattle.std.specs.List.{flat_map}
 use Rattle.std.specs.Io.KnownBytes.{Consumes, Appends, IsAtEnd}
 use Rattle.std.proofs.KnownBytes.{Consumes-nil, Consumes-trans, Appends-nil, Appends-trans}
@@ -9,11 +9,12 @@ use Rattle.su_bytes.specs.declared.refusals.Refusal.{Refusal}
 use Rattle.su_message.specs.declared.requests.Request.{Request}
 use Rattle.su_message.specs.declared.replies.Reply.{Reply}
 use Rattle.su_session.specs.declared.sessions.End.{End}
+use Rattle.su_session.specs.declared.sessions.TheConstants.{MOST_READS}
 use Rattle.su_session.specs.declared.sessions.End.TheVariants as ended
 use Rattle.su_session.specs.declared.sessions.Progress.TheVariants as progress
 use Rattle.su_frames.specs.Stream.{frame, fault, stream, IsMessage, IsPartial}
 use Rattle.su_session.specs.Answer.{refusal_reply, reply_frame, written_of, turn_by, turn_after, refusal_frame, Replies}
-use Rattle.su_session.specs.Session.{Breaks, Ends, Moment, Session}
+use Rattle.su_session.specs.Session.{Breaks, CameBefore, Ends, Moment, Session}
 use Rattle.su_session.specs.Step.{SaysWhole, SaysPart, SaysNothing, Refusing, Goes, Steps}
 
 pub flat_map-append : {A B : Type 0} (f : A → List B) (xs ys : List A) → flat_map f (xs ++ ys) ≡ flat_map f xs ++ flat_map f ys
@@ -60,6 +61,15 @@ ends-later ended.LinkFailed n known rest before rs out (inr b) = inr (record {
   written = ap (λ t. written_of before ++ t) b.written ∙ sym (append_assoc (written_of before) (written_of rs) b.part) ∙ ap (λ t. t ++ b.part) (sym (flat_map-append reply_frame before rs));
   cut = b.cut;
 })
+
+-- as many bytes and more came
+pub came-later : (end : End) (before input : List ℕ) → CameBefore end input → CameBefore end (before ++ input)
+came-later ended.Closed before input c = tt
+came-later ended.Cut before input c = tt
+came-later ended.Refused before input c = tt
+came-later ended.ReadFailed before input c = tt
+came-later ended.Spent before input c = omega (arith, c, length-append before input)
+came-later ended.LinkFailed before input c = tt
 
 -- nothing more was written
 pub breaks-nothing : (rest : List ℕ) (n : ℕ) (rs : List Reply) → n ≡ length rs → Breaks n rest rs (written_of rs)
@@ -142,6 +152,11 @@ module _ {S : Type 0} (step : S → Request → Reply → S → Type 0) where
     turn_is = q.turn_is ∙ ap (λ t. turn_after t q.replies) p.turn_is ∙ sym (turn_after-append a.turn p.replies q.replies);
   }
 
+  -- the same, with how many bytes came
+  pub goes-further : (a b c : Moment S) (p : Goes step a b) (q : Goes step b c) → (x : Goes step a c) × (length x.input ≡ length p.input + length q.input)
+  unfolding goes-then
+  goes-further a b c p q = (goes-then a b c p q, length-append p.input q.input)
+
   pub goes-end : (a b c : Moment S) (end : End) → Goes step a b → Session step b end c → Session step a end c
   goes-end a b c end p q = record {
     input = p.input ++ q.input;
@@ -158,14 +173,15 @@ module _ {S : Type 0} (step : S → Request → Reply → S → Type 0) where
     counted = omega (arith, p.counted, q.counted);
     turn_is = q.turn_is ∙ ap (λ t. turn_after t q.replies) p.turn_is ∙ sym (turn_after-append a.turn p.replies q.replies);
     ends = ends-later end q.count c.known q.rest p.replies q.replies q.out q.ends;
+    came = came-later end p.input q.input q.came;
   }
 
   abbrev pub moment : S → Bool → ℕ → List ℕ → Option (List ℕ) → Option (List ℕ) → Moment S
   moment s turn n waits known held = record { service = s; turn = turn; answered = n; waits = waits; known = known; held = held }
 
   -- a rest of a session in which nothing is read
-  pub session-here : (a b : Moment S) (end : End) (ms : List (List ℕ)) (rest : List ℕ) (rs : List Reply) (out : List ℕ) (new : ℕ) → b.known ≡ a.known → a.waits ≡ stream ms rest → All IsMessage ms → Replies step a.service ms rs b.service → Appends a.held b.held out → b.answered ≡ a.answered + new → b.turn ≡ turn_after a.turn rs → Ends end new b.known rest rs out → Session step a end b
-  session-here a b end ms rest rs out new known whole each run written counted turn ends = record {
+  pub session-here : (a b : Moment S) (end : End) (ms : List (List ℕ)) (rest : List ℕ) (rs : List Reply) (out : List ℕ) (new : ℕ) → b.known ≡ a.known → a.waits ≡ stream ms rest → All IsMessage ms → Replies step a.service ms rs b.service → Appends a.held b.held out → b.answered ≡ a.answered + new → b.turn ≡ turn_after a.turn rs → Ends end new b.known rest rs out → CameBefore end [] → Session step a end b
+  session-here a b end ms rest rs out new known whole each run written counted turn ends came = record {
     input = [];
     messages = ms;
     rest = rest;
@@ -180,6 +196,7 @@ module _ {S : Type 0} (step : S → Request → Reply → S → Type 0) where
     counted = counted;
     turn_is = turn;
     ends = ends;
+    came = came;
   }
 
   pub step-waits : (s : S) (turn : Bool) (n : ℕ) (old new : List ℕ) (known held : Option (List ℕ)) → IsPartial old × (new ≡ old) → Steps step (moment s turn n old known held) progress.Waits (moment s turn n new known held)
@@ -211,25 +228,25 @@ module _ {S : Type 0} (step : S → Request → Reply → S → Type 0) where
       → Session step (moment s turn n old known held) ended.LinkFailed (moment t turn' (n + 1) new known held')
   step-unsent s t turn turn' n old new m known held held' (good, cut) (r, run, turned, wrote) =
       session-here _ _ ended.LinkFailed (m ∷ []) new (r ∷ []) (written_of (r ∷ [])) 1 refl (one-message m old new cut) (all-one m good) (t, run, refl)
-      (subst (Appends held held') (sym (append-nil (reply_frame r))) wrote) refl turned (breaks-nothing new 1 (r ∷ []) refl)
+      (subst (Appends held held') (sym (append-nil (reply_frame r))) wrote) refl turned (breaks-nothing new 1 (r ∷ []) refl) tt
 
   pub step-broken : (s t : S) (turn turn' : Bool) (n : ℕ) (old new m : List ℕ) (known held held' : Option (List ℕ)) → IsMessage m × (old ≡ frame m ++ new)
       → SaysPart step s turn m held t turn' held' ⊎ SaysNothing step s turn held t turn' held'
       → Session step (moment s turn n old known held) ended.LinkFailed (moment t turn' n new known held')
   step-broken s t turn turn' n old new m known held held' (good, cut) (inl (r, k, run, turned, lt, wrote)) =
-      session-here _ _ ended.LinkFailed (m ∷ []) new (r ∷ []) (take k (reply_frame r)) 0 refl (one-message m old new cut) (all-one m good) (t, run, refl) wrote (omega arith) turned (breaks-part new r k lt)
+      session-here _ _ ended.LinkFailed (m ∷ []) new (r ∷ []) (take k (reply_frame r)) 0 refl (one-message m old new cut) (all-one m good) (t, run, refl) wrote (omega arith) turned (breaks-part new r k lt) tt
   step-broken s t turn turn' n old new m known held held' (good, cut) (inr (same, turned, wrote)) =
-      session-here _ _ ended.LinkFailed [] old [] [] 0 refl refl (All-nil IsMessage) same wrote (omega arith) turned (breaks-nothing old 0 [] refl)
+      session-here _ _ ended.LinkFailed [] old [] [] 0 refl refl (All-nil IsMessage) same wrote (omega arith) turned (breaks-nothing old 0 [] refl) tt
 
   pub step-memory : (s : S) (turn : Bool) (n : ℕ) (old new : List ℕ) (known held : Option (List ℕ)) → Session step (moment s turn n old known held) ended.LinkFailed (moment s turn n new known held)
   step-memory s turn n old new known held =
-      session-here _ _ ended.LinkFailed [] old [] [] 0 refl refl (All-nil IsMessage) refl (Appends-nil held) (omega arith) refl (breaks-nothing old 0 [] refl)
+      session-here _ _ ended.LinkFailed [] old [] [] 0 refl refl (All-nil IsMessage) refl (Appends-nil held) (omega arith) refl (breaks-nothing old 0 [] refl) tt
 
   pub step-refused : (end : End) (e : Refusal) (s : S) (turn : Bool) (n : ℕ) (old new : List ℕ) (known held held' : Option (List ℕ)) → fault old ≡ Some e → Refusing e held end held' → Session step (moment s turn n old known held) end (moment s turn n new known held')
   step-refused ended.Refused e s turn n old new known held held' f wrote =
-      session-here _ _ ended.Refused [] old [] (reply_frame (refusal_reply e)) 0 refl refl (All-nil IsMessage) refl wrote (omega arith) refl (e, f, refl, refl)
+      session-here _ _ ended.Refused [] old [] (reply_frame (refusal_reply e)) 0 refl refl (All-nil IsMessage) refl wrote (omega arith) refl (e, f, refl, refl) tt
   step-refused ended.LinkFailed e s turn n old new known held held' f (k, wrote) =
-      session-here _ _ ended.LinkFailed [] old [] (take k (reply_frame (refusal_reply e))) 0 refl refl (All-nil IsMessage) refl wrote (omega arith) refl (breaks-refusal old e k f)
+      session-here _ _ ended.LinkFailed [] old [] (take k (reply_frame (refusal_reply e))) 0 refl refl (All-nil IsMessage) refl wrote (omega arith) refl (breaks-refusal old e k f) tt
   step-refused ended.Closed e s turn n old new known held held' f wrote = absurd wrote
   step-refused ended.Cut e s turn n old new known held held' f wrote = absurd wrote
   step-refused ended.ReadFailed e s turn n old new known held held' f wrote = absurd wrote
@@ -250,6 +267,11 @@ module _ {S : Type 0} (step : S → Request → Reply → S → Type 0) where
     turn_is = t;
   }
 
+  -- the same, with how many bytes came
+  pub goes-reading : (a b : Moment S) (piece : List ℕ) → b.service ≡ a.service → b.turn ≡ a.turn → b.answered ≡ a.answered → b.waits ≡ a.waits ++ piece → b.held ≡ a.held → Consumes a.known b.known piece → (x : Goes step a b) × (length x.input ≡ length piece)
+  unfolding goes-read
+  goes-reading a b piece s t n w h r = (goes-read a b piece s t n w h r, refl)
+
   -- the input has ended after a whole message
   pub end-closed : (a b : Moment S) → b.service ≡ a.service → b.turn ≡ a.turn → b.answered ≡ a.answered → b.held ≡ a.held → Consumes a.known b.known [] → IsAtEnd b.known → a.waits ≡ [] → Session step a ended.Closed b
   end-closed a b s t n h read end none = record {
@@ -267,6 +289,7 @@ module _ {S : Type 0} (step : S → Request → Reply → S → Type 0) where
     counted = n ∙ omega arith;
     turn_is = t;
     ends = (end, refl, (refl, refl));
+    came = tt;
   }
 
   -- the input has ended inside a message
@@ -286,6 +309,7 @@ module _ {S : Type 0} (step : S → Request → Reply → S → Type 0) where
     counted = n ∙ omega arith;
     turn_is = t;
     ends = (end, partial, some, (refl, refl));
+    came = tt;
   }
 
   -- a read failed
@@ -305,6 +329,7 @@ module _ {S : Type 0} (step : S → Request → Reply → S → Type 0) where
     counted = n ∙ omega arith;
     turn_is = t;
     ends = (partial, (refl, refl));
+    came = tt;
   }
 
   -- there was no memory for what was read
@@ -324,8 +349,25 @@ module _ {S : Type 0} (step : S → Request → Reply → S → Type 0) where
     counted = n ∙ omega arith;
     turn_is = t;
     ends = breaks-nothing (a.waits ++ piece) 0 [] refl;
+    came = tt;
   }
 
-  -- no read is left
-  pub end-spent : (a : Moment S) → IsPartial a.waits → Session step a ended.Spent a
-  end-spent a partial = session-here a a ended.Spent [] a.waits [] [] 0 refl refl (All-nil IsMessage) refl (Appends-nil a.held) (omega arith) refl (partial, (refl, refl))
+  -- no read is left, and by each of so many a byte came at least
+  pub end-spent : (a b : Moment S) (x : Goes step a b) → IsPartial b.waits → MOST_READS ≤ length x.input → Session step a ended.Spent b
+  end-spent a b x partial came = record {
+    input = x.input;
+    messages = x.messages;
+    rest = b.waits;
+    replies = x.replies;
+    out = written_of x.replies;
+    count = length x.replies;
+    read = x.read;
+    whole = x.whole;
+    each = x.each;
+    run = x.run;
+    written = x.written;
+    counted = x.counted;
+    turn_is = x.turn_is;
+    ends = (partial, (refl, refl));
+    came = came;
+  }

@@ -1,10 +1,11 @@
 -- A session: the messages at the front of a stream are answered in order, whoever answers.
-use Rattle.std.specs.Prelude.{◌≡◌, ◌⊎◌, ℕ, ◌+◌, ◌<◌, Bool, false, List, [], ◌∷◌, ◌++◌, length, Option, Some, None, All}
+use Rattle.std.specs.Prelude.{◌≡◌, ◌⊎◌, ℕ, ◌+◌, ◌<◌, ◌≤◌, Bool, false, List, [], ◌∷◌, ◌++◌, length, Option, Some, None, All}
 use Rattle.std.specs.Io.KnownBytes.{Consumes, Appends, IsAtEnd}
 use Rattle.su_bytes.specs.declared.refusals.Refusal.{Refusal}
 use Rattle.su_message.specs.declared.requests.Request.{Request}
 use Rattle.su_message.specs.declared.replies.Reply.{Reply}
 use Rattle.su_session.specs.declared.sessions.End.{End}
+use Rattle.su_session.specs.declared.sessions.TheConstants.{MOST_READS}
 use Rattle.su_session.specs.declared.sessions.End.TheVariants.{Closed, Cut, Refused, ReadFailed, LinkFailed, Spent}
 use Rattle.su_session.specs.declared.sessions.Served.{Served}
 use Rattle.su_frames.specs.Stream.{fault, stream, IsMessage, IsPartial, IsRest}
@@ -54,6 +55,12 @@ Ends Refused answered known rest replies out =
 Ends ReadFailed answered known rest replies out = IsPartial rest × SaysAll answered replies out
 Ends Spent answered known rest replies out = IsPartial rest × SaysAll answered replies out
 Ends LinkFailed answered known rest replies out = Breaks answered rest replies out
+
+-- That a reader was read as often as it may be is told only where so many bytes came, one at least
+-- by each read.
+abbrev pub CameBefore : End → List ℕ → Type 0
+CameBefore Spent input = MOST_READS ≤ length input
+CameBefore end input = Unit {0}
 
 -- A moment of a session: the service, whether the turn is held, how many messages were answered,
 -- what was read and isn't answered, what the reader has left and what the writer holds, where these
@@ -118,6 +125,7 @@ module _ {S : Type 0} (answers : S → Request → Reply → S → Type 0) where
     pub counted : b.answered ≡ a.answered + count
     pub turn_is : b.turn ≡ turn_after a.turn replies
     pub ends : Ends end count b.known rest replies out
+    pub came : CameBefore end input
 
   -- a whole session, from its first moment to a turn given back
   pub record Serves (s : S) (known held : Option (List ℕ)) (served : Served)

@@ -1,5 +1,6 @@
 // Sessions over a reader and a writer.
-ghost use Rattle.std.specs.Prelude.{◌≡◌, ◌+◌, ◌<◌, ℕ, List, length, Option};
+ghost use Rattle.std.specs.Prelude.{◌≡◌, ◌+◌, ◌<◌, ◌≤◌, ℕ, List, length, IfOk, Option};
+ghost use Rattle.std.specs.Io.KnownBytes.{ReadConsumes};
 ghost use Rattle.su_session.specs.Session.{Serves, Session};
 ghost use Rattle.su_session.specs.Step.{at, Readies, Refills, Steps};
 
@@ -8,7 +9,8 @@ use crate::incoming::Incoming;
 use crate::services::Service;
 use crate::talks::Talk;
 use std::alloc::Global;
-use std::io::{ErrorKind, Write};
+use std::io;
+use std::io::{ErrorKind, Read, Write};
 use su_frames::{Frames, Sent};
 
 /// How often a reader is read at most.
@@ -30,7 +32,7 @@ pub enum End {
     ReadFailed,
     /// A write failed, or there was no memory for the session itself.
     LinkFailed,
-    /// The reader was read as often as it may be.
+    /// The reader was read as often as it may be, and each time there came at least a byte.
     Spent,
 }
 
@@ -205,19 +207,27 @@ impl Talk {
         reader.note_turn(self.turn);
         self.was_free = false;
         let mut chunk = [0u8; CHUNK];
-        match reader.read(&mut chunk) {
+        match read_anew(reader, &mut chunk) {
             Ok(0) => Refill::Ended,
             Ok(count) => match self.frames.feed(&chunk[..count]) {
                 Ok(()) => Refill::More,
                 Err(_) => Refill::Lost,
             },
-            Err(error) => {
-                if error.kind() == ErrorKind::Interrupted {
-                    Refill::More
-                } else {
-                    Refill::Failed
-                }
-            }
+            Err(_) => Refill::Failed,
         }
     }
+}
+
+/// Reads, and anew where that is interrupted; as often as a session reads at most.
+fn read_anew<R: Read>(reader: &mut R, chunk: &mut [u8; CHUNK]) -> io::Result<usize>
+    ensures bound { IfOk result (λ count. count ≤ 4096) }
+    ensures bytes { ReadConsumes (R.remaining reader.old) (R.remaining reader.new) result chunk.new }
+{
+    for _ in 0..MOST_READS {
+        match reader.read(chunk) {
+            Err(error) if error.kind() == ErrorKind::Interrupted => {}
+            told => return told,
+        }
+    }
+    Err(io::Error::from(ErrorKind::Interrupted))
 }

@@ -13,7 +13,7 @@ use crate::shard::Shard;
 use std::alloc::{AllocError, Global};
 use std::collections::BTreeSet;
 use std::marker::Model;
-use su_bytes::{Digest, Refusal};
+use su_bytes::{Digest, FileId, Refusal};
 
 /// A shard, the digests of which it was told that their items are kept elsewhere too, as far as
 /// there was memory to note them, and how many sessions pin each item. Its model is these. What a
@@ -191,7 +191,7 @@ impl Section {
     }
 
     /// Puts an item that is kept elsewhere too under its digest, as one that may go. `NoMemory`
-    /// where there is no room for it.
+    /// where there is no memory for it; then it isn't noted that it is kept elsewhere.
     pub(crate) fn share(
         &mut self,
         alloc: Global,
@@ -202,9 +202,13 @@ impl Section {
         ensures staying { self.new.held.staying ≡ self.old.held.staying }
         ensures pins { self.new.pins ≡ self.old.pins }
         ensures refused { IfErr result (λ e. e ≡ NoMemory) }
+        ensures unnoted { OnErr result (self.new.elsewhere ≡ self.old.elsewhere) }
     {
+        // names the type for the prover (docs/ARCHITECTURE.md, "Forms the kit wants")
+        let _none: Option<FileId> = None;
+        self.shard.share(alloc, digest, item)?;
         let _ = self.elsewhere.insert(*digest.as_bytes());
-        self.shard.share(alloc, digest, item)
+        Ok(())
     }
 
     /// Lets the item of a digest go, if it stays: it is kept elsewhere too, and nobody pins it any

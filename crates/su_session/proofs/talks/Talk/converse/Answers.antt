@@ -1,10 +1,10 @@
 use Rattle.std.proofs.Common.{◌∙◌, sym, refl, arith}
-use Rattle.su_session.proofs.Going.{none, some, goes-none, goes-then, goes-end, goes-read, end-closed, end-cut, end-unread, end-lost, end-spent}
+use Rattle.su_session.proofs.Going.{none, some, goes-none, goes-then, goes-end, goes-further, goes-reading, end-closed, end-cut, end-unread, end-lost, end-spent}
 use Rattle.su_session.proofs.Waiting.{partial_short}
 use Rattle.su_session.proofs.talks.Talk.converse.Goals as goal
 
 pub loop-init : goal.loop-init
-loop-init g c = (c.requires, goes-none g.S.Service.answers _)
+loop-init g c = (c.requires, goes-none g.S.Service.answers _, omega arith)
 
 pub returns-in-Some : goal.returns-in-Some
 returns-in-Some g c = goes-end g.S.Service.answers _ _ _ _ c.loop.invariant.1 (c.in-Some.ensures.says _)
@@ -42,9 +42,13 @@ returns-in-Lost g c =
 pub loop-preserved : goal.loop-preserved
 loop-preserved g c =
     let ready = c.in_default.ensures.says (g.R.Read.remaining c.loop.reader) in
-    let (piece, read, (frames, answered, turn)) = c.in-More.ensures.bytes in (
+    let (piece, read, some, (frames, answered, turn)) = c.in-More.ensures.bytes in
+    let (before, came) = goes-further g.S.Service.answers _ _ _ c.loop.invariant.1 ready.0 in
+    let (reading, more) = goes-reading g.S.Service.answers _ _ piece refl turn answered frames refl read in
+    let (all, length_is) = goes-further g.S.Service.answers _ _ _ before reading in (
       omega (arith, c.in-More.ensures.reads, c.in_default.ensures.reads, c.loop.invariant.0),
-      goes-then g.S.Service.answers _ _ _ (goes-then g.S.Service.answers _ _ _ c.loop.invariant.1 ready.0) (goes-read g.S.Service.answers _ _ piece refl turn answered frames refl read),
+      all,
+      omega (arith, some, more, came, length_is, c.loop.invariant.2),
     )
 
 pub returns-in-Some-answer_ready : goal.returns-in-Some-answer_ready
@@ -53,4 +57,5 @@ returns-in-Some-answer_ready g c = goes-end g.S.Service.answers _ _ _ _ c.loop.i
 pub returns-in-None : goal.returns-in-None
 returns-in-None g c =
     let ready = c.in-None.ensures.says (g.R.Read.remaining c.loop.reader) in
-    goes-end g.S.Service.answers _ _ _ _ (goes-then g.S.Service.answers _ _ _ c.loop.invariant.1 ready.0) (end-spent g.S.Service.answers _ ready.1)
+    let (all, came) = goes-further g.S.Service.answers _ _ _ c.loop.invariant.1 ready.0 in
+    end-spent g.S.Service.answers _ _ all ready.1 (omega (arith, came, c.loop.invariant.2))
