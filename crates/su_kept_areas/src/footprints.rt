@@ -40,12 +40,12 @@ impl Model for KeptFootprint {
 
 impl KeptFootprint {
     /// Keeps a footprint. Fails only with `NoMemory`.
-    pub fn new(alloc: Global, footprint: Footprint) -> Result<KeptFootprint, Refusal>
-        ensures value { IfOk result (λ kept. kept ≡ footprint) }
+    pub fn new(alloc: Global, footprint: &Footprint) -> Result<KeptFootprint, Refusal>
+        ensures value { IfOk result (λ kept. kept ≡ footprint.now) }
         ensures refused { IfErr result (λ e. e ≡ NoMemory) }
     {
-        let whole = Log::new().and(&footprint, &());
-        let (bytes, read) = spell(alloc, &footprint)?;
+        let whole = Log::new().and(footprint, &());
+        let (bytes, read) = spell(alloc, footprint)?;
         Ok(KeptFootprint { bytes, read, whole })
     }
 

@@ -27,8 +27,9 @@ use su_block::BlockSource;
 use su_bytes::{Format, KEY_LENGTH, Principal, Refusal, Roster, User};
 use su_desk::{Entry, KeptEntry, format_after};
 use su_lms::PublicKey;
-use su_op::{Area, Batch, Change, Footprint};
-use su_part_inverse::Inverse;
+use su_kept_areas::KeptFootprint;
+use su_op::{Area, Batch, Change};
+use su_part_inverse::{Inverse, KeptInverse};
 use su_stored_forest::StoredForest;
 use su_used_keys::UsedKeys;
 
@@ -239,6 +240,7 @@ impl<S: BlockSource> Desk<S> {
         };
         let footprint = accepted.footprint(self.alloc)?;
         let inverse = self.stored.keep(self.alloc, footprint.writes.as_slice())?;
+        let kept = KeptFootprint::new(self.alloc, &footprint)?;
         self.entries.reserve(1)?;
         self.kept.reserve(1)?;
         self.stored.perform(&accepted, &footprint)?;
@@ -254,8 +256,8 @@ impl<S: BlockSource> Desk<S> {
         let number = self.entries.len() as u64;
         self.kept.push_reserved(KeptOperation {
             number,
-            footprint,
-            inverse,
+            footprint: kept,
+            inverse: KeptInverse::new(inverse),
         });
         Ok(number)
     }
@@ -287,9 +289,11 @@ impl<S: BlockSource> Desk<S> {
     {
         let index = undo_index(&self.roster, &self.entries, &self.kept, author, number)?;
         self.entries.reserve(1)?;
-        self.stored.undo(self.alloc, &self.kept[index].inverse)?;
+        let written = self.kept[index].footprint.writes(self.alloc)?;
+        let inverse = self.kept[index].inverse.open(self.alloc)?;
+        self.stored.undo(self.alloc, inverse)?;
         let undone = self.kept.remove(index);
-        raise(&mut self.counters, author, &undone.footprint.writes);
+        raise(&mut self.counters, author, written.as_slice());
         let change = Change::Undo(number);
         let entry = Entry {
             author,
