@@ -1,4 +1,6 @@
 pub mod History
+pub mod KeptBatch
+pub mod KeptChange
 pub mod KeptEntry
 pub mod Applied
 pub mod Blocker
