@@ -1,5 +1,5 @@
 -- Outlines: each has one spelling, which begins no other.
-use Rattle.std.proofs.Common.{◌≡◌, ◌∙◌, ℕ, ◌<◌, ◌^◌, Bool, true, false, cond, nat_eq, List, [], ◌∷◌, ◌++◌, length, map, refl, sym, ap, subst, arith, ◌⊎◌}
+use Rattle.std.proofs.Common.{◌≡◌, ◌∙◌, ℕ, ◌<◌, ◌^◌, Bool, true, false, cond, nat_eq, List, [], ◌∷◌, ◌++◌, length, map, refl, sym, ap, subst, arith, ◌⊎◌, inl, inr}
 use Rattle.std.proofs.lemmas.List.{length-map}
 use Rattle.std.proofs.lemmas.Bool.{eqb-true}
 use Rattle.std.specs.Prelude.{Result, Ok, Err}
@@ -183,3 +183,19 @@ as_in_item (Rename r) other = refl
 as_in_item (Unlink u) other = refl
 as_in_item (Take t) other = refl
 as_in_item (Drop d) other = refl
+
+-- an outline that is read is that of these operations
+pub read_so : (bytes : List ℕ) (r : Result (List Op) Refusal) → Decodes outline_format bytes r → (ops : List Op) → IsOutlineOf ops bytes → (batch : List Op) → r ≡ Ok batch → batch ≡ map op_without_bytes ops
+read_so bytes r read ops is batch r_is = go (only bytes r read ops is)
+  where
+    go : (r ≡ Ok (map op_without_bytes ops)) ⊎ (r ≡ Err NoMemory) → batch ≡ map op_without_bytes ops
+    go (inl same) = cc
+    go (inr none) = absurd cc
+
+-- it is refused for want of memory alone
+pub not_refused : (bytes : List ℕ) (r : Result (List Op) Refusal) → Decodes outline_format bytes r → (ops : List Op) → IsOutlineOf ops bytes → (e : Refusal) → r ≡ Err e → (e ≡ NoMemory → ⊥) → ⊥
+not_refused bytes r read ops is e r_is other = go (only bytes r read ops is)
+  where
+    go : (r ≡ Ok (map op_without_bytes ops)) ⊎ (r ≡ Err NoMemory) → ⊥
+    go (inl same) = cc
+    go (inr none) = let same : e ≡ NoMemory = cc in other same

@@ -72,8 +72,10 @@ pub fn read_outline(alloc: Global, bytes: &[u8]) -> Result<Batch, AllocError>
 {
     match decode(alloc, bytes) {
         Ok(batch) => Ok(batch),
-        Err(Refusal::NoMemory) => Err(AllocError),
-        Err(_) => unreachable!(),
+        Err(refusal) => match refusal {
+            Refusal::NoMemory => Err(AllocError),
+            _ => unreachable!(),
+        },
     }
 }
 

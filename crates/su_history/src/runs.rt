@@ -56,15 +56,11 @@ fn goes_on(
     let entry = &entries[index];
     let before_undoer = undoers[index - 1];
     let undoer = undoers[index];
-    if before.author() != entry.author() {
-        return Ok(false);
-    }
-    if before_undoer.is_some() != undoer.is_some() {
-        return Ok(false);
-    }
-    let made = before.change(alloc)?;
-    let next = entry.change(alloc)?;
-    Ok(is_same_file(&made, &next))
+    let change_before = before.change(alloc)?;
+    let change = entry.change(alloc)?;
+    Ok(before.author() == entry.author()
+        && is_same_file(&change_before, &change)
+        && before_undoer.is_some() == undoer.is_some())
 }
 
 /// Returns the index behind the run of entries that begins with that one, the longest. Fails only for
@@ -87,7 +83,8 @@ pub(crate) fn end_of_run(
         (get_or (numbered entries.now) end d) ≡ false)) }
 {
     for index in first + 1..entries.len() {
-        if !goes_on(alloc, entries, undoers, index)? {
+        let goes = goes_on(alloc, entries, undoers, index)?;
+        if !goes {
             return Ok(index);
         }
     }
@@ -128,9 +125,11 @@ pub(crate) fn deed_of_run(
 pub(crate) fn fate_of(entry: &KeptEntry, undoer: Option<u64>) -> Fate
     ensures { result ≡ fate_of entry.now.change undoer }
 {
+    if !entry.is_operation() {
+        return Fate::Lasting;
+    }
     match undoer {
-        _ if !entry.is_operation() => Fate::Lasting,
-        None => Fate::Live,
         Some(by) => Fate::Undone(by),
+        None => Fate::Live,
     }
 }

@@ -14,4 +14,4 @@ returns-in_err-off c =
 
 pub returns : goal.returns
 unfolding place_fields
-returns c = rw c.new-bytes.ensures.items (then_took _ _ c.in_ok-file.ensures.takes (then_took _ _ c.in_ok-off.ensures.takes (made _ _)))
+returns c = rw c.new.ensures.items (then_took _ _ c.in_ok-file.ensures.takes (then_took _ _ c.in_ok-off.ensures.takes (made _ _)))
