@@ -58,9 +58,11 @@ fn goes_on(
     let undoer = undoers[index];
     let change_before = before.change(alloc)?;
     let change = entry.change(alloc)?;
-    Ok(before.author() == entry.author()
-        && is_same_file(&change_before, &change)
-        && before_undoer.is_some() == undoer.is_some())
+    Ok(
+        before.author() == entry.author()
+            && is_same_file(&change_before, &change)
+            && before_undoer.is_some() == undoer.is_some(),
+    )
 }
 
 /// Returns the index behind the run of entries that begins with that one, the longest. Fails only for
