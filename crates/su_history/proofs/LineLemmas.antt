@@ -20,8 +20,10 @@ use Rattle.su_history.proofs.RunLemmas.{first_between, last_between}
 
 pub lasts : (c : Change) (o : Option ℕ) → is_operation c ≡ false → Lasting ≡ fate_of c o
 lasts (Do ops) o no = absurd (true≢false no)
-lasts (Undo n) o no = refl
-lasts (Rekey k) o no = refl
+lasts (Undo n) None no = refl
+lasts (Undo n) (Some m) no = refl
+lasts (Rekey k) None no = refl
+lasts (Rekey k) (Some m) no = refl
 
 pub lives : (c : Change) (o : Option ℕ) → is_operation c ≡ true → o ≡ None → Live ≡ fate_of c o
 lives (Do ops) o yes none = ap (fate_of (Do ops)) (sym none)
