@@ -1,4 +1,5 @@
 pub mod History
+pub mod Filling
 pub mod KeptBatch
 pub mod KeptChange
 pub mod KeptEntry

@@ -1,9 +1,11 @@
 // What a history is made of, and what is answered to a change.
 ghost use Rattle.std.specs.Prelude.{◌≡◌, IfOk, option_copied};
+ghost use Rattle.su_desk.specs.Filling.{filling};
 ghost use Rattle.su_desk.specs.History.{entry_at, entry_by, format_after, undoer, undoes};
 ghost use Rattle.su_desk.specs.KeptChange.{whole};
 ghost use Rattle.su_desk.specs.KeptEntry.{is_operation, undone, without_bytes, written};
 
+use crate::fillings::Filling;
 use crate::kept_changes::KeptChange;
 use std::alloc::{AllocError, Global};
 use std::marker::Model;
@@ -74,6 +76,13 @@ impl KeptEntry {
         ensures { result ≡ written self.now.change }
     {
         self.change.written()
+    }
+
+    /// Returns what the change does to the bytes of a file, where it is one operation.
+    pub fn filling(&self) -> Filling
+        ensures { result ≡ filling self.now.change }
+    {
+        self.change.filling()
     }
 
     /// Returns the number of the entry that this one undoes, if it is an undo.

@@ -1,7 +1,9 @@
 // What a history keeps of a batch.
 ghost use Rattle.std.specs.Prelude.{◌≡◌, map, IfOk};
-ghost use Rattle.su_op.specs.Action.{batch_bytes, op_without_bytes};
+ghost use Rattle.su_desk.specs.Filling.{filling_of};
+ghost use Rattle.su_op.specs.Action.{batch_bytes, only_of, op_without_bytes};
 
+use crate::fillings::Filling;
 use http_server::Log;
 use std::alloc::{AllocError, Global};
 use std::marker::Model;
@@ -16,6 +18,8 @@ pub struct KeptBatch {
     outline: Vec<u8>,
     /// How many bytes the batch writes.
     written: u64,
+    /// What its operation does to the bytes of a file, where it is one.
+    filling: Filling,
     /// The whole batch alone, which proofs read. (`Log` is the kit's list that no memory holds.)
     whole: Log<Batch, ()>,
 }
@@ -29,7 +33,7 @@ impl Model for KeptBatch {
 
     ghost view = { λ k. first_in k.whole.items };
 
-    ghost invariant = { λ k. IsKeptAs k.outline.items k.written (first_in k.whole.items) };
+    ghost invariant = { λ k. IsKeptAs k.outline.items k.written k.filling (first_in k.whole.items) };
 }
 
 impl KeptBatch {
@@ -41,6 +45,7 @@ impl KeptBatch {
         Ok(KeptBatch {
             outline,
             written: batch.written(),
+            filling: Filling::of(batch),
             whole: Log::new().and(batch, &()),
         })
     }
@@ -57,5 +62,12 @@ impl KeptBatch {
         ensures { result ≡ batch_bytes self.now }
     {
         self.written
+    }
+
+    /// Returns what the operation does to the bytes of a file, where it is one.
+    pub(crate) fn filling(&self) -> Filling
+        ensures { result ≡ filling_of (only_of self.now) }
+    {
+        self.filling
     }
 }

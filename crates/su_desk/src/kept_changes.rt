@@ -1,9 +1,11 @@
 // What a history keeps of a change.
 ghost use Rattle.std.specs.Prelude.{◌≡◌, IfOk};
+ghost use Rattle.su_desk.specs.Filling.{filling};
 ghost use Rattle.su_desk.specs.History.{undoes};
 ghost use Rattle.su_desk.specs.KeptChange.{whole};
 ghost use Rattle.su_desk.specs.KeptEntry.{is_operation, undone, without_bytes, written};
 
+use crate::fillings::Filling;
 use crate::kept_batches::KeptBatch;
 use std::alloc::{AllocError, Global};
 use su_bytes::KEY_LENGTH;
@@ -48,6 +50,16 @@ impl KeptChange {
         match self {
             KeptChange::Do(batch) => batch.written(),
             _ => 0,
+        }
+    }
+
+    /// Returns what the change does to the bytes of a file, where it is one operation.
+    pub(crate) fn filling(&self) -> Filling
+        ensures { result ≡ filling (whole self.now) }
+    {
+        match self {
+            KeptChange::Do(batch) => batch.filling(),
+            _ => Filling::Neither,
         }
     }
 

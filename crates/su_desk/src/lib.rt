@@ -3,12 +3,14 @@
 #![tactic(auto)]
 
 mod entries;
+mod fillings;
 mod kept_batches;
 mod kept_changes;
 mod laws;
 mod prepared;
 
 pub use entries::{DeskReply, Entry, KeptEntry, entry_at, format_after, undoer_in};
+pub use fillings::Filling;
 pub use kept_batches::KeptBatch;
 pub use kept_changes::KeptChange;
 pub use laws::{
