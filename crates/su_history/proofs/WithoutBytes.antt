@@ -16,7 +16,7 @@ use Rattle.su_desk.specs.KeptEntry.{without_bytes, written}
 use Rattle.su_history.specs.Several.{SeveralOperations}
 use Rattle.su_history.specs.declared.line.Deed.{Deed}
 use Rattle.su_history.specs.declared.line.Deed.TheVariants.{Wrote, Together}
-use Rattle.su_history.specs.Line.{are_one, deed_beside_takes, deed_of, deed_of_batch, deed_of_op, deed_of_row, edited, edited_by, edits, fate_of, files_named, files_of, filled, filled_by, is_no_take, is_row, is_same_file, last_op, several}
+use Rattle.su_history.specs.Line.{are_one, deed_beside_takes, deed_of, deed_of_batch, deed_of_op, deed_of_row, edited, edited_by, edits, files_named, files_of, filled, filled_by, is_no_take, is_row, is_same_file, last_op, several}
 
 -- ---- of operations
 
@@ -193,9 +193,3 @@ many_told (Do (x ∷ y ∷ ops)) batch n is only n_is =
     ap (λ (os : List Op). deed_of_batch os n) same ∙ ap (deed_of_batch (map op_without_bytes (x ∷ y ∷ ops))) n_is ∙ many_deed_so (x ∷ y ∷ ops)
 many_told (Undo m) batch n is only n_is = absurd cc
 many_told (Rekey k) batch n is only n_is = absurd cc
-
-pub fate_so : (c : Change) (by : Option ℕ) → fate_of (without_bytes c) by ≡ fate_of c by
-fate_so (Do ops) None = refl
-fate_so (Do ops) (Some n) = refl
-fate_so (Undo n) by = refl
-fate_so (Rekey k) by = refl

@@ -42,7 +42,8 @@ pub(crate) fn is_same(file: FileId, other: FileId) -> bool
 pub(crate) fn deed_of(alloc: Global, entry: &KeptEntry) -> Result<Deed, AllocError>
     ensures { IfOk result (λ deed. deed ≡ deed_of entry.now.change) }
 {
-    match entry.change() {
+    let change = entry.change(alloc)?;
+    match &change {
         Change::Do(batch) => match batch.only() {
             Some(op) => deed_of_row(op, op, entry.written()),
             None => deed_of_batch(alloc, batch, entry.written()),

@@ -19,7 +19,7 @@ pub fn lines(alloc: Global, entries: &[KeptEntry]) -> Result<Vec<Line>, AllocErr
     let mut lines = Vec::new(alloc);
     let mut first = 0;
     while first < entries.len() {
-        let end = end_of_run(entries, undoers.as_slice(), first);
+        let end = end_of_run(alloc, entries, undoers.as_slice(), first)?;
         lines.push(line(alloc, entries, undoers.as_slice(), first, end)?)?;
         first = end;
     }
@@ -52,6 +52,6 @@ fn line(
         last: end as u64,
         author: opening.author(),
         deed: deed_of_run(alloc, opening, closing, bytes)?,
-        fate: fate_of(closing.change(), undoer),
+        fate: fate_of(closing, undoer),
     })
 }

@@ -37,43 +37,60 @@ fn is_same_file(before: &Change, change: &Change) -> bool
     }
 }
 
-/// Tells whether the entry of that index goes on with the one before it.
-fn goes_on(entries: &[KeptEntry], undoers: &[Option<u64>], index: usize) -> bool
+/// Tells whether the entry of that index goes on with the one before it. Fails only for want of
+/// memory.
+fn goes_on(
+    alloc: Global,
+    entries: &[KeptEntry],
+    undoers: &[Option<u64>],
+    index: usize,
+) -> Result<bool, AllocError>
     requires undoers { AreUndoers entries.now undoers.now }
     requires some { 0 < index }
     requires there { index < length entries.now }
-    ensures { (d : NumberedEntry) → result
+    ensures { IfOk result (λ goes. (d : NumberedEntry) → goes
         ≡ goes_on (get_or (numbered entries.now) (index - 1) d)
-        (get_or (numbered entries.now) index d) }
+        (get_or (numbered entries.now) index d)) }
 {
     let before = &entries[index - 1];
     let entry = &entries[index];
     let before_undoer = undoers[index - 1];
     let undoer = undoers[index];
-    before.author() == entry.author()
-        && is_same_file(before.change(), entry.change())
-        && before_undoer.is_some() == undoer.is_some()
+    let change_before = before.change(alloc)?;
+    let change = entry.change(alloc)?;
+    Ok(
+        before.author() == entry.author()
+            && is_same_file(&change_before, &change)
+            && before_undoer.is_some() == undoer.is_some(),
+    )
 }
 
-/// Returns the index behind the run of entries that begins with that one, the longest.
-pub(crate) fn end_of_run(entries: &[KeptEntry], undoers: &[Option<u64>], first: usize) -> usize
+/// Returns the index behind the run of entries that begins with that one, the longest. Fails only for
+/// want of memory.
+pub(crate) fn end_of_run(
+    alloc: Global,
+    entries: &[KeptEntry],
+    undoers: &[Option<u64>],
+    first: usize,
+) -> Result<usize, AllocError>
     requires undoers { AreUndoers entries.now undoers.now }
     requires there { first < length entries.now }
-    ensures above { first < result }
-    ensures inside { result ≤ length entries.now }
-    ensures goes_on { (i : ℕ) (d : NumberedEntry) → first < i → i < result
+    ensures above { IfOk result (λ end. first < end) }
+    ensures inside { IfOk result (λ end. end ≤ length entries.now) }
+    ensures goes_on { IfOk result (λ end. (i : ℕ) (d : NumberedEntry) → first < i → i < end
         → goes_on (get_or (numbered entries.now) (i - 1) d) (get_or (numbered entries.now) i d)
-        ≡ true }
-    ensures longest { (d : NumberedEntry) → (result ≡ length entries.now)
-        ⊎ (goes_on (get_or (numbered entries.now) (result - 1) d)
-        (get_or (numbered entries.now) result d) ≡ false) }
+        ≡ true) }
+    ensures longest { IfOk result (λ end. (d : NumberedEntry) → (end ≡ length entries.now)
+        ⊎ (goes_on (get_or (numbered entries.now) (end - 1) d)
+        (get_or (numbered entries.now) end d) ≡ false)) }
 {
     for index in first + 1..entries.len() {
-        if !goes_on(entries, undoers, index) {
-            return index;
+        let goes = goes_on(alloc, entries, undoers, index)?;
+        if !goes {
+            return Ok(index);
         }
     }
-    entries.len()
+    Ok(entries.len())
 }
 
 /// Returns how many bytes the entries write in all; `None` where they are 2^64 or more.
@@ -98,7 +115,8 @@ pub(crate) fn deed_of_run(
 ) -> Result<Deed, AllocError>
     ensures { IfOk result (λ deed. deed ≡ deed_of_run first.now.change last.now.change bytes) }
 {
-    match first.change().operation() {
+    let change = first.change(alloc)?;
+    match change.operation() {
         Some(Op::Truncate(_)) if bytes == 0 => deed_of(alloc, last),
         Some(op) => deed_of_row(op, op, bytes),
         None => deed_of(alloc, first),
@@ -106,12 +124,14 @@ pub(crate) fn deed_of_run(
 }
 
 /// Returns what became of an entry, of which it is told which one undid it.
-pub(crate) fn fate_of(change: &Change, undoer: Option<u64>) -> Fate
-    ensures { result ≡ fate_of change.now undoer }
+pub(crate) fn fate_of(entry: &KeptEntry, undoer: Option<u64>) -> Fate
+    ensures { result ≡ fate_of entry.now.change undoer }
 {
-    match (change, undoer) {
-        (Change::Do(_), None) => Fate::Live,
-        (Change::Do(_), Some(by)) => Fate::Undone(by),
-        _ => Fate::Lasting,
+    if !entry.is_operation() {
+        return Fate::Lasting;
+    }
+    match undoer {
+        Some(by) => Fate::Undone(by),
+        None => Fate::Live,
     }
 }

@@ -77,7 +77,7 @@ fn long_line(
     let name = short_line(alloc, found)?;
     let holder = name_of(alloc, team, found.stat.holder)?;
     let size = size_text(alloc, found)?;
-    match last_change(entries, &found.file) {
+    match last_change(alloc, entries, &found.file)? {
         Some((number, author)) => {
             let author = name_of(alloc, team, author)?;
             format!(in alloc; "{name:<24} {size:>10}  commit {number} {author}")
@@ -130,7 +130,7 @@ fn json_object(
     } else {
         "file"
     };
-    let last = last_change(entries, &found.file).map_or(0, |(number, _)| number);
+    let last = last_change(alloc, entries, &found.file)?.map_or(0, |(number, _)| number);
     format!(in alloc;
         "{{\"path\":\"{path}\",\"kind\":\"{kind}\",\"size\":{size},\
 \"holder\":\"{holder}\",\"last\":{last}}}"

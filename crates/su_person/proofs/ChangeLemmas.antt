@@ -11,8 +11,9 @@ use Rattle.su_op.specs.declared.operations.Op.TheVariants.{Create, Unlink, Write
 use Rattle.su_op.specs.declared.operations.Change.{Change}
 use Rattle.su_op.specs.declared.operations.Change.TheVariants.{Do, Undo, Rekey}
 use Rattle.su_desk.specs.declared.entries.Entry.{Entry}
-use Rattle.su_desk.specs.KeptEntry.{without_bytes}
-use Rattle.su_person.specs.LastChange.{changes_bytes, does_change, last_from, touches}
+use Rattle.su_desk.specs.History.{entry_at}
+use Rattle.su_desk.specs.KeptEntry.{undone, without_bytes}
+use Rattle.su_person.specs.LastChange.{changes_bytes, does_change, does_change_at, last_from, touches}
 
 pub last_more : (n : ℕ) (h : List Entry) (f : FileId) (es : List Entry) (e : Entry)
     → last_from n h f (es ++ e ∷ []) ≡ cond (touches h f e.change) (Some (n + length es, e.author)) (last_from n h f es)
@@ -63,8 +64,14 @@ does_so f (Do ops) = any_changes_so f ops
 does_so f (Undo n) = refl
 does_so f (Rekey k) = refl
 
--- a change touches the bytes of a file as it does without its own
-pub touches_so : (h : List Entry) (f : FileId) (c : Change) → touches h f (without_bytes c) ≡ touches h f c
-touches_so h f (Do ops) = any_changes_so f ops
-touches_so h f (Undo n) = refl
-touches_so h f (Rekey k) = refl
+-- a change that is no undo touches the bytes of a file where it changes them
+pub no_undo_touches : (h : List Entry) (f : FileId) (c : Change) → undone c ≡ None → touches h f c ≡ does_change f c
+no_undo_touches h f (Do ops) none = refl
+no_undo_touches h f (Undo n) none = absurd cc
+no_undo_touches h f (Rekey k) none = refl
+
+-- an undo touches those that the undone one changed
+pub undo_touches : (h : List Entry) (f : FileId) (c : Change) (n : ℕ) → undone c ≡ Some n → touches h f c ≡ does_change_at f (entry_at h n)
+undo_touches h f (Do ops) n some = absurd cc
+undo_touches h f (Undo m) n some = let same : m ≡ n = cc in ap (λ (k : ℕ). does_change_at f (entry_at h k)) same
+undo_touches h f (Rekey k) n some = absurd cc

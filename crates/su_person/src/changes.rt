@@ -1,39 +1,60 @@
 // Which entry of a history changed the bytes of a file last.
-ghost use Rattle.std.specs.Prelude.{◌≡◌, option_copied};
+ghost use Rattle.std.specs.Prelude.{◌≡◌, IfOk, option_copied};
 ghost use Rattle.std.specs.List.{list_any};
 ghost use Rattle.su_bytes.specs.Place.{file_eq};
 ghost use Rattle.su_desk.specs.History.{entry_at};
 ghost use Rattle.su_person.specs.LastChange.{changes_bytes, does_change, last_change, touches};
 
+use std::alloc::{AllocError, Global};
 use su_bytes::{FileId, User};
 use su_desk::KeptEntry;
 use su_op::{Batch, Change, Op};
 
 /// Returns the number of the last entry of a history that changed the bytes of a file, and its author,
-/// if one did: it made the file, wrote to it or cut it, or undid an entry that had.
-pub fn last_change(entries: &[KeptEntry], file: &FileId) -> Option<(u64, User)>
-    ensures { result ≡ last_change entries.now file.now }
+/// if one did: it made the file, wrote to it or cut it, or undid an entry that had. Fails only for want
+/// of memory.
+pub fn last_change(
+    alloc: Global,
+    entries: &[KeptEntry],
+    file: &FileId,
+) -> Result<Option<(u64, User)>, AllocError>
+    ensures { IfOk result (λ last. last ≡ last_change entries.now file.now) }
 {
     let mut last = None;
     for (index, entry) in entries.iter().enumerate() {
-        if touches(entries, entry.change(), file) {
+        let is_touched = touches(alloc, entries, entry, file)?;
+        if is_touched {
             last = Some((index as u64 + 1, entry.author()));
         }
     }
-    last
+    Ok(last)
 }
 
-/// Tells whether a change of a history changes the bytes of a file, or undoes one that did.
-fn touches(entries: &[KeptEntry], change: &Change, file: &FileId) -> bool
-    ensures { result ≡ touches entries.now file.now change.now }
+/// Tells whether an entry of a history changes the bytes of a file, or undoes one that did. Fails only
+/// for want of memory.
+fn touches(
+    alloc: Global,
+    entries: &[KeptEntry],
+    entry: &KeptEntry,
+    file: &FileId,
+) -> Result<bool, AllocError>
+    ensures { IfOk result (λ t. t ≡ touches entries.now file.now entry.now.change) }
 {
-    match change {
-        Change::Undo(number) => match entry_of(entries, *number) {
-            Some(entry) => does_change(entry.change(), file),
-            None => false,
-        },
-        change => does_change(change, file),
+    let Some(number) = entry.undone() else {
+        return entry_changes(alloc, entry, file);
+    };
+    match entry_of(entries, number) {
+        Some(undone) => entry_changes(alloc, undone, file),
+        None => Ok(false),
     }
+}
+
+/// Tells whether an entry changes the bytes of a file. Fails only for want of memory.
+fn entry_changes(alloc: Global, entry: &KeptEntry, file: &FileId) -> Result<bool, AllocError>
+    ensures { IfOk result (λ does. does ≡ does_change file.now entry.now.change) }
+{
+    let change = entry.change(alloc)?;
+    Ok(does_change(&change, file))
 }
 
 /// Returns the entry of a number, if there is one.

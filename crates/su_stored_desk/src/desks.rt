@@ -25,7 +25,7 @@ use crate::versions::{first_versions, raise};
 use std::alloc::Global;
 use su_block::BlockSource;
 use su_bytes::{Format, KEY_LENGTH, Principal, Refusal, Roster, User};
-use su_desk::{Entry, KeptEntry, format_after};
+use su_desk::{KeptBatch, KeptChange, KeptEntry, format_after};
 use su_lms::PublicKey;
 use su_kept_areas::KeptFootprint;
 use su_op::{Area, Batch, Change};
@@ -243,16 +243,12 @@ impl<S: BlockSource> Desk<S> {
         let kept = KeptFootprint::new(self.alloc, &footprint)?;
         self.entries.reserve(1)?;
         self.kept.reserve(1)?;
+        let operations = KeptBatch::new(self.alloc, &batch)?;
         self.stored.perform(&accepted, &footprint)?;
         raise(&mut self.counters, author, footprint.writes.as_slice());
-        let change = Change::Do(batch);
-        let entry = Entry {
-            author,
-            format,
-            change,
-        };
+        let change = KeptChange::Do(operations);
         self.entries
-            .push_reserved(KeptEntry::new(self.alloc, entry));
+            .push_reserved(KeptEntry::new(author, format, change));
         let number = self.entries.len() as u64;
         self.kept.push_reserved(KeptOperation {
             number,
@@ -294,14 +290,9 @@ impl<S: BlockSource> Desk<S> {
         self.stored.undo(self.alloc, inverse)?;
         let undone = self.kept.remove(index);
         raise(&mut self.counters, author, written.as_slice());
-        let change = Change::Undo(number);
-        let entry = Entry {
-            author,
-            format,
-            change,
-        };
+        let change = KeptChange::Undo(number);
         self.entries
-            .push_reserved(KeptEntry::new(self.alloc, entry));
+            .push_reserved(KeptEntry::new(author, format, change));
         Ok((index, undone))
     }
 
@@ -323,17 +314,12 @@ impl<S: BlockSource> Desk<S> {
     {
         self.check_key(author, &key)?;
         self.entries.reserve(1)?;
+        let change = KeptChange::new(self.alloc, &Change::Rekey(key))?;
         self.used.reserve()?;
         self.used.add(key);
         raise(&mut self.counters, author, &[]);
-        let change = Change::Rekey(key);
-        let entry = Entry {
-            author,
-            format,
-            change,
-        };
         self.entries
-            .push_reserved(KeptEntry::new(self.alloc, entry));
+            .push_reserved(KeptEntry::new(author, format, change));
         Ok(())
     }
 

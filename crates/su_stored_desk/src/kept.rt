@@ -9,7 +9,6 @@ ghost use Rattle.su_stored_desk.specs.Keeping.{AreKept, IsIndexOf, last_kept_rea
 use su_bytes::{Refusal, Roster, User};
 use su_desk::{KeptEntry, entry_at, undoer_in};
 use su_kept_areas::KeptFootprint;
-use su_op::Change;
 use su_part_inverse::KeptInverse;
 
 /// A live operation, by its number: the cells that it read and wrote, and what those that it wrote
@@ -75,9 +74,9 @@ pub(crate) fn live_index(
     let Some(entry) = entry_at(entries, number) else {
         return Err(Refusal::NoOperation(number));
     };
-    let Change::Do(_) = entry.change() else {
+    if !entry.is_operation() {
         return Err(Refusal::NotOperation(number));
-    };
+    }
     match undoer_in(entries, number) {
         Some(by) => Err(Refusal::AlreadyUndone(number, by)),
         None => Err(Refusal::NoOperation(number)),

@@ -16,7 +16,7 @@ use crate::versions::raise;
 use std::alloc::Global;
 use su_block::BlockSource;
 use su_bytes::{Principal, Refusal};
-use su_desk::{Entry, KeptEntry};
+use su_desk::{Entry, KeptChange, KeptEntry};
 use su_kept_areas::KeptFootprint;
 use su_op::Footprint;
 use su_part_inverse::{Inverse, KeptInverse};
@@ -70,12 +70,13 @@ impl<S: BlockSource> Desk<S> {
         let kept = KeptFootprint::new(self.alloc, &footprint)?;
         self.entries.reserve(1)?;
         self.kept.reserve(1)?;
+        let change = KeptChange::new(self.alloc, &entry.change)?;
         raise(&mut counters, author, footprint.writes.as_slice());
         self.counters = counters;
         let first = self.entries.len().saturating_sub(count);
         self.entries.truncate(first);
         self.entries
-            .push_reserved(KeptEntry::new(self.alloc, entry));
+            .push_reserved(KeptEntry::new(author, entry.format, change));
         let first = self.kept.len().saturating_sub(count);
         let number = self.entries.len() as u64;
         self.kept.truncate(first);
