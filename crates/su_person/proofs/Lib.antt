@@ -1,4 +1,5 @@
 pub mod Working
 pub mod StepLemmas
 pub mod ChangeLemmas
+pub mod FoundLemmas
 pub mod PutLemmas

@@ -1,0 +1,8 @@
+use Rattle.su_person.proofs.FoundLemmas.{change_read, if_ok}
+use Rattle.su_person.proofs.found_changes.FoundChanges.note_entry.Goals as goal
+
+pub returns : goal.returns
+returns c =
+    if_ok c.note_change.result
+    (change_read c.args.self.now c.note_change.new.self (c.args.number, c.args.author) c.args.changing.now.change c.in_ok-change.change c.in_ok-change.ensures)
+    c.note_change.ensures
