@@ -179,6 +179,11 @@ pub change_read : (before after : FoundChanges) (last : ℕ × ℕ) (c read : Ch
 change_read before after last c read is notes = λ f.
     notes f ∙ ap (λ (b : Bool). noting b last (noted_of before f)) (ap (does_change f) is ∙ does_so f c)
 
+-- a change of one operation
+pub lone_noted : (before after : FoundChanges) (last : ℕ × ℕ) (c : Change) (g : FileId) → ((f : FileId) → does_change f c ≡ file_eq f g)
+    → Notes (λ (f : FileId). file_eq f g) last before after → Notes (λ (f : FileId). does_change f c) last before after
+lone_noted before after last c g one notes = λ f. notes f ∙ ap (λ (b : Bool). noting b last (noted_of before f)) (sym (one f))
+
 pub if_ok : {A E : Type 0} {P Q : Type 0} (r : Result A E) → (P → Q) → OnOk r P → OnOk r Q
 if_ok (Ok a) so p = so p
 if_ok (Err e) so p = p

@@ -1,5 +1,5 @@
 // Which entry of a history changed the bytes of a file last.
-ghost use Rattle.std.specs.Prelude.{◌≡◌, IfOk, map, option_copied};
+ghost use Rattle.std.specs.Prelude.{◌≡◌, IfOk, IfSome, map, option_copied};
 ghost use Rattle.std.specs.List.{list_any};
 ghost use Rattle.su_bytes.specs.Place.{file_eq};
 ghost use Rattle.su_bytes.specs.declared.file_ids.FileId.{FileId};
@@ -8,7 +8,7 @@ ghost use Rattle.su_person.specs.LastChange.{changes_bytes, does_change, does_ch
 use crate::found_changes::FoundChanges;
 use std::alloc::{AllocError, Global};
 use su_bytes::{FileId, User};
-use su_desk::{KeptEntry, entry_at};
+use su_desk::{Filling, KeptEntry, entry_at};
 use su_op::{Batch, Change, Op};
 
 /// Returns the number of the last entry of a history that changed the bytes of a file, and its author,
@@ -31,8 +31,8 @@ pub fn last_change(
     Ok(None)
 }
 
-/// Returns the same of each of several files, in their order. Each entry is read once for all of them,
-/// and once more where it is undone. Fails only for want of memory.
+/// Returns the same of each of several files, in their order: in one pass for all of them, which reads
+/// an entry once, and once more where it is undone. Fails only for want of memory.
 pub fn last_changes(
     alloc: Global,
     entries: &[KeptEntry],
@@ -78,10 +78,25 @@ fn changed_by<'a>(entries: &'a [KeptEntry], entry: &'a KeptEntry) -> Option<&'a 
     }
 }
 
+/// Returns the file that an entry makes, writes to or cuts, where it is one operation: no other file's
+/// bytes does it change. `None` tells nothing.
+pub(crate) fn filled(entry: &KeptEntry) -> Option<FileId>
+    ensures { IfSome result (λ g. (f : FileId) → does_change f entry.now.change ≡ file_eq f g) }
+{
+    match entry.filling() {
+        Filling::Makes(file) => Some(file),
+        Filling::Edits(file) => Some(file),
+        Filling::Neither => None,
+    }
+}
+
 /// Tells whether an entry changes the bytes of a file. Fails only for want of memory.
 fn entry_changes(alloc: Global, entry: &KeptEntry, file: &FileId) -> Result<bool, AllocError>
     ensures { IfOk result (λ does. does ≡ does_change file.now entry.now.change) }
 {
+    if let Some(other) = filled(entry) {
+        return Ok(is_same(file, &other));
+    }
     let change = entry.change(alloc)?;
     Ok(does_change(&change, file))
 }

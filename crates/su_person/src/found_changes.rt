@@ -6,6 +6,7 @@ ghost use Rattle.su_bytes.specs.declared.file_ids.FileId.{FileId};
 ghost use Rattle.su_person.specs.FoundChanges.{Notes, found_of, is_asked, is_missing, key_of, noted_of};
 ghost use Rattle.su_person.specs.LastChange.{changes_bytes, does_change};
 
+use crate::changes::filled;
 use std::alloc::{AllocError, Global};
 use std::collections::BTreeMap;
 use su_bytes::{FileId, User};
@@ -47,6 +48,9 @@ impl FoundChanges {
         ensures { OnOk result (Notes (λ f. does_change f changing.now.change) (number, author)
             self.old self.new) }
     {
+        if let Some(file) = filled(changing) {
+            return self.note(&file, number, author);
+        }
         let change = changing.change(alloc)?;
         self.note_change(&change, number, author)
     }
