@@ -19,21 +19,21 @@ use Rattle.su_history.proofs.RunLemmas.{first_between, last_between}
 -- ---- what became of an entry
 
 pub lasts : (c : Change) (o : Option ℕ) → is_operation c ≡ false → Lasting ≡ fate_of c o
-lasts (Do ops) o no = absurd (true≢false no)
-lasts (Undo n) None no = refl
-lasts (Undo n) (Some m) no = refl
-lasts (Rekey k) None no = refl
-lasts (Rekey k) (Some m) no = refl
+lasts (Do ops) o lasting = absurd (true≢false lasting)
+lasts (Undo n) None lasting = refl
+lasts (Undo n) (Some m) lasting = refl
+lasts (Rekey k) None lasting = refl
+lasts (Rekey k) (Some m) lasting = refl
 
 pub lives : (c : Change) (o : Option ℕ) → is_operation c ≡ true → o ≡ None → Live ≡ fate_of c o
-lives (Do ops) o yes none = ap (fate_of (Do ops)) (sym none)
-lives (Undo n) o yes none = absurd (true≢false (sym yes))
-lives (Rekey k) o yes none = absurd (true≢false (sym yes))
+lives (Do ops) o operation none = ap (fate_of (Do ops)) (sym none)
+lives (Undo n) o operation none = absurd (true≢false (sym operation))
+lives (Rekey k) o operation none = absurd (true≢false (sym operation))
 
 pub was_undone : (c : Change) (o : Option ℕ) (n : ℕ) → is_operation c ≡ true → o ≡ Some n → Undone n ≡ fate_of c o
-was_undone (Do ops) o n yes some = ap (fate_of (Do ops)) (sym some)
-was_undone (Undo m) o n yes some = absurd (true≢false (sym yes))
-was_undone (Rekey k) o n yes some = absurd (true≢false (sym yes))
+was_undone (Do ops) o n operation some = ap (fate_of (Do ops)) (sym some)
+was_undone (Undo m) o n operation some = absurd (true≢false (sym operation))
+was_undone (Rekey k) o n operation some = absurd (true≢false (sym operation))
 
 -- ---- how many bytes are written
 

@@ -19,7 +19,7 @@ pub fn lines(alloc: Global, entries: &[KeptEntry]) -> Result<Vec<Line>, AllocErr
     let mut lines = Vec::new(alloc);
     let mut first = 0;
     while first < entries.len() {
-        let end = end_of_run(alloc, entries, undoers.as_slice(), first)?;
+        let end = end_of_run(entries, undoers.as_slice(), first);
         lines.push(line(alloc, entries, undoers.as_slice(), first, end)?)?;
         first = end;
     }

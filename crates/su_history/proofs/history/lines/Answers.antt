@@ -8,11 +8,11 @@ use Rattle.su_history.proofs.history.lines.Goals as goal
 pub loop-first-preserved : goal.loop-first-preserved
 loop-first-preserved c =
     let h = c.args.entries.now in
-    let more = one_line_more h c.loop-first.first c.in_ok-end.end c.loop-first.lines.items c.in_ok-line.field-0 c.in_ok-end.ensures.above c.in_ok-end.ensures.inside c.in_ok-end.ensures.goes_on
-    c.in_ok-end.ensures.longest c.in_ok-line.ensures c.loop-first.invariant.lines in
+    let more = one_line_more h c.loop-first.first c.end_of_run-end.result c.loop-first.lines.items c.in_ok-line.field-0 c.end_of_run-end.ensures.above c.end_of_run-end.ensures.inside c.end_of_run-end.ensures.goes_on
+    c.end_of_run-end.ensures.longest c.in_ok-line.ensures c.loop-first.invariant.lines in
     record {
-      within = c.in_ok-end.ensures.inside;
-      lines = more ∙ ap (λ ls. ls ++ map line_of (runs (drop c.in_ok-end.end (numbered h)))) (sym c.in_ok-push.ensures.items);
+      within = c.end_of_run-end.ensures.inside;
+      lines = more ∙ ap (λ ls. ls ++ map line_of (runs (drop c.end_of_run-end.result (numbered h)))) (sym c.in_ok-push.ensures.items);
     }
 
 pub returns : goal.returns

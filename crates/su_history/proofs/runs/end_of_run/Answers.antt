@@ -7,5 +7,5 @@ pub loop-index-preserved : goal.loop-index-preserved
 loop-index-preserved c = λ i d low high.
     let es = numbered c.args.entries.now in
     ⊎_elim (λ before. c.loop-index.invariant i d low before)
-    (λ here. subst (λ k. goes_on (get_or es (k - 1) d) (get_or es k d) ≡ true) (omega (arith, here, high)) (sym (c.in_ok-goes.ensures d) ∙ c.if-not-goes.false))
+    (λ here. subst (λ k. goes_on (get_or es (k - 1) d) (get_or es k d) ≡ true) (omega (arith, here, high)) (sym (c.goes_on.ensures d) ∙ c.if-not-goes_on.false))
     (cases_lt i c.loop-index.index)

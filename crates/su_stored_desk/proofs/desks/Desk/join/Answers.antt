@@ -35,7 +35,7 @@ returns-clause-right g c d ops right change long many fits were each joined befo
     = omega (arith, c.saturating_sub-first-2.ensures, c.len-2.ensures, c.reserve-2.new.self.ok.0, ap length c.in_ok-reserve-2.ensures.items, long) in
     let k : KeptOperation = record { number = c.len-number.result; footprint = c.args.footprint; inverse = c.args.inverse } in
     let entries : c.push_reserved.new.self.items ≡ d.history ++ e ∷ []
-    = c.push_reserved.ensures.items ∙ ap (λ (x : Entry). c.truncate.new.self.items ++ x ∷ []) (c.new.ensures ∙ ap (entry_by e.author e.format) c.in_ok-change.ensures)
+    = c.push_reserved.ensures.items ∙ ap (λ (x : Entry). c.truncate.new.self.items ++ x ∷ []) (c.new-2.ensures ∙ ap (entry_by e.author e.format) c.in_ok-change.ensures)
     ∙ ap (λ h. h ++ e ∷ []) (c.truncate.ensures.items ∙ (λ i. take (first i) (c.in_ok-reserve.ensures.items i)) ∙ entries_before d e.author e.format ops s.entries.items c.args.count all long) in
     let kept : c.push_reserved-2.new.self.items ≡ take (length ks - length ops) ks ++ k ∷ []
     = c.push_reserved-2.ensures.items ∙ ap (λ l. l ++ k ∷ []) (c.truncate-2.ensures.items ∙ (λ i. take (first-2 i) (c.in_ok-reserve-2.ensures.items i))) in

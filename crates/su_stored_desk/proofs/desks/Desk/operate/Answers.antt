@@ -136,7 +136,7 @@ returns-clause-right g c sure =
     let holds = c.in_ok-perform.ensures.made T (tree_of (with_entry d e)) still-2 (fits_in d ks keeps a f ops op is fits found.0 y found.1) (read T) (made d ks keeps a f ops op is fits found.0 y found.1)
     (beside d ks keeps a f ops op is fits found.0 y found.1 fp read wrote) in
     let entries : c.push_reserved.new.self.items ≡ s.entries.items ++ e ∷ []
-    = c.push_reserved.ensures.items ∙ ap (λ (x : Entry). c.reserve.new.self.items ++ x ∷ []) (c.new.ensures ∙ ap (λ (os : List Op). entry_by a f (Do os)) c.in_ok-operations.ensures) ∙ ap (λ h. h ++ e ∷ []) c.in_ok-reserve.ensures.items in
+    = c.push_reserved.ensures.items ∙ ap (λ (x : Entry). c.reserve.new.self.items ++ x ∷ []) (c.new-2.ensures ∙ ap (λ (os : List Op). entry_by a f (Do os)) c.in_ok-operations.ensures) ∙ ap (λ h. h ++ e ∷ []) c.in_ok-reserve.ensures.items in
     let number : c.len-number.result ≡ length s.entries.items + 1 = omega (arith, c.len-number.ensures, c.push_reserved.new.self.ok.0, ap length entries, length-append s.entries.items (e ∷ [])) in
     let k : KeptOperation = record { number = c.len-number.result; footprint = fp; inverse = c.in_ok-inverse.inverse } in
     let all : c.push_reserved-2.new.self.items ≡ ks ++ k ∷ [] = c.push_reserved-2.ensures.items ∙ ap (λ l. l ++ k ∷ []) c.in_ok-reserve-2.ensures.items in
