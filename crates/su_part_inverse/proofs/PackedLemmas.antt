@@ -11,7 +11,7 @@ use Rattle.su_inverse.specs.Kept.{blocks_area, reset_area, size_area, HoldsBlock
 use Rattle.su_inverse.proofs.AreaListLemmas.{has-append}
 use Rattle.su_part_inverse.specs.Kept.{inode_area, return_area, runs, inverse_areas, HoldsInode, HoldsReturn, IsKeptOf}
 use Rattle.su_part_inverse.specs.Lefts.{HasSmallOf, Leaves}
-use Rattle.su_part_inverse.specs.Packed.{HasLarge, HasSmall, IsPackedAs, KeepsAlike, with_small}
+use Rattle.su_part_inverse.specs.Packed.{HasLarge, HasSmall, IsPackedAs, IsPackedIn, KeepsAlike, Spells, with_first, with_small}
 use Rattle.su_part_inverse.specs.declared.inverses.Inverse.{Inverse}
 use Rattle.su_part_inverse.specs.declared.packed.Packed.{Packed}
 
@@ -61,7 +61,9 @@ bs k = map blocks_area (runs k)
 
 -- all areas, where nothing is small
 bare : (k : Inverse) → HasSmall k [] [] [] → inverse_areas k ≡ ns k ++ bs k
-bare k none = rw (none.returns, none.sizes, none.resets) refl
+bare k none =
+    ap (λ rs. ns k ++ (map return_area rs ++ (sized k ++ (unset k ++ bs k)))) none.returns ∙ ap (λ zs. ns k ++ (map size_area zs ++ (unset k ++ bs k))) none.sizes
+    ∙ ap (λ ss. ns k ++ (map reset_area ss ++ bs k)) none.resets
 
 or_same : (m a b x y : Bool) → (a || b) ≡ (x || y) → (a || (m || b)) ≡ (x || (m || y))
 or_same false a b x y e = e
@@ -135,3 +137,41 @@ module _ {S A : Type 0} {G : S → List ℕ → Type 0} {C : S → S → Type 0}
   pub whole_left : (o : Option Packed) → IsPackedAs i o w → Leaves G C (with_small i w) (with_small j w) s t r
   whole_left None small = at_hand small (packed_stays None small)
   whole_left (Some p) packed = in_bytes packed.0 (packed_stays (Some p) packed).0
+
+-- ---- an inverse is packed
+
+-- its view is the same
+pub view_same : (i j w : Inverse) → HasLarge i j → with_small j w ≡ with_small i w
+view_same i j w large = cc
+
+spelled_as : (i w : Inverse) (p : Packed) → HasSmall i w.returns.items w.sizes.items w.resets.items → Spells p i.returns.items i.sizes.items i.resets.items → Spells p w.returns.items w.sizes.items w.resets.items
+spelled_as i w p small s =
+    subst (λ rs. Spells p rs w.sizes.items w.resets.items) small.returns
+    (subst (λ zs. Spells p i.returns.items zs w.resets.items) small.sizes (subst (λ ss. Spells p i.returns.items i.sizes.items ss) small.resets s))
+
+pub packed_so : (i j w : Inverse) (o : Option Packed) (p : Packed) → o ≡ None → HasSmall j [] [] [] → Spells p i.returns.items i.sizes.items i.resets.items → IsPackedAs i o w → IsPackedAs j (Some p) w
+packed_so i j w o p none empty s was = (empty, spelled_as i w p (subst (λ x. IsPackedAs i x w) none was) s)
+
+-- ---- by the log
+
+module _ {S A : Type 0} {G : S → List ℕ → Type 0} {C : S → S → Type 0} (i j : Inverse) (s t : S) (r : Result A Refusal) (l : Leaves G C i j s t r) where
+  pub stays_in : (o : Option Packed) (xs : List (Inverse × Unit {0})) → IsPackedIn i o xs → IsPackedIn j o xs
+  stays_in o [] packed = absurd packed
+  stays_in o (pair ∷ xs) packed = packed_stays i j pair.0 s t r l o packed
+
+  pub left_in : (o : Option Packed) (xs : List (Inverse × Unit {0})) → IsPackedIn i o xs → Leaves G C (with_first i xs) (with_first j xs) s t r
+  left_in o [] packed = absurd packed
+  left_in o (pair ∷ xs) packed = whole_left i j pair.0 s t r l o packed
+
+module _ (i j : Inverse) (o : Option Packed) where
+  pub packs_in : (p : Option Packed) → ((w : Inverse) → IsPackedAs i o w → IsPackedAs j p w) → (xs : List (Inverse × Unit {0})) → IsPackedIn i o xs → IsPackedIn j p xs
+  packs_in p on [] packed = absurd packed
+  packs_in p on (pair ∷ xs) packed = on pair.0 packed
+
+  pub view_in : (xs : List (Inverse × Unit {0})) → HasLarge i j → IsPackedIn i o xs → with_first j xs ≡ with_first i xs
+  view_in [] large packed = absurd packed
+  view_in (pair ∷ xs) large packed = view_same i j pair.0 large
+
+  pub taken_in : (xs : List (Inverse × Unit {0})) → HasLarge i j → ((w : Inverse) → IsPackedAs i o w → IsPackedAs j None w) → IsPackedIn i o xs → KeepsAlike (with_first i xs) j
+  taken_in [] large on packed = absurd packed
+  taken_in (pair ∷ xs) large on packed = alike i j pair.0 large (on pair.0 packed)

@@ -67,10 +67,11 @@ module _ {A B : Type 0} {Is : A → Type 0} {spelling : A → List ℕ} {IsFirst
   }
 
   -- the first part is refused
+  pub first_err : (e : Refusal) → Reads IsFirst of_first bytes (Err e) mid → (left : List ℕ) → Reads Is spelling bytes (Err e) left
+  first_err e was left = record { value = λ a rest at. tt; refused = λ a rest at. was.refused (first a) (more a ++ rest) (first_at a rest at) }
+
   pub first_refused : (e : Refusal) → Reads IsFirst of_first bytes (Err e) mid → (r : Result A Refusal) (left : List ℕ) → IsErrAnd r (λ x. x ≡ e) → Reads Is spelling bytes r left
-  first_refused e was r left is =
-      handed_on_to (λ x. Reads Is spelling bytes x left) r e is
-      (record { value = λ a rest at. tt; refused = λ a rest at. was.refused (first a) (more a ++ rest) (first_at a rest at) })
+  first_refused e was r left is = handed_on_to (λ x. Reads Is spelling bytes x left) r e is (first_err e was left)
 
   module _ (b : B) (was : Reads IsFirst of_first bytes (Ok b) mid) where
     first_is : (a : A) (rest : List ℕ) → BeginWith Is spelling bytes a rest → (b ≡ first a) × (mid ≡ more a ++ rest)
@@ -78,31 +79,34 @@ module _ {A B : Type 0} {Is : A → Type 0} {spelling : A → List ℕ} {IsFirst
 
     -- none of the values has that first part
     pub none_so : ((a : A) → first a ≡ b → ⊥) → (r : Result A Refusal) (left : List ℕ) → Reads Is spelling bytes r left
-    none_so no r left = record {
-      value = λ a rest at. absurd (no a (sym (first_is a rest at).0));
-      refused = λ a rest at. absurd (no a (sym (first_is a rest at).0));
+    none_so never r left = record {
+      value = λ a rest at. absurd (never a (sym (first_is a rest at).0));
+      refused = λ a rest at. absurd (never a (sym (first_is a rest at).0));
     }
 
     module _ {C : Type 0} {IsLast : C → Type 0} {of_last : C → List ℕ} {make : C → A} (ends : Ends Is first more b IsLast of_last make) where
       -- the last part is refused
-      pub last_refused : (e : Refusal) (at_last : List ℕ) → Reads IsLast of_last mid (Err e) at_last → (r : Result A Refusal) (left : List ℕ) → IsErrAnd r (λ x. x ≡ e) → Reads Is spelling bytes r left
-      last_refused e at_last then r left is = handed_on_to (λ x. Reads Is spelling bytes x left) r e is (record { value = λ a rest at. tt; refused = no })
+      pub last_err : (e : Refusal) (at_last : List ℕ) → Reads IsLast of_last mid (Err e) at_last → (left : List ℕ) → Reads Is spelling bytes (Err e) left
+      last_err e at_last then_ left = record { value = λ a rest at. tt; refused = lacks }
         where
-          no : (a : A) (rest : List ℕ) → BeginWith Is spelling bytes a rest → e ≡ NoMemory
-          no a rest at =
+          lacks : (a : A) (rest : List ℕ) → BeginWith Is spelling bytes a rest → e ≡ NoMemory
+          lacks a rest at =
               let f = first_is a rest at in
               let l = ends.on a at.is (sym f.0) in
-              then.refused l.0 rest (record { is = l.1; spelled = f.1 ∙ ap (λ x. x ++ rest) l.2 })
+              then_.refused l.0 rest (record { is = l.1; spelled = f.1 ∙ ap (λ x. x ++ rest) l.2 })
+
+      pub last_refused : (e : Refusal) (at_last : List ℕ) → Reads IsLast of_last mid (Err e) at_last → (r : Result A Refusal) (left : List ℕ) → IsErrAnd r (λ x. x ≡ e) → Reads Is spelling bytes r left
+      last_refused e at_last then_ r left is = handed_on_to (λ x. Reads Is spelling bytes x left) r e is (last_err e at_last then_ left)
 
       -- it is read
       pub last_read : (c : C) (left : List ℕ) → Reads IsLast of_last mid (Ok c) left → Reads Is spelling bytes (Ok (make c)) left
-      last_read c left then = record { value = yes; refused = λ a rest at. tt }
+      last_read c left then_ = record { value = gives; refused = λ a rest at. tt }
         where
-          yes : (a : A) (rest : List ℕ) → BeginWith Is spelling bytes a rest → (make c ≡ a) × (left ≡ rest)
-          yes a rest at =
+          gives : (a : A) (rest : List ℕ) → BeginWith Is spelling bytes a rest → (make c ≡ a) × (left ≡ rest)
+          gives a rest at =
               let f = first_is a rest at in
               let l = ends.on a at.is (sym f.0) in
-              let t = then.value l.0 rest (record { is = l.1; spelled = f.1 ∙ ap (λ x. x ++ rest) l.2 }) in
+              let t = then_.value l.0 rest (record { is = l.1; spelled = f.1 ∙ ap (λ x. x ++ rest) l.2 }) in
               (ap make t.0 ∙ l.3, t.1)
 
 -- ---- places, names, pointers, sizes
@@ -202,10 +206,7 @@ links_last p = record { on = λ l is same. (l.1, is.1, refl, ap (λ q. (q, l.1))
 pub record AreTaken {A : Type 0} (Is : A → Type 0) (spelling : A → List ℕ) (count : ℕ) (bytes : List ℕ) (taken : List A) (left : List ℕ) : Type 0 where
   pub on : (ks : List A) (rest : List ℕ) → BeginWith (AreMany Is count) (flat_map spelling) bytes ks rest → (v : List A) × AllByRecursion Is v × (ks ≡ taken ++ v) × (left ≡ flat_map spelling v ++ rest)
 
-module _ {A : Type 0} {Is : A → Type 0} {spelling : A → List ℕ} {count : ℕ} {bytes : List ℕ} where
-  pub none_taken : AreTaken Is spelling count bytes [] bytes
-  none_taken = record { on = λ ks rest at. (ks, at.is.are, refl, at.spelled) }
-
+module _ {A : Type 0} (Is : A → Type 0) (spelling : A → List ℕ) (count : ℕ) where
   -- fewer than all were taken, so one is left
   one_left : (taken : List A) (left : List ℕ) → length taken < count → (ks : List A) (rest : List ℕ) → length ks ≡ count
       → (v : List A) → AllByRecursion Is v → ks ≡ taken ++ v → left ≡ flat_map spelling v ++ rest
@@ -216,22 +217,6 @@ module _ {A : Type 0} {Is : A → Type 0} {spelling : A → List ℕ} {count : �
   one_left taken left few ks rest many (k ∷ u) are all is =
       (k, u, record { is = are.0; spelled = is ∙ append_assoc (spelling k) (flat_map spelling u) rest }, are.1, all)
 
-  pub one_refused : (taken : List A) (left mid : List ℕ) (e : Refusal) → AreTaken Is spelling count bytes taken left → length taken < count → Reads Is spelling left (Err e) mid
-      → (ks : List A) (rest : List ℕ) → BeginWith (AreMany Is count) (flat_map spelling) bytes ks rest → e ≡ NoMemory
-  one_refused taken left mid e so few was ks rest at =
-      let s = so.on ks rest at in
-      let o = one_left taken left few ks rest at.is.number s.0 s.1 s.2 s.3 in
-      was.refused o.0 (flat_map spelling o.1 ++ rest) o.2
-
-  pub one_taken : (taken : List A) (left mid : List ℕ) (k : A) → AreTaken Is spelling count bytes taken left → length taken < count → Reads Is spelling left (Ok k) mid → AreTaken Is spelling count bytes (taken ++ k ∷ []) mid
-  one_taken taken left mid k so few was = record {
-    on = λ ks rest at.
-        let s = so.on ks rest at in
-        let o = one_left taken left few ks rest at.is.number s.0 s.1 s.2 s.3 in
-        let t = was.value o.0 (flat_map spelling o.1 ++ rest) o.2 in
-        (o.1, o.3, o.4 ∙ ap (λ x. taken ++ (x ∷ o.1)) (sym t.0) ∙ sym (append_assoc taken (k ∷ []) o.1), t.1);
-  }
-
   all_left : (taken : List A) (left : List ℕ) → length taken ≡ count → (ks : List A) (rest : List ℕ) → length ks ≡ count
       → (v : List A) → ks ≡ taken ++ v → left ≡ flat_map spelling v ++ rest → (taken ≡ ks) × (left ≡ rest)
   all_left taken left full ks rest many [] all is = (sym (all ∙ append-nil taken), is)
@@ -239,8 +224,28 @@ module _ {A : Type 0} {Is : A → Type 0} {spelling : A → List ℕ} {count : �
       let long : length ks ≡ length taken + length (k ∷ u) = ap length all ∙ length-append taken (k ∷ u) in
       absurd (omega arith)
 
+module _ {A : Type 0} {Is : A → Type 0} {spelling : A → List ℕ} {count : ℕ} {bytes : List ℕ} where
+  pub none_taken : AreTaken Is spelling count bytes [] bytes
+  none_taken = record { on = λ ks rest at. (ks, at.is.are, refl, at.spelled) }
+
+  pub one_refused : (taken : List A) (left mid : List ℕ) (e : Refusal) → AreTaken Is spelling count bytes taken left → length taken < count → Reads Is spelling left (Err e) mid
+      → (ks : List A) (rest : List ℕ) → BeginWith (AreMany Is count) (flat_map spelling) bytes ks rest → e ≡ NoMemory
+  one_refused taken left mid e so few was ks rest at =
+      let s = so.on ks rest at in
+      let o = one_left Is spelling count taken left few ks rest at.is.number s.0 s.1 s.2 s.3 in
+      was.refused o.0 (flat_map spelling o.1 ++ rest) o.2
+
+  pub one_taken : (taken : List A) (left mid : List ℕ) (k : A) → AreTaken Is spelling count bytes taken left → length taken < count → Reads Is spelling left (Ok k) mid → AreTaken Is spelling count bytes (taken ++ k ∷ []) mid
+  one_taken taken left mid k so few was = record {
+    on = λ ks rest at.
+        let s = so.on ks rest at in
+        let o = one_left Is spelling count taken left few ks rest at.is.number s.0 s.1 s.2 s.3 in
+        let t = was.value o.0 (flat_map spelling o.1 ++ rest) o.2 in
+        (o.1, o.3, o.4 ∙ ap (λ x. taken ++ (x ∷ o.1)) (sym t.0) ∙ sym (append_assoc taken (k ∷ []) o.1), t.1);
+  }
+
   pub all_taken : (taken : List A) (left : List ℕ) → AreTaken Is spelling count bytes taken left → length taken ≡ count
       → (ks : List A) (rest : List ℕ) → BeginWith (AreMany Is count) (flat_map spelling) bytes ks rest → (taken ≡ ks) × (left ≡ rest)
   all_taken taken left so full ks rest at =
       let s = so.on ks rest at in
-      all_left taken left full ks rest at.is.number s.0 s.2 s.3
+      all_left Is spelling count taken left full ks rest at.is.number s.0 s.2 s.3

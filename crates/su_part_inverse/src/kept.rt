@@ -10,8 +10,9 @@ use crate::packed::Packed;
 use http_server::Log;
 use std::alloc::Global;
 use std::marker::Model;
+use std::mem;
 use su_block::BlockSource;
-use su_bytes::Refusal;
+use su_bytes::{FileId, Refusal};
 
 /// An inverse as a desk keeps it: what is small of it in bytes, once it is packed. Its model is the
 /// inverse.
@@ -34,12 +35,11 @@ impl Model for KeptInverse {
 
     ghost coded = { kept.the_row.coded };
 
-    ghost use Rattle.su_part_inverse.specs.Packed.{IsPackedAs, first_in, with_small};
+    ghost use Rattle.su_part_inverse.specs.Packed.{IsPackedIn, with_first};
 
-    ghost view = { λ k. with_small k.inverse (first_in k.inverse k.whole.items) };
+    ghost view = { λ k. with_first k.inverse k.whole.items };
 
-    ghost invariant = { λ k.
-        IsPackedAs k.inverse k.packed (first_in k.inverse k.whole.items) };
+    ghost invariant = { λ k. IsPackedIn k.inverse k.packed k.whole.items };
 }
 
 impl KeptInverse {
@@ -61,25 +61,22 @@ impl KeptInverse {
         ensures same { self.new ≡ self.old }
         ensures refused { IfErr result (λ e. e ≡ NoMemory) }
     {
-        if self.packed.is_none() {
-            let packed = Packed::new(alloc, &self.inverse)?;
-            self.packed = Some(packed);
-            self.inverse.returns = Vec::new(alloc);
-            self.inverse.sizes = Vec::new(alloc);
-            self.inverse.resets = Vec::new(alloc);
-        }
-        Ok(())
+        pack_small(alloc, &mut self.inverse, &mut self.packed)
     }
 
-    /// Lends the inverse, which is not packed from then on. Fails only with `NoMemory`, and then
-    /// changes nothing.
-    pub fn open(&mut self, alloc: Global) -> Result<&Inverse, Refusal>
-        ensures value { IfOk result (λ inverse. KeepsAlike self.old inverse.now) }
-        ensures same { self.new ≡ self.old }
+    /// Takes the inverse out, which is not packed then, and leaves one of nothing in its place. Fails
+    /// only with `NoMemory`, and then changes nothing.
+    pub fn take(&mut self, alloc: Global) -> Result<Inverse, Refusal>
+        ensures value { IfOk result (λ inverse. KeepsAlike self.old inverse) }
+        ensures err { OnErr result (self.new ≡ self.old) }
         ensures refused { IfErr result (λ e. e ≡ NoMemory) }
     {
+        // names the type for the prover (docs/ARCHITECTURE.md, "Forms the kit wants")
+        let _file: Option<FileId> = None;
         make_whole(alloc, &mut self.inverse, &mut self.packed)?;
-        Ok(&self.inverse)
+        let left = nothing(alloc);
+        self.whole = Log::new().and(&left, &());
+        Ok(mem::replace(&mut self.inverse, left))
     }
 
     /// Leaves what has bytes on the store, as `Inverse::leave` does.
@@ -89,6 +86,43 @@ impl KeptInverse {
     {
         self.inverse.leave(alloc, source)
     }
+}
+
+/// Makes an inverse that keeps nothing.
+fn nothing(alloc: Global) -> Inverse {
+    Inverse {
+        inodes: Vec::new(alloc),
+        returns: Vec::new(alloc),
+        sizes: Vec::new(alloc),
+        resets: Vec::new(alloc),
+        blocks: Vec::new(alloc),
+        left: None,
+    }
+}
+
+/// Packs what is small of an inverse, unless it is so. Fails only with `NoMemory`, and then changes
+/// nothing.
+fn pack_small(
+    alloc: Global,
+    inverse: &mut Inverse,
+    packed: &mut Option<Packed>,
+) -> Result<(), Refusal>
+    ensures as_before { (w : Inverse_) → IsPackedAs inverse.old packed.old w
+        → IsPackedAs inverse.new packed.new w }
+    ensures large { HasLarge inverse.old inverse.new }
+    ensures refused { IfErr result (λ e. e ≡ NoMemory) }
+{
+    // names the type for the prover (docs/ARCHITECTURE.md, "Forms the kit wants")
+    let _file: Option<FileId> = None;
+    if !packed.is_none() {
+        return Ok(());
+    }
+    let small = Packed::new(alloc, inverse)?;
+    inverse.returns = Vec::new(alloc);
+    inverse.sizes = Vec::new(alloc);
+    inverse.resets = Vec::new(alloc);
+    *packed = Some(small);
+    Ok(())
 }
 
 /// Makes an inverse whole that may be packed. Fails only with `NoMemory`, and then changes nothing.
@@ -105,9 +139,12 @@ fn make_whole(
     ensures refused { (w : Inverse_) → IsPackedAs inverse.old packed.old w
         → IfErr result (λ e. e ≡ NoMemory) }
 {
-    if let Some(small) = packed {
-        small.unpack(alloc, inverse)?;
-        *packed = None;
-    }
+    // names the type for the prover (docs/ARCHITECTURE.md, "Forms the kit wants")
+    let _file: Option<FileId> = None;
+    let Some(small) = packed else {
+        return Ok(());
+    };
+    small.unpack(alloc, inverse)?;
+    *packed = None;
     Ok(())
 }

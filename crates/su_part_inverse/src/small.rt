@@ -100,6 +100,8 @@ impl Small for Reset {
     ghost IsMeant = { IsReset };
 
     fn put(&self, writer: &mut Writer) -> Result<(), Refusal> {
+        // names the type for the prover (docs/ARCHITECTURE.md, "Forms the kit wants")
+        let _file: Option<FileId> = None;
         match self {
             Reset::Nothing(area) => {
                 writer.put_u8(0)?;
