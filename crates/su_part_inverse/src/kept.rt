@@ -114,7 +114,7 @@ fn pack_small(
 {
     // names the type for the prover (docs/ARCHITECTURE.md, "Forms the kit wants")
     let _file: Option<FileId> = None;
-    if !packed.is_none() {
+    if packed.is_some() {
         return Ok(());
     }
     let small = Packed::new(alloc, inverse)?;

@@ -1,4 +1,4 @@
-use Rattle.std.proofs.Common.{ℕ, ◌<◌, subst}
+use Rattle.std.proofs.Common.{◌≡◌, ℕ, ◌<◌, subst, arith}
 use Rattle.std.specs.Prelude.{Ok, Err}
 use Rattle.su_format.specs.Part.{u8_bytes}
 use Rattle.su_format.proofs.Public.{u8_of}
@@ -53,4 +53,6 @@ pub returns-in_default : goal.returns-in_default
 returns-in_default c =
     let old = c.args.reader.now in
     let mid = c.take_u8.new.self in
-    none_so reset_begun _ _ _ (reads_part u8_of old mid (Ok _) c.in_ok-kind.ensures.takes) (no_reset _ c.in_default.not-0 c.in_default.not-1) _ _
+    let zero : c.in_ok-kind.kind ≡ 0 → ⊥ = λ e. omega arith in
+    let one : c.in_ok-kind.kind ≡ 1 → ⊥ = λ e. omega arith in
+    none_so reset_begun _ _ _ (reads_part u8_of old mid (Ok _) c.in_ok-kind.ensures.takes) (no_reset c.in_ok-kind.kind zero one) _ _
