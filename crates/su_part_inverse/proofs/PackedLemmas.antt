@@ -39,6 +39,7 @@ alike i j w large small = record {
   where
     inodes_are : j.inodes.items ≡ i.inodes.items
     inodes_are = ap (λ v. v.items) large.inodes
+
     runs_are : runs j ≡ runs i
     runs_are = cc
 

@@ -172,6 +172,7 @@ reset_begun = record { is = go; spelled = spell }
     go : (a : Reset) → IsReset a → reset_kind a < 256
     go (NothingReset a) is = omega arith
     go (LinksReset p n) is = omega arith
+
     spell : (a : Reset) → reset_bytes a ≡ u8_bytes (reset_kind a) ++ reset_more a
     spell (NothingReset a) = refl
     spell (LinksReset p n) = refl

@@ -14,7 +14,7 @@ returns-in_err-file-in-Inode c =
     let old = c.args.reader.now in
     let mid = c.take_area.new.reader in
     let area = subst (λ (a : Area). Reads IsArea area_bytes old.left (Ok a) mid.left) (c.in-Inode.is ∙ ap (λ (q : Part). InodeArea c.in-Inode.place q) c.in-Name.is)
-        (reads_area old.left mid.left (Ok _) c.in_ok-area.ensures.value (λ a rest at. tt)) in
+    (reads_area old.left mid.left (Ok _) c.in_ok-area.ensures.value (λ a rest at. tt)) in
     last_refused return_begun _ _ _ area (name_ends c.in-Inode.place c.in-Name.name) _ mid.left (reads_part file_id_of mid mid (Err _) c.in_err-file-in-Inode.ensures.takes) _ _ c.from_residual-in_err-file-in-Inode.ensures.1
 
 pub returns-in_ok-file-in-Inode : goal.returns-in_ok-file-in-Inode
@@ -22,7 +22,7 @@ returns-in_ok-file-in-Inode c =
     let old = c.args.reader.now in
     let mid = c.take_area.new.reader in
     let area = subst (λ (a : Area). Reads IsArea area_bytes old.left (Ok a) mid.left) (c.in-Inode.is ∙ ap (λ (q : Part). InodeArea c.in-Inode.place q) c.in-Name.is)
-        (reads_area old.left mid.left (Ok _) c.in_ok-area.ensures.value (λ a rest at. tt)) in
+    (reads_area old.left mid.left (Ok _) c.in_ok-area.ensures.value (λ a rest at. tt)) in
     last_read return_begun _ _ _ area (name_ends c.in-Inode.place c.in-Name.name) _ _ (reads_part file_id_of mid _ (Ok _) c.in_ok-file-in-Inode.ensures.takes)
 
 pub returns-in_err-place-in-Pointer : goal.returns-in_err-place-in-Pointer
