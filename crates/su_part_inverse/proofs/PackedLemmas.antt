@@ -10,7 +10,7 @@ use Rattle.su_op.specs.declared.areas.Area.{Area}
 use Rattle.su_inverse.specs.Kept.{blocks_area, reset_area, size_area, HoldsBlocks, HoldsReset, HoldsSize}
 use Rattle.su_inverse.proofs.AreaListLemmas.{has-append}
 use Rattle.su_part_inverse.specs.Kept.{inode_area, return_area, runs, inverse_areas, HoldsInode, HoldsReturn, IsKeptOf}
-use Rattle.su_part_inverse.specs.Lefts.{HasSmallOf, Leaves}
+use Rattle.su_part_inverse.specs.Lefts.{Leaves}
 use Rattle.su_part_inverse.specs.Packed.{HasLarge, HasSmall, IsPackedAs, IsPackedIn, KeepsAlike, Spells, with_first, with_small}
 use Rattle.su_part_inverse.specs.declared.inverses.Inverse.{Inverse}
 use Rattle.su_part_inverse.specs.declared.packed.Packed.{Packed}

@@ -8,7 +8,6 @@ use Rattle.su_bytes.specs.Place.{Place, GroupFile}
 use Rattle.su_bytes.specs.declared.file_ids.FileId.{FileId}
 use Rattle.su_bytes.specs.declared.refusals.Refusal.{Refusal}
 use Rattle.su_bytes.specs.declared.refusals.Refusal.TheVariants.{NoMemory}
-use Rattle.su_op.specs.declared.areas.Part.{Part}
 use Rattle.su_op.specs.declared.areas.Part.TheVariants.{Name as NamePart}
 use Rattle.su_op.specs.declared.areas.Area.{Area}
 use Rattle.su_op.specs.declared.areas.Area.TheVariants.{Inode as InodeArea, Pointer as PointerArea}
@@ -133,11 +132,6 @@ pointer_ends g = record { on = go }
     go : (a : Return) → IsReturn a → return_area a ≡ PointerArea g → (p : Place) × IsPlace p × (led_bytes a ≡ place_bytes p) × (PointerReturn g p ≡ a)
     go (NameReturn q y f) is same = absurd cc
     go (PointerReturn h p) is same = (p, is.1, refl, cc)
-
--- nothing is brought back to another part of an inode
-pub no_return : (p : Place) (part : Part) → ((x : List ℕ) → part ≡ NamePart x → ⊥) → (a : Return) → return_area a ≡ InodeArea p part → ⊥
-no_return p part other (NameReturn q y f) same = let is : part ≡ NamePart y = cc in other y is
-no_return p part other (PointerReturn g q) same = absurd cc
 
 pub size_begun : Begun IsSize size_bytes IsPlace place_bytes (λ k. k.place) (λ k. u32_bytes k.size)
 size_begun = record { is = λ k is. is.0; spelled = λ k. refl }

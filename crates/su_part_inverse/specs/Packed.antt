@@ -1,5 +1,5 @@
 -- An inverse of which what is small may be kept in bytes.
-use Rattle.std.specs.Prelude.{◌≡◌, ℕ, List, [], ◌∷◌, ◌++◌, Option, Some, None}
+use Rattle.std.specs.Prelude.{◌≡◌, List, [], ◌∷◌, ◌++◌, Option, Some, None}
 use Rattle.std.specs.List.{flat_map}
 use Rattle.su_table.specs.Tree.{Tree}
 use Rattle.su_inverse.specs.declared.contents.KeptSize.{KeptSize}

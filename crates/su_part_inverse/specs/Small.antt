@@ -1,7 +1,7 @@
 -- What is small of an inverse, in bytes: names and pointers that are brought back, sizes, and what is
 -- reset.
 use Rattle.std.specs.Prelude.{◌≡◌, ℕ, ◌<◌, ◌^◌, true, List, ◌∷◌, ◌++◌, length, Result, IfOk, IfErr}
-use Rattle.std.specs.List.{AllByRecursion, flat_map}
+use Rattle.std.specs.List.{AllByRecursion}
 use Rattle.su_bytes.specs.Principal.{is_user}
 use Rattle.su_bytes.specs.FileId.{is_inum, is_file_id, file_id_bytes}
 use Rattle.su_bytes.specs.Place.{Place}

@@ -1,4 +1,4 @@
-use Rattle.std.proofs.Common.{◌≡◌, subst, IfErr, Option, Some}
+use Rattle.std.proofs.Common.{◌≡◌, subst, IfErr, Option}
 use Rattle.su_bytes.specs.declared.refusals.Refusal.TheVariants.{NoMemory}
 use Rattle.su_format.proofs.Public.{handed_on_to}
 use Rattle.su_part_inverse.specs.Packed.{IsPackedAs}
