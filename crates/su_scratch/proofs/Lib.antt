@@ -1,1 +1,4 @@
-pub mod ByDigest
+pub mod Later
+pub mod PageReading
+pub mod BucketLemmas
+pub mod Held
