@@ -1,6 +1,6 @@
 -- What a bucket finds, through what is written and noted.
 use Rattle.std.proofs.Common.{◌≡◌, ℕ, suc, ◌+◌, ◌<◌, ◌≤◌, ◌^◌, Bool, true, false, cond, List, [], ◌∷◌, ◌++◌, length, Option, Some, None, refl, sym, ap, ◌∙◌, subst, arith, append_assoc, append-nil, length-append, lit<, lit≤}
-use Rattle.std.specs.Prelude.{IfSome}
+use Rattle.std.specs.Prelude.{IfSome, is_some, Result, Ok, Err, OnErr}
 use Rattle.std.specs.List.{flat_map, AllByRecursion}
 use Rattle.std.specs.Str.{bytes_eq}
 use Rattle.su_scratch.specs.declared.notes.Place.{Place}
@@ -156,17 +156,25 @@ pub next_page : (w : List ℕ) (place : ℕ) (d : List ℕ) (all : Option Place)
 next_page w place d all l = next_page_of w place d all l.rest l.next_is l.are_written l.tells
 
 -- a note on the next page tells it
-pub told_there : (w : List ℕ) (place : ℕ) (d : List ℕ) (all : Option Place) (p : IsNextPage w place d all) (x : Place) → place_in d p.notes ≡ Some x → Some x ≡ all
-told_there w place d all p x is = sym (later_some d (found_on d p.older) p.notes x is) ∙ p.tells
+there : (w : List ℕ) (place : ℕ) (d : List ℕ) (all : Option Place) (p : IsNextPage w place d all) (o : Option Place) → place_in d p.notes ≡ o → is_some o ≡ true → o ≡ all
+there w place d all p None is some = cc
+there w place d all p (Some x) is some = sym (later_some d (found_on d p.older) p.notes x is) ∙ p.tells
+
+pub told_there : (w : List ℕ) (place : ℕ) (d : List ℕ) (all : Option Place) (p : IsNextPage w place d all) (o : Option Place) → o ≡ place_in d p.notes → is_some o ≡ true → o ≡ all
+told_there w place d all p o is some = there w place d all p o (sym is) some
 
 -- none does, and the page before it is asked
-pub told_before : (w : List ℕ) (place : ℕ) (d : List ℕ) (all : Option Place) (p : IsNextPage w place d all) (next : Option ℕ) → next ≡ newest_of p.older → place_in d p.notes ≡ None → AreLeftOn w next d all
-told_before w place d all p next is none = record {
+before : (w : List ℕ) (place : ℕ) (d : List ℕ) (all : Option Place) (p : IsNextPage w place d all) (next : Option ℕ) (o : Option Place) → next ≡ newest_of p.older → place_in d p.notes ≡ o → is_some o ≡ false → AreLeftOn w next d all
+before w place d all p next None is told none = record {
   rest = p.older;
   next_is = is;
   are_written = p.are_written;
-  tells = sym (later_none d (found_on d p.older) p.notes none) ∙ p.tells;
+  tells = sym (later_none d (found_on d p.older) p.notes told) ∙ p.tells;
 }
+before w place d all p next (Some x) is told none = let no : ⊥ = cc in absurd no
+
+pub told_before : (w : List ℕ) (place : ℕ) (d : List ℕ) (all : Option Place) (p : IsNextPage w place d all) (next : Option ℕ) (o : Option Place) → next ≡ newest_of p.older → o ≡ place_in d p.notes → is_some o ≡ false → AreLeftOn w next d all
+told_before w place d all p next o is told none = before w place d all p next o is (sym told) none
 
 none_left_of : (d : List ℕ) (all : Option Place) (rest : Pages) → None ≡ newest_of rest → found_on d rest ≡ all → None ≡ all
 none_left_of d all [] is tells = tells
@@ -174,3 +182,8 @@ none_left_of d all (page ∷ older) is tells = let no : ⊥ = cc in absurd no
 
 pub none_left : (w : List ℕ) (d : List ℕ) (all : Option Place) → AreLeftOn w None d all → None ≡ all
 none_left w d all l = none_left_of d all l.rest l.next_is l.tells
+
+-- a fact that holds however a call ends
+pub however : {T E : Type 0} (r : Result T E) (P : Type 0) → P → OnErr r P
+however (Ok x) P p = tt
+however (Err e) P p = p

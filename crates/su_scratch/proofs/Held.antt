@@ -1,6 +1,7 @@
 -- What was noted is held, through what is written and noted.
 use Rattle.std.proofs.Common.{◌≡◌, ◌≢◌, ℕ, zero, suc, ◌+◌, ◌-◌, ◌<◌, ◌≤◌, Bool, true, false, cond, List, [], ◌∷◌, ◌++◌, length, Option, Some, None, refl, sym, ap, ◌∙◌, subst, inl, inr, arith, get_or, reverse}
 use Rattle.std.specs.Map.{lookup}
+use Rattle.std.specs.Prelude.{is_some}
 use Rattle.std.specs.Str.{bytes_eq}
 use Rattle.std.proofs.Math.ListN.{set}
 use Rattle.std.proofs.lemmas.Bool.{cases_eq, cases_lt, cases_Bool}
@@ -86,3 +87,9 @@ empty_more bs i = elim (cases_lt i (length bs)) [
   inl within ↦ get_or_append_left bs (no_notes ∷ []) no_notes i within
 | inr past ↦ get_or-append_right bs (no_notes ∷ []) (length bs) i no_notes refl past ∙ alone (i - length bs) ∙ sym (get_or_past bs i no_notes past)
 ]
+
+-- what was noted last is there
+pub noted_there : (noted new : List (List ℕ × Place)) (n : Note) → new ≡ noted ++ (n.digest, n.place) ∷ [] → is_some (place_under new n.digest) ≡ true
+noted_there noted new n is =
+    ap (λ x. is_some (place_under x n.digest)) is ∙ ap is_some (under_more noted n n.digest)
+    ∙ ap (λ b. is_some (cond b (Some n.place) (place_under noted n.digest))) ((bytes_eq-Decides n.digest n.digest).1 refl)

@@ -29,21 +29,10 @@ pub later-append : (d : List ℕ) (f : Option Place) (xs ys : List Note) → lat
 later-append d f [] ys = refl
 later-append d f (x ∷ xs) ys = later-append d (cond (bytes_eq d x.digest) (Some x.place) f) xs ys
 
--- the next note of several is looked at
-pub next_is_about : (d : List ℕ) (f r : Option Place) (ns : List Note) (n : Note) → bytes_eq d n.digest ≡ true → later d f (n ∷ ns) ≡ r → later d (Some n.place) ns ≡ r
-next_is_about d f r ns n is all = ap (λ b. later d (cond b (Some n.place) f) ns) (sym is) ∙ all
-
-pub next_is_not : (d : List ℕ) (f r : Option Place) (ns : List Note) (n : Note) → bytes_eq d n.digest ≡ false → later d f (n ∷ ns) ≡ r → later d f ns ≡ r
-next_is_not d f r ns n is all = ap (λ b. later d (cond b (Some n.place) f) ns) (sym is) ∙ all
-
 -- the note at an index is the next of those from there on
 next_at : (ns : List Note) (i : ℕ) (n : Note) → i < length ns → n ≡ get_or ns i n → drop i ns ≡ n ∷ drop (i + 1) ns
 next_at ns i n h is = rw (add-one i) (drop-cons ns i n h ∙ ap (λ x. x ∷ drop (suc i) ns) (sym is))
 
-pub about_at : (d : List ℕ) (f r : Option Place) (ns : List Note) (i : ℕ) (n : Note) → i < length ns → n ≡ get_or ns i n → bytes_eq d n.digest ≡ true → later d f (drop i ns) ≡ r → later d (Some n.place) (drop (i + 1) ns) ≡ r
-about_at d f r ns i n h is about all =
-    next_is_about d f r (drop (i + 1) ns) n about (ap (later d f) (sym (next_at ns i n h is)) ∙ all)
-
-pub not_at : (d : List ℕ) (f r : Option Place) (ns : List Note) (i : ℕ) (n : Note) → i < length ns → n ≡ get_or ns i n → bytes_eq d n.digest ≡ false → later d f (drop i ns) ≡ r → later d f (drop (i + 1) ns) ≡ r
-not_at d f r ns i n h is about all =
-    next_is_not d f r (drop (i + 1) ns) n about (ap (later d f) (sym (next_at ns i n h is)) ∙ all)
+pub told_at : (d : List ℕ) (f g r : Option Place) (ns : List Note) (i : ℕ) (n : Note) → i < length ns → n ≡ get_or ns i n → g ≡ cond (bytes_eq d n.digest) (Some n.place) f → later d f (drop i ns) ≡ r → later d g (drop (i + 1) ns) ≡ r
+told_at d f g r ns i n h is now all =
+    ap (λ o. later d o (drop (i + 1) ns)) now ∙ ap (later d f) (sym (next_at ns i n h is)) ∙ all

@@ -99,6 +99,7 @@ impl Bucket {
         ensures grows { F.keeps scratch.old
             → Grows (F.written scratch.old) (F.written scratch.new) }
     {
+        note.can_be_told();
         self.make_room(alloc, scratch)?;
         self.push(note)?;
         Ok(())
@@ -145,9 +146,7 @@ fn place_in(notes: &[Note], digest: &Digest) -> Option<Place>
 {
     let mut found = None;
     for note in notes {
-        if *digest == note.digest {
-            found = Some(note.place);
-        }
+        found = note.tells(digest, found);
     }
     found
 }

@@ -1,5 +1,5 @@
 // The pages of a bucket, of which each tells where the one before it lies.
-ghost use Rattle.std.specs.Prelude.{◌≡◌, ◌⊎◌, ℕ, ◌<◌, List, Option, IfOk, IfErr, IfSome};
+ghost use Rattle.std.specs.Prelude.{◌≡◌, ◌⊎◌, ℕ, ◌<◌, List, Option, IfOk, IfErr, IfSome, IsTrue, ◌↔◌};
 ghost use Rattle.su_bytes.specs.declared.refusals.Refusal.TheVariants.{SourceFailed, NoMemory};
 ghost use Rattle.su_scratch.specs.Page.{place_in};
 ghost use Rattle.su_scratch.specs.Bucket.{Pages, newest_of, IsPageAt, AreWritten, found_on};
@@ -57,10 +57,18 @@ fn page_at<F: Scratch>(
 {
     let page = scratch.read(alloc, place, PAGE_LENGTH)?;
     let told = read_page(&page, digest)?;
-    if let Some(older) = told.older {
-        if older >= place {
-            return Err(Refusal::SourceFailed);
-        }
+    if !is_before(told.older, place) {
+        return Err(Refusal::SourceFailed);
     }
     Ok(told)
+}
+
+/// Tells whether a page, if there is one, lies further in front than this place.
+fn is_before(page: Option<u64>, place: u64) -> bool
+    ensures { IsTrue result ↔ IfSome page (λ before. before < place) }
+{
+    match page {
+        Some(before) => before < place,
+        None => true,
+    }
 }

@@ -1,4 +1,8 @@
 // Where an item lies.
+ghost use Rattle.std.specs.Prelude.{◌≡◌, if◌then◌else◌};
+ghost use Rattle.std.specs.Str.{bytes_eq};
+ghost use Rattle.su_scratch.specs.Page.{IsNote};
+
 use su_bytes::Digest;
 
 /// Where an item lies in a scratch, and how many bytes it has.
@@ -13,4 +17,28 @@ pub(crate) struct Place {
 pub(crate) struct Note {
     pub(crate) digest: Digest,
     pub(crate) place: Place,
+}
+
+impl Note {
+    /// Returns where the item of a digest lies: as this note says, where it is about it, and else as
+    /// was found before.
+    pub(crate) fn tells(&self, digest: &Digest, found: Option<Place>) -> Option<Place>
+        ensures { result
+            ≡ (if bytes_eq digest.now self.now.digest then Some self.now.place else found) }
+    {
+        if *digest == self.digest {
+            Some(self.place)
+        } else {
+            found
+        }
+    }
+
+    /// Does nothing: its clause tells the prover that a page can tell the note.
+    pub(crate) fn can_be_told(&self)
+        ensures { IsNote self.now }
+    {
+        let _digest = self.digest.as_bytes();
+        let _first = self.place.first;
+        let _count = self.place.count;
+    }
 }

@@ -106,9 +106,7 @@ fn search(reader: &mut Reader<'_>, digest: &Digest) -> Result<Option<Place>, Ref
     let mut found = None;
     for _ in 0..NOTES_OF_A_PAGE {
         let note = take_note(reader)?;
-        if *digest == note.digest {
-            found = Some(note.place);
-        }
+        found = note.tells(digest, found);
     }
     Ok(found)
 }
