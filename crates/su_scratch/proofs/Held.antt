@@ -63,12 +63,12 @@ pub held_with : (w w' : List ℕ) (old middle new : List InMemory) (index : ℕ)
     → (i : ℕ) → Finds i w' (bucket_at new i) other
 held_with w w' old middle new index b found other grows same within is here others held i =
     elim (cases_eq i index) [
-      inl at ↦
-        let there : bucket_at new i ≡ b = ap (λ bs. bucket_at bs i) is ∙ ap (λ k. bucket_at (set middle index b) k) at ∙ get_or-set_same middle index b no_notes within in
-        subst (λ x. Finds i w' x other) (sym there) (subst (λ k. Finds k w' b other) (sym at) here)
-    | inr no ↦
-        let there : bucket_at new i ≡ bucket_at old i = ap (λ bs. bucket_at bs i) is ∙ get_or-set_other middle index i b no_notes no ∙ same i in
-        subst (λ x. Finds i w' x other) (sym there) (finds_same i w' (bucket_at old i) found other (others i no) (finds_still i w w' (bucket_at old i) found grows (held i)))
+      | inl at ↦
+          let there : bucket_at new i ≡ b = ap (λ bs. bucket_at bs i) is ∙ ap (λ k. bucket_at (set middle index b) k) at ∙ get_or-set_same middle index b no_notes within in
+          subst (λ x. Finds i w' x other) (sym there) (subst (λ k. Finds k w' b other) (sym at) here)
+      | inr no ↦
+          let there : bucket_at new i ≡ bucket_at old i = ap (λ bs. bucket_at bs i) is ∙ get_or-set_other middle index i b no_notes no ∙ same i in
+          subst (λ x. Finds i w' x other) (sym there) (finds_same i w' (bucket_at old i) found other (others i no) (finds_still i w w' (bucket_at old i) found grows (held i)))
     ]
 
 -- no bucket is changed
@@ -83,13 +83,19 @@ alone zero = refl
 alone (suc k) = refl
 
 pub empty_more : (bs : List InMemory) (i : ℕ) → bucket_at (bs ++ no_notes ∷ []) i ≡ bucket_at bs i
-empty_more bs i = elim (cases_lt i (length bs)) [
-  inl within ↦ get_or_append_left bs (no_notes ∷ []) no_notes i within
-| inr past ↦ get_or-append_right bs (no_notes ∷ []) (length bs) i no_notes refl past ∙ alone (i - length bs) ∙ sym (get_or_past bs i no_notes past)
-]
+empty_more bs i =
+    elim (cases_lt i (length bs)) [
+      | inl within ↦ get_or_append_left bs (no_notes ∷ []) no_notes i within
+      | inr past ↦ get_or-append_right bs (no_notes ∷ []) (length bs) i no_notes refl past ∙ alone (i - length bs) ∙ sym (get_or_past bs i no_notes past)
+    ]
 
 -- what was noted last is there
 pub noted_there : (noted new : List (List ℕ × Place)) (n : Note) → new ≡ noted ++ (n.digest, n.place) ∷ [] → is_some (place_under new n.digest) ≡ true
 noted_there noted new n is =
     ap (λ x. is_some (place_under x n.digest)) is ∙ ap is_some (under_more noted n n.digest)
     ∙ ap (λ b. is_some (cond b (Some n.place) (place_under noted n.digest))) ((bytes_eq-Decides n.digest n.digest).1 refl)
+
+pub find_here : (d w : List ℕ) (p : Noted) (b : InMemory) (xs : List InMemory) (i : ℕ) → xs ≡ p.buckets → i ≡ bucket_of d → b ≡ get_or xs i no_notes → AreHeld w p → Finds (bucket_of d) w b (place_under p.noted)
+find_here d w p b xs i same at is held =
+    let all : b ≡ bucket_at p.buckets (bucket_of d) = is ∙ ap (λ ys. get_or ys i no_notes) same ∙ ap (bucket_at p.buckets) at in
+    subst (λ x. Finds (bucket_of d) w x (place_under p.noted)) (sym all) (held (bucket_of d))

@@ -114,7 +114,6 @@ pub record AreLeft (d : List ℕ) (left : List ℕ) (found : Option Place) (coun
   pub left_is : left ≡ flat_map note_bytes rest
   pub tells : later d found rest ≡ all
 
-
 record IsNext (d : List ℕ) (found : Option Place) (n : Note) (behind : List ℕ) (count : ℕ) (all : Option Place) : Type 0 where
   rest : List Note
   each : AllByRecursion IsNote rest
@@ -154,10 +153,10 @@ told_by_none d found (n ∷ rest) all none tells = let no : ⊥ = omega arith in
 pub left_none : (d left : List ℕ) (found : Option Place) (count : ℕ) (all : Option Place) → AreLeft d left found count all → count ≡ 0 → found ≡ all
 left_none d left found count all l none = told_by_none d found l.rest all (l.many ∙ none) l.tells
 
-pub ok_is : {A E : Type 0} (x y : A) → Ok {E = E} x ≡ Ok y → x ≡ y
+pub ok_is : {A E : Type 0} (x y : A) → ◌≡◌ {A = Result A E} (Ok x) (Ok y) → x ≡ y
 ok_is x y e = cc
 
-pub err_is_not : {A E : Type 0} (e : E) (y : A) → Err e ≡ Ok y → ⊥
+pub err_is_not : {A E : Type 0} (e : E) (y : A) → ◌≡◌ {A = Result A E} (Err e) (Ok y) → ⊥
 err_is_not e y is = cc
 
 -- ---- how long a page is

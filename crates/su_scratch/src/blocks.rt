@@ -118,12 +118,7 @@ impl<F: Scratch, S: BlockSource> ScratchBlocks<F, S> {
     }
 
     /// Leaves an item in the scratch, unless it is there.
-    fn leave_item(
-        &mut self,
-        alloc: Global,
-        digest: Digest,
-        item: &[u8],
-    ) -> Result<(), Refusal>
+    fn leave_item(&mut self, alloc: Global, digest: Digest, item: &[u8]) -> Result<(), Refusal>
         requires { is_item item.now ≡ true }
         ensures left { IsSound F.keeps F.written self.old.scratch self.old.places → OnOk result
             (is_some (place_under self.new.places.noted digest) ≡ true) }
@@ -165,7 +160,7 @@ impl<F: Scratch, S: BlockSource> BlockSource for ScratchBlocks<F, S> {
     // It is in the scratch from then on, where it is left there; else the source within took it.
     ghost puts = { λ c item d. MatchBool c.leaves
         (IsSound F.keeps F.written c.scratch c.places
-            → is_some (place_under d.places.noted (sha256 item)) ≡ true)
+        → is_some (place_under d.places.noted (sha256 item)) ≡ true)
         (S.puts c.source item d.source) };
 
     ghost follows_itself = { λ c. ((λ i. c.leaves), S.follows_itself c.source) };
@@ -216,7 +211,7 @@ impl<F: Scratch, S: BlockSource> BlockSource for ScratchBlocks<F, S> {
             → F.may_give self.old.scratch s ⊎ S.may_give self.old.source s) }
         ensures puts { OnOk result (MatchBool self.old.leaves
             (IsSound F.keeps F.written self.old.scratch self.old.places
-                → is_some (place_under self.new.places.noted (sha256 item.now)) ≡ true)
+            → is_some (place_under self.new.places.noted (sha256 item.now)) ≡ true)
             (S.puts self.old.source item.now self.new.source)) }
         ensures leaves { self.new.leaves ≡ self.old.leaves }
         ensures follows { S.follows self.old.source self.new.source }

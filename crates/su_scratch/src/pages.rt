@@ -7,7 +7,7 @@ ghost use Rattle.su_scratch.specs.declared.notes.Note.{Note as Note_};
 
 use crate::notes::{Note, Place};
 use std::alloc::{AllocError, Global};
-use su_bytes::{Digest, Refusal};
+use su_bytes::{Digest, FileId, Refusal};
 use su_format::{Reader, Writer};
 
 /// How many notes a page has.
@@ -69,6 +69,8 @@ pub(crate) fn read_page(bytes: &[u8], digest: &Digest) -> Result<Told, Refusal>
         → result ≡ Ok (record { older = older; found = place_in digest.now notes }) }
     ensures refused { IfErr result (λ e. e ≡ SourceFailed) }
 {
+    // names the type for the prover (docs/ARCHITECTURE.md, "Forms the kit wants")
+    let _file: Option<FileId> = None;
     let mut reader = Reader::new(bytes);
     let older = take_older(&mut reader)?;
     let found = search(&mut reader, digest)?;
@@ -103,6 +105,8 @@ fn search(reader: &mut Reader<'_>, digest: &Digest) -> Result<Option<Place>, Ref
         → result ≡ Ok (place_in digest.now notes) }
     ensures refused { IfErr result (λ e. e ≡ SourceFailed) }
 {
+    // names the type for the prover (docs/ARCHITECTURE.md, "Forms the kit wants")
+    let _file: Option<FileId> = None;
     let mut found = None;
     for _ in 0..NOTES_OF_A_PAGE {
         let note = take_note(reader)?;

@@ -10,7 +10,7 @@ loop-init c = λ notes each many spelled. record { rest = notes; each = each; ma
 pub loop-preserved : goal.loop-preserved
 loop-preserved c = λ notes each many spelled.
     left_next c.args.digest.now _ c.loop.found _ _ _ _ c.in_ok-note.note _ (c.loop.invariant notes each many spelled) (omega arith)
-    (λ m more is e. let told = c.in_ok-note.ensures.told m more is e in (ok_is _ _ told.0, told.1)) c.tells.ensures
+    (λ m more is e. let told = c.in_ok-note.ensures.told m more is e in (ok_is _ _ told.0, told.1)) c.tells-found.ensures
 
 pub returns-in_err-note-clause-told : goal.returns-in_err-note-clause-told
 returns-in_err-note-clause-told c = λ notes each many spelled.
