@@ -3,17 +3,17 @@ use Rattle.su_scratch.specs.Bucket.{newest_of, found_on, IsPageAt}
 use Rattle.su_scratch.proofs.BucketLemmas.{AreLeftOn, next_page, told_there, told_before, none_left}
 use Rattle.su_scratch.proofs.chains.find_on_pages.Goals as goal
 
-pub loop-place-init : goal.loop-place-init
-loop-place-init g c = record {
+pub loop-next-init : goal.loop-next-init
+loop-next-init g c = record {
   found = λ pages keeps are is. record { rest = pages; next_is = is; are_written = are; tells = refl };
   no_more = λ s m. m;
   keeps = λ k. k;
   unchanged = λ k. refl;
 }
 
-pub loop-place-preserved : goal.loop-place-preserved
-loop-place-preserved g c =
-    let l = c.loop-place.invariant in
+pub loop-next-preserved : goal.loop-next-preserved
+loop-next-preserved g c =
+    let l = c.loop-next.invariant in
     let w = g.F.Scratch.written c.args.scratch.now in
     let d = c.args.digest.now in
     record {
@@ -30,7 +30,7 @@ loop-place-preserved g c =
 
 pub returns-then-is_some-clause-found : goal.returns-then-is_some-clause-found
 returns-then-is_some-clause-found g c = λ pages keeps are is.
-    let l = c.loop-place.invariant in
+    let l = c.loop-next.invariant in
     let w = g.F.Scratch.written c.args.scratch.now in
     let d = c.args.digest.now in
     let all = found_on d pages in
@@ -41,7 +41,7 @@ returns-then-is_some-clause-found g c = λ pages keeps are is.
 
 pub returns-clause-found : goal.returns-clause-found
 returns-clause-found g c = λ pages keeps are is.
-    let l = c.loop-place.invariant in
+    let l = c.loop-next.invariant in
     let w = g.F.Scratch.written c.args.scratch.now in
     let d = c.args.digest.now in
     let all = found_on d pages in

@@ -3,8 +3,8 @@ use Rattle.su_scratch.specs.Bucket.{Pages, newest_of, AreWritten, found_on}
 use Rattle.su_scratch.proofs.BucketLemmas.{AreLeftOn}
 use Rattle.su_scratch.proofs.chains.find_on_pages.Given as goal
 
-abbrev pub invariant-loop-place : goal.invariant-loop-place
-invariant-loop-place g l = record {
+abbrev pub invariant-loop-next : goal.invariant-loop-next
+invariant-loop-next g l = record {
   found : (pages : Pages) → g.F.Scratch.keeps l.fn.scratch → AreWritten (g.F.Scratch.written l.fn.scratch) pages
       → l.fn.newest ≡ newest_of pages
       → AreLeftOn (g.F.Scratch.written l.fn.scratch) l.next l.digest (found_on l.digest pages);
@@ -17,5 +17,5 @@ abbrev below : Option ℕ → ℕ
 below None = 0
 below (Some place) = suc place
 
-abbrev pub decreases-loop-place : goal.decreases-loop-place
-decreases-loop-place g l = below l.next
+abbrev pub decreases-loop-next : goal.decreases-loop-next
+decreases-loop-next g l = below l.next

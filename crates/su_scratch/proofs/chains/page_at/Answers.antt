@@ -11,4 +11,4 @@ returns-clause-told g c = λ older notes keeps page.
     (ap (λ (t : Told). t.older) told, ap (λ (t : Told). t.found) told)
 
 pub returns-clause-descends : goal.returns-clause-descends
-returns-clause-descends g c = c.is_before.ensures.0 c.if-is_before.true
+returns-clause-descends g c = c.is_before.ensures.0 c.if-not-is_before.false

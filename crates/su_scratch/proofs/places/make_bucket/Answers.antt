@@ -4,5 +4,5 @@ use Rattle.su_scratch.specs.Bucket.{InMemory}
 use Rattle.su_scratch.proofs.Held.{empty_more}
 use Rattle.su_scratch.proofs.places.make_bucket.Goals as goal
 
-pub loop-buckets-preserved : goal.loop-buckets-preserved
-loop-buckets-preserved c = λ i. ?
+pub loop-alloc-preserved : goal.loop-alloc-preserved
+loop-alloc-preserved c = λ i. ?
