@@ -18,7 +18,7 @@ use Rattle.su_scratch.proofs.BucketLemmas.{finds_still}
 
 nothing_on : (d : List ℕ) (pages : Pages) → None ≡ newest_of pages → None ≡ found_on d pages
 nothing_on d [] is = refl
-nothing_on d (page ∷ older) is = let no : ⊥ = cc in absurd no
+nothing_on d (page ∷ older) is = let never : ⊥ = cc in absurd never
 
 pub nothing_there : (d w : List ℕ) (p : Noted) → no_notes ≡ bucket_at p.buckets (bucket_of d) → AreHeld w p → None ≡ place_under p.noted d
 nothing_there d w p none held =
@@ -44,8 +44,8 @@ finds_same i w b found other same f = record {
 }
 
 missed : (b : Bool) (x y : Option Place) → (b ≡ true → ⊥) → cond b x y ≡ y
-missed true x y no = absurd (no refl)
-missed false x y no = refl
+missed true x y never = absurd (never refl)
+missed false x y never = refl
 
 -- digests of other buckets are found as before
 pub under_others : (noted : List (List ℕ × Place)) (n : Note) (i : ℕ) → (i ≡ bucket_of n.digest → ⊥) → (d : List ℕ) → bucket_of d ≡ i → place_under (noted ++ (n.digest, n.place) ∷ []) d ≡ place_under noted d
@@ -66,9 +66,9 @@ held_with w w' old middle new index b found other grows same within is here othe
       | inl at ↦
           let there : bucket_at new i ≡ b = ap (λ bs. bucket_at bs i) is ∙ ap (λ k. bucket_at (set middle index b) k) at ∙ get_or-set_same middle index b no_notes within in
           subst (λ x. Finds i w' x other) (sym there) (subst (λ k. Finds k w' b other) (sym at) here)
-      | inr no ↦
-          let there : bucket_at new i ≡ bucket_at old i = ap (λ bs. bucket_at bs i) is ∙ get_or-set_other middle index i b no_notes no ∙ same i in
-          subst (λ x. Finds i w' x other) (sym there) (finds_same i w' (bucket_at old i) found other (others i no) (finds_still i w w' (bucket_at old i) found grows (held i)))
+      | inr apart ↦
+          let there : bucket_at new i ≡ bucket_at old i = ap (λ bs. bucket_at bs i) is ∙ get_or-set_other middle index i b no_notes apart ∙ same i in
+          subst (λ x. Finds i w' x other) (sym there) (finds_same i w' (bucket_at old i) found other (others i apart) (finds_still i w w' (bucket_at old i) found grows (held i)))
     ]
 
 -- no bucket is changed
