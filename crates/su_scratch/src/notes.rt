@@ -1,5 +1,5 @@
 // Where an item lies.
-ghost use Rattle.std.specs.Prelude.{◌≡◌, if◌then◌else◌};
+ghost use Rattle.std.specs.Prelude.{◌≡◌, length, if◌then◌else◌};
 ghost use Rattle.std.specs.Str.{bytes_eq};
 ghost use Rattle.su_scratch.specs.Page.{IsNote};
 
@@ -37,8 +37,16 @@ impl Note {
     pub(crate) fn can_be_told(&self)
         ensures { IsNote self.now }
     {
-        let _digest = self.digest.as_bytes();
+        has_digest_length(&self.digest);
+        let _place = self.place;
         let _first = self.place.first;
         let _count = self.place.count;
     }
+}
+
+/// Tells the prover how long a digest is.
+fn has_digest_length(digest: &Digest)
+    ensures { length digest.now ≡ 32 }
+{
+    let _bytes: &[u8] = digest.as_bytes();
 }
