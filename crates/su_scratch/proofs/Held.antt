@@ -90,10 +90,10 @@ empty_more bs i =
     ]
 
 -- what was noted last is there
-pub noted_there : (noted new : List (List ℕ × Place)) (n : Note) → new ≡ noted ++ (n.digest, n.place) ∷ [] → is_some (place_under new n.digest) ≡ true
-noted_there noted new n is =
-    ap (λ x. is_some (place_under x n.digest)) is ∙ ap is_some (under_more noted n n.digest)
-    ∙ ap (λ b. is_some (cond b (Some n.place) (place_under noted n.digest))) ((bytes_eq-Decides n.digest n.digest).1 refl)
+pub noted_there : (noted new : List (List ℕ × Place)) (d : List ℕ) (place : Place) → new ≡ noted ++ (d, place) ∷ [] → is_some (place_under new d) ≡ true
+noted_there noted new d place is =
+    ap (λ x. is_some (place_under x d)) is ∙ ap is_some (under_more noted (record { digest = d; place = place }) d)
+    ∙ ap (λ b. is_some (cond b (Some place) (place_under noted d))) ((bytes_eq-Decides d d).1 refl)
 
 pub find_here : (d w : List ℕ) (p : Noted) (b : InMemory) (xs : List InMemory) (i : ℕ) → xs ≡ p.buckets → i ≡ bucket_of d → b ≡ get_or xs i no_notes → AreHeld w p → Finds (bucket_of d) w b (place_under p.noted)
 find_here d w p b xs i same at is held =

@@ -1,6 +1,6 @@
 -- A scratch that gives back what was written has what was noted, from call to call.
 use Rattle.std.proofs.Common.{◌≡◌, ℕ, List, ◌++◌, Option, Some, None, true, false, sym, ap, ◌∙◌, subst}
-use Rattle.std.specs.Prelude.{is_some, Result, Ok, Err, IfOk}
+use Rattle.std.specs.Prelude.{is_some, Result, Ok, Err, IfOk, OnOk}
 use Rattle.su_scratch.specs.declared.notes.Place.{Place}
 use Rattle.su_scratch.specs.declared.notes.Note.{Note}
 use Rattle.su_scratch.specs.Bucket.{Grows}
@@ -26,6 +26,10 @@ module _ {F : Type 0} (keeps : F → Type 0) (written : F → List ℕ) where
 pub more_ok : {T E : Type 0} (r : Result T E) (P Q : T → Type 0) → ((x : T) → P x → Q x) → IfOk r P → IfOk r Q
 more_ok (Ok x) P Q on p = on x p
 more_ok (Err e) P Q on p = tt
+
+pub on_ok : {T E : Type 0} (r : Result T E) (P Q : Type 0) → (P → Q) → OnOk r P → OnOk r Q
+on_ok (Ok x) P Q on p = on p
+on_ok (Err e) P Q on p = tt
 
 -- a place that was noted isn't found to be none
 pub not_none : (o : Option Place) → None ≡ o → is_some o ≡ true → ⊥
