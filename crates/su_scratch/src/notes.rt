@@ -37,8 +37,8 @@ impl Note {
     pub(crate) fn can_be_told(&self)
         ensures { IsNote self.now }
     {
+        // how long it is, and that the numbers fit (docs/ARCHITECTURE.md, "Forms the kit wants")
         has_digest_length(&self.digest);
-        let _place = self.place;
         let _first = self.place.first;
         let _count = self.place.count;
     }
