@@ -1,13 +1,13 @@
 -- What a bucket finds, through what is written and noted.
-use Rattle.std.proofs.Common.{◌≡◌, ℕ, suc, ◌+◌, ◌<◌, ◌≤◌, ◌^◌, Bool, true, false, cond, List, [], ◌∷◌, ◌++◌, length, Option, Some, None, refl, sym, ap, ◌∙◌, subst, arith, append_assoc, append-nil, length-append, lit<, lit≤}
+use Rattle.std.proofs.Common.{◌≡◌, ℕ, ◌+◌, ◌<◌, ◌≤◌, ◌^◌, true, false, cond, List, [], ◌∷◌, ◌++◌, length, Option, Some, None, refl, sym, ap, ◌∙◌, subst, arith, append_assoc, append-nil, length-append}
 use Rattle.std.specs.Prelude.{IfSome, is_some, Result, Ok, Err, OnErr}
-use Rattle.std.specs.List.{flat_map, AllByRecursion}
+use Rattle.std.specs.List.{AllByRecursion}
 use Rattle.std.specs.Str.{bytes_eq}
 use Rattle.su_scratch.specs.declared.notes.Place.{Place}
 use Rattle.su_scratch.specs.declared.notes.Note.{Note}
 use Rattle.su_scratch.specs.declared.pages.TheConstants.{NOTES_OF_A_PAGE}
 use Rattle.su_scratch.specs.Written.{LiesAt}
-use Rattle.su_scratch.specs.Page.{page_bytes, note_bytes, later, place_in, IsNote, IsPage}
+use Rattle.su_scratch.specs.Page.{page_bytes, later, place_in, IsNote}
 use Rattle.su_scratch.specs.Bucket.{bucket_of, InMemory, Pages, newest_of, IsPageAt, AreWritten, found_on, Finds, found_with, Grows}
 use Rattle.su_scratch.proofs.Later.{later_some, later_none, later-append}
 

@@ -1,16 +1,15 @@
 -- What was noted is held, through what is written and noted.
-use Rattle.std.proofs.Common.{◌≡◌, ◌≢◌, ℕ, zero, suc, ◌+◌, ◌-◌, ◌<◌, ◌≤◌, Bool, true, false, cond, List, [], ◌∷◌, ◌++◌, length, Option, Some, None, refl, sym, ap, ◌∙◌, subst, inl, inr, arith, get_or, reverse}
+use Rattle.std.proofs.Common.{◌≡◌, ℕ, zero, suc, ◌-◌, ◌<◌, Bool, true, false, cond, List, [], ◌∷◌, ◌++◌, length, Option, Some, None, refl, sym, ap, ◌∙◌, subst, inl, inr, get_or}
 use Rattle.std.specs.Map.{lookup}
 use Rattle.std.specs.Prelude.{is_some}
 use Rattle.std.specs.Str.{bytes_eq}
 use Rattle.std.proofs.Math.ListN.{set}
-use Rattle.std.proofs.lemmas.Bool.{cases_eq, cases_lt, cases_Bool}
+use Rattle.std.proofs.lemmas.Bool.{cases_eq, cases_lt}
 use Rattle.std.proofs.lemmas.List.{reverse-append, get_or-set_same, get_or-set_other, get_or_past, get_or_append_left, get_or-append_right}
 use Rattle.std.proofs.lemmas.Slice.Eq.{bytes_eq-Decides}
 use Rattle.su_scratch.specs.declared.notes.Place.{Place}
 use Rattle.su_scratch.specs.declared.notes.Note.{Note}
-use Rattle.su_scratch.specs.Page.{later}
-use Rattle.su_scratch.specs.Bucket.{bucket_of, InMemory, Pages, newest_of, AreWritten, found_on, Finds, found_with, Grows}
+use Rattle.su_scratch.specs.Bucket.{bucket_of, InMemory, Pages, newest_of, found_on, Finds, found_with, Grows}
 use Rattle.su_scratch.specs.Places.{Noted, place_under, no_notes, bucket_at, AreHeld}
 use Rattle.su_scratch.proofs.BucketLemmas.{finds_still}
 

@@ -1,19 +1,19 @@
 -- What is read of a page is what was spelled.
-use Rattle.std.proofs.Common.{◌≡◌, ℕ, zero, suc, ◌+◌, ◌-◌, ◌<◌, ◌≤◌, ◌^◌, ◌*◌, ◌⊎◌, inl, inr, Bool, true, false, cond, length-append, List, [], ◌∷◌, ◌++◌, length, Option, Some, None, refl, sym, ap, ◌∙◌, subst, arith, append_assoc, lit<}
+use Rattle.std.proofs.Common.{◌≡◌, ℕ, suc, ◌<◌, ◌^◌, ◌*◌, inl, inr, cond, length-append, List, [], ◌∷◌, ◌++◌, length, Option, Some, None, refl, ap, ◌∙◌, arith, append_assoc, lit<}
 use Rattle.std.specs.Prelude.{IfSome, Result, Ok, Err}
 use Rattle.std.specs.List.{flat_map, AllByRecursion}
 use Rattle.std.specs.Str.{bytes_eq}
 use Rattle.su_bytes.specs.declared.refusals.Refusal.{Refusal}
-use Rattle.su_bytes.specs.declared.refusals.Refusal.TheVariants.{Malformed, NoMemory}
+use Rattle.su_bytes.specs.declared.refusals.Refusal.TheVariants.{Malformed}
 use Rattle.su_format.specs.Format.{Format, part, IsLawful}
 use Rattle.su_format.specs.Part.{u8_bytes, u32_bytes, u64_bytes, u8_part, u32_part, u64_part, bytes_part, digest_part}
-use Rattle.su_format.specs.Reading.{Reading, Took, Refuses, Takes}
+use Rattle.su_format.specs.Reading.{Reading, Took, Takes}
 use Rattle.su_format.proofs.Public.{u8_lawful, u32_lawful, u64_lawful, digest_lawful}
 use Rattle.su_scratch.specs.declared.notes.Place.{Place}
 use Rattle.su_scratch.specs.declared.notes.Note.{Note}
-use Rattle.su_scratch.specs.Page.{note_bytes, older_bytes, later, place_in, IsNote}
+use Rattle.su_scratch.specs.Page.{note_bytes, older_bytes, later, IsNote}
 use Rattle.su_scratch.specs.Page.{page_bytes, IsPage}
-use Rattle.su_scratch.specs.declared.pages.TheConstants.{PAGE_LENGTH, NOTES_OF_A_PAGE}
+use Rattle.su_scratch.specs.declared.pages.TheConstants.{PAGE_LENGTH}
 
 -- what begins the bytes isn't refused
 refused_not : {A : Type 0} (f : Format A) → IsLawful f → (old new : Reading) (e : Refusal) → Takes f old (Err e) new → e ≡ Malformed old.place → (a : A) (rest : List ℕ) → f.Begins old.left a rest → ⊥

@@ -2,11 +2,8 @@
 use Rattle.std.proofs.Common.{◌≡◌, ℕ, List, ◌++◌, Option, Some, None, true, false, sym, ap, ◌∙◌, subst}
 use Rattle.std.specs.Prelude.{is_some, Result, Ok, Err, IfOk, OnOk}
 use Rattle.su_scratch.specs.declared.notes.Place.{Place}
-use Rattle.su_scratch.specs.declared.notes.Note.{Note}
-use Rattle.su_scratch.specs.Bucket.{Grows}
 use Rattle.su_scratch.specs.Places.{Noted, place_under, bucket_at, AreHeld, IsSound}
 use Rattle.su_scratch.proofs.BucketLemmas.{finds_still}
-use Rattle.su_scratch.proofs.Held.{under_more}
 
 module _ {F : Type 0} (keeps : F → Type 0) (written : F → List ℕ) where
   -- nothing was written

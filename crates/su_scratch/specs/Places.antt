@@ -1,5 +1,5 @@
 -- Where items lie, by their digests.
-use Rattle.std.specs.Prelude.{◌≡◌, ℕ, List, [], Option, None, slice_index_or, reverse}
+use Rattle.std.specs.Prelude.{ℕ, List, [], Option, None, slice_index_or, reverse}
 use Rattle.std.specs.Map.{lookup}
 use Rattle.std.specs.Str.{bytes_eq}
 use Rattle.su_scratch.specs.declared.notes.Place.{Place}

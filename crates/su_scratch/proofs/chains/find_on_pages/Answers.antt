@@ -1,4 +1,4 @@
-use Rattle.std.proofs.Common.{◌≡◌, ap, ◌∙◌, sym, subst, refl, Option, ℕ, List, arith}
+use Rattle.std.proofs.Common.{◌∙◌, sym, subst, refl}
 use Rattle.su_scratch.specs.Bucket.{newest_of, found_on, IsPageAt}
 use Rattle.su_scratch.proofs.BucketLemmas.{AreLeftOn, next_page, told_there, told_before, none_left}
 use Rattle.su_scratch.proofs.chains.find_on_pages.Goals as goal

@@ -1,4 +1,4 @@
-use Rattle.std.proofs.Common.{◌≡◌, ap, ◌∙◌, sym, Ok, List, ℕ}
+use Rattle.std.proofs.Common.{ap, ◌∙◌}
 use Rattle.su_scratch.specs.declared.pages.Told.{Told}
 use Rattle.su_scratch.proofs.PageReading.{ok_is, length-page}
 use Rattle.su_scratch.specs.Page.{page_bytes}

@@ -1,7 +1,7 @@
-use Rattle.std.proofs.Common.{ap, ◌∙◌, sym, Ok, List, ℕ}
+use Rattle.std.proofs.Common.{ap, ◌∙◌, Ok}
 use Rattle.std.specs.List.{flat_map}
 use Rattle.su_format.specs.Reading.{Reading}
-use Rattle.su_scratch.specs.Page.{note_bytes, page_bytes, IsPage}
+use Rattle.su_scratch.specs.Page.{note_bytes}
 use Rattle.su_scratch.proofs.PageReading.{ok_is, err_is_not}
 use Rattle.su_scratch.proofs.pages.read_page.Goals as goal
 

@@ -1,7 +1,7 @@
-use Rattle.std.proofs.Common.{◌+◌, ◌-◌, refl, arith, ap, ◌∙◌, sym, Ok}
+use Rattle.std.proofs.Common.{◌+◌, ◌-◌, refl, arith, ap, Ok}
 use Rattle.su_scratch.specs.declared.pages.TheConstants.{NOTES_OF_A_PAGE}
 use Rattle.su_scratch.specs.Page.{place_in}
-use Rattle.su_scratch.proofs.PageReading.{AreLeft, left_next, left_there, left_none, ok_is, err_is_not}
+use Rattle.su_scratch.proofs.PageReading.{left_next, left_there, left_none, ok_is, err_is_not}
 use Rattle.su_scratch.proofs.pages.search.Goals as goal
 
 pub loop-init : goal.loop-init

@@ -1,4 +1,4 @@
-use Rattle.std.proofs.Common.{◌≡◌, ◌++◌, [], ◌∷◌, ap, ◌∙◌}
+use Rattle.std.proofs.Common.{◌++◌, [], ◌∷◌, ap, ◌∙◌}
 use Rattle.su_scratch.specs.Places.{bucket_at}
 use Rattle.su_scratch.specs.Bucket.{InMemory}
 use Rattle.su_scratch.proofs.Held.{empty_more}

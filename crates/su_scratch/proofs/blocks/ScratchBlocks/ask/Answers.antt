@@ -1,6 +1,6 @@
-use Rattle.std.proofs.Common.{◌≡◌, ap, ◌∙◌, sym, refl, inl, inr}
+use Rattle.std.proofs.Common.{◌∙◌, sym}
 use Rattle.su_scratch.specs.Places.{place_under}
-use Rattle.su_scratch.proofs.Sound.{sound_on, more_ok, not_none}
+use Rattle.su_scratch.proofs.Sound.{sound_on, not_none}
 use Rattle.su_scratch.proofs.blocks.ScratchBlocks.ask.Goals as goal
 
 pub returns-in_err-place-clause-sound : goal.returns-in_err-place-clause-sound

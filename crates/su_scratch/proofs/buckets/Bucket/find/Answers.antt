@@ -1,7 +1,7 @@
-use Rattle.std.proofs.Common.{◌≡◌, ap, ◌∙◌, sym, subst, None, Some}
+use Rattle.std.proofs.Common.{◌≡◌, ap, ◌∙◌, sym, subst}
 use Rattle.std.specs.Prelude.{IfOk}
 use Rattle.su_scratch.specs.Page.{place_in}
-use Rattle.su_scratch.specs.Bucket.{InMemory, Finds, bucket_of}
+use Rattle.su_scratch.specs.Bucket.{InMemory}
 use Rattle.su_scratch.proofs.BucketLemmas.{found_in_memory, found_on_pages}
 use Rattle.su_scratch.proofs.buckets.Bucket.find.Goals as goal
 

@@ -1,7 +1,7 @@
-use Rattle.std.proofs.Common.{◌≡◌, ◌++◌, ap, ◌∙◌, sym, subst, refl, arith, length}
+use Rattle.std.proofs.Common.{◌≡◌, ◌++◌, ap, ◌∙◌, sym, refl, arith, length}
 use Rattle.su_scratch.specs.declared.pages.TheConstants.{NOTES_OF_A_PAGE}
 use Rattle.su_scratch.specs.Page.{page_bytes}
-use Rattle.su_scratch.specs.Bucket.{InMemory, Finds}
+use Rattle.su_scratch.specs.Bucket.{InMemory}
 use Rattle.su_scratch.proofs.BucketLemmas.{page_moved}
 use Rattle.su_scratch.proofs.buckets.Bucket.make_room.Goals as goal
 

@@ -1,4 +1,4 @@
-use Rattle.std.proofs.Common.{◌≡◌, ◌<◌, ◌^◌, length, arith}
+use Rattle.std.proofs.Common.{arith}
 use Rattle.su_scratch.proofs.notes.Note.can_be_told.Goals as goal
 
 pub returns : goal.returns

@@ -1,8 +1,8 @@
-use Rattle.std.proofs.Common.{◌≡◌, ◌++◌, ℕ, List, [], ◌∷◌, append-nil, refl, ap, ◌∙◌, sym, subst, arith}
+use Rattle.std.proofs.Common.{◌++◌, ℕ, List, [], ◌∷◌, append-nil, refl, ◌∙◌, sym, subst}
 use Rattle.std.proofs.Math.ListN.{set}
 use Rattle.std.proofs.lemmas.List.{get_or_read}
 use Rattle.su_scratch.specs.declared.notes.Place.{Place}
-use Rattle.su_scratch.specs.Bucket.{InMemory, Finds, found_with}
+use Rattle.su_scratch.specs.Bucket.{Finds, found_with}
 use Rattle.su_scratch.specs.Places.{AreHeld, no_notes, bucket_at, place_under}
 use Rattle.su_scratch.proofs.Held.{held_with, held_still, finds_same, under_others, under_more}
 use Rattle.su_scratch.proofs.places.Places.add.Goals as goal

@@ -1,4 +1,4 @@
-use Rattle.std.proofs.Common.{◌≡◌, ap, ◌∙◌, get_or, arith}
+use Rattle.std.proofs.Common.{ap, ◌∙◌, get_or, arith}
 use Rattle.su_scratch.specs.Places.{Noted, no_notes, place_under, bucket_at}
 use Rattle.su_scratch.proofs.Held.{nothing_there, find_here}
 use Rattle.su_scratch.proofs.places.Places.find.Goals as goal
