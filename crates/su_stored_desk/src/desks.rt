@@ -286,8 +286,10 @@ impl<S: BlockSource> Desk<S> {
         let index = undo_index(&self.roster, &self.entries, &self.kept, author, number)?;
         self.entries.reserve(1)?;
         let written = self.kept[index].footprint.writes(self.alloc)?;
-        let inverse = self.kept[index].inverse.open(self.alloc)?;
-        self.stored.undo(self.alloc, inverse)?;
+        let inverse = self.kept[index].inverse.take(self.alloc)?;
+        let done = self.stored.undo(self.alloc, &inverse);
+        self.kept[index].inverse = KeptInverse::new(inverse);
+        done?;
         let undone = self.kept.remove(index);
         raise(&mut self.counters, author, written.as_slice());
         let change = KeptChange::Undo(number);

@@ -25,7 +25,7 @@ use su_block::BlockSource;
 use su_bytes::{Format, KEY_LENGTH, Principal, Refusal, User};
 use su_desk::Prepared;
 use su_op::{Area, Change};
-use su_part_inverse::Inverse;
+use su_part_inverse::{Inverse, KeptInverse};
 
 impl<S: BlockSource> Desk<S> {
     ghost use Rattle.su_stored_desk.specs.Right.{state_of, FailsAt, HasNumbers, HasShape, IsRight, IsSure, MayBecome};
@@ -241,8 +241,10 @@ impl<S: BlockSource> Desk<S> {
     {
         match self.kept.last_mut() {
             Some(operation) => {
-                let inverse = operation.inverse.open(self.alloc)?;
-                self.stored.undo(self.alloc, inverse)
+                let inverse = operation.inverse.take(self.alloc)?;
+                let done = self.stored.undo(self.alloc, &inverse);
+                operation.inverse = KeptInverse::new(inverse);
+                done
             }
             None => Ok(()),
         }
