@@ -33,16 +33,6 @@ pub(crate) enum Mistake {
     Reply,
     /// Another number of calls is made, or there is no end of them.
     Calls,
-    /// A file has other bytes.
-    Content,
-    /// Something else is found, or nothing is.
-    Found,
-    /// Something else is read of a tree.
-    Reading,
-    /// Something else has to be undone before an operation.
-    Reasons,
-    /// An item is there, or isn't, otherwise.
-    Item,
 }
 
 /// Why a row stops.

@@ -27,8 +27,8 @@ fn create_below(alloc: Global) -> Result<su_op::Change, Refusal> {
     create(alloc, b"c", 4)
 }
 
-/// A client takes the commit of that number of another one.
-pub(crate) fn follow(
+// A client takes the commit of that number of another one.
+fn follow(
     alloc: Global,
     client: &mut Client<Items>,
     of: &Client<Items>,

@@ -5,37 +5,16 @@
 //! row that is carried out alone.
 #![tactic(auto)]
 
-mod asked;
-mod asking;
-mod books;
 mod clients;
-mod commits;
-mod desks;
 mod faults;
-mod flaws;
-mod forests;
-mod inodes;
-mod items;
-mod keepers;
 mod lists;
-mod meets;
-mod parts;
-mod planned;
 mod plans;
 mod rows;
 mod seats;
 mod seen;
 mod sessions;
-mod shared_books;
 mod signatures;
 mod sources;
-mod stores;
-mod taking;
-mod told;
-mod trees;
-mod trying;
-mod views;
-mod whys;
 
 use faults::Stop;
 use rows::{ROWS, Row, carry_out};
