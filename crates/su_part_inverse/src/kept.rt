@@ -1,5 +1,5 @@
 // Inverses as a desk keeps them.
-ghost use Rattle.std.specs.Prelude.{◌≡◌, None, IfOk, IfErr, OnErr, OnOk};
+ghost use Rattle.std.specs.Prelude.{◌≡◌, IfErr, IfSome};
 ghost use Rattle.su_bytes.specs.declared.refusals.Refusal.TheVariants.{NoMemory};
 ghost use Rattle.su_part_inverse.specs.Lefts.{Leaves};
 ghost use Rattle.su_part_inverse.specs.Packed.{HasLarge, IsPackedAs, KeepsAlike};
@@ -10,7 +10,6 @@ use crate::packed::Packed;
 use http_server::Log;
 use std::alloc::Global;
 use std::marker::Model;
-use std::mem;
 use su_block::BlockSource;
 use su_bytes::{FileId, Refusal};
 
@@ -64,19 +63,23 @@ impl KeptInverse {
         pack_small(alloc, &mut self.inverse, &mut self.packed)
     }
 
-    /// Takes the inverse out, which is not packed then, and leaves one of nothing in its place. Fails
-    /// only with `NoMemory`, and then changes nothing.
-    pub fn take(&mut self, alloc: Global) -> Result<Inverse, Refusal>
-        ensures value { IfOk result (λ inverse. KeepsAlike self.old inverse) }
-        ensures err { OnErr result (self.new ≡ self.old) }
+    /// Brings what is small of it back out of the bytes, if it is packed. Fails only with `NoMemory`,
+    /// and then changes nothing.
+    pub fn unpack(&mut self, alloc: Global) -> Result<(), Refusal>
+        ensures same { self.new ≡ self.old }
         ensures refused { IfErr result (λ e. e ≡ NoMemory) }
     {
-        // names the type for the prover (docs/ARCHITECTURE.md, "Forms the kit wants")
-        let _file: Option<FileId> = None;
-        make_whole(alloc, &mut self.inverse, &mut self.packed)?;
-        let left = nothing(alloc);
-        self.whole = Log::new().and(&left, &());
-        Ok(mem::replace(&mut self.inverse, left))
+        make_whole(alloc, &mut self.inverse, &mut self.packed)
+    }
+
+    /// Lends the inverse, unless it is packed.
+    pub fn unpacked(&self) -> Option<&Inverse>
+        ensures { IfSome result (λ inverse. KeepsAlike self.now inverse.now) }
+    {
+        match self.packed {
+            Some(_) => None,
+            None => Some(&self.inverse),
+        }
     }
 
     /// Leaves what has bytes on the store, as `Inverse::leave` does.
@@ -85,18 +88,6 @@ impl KeptInverse {
             result }
     {
         self.inverse.leave(alloc, source)
-    }
-}
-
-/// Makes an inverse that keeps nothing.
-fn nothing(alloc: Global) -> Inverse {
-    Inverse {
-        inodes: Vec::new(alloc),
-        returns: Vec::new(alloc),
-        sizes: Vec::new(alloc),
-        resets: Vec::new(alloc),
-        blocks: Vec::new(alloc),
-        left: None,
     }
 }
 
@@ -131,11 +122,9 @@ fn make_whole(
     inverse: &mut Inverse,
     packed: &mut Option<Packed>,
 ) -> Result<(), Refusal>
-    ensures whole { (w : Inverse_) → IsPackedAs inverse.old packed.old w
-        → OnOk result (IsPackedAs inverse.new None w) }
-    ensures unpacked { OnOk result (packed.new ≡ None) }
+    ensures as_before { (w : Inverse_) → IsPackedAs inverse.old packed.old w
+        → IsPackedAs inverse.new packed.new w }
     ensures large { HasLarge inverse.old inverse.new }
-    ensures err { OnErr result ((inverse.new ≡ inverse.old) × (packed.new ≡ packed.old)) }
     ensures refused { (w : Inverse_) → IsPackedAs inverse.old packed.old w
         → IfErr result (λ e. e ≡ NoMemory) }
 {

@@ -3,9 +3,11 @@ ghost use Rattle.std.specs.Prelude.{◌≡◌, ◌<◌, None, Some, false, lengt
 ghost use Rattle.std.specs.List.{list_any};
 ghost use Rattle.std.specs.List.Sorted.{IsNonDecreasingBy};
 ghost use Rattle.su_bytes.specs.Membership.{Membership};
+ghost use Rattle.su_bytes.specs.declared.refusals.Refusal.TheVariants.{NoMemory};
 ghost use Rattle.su_desk.specs.Answer.{live_refusal, undo_refusal};
 ghost use Rattle.su_stored_desk.specs.Keeping.{AreKept, IsIndexOf, last_kept_reader, kept_blocker};
 
+use std::alloc::Global;
 use su_bytes::{Refusal, Roster, User};
 use su_desk::{KeptEntry, entry_at, undoer_in};
 use su_kept_areas::KeptFootprint;
@@ -116,4 +118,17 @@ fn last_reader(kept: &[KeptOperation], written: &KeptFootprint) -> Option<u64>
         }
     }
     None
+}
+
+/// Brings what is kept at that index back out of the bytes. Fails only with `NoMemory`.
+pub(crate) fn unpack_at(
+    alloc: Global,
+    kept: &mut [KeptOperation],
+    index: usize,
+) -> Result<(), Refusal>
+    requires { index < length kept.old }
+    ensures same { kept.new ≡ kept.old }
+    ensures refused { IfErr result (λ e. e ≡ NoMemory) }
+{
+    kept[index].inverse.unpack(alloc)
 }

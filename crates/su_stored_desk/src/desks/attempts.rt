@@ -25,7 +25,7 @@ use su_block::BlockSource;
 use su_bytes::{Format, KEY_LENGTH, Principal, Refusal, User};
 use su_desk::Prepared;
 use su_op::{Area, Change};
-use su_part_inverse::{Inverse, KeptInverse};
+use su_part_inverse::Inverse;
 
 impl<S: BlockSource> Desk<S> {
     ghost use Rattle.su_stored_desk.specs.Right.{state_of, FailsAt, HasNumbers, HasShape, IsRight, IsSure, MayBecome};
@@ -239,13 +239,8 @@ impl<S: BlockSource> Desk<S> {
             → IfErr result (FailsAt S.failed (state_of self.old) self.new) }
         ensures source { MayBecome S.may_give S.follows self.old.stored.source self.new.stored.source }
     {
-        match self.kept.last_mut() {
-            Some(operation) => {
-                let inverse = operation.inverse.take(self.alloc)?;
-                let done = self.stored.undo(self.alloc, &inverse);
-                operation.inverse = KeptInverse::new(inverse);
-                done
-            }
+        match self.kept.len().checked_sub(1) {
+            Some(last) => self.put_back(last),
             None => Ok(()),
         }
     }
