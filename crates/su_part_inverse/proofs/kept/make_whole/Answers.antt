@@ -5,8 +5,8 @@ use Rattle.su_part_inverse.specs.Packed.{IsPackedAs}
 use Rattle.su_part_inverse.specs.declared.packed.Packed.{Packed}
 use Rattle.su_part_inverse.proofs.kept.make_whole.Goals as goal
 
-pub returns-clause-whole : goal.returns-clause-whole
-returns-clause-whole c w was =
+pub returns-clause-as_before : goal.returns-clause-as_before
+returns-clause-as_before c w was =
     let now = subst (λ (o : Option Packed). IsPackedAs c.args.inverse.now o w) c.in-Some.is was in
     c.in_ok-unpack.ensures.small w.returns.items w.sizes.items w.resets.items now.1
 
