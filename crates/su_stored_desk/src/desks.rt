@@ -309,7 +309,8 @@ impl<S: BlockSource> Desk<S> {
         ensures refused { (F T : Tree) → Shows S.may_give self.old.stored F
             → PutsBack self.old.kept.items index F T
             → IfErr result (Fails S.failed F self.new.stored) }
-        ensures same { self.new ≡ record self.old { stored = self.new.stored } }
+        ensures same { self.new ≡ record self.old { stored = self.new.stored; kept = self.new.kept } }
+        ensures kept { self.new.kept.items ≡ self.old.kept.items }
         ensures source { MayBecome S.may_give S.follows self.old.stored.source self.new.stored.source }
     {
         unpack_at(self.alloc, &mut self.kept, index)?;

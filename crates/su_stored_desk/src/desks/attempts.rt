@@ -233,7 +233,8 @@ impl<S: BlockSource> Desk<S> {
             → OnOk result (Holds self.new.stored (tree_of d)) }
         ensures right { (d : DeskState) (x : Action) → IsSure S.may_give self.old
             → state_of self.old ≡ with_entry d (entry_doing x) → OnErr result (IsRight self.new) }
-        ensures same { self.new ≡ record self.old { stored = self.new.stored } }
+        ensures same { self.new ≡ record self.old { stored = self.new.stored; kept = self.new.kept } }
+        ensures kept { self.new.kept.items ≡ self.old.kept.items }
         ensures refused { (d : DeskState) (x : Action) → IsSure S.may_give self.old
             → state_of self.old ≡ with_entry d (entry_doing x)
             → IfErr result (FailsAt S.failed (state_of self.old) self.new) }

@@ -44,7 +44,7 @@ returns-clause-kept g c sure =
     let s = c.args.self.now in
     let i = c.in_ok-index.index in
     let k = c.remove-undone.result in
-    let here : k ≡ get_or s.kept.items i k = c.remove-undone.ensures.value ∙ ap (λ y. get_or y.kept.items i k) c.put_back.ensures.same in
+    let here : k ≡ get_or s.kept.items i k = c.remove-undone.ensures.value ∙ ap (λ l. get_or l i k) c.put_back.ensures.kept in
     let index = subst (λ ks. IsIndexOf c.args.number ks i) c.deref-2.ensures.value (c.in_ok-index.ensures.found (kept_of s _ _ sure.right c.deref.ensures.value c.deref-2.ensures.value)) in
     kept_at s.roster s.entries.items s.kept.items (tree_of (state_of s)) c.args.number i k sure.right.keeps index.within (sym here) (ap (λ (x : KeptOperation). x.number) here ∙ index.number k)
 
@@ -52,7 +52,7 @@ pub returns-in_err-put_back-clause-right : goal.returns-in_err-put_back-clause-r
 returns-in_err-put_back-clause-right g c sure =
     let s = c.args.self.now in
     let q = c.put_back.new.self in
-    let same : q ≡ record s { entries = c.reserve.new.self; stored = q.stored } = c.put_back.ensures.same in
+    let same : q ≡ record s { entries = c.reserve.new.self; stored = q.stored; kept = q.kept } = c.put_back.ensures.same in
     let T = tree_of (state_of s) in
     let K = kept_of s _ _ sure.right c.deref.ensures.value c.deref-2.ensures.value in
     let i = c.in_ok-index.index in
@@ -62,7 +62,7 @@ returns-in_err-put_back-clause-right g c sure =
     let u = undone_there s.roster s.entries.items s.kept.items c.index.result.now i T c.args.author c.args.format c.args.number there c.requires accepted in
     let back : PutsBack s.kept.items i T u.state = record { operation = c.index.result.now; there = c.index.ensures; back = u.back } in
     right_at q (state_of s) (ap state_of same ∙ ap (λ h. record { roster = s.roster; history = h }) c.in_ok-reserve.ensures.items)
-    (subst (λ l. Keeps s.roster s.entries.items l T) (sym (ap (λ y. y.kept.items) same)) sure.right.keeps)
+    (subst (λ l. Keeps s.roster s.entries.items l T) (sym c.put_back.ensures.kept) sure.right.keeps)
     (shows_holds _ _ _ (c.in_err-put_back.ensures.err T u.state (shows _ s sure) back))
     (ap (λ y. y.counters.items) same ∙ sure.right.counters)
     (subst (HasJust (keys_after s.roster s.entries.items)) (sym (ap (λ y. y.used) same)) sure.right.keys)
@@ -84,7 +84,7 @@ pub returns-clause-right : goal.returns-clause-right
 returns-clause-right g c sure =
     let s = c.args.self.now in
     let q = c.put_back.new.self in
-    let same : q ≡ record s { entries = c.reserve.new.self; stored = q.stored } = c.put_back.ensures.same in
+    let same : q ≡ record s { entries = c.reserve.new.self; stored = q.stored; kept = q.kept } = c.put_back.ensures.same in
     let T = tree_of (state_of s) in
     let n = c.args.number in
     let e : Entry = undo_by c.args.author c.args.format n in
@@ -102,7 +102,7 @@ returns-clause-right g c sure =
     let entries : c.push_reserved.new.self.items ≡ s.entries.items ++ e ∷ []
     = c.push_reserved.ensures.items ∙ ap (λ (x : Entry). q.entries.items ++ x ∷ []) c.new.ensures ∙ ap (λ h. h ++ e ∷ []) (ap (λ y. y.entries.items) same ∙ c.in_ok-reserve.ensures.items) in
     let kept : c.remove-undone.new.self.items ≡ take i s.kept.items ++ drop (i + 1) s.kept.items
-    = c.remove-undone.ensures.by_index.2 ∙ ap (λ y. take i y.kept.items ++ drop (i + 1) y.kept.items) same in
+    = c.remove-undone.ensures.by_index.2 ∙ ap (λ l. take i l ++ drop (i + 1) l) c.put_back.ensures.kept in
     let written : c.as_slice.result.now ≡ cells_of s.roster s.entries.items e
     = c.as_slice.ensures.value ∙ c.in_ok-written.ensures.value ∙ undone_written s.roster s.entries.items s.kept.items k i n T there in
     let were : c.deref_mut.result.now ≡ s.counters.items = c.deref_mut.ensures.value ∙ ap (λ y. y.counters.items) same in
