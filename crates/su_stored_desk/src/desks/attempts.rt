@@ -126,12 +126,7 @@ impl<S: BlockSource> Desk<S> {
         let versions = Vec::from_slice(self.alloc, self.counters.as_slice())?;
         let author_handle = self.stored.i_handle(author);
         let written = self.last_written(tried)?;
-        let groups = carried_handles(
-            self.alloc,
-            &self.roster,
-            written.as_slice(),
-            &self.stored,
-        )?;
+        let groups = carried_handles(self.alloc, &self.roster, written.as_slice(), &self.stored)?;
         Ok(Prepared {
             number: self.entries.len() as u64,
             versions,
