@@ -1,6 +1,7 @@
 #!/usr/bin/env python3
 """What a client holds that leaves its tree on the server, and what it loads, beside one that holds it and a partial clone of git. Run by
-hand: `bench/partial.py [FOLDER]`; the log is kept in FOLDER for the next time, if one is given. --small is for a trial.
+hand: `bench/partial.py [FOLDER]`; the log and a store that has it are kept in FOLDER for the next time, if one is given. --small and
+--files N are for a trial; --people measures the client for people alone.
 
 The log makes 100,000 files in one directory, some ten kilobytes each, and one file of 1 MiB: 1 GiB in all, as many files as have room in
 one commit, and ends with a rekey to a key that the clients sign with (bench/audit.py says of what kind its own key is). A server with a
@@ -9,6 +10,8 @@ store has it. In one run it prints
   commit: seconds until each of them was answered, bytes that went over the link meanwhile, and the client's memory then, and at the
   highest;
 - the same of one that leaves its tree on the server behind each of its commits;
+- of a client for people that begins with the log, command by command (`get` of the large file, twice, `ls` of one file, a `put`):
+  seconds, bytes and memory at the highest;
 - of git: seconds of a clone without blobs of a repository of the same files, and of one file's blob, with the bytes that came, and memory
   at the highest.
 
@@ -19,6 +22,7 @@ import contextlib
 import multiprocessing
 import os
 import random
+import shutil
 import socket
 import subprocess
 import sys
@@ -148,20 +152,62 @@ def measure(name, options, roster, log, port, key, lines, wanted):
                     sys.exit(f"bench/partial.py: {line} printed {said}")
 
 
-def clients(room, folder, sizes):
+def clients(room, folder, sizes, alone):
     log = make(folder, sizes)
     count = int(open(f"{log}.count", encoding="utf-8").read())
     print(f"{sizes['files']:,} files of {sizes['size']:,} bytes and one of {LARGE:,}: {count:,} commits, a log of {os.path.getsize(log):,} bytes")
     print(f"{'':44} {'seconds':>9} {'bytes sent':>14} {'received':>14} {'MB':>8} {'highest':>8}")
     roster, key = store.Roster(f"{log}.pub"), f"{room}/key"
     read = b"cat /f%d 0 %d" % (sizes["files"] + 2, LARGE)
-    store.feed(roster, f"{room}/store", log, count)
+    if not os.path.exists(f"{log}.store"):
+        store.feed(roster, f"{log}.fed", log, count)
+        os.rename(f"{log}.fed", f"{log}.store")
+    shutil.copytree(f"{log}.store", f"{room}/store")
     with storing.Keeping(roster, f"{room}/store", cache=sizes["cache"]) as server:
-        for number, (name, options) in enumerate((("one with --keep-tree", ["--keep-tree"]), ("a client", []))):
+        for number, (name, options) in enumerate(() if alone else (("one with --keep-tree", ["--keep-tree"]), ("a client", []))):
             with open(key, "wb") as file:
                 file.write(signing_key().file(2 * number))
             lines = (("commits", b"mkdir /a%d" % number), ("reads", read), ("reads again", read), ("commits again", b"mkdir /b%d" % number))
             measure(name, options, roster, log, server.port, key, lines, contents_of(0, LARGE))
+        people(room, log, server.port, sizes, count)
+
+
+# ---- people
+
+def joined_by_log(room, log, count):
+    """The state folder of a client for people that has seen all commits of the log: made at a server that has none yet."""
+    team, key, state = f"{room}/team", f"{room}/people.key", f"{room}/people"
+    with open(f"{log}.pub", "rb") as file, open(team, "w", encoding="utf-8") as it:
+        it.write(f"sundr team 1\nann {file.read().hex()}\n")
+    with open(key, "wb") as file:
+        file.write(signing_key().file(100))
+    with storing.Keeping(store.Roster(f"{log}.pub"), f"{room}/empty") as server:
+        run([audit.PROGRAM, "init", state, "--server", f"localhost:{server.port}", "--team", team, "--user", "ann", "--key", key])
+    shutil.copyfile(log, f"{state}/.sundr/log")
+    with open(f"{state}/.sundr/times", "wb") as file:
+        file.write(bytes(8 * count))
+    return state
+
+
+def people(room, log, port, sizes, count):
+    """A client for people that joins by its log and reads the large file."""
+    state, large = joined_by_log(room, log, count), f"f{sizes['files'] + 2}"
+    with open(f"{room}/small", "wb") as file:
+        file.write(b"small")
+    with relay.Relay(port, 0) as between:
+        run([audit.PROGRAM, "where", "--in", state, f"localhost:{between.port}"])
+        for what, words in (
+                ("get", ["get", "--in", state, f"/{large}", f"{room}/large"]),
+                ("get, once more", ["get", "--in", state, "--over", f"/{large}", f"{room}/large"]),
+                ("ls of a file", ["ls", "--in", state, "-l", f"/{large}"]),
+                ("put", ["put", "--in", state, f"{room}/small", "/small"])):
+            before = tuple(between.bytes)
+            took, highest = run([audit.PROGRAM, *words])
+            sent, received = [y - x for x, y in zip(before, between.bytes)]
+            print(f"{'sundr ' + what:44} {took:9.3f} {sent:>14,} {received:>14,} {'':8} {highest:8.1f}", flush=True)
+    with open(f"{room}/large", "rb") as file:
+        if file.read() != contents_of(0, LARGE):
+            sys.exit("bench/partial.py: what was got is something else")
 
 
 # ---- git
@@ -218,11 +264,14 @@ def main():
     parser = argparse.ArgumentParser()
     parser.add_argument("folder", nargs="?")
     parser.add_argument("--small", action="store_true")
+    parser.add_argument("--files", type=int)
+    parser.add_argument("--people", action="store_true")
     options = parser.parse_args()
-    sizes = SMALL if options.small else SIZES
+    sizes = SMALL if options.small else SIZES | ({"files": options.files} if options.files else {})
     with tempfile.TemporaryDirectory() as room:
-        clients(room, options.folder or room, sizes)
-        git(room, sizes)
+        clients(room, options.folder or room, sizes, options.people)
+        if not options.people:
+            git(room, sizes)
 
 
 if __name__ == "__main__":

@@ -11,3 +11,4 @@ pub mod Batch
 pub mod Rekey
 pub mod Item
 pub mod Filling
+pub mod Outline

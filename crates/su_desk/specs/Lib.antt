@@ -1,4 +1,7 @@
 pub mod History
+pub mod Filling
+pub mod KeptBatch
+pub mod KeptChange
 pub mod KeptEntry
 pub mod Applied
 pub mod Blocker

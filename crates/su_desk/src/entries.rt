@@ -1,10 +1,13 @@
 // What a history is made of, and what is answered to a change.
-ghost use Rattle.std.specs.Prelude.{◌≡◌, option_copied};
-ghost use Rattle.su_desk.specs.History.{entry_at, format_after, undoer, undoes};
-ghost use Rattle.su_desk.specs.KeptEntry.{without_bytes, written};
+ghost use Rattle.std.specs.Prelude.{◌≡◌, IfOk, option_copied};
+ghost use Rattle.su_desk.specs.Filling.{filling};
+ghost use Rattle.su_desk.specs.History.{entry_at, entry_by, format_after, undoer, undoes};
+ghost use Rattle.su_desk.specs.KeptChange.{whole};
+ghost use Rattle.su_desk.specs.KeptEntry.{is_operation, undone, without_bytes, written};
 
-use http_server::Log;
-use std::alloc::Global;
+use crate::fillings::Filling;
+use crate::kept_changes::KeptChange;
+use std::alloc::{AllocError, Global};
 use std::marker::Model;
 use su_bytes::{Format, Refusal, User};
 use su_op::Change;
@@ -17,51 +20,33 @@ pub struct Entry {
     pub change: Change,
 }
 
-/// An entry as a history keeps it: all of it but the bytes that its writes have, which no memory holds;
-/// how many these are is known. Its model is the whole entry.
+/// An entry as a history keeps it, in few bytes: all of it but the bytes that its writes have, which
+/// no memory holds; how many these are is known. Its model is the whole entry.
 #[derive(Drop)]
 pub struct KeptEntry {
     author: User,
     format: Format,
-    /// The change, with no bytes in its writes.
-    change: Change,
-    /// How many bytes the change writes.
-    written: u64,
-    /// The whole entry alone, which proofs read. (`Log` is the kit's list that no memory holds.)
-    whole: Log<Entry, ()>,
+    change: KeptChange,
 }
 
 impl Model for KeptEntry {
     ghost use Rattle.su_desk.specs.declared.entries.Entry.{Entry as TheEntry};
+    ghost use Rattle.su_desk.specs.KeptChange.{whole};
 
     ghost Value = { TheEntry };
 
-    ghost use Rattle.su_desk.specs.KeptEntry.{first_in, IsKeptAs};
-
-    ghost view = { λ k. first_in
-        (record { author = k.author; format = k.format; change = k.change }) k.whole.items };
-
-    ghost invariant = { λ k. IsKeptAs k.author k.format k.change k.written (first_in
-        (record { author = k.author; format = k.format; change = k.change }) k.whole.items) };
+    ghost view = { λ k. record { author = k.author; format = k.format; change = whole k.change } };
 }
 
 impl KeptEntry {
-    /// Keeps an entry. Takes no memory.
-    pub fn new(alloc: Global, entry: Entry) -> KeptEntry
-        ensures { result ≡ entry }
+    /// Makes the entry of a change that is kept. Takes no memory.
+    pub fn new(author: User, format: Format, change: KeptChange) -> KeptEntry
+        ensures { result ≡ entry_by author format (whole change) }
     {
-        let whole = Log::new().and(&entry, &());
-        let Entry {
-            author,
-            format,
-            change,
-        } = entry;
         KeptEntry {
             author,
             format,
-            written: written(&change),
-            change: without_bytes(alloc, change),
-            whole,
+            change,
         }
     }
 
@@ -79,51 +64,46 @@ impl KeptEntry {
         self.format
     }
 
-    /// Lends the change, with no bytes in its writes.
-    pub fn change(&self) -> &Change
-        ensures { result.now ≡ without_bytes self.now.change }
+    /// Returns the change, with no bytes in its writes. Fails only where there is no room.
+    pub fn change(&self, alloc: Global) -> Result<Change, AllocError>
+        ensures { IfOk result (λ change. change ≡ without_bytes self.now.change) }
     {
-        &self.change
+        self.change.without_bytes(alloc)
     }
 
     /// Returns how many bytes the change writes; `u64::MAX` where several of its operations write more.
     pub fn written(&self) -> u64
         ensures { result ≡ written self.now.change }
     {
-        self.written
+        self.change.written()
+    }
+
+    /// Returns what the change does to the bytes of a file, where it is one operation.
+    pub fn filling(&self) -> Filling
+        ensures { result ≡ filling self.now.change }
+    {
+        self.change.filling()
+    }
+
+    /// Returns the number of the entry that this one undoes, if it is an undo.
+    pub fn undone(&self) -> Option<u64>
+        ensures { result ≡ undone self.now.change }
+    {
+        self.change.undone()
+    }
+
+    /// Tells whether the change is operations, and no undo or rekey.
+    pub fn is_operation(&self) -> bool
+        ensures { result ≡ is_operation self.now.change }
+    {
+        self.change.is_operation()
     }
 
     /// Tells whether this is the undo of that entry.
     pub(crate) fn undoes(&self, number: u64) -> bool
         ensures { result ≡ undoes number self.now.change }
     {
-        match self.change {
-            Change::Undo(undone) => number == undone,
-            _ => false,
-        }
-    }
-}
-
-/// Returns how many bytes a change writes.
-fn written(change: &Change) -> u64
-    ensures { result ≡ written change.now }
-{
-    match change {
-        Change::Do(batch) => batch.written(),
-        _ => 0,
-    }
-}
-
-/// Takes the bytes out of the writes of a change. Takes no memory.
-fn without_bytes(alloc: Global, change: Change) -> Change
-    ensures { result ≡ without_bytes change }
-{
-    match change {
-        Change::Do(mut batch) => {
-            batch.leave_bytes(alloc);
-            Change::Do(batch)
-        }
-        change => change,
+        self.change.undoes(number)
     }
 }
 

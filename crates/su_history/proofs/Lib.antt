@@ -1,4 +1,5 @@
 mod Examples
+mod FillingLemmas
 mod LawLemmas
 mod LineLemmas
 mod NumberedEntries

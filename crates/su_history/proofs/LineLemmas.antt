@@ -1,16 +1,39 @@
 -- The line of a run, by what is read of its entries.
-use Rattle.std.proofs.Common.{◌≡◌, ◌∙◌, ℕ, ◌+◌, ◌-◌, ◌^◌, ◌<◌, ◌≤◌, List, [], ◌∷◌, ◌++◌, length, map, take, get_or, slice_range, Option, None, refl, sym, ap, arith}
+use Rattle.std.proofs.Common.{◌≡◌, ◌∙◌, ℕ, ◌+◌, ◌-◌, ◌^◌, ◌<◌, ◌≤◌, List, [], ◌∷◌, ◌++◌, length, map, take, get_or, slice_range, Option, None, Some, true, false, refl, sym, ap, arith}
 use Rattle.std.specs.List.{sum_by}
+use Rattle.std.proofs.lemmas.Bool.{true≢false}
 use Rattle.std.proofs.lemmas.List.{take_more}
 use Rattle.std.proofs.lemmas.List.Sums.{sum_by-append, sum_by-cons, sum_by-take-le}
+use Rattle.su_op.specs.declared.operations.Change.{Change}
+use Rattle.su_op.specs.declared.operations.Change.TheVariants.{Do, Undo, Rekey}
 use Rattle.su_desk.specs.declared.entries.Entry.{Entry}
 use Rattle.su_history.specs.declared.line.Line.{Line}
 use Rattle.su_history.specs.declared.line.Deed.{Deed}
 use Rattle.su_history.specs.declared.line.Fate.{Fate}
+use Rattle.su_history.specs.declared.line.Fate.TheVariants.{Live, Undone, Lasting}
 use Rattle.su_history.specs.Line.{AreUndoers, NumberedEntry, deed_of_run, fate_of, last_of, line_of, numbered}
-use Rattle.su_desk.specs.KeptEntry.{written}
+use Rattle.su_desk.specs.KeptEntry.{is_operation, written}
 use Rattle.su_history.proofs.NumberedEntries.{entries_between, entry_of_index, length_numbered, with_number}
 use Rattle.su_history.proofs.RunLemmas.{first_between, last_between}
+
+-- ---- what became of an entry
+
+pub lasts : (c : Change) (o : Option ℕ) → is_operation c ≡ false → Lasting ≡ fate_of c o
+lasts (Do ops) o lasting = absurd (true≢false lasting)
+lasts (Undo n) None lasting = refl
+lasts (Undo n) (Some m) lasting = refl
+lasts (Rekey k) None lasting = refl
+lasts (Rekey k) (Some m) lasting = refl
+
+pub lives : (c : Change) (o : Option ℕ) → is_operation c ≡ true → o ≡ None → Live ≡ fate_of c o
+lives (Do ops) o operation none = ap (fate_of (Do ops)) (sym none)
+lives (Undo n) o operation none = absurd (true≢false (sym operation))
+lives (Rekey k) o operation none = absurd (true≢false (sym operation))
+
+pub was_undone : (c : Change) (o : Option ℕ) (n : ℕ) → is_operation c ≡ true → o ≡ Some n → Undone n ≡ fate_of c o
+was_undone (Do ops) o n operation some = ap (fate_of (Do ops)) (sym some)
+was_undone (Undo m) o n operation some = absurd (true≢false (sym operation))
+was_undone (Rekey k) o n operation some = absurd (true≢false (sym operation))
 
 -- ---- how many bytes are written
 

@@ -6,7 +6,7 @@ use Rattle.su_op.specs.declared.operations.Change.{Change}
 use Rattle.su_op.specs.declared.operations.Change.TheVariants.{Do, Undo, Rekey}
 use Rattle.su_desk.specs.declared.entries.Entry.{Entry}
 use Rattle.su_desk.specs.History.{undoer_from, undoes}
-use Rattle.su_desk.specs.KeptEntry.{without_bytes}
+use Rattle.su_desk.specs.KeptEntry.{undone}
 use Rattle.su_history.specs.Line.{AreUndoers}
 
 -- of each entry the first one that undoes it, of those from an index on
@@ -74,22 +74,34 @@ one_more h from e undoers after lt is are noted_is = record {
       );
 }
 
--- a change notes as much without its bytes
-noted_so : (undoers : List (Option ℕ)) (c : Change) (by : ℕ) → noted undoers (without_bytes c) by ≡ noted undoers c by
-noted_so undoers (Do ops) by = refl
-noted_so undoers (Undo n) by = refl
-noted_so undoers (Rekey k) by = refl
+-- what an undo notes
+undo_notes : (undoers : List (Option ℕ)) (c : Change) (n by : ℕ) → Some n ≡ undone c → cond (nat_eq n 0) undoers (set undoers (n - 1) (Some by)) ≡ noted undoers c by
+undo_notes undoers (Do ops) n by some = absurd cc
+undo_notes undoers (Undo m) n by some = let same : n ≡ m = cc in ap (λ (k : ℕ). cond (nat_eq k 0) undoers (set undoers (k - 1) (Some by))) same
+undo_notes undoers (Rekey k) n by some = absurd cc
 
--- an undo that was read of the entry at an index, and noted
-pub undo_noted : (h : List Entry) (i : ℕ) (e : Entry) (read : Change) (n : ℕ) (undoers before after : List (Option ℕ)) (len : ℕ) → 0 < i → i ≤ length h
-    → e ≡ get_or h (i - 1) e → AreUndoersFrom h i undoers → read ≡ Undo n → read ≡ without_bytes e.change → before ≡ undoers
+-- an entry that is no undo notes nothing
+pub none_noted : (h : List Entry) (i : ℕ) (e : Entry) (undoers : List (Option ℕ)) → 0 < i → i ≤ length h → e ≡ get_or h (i - 1) e → AreUndoersFrom h i undoers → None ≡ undone e.change
+    → AreUndoersFrom h (i - 1) undoers
+none_noted h i e undoers some within is are none =
+    let next : i ≡ i - 1 + 1 = omega (arith, some) in
+    one_more h (i - 1) e undoers undoers (omega (arith, some, within)) is (subst (λ (k : ℕ). AreUndoersFrom h k undoers) next are) (notes e.change none)
+  where
+    notes : (c : Change) → None ≡ undone c → undoers ≡ noted undoers c (i - 1 + 1)
+    notes (Do ops) none = refl
+    notes (Undo n) none = absurd cc
+    notes (Rekey k) none = refl
+
+-- an undo is at an index, and is noted
+pub undo_noted : (h : List Entry) (i : ℕ) (e : Entry) (n : ℕ) (undoers before after : List (Option ℕ)) (len : ℕ) → 0 < i → i ≤ length h
+    → e ≡ get_or h (i - 1) e → AreUndoersFrom h i undoers → Some n ≡ undone e.change → before ≡ undoers
     → after ≡ cond (nat_eq n 0) before (set before (n - 1) (Some (i - 1 + 1))) → len ≡ length undoers
     → AreUndoersFrom h (i - 1) (take len (after ++ drop (length after) undoers))
-undo_noted h i e read n undoers before after len some within is are undo kept same noted_is long =
+undo_noted h i e n undoers before after len some within is are undo same noted_is long =
     let next : i ≡ i - 1 + 1 = omega (arith, some) in
     let all : after ≡ noted undoers e.change (i - 1 + 1)
     = noted_is ∙ ap (λ (us : List (Option ℕ)). cond (nat_eq n 0) us (set us (n - 1) (Some (i - 1 + 1)))) same
-    ∙ ap (λ (c : Change). noted undoers c (i - 1 + 1)) (sym undo ∙ kept) ∙ noted_so undoers e.change (i - 1 + 1) in
+    ∙ undo_notes undoers e.change n (i - 1 + 1) undo in
     let as_long : length after ≡ length undoers = ap length all ∙ length_noted undoers e.change (i - 1 + 1) in
     let whole : take len (after ++ drop (length after) undoers) ≡ after
     = ap (λ (us : List (Option ℕ)). take len (after ++ us)) (drop_all (length after) undoers (omega (arith, as_long)))

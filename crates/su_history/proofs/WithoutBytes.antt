@@ -16,7 +16,7 @@ use Rattle.su_desk.specs.KeptEntry.{without_bytes, written}
 use Rattle.su_history.specs.Several.{SeveralOperations}
 use Rattle.su_history.specs.declared.line.Deed.{Deed}
 use Rattle.su_history.specs.declared.line.Deed.TheVariants.{Wrote, Together}
-use Rattle.su_history.specs.Line.{are_one, deed_beside_takes, deed_of, deed_of_batch, deed_of_op, deed_of_row, edited, edited_by, edits, fate_of, files_named, files_of, filled, filled_by, is_no_take, is_row, is_same_file, last_op, several}
+use Rattle.su_history.specs.Line.{are_one, deed_beside_takes, deed_of, deed_of_batch, deed_of_op, deed_of_row, edited_by, edits, files_named, files_of, filled_by, is_no_take, is_row, last_op, several}
 
 -- ---- of operations
 
@@ -60,27 +60,6 @@ empty_deed_so (Take t) none = refl
 empty_deed_so (Link l) none = refl
 empty_deed_so (Rename r) none = refl
 empty_deed_so (Drop d) none = refl
-
--- ---- of changes
-
-edited_so : (c : Change) → edited (without_bytes c) ≡ edited c
-edited_so (Do []) = refl
-edited_so (Do (op ∷ [])) = edited_by_so op
-edited_so (Do (op ∷ next ∷ ops)) = refl
-edited_so (Undo n) = refl
-edited_so (Rekey k) = refl
-
-filled_so : (c : Change) → filled (without_bytes c) ≡ filled c
-filled_so (Do []) = refl
-filled_so (Do (op ∷ [])) = filled_by_so op
-filled_so (Do (op ∷ next ∷ ops)) = refl
-filled_so (Undo n) = refl
-filled_so (Rekey k) = refl
-
--- what was read of two changes without their bytes tells whether they are about one file
-pub same_file_so : (c d read read' : Change) → read ≡ without_bytes c → read' ≡ without_bytes d → is_same_file read read' ≡ is_same_file c d
-same_file_so c d read read' is is' =
-    ap (λ (f : Option FileId). are_one f (edited read')) (ap filled is ∙ filled_so c) ∙ ap (are_one (filled c)) (ap edited is' ∙ edited_so d)
 
 -- ---- of a batch
 
@@ -193,9 +172,3 @@ many_told (Do (x ∷ y ∷ ops)) batch n is only n_is =
     ap (λ (os : List Op). deed_of_batch os n) same ∙ ap (deed_of_batch (map op_without_bytes (x ∷ y ∷ ops))) n_is ∙ many_deed_so (x ∷ y ∷ ops)
 many_told (Undo m) batch n is only n_is = absurd cc
 many_told (Rekey k) batch n is only n_is = absurd cc
-
-pub fate_so : (c : Change) (by : Option ℕ) → fate_of (without_bytes c) by ≡ fate_of c by
-fate_so (Do ops) None = refl
-fate_so (Do ops) (Some n) = refl
-fate_so (Undo n) by = refl
-fate_so (Rekey k) by = refl

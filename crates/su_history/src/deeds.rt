@@ -2,6 +2,7 @@
 ghost use Rattle.std.specs.Prelude.{◌≡◌, ◌||◌, ◌++◌, not, [], ◌∷◌, Some, IfOk, OnOk, MatchOption};
 ghost use Rattle.std.specs.List.{filter, list_all};
 ghost use Rattle.su_bytes.specs.Place.{file_eq};
+ghost use Rattle.su_desk.specs.KeptEntry.{without_bytes};
 ghost use Rattle.su_history.specs.Line.{deed_of, deed_of_batch, deed_of_op, deed_of_row, edited_by, edits, files_named, files_of, filled_by, is_no_take, is_row, last_op};
 
 use crate::line::{Deed, Several};
@@ -42,7 +43,16 @@ pub(crate) fn is_same(file: FileId, other: FileId) -> bool
 pub(crate) fn deed_of(alloc: Global, entry: &KeptEntry) -> Result<Deed, AllocError>
     ensures { IfOk result (λ deed. deed ≡ deed_of entry.now.change) }
 {
-    match entry.change() {
+    let change = entry.change(alloc)?;
+    deed_of_change(alloc, &change, entry)
+}
+
+/// Returns what an entry alone did, of which the change was read.
+fn deed_of_change(alloc: Global, change: &Change, entry: &KeptEntry) -> Result<Deed, AllocError>
+    requires read { change.now ≡ without_bytes entry.now.change }
+    ensures { IfOk result (λ deed. deed ≡ deed_of entry.now.change) }
+{
+    match change {
         Change::Do(batch) => match batch.only() {
             Some(op) => deed_of_row(op, op, entry.written()),
             None => deed_of_batch(alloc, batch, entry.written()),

@@ -52,6 +52,6 @@ fn line(
         last: end as u64,
         author: opening.author(),
         deed: deed_of_run(alloc, opening, closing, bytes)?,
-        fate: fate_of(closing.change(), undoer),
+        fate: fate_of(closing, undoer),
     })
 }

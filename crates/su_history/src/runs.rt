@@ -1,37 +1,43 @@
 // Which entries are one line, and what they did.
 ghost use Rattle.std.specs.Prelude.{◌≡◌, ◌-◌, ◌^◌, ◌<◌, ◌≤◌, ◌⊎◌, ℕ, true, false, length, get_or, IfOk, MatchOption};
 ghost use Rattle.std.specs.List.{sum_by};
-ghost use Rattle.su_desk.specs.KeptEntry.{written};
+ghost use Rattle.su_desk.specs.KeptEntry.{without_bytes, written};
 ghost use Rattle.su_history.specs.Line.{AreUndoers, NumberedEntry, deed_of_run, edited, fate_of, filled, goes_on, is_same_file, numbered};
 
-use crate::deeds::{deed_of, deed_of_row, edited_by, filled_by, is_same};
+use crate::deeds::{deed_of, deed_of_row, is_same};
 use crate::line::{Deed, Fate};
 use std::alloc::{AllocError, Global};
 use su_bytes::FileId;
-use su_desk::KeptEntry;
+use su_desk::{Filling, KeptEntry};
 use su_op::{Change, Op};
 
-/// Returns the file that a change makes, writes to or cuts; `None` where the change is more than one
-/// operation.
-fn filled(change: &Change) -> Option<FileId>
-    ensures { result ≡ filled change.now }
+/// Returns the file that an entry makes, writes to or cuts; `None` where it is more than one operation.
+fn filled(entry: &KeptEntry) -> Option<FileId>
+    ensures { result ≡ filled entry.now.change }
 {
-    filled_by(change.operation()?)
+    match entry.filling() {
+        Filling::Makes(file) => Some(file),
+        Filling::Edits(file) => Some(file),
+        Filling::Neither => None,
+    }
 }
 
-/// Returns the file that a change writes to or cuts; `None` where the change is more than one
-/// operation.
-fn edited(change: &Change) -> Option<FileId>
-    ensures { result ≡ edited change.now }
+/// Returns the file that an entry writes to or cuts; `None` where it is more than one operation.
+fn edited(entry: &KeptEntry) -> Option<FileId>
+    ensures { result ≡ edited entry.now.change }
 {
-    edited_by(change.operation()?)
+    match entry.filling() {
+        Filling::Makes(_) => None,
+        Filling::Edits(file) => Some(file),
+        Filling::Neither => None,
+    }
 }
 
-/// Tells whether a change writes to or cuts the file that the one before it made, wrote to or cut.
-fn is_same_file(before: &Change, change: &Change) -> bool
-    ensures { result ≡ is_same_file before.now change.now }
+/// Tells whether an entry writes to or cuts the file that the one before it made, wrote to or cut.
+fn is_same_file(before: &KeptEntry, entry: &KeptEntry) -> bool
+    ensures { result ≡ is_same_file before.now.change entry.now.change }
 {
-    match (filled(before), edited(change)) {
+    match (filled(before), edited(entry)) {
         (Some(file), Some(other)) => is_same(file, other),
         _ => false,
     }
@@ -51,7 +57,7 @@ fn goes_on(entries: &[KeptEntry], undoers: &[Option<u64>], index: usize) -> bool
     let before_undoer = undoers[index - 1];
     let undoer = undoers[index];
     before.author() == entry.author()
-        && is_same_file(before.change(), entry.change())
+        && is_same_file(before, entry)
         && before_undoer.is_some() == undoer.is_some()
 }
 
@@ -98,7 +104,22 @@ pub(crate) fn deed_of_run(
 ) -> Result<Deed, AllocError>
     ensures { IfOk result (λ deed. deed ≡ deed_of_run first.now.change last.now.change bytes) }
 {
-    match first.change().operation() {
+    let change = first.change(alloc)?;
+    deed_of_run_from(alloc, &change, first, last, bytes)
+}
+
+/// Returns what the entries of a run did, of which the first one's change was read.
+fn deed_of_run_from(
+    alloc: Global,
+    change: &Change,
+    first: &KeptEntry,
+    last: &KeptEntry,
+    bytes: u64,
+) -> Result<Deed, AllocError>
+    requires read { change.now ≡ without_bytes first.now.change }
+    ensures { IfOk result (λ deed. deed ≡ deed_of_run first.now.change last.now.change bytes) }
+{
+    match change.operation() {
         Some(Op::Truncate(_)) if bytes == 0 => deed_of(alloc, last),
         Some(op) => deed_of_row(op, op, bytes),
         None => deed_of(alloc, first),
@@ -106,12 +127,14 @@ pub(crate) fn deed_of_run(
 }
 
 /// Returns what became of an entry, of which it is told which one undid it.
-pub(crate) fn fate_of(change: &Change, undoer: Option<u64>) -> Fate
-    ensures { result ≡ fate_of change.now undoer }
+pub(crate) fn fate_of(entry: &KeptEntry, undoer: Option<u64>) -> Fate
+    ensures { result ≡ fate_of entry.now.change undoer }
 {
-    match (change, undoer) {
-        (Change::Do(_), None) => Fate::Live,
-        (Change::Do(_), Some(by)) => Fate::Undone(by),
-        _ => Fate::Lasting,
+    if !entry.is_operation() {
+        return Fate::Lasting;
+    }
+    match undoer {
+        Some(by) => Fate::Undone(by),
+        None => Fate::Live,
     }
 }

@@ -4,7 +4,6 @@ ghost use Rattle.su_history.specs.Line.{AreUndoers};
 
 use std::alloc::{AllocError, Global};
 use su_desk::KeptEntry;
-use su_op::Change;
 
 /// Returns of each entry, in order, the number of the one that undid it.
 pub(crate) fn undoers(alloc: Global, entries: &[KeptEntry]) -> Result<Vec<Option<u64>>, AllocError>
@@ -12,8 +11,8 @@ pub(crate) fn undoers(alloc: Global, entries: &[KeptEntry]) -> Result<Vec<Option
 {
     let mut undoers: Vec<Option<u64>> = vec![in alloc; None; entries.len()]?;
     for index in (0..entries.len()).rev() {
-        if let Change::Undo(number) = entries[index].change() {
-            note(&mut undoers, *number, index as u64 + 1);
+        if let Some(number) = entries[index].undone() {
+            note(&mut undoers, number, index as u64 + 1);
         }
     }
     Ok(undoers)

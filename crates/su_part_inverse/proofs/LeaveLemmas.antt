@@ -18,7 +18,7 @@ use Rattle.su_part.specs.Sheds.{IsItemInInode, ShedsInode}
 use Rattle.su_part.specs.declared.inodes.PartInode.{PartInode}
 use Rattle.su_part_forest.specs.Loading.{HashedFor}
 use Rattle.su_part_inverse.specs.Kept.{inode_area, return_area, runs, runs_of, HoldsInode, IsKeptOf}
-use Rattle.su_part_inverse.specs.Lefts.{IsItemOfOne, Leaves}
+use Rattle.su_part_inverse.specs.Lefts.{HasSmallOf, IsItemOfOne, Leaves}
 use Rattle.su_part_inverse.proofs.LeftLemmas.{hashed_one}
 use Rattle.su_part_inverse.specs.declared.inverses.Inverse.{Inverse}
 use Rattle.su_part_inverse.specs.declared.returns.KeptInode.{KeptInode}
@@ -51,14 +51,21 @@ hashed_kept_of i none T k x of = hashed_one T i.blocks.items x (subst (AllByRecu
 
 -- ---- leaving, one after another
 
+small_stays : (i : Inverse) → HasSmallOf i i
+small_stays i = record { returns = refl; sizes = refl; resets = refl }
+
+small_on : (i j k : Inverse) → HasSmallOf i j → HasSmallOf j k → HasSmallOf i k
+small_on i j k a b = record { returns = b.returns ∙ a.returns; sizes = b.sizes ∙ a.sizes; resets = b.resets ∙ a.resets }
+
 module _ {S : Type 0} {G : S → List ℕ → Type 0} {C : S → S → Type 0} where
   pub leaves_none : {A : Type 0} → ((s : S) → C s s) → (i : Inverse) (s : S) (x : A) → Leaves G C i i s s (Ok x)
-  leaves_none itself i s x = record { areas = λ c. refl; kept = λ T k. k; more = λ T k y g. inl g; refused = tt; follows = itself s }
+  leaves_none itself i s x = record { areas = λ c. refl; kept = λ T k. k; small = small_stays i; more = λ T k y g. inl g; refused = tt; follows = itself s }
 
   pub leaves_on : {A B : Type 0} → ((a b c : S) → C a b → C b c → C a c) → (i j k : Inverse) (s t u : S) (q : Result A Refusal) (r : Result B Refusal) → Leaves G C i j s t q → Leaves G C j k t u r → Leaves G C i k s u r
   leaves_on on i j k s t u q r a b = record {
     areas = λ c. b.areas c ∙ a.areas c;
     kept = λ T h. b.kept T (a.kept T h);
+    small = small_on i j k a.small b.small;
     more = λ T h y g. elim (b.more T (a.kept T h) y g) [ inl before ↦ a.more T h y before | inr hashed ↦ inr hashed ];
     refused = b.refused;
     follows = on s t u a.follows b.follows;
@@ -66,7 +73,7 @@ module _ {S : Type 0} {G : S → List ℕ → Type 0} {C : S → S → Type 0} w
 
   -- so of another answer that is refused no worse
   pub leaves_as : {A B : Type 0} (i j : Inverse) (s t : S) (q : Result A Refusal) (r : Result B Refusal) → Leaves G C i j s t q → IfErr r (λ e. (e ≡ SourceFailed) ⊎ (e ≡ NoMemory)) → Leaves G C i j s t r
-  leaves_as i j s t q r a refused = record { areas = a.areas; kept = a.kept; more = a.more; refused = refused; follows = a.follows }
+  leaves_as i j s t q r a refused = record { areas = a.areas; kept = a.kept; small = a.small; more = a.more; refused = refused; follows = a.follows }
 
   -- ---- one inode is left
 
@@ -103,6 +110,7 @@ module _ {S : Type 0} {G : S → List ℕ → Type 0} {C : S → S → Type 0} w
         resets = k.resets;
         blocks = k.blocks;
       };
+      small = record { returns = refl; sizes = refl; resets = refl };
       more = λ T k y g. elim (sheds.more y g) [ inl before ↦ inl before | inr among ↦ inr (hashed T (one_of (HoldsInode T) i.inodes.items m p got k.inodes) y among) ];
       refused = sheds.refused;
       follows = sheds.follows;
@@ -124,6 +132,7 @@ module _ {S : Type 0} {G : S → List ℕ → Type 0} {C : S → S → Type 0} w
         resets = k.resets;
         blocks = subst (AllByRecursion (HoldsBlocks T)) (sym (same ∙ sym (at_hand i none))) k.blocks;
       };
+      small = record { returns = refl; sizes = refl; resets = refl };
       more = λ T k x g. elim (more x g) [ inl before ↦ inl before | inr of ↦ inr (hashed_kept_of i none T k x of) ];
       refused = refused;
       follows = comes;
@@ -134,6 +143,7 @@ module _ {S : Type 0} {G : S → List ℕ → Type 0} {C : S → S → Type 0} w
     blocks_stay = record {
       areas = λ c. refl;
       kept = λ T k. k;
+      small = small_stays i;
       more = λ T k x g. elim (more x g) [ inl before ↦ inl before | inr of ↦ inr (hashed_kept_of i none T k x of) ];
       refused = refused;
       follows = comes;

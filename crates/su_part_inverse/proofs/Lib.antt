@@ -15,3 +15,5 @@ pub mod Answering
 pub mod Bodies
 pub mod LeftLemmas
 pub mod LeaveLemmas
+pub mod SmallReads
+pub mod PackedLemmas

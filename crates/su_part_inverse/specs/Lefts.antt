@@ -43,13 +43,20 @@ pub record PathsStayKnown (F G : Tree) (f g : PartForest) : Type 0 where
 
 -- ---- what leaving tells
 
+-- j has what is small of i
+pub record HasSmallOf (i j : Inverse) : Type 0 where
+  pub returns : j.returns ≡ i.returns
+  pub sizes : j.sizes ≡ i.sizes
+  pub resets : j.resets ≡ i.resets
+
 -- What leaving the inverse i on the store s tells, which it made j and t, when it answered r: whatever
--- that is, what is kept is kept of the same cells and the same trees. The store may give items of a
+-- that is, what is kept is kept of the same cells and the same trees, and what is small stays as it is. The store may give items of a
 -- tree of which it is kept as well from now on, and no other that it might not give before.
 pub record Leaves {S A : Type 0} (may_give : S → List ℕ → Type 0) (comes : S → S → Type 0)
     (i j : Inverse) (s t : S) (r : Result A Refusal) : Type 0 where
   pub areas : (c : Cell) → has (inverse_areas j) c ≡ has (inverse_areas i) c
   pub kept : (T : Tree) → IsKeptOf i T → IsKeptOf j T
+  pub small : HasSmallOf i j
   pub more : (T : Tree) → IsKeptOf i T → (x : List ℕ) → may_give t x → may_give s x ⊎ HashedFor T x
   pub refused : IfErr r (λ e. (e ≡ SourceFailed) ⊎ (e ≡ NoMemory))
   pub follows : comes s t

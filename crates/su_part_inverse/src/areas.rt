@@ -32,7 +32,7 @@ impl Inverse {
 }
 
 /// What is kept of one area.
-trait OfArea {
+pub(crate) trait OfArea {
     ghost use Rattle.std.specs.Prelude.{◌≡◌, IfOk, IfErr};
     ghost use Rattle.su_bytes.specs.declared.refusals.Refusal.TheVariants.{NoMemory};
     ghost use Rattle.su_op.specs.declared.areas.Area.{Area};

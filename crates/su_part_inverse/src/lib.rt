@@ -4,13 +4,17 @@
 mod areas;
 mod contents;
 mod inverses;
+mod kept;
 mod laws;
 mod lefts;
+mod packed;
 mod resets;
 mod returns;
+mod small;
 mod undos;
 mod wholes;
 
 pub use inverses::{Inverse, build};
+pub use kept::KeptInverse;
 pub use laws::{kept_of_trees_alike, undo_after_apply, undo_after_batch};
 pub use wholes::build_whole;

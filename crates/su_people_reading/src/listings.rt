@@ -1,16 +1,17 @@
 // What a folder has, and the bytes of a file.
-ghost use Rattle.std.specs.Prelude.{OnOk};
+ghost use Rattle.std.specs.Prelude.{◌≡◌, IfOk, OnOk, map};
 ghost use Rattle.su_client_work.specs.Member.{IsClear};
 ghost use Rattle.su_people_reading.specs.Reading.{Writes};
+ghost use Rattle.su_person.specs.LastChange.{last_change};
 
 use std::alloc::{AllocError, Global};
 use std::io::Write;
-use su_bytes::Kind;
+use su_bytes::{Kind, User};
 use su_desk::KeptEntry;
 use su_people_session::{
     Found, Keyless, Session, Trouble, found_at, last_name, name_of, named, names_in,
 };
-use su_person::last_change;
+use su_person::last_changes;
 use su_team::Team;
 
 /// Returns the text of `ls`: a line for each name of a folder, or one for a file. Refuses a path
@@ -32,26 +33,53 @@ pub fn list<T>(
     let team = session.helper.folder.team();
     let entries = session.member.view().history();
     if json {
-        return Ok(json_of(alloc, team, entries, &all)?);
+        let lasts = lasts_of(alloc, entries, &all)?;
+        return Ok(json_of(alloc, team, &all, &lasts)?);
     }
-    Ok(lines_of(alloc, team, entries, &all, long)?)
+    if long {
+        let lasts = lasts_of(alloc, entries, &all)?;
+        return Ok(long_lines(alloc, team, &all, &lasts)?);
+    }
+    Ok(short_lines(alloc, &all)?)
 }
 
-/// Returns a line for each.
-fn lines_of(
+/// Returns for each the number and the author of the last change of its bytes, if there was one.
+fn lasts_of(
     alloc: Global,
-    team: &Team,
     entries: &[KeptEntry],
     all: &[Found],
-    long: bool,
+) -> Result<Vec<Option<(u64, User)>>, AllocError>
+    ensures { IfOk result (λ lasts. lasts.items
+        ≡ map (λ found. last_change entries.now found.file) all.now) }
+{
+    let mut files = Vec::new(alloc);
+    for found in all {
+        files.push(found.file)?;
+    }
+    last_changes(alloc, entries, &files)
+}
+
+/// Returns a line for each, with its last change.
+fn long_lines(
+    alloc: Global,
+    team: &Team,
+    all: &[Found],
+    lasts: &[Option<(u64, User)>],
 ) -> Result<String, AllocError> {
     let mut text = String::new(alloc);
+    for (found, last) in all.iter().zip(lasts) {
+        let line = long_line(alloc, team, found, *last)?;
+        text.push_str(line.as_str())?;
+        text.push('\n')?;
+    }
+    Ok(text)
+}
+
+/// Returns a line for each, with its name alone.
+fn short_lines(alloc: Global, all: &[Found]) -> Result<String, AllocError> {
+    let mut text = String::new(alloc);
     for found in all {
-        let line = if long {
-            long_line(alloc, team, entries, found)?
-        } else {
-            short_line(alloc, found)?
-        };
+        let line = short_line(alloc, found)?;
         text.push_str(line.as_str())?;
         text.push('\n')?;
     }
@@ -71,13 +99,13 @@ fn short_line(alloc: Global, found: &Found) -> Result<String, AllocError> {
 fn long_line(
     alloc: Global,
     team: &Team,
-    entries: &[KeptEntry],
     found: &Found,
+    last: Option<(u64, User)>,
 ) -> Result<String, AllocError> {
     let name = short_line(alloc, found)?;
     let holder = name_of(alloc, team, found.stat.holder)?;
     let size = size_text(alloc, found)?;
-    match last_change(entries, &found.file) {
+    match last {
         Some((number, author)) => {
             let author = name_of(alloc, team, author)?;
             format!(in alloc; "{name:<24} {size:>10}  commit {number} {author}")
@@ -95,19 +123,19 @@ fn size_text(alloc: Global, found: &Found) -> Result<String, AllocError> {
     format!(in alloc; "{size}")
 }
 
-/// Returns them as a JSON array of objects.
+/// Returns them as a JSON array of objects, each with its last change.
 fn json_of(
     alloc: Global,
     team: &Team,
-    entries: &[KeptEntry],
     all: &[Found],
+    lasts: &[Option<(u64, User)>],
 ) -> Result<String, AllocError> {
     let mut text = String::from_str(alloc, "[")?;
-    for (place, found) in all.iter().enumerate() {
+    for (place, (found, last)) in all.iter().zip(lasts).enumerate() {
         if place != 0 {
             text.push(',')?;
         }
-        let object = json_object(alloc, team, entries, found)?;
+        let object = json_object(alloc, team, found, *last)?;
         text.push_str(object.as_str())?;
     }
     text.push_str("]\n")?;
@@ -118,8 +146,8 @@ fn json_of(
 fn json_object(
     alloc: Global,
     team: &Team,
-    entries: &[KeptEntry],
     found: &Found,
+    last: Option<(u64, User)>,
 ) -> Result<String, AllocError> {
     let shown = su_spelling::shown(alloc, found.path.as_slice())?;
     let path = escaped(alloc, shown.as_str())?;
@@ -130,7 +158,7 @@ fn json_object(
     } else {
         "file"
     };
-    let last = last_change(entries, &found.file).map_or(0, |(number, _)| number);
+    let last = last.map_or(0, |(number, _)| number);
     format!(in alloc;
         "{{\"path\":\"{path}\",\"kind\":\"{kind}\",\"size\":{size},\
 \"holder\":\"{holder}\",\"last\":{last}}}"

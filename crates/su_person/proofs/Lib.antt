@@ -1,4 +1,6 @@
 pub mod Working
 pub mod StepLemmas
 pub mod ChangeLemmas
+pub mod FillingLemmas
+pub mod FoundLemmas
 pub mod PutLemmas

@@ -2,7 +2,7 @@
 use Rattle.std.proofs.Common.{◌≡◌, ◌⊎◌, inl, inr, ◌++◌, ◌∷◌, [], ◌∙◌, ℕ, suc, ◌+◌, ◌<◌, Bool, true, List, length, take, get_or, Option, Result, Ok, Err, IfOk, OnOk, append_assoc, append-nil, refl, sym, ap, subst}
 use Rattle.std.proofs.lemmas.List.{take_more}
 use Rattle.su_bytes.specs.declared.file_ids.FileId.{FileId}
-use Rattle.su_bytes.specs.declared.refusals.Refusal.TheVariants.{NoName}
+use Rattle.su_bytes.specs.declared.refusals.Refusal.TheVariants.{NoMemory, NoName}
 use Rattle.su_part_tree.specs.Loading.{IsLoadRefusal}
 use Rattle.su_table.specs.Query.{contents}
 use Rattle.std.specs.Global.{Vec}
@@ -11,6 +11,7 @@ use Rattle.su_draft.specs.declared.commands.Command.{Command}
 use Rattle.su_draft.specs.Walk.{found}
 use Rattle.su_legal.specs.Legal.{history}
 use Rattle.su_view.specs.Holding.{HoldingState, tree_of_list}
+use Rattle.su_view.specs.declared.refusals.ViewRefusal.TheVariants.{Plain}
 use Rattle.su_client_work.specs.Member.{MemberState, IsClear, OnlyAsks}
 use Rattle.su_client_work.proofs.Public.{asks_then}
 use Rattle.su_person.specs.declared.carrying.Others.TheVariants.{Unwelcome}
@@ -47,12 +48,14 @@ there_of v path new (File file bytes) stands has = (file, subst (λ (bs : List �
 
 -- what isn't seen is told of the file there
 pub tells_why : (v : HoldingState) (seen : Option ℕ) (over : Bool) (path : List ℕ) (file : FileId) (user : ℕ) (h : List Entry) (e : Fault)
-    → found (tree_of_list v) path ≡ Ok file → user ≡ v.user → h ≡ history v.held → TellsUnseen seen over user (last_change h file) e
+    → found (tree_of_list v) path ≡ Ok file → user ≡ v.user → h ≡ history v.held
+    → (e ≡ Refused (Plain NoMemory)) ⊎ TellsUnseen seen over user (last_change h file) e
     → TellsWhy seen over path v e
-tells_why v seen over path file user h (Refused r) there is_user is_history tells = tt
-tells_why v seen over path file user h (Shown r) there is_user is_history tells = tt
-tells_why v seen over path file user h Unkept there is_user is_history tells = tt
-tells_why v seen over path file user h (Changed n author) there is_user is_history tells = (
+tells_why v seen over path file user h e there is_user is_history (inl none) = subst (TellsWhy seen over path v) (sym none) tt
+tells_why v seen over path file user h (Refused r) there is_user is_history (inr tells) = tt
+tells_why v seen over path file user h (Shown r) there is_user is_history (inr tells) = tt
+tells_why v seen over path file user h Unkept there is_user is_history (inr tells) = tt
+tells_why v seen over path file user h (Changed n author) there is_user is_history (inr tells) = (
   file,
   there,
   subst (λ (u : ℕ). TellsUnseen seen over u (last_change (history v.held) file) (Changed n author)) is_user

@@ -1,5 +1,6 @@
 pub mod Carrying
 pub mod Fault
+pub mod FoundChanges
 pub mod LastChange
 pub mod Moving
 pub mod Putting

@@ -6,6 +6,7 @@
 mod carrying;
 mod changes;
 mod faults;
+mod found_changes;
 mod keys;
 mod persons;
 mod putting;
@@ -13,7 +14,7 @@ mod steps;
 mod undoing;
 
 pub use carrying::carry_out;
-pub use changes::last_change;
+pub use changes::{last_change, last_changes};
 pub use faults::Fault;
 pub use keys::move_on;
 pub use persons::Person;

@@ -1,7 +1,7 @@
 // How new contents are put at a path.
 ghost use Rattle.std.specs.Prelude.{◌≡◌, ◌<◌, ◌≤◌, ◌⊎◌, ◌++◌, ◌↔◌, ℕ, List, true, Err, length, IfErr, IfOk, IsTrue, OnOk};
 ghost use Rattle.su_bytes.specs.declared.formats.TheConstants.{NEWEST_FORMAT};
-ghost use Rattle.su_bytes.specs.declared.refusals.Refusal.TheVariants.{TooBig};
+ghost use Rattle.su_bytes.specs.declared.refusals.Refusal.TheVariants.{NoMemory, TooBig};
 ghost use Rattle.su_draft.specs.declared.commands.Command.{Command as Command_};
 ghost use Rattle.su_op.specs.Limits.{largest_file};
 ghost use Rattle.su_view.specs.declared.refusals.ViewRefusal.TheVariants.{Plain};
@@ -262,7 +262,8 @@ where
     let commands = match standing {
         Standing::Nothing => put_commands(alloc, new.path, None, new.bytes),
         Standing::File { file, bytes } => {
-            check_seen(member.view().history(), member.view().user(), file, new)?;
+            let history = member.view().history();
+            check_seen(alloc, history, member.view().user(), file, new)?;
             put_commands(alloc, new.path, Some(bytes.as_slice()), new.bytes)
         }
     };
@@ -273,8 +274,10 @@ where
 }
 
 /// Checks that the user knows the bytes of a file, or that they are to be written over all the same.
-/// `Changed` with the number and the author of the change that the user doesn't know.
+/// `Changed` with the number and the author of the change that the user doesn't know; else only
+/// `NoMemory`.
 fn check_seen(
+    alloc: Global,
     entries: &[KeptEntry],
     user: User,
     file: &FileId,
@@ -282,13 +285,13 @@ fn check_seen(
 ) -> Result<(), Fault>
     ensures knows { OnOk result ((new.now.over ≡ true)
         ⊎ KnowsBytes user new.now.seen entries.now file.now) }
-    ensures changed { IfErr result (TellsUnseen new.now.seen new.now.over user
-        (last_change entries.now file.now)) }
+    ensures changed { IfErr result (λ e. (e ≡ Refused (Plain NoMemory))
+        ⊎ TellsUnseen new.now.seen new.now.over user (last_change entries.now file.now) e) }
 {
     if new.over {
         return Ok(());
     }
-    let Some((number, author)) = last_change(entries, file) else {
+    let Some((number, author)) = last_change(alloc, entries, file)? else {
         return Ok(());
     };
     let is_seen = match new.seen {

@@ -1,1 +1,5 @@
-pub mod ByDigest
+pub mod Later
+pub mod PageReading
+pub mod BucketLemmas
+pub mod Held
+pub mod Sound

@@ -1,1 +1,4 @@
+pub mod Written
+pub mod Page
+pub mod Bucket
 pub mod Places

@@ -1,26 +1,30 @@
 -- Where items lie, by their digests.
-use Rattle.std.specs.Prelude.{◌≡◌, ℕ, List, Option, Some, None, if◌then◌else◌}
+use Rattle.std.specs.Prelude.{ℕ, List, [], Option, None, slice_index_or, reverse}
 use Rattle.std.specs.Map.{lookup}
 use Rattle.std.specs.Str.{bytes_eq}
-use Rattle.su_scratch.specs.declared.places.Place.{Place}
+use Rattle.su_scratch.specs.declared.notes.Place.{Place}
+use Rattle.su_scratch.specs.Bucket.{InMemory, Finds}
 
-abbrev pub PlacesOf : Type 0
-PlacesOf = List (List ℕ × Place)
+-- all notes that were made, the last one behind, and what is in memory of them
+pub record Noted : Type 0 where
+  pub noted : List (List ℕ × Place)
+  pub buckets : List InMemory
 
--- where the item of a digest lies, if it does
-abbrev pub place_under : PlacesOf → List ℕ → Option Place
-place_under places digest = lookup (bytes_eq digest) places
+-- where the item of a digest lies by the last note that is about it
+abbrev pub place_under : List (List ℕ × Place) → List ℕ → Option Place
+place_under noted digest = lookup (bytes_eq digest) (reverse noted)
 
--- the item of this digest lies there from then on, and each other where it did
-pub record AlsoHas (digest : List ℕ) (place : Place) (old new : PlacesOf) : Type 0 where
-  pub each : (d : List ℕ) → place_under new d
-      ≡ (if bytes_eq digest d then Some place else place_under old d)
+abbrev pub no_notes : InMemory
+no_notes = record { notes = []; page = None }
 
--- no item of this digest lies there any more, and each other where it did
-pub record HasNoLonger (digest : List ℕ) (old new : PlacesOf) : Type 0 where
-  pub each : (d : List ℕ) → place_under new d
-      ≡ (if bytes_eq digest d then None else place_under old d)
+abbrev pub bucket_at : List InMemory → ℕ → InMemory
+bucket_at buckets i = slice_index_or buckets i no_notes
 
--- the same items lie there, each where it did
-pub record AreAlike (old new : PlacesOf) : Type 0 where
-  pub each : (d : List ℕ) → place_under new d ≡ place_under old d
+-- each bucket finds in memory and in what was written just what was noted
+abbrev pub AreHeld : List ℕ → Noted → Type 0
+AreHeld written places =
+    (i : ℕ) → Finds i written (bucket_at places.buckets i) (place_under places.noted)
+
+-- the scratch gives back what was written, and has what was noted
+abbrev pub IsSound : {F : Type 0} → (F → Type 0) → (F → List ℕ) → F → Noted → Type 0
+IsSound keeps written scratch places = keeps scratch × AreHeld (written scratch) places

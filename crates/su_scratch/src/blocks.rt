@@ -1,15 +1,16 @@
 // A source that leaves items in a scratch.
-ghost use Rattle.std.specs.Prelude.{◌≡◌, ◌⊎◌, ◌↔◌, ℕ, List, true, false, IfOk, IfErr, OnOk, OnErr, Err, None, Some, MatchBool, MatchOption, is_some};
+ghost use Rattle.std.specs.Prelude.{◌≡◌, ◌⊎◌, ◌↔◌, ℕ, List, true, false, IfOk, IfErr, OnOk, OnErr, Err, None, Some, [], MatchBool, MatchOption, is_some};
 ghost use Rattle.std.specs.Borrow.{Lends, sem};
 ghost use Rattle.std.proofs.Common.{◌∙◌};
 ghost use Rattle.sha2.specs.Sha256.{sha256};
 ghost use Rattle.su_block.specs.Item.{is_item};
 ghost use Rattle.su_block.specs.Failure.{failures_after};
 ghost use Rattle.su_bytes.specs.declared.refusals.Refusal.TheVariants.{MissingBlock, WrongBlock, SourceFailed, TooBig, NoMemory};
-ghost use Rattle.su_scratch.specs.Places.{AreAlike, place_under};
+ghost use Rattle.su_scratch.specs.Places.{IsSound, place_under};
 ghost use Rattle.su_scratch.specs.contracts.blocks.ScratchBlocks.{the_row};
 
-use crate::places::{Place, Places};
+use crate::notes::{Note, Place};
+use crate::places::Places;
 use crate::scratches::Scratch;
 use std::alloc::Global;
 use su_block::{BlockSource, Failures, digest_of, is_item};
@@ -34,6 +35,7 @@ impl<F: Scratch, S: BlockSource> ScratchBlocks<F, S> {
         ensures scratch { result.scratch ≡ scratch }
         ensures source { result.source ≡ source }
         ensures leaves { result.leaves ≡ false }
+        ensures places { result.places ≡ record { noted = []; buckets = [] } }
         ensures failures { result.failures ≡ record { count = 0; last = None } }
     {
         ScratchBlocks {
@@ -67,10 +69,13 @@ impl<F: Scratch, S: BlockSource> ScratchBlocks<F, S> {
             F.may_give self.old.scratch item.items ⊎ S.may_give self.old.source item.items) }
         ensures refused { IfErr result (λ e.
             (e ≡ MissingBlock) ⊎ (e ≡ WrongBlock) ⊎ (e ≡ SourceFailed) ⊎ (e ≡ NoMemory)) }
-        // What was left isn't asked of the source.
-        ensures left { is_some (place_under self.old.places digest) ≡ true
+        // What was left isn't asked of the source, where the scratch gives back what was written.
+        ensures left { IsSound F.keeps F.written self.old.scratch self.old.places
+            → is_some (place_under self.old.places.noted digest) ≡ true
             → (self.new.source ≡ self.old.source)
             × IfOk result (λ item. F.may_give self.old.scratch item.items) }
+        ensures sound { IsSound F.keeps F.written self.old.scratch self.old.places
+            → IsSound F.keeps F.written self.new.scratch self.new.places }
         ensures scratch { (s : List ℕ) → F.may_give self.new.scratch s
             → F.may_give self.old.scratch s }
         ensures source { (s : List ℕ) → S.may_give self.new.source s
@@ -79,18 +84,21 @@ impl<F: Scratch, S: BlockSource> ScratchBlocks<F, S> {
         ensures same { (self.new.places ≡ self.old.places) × (self.new.leaves ≡ self.old.leaves)
             × (self.new.failures ≡ self.old.failures) }
     {
-        match self.places.get(&digest) {
-            Some(place) => self.scratch.read(alloc, place.first, place.count),
+        match self.places.find(alloc, &mut self.scratch, &digest)? {
+            Some(place) => self.scratch.read(alloc, place.first, place.count as usize),
             None => self.source.get(alloc, digest),
         }
     }
 
     /// Leaves an item in the scratch, and answers its digest. `TooBig` where it has not 1 to 70,000
     /// bytes, `SourceFailed` where the scratch fails, `NoMemory`.
-    fn put_here(&mut self, item: &[u8]) -> Result<Digest, Refusal>
+    fn put_here(&mut self, alloc: Global, item: &[u8]) -> Result<Digest, Refusal>
         ensures digest { IfOk result (λ digest. digest ≡ sha256 item.now) }
-        ensures left { OnOk result (is_some (place_under self.new.places (sha256 item.now)) ≡ true) }
-        ensures unnoted { OnErr result (AreAlike self.old.places self.new.places) }
+        ensures left { IsSound F.keeps F.written self.old.scratch self.old.places → OnOk result
+            (is_some (place_under self.new.places.noted (sha256 item.now)) ≡ true) }
+        ensures unnoted { OnErr result (self.new.places.noted ≡ self.old.places.noted) }
+        ensures sound { IsSound F.keeps F.written self.old.scratch self.old.places
+            → IsSound F.keeps F.written self.new.scratch self.new.places }
         ensures too_big { (result ≡ Err TooBig) ↔ (is_item item.now ≡ false) }
         ensures refused { IfErr result (λ e.
             (e ≡ TooBig) ⊎ (e ≡ SourceFailed) ⊎ (e ≡ NoMemory)) }
@@ -105,15 +113,19 @@ impl<F: Scratch, S: BlockSource> ScratchBlocks<F, S> {
             return Err(Refusal::TooBig);
         }
         let digest = digest_of(item);
-        self.leave_item(digest, item)?;
+        self.leave_item(alloc, digest, item)?;
         Ok(digest)
     }
 
     /// Leaves an item in the scratch, unless it is there.
-    fn leave_item(&mut self, digest: Digest, item: &[u8]) -> Result<(), Refusal>
-        ensures left { OnOk result (is_some (place_under self.new.places digest) ≡ true) }
+    fn leave_item(&mut self, alloc: Global, digest: Digest, item: &[u8]) -> Result<(), Refusal>
+        requires { is_item item.now ≡ true }
+        ensures left { IsSound F.keeps F.written self.old.scratch self.old.places → OnOk result
+            (is_some (place_under self.new.places.noted digest) ≡ true) }
         // What isn't left isn't noted as left.
-        ensures unnoted { OnErr result (AreAlike self.old.places self.new.places) }
+        ensures unnoted { OnErr result (self.new.places.noted ≡ self.old.places.noted) }
+        ensures sound { IsSound F.keeps F.written self.old.scratch self.old.places
+            → IsSound F.keeps F.written self.new.scratch self.new.places }
         ensures refused { IfErr result (λ e. (e ≡ SourceFailed) ⊎ (e ≡ NoMemory)) }
         ensures more { (s : List ℕ) → F.may_give self.new.scratch s
             → F.may_give self.old.scratch s ⊎ (s ≡ item.now) }
@@ -122,19 +134,16 @@ impl<F: Scratch, S: BlockSource> ScratchBlocks<F, S> {
         ensures same { (self.new.source ≡ self.old.source) × (self.new.leaves ≡ self.old.leaves)
             × (self.new.failures ≡ self.old.failures) }
     {
-        if self.places.get(&digest).is_some() {
+        let scratch = &mut self.scratch;
+        if self.places.find(alloc, scratch, &digest)?.is_some() {
             return Ok(());
         }
         let place = Place {
-            first: self.scratch.end(),
-            count: item.len(),
+            first: scratch.end(),
+            count: item.len() as u32,
         };
-        self.places.add(&digest, place)?;
-        if let Err(refusal) = self.scratch.append(item) {
-            self.places.forget(&digest);
-            return Err(refusal);
-        }
-        Ok(())
+        scratch.append(item)?;
+        self.places.add(alloc, scratch, Note { digest, place })
     }
 }
 
@@ -150,7 +159,9 @@ impl<F: Scratch, S: BlockSource> BlockSource for ScratchBlocks<F, S> {
 
     // It is in the scratch from then on, where it is left there; else the source within took it.
     ghost puts = { λ c item d. MatchBool c.leaves
-        (is_some (place_under d.places (sha256 item)) ≡ true) (S.puts c.source item d.source) };
+        (IsSound F.keeps F.written c.scratch c.places
+        → is_some (place_under d.places.noted (sha256 item)) ≡ true)
+        (S.puts c.source item d.source) };
 
     ghost follows_itself = { λ c. ((λ i. c.leaves), S.follows_itself c.source) };
 
@@ -167,10 +178,13 @@ impl<F: Scratch, S: BlockSource> BlockSource for ScratchBlocks<F, S> {
         ensures no_more { (s : List ℕ)
             → F.may_give self.new.scratch s ⊎ S.may_give self.new.source s
             → F.may_give self.old.scratch s ⊎ S.may_give self.old.source s }
-        // What was left isn't asked of the source.
-        ensures left { is_some (place_under self.old.places digest) ≡ true
+        // What was left isn't asked of the source, where the scratch gives back what was written.
+        ensures left { IsSound F.keeps F.written self.old.scratch self.old.places
+            → is_some (place_under self.old.places.noted digest) ≡ true
             → (self.new.source ≡ self.old.source)
             × IfOk result (λ item. F.may_give self.old.scratch item.items) }
+        ensures sound { IsSound F.keeps F.written self.old.scratch self.old.places
+            → IsSound F.keeps F.written self.new.scratch self.new.places }
         ensures leaves { self.new.leaves ≡ self.old.leaves }
         ensures follows { S.follows self.old.source self.new.source }
         ensures counted { self.new.failures ≡ failures_after result digest self.old.failures }
@@ -196,19 +210,22 @@ impl<F: Scratch, S: BlockSource> BlockSource for ScratchBlocks<F, S> {
             → F.may_give self.new.scratch s ⊎ S.may_give self.new.source s
             → F.may_give self.old.scratch s ⊎ S.may_give self.old.source s) }
         ensures puts { OnOk result (MatchBool self.old.leaves
-            (is_some (place_under self.new.places (sha256 item.now)) ≡ true)
+            (IsSound F.keeps F.written self.old.scratch self.old.places
+            → is_some (place_under self.new.places.noted (sha256 item.now)) ≡ true)
             (S.puts self.old.source item.now self.new.source)) }
         ensures leaves { self.new.leaves ≡ self.old.leaves }
         ensures follows { S.follows self.old.source self.new.source }
         // What is left isn't put into the source.
         ensures left { self.old.leaves ≡ true → self.new.source ≡ self.old.source }
         // What isn't left isn't noted as left.
-        ensures unnoted { OnErr result (AreAlike self.old.places self.new.places) }
+        ensures unnoted { OnErr result (self.new.places.noted ≡ self.old.places.noted) }
+        ensures sound { IsSound F.keeps F.written self.old.scratch self.old.places
+            → IsSound F.keeps F.written self.new.scratch self.new.places }
         ensures counted { self.new.failures
             ≡ failures_after result (sha256 item.now) self.old.failures }
     {
         let put = if self.leaves {
-            self.put_here(item)
+            self.put_here(alloc, item)
         } else {
             self.source.put(alloc, item)
         };

@@ -1,5 +1,5 @@
 // A scratch in a file.
-ghost use Rattle.std.specs.Prelude.{◌≡◌, ◌⊎◌, true, None, IfErr, IfOk, is_some};
+ghost use Rattle.std.specs.Prelude.{◌≡◌, ◌⊎◌, [], true, None, IfErr, IfOk, is_some};
 ghost use Rattle.su_bytes.specs.declared.refusals.Refusal.TheVariants.{SourceFailed, NoMemory};
 
 use crate::scratches::Scratch;
@@ -36,6 +36,11 @@ impl FileScratch {
 impl Scratch for FileScratch {
     // Anything, where there is a file.
     ghost may_give = { λ s _. is_some s.file ≡ true };
+
+    // No contract says so of a file.
+    ghost keeps = { λ s. ⊥ };
+
+    ghost written = { λ s. [] };
 
     fn end(&self) -> u64 {
         self.end

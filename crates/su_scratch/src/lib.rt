@@ -3,7 +3,11 @@
 #![tactic(auto)]
 
 mod blocks;
+mod buckets;
+mod chains;
 mod files;
+mod notes;
+mod pages;
 mod places;
 mod scratches;
 

@@ -8,7 +8,7 @@ use Rattle.su_op.specs.declared.areas.Area.{Area}
 use Rattle.su_op.specs.Area.{has, meet}
 use Rattle.su_op.specs.Batch.{why, reads, writes}
 use Rattle.su_op.specs.Batch.{store}
-use Rattle.su_part_inverse.specs.Kept.{inverse_areas, IsKeptOf}
+use Rattle.su_part_inverse.specs.Kept.{inverse_areas, IsKeptOf, IsPutBack}
 use Rattle.su_desk.specs.declared.entries.Entry.{Entry}
 use Rattle.su_stored_desk.specs.declared.kept.KeptOperation.{KeptOperation}
 use Rattle.su_desk.specs.History.{NumberedAction, live}
@@ -48,6 +48,12 @@ AreKept ro h ks = (T : Tree) × Keeps ro h ks T
 pub record IsIndexOf (n : ℕ) (ks : List KeptOperation) (index : ℕ) : Type 0 where
   pub within : index < length ks
   pub number : (k : KeptOperation) → (get_or ks index k).number ≡ n
+
+-- what is kept at that index makes T of F
+pub record PutsBack (ks : List KeptOperation) (index : ℕ) (F T : Tree) : Type 0 where
+  pub operation : KeptOperation
+  pub there : operation ≡ get_or ks index operation
+  pub back : IsPutBack operation.inverse F T
 
 -- the number of the last operation that read a cell of the areas
 abbrev pub last_kept_reader : List Area → List KeptOperation → Option ℕ

@@ -1,6 +1,6 @@
 // The desk: a history, what is kept of its live operations, and the forest that they make, which may
 // lie on a store.
-ghost use Rattle.std.specs.Prelude.{◌≡◌, ◌⊎◌, [], true, false, length, map, Some, None, OnOk, IfOk, IfErr, OnErr};
+ghost use Rattle.std.specs.Prelude.{◌≡◌, ◌⊎◌, ◌<◌, [], true, false, length, map, Some, None, OnOk, IfOk, IfErr, OnErr};
 ghost use Rattle.su_desk.specs.Version.{versions};
 ghost use Rattle.su_bytes.specs.declared.refusals.Refusal.TheVariants.{NoMemory};
 ghost use Rattle.su_op.specs.declared.operations.Change.TheVariants.{Do, Undo, Rekey};
@@ -15,20 +15,24 @@ ghost use Rattle.su_op.specs.Batch.{Action, why, writes};
 ghost use Rattle.su_op.specs.Area.{has};
 ghost use Rattle.su_op.specs.declared.operations.Change.{Change as Change_};
 ghost use Rattle.su_table.specs.Cell.{Cell};
+ghost use Rattle.su_table.specs.Tree.{Tree};
+ghost use Rattle.su_stored_forest.specs.Shows.{Fails, Holds, Shows};
+ghost use Rattle.su_stored_desk.specs.Keeping.{PutsBack};
 ghost use Rattle.su_stored_desk.specs.Tried.{IsKeptAt};
 
 mod attempts;
 mod joining;
 
-use crate::kept::{KeptOperation, blocker_at, live_index, undo_index};
+use crate::kept::{KeptOperation, blocker_at, live_index, undo_index, unpack_at};
 use crate::versions::{first_versions, raise};
 use std::alloc::Global;
 use su_block::BlockSource;
 use su_bytes::{Format, KEY_LENGTH, Principal, Refusal, Roster, User};
-use su_desk::{Entry, KeptEntry, format_after};
+use su_desk::{KeptBatch, KeptChange, KeptEntry, format_after};
+use su_kept_areas::KeptFootprint;
 use su_lms::PublicKey;
-use su_op::{Area, Batch, Change, Footprint};
-use su_part_inverse::Inverse;
+use su_op::{Area, Batch, Change};
+use su_part_inverse::{Inverse, KeptInverse};
 use su_stored_forest::StoredForest;
 use su_used_keys::UsedKeys;
 
@@ -239,23 +243,20 @@ impl<S: BlockSource> Desk<S> {
         };
         let footprint = accepted.footprint(self.alloc)?;
         let inverse = self.stored.keep(self.alloc, footprint.writes.as_slice())?;
+        let kept = KeptFootprint::new(self.alloc, &footprint)?;
         self.entries.reserve(1)?;
         self.kept.reserve(1)?;
+        let operations = KeptBatch::new(self.alloc, &batch)?;
         self.stored.perform(&accepted, &footprint)?;
         raise(&mut self.counters, author, footprint.writes.as_slice());
-        let change = Change::Do(batch);
-        let entry = Entry {
-            author,
-            format,
-            change,
-        };
+        let change = KeptChange::Do(operations);
         self.entries
-            .push_reserved(KeptEntry::new(self.alloc, entry));
+            .push_reserved(KeptEntry::new(author, format, change));
         let number = self.entries.len() as u64;
         self.kept.push_reserved(KeptOperation {
             number,
-            footprint,
-            inverse,
+            footprint: kept,
+            inverse: KeptInverse::new(inverse),
         });
         Ok(number)
     }
@@ -286,19 +287,37 @@ impl<S: BlockSource> Desk<S> {
         ensures source { MayBecome S.may_give S.follows self.old.stored.source self.new.stored.source }
     {
         let index = undo_index(&self.roster, &self.entries, &self.kept, author, number)?;
+        let written = self.kept[index].footprint.writes(self.alloc)?;
         self.entries.reserve(1)?;
-        self.stored.undo(self.alloc, &self.kept[index].inverse)?;
+        self.put_back(index)?;
         let undone = self.kept.remove(index);
-        raise(&mut self.counters, author, &undone.footprint.writes);
-        let change = Change::Undo(number);
-        let entry = Entry {
-            author,
-            format,
-            change,
-        };
+        raise(&mut self.counters, author, written.as_slice());
+        let change = KeptChange::Undo(number);
         self.entries
-            .push_reserved(KeptEntry::new(self.alloc, entry));
+            .push_reserved(KeptEntry::new(author, format, change));
         Ok((index, undone))
+    }
+
+    /// Puts back what the cells held that the operation wrote which is kept at that index. Refused as a
+    /// load is. The history and what is kept stay the same.
+    fn put_back(&mut self, index: usize) -> Result<(), Refusal>
+        requires { index < length self.old.kept.items }
+        ensures done { (F T : Tree) → Shows S.may_give self.old.stored F
+            → PutsBack self.old.kept.items index F T → OnOk result (Holds self.new.stored T) }
+        ensures err { (F T : Tree) → Shows S.may_give self.old.stored F
+            → PutsBack self.old.kept.items index F T → OnErr result (Shows S.may_give self.new.stored F) }
+        ensures refused { (F T : Tree) → Shows S.may_give self.old.stored F
+            → PutsBack self.old.kept.items index F T
+            → IfErr result (Fails S.failed F self.new.stored) }
+        ensures same { self.new ≡ record self.old { stored = self.new.stored; kept = self.new.kept } }
+        ensures kept { self.new.kept.items ≡ self.old.kept.items }
+        ensures source { MayBecome S.may_give S.follows self.old.stored.source self.new.stored.source }
+    {
+        unpack_at(self.alloc, &mut self.kept, index)?;
+        match self.kept[index].inverse.unpacked() {
+            Some(inverse) => self.stored.undo(self.alloc, inverse),
+            None => Err(Refusal::NoMemory),
+        }
     }
 
     /// Names the author's next key in that format, which has that, and adds it to the history. The
@@ -319,17 +338,12 @@ impl<S: BlockSource> Desk<S> {
     {
         self.check_key(author, &key)?;
         self.entries.reserve(1)?;
+        let change = KeptChange::new(self.alloc, &Change::Rekey(key))?;
         self.used.reserve()?;
         self.used.add(key);
         raise(&mut self.counters, author, &[]);
-        let change = Change::Rekey(key);
-        let entry = Entry {
-            author,
-            format,
-            change,
-        };
         self.entries
-            .push_reserved(KeptEntry::new(self.alloc, entry));
+            .push_reserved(KeptEntry::new(author, format, change));
         Ok(())
     }
 

@@ -3,22 +3,23 @@ ghost use Rattle.std.specs.Prelude.{◌≡◌, ◌<◌, None, Some, false, lengt
 ghost use Rattle.std.specs.List.{list_any};
 ghost use Rattle.std.specs.List.Sorted.{IsNonDecreasingBy};
 ghost use Rattle.su_bytes.specs.Membership.{Membership};
-ghost use Rattle.su_op.specs.Area.{meet, overlaps};
+ghost use Rattle.su_bytes.specs.declared.refusals.Refusal.TheVariants.{NoMemory};
 ghost use Rattle.su_desk.specs.Answer.{live_refusal, undo_refusal};
 ghost use Rattle.su_stored_desk.specs.Keeping.{AreKept, IsIndexOf, last_kept_reader, kept_blocker};
 
+use std::alloc::Global;
 use su_bytes::{Refusal, Roster, User};
 use su_desk::{KeptEntry, entry_at, undoer_in};
-use su_op::{Area, Change, Footprint};
-use su_part_inverse::Inverse;
+use su_kept_areas::KeptFootprint;
+use su_part_inverse::KeptInverse;
 
 /// A live operation, by its number: the cells that it read and wrote, and what those that it wrote
 /// held before.
 #[derive(Drop)]
 pub(crate) struct KeptOperation {
     pub(crate) number: u64,
-    pub(crate) footprint: Footprint,
-    pub(crate) inverse: Inverse,
+    pub(crate) footprint: KeptFootprint,
+    pub(crate) inverse: KeptInverse,
 }
 
 /// Finds where the author's operation of that number is kept, if he may undo it; else tells the
@@ -75,9 +76,9 @@ pub(crate) fn live_index(
     let Some(entry) = entry_at(entries, number) else {
         return Err(Refusal::NoOperation(number));
     };
-    let Change::Do(_) = entry.change() else {
+    if !entry.is_operation() {
         return Err(Refusal::NotOperation(number));
-    };
+    }
     match undoer_in(entries, number) {
         Some(by) => Err(Refusal::AlreadyUndone(number, by)),
         None => Err(Refusal::NoOperation(number)),
@@ -102,32 +103,32 @@ pub(crate) fn blocker_at(kept: &[KeptOperation], index: usize) -> Option<u64>
     requires { index < length kept.now }
     ensures { result ≡ kept_blocker kept.now index }
 {
-    last_reader(&kept[index + 1..], &kept[index].footprint.writes)
+    last_reader(&kept[index + 1..], &kept[index].footprint)
 }
 
-/// Returns the number of the last of these operations that read a cell of the areas, if one did.
-fn last_reader(kept: &[KeptOperation], written: &[Area]) -> Option<u64>
-    ensures { result ≡ last_kept_reader written.now kept.now }
+/// Returns the number of the last of these operations that read a cell that the footprint writes, if
+/// one did.
+fn last_reader(kept: &[KeptOperation], written: &KeptFootprint) -> Option<u64>
+    ensures { result ≡ last_kept_reader written.now.writes.items kept.now }
 {
     for later in (0..kept.len()).rev() {
         let operation = &kept[later];
-        if meet(&operation.footprint.reads, written) {
+        if operation.footprint.reads_what_is_written_by(written) {
             return Some(operation.number);
         }
     }
     None
 }
 
-/// Tells whether an area of the first overlaps one of the second.
-fn meet(areas: &[Area], others: &[Area]) -> bool
-    ensures { result ≡ meet areas.now others.now }
+/// Brings what is kept at that index back out of the bytes. Fails only with `NoMemory`.
+pub(crate) fn unpack_at(
+    alloc: Global,
+    kept: &mut [KeptOperation],
+    index: usize,
+) -> Result<(), Refusal>
+    requires { index < length kept.old }
+    ensures same { kept.new ≡ kept.old }
+    ensures refused { IfErr result (λ e. e ≡ NoMemory) }
 {
-    areas.iter().any(|area| overlaps_one(area, others))
-}
-
-/// Tells whether the area overlaps one of these.
-fn overlaps_one(area: &Area, others: &[Area]) -> bool
-    ensures { result ≡ list_any (overlaps area.now) others.now }
-{
-    others.iter().any(|other| area.overlaps(other))
+    kept[index].inverse.unpack(alloc)
 }

@@ -109,8 +109,8 @@ impl<S: BlockSource> Desk<S> {
         ensures source { MayBecome S.may_give S.follows self.old.stored.source self.new.stored.source }
     {
         let index = undo_index(&self.roster, &self.entries, &self.kept, author, number)?;
-        self.stored
-            .keep_whole(self.alloc, &self.kept[index].footprint.writes)
+        let written = self.kept[index].footprint.writes(self.alloc)?;
+        self.stored.keep_whole(self.alloc, written.as_slice())
     }
 
     /// Tells what holds with the last entry, a change of that author, which this takes back. Fails
@@ -125,8 +125,8 @@ impl<S: BlockSource> Desk<S> {
     {
         let versions = Vec::from_slice(self.alloc, self.counters.as_slice())?;
         let author_handle = self.stored.i_handle(author);
-        let written = self.last_written(tried);
-        let groups = carried_handles(self.alloc, &self.roster, written, &self.stored)?;
+        let written = self.last_written(tried)?;
+        let groups = carried_handles(self.alloc, &self.roster, written.as_slice(), &self.stored)?;
         Ok(Prepared {
             number: self.entries.len() as u64,
             versions,
@@ -136,18 +136,20 @@ impl<S: BlockSource> Desk<S> {
     }
 
     /// Returns the cells of the last entry, which this takes back: those that its operation wrote, or
-    /// the one that it undid; of a rekey none.
-    fn last_written<'a>(&'a self, tried: &'a Tried) -> &'a [Area]
-        ensures { IsRight self.now → (d : DeskState) (e : Entry) → state_of self.now ≡ with_entry d e
-            → TakesBack d e tried.now → result.now ≡ cells_of d.roster d.history e }
+    /// the one that it undid; of a rekey none. Fails only with `NoMemory`.
+    fn last_written(&self, tried: &Tried) -> Result<Vec<Area>, Refusal>
+        ensures value { IsRight self.now → (d : DeskState) (e : Entry)
+            → state_of self.now ≡ with_entry d e → TakesBack d e tried.now
+            → IfOk result (λ written. written.items ≡ cells_of d.roster d.history e) }
+        ensures refused { IfErr result (λ e. e ≡ NoMemory) }
     {
         match &tried.means {
-            Means::Held(undone) => undone.operation.footprint.writes.as_slice(),
+            Means::Held(undone) => undone.operation.footprint.writes(self.alloc),
             Means::Kept => match self.kept.last() {
-                Some(operation) => operation.footprint.writes.as_slice(),
-                None => &[],
+                Some(operation) => operation.footprint.writes(self.alloc),
+                None => Ok(Vec::new(self.alloc)),
             },
-            Means::Named(_) => &[],
+            Means::Named(_) => Ok(Vec::new(self.alloc)),
         }
     }
 
@@ -226,14 +228,15 @@ impl<S: BlockSource> Desk<S> {
             → OnOk result (Holds self.new.stored (tree_of d)) }
         ensures right { (d : DeskState) (x : Action) → IsSure S.may_give self.old
             → state_of self.old ≡ with_entry d (entry_doing x) → OnErr result (IsRight self.new) }
-        ensures same { self.new ≡ record self.old { stored = self.new.stored } }
+        ensures same { self.new ≡ record self.old { stored = self.new.stored; kept = self.new.kept } }
+        ensures kept { self.new.kept.items ≡ self.old.kept.items }
         ensures refused { (d : DeskState) (x : Action) → IsSure S.may_give self.old
             → state_of self.old ≡ with_entry d (entry_doing x)
             → IfErr result (FailsAt S.failed (state_of self.old) self.new) }
         ensures source { MayBecome S.may_give S.follows self.old.stored.source self.new.stored.source }
     {
-        match self.kept.last() {
-            Some(operation) => self.stored.undo(self.alloc, &operation.inverse),
+        match self.kept.len().checked_sub(1) {
+            Some(last) => self.put_back(last),
             None => Ok(()),
         }
     }

@@ -16,9 +16,10 @@ use crate::versions::raise;
 use std::alloc::Global;
 use su_block::BlockSource;
 use su_bytes::{Principal, Refusal};
-use su_desk::{Entry, KeptEntry};
-use su_op::{Area, Footprint};
-use su_part_inverse::Inverse;
+use su_desk::{Entry, KeptChange, KeptEntry};
+use su_kept_areas::KeptFootprint;
+use su_op::Footprint;
+use su_part_inverse::{Inverse, KeptInverse};
 
 impl<S: BlockSource> Desk<S> {
     ghost use Rattle.su_stored_desk.specs.Right.{state_of, HasNumbers, IsRight};
@@ -66,21 +67,23 @@ impl<S: BlockSource> Desk<S> {
     {
         let author = entry.author;
         let mut counters = Vec::from_slice(self.alloc, numbers)?;
+        let kept = KeptFootprint::new(self.alloc, &footprint)?;
         self.entries.reserve(1)?;
         self.kept.reserve(1)?;
+        let change = KeptChange::new(self.alloc, &entry.change)?;
         raise(&mut counters, author, footprint.writes.as_slice());
         self.counters = counters;
         let first = self.entries.len().saturating_sub(count);
         self.entries.truncate(first);
         self.entries
-            .push_reserved(KeptEntry::new(self.alloc, entry));
+            .push_reserved(KeptEntry::new(author, entry.format, change));
         let first = self.kept.len().saturating_sub(count);
         let number = self.entries.len() as u64;
         self.kept.truncate(first);
         self.kept.push_reserved(KeptOperation {
             number,
-            footprint,
-            inverse,
+            footprint: kept,
+            inverse: KeptInverse::new(inverse),
         });
         Ok(())
     }
@@ -95,20 +98,9 @@ fn footprint_of(alloc: Global, kept: &[KeptOperation]) -> Result<Footprint, Refu
     let mut reads = Vec::new(alloc);
     let mut writes = Vec::new(alloc);
     for operation in kept {
-        push_all(&mut reads, &operation.footprint.reads)?;
-        push_all(&mut writes, &operation.footprint.writes)?;
+        let mut more = operation.footprint.footprint(alloc)?;
+        reads.append(&mut more.reads)?;
+        writes.append(&mut more.writes)?;
     }
     Ok(Footprint { reads, writes })
-}
-
-/// Appends copies of areas. Fails only with `NoMemory`; then some may have been appended.
-fn push_all(all: &mut Vec<Area>, areas: &[Area]) -> Result<(), Refusal>
-    ensures items { OnOk result (all.new.items ≡ all.old.items ++ areas.now) }
-    ensures refused { IfErr result (λ e. e ≡ NoMemory) }
-{
-    for area in areas {
-        let copy = area.clone()?;
-        all.push(copy)?;
-    }
-    Ok(())
 }

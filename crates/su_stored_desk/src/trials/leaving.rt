@@ -56,6 +56,7 @@ fn leave_each<S: BlockSource>(
 {
     for operation in kept.iter_mut() {
         operation.inverse.leave(alloc, source)?;
+        operation.inverse.pack(alloc)?;
     }
     Ok(())
 }

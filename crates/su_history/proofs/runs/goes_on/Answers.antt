@@ -3,7 +3,6 @@ use Rattle.std.specs.Option.{is_some}
 use Rattle.std.proofs.Math.Bool.{beq}
 use Rattle.std.proofs.lemmas.Bool.{true≢false}
 use Rattle.su_history.specs.Line.{is_same_file}
-use Rattle.su_history.proofs.WithoutBytes.{same_file_so}
 use Rattle.su_history.proofs.NumberedEntries.{first_fails, goes_on_read, last_counts, second_fails}
 use Rattle.su_history.proofs.runs.goes_on.Goals as goal
 use Rattle.su_history.proofs.runs.goes_on.Goals.{then-eq, else-eq}
@@ -20,7 +19,7 @@ returns-then-is_same_file c = λ d.
       | then-eq w ↦
           ap (λ r. beq r c.is_some-then-is_same_file.result) c.is_some.ensures
           ∙ ap (beq (is_some (get_or us (c.args.index - 1) None))) c.is_some-then-is_same_file.ensures
-          ∙ sym (told ∙ last_counts (nat_eq x.author y.author) (is_same_file x.change y.change) alike (sym same_author ∙ w.if-eq.true) (sym (w.is_same_file.ensures ∙ same_file_so x.change y.change _ _ w.change.ensures w.change-then-eq.ensures) ∙ sym w.value-is ∙ c.if-is_same_file.true))
+          ∙ sym (told ∙ last_counts (nat_eq x.author y.author) (is_same_file x.change y.change) alike (sym same_author ∙ w.if-eq.true) (sym w.is_same_file.ensures ∙ sym w.value-is ∙ c.if-is_same_file.true))
       | else-eq w ↦ absurd (true≢false (sym c.if-is_same_file.true ∙ w.value-is ∙ w.if-eq.false))
     ]
 
@@ -35,7 +34,7 @@ returns-else-is_same_file c = λ d.
     elim c.if-eq.branch [
       | then-eq w ↦
           c.if-is_same_file.false
-          ∙ sym (told ∙ second_fails (nat_eq x.author y.author) (is_same_file x.change y.change) alike (sym (w.is_same_file.ensures ∙ same_file_so x.change y.change _ _ w.change.ensures w.change-then-eq.ensures) ∙ sym w.value-is ∙ c.if-is_same_file.false))
+          ∙ sym (told ∙ second_fails (nat_eq x.author y.author) (is_same_file x.change y.change) alike (sym w.is_same_file.ensures ∙ sym w.value-is ∙ c.if-is_same_file.false))
       | else-eq w ↦
           c.if-is_same_file.false
           ∙ sym (told ∙ first_fails (nat_eq x.author y.author) (is_same_file x.change y.change) alike (sym same_author ∙ w.if-eq.false))

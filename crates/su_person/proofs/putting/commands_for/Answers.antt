@@ -16,9 +16,9 @@ returns-in-Ok-clause-may g c = λ stands.
       | in-Nothing w ↦ inr (inl (subst (λ (it : Standing). IsStanding v new.path.now it) w.in-Nothing.is stands))
       | in-File+in_ok-check_seen-in-File w ↦
           let there = subst (λ (it : Standing). IsStanding v new.path.now it) w.in-File.is stands in
-          may_write v new.seen new.over new.path.now w.in-File.file w.user.result w.history.result.now there.found
+          may_write v new.seen new.over new.path.now w.in-File.file w.user.result w.history-history.result.now there.found
           (w.user.ensures ∙ ap (λ (x : HoldingState). x.user) w.view-in-File.ensures.holding)
-          (w.history.ensures ∙ ap (λ (x : HoldingState). history x.held) w.view.ensures.holding)
+          (w.history-history.ensures ∙ ap (λ (x : HoldingState). history x.held) w.view.ensures.holding)
           w.in_ok-check_seen-in-File.ensures.knows
     ]
 

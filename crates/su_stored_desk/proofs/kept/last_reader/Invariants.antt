@@ -3,4 +3,4 @@ use Rattle.su_stored_desk.specs.Keeping.{last_kept_reader}
 use Rattle.su_stored_desk.proofs.kept.last_reader.Given as goal
 
 abbrev pub invariant-loop-later : goal.invariant-loop-later
-invariant-loop-later l = record { within : l.later ≤ length l.kept; unread : last_kept_reader l.written (drop l.later l.kept) ≡ None }
+invariant-loop-later l = record { within : l.later ≤ length l.kept; unread : last_kept_reader l.written.writes.items (drop l.later l.kept) ≡ None }

@@ -28,8 +28,8 @@ returns-clause-covers g c sure =
     let i = c.in_ok-index.index in
     let there = found s.roster s.entries.items s.kept.items k i c.args.number T sure.right.keeps
     (subst (λ ks. IsIndexOf c.args.number ks i) c.deref-2.ensures.value (c.in_ok-index.ensures.found (kept_of s _ _ sure.right c.deref.ensures.value c.deref-2.ensures.value))) (sym c.index.ensures) in
-    let written : c.deref-3.result.now ≡ written_by s.roster s.entries.items c.args.number
-    = c.deref-3.ensures.value ∙ undone_written s.roster s.entries.items s.kept.items k i c.args.number T there in
+    let written : c.as_slice.result.now ≡ written_by s.roster s.entries.items c.args.number
+    = c.as_slice.ensures.value ∙ c.in_ok-written.ensures.value ∙ undone_written s.roster s.entries.items s.kept.items k i c.args.number T there in
     subst (λ (w : List Area). IfOk c.keep_whole.result (λ held. (x : Cell) → has w x ≡ true → has (inverse_areas held) x ≡ true)) written c.keep_whole.ensures.covers
 
 pub returns-clause-sure : goal.returns-clause-sure

@@ -35,10 +35,10 @@ returns-clause-right g c d ops right change long many fits were each joined befo
     = omega (arith, c.saturating_sub-first-2.ensures, c.len-2.ensures, c.reserve-2.new.self.ok.0, ap length c.in_ok-reserve-2.ensures.items, long) in
     let k : KeptOperation = record { number = c.len-number.result; footprint = c.args.footprint; inverse = c.args.inverse } in
     let entries : c.push_reserved.new.self.items ≡ d.history ++ e ∷ []
-    = c.push_reserved.ensures.items ∙ ap (λ (x : Entry). c.truncate.new.self.items ++ x ∷ []) c.new.ensures
+    = c.push_reserved.ensures.items ∙ ap (λ (x : Entry). c.truncate.new.self.items ++ x ∷ []) (c.new-3.ensures ∙ ap (entry_by e.author e.format) c.in_ok-change.ensures)
     ∙ ap (λ h. h ++ e ∷ []) (c.truncate.ensures.items ∙ (λ i. take (first i) (c.in_ok-reserve.ensures.items i)) ∙ entries_before d e.author e.format ops s.entries.items c.args.count all long) in
     let kept : c.push_reserved-2.new.self.items ≡ take (length ks - length ops) ks ++ k ∷ []
-    = c.push_reserved-2.ensures.items ∙ ap (λ l. l ++ k ∷ []) (c.truncate-2.ensures.items ∙ (λ i. take (first-2 i) (c.in_ok-reserve-2.ensures.items i))) in
+    = c.push_reserved-2.ensures.items ∙ (λ j. c.truncate-2.new.self.items ++ record { number = c.len-number.result; footprint = c.in_ok-kept.ensures.value j; inverse = c.new-4.ensures j } ∷ []) ∙ ap (λ l. l ++ k ∷ []) (c.truncate-2.ensures.items ∙ (λ i. take (first-2 i) (c.in_ok-reserve-2.ensures.items i))) in
     let number : c.len-number.result ≡ length d.history + 1 = omega (arith, c.len-number.ensures, c.push_reserved.new.self.ok.0, ap length entries, length-append d.history (e ∷ [])) in
     let doing : entry_doing (action_by e.author e.format ops) ≡ e = ap (entry_by e.author e.format) (sym change) in
     let written : c.as_slice.result.now ≡ cells_of d.roster d.history e = c.as_slice.ensures.value ∙ joined.writes ∙ sym (ap (cells_by_change d.roster d.history e) change) in

@@ -1,14 +1,16 @@
-use Rattle.std.proofs.Common.{◌≡◌, ◌∙◌, ℕ, ◌+◌, ◌<◌, ◌^◌, [], ◌∷◌, ◌++◌, length, length-append, ⊎_elim, inl, inr, arith, refl, sym, ap, subst}
+use Rattle.std.proofs.Common.{◌≡◌, ◌∙◌, ℕ, List, ◌+◌, ◌<◌, ◌^◌, [], ◌∷◌, ◌++◌, length, length-append, ⊎_elim, inl, inr, arith, refl, sym, ap, subst}
 use Rattle.std.specs.List.{All}
 use Rattle.su_bytes.specs.declared.principals.Principal.{Principal}
 use Rattle.su_desk.specs.Desk.{with_entry}
-use Rattle.su_desk.specs.History.{entry_doing}
+use Rattle.su_desk.specs.History.{entry_by, entry_doing}
 use Rattle.su_desk.specs.Trial.{tree_of}
 use Rattle.su_desk.specs.Version.{cells_of}
 use Rattle.su_desk.specs.declared.entries.Entry.{Entry}
 use Rattle.su_desk.proofs.VersionNumbers.{counters_next, versions_within}
 use Rattle.su_inverse.specs.Kept.{CanKeep}
 use Rattle.su_op.specs.Area.{has}
+use Rattle.su_op.specs.declared.operations.Op.{Op}
+use Rattle.su_op.specs.declared.operations.Change.TheVariants.{Do}
 use Rattle.su_op.specs.Batch.{action_by}
 use Rattle.su_used_keys.specs.UsedKeys.{HasJust}
 use Rattle.su_stored_desk.specs.Keeping.{Keeps}
@@ -16,7 +18,7 @@ use Rattle.su_stored_desk.specs.Right.{state_of}
 use Rattle.su_stored_desk.specs.declared.kept.KeptOperation.{KeptOperation}
 use Rattle.su_stored_desk.proofs.Doing.{alone, beside, can_keep, cells, fits_in, keeps_done, made, refusal_is}
 use Rattle.su_stored_desk.proofs.NamedKeys.{same_keys}
-use Rattle.su_stored_desk.proofs.Rightness.{came, no_failure, one_more, right_at, shows}
+use Rattle.su_stored_desk.proofs.Rightness.{asked_right, came, no_failure, one_more, right_at, shows}
 use Rattle.su_stored_desk.proofs.TrialLemmas.{refused_by}
 use Rattle.su_stored_forest.proofs.Public.{shows_holds}
 use Rattle.su_stored_desk.proofs.desks.Desk.operate.Goals as goal
@@ -53,6 +55,21 @@ returns-in_err-reserve-2-clause-right g c sure =
     right_at _ (state_of s) (ap (λ h. record { roster = s.roster; history = h }) c.reserve.ensures.items)
     (subst (λ ks. Keeps s.roster s.entries.items ks T) (sym c.reserve-2.ensures.items) sure.right.keeps) (shows_holds _ _ _ still) sure.right.counters sure.right.keys
 
+pub returns-in_err-kept-clause-right : goal.returns-in_err-kept-clause-right
+returns-in_err-kept-clause-right g c sure =
+    let s = c.args.self.now in
+    let T = tree_of (state_of s) in
+    let still = c.in_ok-inverse.ensures.finds.still T (c.in-Ok.ensures.finds.still T (shows _ s sure)) in
+    asked_right s _ sure.right (shows_holds _ _ _ still)
+
+pub returns-in_err-operations-clause-right : goal.returns-in_err-operations-clause-right
+returns-in_err-operations-clause-right g c sure =
+    let s = c.args.self.now in
+    let T = tree_of (state_of s) in
+    let still = c.in_ok-inverse.ensures.finds.still T (c.in-Ok.ensures.finds.still T (shows _ s sure)) in
+    right_at _ (state_of s) (ap (λ h. record { roster = s.roster; history = h }) c.in_ok-reserve.ensures.items)
+    (subst (λ ks. Keeps s.roster s.entries.items ks T) (sym c.in_ok-reserve-2.ensures.items) sure.right.keeps) (shows_holds _ _ _ still) sure.right.counters sure.right.keys
+
 pub returns-in_err-perform-clause-right : goal.returns-in_err-perform-clause-right
 returns-in_err-perform-clause-right g c sure =
     let s = c.args.self.now in
@@ -85,6 +102,12 @@ returns-in_err-reserve-clause-source g c = one_more _ _ g.met.S.BlockSource.foll
 
 pub returns-in_err-reserve-2-clause-source : goal.returns-in_err-reserve-2-clause-source
 returns-in_err-reserve-2-clause-source g c = one_more _ _ g.met.S.BlockSource.follows_on _ _ _ (came c.in-Ok.ensures.finds.comes) (came c.in_ok-inverse.ensures.finds.comes)
+
+pub returns-in_err-kept-clause-source : goal.returns-in_err-kept-clause-source
+returns-in_err-kept-clause-source g c = one_more _ _ g.met.S.BlockSource.follows_on _ _ _ (came c.in-Ok.ensures.finds.comes) (came c.in_ok-inverse.ensures.finds.comes)
+
+pub returns-in_err-operations-clause-source : goal.returns-in_err-operations-clause-source
+returns-in_err-operations-clause-source g c = one_more _ _ g.met.S.BlockSource.follows_on _ _ _ (came c.in-Ok.ensures.finds.comes) (came c.in_ok-inverse.ensures.finds.comes)
 
 pub returns-in_err-perform-clause-source : goal.returns-in_err-perform-clause-source
 returns-in_err-perform-clause-source g c =
@@ -123,10 +146,11 @@ returns-clause-right g c sure =
     let holds = c.in_ok-perform.ensures.made T (tree_of (with_entry d e)) still-2 (fits_in d ks keeps a f ops op is fits found.0 y found.1) (read T) (made d ks keeps a f ops op is fits found.0 y found.1)
     (beside d ks keeps a f ops op is fits found.0 y found.1 fp read wrote) in
     let entries : c.push_reserved.new.self.items ≡ s.entries.items ++ e ∷ []
-    = c.push_reserved.ensures.items ∙ ap (λ (x : Entry). c.reserve.new.self.items ++ x ∷ []) c.new.ensures ∙ ap (λ h. h ++ e ∷ []) c.in_ok-reserve.ensures.items in
+    = c.push_reserved.ensures.items ∙ ap (λ (x : Entry). c.reserve.new.self.items ++ x ∷ []) (c.new-3.ensures ∙ ap (λ (os : List Op). entry_by a f (Do os)) c.in_ok-operations.ensures) ∙ ap (λ h. h ++ e ∷ []) c.in_ok-reserve.ensures.items in
     let number : c.len-number.result ≡ length s.entries.items + 1 = omega (arith, c.len-number.ensures, c.push_reserved.new.self.ok.0, ap length entries, length-append s.entries.items (e ∷ [])) in
     let k : KeptOperation = record { number = c.len-number.result; footprint = fp; inverse = c.in_ok-inverse.inverse } in
-    let all : c.push_reserved-2.new.self.items ≡ ks ++ k ∷ [] = c.push_reserved-2.ensures.items ∙ ap (λ l. l ++ k ∷ []) c.in_ok-reserve-2.ensures.items in
+    let all : c.push_reserved-2.new.self.items ≡ ks ++ k ∷ []
+    = c.push_reserved-2.ensures.items ∙ (λ j. c.reserve-2.new.self.items ++ record { number = c.len-number.result; footprint = c.in_ok-kept.ensures.value j; inverse = c.new-4.ensures j } ∷ []) ∙ ap (λ l. l ++ k ∷ []) c.in_ok-reserve-2.ensures.items in
     let written : c.as_slice-2.result.now ≡ cells_of s.roster s.entries.items e = c.as_slice-2.ensures.value ∙ cells d ks keeps a f ops op is fits found.0 y found.1 fp read wrote in
     let small : length s.entries.items + 1 < 2 ^ 64 = let m = c.reserve.new.self.small in let l = s.entries.small in omega (arith, s.entries.ok.0, c.in_ok-reserve.ensures.ok, c.in_ok-reserve.ensures.len) in
     right_at _ (with_entry d e) (ap (λ h. record { roster = s.roster; history = h }) entries)

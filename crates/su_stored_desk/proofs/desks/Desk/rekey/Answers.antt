@@ -2,7 +2,7 @@ use Rattle.std.proofs.Common.{◌≡◌, ◌∙◌, ◌++◌, ◌∷◌, [], ℕ
 use Rattle.std.specs.List.{All}
 use Rattle.su_bytes.specs.declared.principals.Principal.{Principal}
 use Rattle.su_desk.specs.Desk.{DeskState, with_entry}
-use Rattle.su_desk.specs.History.{rekey_by, keys_after}
+use Rattle.su_desk.specs.History.{entry_by, rekey_by, keys_after}
 use Rattle.su_desk.specs.Trial.{tree_of}
 use Rattle.su_desk.specs.declared.entries.Entry.{Entry}
 use Rattle.su_desk.proofs.VersionNumbers.{counters_next, versions_within}
@@ -21,7 +21,7 @@ returns-clause-right g c right =
     let e : Entry = rekey_by c.args.author c.args.format k in
     let d : DeskState = with_entry (state_of s) e in
     let entries : c.push_reserved.new.self.items ≡ s.entries.items ++ e ∷ []
-    = c.push_reserved.ensures.items ∙ ap (λ (x : Entry). c.reserve.new.self.items ++ x ∷ []) c.new.ensures ∙ ap (λ h. h ++ e ∷ []) c.in_ok-reserve.ensures.items in
+    = c.push_reserved.ensures.items ∙ ap (λ (x : Entry). c.reserve.new.self.items ++ x ∷ []) (c.new-2.ensures ∙ ap (entry_by c.args.author c.args.format) c.in_ok-change.ensures) ∙ ap (λ h. h ++ e ∷ []) c.in_ok-reserve.ensures.items in
     let keeps = keeps_rekey s.roster s.entries.items s.kept.items (tree_of (state_of s)) c.args.author c.args.format k right.keeps c.requires (c.in_ok-check_key.ensures.accepted right) in
     let tree : tree_of (state_of s) ≡ tree_of d = keeps_tree s.roster d.history s.kept.items (tree_of (state_of s)) keeps in
     let small : length s.entries.items + 1 < 2 ^ 64 = let m = c.reserve.new.self.small in let n = s.entries.small in omega (arith, s.entries.ok.0, c.in_ok-reserve.ensures.ok, c.in_ok-reserve.ensures.len) in

@@ -14,10 +14,10 @@ pub returns-clause-right : goal.returns-clause-right
 returns-clause-right g c d x sure is numbers =
     let s = c.args.self.now in
     let q = c.put_back_last.new.self in
-    let same : q ≡ record s { stored = q.stored } = c.put_back_last.ensures.same in
+    let same : q ≡ record s { stored = q.stored; kept = q.kept } = c.put_back_last.ensures.same in
     let l = last_operation s.roster s.entries.items s.kept.items (tree_of (state_of s)) d x is sure.right.keeps in
     let kept : c.pop.new.self.items ≡ l.front
-    = c.pop.ensures.rest ∙ ap (λ n. take (n - 1) q.kept.items) q.kept.ok.0 ∙ ap (λ ks. take (length ks - 1) ks) (ap (λ y. y.kept.items) same ∙ l.whole) ∙ all_but_last l.front l.kept in
+    = c.pop.ensures.rest ∙ ap (λ n. take (n - 1) q.kept.items) q.kept.ok.0 ∙ ap (λ ks. take (length ks - 1) ks) (c.put_back_last.ensures.kept ∙ l.whole) ∙ all_but_last l.front l.kept in
     let entries : c.pop-2.new.self.items ≡ d.history
     = c.pop-2.ensures.rest ∙ ap (λ n. take (n - 1) q.entries.items) q.entries.ok.0 ∙ ap (λ h. take (length h - 1) h) (ap (λ y. y.entries.items) same) ∙ history_before s.roster s.entries.items d (entry_doing x) is in
     let roster : q.roster ≡ d.roster = ap (λ y. y.roster) same ∙ ap (λ (y : DeskState). y.roster) is in

@@ -21,8 +21,8 @@ loop-operation-preserved c =
     let more : take (l.operation-index + 1) all ≡ take l.operation-index all ++ k ∷ []
     = take_more all l.operation-index k c.loop-operation-test.true ∙ ap (λ x. take l.operation-index all ++ x ∷ []) (sym c.operation-item.is) in
     record {
-      read = c.in_ok-push_all.ensures.items ∙ ap (λ v. l.reads.items ++ v) c.deref.ensures.value ∙ ap (λ v. v ++ k.footprint.reads.items) l.invariant.read ∙ sym (read_more (take l.operation-index all) k) ∙ ap all_read (sym more);
-      written = c.in_ok-push_all-2.ensures.items ∙ ap (λ v. l.writes.items ++ v) c.deref-in-loop-operation.ensures.value ∙ ap (λ v. v ++ k.footprint.writes.items) l.invariant.written ∙ sym (written_more (take l.operation-index all) k) ∙ ap all_written (sym more);
+      read = c.in_ok-append.ensures.items ∙ ap (λ v. l.reads.items ++ v) c.in_ok-more.ensures.reads ∙ ap (λ v. v ++ k.footprint.reads.items) l.invariant.read ∙ sym (read_more (take l.operation-index all) k) ∙ ap all_read (sym more);
+      written = c.in_ok-append-2.ensures.items ∙ ap (λ v. l.writes.items ++ v) c.in_ok-more.ensures.writes ∙ ap (λ v. v ++ k.footprint.writes.items) l.invariant.written ∙ sym (written_more (take l.operation-index all) k) ∙ ap all_written (sym more);
     }
 
 pub returns-clause-reads : goal.returns-clause-reads

@@ -1,0 +1,4 @@
+pub mod Formats
+pub mod Lists
+pub mod Tests
+mod Examples

@@ -1,0 +1,5 @@
+pub mod Spelling
+pub mod Lent
+pub mod Format
+pub mod Pointer
+pub mod Kept
