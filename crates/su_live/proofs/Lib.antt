@@ -1,0 +1,4 @@
+pub mod Tests
+pub mod ReadersLemmas
+pub mod LiveLemmas
+pub mod BlockerLemmas

@@ -1,0 +1,11 @@
+use Rattle.su_live.proofs.LiveLemmas.{entered_in, small_in}
+use Rattle.su_live.proofs.BlockerLemmas.{none_beyond, none_above_entered, none_entered, none_from_entered, none_above_bound}
+use Rattle.su_live.proofs.live.LiveOperations.last_reader.Goals as goal
+
+pub loop-number-init : goal.loop-number-init
+loop-number-init g c = none_beyond c.args.written.now.writes.items c.args.self.now c.args.mark (small_in _ _ _ c.self.invariant c.self.view_is)
+
+pub returns-clause-none : goal.returns-clause-none
+returns-clause-none g c =
+    (none_entered c.args.written.now.writes.items c.args.self.now c.self.inside.readers c.args.mark c.loop-number.up_to c.args.above c.loop-number.invariant
+    (entered_in _ _ _ c.self.invariant c.self.view_is c.args.mark) c.in_default.ensures.none).none

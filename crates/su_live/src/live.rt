@@ -1,0 +1,174 @@
+// The live operations of a desk.
+ghost use Rattle.std.specs.Prelude.{◌≡◌, ◌⊎◌, ◌<◌, ◌-◌, ℕ, [], true, false, None, length, slice_get, IfNone, IfSome, IfOk, IfErr, OnOk, OnErr};
+ghost use Rattle.std.specs.Option.{option_copied};
+ghost use Rattle.su_bytes.specs.declared.refusals.Refusal.TheVariants.{NoMemory};
+ghost use Rattle.su_live.specs.Live.{find_live, insert_live, is_entered, live_blocker, numbers_of, reads_at, without};
+
+use crate::entering::{enter, last_up_to, leave};
+use crate::operations::LiveOperation;
+use crate::readers::Reader;
+use std::alloc::{AllocFailed, Global};
+use std::collections::{BTreeMap, BTreeSet};
+use std::marker::Model;
+use su_bytes::Refusal;
+use su_kept_areas::KeptFootprint;
+
+/// The live operations of a desk by their numbers, and an index from the cells that they read to
+/// them. Its model is their list, in the order of their numbers.
+#[derive(Drop)]
+pub struct LiveOperations<I: Drop> {
+    operations: BTreeMap<u64, LiveOperation<I>>,
+    readers: BTreeSet<Reader>,
+}
+
+impl<I: Drop> Model for LiveOperations<I> {
+    ghost use Rattle.std.specs.Prelude.{List};
+    ghost use Rattle.std.specs.BTreeMap.{values};
+    ghost use Rattle.su_live.specs.declared.operations.LiveOperation.{LiveOperation as TheOperation};
+
+    ghost Value = { List (TheOperation I) };
+
+    ghost use Rattle.su_live.specs.Live.{IsIndexed};
+
+    ghost view = { λ l. values l.operations };
+
+    ghost invariant = { λ l. IsIndexed l.operations l.readers };
+}
+
+impl<I: Drop> LiveOperations<I> {
+    /// Makes the list without operations.
+    pub fn new(alloc: Global) -> LiveOperations<I>
+        ensures { result ≡ [] }
+    {
+        LiveOperations {
+            operations: BTreeMap::new(alloc),
+            readers: BTreeSet::new(alloc),
+        }
+    }
+
+    /// Finds the operation of that number.
+    pub fn find(&self, number: u64) -> Option<&LiveOperation<I>>
+        ensures { option_copied result ≡ find_live number self.now }
+    {
+        self.operations.get(&number)
+    }
+
+    /// Returns the operation of the greatest number.
+    pub fn last(&self) -> Option<&LiveOperation<I>>
+        ensures { option_copied result ≡ slice_get self.now (length self.now - 1) }
+    {
+        match self.operations.last_key_value() {
+            Some((_, operation)) => Some(operation),
+            None => None,
+        }
+    }
+
+    /// Returns the numbers of the operations, ascending. Fails only with `NoMemory`.
+    pub fn numbers(&self, alloc: Global) -> Result<Vec<u64>, Refusal>
+        ensures value { IfOk result (λ numbers. numbers.items ≡ numbers_of self.now) }
+        ensures refused { IfErr result (λ e. e ≡ NoMemory) }
+    {
+        let numbers = self
+            .operations
+            .values()
+            .map(|operation| operation.number)
+            .collect(alloc)?;
+        Ok(numbers)
+    }
+
+    /// Adds an operation, of whose number none is there. Where there is no room for it, nothing
+    /// changes, and it is given back. (For a number that doesn't fit 32 bits there is none.)
+    pub fn add(&mut self, operation: LiveOperation<I>) -> Result<(), AllocFailed<LiveOperation<I>>>
+        requires { find_live operation.number self.old ≡ None }
+        ensures ok { OnOk result (self.new ≡ insert_live operation self.old) }
+        ensures given_back { IfErr result (λ e. e.value ≡ operation) }
+        ensures err { OnErr result (self.new ≡ self.old) }
+    {
+        if operation.number > u64::from(u32::MAX) {
+            return Err(AllocFailed { value: operation });
+        }
+        let number = operation.number as u32;
+        match enter(&mut self.readers, &operation.footprint, number) {
+            Ok(()) => {}
+            Err(_) => return Err(AllocFailed { value: operation }),
+        }
+        match self.operations.insert(operation.number, operation) {
+            Ok(_) => Ok(()),
+            Err(refused) => {
+                let (_, value) = refused.value;
+                leave(&mut self.readers, &value.footprint, number);
+                Err(AllocFailed { value })
+            }
+        }
+    }
+
+    /// Removes the operation of that number, and returns it, where one is there. Takes no memory.
+    pub fn remove(&mut self, number: u64) -> Option<LiveOperation<I>>
+        ensures value { result ≡ find_live number self.old }
+        ensures others { self.new ≡ without number self.old }
+    {
+        let Some(operation) = self.operations.remove(&number) else {
+            return None;
+        };
+        leave(&mut self.readers, &operation.footprint, number as u32);
+        Some(operation)
+    }
+
+    /// Returns the number of the last operation behind the one of that number that read a cell that
+    /// this one wrote, if one did. Takes no memory.
+    pub fn blocker(&self, number: u64) -> Option<u64>
+        ensures { result ≡ live_blocker number self.now }
+    {
+        let _ = &self.operations;
+        let Some(operation) = self.find(number) else {
+            return None;
+        };
+        let first = number as u32;
+        let mut last = first;
+        let mut marks = operation.footprint.written_marks();
+        while let Some(mark) = marks.pass() {
+            if let Some(later) = self.last_reader(mark, last, &operation.footprint) {
+                last = later;
+            }
+        }
+        if last == first {
+            None
+        } else {
+            Some(u64::from(last))
+        }
+    }
+
+    /// Returns the last operation above that number that is entered under the mark, and reads a cell
+    /// that is written there.
+    fn last_reader(&self, mark: u32, above: u32, written: &KeptFootprint) -> Option<u32>
+        ensures later { IfSome result (λ n. above < n) }
+        ensures found { IfSome result (λ n. reads_at written.now.writes.items self.now n ≡ true) }
+        ensures last { IfSome result (λ n. (q : ℕ) → n < q → is_entered self.now mark q ≡ true
+            → reads_at written.now.writes.items self.now q ≡ false) }
+        ensures none { IfNone result ((q : ℕ) → above < q → is_entered self.now mark q ≡ true
+            → reads_at written.now.writes.items self.now q ≡ false) }
+    {
+        let mut up_to = u32::MAX;
+        while let Some(number) = last_up_to(&self.readers, mark, up_to) {
+            if number <= above {
+                return None;
+            }
+            if self.reads(number, written) {
+                return Some(number);
+            }
+            up_to = number - 1;
+        }
+        None
+    }
+
+    /// Tells whether the operation of that number is there, and reads a cell that is written there.
+    fn reads(&self, number: u32, written: &KeptFootprint) -> bool
+        ensures { result ≡ reads_at written.now.writes.items self.now number }
+    {
+        let _ = &self.operations;
+        match self.find(u64::from(number)) {
+            Some(operation) => operation.footprint.reads_what_is_written_by(written),
+            None => false,
+        }
+    }
+}
