@@ -56,7 +56,7 @@ module _ {I : Type 0} (w : List Area) where
   found_by [] n reads = absurd (cc)
   found_by (k ∷ ks) n reads =
       let cases : ((nat_eq n k.number && meet k.footprint.reads.items w) ≡ true) ⊎ (reads_at w ks n ≡ true) =
-          or_cases (nat_eq n k.number && meet k.footprint.reads.items w) (reads_at w ks n) reads in
+      or_cases (nat_eq n k.number && meet k.footprint.reads.items w) (reads_at w ks n) reads in
       by cases (found_by ks n)
     where
       by : ((nat_eq n k.number && meet k.footprint.reads.items w) ≡ true) ⊎ (reads_at w ks n ≡ true) → (reads_at w ks n ≡ true → IsFoundBy ks n) → IsFoundBy (k ∷ ks) n
@@ -86,13 +86,13 @@ module _ {I : Type 0} (w : List Area) where
   reads_above a n [] above reads = absurd (cc)
   reads_above a n (k ∷ ks) above reads =
       let cases : ((nat_eq n k.number && meet k.footprint.reads.items w) ≡ true) ⊎ (reads_at w ks n ≡ true) =
-          or_cases (nat_eq n k.number && meet k.footprint.reads.items w) (reads_at w ks n) reads in
+      or_cases (nat_eq n k.number && meet k.footprint.reads.items w) (reads_at w ks n) reads in
       elim cases [
-        inl e ↦
-          let same : n ≡ k.number = eqb-true n k.number (and_so (nat_eq n k.number) (meet k.footprint.reads.items w) e).0 in
-          let lt : a < k.number = above.0 in
-          omega arith
-      | inr e ↦ reads_above a n ks above.1 e
+        | inl e ↦
+            let same : n ≡ k.number = eqb-true n k.number (and_so (nat_eq n k.number) (meet k.footprint.reads.items w) e).0 in
+            let lt : a < k.number = above.0 in
+            omega arith
+        | inr e ↦ reads_above a n ks above.1 e
       ]
 
   last_none : (ks : List (LiveOperation I)) → Ascend ks → ((n : ℕ) → reads_at w ks n ≡ false) → last_reader w ks ≡ None
@@ -107,14 +107,14 @@ module _ {I : Type 0} (w : List Area) where
       → last_reader w (k ∷ ks) ≡ Some last
   last_first k ks last ascend reads e later =
       let first : (nat_eq last k.number && meet k.footprint.reads.items w) ≡ true =
-          sym (or_false (nat_eq last k.number && meet k.footprint.reads.items w))
-          ∙ ap (λ b. (nat_eq last k.number && meet k.footprint.reads.items w) || b) (sym e) ∙ reads in
+      sym (or_false (nat_eq last k.number && meet k.footprint.reads.items w))
+      ∙ ap (λ b. (nat_eq last k.number && meet k.footprint.reads.items w) || b) (sym e) ∙ reads in
       let so = and_so (nat_eq last k.number) (meet k.footprint.reads.items w) first in
       let here : last ≡ k.number = eqb-true last k.number so.0 in
       let all = λ (n : ℕ). not_so (reads_at w ks n) (λ r.
-          let above : k.number < n = reads_above k.number n ks ascend.0 r in
-          let none : reads_at w ks n ≡ false = later n (omega arith) in
-          cc) in
+      let above : k.number < n = reads_above k.number n ks ascend.0 r in
+      let none : reads_at w ks n ≡ false = later n (omega arith) in
+      cc) in
       ap (λ o. option_or o (cond (meet k.footprint.reads.items w) (Some k.number) None)) (last_none ks ascend.1 all)
       ∙ ap (λ b. cond b (Some k.number) None) so.1 ∙ ap Some (sym here)
 
@@ -200,13 +200,13 @@ module _ {I : Type 0} (w : List Area) where
   pass_one ks first last next left mark rest l e le none m n has above entered =
       let cases : (has_mark left m ≡ true) ⊎ (reads_at w ks n ≡ false) = l.passed m n has (omega arith) entered in
       elim cases [
-        inr other ↦ inr other
-      | inl in_left ↦
-          let parts : (nat_eq m mark ≡ true) ⊎ (has_mark rest m ≡ true) = or_cases (nat_eq m mark) (has_mark rest m) (sym (ap (λ ms. has_mark ms m) e) ∙ in_left) in
-          elim parts [
-            inr in_rest ↦ inl in_rest
-          | inl same ↦ inr (none n above (sym (ap (λ x. is_entered ks x n) (eqb-true m mark same)) ∙ entered))
-          ]
+        | inr other ↦ inr other
+        | inl in_left ↦
+            let parts : (nat_eq m mark ≡ true) ⊎ (has_mark rest m ≡ true) = or_cases (nat_eq m mark) (has_mark rest m) (sym (ap (λ ms. has_mark ms m) e) ∙ in_left) in
+            elim parts [
+              | inr in_rest ↦ inl in_rest
+              | inl same ↦ inr (none n above (sym (ap (λ x. is_entered ks x n) (eqb-true m mark same)) ∙ entered))
+            ]
       ]
 
   -- a later one was found under the mark, the last one of it
@@ -229,8 +229,8 @@ module _ {I : Type 0} (w : List Area) where
       let f = found_by ks n reads in
       let cases : (has_mark left f.mark ≡ true) ⊎ (reads_at w ks n ≡ false) = l.passed f.mark n f.looked above f.entered in
       elim cases [
-        inl in_left ↦ let none : false ≡ true = sym (ap (λ ms. has_mark ms f.mark) e) ∙ in_left in cc
-      | inr other ↦ cc
+        | inl in_left ↦ let none : false ≡ true = sym (ap (λ ms. has_mark ms f.mark) e) ∙ in_left in cc
+        | inr other ↦ cc
       ])
 
   -- ---- looking under one mark
@@ -251,8 +251,8 @@ module _ {I : Type 0} (w : List Area) where
     none = λ n above entered.
         let order : (n ≤ up_to) ⊎ (up_to < n) = grind arith in
         elim order [
-          inl le ↦ let e : true ≡ false = sym entered ∙ sym (has n) ∙ none n above le in absurd (cc)
-        | inr beyond ↦ past.none n beyond entered
+          | inl le ↦ let e : true ≡ false = sym entered ∙ sym (has n) ∙ none n above le in absurd (cc)
+          | inr beyond ↦ past.none n beyond entered
         ];
   }
 
@@ -266,8 +266,8 @@ module _ {I : Type 0} (w : List Area) where
     none = λ n above entered.
         let order : (n ≡ last) ⊎ (last < n) = grind arith in
         elim order [
-          inl same ↦ ap (reads_at w ks) same ∙ here
-        | inr beyond ↦ past.none n beyond entered
+          | inl same ↦ ap (reads_at w ks) same ∙ here
+          | inr beyond ↦ past.none n beyond entered
         ];
   }
 

@@ -2,3 +2,4 @@ pub mod Tests
 pub mod ReadersLemmas
 pub mod LiveLemmas
 pub mod BlockerLemmas
+pub mod Public

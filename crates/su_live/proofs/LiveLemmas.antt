@@ -1,21 +1,21 @@
 -- Live operations in the order of their numbers: in a map, and with an index.
-use Rattle.std.proofs.Common.{◌≡◌, ℕ, ◌<◌, ◌≤◌, ◌^◌, Bool, true, false, not, cond, ◌&&◌, ◌||◌, ◌⊎◌, nat_eq, nat_lt, List, [], ◌∷◌, ◌++◌, map, Option, Some, None, refl, sym, ◌∙◌, ap, subst, inl, inr, arith}
-use Rattle.std.proofs.lemmas.Bool.{eq-eqb, ne_eqb, eqb-true, eqb-false, ltb-true, ltb-false, lt-ltb, le-ltb}
-use Rattle.std.specs.List.{AllByRecursion, list_any}
-use Rattle.std.specs.Map.{lookup, remove_entry, values_of}
+use Rattle.std.proofs.Common.{◌≡◌, ℕ, ◌<◌, ◌≤◌, ◌^◌, Bool, true, false, not, cond, ◌&&◌, ◌||◌, ◌⊎◌, nat_eq, nat_le, nat_lt, List, [], ◌∷◌, ◌++◌, length, ◌+◌, map, Option, Some, None, IsSome, refl, sym, ◌∙◌, ap, subst, inl, inr, arith}
+use Rattle.std.proofs.lemmas.Bool.{eq-eqb, ne_eqb, eqb-true, eqb-false, ltb-true, ltb-false, lt-ltb, le-ltb, leb-true, leb-false, le-leb, lt-leb}
+use Rattle.std.specs.List.{AllByRecursion, filter, list_any}
+use Rattle.std.specs.Map.{lookup, remove_entry, set_value, values_of}
 use Rattle.std.specs.BTreeMap.{BTreeMap, get_by, is_at, insert_entry, values}
 use Rattle.std.specs.BTreeSet.{BTreeSet}
 use Rattle.std.specs.declared.cmp.Ordering.{Ordering}
 use Rattle.std.specs.declared.cmp.Ordering.TheVariants.{Less, Equal, Greater}
-use Rattle.std.specs.Ordering.{is_eq, match_ordering, nat_cmp}
+use Rattle.std.specs.Ordering.{is_eq, is_le, match_ordering, nat_cmp}
 use Rattle.su_op.specs.declared.footprints.Footprint.{Footprint}
 use Rattle.su_live.specs.declared.operations.LiveOperation.{LiveOperation}
 use Rattle.su_live.specs.declared.readers.Reader.{Reader}
-use Rattle.su_live.specs.Readers.{has_reader, reader_cmp, reads_by, Enters, HasSame, IsMissing, Leaves}
-use Rattle.su_live.specs.Live.{find_live, without, insert_live, is_entered, entries_of, Ascend, AreSmall, IsIndexed}
+use Rattle.su_live.specs.Readers.{has_reader, reader_cmp, reads_by, Enters, HasSame, IsEnteredBy, IsMissing, Leaves, LeavesBut}
+use Rattle.su_live.specs.Live.{find_live, first_from, without, with_inverse, put_live, cut_live, join_live, insert_live, is_entered, entries_of, Ascend, AreSmall, IsIndexed}
 use Rattle.su_kept_areas.specs.Marks.{has_mark, read_marks}
 use Rattle.su_live.proofs.ReadersLemmas.{reads_by-true}
-use Rattle.su_live.proofs.Tests.{not_so, cond_same, or_cases, or_false, or_swap, or_regroup, nat_eq-flip, first_goes, later_goes, less, equal, greater, same_number}
+use Rattle.su_live.proofs.Tests.{not_so, from_test, put_beside, cond_same, or_cases, or_false, or_swap, or_regroup, nat_eq-flip, first_goes, later_goes, less, equal, greater, same_number}
 
 module _ {I : Type 0} where
   -- ---- in a map
@@ -188,7 +188,7 @@ module _ {I : Type 0} where
       by true f on =
           let here : j.number ≡ n = eqb-true j.number n f.is_first in
           let one : reads_by n k.footprint m q ≡ reads_by j.number j.footprint m q =
-              ap (λ (i : LiveOperation I). reads_by n i.footprint m q) (sym (f.same refl)) ∙ ap (λ i. reads_by i j.footprint m q) (sym here) in
+          ap (λ (i : LiveOperation I). reads_by n i.footprint m q) (sym (f.same refl)) ∙ ap (λ i. reads_by i j.footprint m q) (sym here) in
           first_goes (is_entered js m q) (reads_by j.number j.footprint m q)
           (λ e. ap (is_entered js m) (reads_by-true j.number j.footprint m q e) ∙ not_entered j.number js (none_above j.number js ascend.0) m)
           ∙ ap (λ r. is_entered (j ∷ js) m q && not r) (sym one)
@@ -230,30 +230,34 @@ module _ {I : Type 0} where
       → n.entries ≡ insert_entry nat_cmp m.entries k.number k → Enters k.number k.footprint s t → IsIndexed n t × (values n ≡ insert_live k ks)
   added_to k ks m n s t indexed e none fits inserted enters =
       let was : m.entries ≡ entries_of ks = indexed.keyed ∙ ap entries_of e in
-      let now = are_of n.entries (insert_live k ks) (inserted ∙ ap (λ es. insert_entry nat_cmp es k.number k) was ∙ insert-entries_of k ks none) in
-      (record {
-        keyed = now.keyed;
-        ascend = subst Ascend (sym now.values) (ascend-insert_live k ks none (ascend_in m s ks indexed e));
-        small = subst AreSmall (sym now.values) (all-insert_live (λ (j : LiveOperation I). j.number < 2 ^ 32) k ks fits (small_in m s ks indexed e));
-        entered = λ mark q.
-            enters mark q ∙ ap (λ b. b || reads_by k.number k.footprint mark q) (entered_in m s ks indexed e mark q)
-            ∙ sym (entered-insert_live k ks mark q) ∙ ap (λ js. is_entered js mark q) (sym now.values);
-      }, now.values)
+      let now = are_of n.entries (insert_live k ks) (inserted ∙ ap (λ es. insert_entry nat_cmp es k.number k) was ∙ insert-entries_of k ks none) in (
+        record {
+          keyed = now.keyed;
+          ascend = subst Ascend (sym now.values) (ascend-insert_live k ks none (ascend_in m s ks indexed e));
+          small = subst AreSmall (sym now.values) (all-insert_live (λ (j : LiveOperation I). j.number < 2 ^ 32) k ks fits (small_in m s ks indexed e));
+          entered = λ mark q.
+              enters mark q ∙ ap (λ b. b || reads_by k.number k.footprint mark q) (entered_in m s ks indexed e mark q)
+              ∙ sym (entered-insert_live k ks mark q) ∙ ap (λ js. is_entered js mark q) (sym now.values);
+        },
+        now.values,
+      )
 
   -- one less
   pub removed_from : (n : ℕ) (k : LiveOperation I) (ks : List (LiveOperation I)) (m o : BTreeMap ℕ (LiveOperation I)) (s t : BTreeSet Reader) → IsIndexed m s → values m ≡ ks → find_live n ks ≡ Some k
       → o.entries ≡ remove_entry (is_at (nat_cmp n)) m.entries → Leaves n k.footprint s t → IsIndexed o t × (values o ≡ without n ks)
   removed_from n k ks m o s t indexed e found removed leaves =
       let was : m.entries ≡ entries_of ks = indexed.keyed ∙ ap entries_of e in
-      let now = are_of o.entries (without n ks) (removed ∙ ap (remove_entry (is_at (nat_cmp n))) was ∙ remove-entries_of n ks) in
-      (record {
-        keyed = now.keyed;
-        ascend = subst Ascend (sym now.values) (ascend-without n ks (ascend_in m s ks indexed e));
-        small = subst AreSmall (sym now.values) (all-without (λ (j : LiveOperation I). j.number < 2 ^ 32) n ks (small_in m s ks indexed e));
-        entered = λ mark q.
-            leaves mark q ∙ ap (λ b. b && not (reads_by n k.footprint mark q)) (entered_in m s ks indexed e mark q)
-            ∙ sym (entered-without n k ks (ascend_in m s ks indexed e) found mark q) ∙ ap (λ js. is_entered js mark q) (sym now.values);
-      }, now.values)
+      let now = are_of o.entries (without n ks) (removed ∙ ap (remove_entry (is_at (nat_cmp n))) was ∙ remove-entries_of n ks) in (
+        record {
+          keyed = now.keyed;
+          ascend = subst Ascend (sym now.values) (ascend-without n ks (ascend_in m s ks indexed e));
+          small = subst AreSmall (sym now.values) (all-without (λ (j : LiveOperation I). j.number < 2 ^ 32) n ks (small_in m s ks indexed e));
+          entered = λ mark q.
+              leaves mark q ∙ ap (λ b. b && not (reads_by n k.footprint mark q)) (entered_in m s ks indexed e mark q)
+              ∙ sym (entered-without n k ks (ascend_in m s ks indexed e) found mark q) ∙ ap (λ js. is_entered js mark q) (sym now.values);
+        },
+        now.values,
+      )
 
   -- the same operations, and an index that has the same
   pub kept_as : (m n : BTreeMap ℕ (LiveOperation I)) (s t : BTreeSet Reader) → IsIndexed m s → n.entries ≡ m.entries → HasSame s t → IsIndexed n t
@@ -283,8 +287,293 @@ module _ {I : Type 0} where
   entered_small [] small m n entered = absurd (cc)
   entered_small (k ∷ ks) small m n entered =
       let cases : (reads_by k.number k.footprint m n ≡ true) ⊎ (is_entered ks m n ≡ true) =
-          or_cases (reads_by k.number k.footprint m n) (is_entered ks m n) entered in
+      or_cases (reads_by k.number k.footprint m n) (is_entered ks m n) entered in
       elim cases [
-        inl e ↦ subst (λ x. x < 2 ^ 32) (sym (reads_by-true k.number k.footprint m n e)) small.0
-      | inr e ↦ entered_small ks small.1 m n e
+        | inl e ↦ subst (λ x. x < 2 ^ 32) (sym (reads_by-true k.number k.footprint m n e)) small.0
+        | inr e ↦ entered_small ks small.1 m n e
       ]
+
+  -- ---- another inverse
+
+  set_step : (n : ℕ) (i : I) (k j : LiveOperation I) (js : List (LiveOperation I)) (b : Bool) → IsFirstOrLater n k j js b
+      → (find_live n js ≡ Some k → set_value (is_at (nat_cmp n)) (entries_of js) (record k { inverse = i }) ≡ entries_of (with_inverse n i js))
+      → cond b ((j.number, record k { inverse = i }) ∷ entries_of js) ((j.number, j) ∷ set_value (is_at (nat_cmp n)) (entries_of js) (record k { inverse = i }))
+      ≡ entries_of (cond b (record j { inverse = i } ∷ js) (j ∷ with_inverse n i js))
+  set_step n i k j js true f on = ap (λ (x : LiveOperation I). (j.number, record x { inverse = i }) ∷ entries_of js) (sym (f.same refl))
+  set_step n i k j js false f on = ap (λ es. (j.number, j) ∷ es) (on (f.later refl))
+
+  pub set-entries_of : (n : ℕ) (i : I) (k : LiveOperation I) (ks : List (LiveOperation I)) → find_live n ks ≡ Some k → set_value (is_at (nat_cmp n)) (entries_of ks) (record k { inverse = i }) ≡ entries_of (with_inverse n i ks)
+  set-entries_of n i k [] found = refl
+  set-entries_of n i k (j ∷ js) found =
+      ap (λ b. cond b ((j.number, record k { inverse = i }) ∷ entries_of js) ((j.number, j) ∷ set_value (is_at (nat_cmp n)) (entries_of js) (record k { inverse = i }))) (same_number n j.number)
+      ∙ set_step n i k j js (nat_eq j.number n) (first_or_later n k j js found) (set-entries_of n i k js)
+
+  -- what is so of operations but for their inverses
+  all-with_inverse : (P : LiveOperation I → Type 0) (n : ℕ) (i : I) → ((k : LiveOperation I) → P k → P (record k { inverse = i })) → (ks : List (LiveOperation I)) → AllByRecursion P ks → AllByRecursion P (with_inverse n i ks)
+  all-with_inverse P n i keeps [] all = tt
+  all-with_inverse P n i keeps (k ∷ ks) all =
+      cond-all P (nat_eq k.number n) (record k { inverse = i } ∷ ks) (k ∷ with_inverse n i ks) (keeps k all.0, all.1) (all.0, all-with_inverse P n i keeps ks all.1)
+
+  ascend-with_inverse : (n : ℕ) (i : I) (ks : List (LiveOperation I)) → Ascend ks → Ascend (with_inverse n i ks)
+  ascend-with_inverse n i [] ascend = tt
+  ascend-with_inverse n i (k ∷ ks) ascend =
+      cond-ascend (nat_eq k.number n) (record k { inverse = i } ∷ ks) (k ∷ with_inverse n i ks) (λ _. ascend)
+      (λ _. (all-with_inverse (λ (j : LiveOperation I). k.number < j.number) n i (λ j lt. lt) ks ascend.0, ascend-with_inverse n i ks ascend.1))
+
+  entered-with_inverse : (n : ℕ) (i : I) (ks : List (LiveOperation I)) (m q : ℕ) → is_entered (with_inverse n i ks) m q ≡ is_entered ks m q
+  entered-with_inverse n i [] m q = refl
+  entered-with_inverse n i (k ∷ ks) m q =
+      cond-entered (nat_eq k.number n) (record k { inverse = i } ∷ ks) (k ∷ with_inverse n i ks) m q
+      ∙ cond_same (nat_eq k.number n) (is_entered (k ∷ ks) m q) (reads_by k.number k.footprint m q || is_entered (with_inverse n i ks) m q) (is_entered (k ∷ ks) m q)
+      refl (ap (λ b. reads_by k.number k.footprint m q || b) (entered-with_inverse n i ks m q))
+
+  pub inverse_put : (n : ℕ) (i : I) (k : LiveOperation I) (ks : List (LiveOperation I)) (m o : BTreeMap ℕ (LiveOperation I)) (s : BTreeSet Reader) → IsIndexed m s → values m ≡ ks → find_live n ks ≡ Some k
+      → o.entries ≡ set_value (is_at (nat_cmp n)) m.entries (record k { inverse = i }) → IsIndexed o s × (values o ≡ with_inverse n i ks)
+  inverse_put n i k ks m o s indexed e found put =
+      let was : m.entries ≡ entries_of ks = indexed.keyed ∙ ap entries_of e in
+      let now = are_of o.entries (with_inverse n i ks) (put ∙ ap (λ es. set_value (is_at (nat_cmp n)) es (record k { inverse = i })) was ∙ set-entries_of n i k ks found) in (
+        record {
+          keyed = now.keyed;
+          ascend = subst Ascend (sym now.values) (ascend-with_inverse n i ks (ascend_in m s ks indexed e));
+          small = subst AreSmall (sym now.values) (all-with_inverse (λ (j : LiveOperation I). j.number < 2 ^ 32) n i (λ j lt. lt) ks (small_in m s ks indexed e));
+          entered = λ mark q.
+              entered_in m s ks indexed e mark q ∙ sym (entered-with_inverse n i ks mark q) ∙ ap (λ js. is_entered js mark q) (sym now.values);
+        },
+        now.values,
+      )
+
+  pub no_inverse_put : (n : ℕ) (i : I) (ks : List (LiveOperation I)) → find_live n ks ≡ None → with_inverse n i ks ≡ ks
+  no_inverse_put n i [] none = refl
+  no_inverse_put n i (k ∷ ks) none =
+      let parts = not_first n k ks none in
+      ap (λ b. cond b (record k { inverse = i } ∷ ks) (k ∷ with_inverse n i ks)) parts.0 ∙ ap (λ js. k ∷ js) (no_inverse_put n i ks parts.1)
+
+  -- ---- the first from a number on
+
+  -- the first operation of entries
+  abbrev pub first_of : List (ℕ × LiveOperation I) → Option (LiveOperation I)
+  first_of [] = None
+  first_of (e ∷ es) = Some e.1
+
+  pub filter_first : (n : ℕ) (ks : List (LiveOperation I)) (p : ℕ → Bool) → ((q : ℕ) → p q ≡ nat_le n q) → first_of (filter (λ (e : ℕ × LiveOperation I). p e.0) (entries_of ks)) ≡ first_from n ks
+  filter_first n [] p test = refl
+  filter_first n (k ∷ ks) p test = by (p k.number) refl (filter_first n ks p test)
+    where
+      by : (b : Bool) → p k.number ≡ b → first_of (filter (λ (e : ℕ × LiveOperation I). p e.0) (entries_of ks)) ≡ first_from n ks
+          → first_of (cond b ((k.number, k) ∷ filter (λ (e : ℕ × LiveOperation I). p e.0) (entries_of ks)) (filter (λ (e : ℕ × LiveOperation I). p e.0) (entries_of ks))) ≡ first_from n (k ∷ ks)
+      by true e on = ap (λ b. cond b (Some k) (first_from n ks)) (sym e ∙ test k.number)
+      by false e on = on ∙ ap (λ b. cond b (Some k) (first_from n ks)) (sym e ∙ test k.number)
+
+  -- ---- an operation in the place of another
+
+  none_from : (n : ℕ) (j : LiveOperation I) (js : List (LiveOperation I)) → n < j.number → Ascend (j ∷ js) → find_live n (j ∷ js) ≡ None
+  none_from n j js lt ascend = none_above n (j ∷ js) (lt, all_above n j.number js lt ascend.0)
+
+  put_step : (k f j : LiveOperation I) (js : List (LiveOperation I)) (o : Ordering) → nat_cmp k.number j.number ≡ o → Ascend (j ∷ js) → find_live k.number (j ∷ js) ≡ Some f
+      → (find_live k.number js ≡ Some f → insert_entry nat_cmp (entries_of js) k.number k ≡ entries_of (put_live k js))
+      → match_ordering o ((k.number, k) ∷ (j.number, j) ∷ entries_of js) ((j.number, k) ∷ entries_of js) ((j.number, j) ∷ insert_entry nat_cmp (entries_of js) k.number k)
+      ≡ entries_of (cond (nat_eq j.number k.number) (k ∷ js) (j ∷ put_live k js))
+  put_step k f j js Less e ascend found on =
+      let none : find_live k.number (j ∷ js) ≡ None = none_from k.number j js (less k.number j.number e) ascend in
+      absurd (let never : Some f ≡ None = sym found ∙ none in cc)
+  put_step k f j js Equal e ascend found on =
+      let same : j.number ≡ k.number = sym (equal k.number j.number e) in
+      ap (λ n. (n, k) ∷ entries_of js) same ∙ ap (λ b. entries_of (cond b (k ∷ js) (j ∷ put_live k js))) (sym (eq-eqb j.number k.number same))
+  put_step k f j js Greater e ascend found on =
+      let lt : j.number < k.number = greater k.number j.number e in
+      let other : nat_eq j.number k.number ≡ false = ne_eqb j.number k.number (λ same. omega arith) in
+      let later : find_live k.number js ≡ Some f = sym (ap (λ b. cond b (Some j) (find_live k.number js)) other) ∙ found in
+      ap (λ es. (j.number, j) ∷ es) (on later) ∙ ap (λ b. entries_of (cond b (k ∷ js) (j ∷ put_live k js))) (sym other)
+
+  pub put-entries_of : (k f : LiveOperation I) (ks : List (LiveOperation I)) → Ascend ks → find_live k.number ks ≡ Some f → insert_entry nat_cmp (entries_of ks) k.number k ≡ entries_of (put_live k ks)
+  put-entries_of k f [] ascend found = absurd (cc)
+  put-entries_of k f (j ∷ js) ascend found = put_step k f j js (nat_cmp k.number j.number) refl ascend found (put-entries_of k f js ascend.1)
+
+  all-put_live : (P : LiveOperation I → Type 0) (k : LiveOperation I) (ks : List (LiveOperation I)) → P k → AllByRecursion P ks → AllByRecursion P (put_live k ks)
+  all-put_live P k [] one all = tt
+  all-put_live P k (j ∷ js) one all =
+      cond-all P (nat_eq j.number k.number) (k ∷ js) (j ∷ put_live k js) (one, all.1) (all.0, all-put_live P k js one all.1)
+
+  put_ascends : (k f j : LiveOperation I) (js : List (LiveOperation I)) (b : Bool) → IsFirstOrLater k.number f j js b → Ascend (j ∷ js) → (find_live k.number js ≡ Some f → Ascend (put_live k js))
+      → Ascend (cond b (k ∷ js) (j ∷ put_live k js))
+  put_ascends k f j js true first ascend on =
+      let same : j.number ≡ k.number = eqb-true j.number k.number first.is_first in
+      (subst (λ n. AllByRecursion (λ (i : LiveOperation I). n < i.number) js) same ascend.0, ascend.1)
+  put_ascends k f j js false first ascend on =
+      let found = first.later refl in
+      let lt : j.number < f.number = found_all (λ (i : LiveOperation I). j.number < i.number) k.number f js found ascend.0 in
+      let same : f.number ≡ k.number = found_number k.number f js found in
+      (all-put_live (λ (i : LiveOperation I). j.number < i.number) k js (omega arith) ascend.0, on found)
+
+  pub ascend-put_live : (k f : LiveOperation I) (ks : List (LiveOperation I)) → Ascend ks → find_live k.number ks ≡ Some f → Ascend (put_live k ks)
+  ascend-put_live k f [] ascend found = absurd (cc)
+  ascend-put_live k f (j ∷ js) ascend found =
+      put_ascends k f j js (nat_eq j.number k.number) (first_or_later k.number f j js found) ascend (ascend-put_live k f js ascend.1)
+
+  found_marks : (n : ℕ) (f j : LiveOperation I) (js : List (LiveOperation I)) (b : Bool) → IsFirstOrLater n f j js b → Ascend (j ∷ js) → (m : ℕ)
+      → (find_live n js ≡ Some f → is_entered js m n ≡ has_mark (read_marks f.footprint.reads.items) m) → is_entered (j ∷ js) m n ≡ has_mark (read_marks f.footprint.reads.items) m
+  found_marks n f j js true first ascend m on =
+      let same : j.number ≡ n = eqb-true j.number n first.is_first in
+      ap (λ b. (b && has_mark (read_marks j.footprint.reads.items) m) || is_entered js m n) (eq-eqb n j.number (sym same))
+      ∙ ap (λ b. has_mark (read_marks j.footprint.reads.items) m || b) (ap (is_entered js m) (sym same) ∙ not_entered j.number js (none_above j.number js ascend.0) m)
+      ∙ or_false (has_mark (read_marks j.footprint.reads.items) m)
+      ∙ ap (λ (i : LiveOperation I). has_mark (read_marks i.footprint.reads.items) m) (first.same refl)
+  found_marks n f j js false first ascend m on =
+      ap (λ b. (b && has_mark (read_marks j.footprint.reads.items) m) || is_entered js m n) (nat_eq-flip n j.number ∙ first.is_first) ∙ on (first.later refl)
+
+  pub entered-found : (n : ℕ) (f : LiveOperation I) (ks : List (LiveOperation I)) → Ascend ks → find_live n ks ≡ Some f → (m : ℕ) → is_entered ks m n ≡ has_mark (read_marks f.footprint.reads.items) m
+  entered-found n f [] ascend found m = absurd (cc)
+  entered-found n f (j ∷ js) ascend found m = found_marks n f j js (nat_eq j.number n) (first_or_later n f j js found) ascend m (λ later. entered-found n f js ascend.1 later m)
+
+  put_entered : (k f j : LiveOperation I) (js : List (LiveOperation I)) (b : Bool) → IsFirstOrLater k.number f j js b → Ascend (j ∷ js) → (m q : ℕ)
+      → (find_live k.number js ≡ Some f → is_entered (put_live k js) m q ≡ ((is_entered js m q && not (reads_by k.number f.footprint m q)) || reads_by k.number k.footprint m q))
+      → is_entered (cond b (k ∷ js) (j ∷ put_live k js)) m q ≡ ((is_entered (j ∷ js) m q && not (reads_by k.number f.footprint m q)) || reads_by k.number k.footprint m q)
+  put_entered k f j js true first ascend m q on =
+      let here : j.number ≡ k.number = eqb-true j.number k.number first.is_first in
+      let one : reads_by k.number f.footprint m q ≡ reads_by j.number j.footprint m q =
+      ap (λ (i : LiveOperation I). reads_by k.number i.footprint m q) (sym (first.same refl)) ∙ ap (λ i. reads_by i j.footprint m q) (sym here) in
+      or_swap (reads_by k.number k.footprint m q) (is_entered js m q)
+      ∙ ap (λ b. b || reads_by k.number k.footprint m q)
+      (first_goes (is_entered js m q) (reads_by j.number j.footprint m q)
+      (λ e. ap (is_entered js m) (reads_by-true j.number j.footprint m q e) ∙ not_entered j.number js (none_above j.number js ascend.0) m)
+      ∙ ap (λ r. is_entered (j ∷ js) m q && not r) (sym one))
+  put_entered k f j js false first ascend m q on =
+      let a = reads_by j.number j.footprint m q in
+      let gone = reads_by k.number f.footprint m q in
+      ap (λ b. a || b) (on (first.later refl))
+      ∙ or_regroup a (is_entered js m q && not gone) (reads_by k.number k.footprint m q)
+      ∙ ap (λ b. b || reads_by k.number k.footprint m q)
+      (later_goes a (is_entered js m q) gone
+      (λ e. not_so gone (λ r.
+      eqb-false j.number k.number first.is_first (sym (reads_by-true j.number j.footprint m q e) ∙ reads_by-true k.number f.footprint m q r))))
+
+  pub entered-put_live : (k f : LiveOperation I) (ks : List (LiveOperation I)) → Ascend ks → find_live k.number ks ≡ Some f → (m q : ℕ)
+      → is_entered (put_live k ks) m q ≡ ((is_entered ks m q && not (reads_by k.number f.footprint m q)) || reads_by k.number k.footprint m q)
+  entered-put_live k f [] ascend found m q = absurd (cc)
+  entered-put_live k f (j ∷ js) ascend found m q =
+      put_entered k f j js (nat_eq j.number k.number) (first_or_later k.number f j js found) ascend m q (λ later. entered-put_live k f js ascend.1 later m q)
+
+  pub entered_by : (n : ℕ) (f : LiveOperation I) (m : BTreeMap ℕ (LiveOperation I)) (s : BTreeSet Reader) (ks : List (LiveOperation I)) → IsIndexed m s → values m ≡ ks → find_live n ks ≡ Some f → IsEnteredBy n f.footprint s
+  entered_by n f m s ks indexed e found mark =
+      entered_in m s ks indexed e mark n ∙ entered-found n f ks (ascend_in m s ks indexed e) found mark
+
+  pub put_in_place : (k f : LiveOperation I) (ks : List (LiveOperation I)) (m o : BTreeMap ℕ (LiveOperation I)) (s t u : BTreeSet Reader) → IsIndexed m s → values m ≡ ks → find_live k.number ks ≡ Some f
+      → o.entries ≡ insert_entry nat_cmp m.entries k.number k → Enters k.number k.footprint s t → LeavesBut k.number f.footprint k.footprint t u → IsIndexed o u × (values o ≡ put_live k ks)
+  put_in_place k f ks m o s t u indexed e found inserted enters leaves =
+      let was : m.entries ≡ entries_of ks = indexed.keyed ∙ ap entries_of e in
+      let ascends = ascend_in m s ks indexed e in
+      let smalls = small_in m s ks indexed e in
+      let now = are_of o.entries (put_live k ks) (inserted ∙ ap (λ es. insert_entry nat_cmp es k.number k) was ∙ put-entries_of k f ks ascends found) in (
+        record {
+          keyed = now.keyed;
+          ascend = subst Ascend (sym now.values) (ascend-put_live k f ks ascends found);
+          small = subst AreSmall (sym now.values) (all-put_live (λ (j : LiveOperation I). j.number < 2 ^ 32) k ks (found_small k.number f ks found smalls) smalls);
+          entered = λ mark q.
+              let a = has_mark (read_marks f.footprint.reads.items) mark in
+              let b = has_mark (read_marks k.footprint.reads.items) mark in
+              leaves mark q ∙ ap (λ x. x && not (nat_eq q k.number && (a && not b))) (enters mark q)
+              ∙ put_beside (has_reader s mark q) (nat_eq q k.number) a b
+              ∙ ap (λ x. (x && not (reads_by k.number f.footprint mark q)) || reads_by k.number k.footprint mark q) (entered_in m s ks indexed e mark q)
+              ∙ sym (entered-put_live k f ks ascends found mark q) ∙ ap (λ js. is_entered js mark q) (sym now.values);
+        },
+        now.values,
+      )
+
+  -- ---- without those from a number on
+
+  pub none_cut : (n : ℕ) (ks : List (LiveOperation I)) → first_from n ks ≡ None → cut_live n ks ≡ ks
+  none_cut n [] none = refl
+  none_cut n (k ∷ ks) none = by (nat_le n k.number) none (none_cut n ks)
+    where
+      by : (b : Bool) → cond b (Some k) (first_from n ks) ≡ None → (first_from n ks ≡ None → cut_live n ks ≡ ks) → cond b [] (k ∷ cut_live n ks) ≡ k ∷ ks
+      by true e on = absurd (cc)
+      by false e on = ap (λ js. k ∷ js) (on e)
+
+  cut_all : (n : ℕ) (ks : List (LiveOperation I)) → AllByRecursion (λ (j : LiveOperation I). n ≤ j.number) ks → cut_live n ks ≡ []
+  cut_all n [] all = refl
+  cut_all n (k ∷ ks) all = ap (λ b. cond b [] (k ∷ cut_live n ks)) (le-leb n k.number all.0)
+
+  all_from : (a b : ℕ) (ks : List (LiveOperation I)) → a ≤ b → AllByRecursion (λ (j : LiveOperation I). b < j.number) ks → AllByRecursion (λ (j : LiveOperation I). a ≤ j.number) ks
+  all_from a b [] le all = tt
+  all_from a b (k ∷ ks) le all = let next : b < k.number = all.0 in (omega arith, all_from a b ks le all.1)
+
+  -- the first from n on may go
+  pub record GoesFirst (n : ℕ) (k : LiveOperation I) (ks : List (LiveOperation I)) : Type 0 where
+    pub from : n ≤ k.number
+    pub same : cut_live n (without k.number ks) ≡ cut_live n ks
+    pub fewer : length (without k.number ks) < length ks
+
+  pub first_goes_first : (n : ℕ) (k : LiveOperation I) (ks : List (LiveOperation I)) → Ascend ks → first_from n ks ≡ Some k → GoesFirst n k ks
+  first_goes_first n k [] ascend found = absurd (cc)
+  first_goes_first n k (j ∷ js) ascend found = by (nat_le n j.number) refl found (first_goes_first n k js ascend.1)
+    where
+      by : (b : Bool) → nat_le n j.number ≡ b → cond b (Some j) (first_from n js) ≡ Some k → (first_from n js ≡ Some k → GoesFirst n k js) → GoesFirst n k (j ∷ js)
+      by true e is on =
+          let le : n ≤ j.number = leb-true n j.number e in
+          let same : j ≡ k = cc in
+          let gone : without k.number (j ∷ js) ≡ js = ap (λ (i : LiveOperation I). without i.number (j ∷ js)) (sym same) ∙ ap (λ b. cond b js (j ∷ without j.number js)) (eq-eqb j.number j.number refl) in
+          record {
+            from = subst (λ (i : LiveOperation I). n ≤ i.number) same le;
+            same = ap (cut_live n) gone ∙ cut_all n js (all_from n j.number js le ascend.0) ∙ ap (λ b. cond b [] (j ∷ cut_live n js)) (sym e);
+            fewer = let l : length (without k.number (j ∷ js)) ≡ length js = ap length gone in omega arith;
+          }
+      by false e is on =
+          let rest = on is in
+          let lt : j.number < n = leb-false n j.number e in
+          let le : n ≤ k.number = rest.from in
+          let other : nat_eq j.number k.number ≡ false = ne_eqb j.number k.number (λ same. omega arith) in
+          let kept : without k.number (j ∷ js) ≡ j ∷ without k.number js = ap (λ b. cond b js (j ∷ without k.number js)) other in
+          let fewer : length (without k.number js) < length js = rest.fewer in
+          record {
+            from = le;
+            same = ap (cut_live n) kept ∙ ap (λ b. cond b [] (j ∷ cut_live n (without k.number js))) e
+                ∙ ap (λ is. j ∷ is) rest.same ∙ ap (λ b. cond b [] (j ∷ cut_live n js)) (sym e);
+            fewer = let l : length (without k.number (j ∷ js)) ≡ length (j ∷ without k.number js) = ap length kept in omega arith;
+          }
+
+  join_step : (k f j : LiveOperation I) (js : List (LiveOperation I)) (b : Bool) → IsFirstOrLater k.number f j js b → Ascend (j ∷ js) → (find_live k.number js ≡ Some f → cut_live (k.number + 1) (put_live k js) ≡ join_live k js)
+      → cut_live (k.number + 1) (cond b (k ∷ js) (j ∷ put_live k js)) ≡ cond b (k ∷ []) (j ∷ join_live k js)
+  join_step k f j js true first ascend on =
+      let same : j.number ≡ k.number = eqb-true j.number k.number first.is_first in
+      ap (λ b. cond b [] (k ∷ cut_live (k.number + 1) js)) (lt-leb (k.number + 1) k.number (omega arith))
+      ∙ ap (λ is. k ∷ is) (cut_all (k.number + 1) js (next_on js (subst (λ n. AllByRecursion (λ (i : LiveOperation I). n < i.number) js) same ascend.0)))
+    where
+      next_on : (is : List (LiveOperation I)) → AllByRecursion (λ (i : LiveOperation I). k.number < i.number) is → AllByRecursion (λ (i : LiveOperation I). k.number + 1 ≤ i.number) is
+      next_on [] all = tt
+      next_on (i ∷ is) all = let lt : k.number < i.number = all.0 in (omega arith, next_on is all.1)
+  join_step k f j js false first ascend on =
+      let found = first.later refl in
+      let lt : j.number < f.number = found_all (λ (i : LiveOperation I). j.number < i.number) k.number f js found ascend.0 in
+      let same : f.number ≡ k.number = found_number k.number f js found in
+      ap (λ b. cond b [] (j ∷ cut_live (k.number + 1) (put_live k js))) (lt-leb (k.number + 1) j.number (omega arith)) ∙ ap (λ is. j ∷ is) (on found)
+
+  pub cut-put_live : (k f : LiveOperation I) (ks : List (LiveOperation I)) → Ascend ks → find_live k.number ks ≡ Some f → cut_live (k.number + 1) (put_live k ks) ≡ join_live k ks
+  cut-put_live k f [] ascend found = absurd (cc)
+  cut-put_live k f (j ∷ js) ascend found = join_step k f j js (nat_eq j.number k.number) (first_or_later k.number f j js found) ascend (cut-put_live k f js ascend.1)
+
+  -- ---- what is there
+
+  pub record IsThere (n : ℕ) (ks : List (LiveOperation I)) : Type 0 where
+    pub operation : LiveOperation I
+    pub found : find_live n ks ≡ Some operation
+
+  there_as : (n : ℕ) (ks : List (LiveOperation I)) (o : Option (LiveOperation I)) → find_live n ks ≡ o → IsSome o → IsThere n ks
+  there_as n ks (Some k) e some = record { operation = k; found = e }
+  there_as n ks None e some = absurd (cc)
+
+  pub is_there : (n : ℕ) (ks : List (LiveOperation I)) → IsSome (find_live n ks) → IsThere n ks
+  is_there n ks some = there_as n ks (find_live n ks) refl some
+
+  -- it isn't missing
+  pub not_missing : (n : ℕ) (ks : List (LiveOperation I)) → IsSome (find_live n ks) → find_live n ks ≡ None → ⊥
+  not_missing n ks some none = let there = is_there n ks some in let never : Some there.operation ≡ None = sym there.found ∙ none in cc
+
+  pub joined : (k : LiveOperation I) (ks : List (LiveOperation I)) → Ascend ks → IsSome (find_live k.number ks) → cut_live (k.number + 1) (put_live k ks) ≡ join_live k ks
+  joined k ks ascend some = let there = is_there k.number ks some in cut-put_live k there.operation ks ascend there.found
+
+  -- the first from a number on, as a map has it
+  pub from_range : (n : ℕ) (m : BTreeMap ℕ (LiveOperation I)) (s : BTreeSet Reader) (ks : List (LiveOperation I)) (r : List (ℕ × LiveOperation I)) → IsIndexed m s → values m ≡ ks
+      → r ≡ filter (λ (e : ℕ × LiveOperation I). is_le (nat_cmp n e.0) && true) m.entries → first_of r ≡ first_from n ks
+  from_range n m s ks r indexed e between =
+      ap first_of (between ∙ ap (filter (λ (e : ℕ × LiveOperation I). is_le (nat_cmp n e.0) && true)) (indexed.keyed ∙ ap entries_of e))
+      ∙ filter_first n ks (λ q. is_le (nat_cmp n q) && true) (from_test n)

@@ -7,8 +7,8 @@ use Rattle.std.specs.BTreeSet.{BTreeSet, contains}
 use Rattle.su_op.specs.declared.footprints.Footprint.{Footprint}
 use Rattle.su_kept_areas.specs.Marks.{has_mark, read_marks}
 use Rattle.su_live.specs.declared.readers.Reader.{Reader}
-use Rattle.su_live.specs.Readers.{reader_cmp, has_reader, reads_by, Enters, HasSame, IsMissing, Leaves}
-use Rattle.su_live.proofs.Tests.{not_so, came_goes, nat_eq-flip, goes, comes, gone_again, stays, stays_or, has_mark-more, same_number, not_above, not_below, at_most, same_pair}
+use Rattle.su_live.specs.Readers.{reader_cmp, has_reader, reads_by, Enters, HasSame, IsEnteredBy, IsMissing, Leaves, LeavesBut}
+use Rattle.su_live.proofs.Tests.{not_so, came_goes, mark_stays, mark_goes, stays_but, gone_but, nat_eq-flip, goes, comes, gone_again, stays, stays_or, has_mark-more, same_number, not_above, not_below, at_most, same_pair}
 
 -- ---- the order of readers
 
@@ -27,7 +27,7 @@ pub none_later : (s : BTreeSet Reader) (m n : ℕ) (last : Reader) → ((r : Rea
 none_later s m n last greatest same q above within =
     not_so (has_reader s m q) (λ has.
     let cases : (m < last.mark) ⊎ ((last.mark ≡ m) × (q ≤ last.number)) =
-        not_below last.mark m last.number q (nat_cmp last.mark m) (nat_cmp last.number q) refl refl (greatest (at m q) (up_to m n q within) has) in
+    not_below last.mark m last.number q (nat_cmp last.mark m) (nat_cmp last.number q) refl refl (greatest (at m q) (up_to m n q within) has) in
     elim cases [ inl lt ↦ omega arith | inr e ↦ omega arith ])
 
 -- what is none of a mark
@@ -36,12 +36,12 @@ pub none_of_mark : (s : BTreeSet Reader) (m n : ℕ) (last : Reader) → ((r : R
 none_of_mark s m n last greatest below other q within =
     not_so (has_reader s m q) (λ has.
     let cases : (m < last.mark) ⊎ ((last.mark ≡ m) × (q ≤ last.number)) =
-        not_below last.mark m last.number q (nat_cmp last.mark m) (nat_cmp last.number q) refl refl (greatest (at m q) (up_to m n q within) has) in
+    not_below last.mark m last.number q (nat_cmp last.mark m) (nat_cmp last.number q) refl refl (greatest (at m q) (up_to m n q within) has) in
     let bounds : (last.mark < m) ⊎ ((last.mark ≡ m) × (last.number ≤ n)) =
-        not_above last.mark m last.number n (nat_cmp last.mark m) (nat_cmp last.number n) refl refl below in
+    not_above last.mark m last.number n (nat_cmp last.mark m) (nat_cmp last.number n) refl refl below in
     elim cases [
-      inl lt ↦ elim bounds [ inl less ↦ omega arith | inr e ↦ other e.0 ]
-    | inr e ↦ other e.0
+      | inl lt ↦ elim bounds [ inl less ↦ omega arith | inr e ↦ other e.0 ]
+      | inr e ↦ other e.0
     ])
 
 -- ---- marks that go
@@ -111,7 +111,7 @@ all_came k f s t left w e m n =
 pub came_and_went : (k : ℕ) (f : Footprint) (s t t' u : BTreeSet Reader) (left : List ℕ) → IsMissing k s → CameTo k (read_marks f.reads.items) s t left → HasSame t t' → Leaves k f t' u → HasSame s u
 came_and_went k f s t t' u left missing w same leaves m n =
     let all : has_mark (read_marks f.reads.items) m ≡ (has_mark w.done m || has_mark left m) =
-        ap (λ ms. has_mark ms m) w.whole ∙ list_any-append (nat_eq m) w.done left in
+    ap (λ ms. has_mark ms m) w.whole ∙ list_any-append (nat_eq m) w.done left in
     leaves m n
     ∙ ap (λ b. b && not (reads_by k f m n)) (same m n ∙ w.came m n)
     ∙ ap (λ b. (has_reader s m n || (nat_eq n k && has_mark w.done m)) && not (nat_eq n k && b)) all
@@ -130,3 +130,77 @@ pub entered_and_left : (k : ℕ) (f : Footprint) (s t u : BTreeSet Reader) → I
 entered_and_left k f s t u missing enters leaves m n =
     leaves m n ∙ ap (λ b. b && not (reads_by k f m n)) (enters m n)
     ∙ came_goes (has_reader s m n) (reads_by k f m n) (λ e. ap (has_reader s m) (reads_by-true k f m n e) ∙ missing m)
+
+-- ---- marks of an operation that takes the place of another
+
+pub record WentBut (k : ℕ) (all : List ℕ) (other : Footprint) (s t : BTreeSet Reader) (rest : List ℕ) : Type 0 where
+  pub done : List ℕ
+  pub whole : all ≡ done ++ rest
+  pub went : (m n : ℕ) → has_reader t m n ≡ (has_reader s m n && not (nat_eq n k && (has_mark done m && not (has_mark (read_marks other.reads.items) m))))
+
+pub none_went_but : (k : ℕ) (all : List ℕ) (other : Footprint) (s : BTreeSet Reader) → WentBut k all other s s all
+none_went_but k all other s = record {
+  done = [];
+  whole = refl;
+  went = λ m n. stays_but (has_reader s m n) (nat_eq n k) (has_mark (read_marks other.reads.items) m);
+}
+
+mark_is : (ms : List ℕ) (q m : ℕ) (b : Bool) → has_mark ms m ≡ b → nat_eq q m ≡ true → has_mark ms q ≡ b
+mark_is ms q m b has same = ap (has_mark ms) (eqb-true q m same) ∙ has
+
+pub one_kept : (k : ℕ) (all : List ℕ) (other : Footprint) (s t : BTreeSet Reader) (left : List ℕ) (m : ℕ) (rest : List ℕ) → WentBut k all other s t left → left ≡ m ∷ rest
+    → has_mark (read_marks other.reads.items) m ≡ true → WentBut k all other s t rest
+one_kept k all other s t left m rest w e has = record {
+  done = w.done ++ m ∷ [];
+  whole = one_more all w.done m rest (w.whole ∙ ap (λ ms. w.done ++ ms) e);
+  went = λ q n.
+      let b = has_mark (read_marks other.reads.items) q in
+      w.went q n ∙ mark_stays (has_reader s q n) (nat_eq n k) (has_mark w.done q) (nat_eq q m) b (mark_is (read_marks other.reads.items) q m true has)
+      ∙ ap (λ d. has_reader s q n && not (nat_eq n k && (d && not b))) (sym (has_mark-more w.done m q));
+}
+
+pub one_went_but : (k : ℕ) (all : List ℕ) (other : Footprint) (s t u : BTreeSet Reader) (left : List ℕ) (m : ℕ) (rest : List ℕ) → WentBut k all other s t left → left ≡ m ∷ rest
+    → has_mark (read_marks other.reads.items) m ≡ false → Puts t u m k false → WentBut k all other s u rest
+one_went_but k all other s t u left m rest w e has p = record {
+  done = w.done ++ m ∷ [];
+  whole = one_more all w.done m rest (w.whole ∙ ap (λ ms. w.done ++ ms) e);
+  went = λ q n.
+      let b = has_mark (read_marks other.reads.items) q in
+      p.puts q n ∙ ap (λ x. cond (nat_eq q m && nat_eq n k) false x) (w.went q n)
+      ∙ mark_goes (has_reader s q n) (nat_eq n k) (has_mark w.done q) (nat_eq q m) b (mark_is (read_marks other.reads.items) q m false has)
+      ∙ ap (λ d. has_reader s q n && not (nat_eq n k && (d && not b))) (sym (has_mark-more w.done m q));
+}
+
+pub all_went_but : (k : ℕ) (f other : Footprint) (s t : BTreeSet Reader) (left : List ℕ) → WentBut k (read_marks f.reads.items) other s t left → left ≡ [] → LeavesBut k f other s t
+all_went_but k f other s t left w e m n =
+    let all : w.done ≡ read_marks f.reads.items = sym (w.whole ∙ ap (λ ms. w.done ++ ms) e ∙ append-nil w.done) in
+    w.went m n ∙ ap (λ ms. has_reader s m n && not (nat_eq n k && (has_mark ms m && not (has_mark (read_marks other.reads.items) m)))) all
+
+-- what came beside the marks of another footprint goes again: then all is as it was
+pub came_beside : (k : ℕ) (f other : Footprint) (s t t' u : BTreeSet Reader) (left : List ℕ) → IsEnteredBy k other s → CameTo k (read_marks f.reads.items) s t left → HasSame t t' → LeavesBut k f other t' u → HasSame s u
+came_beside k f other s t t' u left entered w same leaves m n =
+    let a = has_mark (read_marks other.reads.items) m in
+    let all : has_mark (read_marks f.reads.items) m ≡ (has_mark w.done m || has_mark left m) =
+    ap (λ ms. has_mark ms m) w.whole ∙ list_any-append (nat_eq m) w.done left in
+    leaves m n
+    ∙ ap (λ b. b && not (nat_eq n k && (has_mark (read_marks f.reads.items) m && not a))) (same m n ∙ w.came m n)
+    ∙ ap (λ b. (has_reader s m n || (nat_eq n k && has_mark w.done m)) && not (nat_eq n k && (b && not a))) all
+    ∙ gone_but (has_reader s m n) (nat_eq n k) a (has_mark w.done m) (has_mark left m)
+    (λ e. ap (λ x. has_reader s m x) (eqb-true n k e) ∙ entered m)
+
+-- ---- a search among marks
+
+pub record OthersPassed (all : List ℕ) (m : ℕ) (left : List ℕ) : Type 0 where
+  pub same : has_mark all m ≡ has_mark left m
+
+pub none_passed : (all : List ℕ) (m : ℕ) → OthersPassed all m all
+none_passed all m = record { same = refl }
+
+pub one_passed : (all : List ℕ) (m : ℕ) (left : List ℕ) (q : ℕ) (rest : List ℕ) → OthersPassed all m left → left ≡ q ∷ rest → nat_eq m q ≡ false → OthersPassed all m rest
+one_passed all m left q rest p e other = record { same = p.same ∙ ap (λ ms. has_mark ms m) e ∙ ap (λ b. b || has_mark rest m) other }
+
+pub mark_found : (all : List ℕ) (m : ℕ) (left : List ℕ) (q : ℕ) (rest : List ℕ) → OthersPassed all m left → left ≡ q ∷ rest → nat_eq m q ≡ true → has_mark all m ≡ true
+mark_found all m left q rest p e same = p.same ∙ ap (λ ms. has_mark ms m) e ∙ ap (λ b. b || has_mark rest m) same
+
+pub mark_missing : (all : List ℕ) (m : ℕ) (left : List ℕ) → OthersPassed all m left → left ≡ [] → has_mark all m ≡ false
+mark_missing all m left p e = p.same ∙ ap (λ ms. has_mark ms m) e

@@ -1,11 +1,11 @@
 -- Tests of numbers and of marks.
-use Rattle.std.proofs.Common.{◌≡◌, ℕ, ◌<◌, ◌≤◌, Bool, true, false, not, cond, ◌&&◌, ◌||◌, ◌⊎◌, nat_eq, nat_lt, List, [], ◌∷◌, ◌++◌, refl, sym, ◌∙◌, ap, inl, inr, arith}
-use Rattle.std.proofs.lemmas.Bool.{eq-eqb, ne_eqb, eqb-true, eqb-false}
+use Rattle.std.proofs.Common.{◌≡◌, ℕ, ◌<◌, ◌≤◌, Bool, true, false, not, cond, ◌&&◌, ◌||◌, ◌⊎◌, nat_eq, nat_le, nat_lt, List, [], ◌∷◌, ◌++◌, refl, sym, ◌∙◌, ap, inl, inr, arith}
+use Rattle.std.proofs.lemmas.Bool.{eq-eqb, ne_eqb, eqb-true, eqb-false, le-leb, lt-leb}
 use Rattle.std.proofs.lemmas.Bool.Decides.{nat_tests}
 use Rattle.std.proofs.lemmas.List.Folds.{list_any-append}
 use Rattle.std.specs.declared.cmp.Ordering.{Ordering}
 use Rattle.std.specs.declared.cmp.Ordering.TheVariants.{Less, Equal, Greater}
-use Rattle.std.specs.Ordering.{is_eq, is_lt, is_gt, nat_cmp, ordering_then}
+use Rattle.std.specs.Ordering.{is_eq, is_le, is_lt, is_gt, nat_cmp, ordering_then}
 use Rattle.su_kept_areas.specs.Marks.{has_mark}
 
 -- ---- tests
@@ -165,3 +165,65 @@ pub same_pair : (a b c d : ℕ) (o p : Ordering) → is_eq o ≡ nat_eq a b → 
 same_pair a b c d Less p e f = ap (λ v. v && nat_eq c d) e
 same_pair a b c d Equal p e f = f ∙ ap (λ v. v && nat_eq c d) e
 same_pair a b c d Greater p e f = ap (λ v. v && nat_eq c d) e
+
+-- ---- what stays true where two footprints are of one operation
+
+-- a mark that the other has too stays, and each other goes
+pub mark_stays : (h y d x b : Bool) → (x ≡ true → b ≡ true) → (h && not (y && (d && not b))) ≡ (h && not (y && ((d || (x || false)) && not b)))
+mark_stays h false d x b has = refl
+mark_stays h true true x b has = refl
+mark_stays h true false false b has = refl
+mark_stays h true false true true has = refl
+mark_stays h true false true false has = absurd (let e : false ≡ true = has refl in cc)
+
+pub mark_goes : (h y d x b : Bool) → (x ≡ true → b ≡ false) → cond (x && y) false (h && not (y && (d && not b))) ≡ (h && not (y && ((d || (x || false)) && not b)))
+mark_goes h false d true b has = refl
+mark_goes h false d false b has = refl
+mark_goes h true true false b has = refl
+mark_goes h true false false b has = refl
+mark_goes h true d true true has = absurd (let e : true ≡ false = has refl in cc)
+mark_goes true true true true false has = refl
+mark_goes false true true true false has = refl
+mark_goes true true false true false has = refl
+mark_goes false true false true false has = refl
+
+pub stays_but : (h y b : Bool) → h ≡ (h && not (y && (false && not b)))
+stays_but true true b = refl
+stays_but true false b = refl
+stays_but false y b = refl
+
+-- marks that came beside those of a footprint go again
+pub gone_but : (h y a d r : Bool) → (y ≡ true → h ≡ a) → ((h || (y && d)) && not (y && ((d || r) && not a))) ≡ h
+gone_but true false a d r same = refl
+gone_but false false a d r same = refl
+gone_but true true true d r same = by_rest (d || r)
+  where
+    by_rest : (x : Bool) → not (x && false) ≡ true
+    by_rest true = refl
+    by_rest false = refl
+gone_but true true false d r same = absurd (let e : true ≡ false = same refl in cc)
+gone_but false true true d r same = absurd (let e : false ≡ true = same refl in cc)
+gone_but false true false true r same = refl
+gone_but false true false false r same = refl
+
+-- of a footprint in the place of another
+pub put_beside : (e y a b : Bool) → ((e || (y && b)) && not (y && (a && not b))) ≡ ((e && not (y && a)) || (y && b))
+put_beside true false a b = refl
+put_beside false false a b = refl
+put_beside true true true true = refl
+put_beside true true true false = refl
+put_beside true true false true = refl
+put_beside true true false false = refl
+put_beside false true true true = refl
+put_beside false true true false = refl
+put_beside false true false true = refl
+put_beside false true false false = refl
+
+-- a number from n on
+pub from_test : (n q : ℕ) → (is_le (nat_cmp n q) && true) ≡ nat_le n q
+from_test n q = by (nat_cmp n q) refl
+  where
+    by : (o : Ordering) → nat_cmp n q ≡ o → (is_le o && true) ≡ nat_le n q
+    by Less e = let lt : n < q = less n q e in sym (le-leb n q (omega arith))
+    by Equal e = let same : n ≡ q = equal n q e in sym (le-leb n q (omega arith))
+    by Greater e = sym (lt-leb n q (greater n q e))

@@ -1,5 +1,5 @@
 -- Live operations in the order of their numbers, and their index.
-use Rattle.std.specs.Prelude.{◌≡◌, ℕ, ◌<◌, ◌^◌, Bool, true, false, cond, ◌&&◌, ◌||◌, List, [], ◌∷◌, map, Option, None, Some, nat_eq, nat_lt, ⊤}
+use Rattle.std.specs.Prelude.{◌≡◌, ℕ, ◌<◌, ◌^◌, Bool, true, false, cond, ◌&&◌, ◌||◌, List, [], ◌∷◌, map, Option, None, Some, nat_eq, nat_le, nat_lt, ⊤}
 use Rattle.std.specs.Option.{option_or}
 use Rattle.std.specs.List.{AllByRecursion}
 use Rattle.std.specs.BTreeMap.{BTreeMap, values}
@@ -31,6 +31,32 @@ module _ {I : Type 0} where
   abbrev pub insert_live : LiveOperation I → List (LiveOperation I) → List (LiveOperation I)
   insert_live k [] = k ∷ []
   insert_live k (j ∷ js) = cond (nat_lt k.number j.number) (k ∷ j ∷ js) (j ∷ insert_live k js)
+
+  -- the first operation of number n or a greater one
+  abbrev pub first_from : ℕ → List (LiveOperation I) → Option (LiveOperation I)
+  first_from n [] = None
+  first_from n (k ∷ ks) = cond (nat_le n k.number) (Some k) (first_from n ks)
+
+  -- with another inverse of operation n
+  abbrev pub with_inverse : ℕ → I → List (LiveOperation I) → List (LiveOperation I)
+  with_inverse n i [] = []
+  with_inverse n i (k ∷ ks) =
+      cond (nat_eq k.number n) (record k { inverse = i } ∷ ks) (k ∷ with_inverse n i ks)
+
+  -- with an operation in the place of the one of its number
+  abbrev pub put_live : LiveOperation I → List (LiveOperation I) → List (LiveOperation I)
+  put_live k [] = []
+  put_live k (j ∷ js) = cond (nat_eq j.number k.number) (k ∷ js) (j ∷ put_live k js)
+
+  -- without those from number n on
+  abbrev pub cut_live : ℕ → List (LiveOperation I) → List (LiveOperation I)
+  cut_live n [] = []
+  cut_live n (k ∷ ks) = cond (nat_le n k.number) [] (k ∷ cut_live n ks)
+
+  -- with an operation in the place of the one of its number, and of all behind that one
+  abbrev pub join_live : LiveOperation I → List (LiveOperation I) → List (LiveOperation I)
+  join_live k [] = []
+  join_live k (j ∷ js) = cond (nat_eq j.number k.number) (k ∷ []) (j ∷ join_live k js)
 
   -- the number of the last operation that read a cell of the areas
   abbrev pub last_reader : List Area → List (LiveOperation I) → Option ℕ

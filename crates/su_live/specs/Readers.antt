@@ -34,3 +34,12 @@ Leaves k f s t = (m n : ℕ) → has_reader t m n ≡ (has_reader s m n && not (
 -- operation k is entered under no mark
 abbrev pub IsMissing : ℕ → BTreeSet Reader → Type 0
 IsMissing k s = (m : ℕ) → has_reader s m k ≡ false
+
+-- operation k is entered under the marks of what the footprint reads, and under no other
+abbrev pub IsEnteredBy : ℕ → Footprint → BTreeSet Reader → Type 0
+IsEnteredBy k f s = (m : ℕ) → has_reader s m k ≡ has_mark (read_marks f.reads.items) m
+
+-- t is s without operation k under marks of what the footprint reads, but those that the other one has too
+abbrev pub LeavesBut : ℕ → Footprint → Footprint → BTreeSet Reader → BTreeSet Reader → Type 0
+LeavesBut k f other s t = (m n : ℕ) → has_reader t m n ≡ (has_reader s m n
+    && not (nat_eq n k && (has_mark (read_marks f.reads.items) m && not (has_mark (read_marks other.reads.items) m))))

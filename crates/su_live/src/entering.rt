@@ -1,6 +1,7 @@
 // Entering operations into an index under the marks of what they read, and taking them out.
 ghost use Rattle.std.specs.Prelude.{◌≡◌, ◌<◌, ◌≤◌, ℕ, false, true, IfNone, IfSome, OnOk, OnErr};
-ghost use Rattle.su_live.specs.Readers.{has_reader, Enters, HasSame, IsMissing, Leaves};
+ghost use Rattle.su_kept_areas.specs.Marks.{has_mark, read_marks};
+ghost use Rattle.su_live.specs.Readers.{has_reader, Enters, HasSame, IsEnteredBy, IsMissing, Leaves, LeavesBut};
 
 use crate::readers::Reader;
 use std::alloc::AllocError;
@@ -40,6 +41,64 @@ pub(crate) fn leave(readers: &mut BTreeSet<Reader>, footprint: &KeptFootprint, n
     while let Some(mark) = marks.pass() {
         readers.remove(&Reader { mark, number });
     }
+}
+
+/// Enters the operation of that number under each mark of what the footprint reads, which is entered
+/// just under those of another footprint. Where there is no room for it, nothing changes.
+pub(crate) fn enter_beside(
+    readers: &mut BTreeSet<Reader>,
+    footprint: &KeptFootprint,
+    number: u32,
+    other: &KeptFootprint,
+) -> Result<(), AllocError>
+    requires { IsEnteredBy number other.now readers.old }
+    ensures ok { OnOk result (Enters number footprint.now readers.old readers.new) }
+    ensures err { OnErr result (HasSame readers.old readers.new) }
+{
+    let mut marks = footprint.read_marks();
+    while let Some(mark) = marks.pass() {
+        let reader = Reader { mark, number };
+        match readers.insert(reader) {
+            Ok(_) => {}
+            Err(_) => {
+                leave_but(readers, footprint, number, other);
+                return Err(AllocError);
+            }
+        }
+    }
+    Ok(())
+}
+
+/// Takes the operation of that number out from under each mark of what the footprint reads, but those
+/// that another footprint has too. Takes no memory.
+pub(crate) fn leave_but(
+    readers: &mut BTreeSet<Reader>,
+    footprint: &KeptFootprint,
+    number: u32,
+    other: &KeptFootprint,
+)
+    ensures { LeavesBut number footprint.now other.now readers.old readers.new }
+{
+    let mut marks = footprint.read_marks();
+    while let Some(mark) = marks.pass() {
+        let reader = Reader { mark, number };
+        if !has_mark(other, mark) {
+            readers.remove(&reader);
+        }
+    }
+}
+
+/// Tells whether it is a mark of what the footprint reads. Takes no memory.
+fn has_mark(footprint: &KeptFootprint, mark: u32) -> bool
+    ensures { result ≡ has_mark (read_marks footprint.now.reads.items) mark }
+{
+    let mut marks = footprint.read_marks();
+    while let Some(other) = marks.pass() {
+        if mark == other {
+            return true;
+        }
+    }
+    false
 }
 
 /// Returns the last operation, of those up to that number, that is entered under the mark.

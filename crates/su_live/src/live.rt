@@ -1,15 +1,16 @@
 // The live operations of a desk.
-ghost use Rattle.std.specs.Prelude.{◌≡◌, ◌⊎◌, ◌<◌, ◌-◌, ℕ, [], true, false, None, length, slice_get, IfNone, IfSome, IfOk, IfErr, OnOk, OnErr};
-ghost use Rattle.std.specs.Option.{option_copied};
+ghost use Rattle.std.specs.Prelude.{◌≡◌, ◌⊎◌, ◌<◌, ◌-◌, ◌^◌, ℕ, [], true, false, None, length, slice_get, IsSome, IfNone, IfSome, IfOk, IfErr, OnOk, OnErr};
+ghost use Rattle.std.specs.Option.{option_copied, option_map};
 ghost use Rattle.su_bytes.specs.declared.refusals.Refusal.TheVariants.{NoMemory};
-ghost use Rattle.su_live.specs.Live.{find_live, insert_live, is_entered, live_blocker, numbers_of, reads_at, without};
+ghost use Rattle.su_live.specs.Live.{Ascend, cut_live, find_live, first_from, insert_live, is_entered, join_live, live_blocker, numbers_of, put_live, reads_at, with_inverse, without};
 
-use crate::entering::{enter, last_up_to, leave};
+use crate::entering::{enter, enter_beside, last_up_to, leave, leave_but};
 use crate::operations::LiveOperation;
 use crate::readers::Reader;
 use std::alloc::{AllocFailed, Global};
 use std::collections::{BTreeMap, BTreeSet};
 use std::marker::Model;
+use std::mem;
 use su_bytes::Refusal;
 use su_kept_areas::KeptFootprint;
 
@@ -58,6 +59,16 @@ impl<I: Drop> LiveOperations<I> {
         ensures { option_copied result ≡ slice_get self.now (length self.now - 1) }
     {
         match self.operations.last_key_value() {
+            Some((_, operation)) => Some(operation),
+            None => None,
+        }
+    }
+
+    /// Returns the first operation of that number or a greater one.
+    pub fn first_from(&self, number: u64) -> Option<&LiveOperation<I>>
+        ensures { option_copied result ≡ first_from number self.now }
+    {
+        match self.operations.range(number..).next() {
             Some((_, operation)) => Some(operation),
             None => None,
         }
@@ -112,6 +123,85 @@ impl<I: Drop> LiveOperations<I> {
         };
         leave(&mut self.readers, &operation.footprint, number as u32);
         Some(operation)
+    }
+
+    /// Puts another inverse in the place of that of the operation of that number, and returns the one
+    /// that was there. Takes no memory.
+    pub fn replace_inverse(&mut self, number: u64, inverse: I) -> Option<I>
+        ensures value { result ≡ option_map (λ k. k.inverse) (find_live number self.old) }
+        ensures others { self.new ≡ with_inverse number inverse self.old }
+    {
+        let Some(operation) = self.operations.get_mut(&number) else {
+            return None;
+        };
+        let old = mem::replace(&mut operation.inverse, inverse);
+        Some(old)
+    }
+
+    /// Puts an operation in the place of the one of its number, which is there, and of all behind that
+    /// one. Where there is no room for it, nothing changes, and it is given back.
+    pub fn join(&mut self, operation: LiveOperation<I>) -> Result<(), AllocFailed<LiveOperation<I>>>
+        requires { IsSome (find_live operation.number self.old) }
+        ensures ok { OnOk result (self.new ≡ join_live operation self.old) }
+        ensures given_back { IfErr result (λ e. e.value ≡ operation) }
+        ensures err { OnErr result (self.new ≡ self.old) }
+    {
+        let number = operation.number;
+        match self.put(operation) {
+            Ok(()) => {}
+            Err(refused) => return Err(refused),
+        }
+        self.cut(number + 1);
+        Ok(())
+    }
+
+    /// Puts an operation in the place of the one of its number, which is there. Where there is no room
+    /// for it, nothing changes, and it is given back.
+    fn put(&mut self, operation: LiveOperation<I>) -> Result<(), AllocFailed<LiveOperation<I>>>
+        requires { IsSome (find_live operation.number self.old) }
+        ensures ok { OnOk result (self.new ≡ put_live operation self.old) }
+        ensures was { Ascend self.old }
+        ensures fits { operation.number < 2 ^ 32 }
+        ensures given_back { IfErr result (λ e. e.value ≡ operation) }
+        ensures err { OnErr result (self.new ≡ self.old) }
+    {
+        let Some(there) = self.operations.get(&operation.number) else {
+            unreachable!()
+        };
+        let number = operation.number as u32;
+        let (footprint, other) = (&operation.footprint, &there.footprint);
+        match enter_beside(&mut self.readers, footprint, number, other) {
+            Ok(()) => {}
+            Err(_) => return Err(AllocFailed { value: operation }),
+        }
+        leave_but(&mut self.readers, other, number, footprint);
+        let Ok(_) = self.operations.insert(operation.number, operation) else {
+            unreachable!()
+        };
+        Ok(())
+    }
+
+    /// Removes the operations from that number on. Takes no memory.
+    fn cut(&mut self, number: u64)
+        ensures { self.new ≡ cut_live number self.old }
+    {
+        while let Some(first) = self.number_from(number) {
+            self.remove(first);
+        }
+    }
+
+    /// Returns the number of the first operation of that number or a greater one.
+    fn number_from(&self, number: u64) -> Option<u64>
+        ensures some { IfSome result (λ n. length (without n self.now) < length self.now) }
+        ensures same { IfSome result (λ n. cut_live number (without n self.now)
+            ≡ cut_live number self.now) }
+        ensures none { IfNone result (cut_live number self.now ≡ self.now) }
+    {
+        let _ = &self.operations;
+        match self.first_from(number) {
+            Some(operation) => Some(operation.number),
+            None => None,
+        }
     }
 
     /// Returns the number of the last operation behind the one of that number that read a cell that

@@ -31,11 +31,9 @@ impl Ord for Reader {
 }
 
 impl PartialOrd for Reader {
-    ghost partial_cmp = {
-        as_partial_cmp (then_cmp (on (λ r. r.mark) nat_cmp) (on (λ r. r.number) nat_cmp)) };
+    ghost partial_cmp = { as_partial_cmp (then_cmp (on (λ r. r.mark) nat_cmp) (on (λ r. r.number) nat_cmp)) };
 
-    ghost laws = {
-        partial_order_from_own_ties (Prim.search (comparing, rules)) (Prim.search (comparing, rules)) };
+    ghost laws = { partial_order_from_own_ties (Prim.search (comparing, rules)) (Prim.search (comparing, rules)) };
 
     fn partial_cmp(&self, other: &Reader) -> Option<Ordering> {
         Some(self.cmp(other))

@@ -24,7 +24,7 @@ returns-else-last-first g c =
     let w = c.in-Some.operation.now.footprint.writes.items in
     let ks = c.args.self.now in
     let reads : reads_at w ks c.loop-mark.last ≡ true =
-        elim c.loop-mark.invariant.found [ inl same ↦ absurd (c.if-last-first.false same) | inr e ↦ e ] in
+    elim c.loop-mark.invariant.found [ inl same ↦ absurd (c.if-last-first.false same) | inr e ↦ e ] in
     ap Some c.from.ensures
     ∙ sym (last_blocker w c.args.number c.in-Some.operation.now ks c.loop-mark.last (ascend_in _ _ _ c.self.invariant c.self.view_is) (sym c.in-Some.ensures) refl (omega arith) reads
     (none_above_last w ks c.args.number c.loop-mark.last c.loop-mark.marks c.loop-mark.invariant c.in_default-pass.ensures.none))

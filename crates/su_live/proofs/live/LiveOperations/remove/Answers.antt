@@ -15,7 +15,7 @@ returns-in_default-clause-others g c =
 pub overflow_cast-number : goal.overflow_cast-number
 overflow_cast-number g c =
     let small : c.args.number < 2 ^ 32 =
-        found_small c.args.number c.in-Some.operation c.args.self.now (sym (c.in-Some.ensures.value ∙ found_in c.args.number _ _ _ c.self.invariant c.self.view_is)) (small_in _ _ _ c.self.invariant c.self.view_is) in
+    found_small c.args.number c.in-Some.operation c.args.self.now (sym (c.in-Some.ensures.value ∙ found_in c.args.number _ _ _ c.self.invariant c.self.view_is)) (small_in _ _ _ c.self.invariant c.self.view_is) in
     omega arith
 
 pub invariant_of-self-2 : goal.invariant_of-self-2
