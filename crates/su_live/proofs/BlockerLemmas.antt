@@ -1,12 +1,12 @@
 -- What stands in the way of an undo, as it is found by marks.
-use Rattle.std.proofs.Common.{◌≡◌, ℕ, ◌+◌, ◌-◌, ◌^◌, ◌<◌, ◌≤◌, Bool, true, false, not, cond, ◌&&◌, ◌||◌, ◌⊎◌, nat_eq, List, [], ◌∷◌, Option, Some, None, refl, sym, ◌∙◌, ap, subst, inl, inr, arith}
+use Rattle.std.proofs.Common.{◌≡◌, ℕ, ◌+◌, ◌-◌, ◌^◌, ◌<◌, ◌≤◌, Bool, true, false, cond, ◌&&◌, ◌||◌, ◌⊎◌, nat_eq, List, [], ◌∷◌, Option, Some, None, refl, sym, ◌∙◌, ap, inl, inr, arith}
 use Rattle.std.proofs.lemmas.Bool.{eq-eqb, ne_eqb, eqb-true, eqb-false}
 use Rattle.std.specs.List.{AllByRecursion}
 use Rattle.std.specs.Option.{option_or}
 use Rattle.su_op.specs.declared.areas.Area.{Area}
 use Rattle.su_op.specs.Area.{meet}
 use Rattle.su_kept_areas.specs.Marks.{has_mark, read_marks, written_marks}
-use Rattle.su_kept_areas.proofs.Public.{Share, meeting_share}
+use Rattle.su_kept_areas.proofs.Public.{meeting_share}
 use Rattle.su_live.specs.declared.operations.LiveOperation.{LiveOperation}
 use Rattle.std.specs.BTreeSet.{BTreeSet}
 use Rattle.su_live.specs.declared.readers.Reader.{Reader}

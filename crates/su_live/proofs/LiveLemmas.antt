@@ -1,5 +1,5 @@
 -- Live operations in the order of their numbers: in a map, and with an index.
-use Rattle.std.proofs.Common.{◌≡◌, ℕ, ◌<◌, ◌≤◌, ◌^◌, Bool, true, false, not, cond, ◌&&◌, ◌||◌, ◌⊎◌, nat_eq, nat_le, nat_lt, List, [], ◌∷◌, ◌++◌, length, ◌+◌, map, Option, Some, None, IsSome, refl, sym, ◌∙◌, ap, subst, inl, inr, arith}
+use Rattle.std.proofs.Common.{◌≡◌, ℕ, ◌<◌, ◌≤◌, ◌^◌, Bool, true, false, not, cond, ◌&&◌, ◌||◌, ◌⊎◌, nat_eq, nat_le, nat_lt, List, [], ◌∷◌, length, ◌+◌, Option, Some, None, IsSome, refl, sym, ◌∙◌, ap, subst, inl, inr, arith}
 use Rattle.std.proofs.lemmas.Bool.{eq-eqb, ne_eqb, eqb-true, eqb-false, ltb-true, ltb-false, lt-ltb, le-ltb, leb-true, leb-false, le-leb, lt-leb}
 use Rattle.std.specs.List.{AllByRecursion, filter, list_any}
 use Rattle.std.specs.Map.{lookup, remove_entry, set_value, values_of}
@@ -7,8 +7,7 @@ use Rattle.std.specs.BTreeMap.{BTreeMap, get_by, is_at, insert_entry, values}
 use Rattle.std.specs.BTreeSet.{BTreeSet}
 use Rattle.std.specs.declared.cmp.Ordering.{Ordering}
 use Rattle.std.specs.declared.cmp.Ordering.TheVariants.{Less, Equal, Greater}
-use Rattle.std.specs.Ordering.{is_eq, is_le, match_ordering, nat_cmp}
-use Rattle.su_op.specs.declared.footprints.Footprint.{Footprint}
+use Rattle.std.specs.Ordering.{is_le, match_ordering, nat_cmp}
 use Rattle.su_live.specs.declared.operations.LiveOperation.{LiveOperation}
 use Rattle.su_live.specs.declared.readers.Reader.{Reader}
 use Rattle.su_live.specs.Readers.{has_reader, reader_cmp, reads_by, Enters, HasSame, IsEnteredBy, IsMissing, Leaves, LeavesBut}

@@ -1,9 +1,9 @@
 -- What proofs of the crates above may cite: lists of live operations, by the place of one among them.
-use Rattle.std.proofs.Common.{◌≡◌, ℕ, ◌<◌, Bool, true, false, cond, nat_eq, nat_lt, List, [], ◌∷◌, ◌++◌, Some, refl, ◌∙◌, ap, arith}
+use Rattle.std.proofs.Common.{◌≡◌, ℕ, ◌<◌, true, false, cond, nat_eq, List, [], ◌∷◌, ◌++◌, Some, refl, ◌∙◌, ap, arith}
 use Rattle.std.proofs.lemmas.Bool.{eq-eqb, ne_eqb, lt-ltb, le-ltb}
 use Rattle.std.specs.List.{AllByRecursion}
 use Rattle.su_live.specs.declared.operations.LiveOperation.{LiveOperation}
-use Rattle.su_live.specs.Live.{find_live, insert_live, join_live, last_reader, live_blocker, put_live, without, with_inverse}
+use Rattle.su_live.specs.Live.{find_live, insert_live, join_live, last_reader, live_blocker, without, with_inverse}
 pub use Rattle.su_live.proofs.LiveLemmas.{found_number, found_all}
 
 module _ {I : Type 0} where

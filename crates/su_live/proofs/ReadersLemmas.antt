@@ -8,7 +8,7 @@ use Rattle.su_op.specs.declared.footprints.Footprint.{Footprint}
 use Rattle.su_kept_areas.specs.Marks.{has_mark, read_marks}
 use Rattle.su_live.specs.declared.readers.Reader.{Reader}
 use Rattle.su_live.specs.Readers.{reader_cmp, has_reader, reads_by, Enters, HasSame, IsEnteredBy, IsMissing, Leaves, LeavesBut}
-use Rattle.su_live.proofs.Tests.{not_so, came_goes, mark_stays, mark_goes, stays_but, gone_but, nat_eq-flip, goes, comes, gone_again, stays, stays_or, has_mark-more, same_number, not_above, not_below, at_most, same_pair}
+use Rattle.su_live.proofs.Tests.{not_so, came_goes, mark_stays, mark_goes, stays_but, gone_but, goes, comes, gone_again, stays, stays_or, has_mark-more, same_number, not_above, not_below, at_most, same_pair}
 
 -- ---- the order of readers
 

@@ -1,6 +1,6 @@
 use Rattle.std.proofs.Common.{true}
 use Rattle.su_kept_areas.specs.Marks.{read_marks}
-use Rattle.su_live.proofs.ReadersLemmas.{one_came, all_came, came_and_went, puts_by}
+use Rattle.su_live.proofs.ReadersLemmas.{one_came, puts_by}
 use Rattle.su_live.proofs.entering.enter.Goals as goal
 
 pub loop-mark-preserved : goal.loop-mark-preserved

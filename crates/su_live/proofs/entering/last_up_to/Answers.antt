@@ -1,6 +1,4 @@
-use Rattle.std.proofs.Common.{arith}
 use Rattle.su_live.proofs.ReadersLemmas.{at, up_to, none_later, none_of_mark}
-use Rattle.su_live.proofs.Tests.{not_so}
 use Rattle.su_live.proofs.entering.last_up_to.Goals as goal
 
 pub returns-then-last-mark-clause-last : goal.returns-then-last-mark-clause-last

@@ -1,6 +1,6 @@
 use Rattle.std.proofs.Common.{false}
 use Rattle.su_kept_areas.specs.Marks.{read_marks}
-use Rattle.su_live.proofs.ReadersLemmas.{one_went, all_went, puts_by}
+use Rattle.su_live.proofs.ReadersLemmas.{one_went, puts_by}
 use Rattle.su_live.proofs.entering.leave.Goals as goal
 
 pub loop-mark-preserved : goal.loop-mark-preserved

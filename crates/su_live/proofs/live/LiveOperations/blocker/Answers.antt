@@ -1,4 +1,4 @@
-use Rattle.std.proofs.Common.{◌≡◌, ◌<◌, ◌^◌, ◌⊎◌, ℕ, [], Some, true, inl, inr, refl, sym, ap, ◌∙◌, arith}
+use Rattle.std.proofs.Common.{◌≡◌, ◌<◌, ◌^◌, [], Some, true, inl, inr, refl, sym, ap, ◌∙◌, arith}
 use Rattle.su_live.specs.Live.{reads_at}
 use Rattle.su_live.proofs.LiveLemmas.{ascend_in, found_small, small_in}
 use Rattle.su_live.proofs.BlockerLemmas.{no_operation, no_blocker, last_blocker, none_above_last}

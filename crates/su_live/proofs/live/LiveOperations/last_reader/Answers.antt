@@ -1,5 +1,5 @@
 use Rattle.su_live.proofs.LiveLemmas.{entered_in, small_in}
-use Rattle.su_live.proofs.BlockerLemmas.{none_beyond, none_above_entered, none_entered, none_from_entered, none_above_bound}
+use Rattle.su_live.proofs.BlockerLemmas.{none_beyond, none_entered}
 use Rattle.su_live.proofs.live.LiveOperations.last_reader.Goals as goal
 
 pub loop-number-init : goal.loop-number-init

@@ -1,5 +1,5 @@
-use Rattle.std.proofs.Common.{◌≡◌, ◌<◌, ◌^◌, refl, sym, ◌∙◌, arith}
-use Rattle.su_live.proofs.LiveLemmas.{ascend_in, entered_by, found_in, found_small, kept_as, not_missing, put_in_place, small_in}
+use Rattle.std.proofs.Common.{◌<◌, ◌^◌, refl, sym, ◌∙◌, arith}
+use Rattle.su_live.proofs.LiveLemmas.{entered_by, found_in, found_small, kept_as, not_missing, put_in_place, small_in}
 use Rattle.su_live.proofs.live.LiveOperations.put.Goals as goal
 
 pub overflow_cast-number : goal.overflow_cast-number

@@ -1,5 +1,5 @@
 use Rattle.std.proofs.Common.{◌∙◌, sym, ap}
-use Rattle.su_live.specs.Live.{find_live, reads_at}
+use Rattle.su_live.specs.Live.{find_live}
 use Rattle.su_live.proofs.LiveLemmas.{ascend_in}
 use Rattle.su_live.proofs.BlockerLemmas.{none_reads, reads-found}
 use Rattle.su_live.proofs.live.LiveOperations.reads.Goals as goal

@@ -1,7 +1,6 @@
-use Rattle.std.proofs.Common.{◌≡◌, ◌<◌, ◌^◌, Some, refl, sym, ap, ◌∙◌, arith}
+use Rattle.std.proofs.Common.{◌<◌, ◌^◌, sym, ap, ◌∙◌, arith}
 use Rattle.std.specs.Map.{values_of}
-use Rattle.su_live.specs.Live.{find_live}
-use Rattle.su_live.proofs.LiveLemmas.{found_in, found_small, kept_as, removed_from, small_in, without_none}
+use Rattle.su_live.proofs.LiveLemmas.{found_in, found_small, removed_from, small_in, without_none}
 use Rattle.su_live.proofs.live.LiveOperations.remove.Goals as goal
 
 pub returns-in_default-clause-value : goal.returns-in_default-clause-value

@@ -1,8 +1,8 @@
-use Rattle.std.proofs.Common.{◌≡◌, Some, refl, sym, ap, ◌∙◌}
+use Rattle.std.proofs.Common.{Some, refl, sym, ap, ◌∙◌}
 use Rattle.std.specs.Map.{values_of}
 use Rattle.std.specs.Option.{option_map}
 use Rattle.su_live.specs.declared.operations.LiveOperation.{LiveOperation}
-use Rattle.su_live.specs.Live.{find_live, with_inverse}
+use Rattle.su_live.specs.Live.{with_inverse}
 use Rattle.su_live.proofs.LiveLemmas.{found_in, inverse_put, kept_as, no_inverse_put}
 use Rattle.su_live.proofs.live.LiveOperations.replace_inverse.Goals as goal
 
