@@ -34,7 +34,7 @@ begin_with_one bytes [] s some = let none = no_bytes bytes s in absurd (omega ar
 begin_with_one bytes (a ∷ v) s some = (a, areas_bytes v, first_of bytes a v s)
 
 -- what is behind an area that was split off spells the others
-others_spelled : (bytes : List ℕ) (a : Area) (behind : List ℕ) → IsSplit bytes a behind → 0 < length bytes → (v : List Area) → Spells bytes v → (u : List Area) × Spells behind u × (v ≡ a ∷ u)
+pub others_spelled : (bytes : List ℕ) (a : Area) (behind : List ℕ) → IsSplit bytes a behind → 0 < length bytes → (v : List Area) → Spells bytes v → (u : List Area) × Spells behind u × (v ≡ a ∷ u)
 others_spelled bytes a behind split some [] s = let none = no_bytes bytes s in absurd (omega arith)
 others_spelled bytes a behind split some (b ∷ v) s =
     let t = split.told b (areas_bytes v) (first_of bytes b v s) in

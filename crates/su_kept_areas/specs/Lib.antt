@@ -3,3 +3,4 @@ pub mod Lent
 pub mod Format
 pub mod Pointer
 pub mod Kept
+pub mod Marks

@@ -83,14 +83,14 @@ impl KeptFootprint {
     }
 
     /// Lends the bytes that spell what is read.
-    fn bytes_read(&self) -> &[u8]
+    pub(crate) fn bytes_read(&self) -> &[u8]
         ensures { Spells result.now self.now.reads.items }
     {
         &self.bytes[..self.read]
     }
 
     /// Lends the bytes that spell what is written.
-    fn bytes_written(&self) -> &[u8]
+    pub(crate) fn bytes_written(&self) -> &[u8]
         ensures { Spells result.now self.now.writes.items }
     {
         &self.bytes[self.read..]

@@ -3,10 +3,13 @@
 #![tactic(auto)]
 
 mod areas;
+mod cursors;
 mod footprints;
 mod kinds;
 mod lent;
+mod marks;
 mod spelled;
 
 pub use areas::{put_area, take_area};
+pub use cursors::MarksLeft;
 pub use footprints::KeptFootprint;

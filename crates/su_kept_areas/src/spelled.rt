@@ -109,7 +109,7 @@ pub(crate) fn carries(bytes: &[u8], group: Group) -> bool
 }
 
 /// Returns the first area that is spelled here, and what comes behind it.
-fn split_first(bytes: &[u8]) -> (LentArea<'_>, &[u8])
+pub(crate) fn split_first(bytes: &[u8]) -> (LentArea<'_>, &[u8])
     requires { BeginWithOne bytes.now }
     ensures value { (a : Area_) (rest : List ℕ) → BeginsWith bytes.now a rest
         → (area_of result.0 ≡ a) × (result.1.now ≡ rest) }

@@ -1,0 +1,6 @@
+pub mod Tests
+pub mod ReadersLemmas
+pub mod LiveLemmas
+pub mod BoxLemmas
+pub mod BlockerLemmas
+pub mod Public
