@@ -172,7 +172,3 @@ module _ (i j : Inverse) (o : Option Packed) where
   pub view_in : (xs : List (Inverse × Unit {0})) → HasLarge i j → IsPackedIn i o xs → with_first j xs ≡ with_first i xs
   view_in [] large packed = absurd packed
   view_in (pair ∷ xs) large packed = view_same i j pair.0 large
-
-  pub taken_in : (xs : List (Inverse × Unit {0})) → HasLarge i j → ((w : Inverse) → IsPackedAs i o w → IsPackedAs j None w) → IsPackedIn i o xs → KeepsAlike (with_first i xs) j
-  taken_in [] large on packed = absurd packed
-  taken_in (pair ∷ xs) large on packed = alike i j pair.0 large (on pair.0 packed)

@@ -1,6 +1,7 @@
 // Inverses as a desk keeps them.
-ghost use Rattle.std.specs.Prelude.{◌≡◌, IfErr, IfSome};
+ghost use Rattle.std.specs.Prelude.{◌≡◌, [], IfErr, IfOk};
 ghost use Rattle.su_bytes.specs.declared.refusals.Refusal.TheVariants.{NoMemory};
+ghost use Rattle.su_part_inverse.specs.Kept.{inverse_areas};
 ghost use Rattle.su_part_inverse.specs.Lefts.{Leaves};
 ghost use Rattle.su_part_inverse.specs.Packed.{HasLarge, IsPackedAs, KeepsAlike};
 ghost use Rattle.su_part_inverse.specs.declared.inverses.Inverse.{Inverse as Inverse_};
@@ -42,6 +43,21 @@ impl Model for KeptInverse {
 }
 
 impl KeptInverse {
+    /// Makes one that keeps nothing, to stand for another one while that is taken out. Takes no
+    /// memory.
+    pub fn nothing(alloc: Global) -> KeptInverse
+        ensures { inverse_areas result ≡ [] }
+    {
+        KeptInverse::new(Inverse {
+            inodes: Vec::new(alloc),
+            returns: Vec::new(alloc),
+            sizes: Vec::new(alloc),
+            resets: Vec::new(alloc),
+            blocks: Vec::new(alloc),
+            left: None,
+        })
+    }
+
     /// Keeps an inverse. Takes no memory.
     pub fn new(inverse: Inverse) -> KeptInverse
         ensures { result ≡ inverse }
@@ -63,22 +79,31 @@ impl KeptInverse {
         pack_small(alloc, &mut self.inverse, &mut self.packed)
     }
 
-    /// Brings what is small of it back out of the bytes, if it is packed. Fails only with `NoMemory`,
-    /// and then changes nothing.
-    pub fn unpack(&mut self, alloc: Global) -> Result<(), Refusal>
-        ensures same { self.new ≡ self.old }
-        ensures refused { IfErr result (λ e. e ≡ NoMemory) }
+    /// Brings what is small of it back out of the bytes, if it is packed. Fails only with `NoMemory`;
+    /// then it is given back.
+    pub fn open(self, alloc: Global) -> Result<OpenInverse, (KeptInverse, Refusal)>
+        ensures opened { IfOk result (λ kept. kept ≡ self) }
+        ensures given_back { IfErr result (λ e. e.0 ≡ self) }
+        ensures refused { IfErr result (λ e. e.1 ≡ NoMemory) }
     {
-        make_whole(alloc, &mut self.inverse, &mut self.packed)
-    }
-
-    /// Lends the inverse, unless it is packed.
-    pub fn unpacked(&self) -> Option<&Inverse>
-        ensures { IfSome result (λ inverse. KeepsAlike self.now inverse.now) }
-    {
-        match self.packed {
-            Some(_) => None,
-            None => Some(&self.inverse),
+        let KeptInverse {
+            mut inverse,
+            packed,
+            whole,
+        } = self;
+        match packed {
+            None => Ok(OpenInverse { inverse, whole }),
+            Some(small) => match small.unpack(alloc, &mut inverse) {
+                Ok(()) => Ok(OpenInverse { inverse, whole }),
+                Err(refusal) => {
+                    let kept = KeptInverse {
+                        inverse,
+                        packed: Some(small),
+                        whole,
+                    };
+                    Err((kept, refusal))
+                }
+            },
         }
     }
 
@@ -88,6 +113,52 @@ impl KeptInverse {
             result }
     {
         self.inverse.leave(alloc, source)
+    }
+}
+
+/// An inverse that a desk keeps, with nothing of it packed. Its model is the inverse.
+#[derive(Drop)]
+pub struct OpenInverse {
+    /// The inverse, with all that is small of it.
+    inverse: Inverse,
+    /// All of what is small, which proofs read, as in a `KeptInverse`.
+    whole: Log<Inverse, ()>,
+}
+
+impl Model for OpenInverse {
+    ghost use Rattle.std.specs.Prelude.{None};
+    ghost use Rattle.su_part_inverse.specs.declared.inverses.Inverse.{Inverse as TheInverse};
+    ghost use Rattle.su_part_inverse.specs.contracts.inverses.Inverse as kept;
+
+    ghost Value = { TheInverse };
+
+    ghost coded = { kept.the_row.coded };
+
+    ghost use Rattle.su_part_inverse.specs.Packed.{IsPackedIn, with_first};
+
+    ghost view = { λ o. with_first o.inverse o.whole.items };
+
+    ghost invariant = { λ o. IsPackedIn o.inverse None o.whole.items };
+}
+
+impl OpenInverse {
+    /// Lends the inverse.
+    pub fn inverse(&self) -> &Inverse
+        ensures { KeepsAlike self.now result.now }
+    {
+        &self.inverse
+    }
+
+    /// Closes it again. Takes no memory.
+    pub fn close(self) -> KeptInverse
+        ensures { result ≡ self }
+    {
+        let OpenInverse { inverse, whole } = self;
+        KeptInverse {
+            inverse,
+            packed: None,
+            whole,
+        }
     }
 }
 
@@ -113,27 +184,5 @@ fn pack_small(
     inverse.sizes = Vec::new(alloc);
     inverse.resets = Vec::new(alloc);
     *packed = Some(small);
-    Ok(())
-}
-
-/// Makes an inverse whole that may be packed. Fails only with `NoMemory`, and then changes nothing.
-fn make_whole(
-    alloc: Global,
-    inverse: &mut Inverse,
-    packed: &mut Option<Packed>,
-) -> Result<(), Refusal>
-    ensures as_before { (w : Inverse_) → IsPackedAs inverse.old packed.old w
-        → IsPackedAs inverse.new packed.new w }
-    ensures large { HasLarge inverse.old inverse.new }
-    ensures refused { (w : Inverse_) → IsPackedAs inverse.old packed.old w
-        → IfErr result (λ e. e ≡ NoMemory) }
-{
-    // names the type for the prover (docs/ARCHITECTURE.md, "Forms the kit wants")
-    let _file: Option<FileId> = None;
-    let Some(small) = packed else {
-        return Ok(());
-    };
-    small.unpack(alloc, inverse)?;
-    *packed = None;
     Ok(())
 }

@@ -15,6 +15,6 @@ mod undos;
 mod wholes;
 
 pub use inverses::{Inverse, build};
-pub use kept::KeptInverse;
+pub use kept::{KeptInverse, OpenInverse};
 pub use laws::{kept_of_trees_alike, undo_after_apply, undo_after_batch};
 pub use wholes::build_whole;
