@@ -30,8 +30,10 @@ use Rattle.su_desk.specs.History.{entry_doing}
 use Rattle.su_desk.specs.Trial.{tree_of}
 use Rattle.su_desk.specs.Version.{cells_of}
 use Rattle.su_desk.proofs.RehearsalLemmas.{effect_done}
-use Rattle.su_stored_desk.specs.Keeping.{Keeps}
-use Rattle.su_stored_desk.specs.declared.kept.KeptOperation.{KeptOperation}
+use Rattle.su_live.specs.Live.{insert_live}
+use Rattle.su_live.proofs.Public.{insert_live-last}
+use Rattle.su_stored_desk.specs.Keeping.{Keeps, KeptOperation}
+use Rattle.su_stored_desk.proofs.ByNumber.{all_below, kept_ascend}
 use Rattle.su_stored_desk.proofs.JoinedLemmas.{sound_kept}
 use Rattle.su_stored_desk.proofs.KeptOperations.{keeps_do, tree_kept}
 use Rattle.su_stored_desk.proofs.Replies.{refusal_of-do}
@@ -100,14 +102,17 @@ module _ (d : DeskState) (ks : List KeptOperation) (keeps : Keeps d.roster d.his
 
       -- and what its cells held
       pub keeps_done : (i : Inverse) (n : ℕ) → n ≡ length d.history + 1 → ((c : Cell) → has (inverse_areas i) c ≡ has fp.writes.items c) → IsKeptOf i (tree_of d)
-          → Keeps d.roster (d.history ++ entry_doing x ∷ []) (ks ++ record { number = n; footprint = fp; inverse = i } ∷ []) (tree_of (with_entry d (entry_doing x)))
+          → Keeps d.roster (d.history ++ entry_doing x ∷ []) (insert_live (record { number = n; footprint = fp; inverse = i }) ks) (tree_of (with_entry d (entry_doing x)))
       keeps_done i n number areas kept =
-          subst (Keeps d.roster (d.history ++ entry_doing x ∷ []) (ks ++ record { number = n; footprint = fp; inverse = i } ∷ [])) (sym (effect_done d x keeps.good (why_of ∙ accepted)))
-          (keeps_do d.roster d.history ks (tree_of d) x (record { number = n; footprint = fp; inverse = i }) keeps fits (record {
+          let k : KeptOperation = record { number = n; footprint = fp; inverse = i } in
+          let done = keeps_do d.roster d.history ks (tree_of d) x k keeps fits (record {
             accepted = why_of ∙ accepted;
             number = number;
             reads = read (tree_of d) ∙ sym reads_are ∙ sym reads_of;
             writes = written;
             areas = areas;
             kept = kept;
-          }))
+          }) in
+          let below = all_below ks [] k (kept_ascend d.roster (d.history ++ entry_doing x ∷ []) (ks ++ k ∷ []) _ done) in
+          subst (λ xs. Keeps d.roster (d.history ++ entry_doing x ∷ []) xs (tree_of (with_entry d (entry_doing x)))) (sym (insert_live-last k ks below))
+          (subst (Keeps d.roster (d.history ++ entry_doing x ∷ []) (ks ++ k ∷ [])) (sym (effect_done d x keeps.good (why_of ∙ accepted))) done)

@@ -1,8 +1,8 @@
 -- Operations that were made one by one behind a history are joined into one entry.
-use Rattle.std.proofs.Common.{◌≡◌, ℕ, ◌+◌, ◌-◌, ◌≤◌, suc, Bool, true, false, cond, ◌&&◌, List, [], ◌∷◌, ◌++◌, length, length-append, take, drop, Option, Some, None, Err, ◌⊎◌, inl, inr, refl, sym, ap, ◌∙◌, subst, arith, append_assoc, append-nil}
+use Rattle.std.proofs.Common.{◌≡◌, ℕ, ◌+◌, ◌-◌, ◌≤◌, suc, Bool, true, false, cond, ◌&&◌, List, [], ◌∷◌, ◌++◌, length, length-append, take, Option, Some, None, Err, ◌⊎◌, inl, inr, refl, sym, ap, ◌∙◌, subst, arith, append_assoc, append-nil}
 use Rattle.std.specs.Option.{is_none, option_or}
 use Rattle.std.specs.List.{AllByRecursion}
-use Rattle.std.proofs.Math.Seq.{take-append_seam, drop-append_seam}
+use Rattle.std.proofs.Math.Seq.{take-append_seam}
 use Rattle.su_bytes.specs.Format.{is_as_new}
 use Rattle.su_bytes.specs.Membership.{Membership}
 use Rattle.su_bytes.specs.declared.formats.Format.{Format}
@@ -29,7 +29,6 @@ use Rattle.su_inverse.specs.Whole.{KindsChangeWhole}
 use Rattle.su_op.specs.Batch.{Action, action_by, first_refusal, batch_refusal, why, effect, reads, writes, store}
 use Rattle.su_op.proofs.Public.{batch_kind_written, why_alone, reads_alone, writes_alone, batches_lawful as store_lawful}
 use Rattle.su_desk.specs.declared.entries.Entry.{Entry}
-use Rattle.su_stored_desk.specs.declared.kept.KeptOperation.{KeptOperation}
 use Rattle.su_stored_desk.specs.declared.prepared.Tried.{Tried}
 use Rattle.su_stored_desk.specs.declared.prepared.Means.{Means}
 use Rattle.su_stored_desk.specs.declared.prepared.Means.TheVariants.{Kept, Held, Named}
@@ -37,16 +36,19 @@ use Rattle.su_stored_desk.specs.Tried.{TakeAllBack, TakesBack, TakesChangeBack}
 use Rattle.su_desk.specs.History.{NumberedAction, entry_by, entry_doing, keys_after, live, format_after}
 use Rattle.su_desk.specs.Answer.{answer, has_format, format_refusal, refusal_of, Good, GoodAfter}
 use Rattle.su_desk.specs.Applied.{tree_after}
-use Rattle.su_stored_desk.specs.Keeping.{Leads, Keeps}
+use Rattle.su_live.specs.Live.{find_live, join_live, Ascend}
+use Rattle.su_live.proofs.Public.{AllBelow, find_live-there, join_live-there}
+use Rattle.su_stored_desk.specs.Keeping.{Leads, Keeps, KeptOperation}
 use Rattle.su_desk.specs.Desk.{DeskState}
 use Rattle.su_desk.specs.Trial.{TrialState, tree_of, with_ready}
-use Rattle.su_stored_desk.specs.Joined.{alone_by, each_alone, one_by_one, all_read, all_written, HasEach, IsJoined, IsKeptBefore, Fits, AllFit}
+use Rattle.su_stored_desk.specs.Joined.{alone_by, each_alone, one_by_one, all_read, all_written, live_from, option_list, HasEach, IsJoined, IsKeptBefore, Fits, AllFit}
 use Rattle.su_stored_desk.proofs.NamedKeys.{same_keys}
 use Rattle.su_desk.proofs.Replays.{first_sound, live_done}
 use Rattle.su_desk.proofs.FormatLemmas.{as_new_itself, by_change, fits, format_further}
 use Rattle.su_stored_desk.proofs.Replies.{answer_refused}
 use Rattle.su_bytes.proofs.Public.{newest}
 use Rattle.su_stored_desk.proofs.KeptOperations.{keeps_do, tree_kept}
+use Rattle.su_stored_desk.proofs.ByNumber.{all_below, kept_ascend}
 use Rattle.su_stored_desk.proofs.TakingBack.{LedApart, led_apart, left_by}
 
 -- ---- histories
@@ -120,6 +122,7 @@ pub record Parts (ro : Membership) (h : List Entry) (a : ℕ) (f : Format) (ops 
   pub whole : ks ≡ front ++ rest
   pub keeps : Keeps ro h front middle
   pub before : middle ≡ tree_after ro h
+  pub leads : Leads ro middle (one_by_one (length h + 1) a f ops) rest T
   pub of_them : Chain ro middle a f ops rest T
 
 pub parts : (ro : Membership) (h : List Entry) (a : ℕ) (f : Format) (ops : List Op) (ks : List KeptOperation) (T : Tree) → Keeps ro (h ++ each_alone a f ops) ks T → Parts ro h a f ops ks T
@@ -133,33 +136,44 @@ parts ro h a f ops ks T keeps =
       whole = r.whole;
       keeps = front_keeps;
       before = left_by ro h r.middle (tree_kept ro h r.front r.middle front_keeps);
+      leads = r.second;
       of_them = chain ro r.middle T (length h + 1) a f ops r.rest r.second;
     }
 
--- where they are cut off
-cut : {A : Type 0} (front rest : List A) (n : ℕ) → length rest ≡ n → length (front ++ rest) - n ≡ length front
-cut front rest n long = let both = length-append front rest in omega (arith, both, long)
-
-pub front_of : {ro : Membership} {h : List Entry} {a : ℕ} {f : Format} {ops : List Op} {ks : List KeptOperation} {T : Tree} (p : Parts ro h a f ops ks T) → take (length ks - length ops) ks ≡ p.front
-front_of {ops = ops} {ks = ks} p =
-    ap (λ l. take (length l - length ops) l) p.whole
-    ∙ ap (λ n. take n (p.front ++ p.rest)) (cut p.front p.rest (length ops) p.of_them.long)
-    ∙ take-append_seam p.front p.rest
-
-pub rest_of : {ro : Membership} {h : List Entry} {a : ℕ} {f : Format} {ops : List Op} {ks : List KeptOperation} {T : Tree} (p : Parts ro h a f ops ks T) → drop (length ks - length ops) ks ≡ p.rest
-rest_of {ops = ops} {ks = ks} p =
-    ap (λ l. drop (length l - length ops) l) p.whole
-    ∙ ap (λ n. drop n (p.front ++ p.rest)) (cut p.front p.rest (length ops) p.of_them.long)
-    ∙ drop-append_seam p.front p.rest
+-- those of these numbers are they
+of_numbers : (ro : Membership) (R T : Tree) (n a : ℕ) (f : Format) (ops : List Op) (front ks : List KeptOperation) → Leads ro R (one_by_one n a f ops) ks T → Ascend (front ++ ks) → live_from n (length ops) (front ++ ks) ≡ ks
+of_numbers ro R T n a f [] front [] leads up = refl
+of_numbers ro R T n a f (op ∷ ops) front (k ∷ ks) (fits, more) up =
+    let below : AllBelow n front = subst (λ m. AllBelow m front) fits.number (all_below front ks k up) in
+    let there : find_live n (front ++ k ∷ ks) ≡ Some k = find_live-there n front k ks below fits.number in
+    let shift : (front ++ k ∷ []) ++ ks ≡ front ++ k ∷ ks = append_assoc front (k ∷ []) ks in
+    (λ i. option_list (there i) ++ live_from (n + 1) (length ops) (sym shift i))
+    ∙ ap (λ xs. k ∷ xs) (of_numbers ro (effect_of_one ro R (one_by a f op)) T (n + 1) a f ops (front ++ k ∷ []) ks more (subst Ascend (sym shift) up))
+of_numbers ro R T n a f [] front (k ∷ ks) leads up = absurd leads
+of_numbers ro R T n a f (op ∷ ops) front [] leads up = absurd leads
 
 -- their cells together
 pub cells_joined : (d : DeskState) (a : ℕ) (f : Format) (ops : List Op) (ks : List KeptOperation) (T : Tree) → Keeps d.roster (d.history ++ each_alone a f ops) ks T
-    → (all_read (drop (length ks - length ops) ks) ≡ reads d.roster (tree_of d) (action_by a f ops)) × (all_written (drop (length ks - length ops) ks) ≡ writes d.roster (tree_of d) (action_by a f ops))
+    → (all_read (live_from (length d.history + 1) (length ops) ks) ≡ reads d.roster (tree_of d) (action_by a f ops)) × (all_written (live_from (length d.history + 1) (length ops) ks) ≡ writes d.roster (tree_of d) (action_by a f ops))
 cells_joined d a f ops ks T keeps =
-    let p = parts d.roster d.history a f ops ks T keeps in (
-      ap all_read (rest_of p) ∙ p.of_them.read ∙ ap (λ R. reads d.roster R (action_by a f ops)) p.before,
-      ap all_written (rest_of p) ∙ p.of_them.written ∙ ap (λ R. writes d.roster R (action_by a f ops)) p.before,
+    let ro = d.roster in
+    let h = d.history in
+    let p = parts ro h a f ops ks T keeps in
+    let up = subst Ascend p.whole (kept_ascend ro (h ++ each_alone a f ops) ks T keeps) in
+    let rest : live_from (length h + 1) (length ops) ks ≡ p.rest
+    = ap (live_from (length h + 1) (length ops)) p.whole ∙ of_numbers ro p.middle T (length h + 1) a f ops p.front p.rest p.leads up in (
+      ap all_read rest ∙ p.of_them.read ∙ ap (λ R. reads ro R (action_by a f ops)) p.before,
+      ap all_written rest ∙ p.of_them.written ∙ ap (λ R. writes ro R (action_by a f ops)) p.before,
     )
+
+-- one in the place of several is behind what was kept before them
+in_their_place : (ro : Membership) (R T : Tree) (n a : ℕ) (f : Format) (ops : List Op) (front rest : List KeptOperation) (k : KeptOperation) → Leads ro R (one_by_one n a f ops) rest T → is_many (Do ops) ≡ true → k.number ≡ n → Ascend (front ++ rest)
+    → join_live k (front ++ rest) ≡ front ++ k ∷ []
+in_their_place ro R T n a f [] front rest k leads many number up = absurd (let bad : false ≡ true = many in cc)
+in_their_place ro R T n a f (op ∷ ops) front [] k leads many number up = absurd leads
+in_their_place ro R T n a f (op ∷ ops) front (l ∷ rest) k (fits, more) many number up =
+    let same : l.number ≡ k.number = fits.number ∙ sym number in
+    join_live-there k l front rest (subst (λ m. AllBelow m front) same (all_below front rest l up)) same
 
 -- several are accepted together where they are one after another
 pub together : (ro : Membership) (R : Tree) (a : ℕ) (f : Format) (ops : List Op) → is_many (Do ops) ≡ true → batch_refusal ro R a f ops ≡ first_refusal ro R a f ops
@@ -169,7 +183,7 @@ together ro R a f (op ∷ ops) many = refl
 -- the desk is as if they had been made as one
 pub keeps_joined : (d : DeskState) (a : ℕ) (f : Format) (ops : List Op) (ks : List KeptOperation) (k : KeptOperation) (T : Tree) → Keeps d.roster (d.history ++ each_alone a f ops) ks T
     → is_many (Do ops) ≡ true → format_refusal d.history f (Do ops) ≡ None → k.number ≡ length d.history + 1 → IsJoined d a f ops k.footprint → IsKeptBefore d k.footprint k.inverse
-    → Keeps d.roster (d.history ++ entry_doing (action_by a f ops) ∷ []) (take (length ks - length ops) ks ++ k ∷ []) T
+    → Keeps d.roster (d.history ++ entry_doing (action_by a f ops) ∷ []) (join_live k ks) T
 keeps_joined d a f ops ks k T keeps many has number joined before =
     let ro = d.roster in
     let h = d.history in
@@ -183,8 +197,10 @@ keeps_joined d a f ops ks k T keeps many has number joined before =
       areas = before.areas;
       kept = subst (λ R. IsKeptOf k.inverse R) (sym p.before) before.kept;
     }) in
-    subst (λ R. Keeps ro (h ++ entry_doing x ∷ []) (take (length ks - length ops) ks ++ k ∷ []) R) p.of_them.ends
-    (subst (λ fs. Keeps ro (h ++ entry_doing x ∷ []) (fs ++ k ∷ []) ((store ro).act p.middle x)) (sym (front_of p)) done)
+    let up = subst Ascend p.whole (kept_ascend ro (h ++ each_alone a f ops) ks T keeps) in
+    let list : join_live k ks ≡ p.front ++ k ∷ [] = ap (join_live k) p.whole ∙ in_their_place ro p.middle T (length h + 1) a f ops p.front p.rest k p.leads many number up in
+    subst (λ R. Keeps ro (h ++ entry_doing x ∷ []) (join_live k ks) R) p.of_them.ends
+    (subst (λ xs. Keeps ro (h ++ entry_doing x ∷ []) xs ((store ro).act p.middle x)) (sym list) done)
 
 -- ---- formats
 
@@ -276,6 +292,10 @@ each_long : (a : ℕ) (f : Format) (ops : List Op) → length (each_alone a f op
 each_long a f [] = refl
 each_long a f (op ∷ ops) = ap suc (each_long a f ops)
 
+-- where they are cut off
+cut : {A : Type 0} (front rest : List A) (n : ℕ) → length rest ≡ n → length (front ++ rest) - n ≡ length front
+cut front rest n long = let both = length-append front rest in omega (arith, both, long)
+
 -- the entries before them
 pub entries_before : (d : DeskState) (a : ℕ) (f : Format) (ops : List Op) (h : List Entry) (n : ℕ) → h ≡ d.history ++ each_alone a f ops → length ops ≡ n → take (length h - n) h ≡ d.history
 entries_before d a f ops h n is long =
@@ -283,13 +303,7 @@ entries_before d a f ops h n is long =
     ∙ ap (λ m. take m (d.history ++ each_alone a f ops)) (cut d.history (each_alone a f ops) n (each_long a f ops ∙ long))
     ∙ take-append_seam d.history (each_alone a f ops)
 
--- no more are cut off than there are
-pub few_kept : (d : DeskState) (a : ℕ) (f : Format) (ops : List Op) (ks : List KeptOperation) (T : Tree) → Keeps d.roster (d.history ++ each_alone a f ops) ks T → length ops ≤ length ks
-few_kept d a f ops ks T keeps =
-    let p = parts d.roster d.history a f ops ks T keeps in
-    let all = ap length p.whole ∙ length-append p.front p.rest in
-    let long = p.of_them.long in omega (arith, all, long)
-
+-- how many there are
 pub few_entries : (d : DeskState) (a : ℕ) (f : Format) (ops : List Op) (h : List Entry) → h ≡ d.history ++ each_alone a f ops → length h ≡ length d.history + length ops
 few_entries d a f ops h is = ap length is ∙ length-append d.history (each_alone a f ops) ∙ ap (λ n. length d.history + n) (each_long a f ops)
 

@@ -21,7 +21,7 @@ use Rattle.su_part_inverse.proofs.LawLemmas.{kept_again}
 use Rattle.su_undo.specs.System.{Agree}
 use Rattle.su_undo.proofs.TakingOut.{Beside, AllBeside, led_to, replay-cons, replayed_to, agree_read, leaves_others, past_it, stay_inside, same_outside}
 use Rattle.su_desk.specs.declared.entries.Entry.{Entry}
-use Rattle.su_stored_desk.specs.declared.kept.KeptOperation.{KeptOperation}
+use Rattle.su_stored_desk.specs.Keeping.{KeptOperation}
 use Rattle.su_desk.specs.History.{NumberedAction, actions, entry_doing, undo_by, live, live_numbers, replay, tree, entry_at, last_number, last_live}
 use Rattle.su_desk.specs.Applied.{reads_where_applied, writes_where_applied, written_by}
 use Rattle.su_desk.specs.Blocker.{blocker}

@@ -1,6 +1,5 @@
 pub mod KeptOperations
-pub mod KeptIndexes
-pub mod NumberSearch
+pub mod ByNumber
 pub mod TakingBack
 pub mod Replies
 pub mod NamedKeys

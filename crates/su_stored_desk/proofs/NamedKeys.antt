@@ -11,7 +11,7 @@ use Rattle.su_op.specs.Action.{named_key}
 use Rattle.su_op.specs.declared.operations.Change.TheVariants.{Rekey}
 use Rattle.su_table.specs.Tree.{Tree, genesis}
 use Rattle.su_desk.specs.declared.entries.Entry.{Entry}
-use Rattle.su_stored_desk.specs.declared.kept.KeptOperation.{KeptOperation}
+use Rattle.su_stored_desk.specs.Keeping.{KeptOperation}
 use Rattle.su_desk.specs.History.{rekey_by, named_keys, keys_after}
 use Rattle.su_desk.specs.Answer.{format_refusal, rekey_refusal}
 use Rattle.su_desk.specs.Desk.{DeskState, with_entry}

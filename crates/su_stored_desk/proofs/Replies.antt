@@ -1,5 +1,5 @@
 -- The answers of a desk from what it keeps.
-use Rattle.std.proofs.Common.{◌⊎◌, ⊎_elim, inl, inr, Result, IsErrAnd, Option, ◌≡◌, ◌∙◌, sym, refl, ap, ℕ, ◌+◌, ◌-◌, List, [], ◌∷◌, ◌++◌, length, Some, None, Ok, Err, slice_get, get_or, take, drop, subst, arith}
+use Rattle.std.proofs.Common.{◌⊎◌, ⊎_elim, inl, inr, Result, IsErrAnd, Option, ◌≡◌, ◌∙◌, sym, refl, ap, ℕ, ◌+◌, ◌-◌, List, [], ◌∷◌, ◌++◌, length, Some, None, Ok, Err, slice_get, get_or, take, subst, arith}
 use Rattle.std.specs.Option.{unwrap_or}
 use Rattle.std.proofs.lemmas.Option.{slice_get-get_or}
 use Rattle.su_bytes.specs.Membership.{Membership}
@@ -11,14 +11,15 @@ use Rattle.su_op.specs.declared.operations.Change.TheVariants.{Do, Undo, Rekey}
 use Rattle.su_op.specs.Batch.{why}
 use Rattle.su_desk.specs.declared.entries.Entry.{Entry}
 use Rattle.su_desk.specs.History.{entry_doing, undo_by, rekey_by, tree, last_live}
-use Rattle.su_stored_desk.specs.declared.kept.KeptOperation.{KeptOperation}
 use Rattle.su_desk.specs.Desk.{DeskState}
 use Rattle.su_part_tree.specs.Loading.{IsLoadRefusal}
 use Rattle.su_stored_desk.specs.Asked.{Answers}
 use Rattle.su_desk.specs.Applied.{written_by}
-use Rattle.su_stored_desk.specs.Keeping.{Keeps, IsIndexOf}
+use Rattle.su_live.specs.Live.{find_live, without}
+use Rattle.su_live.proofs.Public.{AllBelow, found_number, without-there}
+use Rattle.su_stored_desk.specs.Keeping.{Keeps, KeptOperation}
 use Rattle.su_stored_desk.proofs.KeptOperations.{KeepsUndone, keeps_undo, written_there, last_kept, none_kept}
-use Rattle.su_stored_desk.proofs.KeptIndexes.{split_at}
+use Rattle.su_stored_desk.proofs.ByNumber.{all_below, among, kept_ascend}
 use Rattle.su_desk.proofs.FormatLemmas.{by_change, ends_with}
 use Rattle.su_desk.specs.Answer.{format_refusal, rekey_refusal, undo_refusal, refusal_of, reply, answer}
 
@@ -71,19 +72,31 @@ no_number ro h ks T keeps e = sym (none_kept ro h T (subst (λ xs. Keeps ro h xs
 -- ---- an undo
 
 -- where an accepted undo finds its operation
-pub record Found (ro : Membership) (h : List Entry) (ks : List KeptOperation) (k : KeptOperation) (i : ℕ) (n : ℕ) (T : Tree) : Type 0 where
-  pub whole : Keeps ro h (take i ks ++ k ∷ drop (i + 1) ks) T
+pub record Found (ro : Membership) (h : List Entry) (ks : List KeptOperation) (k : KeptOperation) (n : ℕ) (T : Tree) : Type 0 where
+  pub front : List KeptOperation
+  pub rest : List KeptOperation
+  pub whole : Keeps ro h (front ++ k ∷ rest) T
   pub number : k.number ≡ n
+  pub left : without n ks ≡ front ++ rest
 
-pub found : (ro : Membership) (h : List Entry) (ks : List KeptOperation) (k : KeptOperation) (i n : ℕ) (T : Tree) → Keeps ro h ks T → IsIndexOf n ks i → get_or ks i k ≡ k → Found ro h ks k i n T
-found ro h ks k i n T keeps index here = record {
-  whole = subst (λ xs. Keeps ro h xs T) (split_at ks i k index.within here) keeps;
-  number = ap (λ (x : KeptOperation). x.number) (sym here) ∙ index.number k;
-}
+pub found : (ro : Membership) (h : List Entry) (ks : List KeptOperation) (k : KeptOperation) (n : ℕ) (T : Tree) → Keeps ro h ks T → find_live n ks ≡ Some k → Found ro h ks k n T
+found ro h ks k n T keeps there =
+    let a = among n ks k there in
+    let whole = subst (λ xs. Keeps ro h xs T) a.whole keeps in
+    let number = found_number n k ks there in
+    let below = all_below a.front a.rest k (kept_ascend ro h (a.front ++ k ∷ a.rest) T whole) in
+    record {
+      front = a.front;
+      rest = a.rest;
+      whole = whole;
+      number = number;
+      left = ap (without n) a.whole ∙ without-there n a.front k a.rest (subst (λ m. AllBelow m a.front) number below) number;
+    }
 
-pub undone_there : (ro : Membership) (h : List Entry) (ks : List KeptOperation) (k : KeptOperation) (i : ℕ) (T : Tree) (a : ℕ) (f : Format) (n : ℕ) → Found ro h ks k i n T → format_refusal h f (Undo n) ≡ None → undo_refusal ro h a n ≡ None
-    → KeepsUndone ro h (undo_by a f n) (take i ks ++ drop (i + 1) ks) k T
-undone_there ro h ks k i T a f n there has accepted = keeps_undo ro h (take i ks) (drop (i + 1) ks) T a f n k there.whole there.number has accepted
+pub undone_there : (ro : Membership) (h : List Entry) (ks : List KeptOperation) (k : KeptOperation) (T : Tree) (a : ℕ) (f : Format) (n : ℕ) → Found ro h ks k n T → format_refusal h f (Undo n) ≡ None → undo_refusal ro h a n ≡ None
+    → KeepsUndone ro h (undo_by a f n) (without n ks) k T
+undone_there ro h ks k T a f n there has accepted =
+    subst (λ xs. KeepsUndone ro h (undo_by a f n) xs k T) (sym there.left) (keeps_undo ro h there.front there.rest T a f n k there.whole there.number has accepted)
 
-pub undone_written : (ro : Membership) (h : List Entry) (ks : List KeptOperation) (k : KeptOperation) (i n : ℕ) (T : Tree) → Found ro h ks k i n T → k.footprint.writes.items ≡ written_by ro h n
-undone_written ro h ks k i n T there = written_there ro h (take i ks) (drop (i + 1) ks) T n k there.whole there.number
+pub undone_written : (ro : Membership) (h : List Entry) (ks : List KeptOperation) (k : KeptOperation) (n : ℕ) (T : Tree) → Found ro h ks k n T → k.footprint.writes.items ≡ written_by ro h n
+undone_written ro h ks k n T there = written_there ro h there.front there.rest T n k there.whole there.number

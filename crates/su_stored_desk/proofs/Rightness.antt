@@ -16,7 +16,7 @@ use Rattle.su_desk.specs.declared.entries.Entry.{Entry}
 use Rattle.su_stored_desk.specs.Keeping.{Keeps, AreKept}
 use Rattle.su_stored_desk.specs.Right.{state_of, IsRight, IsSure, MayBecome}
 use Rattle.su_stored_desk.specs.declared.desks.Desk.{Desk}
-use Rattle.su_stored_desk.specs.declared.kept.KeptOperation.{KeptOperation}
+use Rattle.su_stored_desk.specs.Keeping.{KeptOperation}
 use Rattle.su_stored_desk.proofs.KeptOperations.{tree_kept}
 use Rattle.su_stored_desk.proofs.TakingBack.{left_by}
 use Rattle.su_stored_forest.specs.Shows.{Follows, Holds, Shows}
@@ -36,20 +36,17 @@ module _ {S : Type 0} {g : Ghosts S} where
   shows may_give d sure = holds_shows may_give d.stored (tree_of (state_of d)) sure.right.holds sure.unmixed
 
   -- what it keeps is of its history
-  pub kept_of : (d : Desk S g) (seen : List Entry) (kept : List KeptOperation) → IsRight d → seen ≡ d.entries.items → kept ≡ d.kept.items → AreKept d.roster seen kept
-  kept_of d seen kept right h ks = (
-    tree_of (state_of d),
-    subst (λ (l : List KeptOperation). Keeps d.roster seen l (tree_of (state_of d))) (sym ks) (subst (λ (l : List Entry). Keeps d.roster l d.kept.items (tree_of (state_of d))) (sym h) right.keeps),
-  )
+  pub kept_of : (d : Desk S g) (seen : List Entry) → IsRight d → seen ≡ d.entries.items → AreKept d.roster seen d.kept
+  kept_of d seen right h = (tree_of (state_of d), subst (λ (l : List Entry). Keeps d.roster l d.kept (tree_of (state_of d))) (sym h) right.keeps)
 
   -- where its forest alone was asked
   pub asked_right : (d : Desk S g) (s : StoredForest S g) → IsRight d → Holds s (tree_of (state_of d)) → IsRight (record d { stored = s })
   asked_right d s right holds = record { keeps = right.keeps; holds = holds; counters = right.counters; keys = right.keys }
 
   -- of a desk with that roster and history
-  pub right_at : (s : Desk S g) (d : DeskState) → state_of s ≡ d → Keeps d.roster d.history s.kept.items (tree_of d) → Holds s.stored (tree_of d) → s.counters.items ≡ versions d.roster d.history → HasJust (keys_after d.roster d.history) s.used → IsRight s
+  pub right_at : (s : Desk S g) (d : DeskState) → state_of s ≡ d → Keeps d.roster d.history s.kept (tree_of d) → Holds s.stored (tree_of d) → s.counters.items ≡ versions d.roster d.history → HasJust (keys_after d.roster d.history) s.used → IsRight s
   right_at s d is keeps holds counters keys = record {
-    keeps = subst (λ (y : DeskState). Keeps y.roster y.history s.kept.items (tree_of y)) (sym is) keeps;
+    keeps = subst (λ (y : DeskState). Keeps y.roster y.history s.kept (tree_of y)) (sym is) keeps;
     holds = subst (λ (y : DeskState). Holds s.stored (tree_of y)) (sym is) holds;
     counters = counters ∙ ap (λ (y : DeskState). versions y.roster y.history) (sym is);
     keys = subst (λ (y : DeskState). HasJust (keys_after y.roster y.history) s.used) (sym is) keys;

@@ -1,9 +1,7 @@
 -- The last entry of a history is taken back: what is kept leads to the tree before it.
-use Rattle.std.proofs.Common.{◌≡◌, ℕ, ◌+◌, ◌<◌, ◌≤◌, Bool, true, false, zero, suc, List, [], ◌∷◌, ◌++◌, length, length-append, drop, get_or, Option, Some, None, refl, sym, ap, ◌∙◌, subst, arith}
-use Rattle.std.specs.List.{insert}
+use Rattle.std.proofs.Common.{◌≡◌, ℕ, ◌+◌, Bool, true, false, cond, nat_eq, suc, List, [], ◌∷◌, ◌++◌, length, append-nil, Option, Some, None, refl, sym, ap, ◌∙◌, subst}
 use Rattle.std.specs.Option.{is_none, unwrap_or}
 use Rattle.std.proofs.lemmas.List.{map-append}
-use Rattle.std.proofs.Math.Seq.{take-append_seam, drop-append_seam}
 use Rattle.su_bytes.specs.Membership.{Membership}
 use Rattle.su_bytes.specs.declared.formats.Format.{Format}
 use Rattle.su_node.specs.Field.{Field.BlockOf}
@@ -24,18 +22,20 @@ use Rattle.su_part_inverse.proofs.LawLemmas.{kept_again}
 use Rattle.su_undo.specs.Replay.{replay as replay_actions}
 use Rattle.su_undo.proofs.TakingOut.{Beside, AllBeside, led_to, replay-cons, replayed_to, agree_read, past_it}
 use Rattle.su_desk.specs.declared.entries.Entry.{Entry}
-use Rattle.su_stored_desk.specs.declared.kept.KeptOperation.{KeptOperation}
+use Rattle.su_live.specs.Live.{find_live, insert_live, without}
+use Rattle.su_live.proofs.Public.{AllBelow, find_live-there, found_number, insert_live-between, without-there}
 use Rattle.su_desk.specs.History.{NumberedAction, actions, entry_doing, undo_by, live, replay, tree}
 use Rattle.su_desk.specs.Applied.{tree_after, written_by}
 use Rattle.su_desk.specs.Blocker.{blocker}
 use Rattle.su_desk.specs.Answer.{undo_refusal, Good}
-use Rattle.su_stored_desk.specs.Keeping.{Fits, Leads, Keeps}
-use Rattle.su_stored_desk.specs.Tried.{IsKeptAt}
+use Rattle.su_stored_desk.specs.Keeping.{Fits, Leads, Keeps, KeptOperation}
+use Rattle.su_stored_desk.specs.Tried.{IsKept}
 use Rattle.su_desk.proofs.FormatLemmas.{change_accepted}
 use Rattle.su_desk.proofs.WhereApplied.{replay_reached, written_of}
 use Rattle.su_desk.proofs.LiveNumbers.{live_number, live_operation, undo_accepted}
 use Rattle.su_desk.proofs.StandingFiles.{files_alike}
 use Rattle.su_desk.proofs.Replays.{tree_replayed, split_live, undone_out, free_none_reads, can_be_taken_out, goes_in_replay, good_has_tree, good_exact, live_done}
+use Rattle.su_stored_desk.proofs.ByNumber.{all_above, all_below, kept_ascend}
 use Rattle.su_stored_desk.proofs.KeptOperations.{replay_led, tree_kept, replayed_kept}
 
 -- two trees of one replay
@@ -73,6 +73,7 @@ pub record LastKept (ro : Membership) (h : List Entry) (x : Action) (ks : List K
   pub front : List KeptOperation
   pub kept : KeptOperation
   pub earlier : Tree
+  pub number : kept.number ≡ length h + 1
   pub whole : ks ≡ front ++ kept ∷ []
   pub keeps : Keeps ro h front earlier
   pub written : kept.footprint.writes.items ≡ writes ro (tree_after ro h) x
@@ -94,6 +95,7 @@ last_done ro h x ks T keeps =
       front = r.front;
       kept = r.kept;
       earlier = r.earlier;
+      number = r.fits.number;
       whole = r.whole;
       keeps = keeps';
       written = r.fits.writes ∙ ap (λ R. writes ro R x) (left_by ro h r.earlier (tree_kept ro h r.front r.earlier keeps'));
@@ -104,55 +106,67 @@ last_done ro h x ks T keeps =
       };
     }
 
+-- it is found by its number, and without it there is what was kept before
+pub last_found : (ro : Membership) (h : List Entry) (x : Action) (ks : List KeptOperation) (T : Tree) (l : LastKept ro h x ks T) → Keeps ro (h ++ entry_doing x ∷ []) ks T
+    → (find_live (length h + 1) ks ≡ Some l.kept) × (without (length h + 1) ks ≡ l.front)
+last_found ro h x ks T l keeps =
+    let e : Entry = entry_doing x in
+    let up = kept_ascend ro (h ++ e ∷ []) (l.front ++ l.kept ∷ []) T (subst (λ xs. Keeps ro (h ++ e ∷ []) xs T) l.whole keeps) in
+    let below = subst (λ m. AllBelow m l.front) l.number (all_below l.front [] l.kept up) in (
+      ap (find_live (length h + 1)) l.whole ∙ find_live-there (length h + 1) l.front l.kept [] below l.number,
+      ap (without (length h + 1)) l.whole ∙ without-there (length h + 1) l.front l.kept [] below l.number ∙ append-nil l.front,
+    )
+
 -- ---- where an operation is kept
 
-record PartedAt (ro : Membership) (S : Tree) (ts : List NumberedAction) (i : ℕ) (k : KeptOperation) : Type 0 where
+record PartedAt (ro : Membership) (S : Tree) (ts : List NumberedAction) (k : KeptOperation) : Type 0 where
   before : List NumberedAction
   operation : NumberedAction
   after : List NumberedAction
   earlier : Tree
   whole : ts ≡ before ++ operation ∷ after
-  place : length before ≡ i
   reached : replay ro S before ≡ Some earlier
   fits : Fits ro earlier operation k
 
-part_at : (ro : Membership) (S T : Tree) (ts : List NumberedAction) (ks : List KeptOperation) (i : ℕ) (k : KeptOperation) → Leads ro S ts ks T → i < length ks → get_or ks i k ≡ k → PartedAt ro S ts i k
-part_at ro S T [] [] i k leads within here = absurd (omega arith)
-part_at ro S T (t ∷ ts) (l ∷ ks) zero k (fits, rest) within here =
-    record { before = []; operation = t; after = ts; earlier = S; whole = refl; place = refl; reached = refl; fits = subst (Fits ro S t) here fits }
-part_at ro S T (t ∷ ts) (l ∷ ks) (suc i) k (fits, rest) within here =
-    let r = part_at ro ((store ro).act S t.action) T ts ks i k rest (omega arith) here in
-    record {
-      before = t ∷ r.before;
-      operation = r.operation;
-      after = r.after;
-      earlier = r.earlier;
-      whole = ap (λ us. t ∷ us) r.whole;
-      place = ap suc r.place;
-      reached = replay-cons (store ro) S t.action (actions r.before) (ap is_none fits.accepted) ∙ r.reached;
-      fits = r.fits;
-    }
-part_at ro S T [] (l ∷ ks) i k leads within here = absurd leads
-part_at ro S T (t ∷ ts) [] i k leads within here = absurd leads
+part_at : (ro : Membership) (S T : Tree) (ts : List NumberedAction) (ks : List KeptOperation) (n : ℕ) (k : KeptOperation) → Leads ro S ts ks T → find_live n ks ≡ Some k → PartedAt ro S ts k
+part_at ro S T [] [] n k leads found = absurd (let bad : None ≡ Some k = found in cc)
+part_at ro S T (t ∷ ts) (l ∷ ks) n k (fits, rest) found = go (nat_eq l.number n) found (part_at ro ((store ro).act S t.action) T ts ks n k rest)
+  where
+    go : (b : Bool) → cond b (Some l) (find_live n ks) ≡ Some k → (find_live n ks ≡ Some k → PartedAt ro ((store ro).act S t.action) ts k) → PartedAt ro S (t ∷ ts) k
+    go true is later =
+        let same : l ≡ k = cc in
+        record { before = []; operation = t; after = ts; earlier = S; whole = refl; reached = refl; fits = subst (Fits ro S t) same fits }
+    go false is later =
+        let r = later is in
+        record {
+          before = t ∷ r.before;
+          operation = r.operation;
+          after = r.after;
+          earlier = r.earlier;
+          whole = ap (λ us. t ∷ us) r.whole;
+          reached = replay-cons (store ro) S t.action (actions r.before) (ap is_none fits.accepted) ∙ r.reached;
+          fits = r.fits;
+        }
+part_at ro S T [] (l ∷ ks) n k leads found = absurd leads
+part_at ro S T (t ∷ ts) [] n k leads found = absurd leads
 
-pub kept_at : (ro : Membership) (h : List Entry) (ks : List KeptOperation) (T : Tree) (n i : ℕ) (k : KeptOperation) → Keeps ro h ks T → i < length ks → get_or ks i k ≡ k → k.number ≡ n → IsKeptAt ro h n i k
-kept_at ro h ks T n i k keeps within here number =
-    let r = part_at ro genesis T (live h) ks i k keeps.leads within here in
+pub kept_there : (ro : Membership) (h : List Entry) (ks : List KeptOperation) (T : Tree) (n : ℕ) (k : KeptOperation) → Keeps ro h ks T → find_live n ks ≡ Some k → IsKept ro h n k
+kept_there ro h ks T n k keeps found =
+    let r = part_at ro genesis T (live h) ks n k keeps.leads found in
     record {
       before = r.before;
       operation = r.operation;
       after = r.after;
       earlier = r.earlier;
       whole = r.whole;
-      number = sym r.fits.number ∙ number;
-      place = r.place;
+      number = sym r.fits.number ∙ found_number n k ks found;
       reached = r.reached;
       fits = r.fits;
     }
 
 -- what is kept of it says what its entry wrote
-pub kept_writes : (ro : Membership) (h : List Entry) (n i : ℕ) (k : KeptOperation) → Good ro h → IsKeptAt ro h n i k → k.footprint.writes.items ≡ written_by ro h n
-kept_writes ro h n i k good at =
+pub kept_writes : (ro : Membership) (h : List Entry) (n : ℕ) (k : KeptOperation) → Good ro h → IsKept ro h n k → k.footprint.writes.items ≡ written_by ro h n
+kept_writes ro h n k good at =
     let r = good_has_tree ro h good in
     let p = split_live ro h r.state at.before at.after at.operation r.replayed at.whole in
     let goes = goes_in_replay ro h r.state r.replayed at.before at.after at.operation at.earlier at.whole at.reached in
@@ -244,19 +258,9 @@ module _ (ro : Membership) where
   led_together S R T [] after (k ∷ front) rest bad leads = absurd bad
   led_together S R T (t ∷ before) after [] rest bad leads = absurd bad
 
-  inserted : (front rest : List KeptOperation) (k : KeptOperation) (i : ℕ) → length front ≡ i → insert (front ++ rest) i k ≡ front ++ k ∷ rest
-  inserted front rest k i long =
-      ap (λ j. insert (front ++ rest) j k) (sym long)
-      ∙ ap (λ xs. xs ++ k ∷ drop (length front) (front ++ rest)) (take-append_seam front rest)
-      ∙ ap (λ xs. front ++ k ∷ xs) (drop-append_seam front rest)
-
-  -- what was taken out comes back to its index
-  pub record PutAgain (h : List Entry) (ks : List KeptOperation) (i : ℕ) (k : KeptOperation) : Type 0 where
-    pub within : i ≤ length ks
-    pub keeps : Keeps ro h (insert ks i k) (tree_after ro h)
-
-  undo_put_again : (h : List Entry) (a : ℕ) (f : Format) (n i : ℕ) (k : KeptOperation) (ks : List KeptOperation) (T : Tree) → Keeps ro (h ++ undo_by a f n ∷ []) ks T → IsKeptAt ro h n i k → PutAgain h ks i k
-  undo_put_again h a f n i k ks T keeps at =
+  -- what was taken out comes back to its place
+  undo_put_again : (h : List Entry) (a : ℕ) (f : Format) (n : ℕ) (k : KeptOperation) (ks : List KeptOperation) (T : Tree) → Keeps ro (h ++ undo_by a f n ∷ []) ks T → IsKept ro h n k → Keeps ro h (insert_live k ks) (tree_after ro h)
+  undo_put_again h a f n k ks T keeps at =
       let both = (good_exact ro h (undo_by a f n)).0 keeps.good in
       let r = good_has_tree ro h both.0 in
       let ended : r.state ≡ tree_after ro h = left_by ro h r.state (tree_replayed ro h r.state r.replayed) in
@@ -276,14 +280,13 @@ module _ (ro : Membership) where
       let again : Leads ro genesis (at.before ++ at.operation ∷ at.after) (l.front ++ k ∷ l.rest) (tree_after ro h)
       = led_together genesis p.earlier (tree_after ro h) at.before (at.operation ∷ at.after) l.front (k ∷ l.rest) (subst (λ R. Leads ro genesis at.before l.front R) middle l.first)
       (subst (λ R. Fits ro R at.operation k) here at.fits, subst (λ R. Leads ro ((store ro).act p.earlier x) at.after l.rest R) ends later) in
-      let list : insert ks i k ≡ l.front ++ k ∷ l.rest = ap (λ xs. insert xs i k) l.whole ∙ inserted l.front l.rest k i (l.long ∙ at.place) in
-      record {
-        within = let all = ap length l.whole ∙ length-append l.front l.rest in let index = l.long ∙ at.place in omega arith;
-        keeps = record {
-          good = both.0;
-          leads = subst (λ ts. Leads ro genesis ts (insert ks i k) (tree_after ro h)) (sym at.whole) (subst (λ xs. Leads ro genesis (at.before ++ at.operation ∷ at.after) xs (tree_after ro h)) (sym list) again);
-        };
-      }
+      let whole : Keeps ro h (l.front ++ k ∷ l.rest) (tree_after ro h) = record {
+        good = both.0;
+        leads = subst (λ ts. Leads ro genesis ts (l.front ++ k ∷ l.rest) (tree_after ro h)) (sym at.whole) again;
+      } in
+      let up = kept_ascend ro h (l.front ++ k ∷ l.rest) (tree_after ro h) whole in
+      let list : insert_live k ks ≡ l.front ++ k ∷ l.rest = ap (insert_live k) l.whole ∙ insert_live-between k l.front l.rest (all_below l.front l.rest k up) (all_above l.front l.rest k up) in
+      subst (λ xs. Keeps ro h xs (tree_after ro h)) (sym list) whole
 
-  pub put_again : (h : List Entry) (e : Entry) (n i : ℕ) (k : KeptOperation) (ks : List KeptOperation) (T : Tree) → e.change ≡ Undo n → Keeps ro (h ++ e ∷ []) ks T → IsKeptAt ro h n i k → PutAgain h ks i k
-  put_again h e n i k ks T is keeps = undo_put_again h e.author e.format n i k ks T (subst (λ c. Keeps ro (h ++ record e { change = c } ∷ []) ks T) is keeps)
+  pub put_again : (h : List Entry) (e : Entry) (n : ℕ) (k : KeptOperation) (ks : List KeptOperation) (T : Tree) → e.change ≡ Undo n → Keeps ro (h ++ e ∷ []) ks T → IsKept ro h n k → Keeps ro h (insert_live k ks) (tree_after ro h)
+  put_again h e n k ks T is keeps = undo_put_again h e.author e.format n k ks T (subst (λ c. Keeps ro (h ++ record e { change = c } ∷ []) ks T) is keeps)

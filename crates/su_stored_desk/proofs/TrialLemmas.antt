@@ -16,7 +16,7 @@ use Rattle.su_op.specs.declared.operations.Change.{Change}
 use Rattle.su_op.specs.declared.operations.Change.TheVariants.{Do, Undo, Rekey}
 use Rattle.su_op.specs.Batch.{Action}
 use Rattle.su_desk.specs.declared.entries.Entry.{Entry}
-use Rattle.su_stored_desk.specs.declared.kept.KeptOperation.{KeptOperation}
+use Rattle.su_stored_desk.specs.Keeping.{KeptOperation}
 use Rattle.su_stored_desk.specs.declared.prepared.Means.TheVariants.{Kept, Held, Named}
 use Rattle.su_stored_desk.specs.declared.prepared.Undone.{Undone}
 use Rattle.su_desk.specs.History.{entry_doing, action_of}
@@ -118,7 +118,7 @@ undone_cells d e u good = go e.change
   where
     go : (c : Change) → TakesChangeBack d e c (Held u) → u.operation.footprint.writes.items ≡ cells_by_change d.roster d.history e c
     go (Do op) back = absurd back
-    go (Undo n) back = kept_writes d.roster d.history n u.index u.operation good back.kept
+    go (Undo n) back = kept_writes d.roster d.history n u.operation good back.kept
     go (Rekey k) back = absurd back
 
 -- a rekey has none

@@ -1,5 +1,5 @@
 -- Operations of a user that were made one by one behind a history, and are joined into one entry.
-use Rattle.std.specs.Prelude.{◌≡◌, ℕ, ◌+◌, true, None, List, [], ◌∷◌, ◌++◌, map}
+use Rattle.std.specs.Prelude.{◌≡◌, ℕ, ◌+◌, zero, suc, true, Option, None, Some, List, [], ◌∷◌, ◌++◌, map}
 use Rattle.std.specs.List.{AllByRecursion}
 use Rattle.su_bytes.specs.Format.{is_as_new}
 use Rattle.su_bytes.specs.declared.formats.Format.{Format}
@@ -14,7 +14,8 @@ use Rattle.su_op.specs.Batch.{action_by, reads, writes}
 use Rattle.su_part_inverse.specs.declared.inverses.Inverse.{Inverse}
 use Rattle.su_part_inverse.specs.Kept.{inverse_areas, IsKeptOf}
 use Rattle.su_desk.specs.declared.entries.Entry.{Entry}
-use Rattle.su_stored_desk.specs.declared.kept.KeptOperation.{KeptOperation}
+use Rattle.su_live.specs.Live.{find_live}
+use Rattle.su_stored_desk.specs.Keeping.{KeptOperation}
 use Rattle.su_desk.specs.Answer.{format_refusal}
 use Rattle.su_desk.specs.History.{NumberedAction, entry_by, format_after}
 use Rattle.su_desk.specs.Desk.{DeskState}
@@ -42,6 +43,16 @@ all_read (k ∷ ks) = k.footprint.reads.items ++ all_read ks
 abbrev pub all_written : List KeptOperation → List Area
 all_written [] = []
 all_written (k ∷ ks) = k.footprint.writes.items ++ all_written ks
+
+-- as a list of one, if there is one
+abbrev pub option_list : {A : Type 0} → Option A → List A
+option_list None = []
+option_list (Some x) = x ∷ []
+
+-- those of these operations that have one of so many numbers, from n on
+abbrev pub live_from : ℕ → ℕ → List KeptOperation → List KeptOperation
+live_from n zero ks = []
+live_from n (suc count) ks = option_list (find_live n ks) ++ live_from (n + 1) count ks
 
 -- the desk has the operations one by one behind d
 abbrev pub HasEach : DeskState → ℕ → Format → List Op → DeskState → Type 0

@@ -28,7 +28,7 @@ module _ {S : Type 0} {g : Ghosts S} where
   -- undoes it is kept; its forest holds the tree that these make; and it has the version numbers, and
   -- the keys that users have or had.
   pub record IsRight (d : Desk S g) : Type 0 where
-    pub keeps : Keeps d.roster d.entries.items d.kept.items (tree_of (state_of d))
+    pub keeps : Keeps d.roster d.entries.items d.kept (tree_of (state_of d))
     pub holds : Holds d.stored (tree_of (state_of d))
     pub counters : d.counters.items ≡ versions d.roster d.entries.items
     pub keys : HasJust (keys_after d.roster d.entries.items) d.used

@@ -6,7 +6,6 @@ use Rattle.su_op.specs.declared.operations.Change.{Change}
 use Rattle.su_op.specs.declared.operations.Change.TheVariants.{Do, Undo, Rekey}
 use Rattle.su_part_inverse.specs.Kept.{IsPutBack}
 use Rattle.su_desk.specs.declared.entries.Entry.{Entry}
-use Rattle.su_stored_desk.specs.declared.kept.KeptOperation.{KeptOperation}
 use Rattle.su_stored_desk.specs.declared.prepared.Undone.{Undone}
 use Rattle.su_stored_desk.specs.declared.prepared.Tried.{Tried}
 use Rattle.su_stored_desk.specs.declared.prepared.Means.{Means}
@@ -14,27 +13,24 @@ use Rattle.su_stored_desk.specs.declared.prepared.Means.TheVariants.{Kept, Held,
 use Rattle.su_desk.specs.History.{NumberedAction, live, replay}
 use Rattle.su_desk.specs.Version.{versions}
 use Rattle.su_desk.specs.Desk.{DeskState, with_entry}
-use Rattle.su_stored_desk.specs.Keeping.{Fits}
+use Rattle.su_stored_desk.specs.Keeping.{Fits, KeptOperation}
 use Rattle.su_desk.specs.Trial.{TrialState, tree_of, split_before}
 
--- Operation n is live, with so many live ones before it; and what is kept of it fits the tree where
--- it comes in the replay.
-pub record IsKeptAt (ro : Membership) (h : List Entry) (n : ℕ) (index : ℕ) (k : KeptOperation)
-    : Type 0 where
+-- Operation n is live, and what is kept of it fits the tree where it comes in the replay.
+pub record IsKept (ro : Membership) (h : List Entry) (n : ℕ) (k : KeptOperation) : Type 0 where
   pub before : List NumberedAction
   pub operation : NumberedAction
   pub after : List NumberedAction
   pub earlier : Tree
   pub whole : live h ≡ before ++ operation ∷ after
   pub number : operation.number ≡ n
-  pub place : length before ≡ index
   pub reached : replay ro genesis before ≡ Some earlier
   pub fits : Fits ro earlier operation k
 
 -- Of an entry that undoes n: what it took out is what was kept of n, and what was held puts the
 -- tree before it back.
 pub record TakesUndoBack (d : DeskState) (e : Entry) (n : ℕ) (u : Undone) : Type 0 where
-  pub kept : IsKeptAt d.roster d.history n u.index u.operation
+  pub kept : IsKept d.roster d.history n u.operation
   pub back : IsPutBack u.held (tree_of (with_entry d e)) (tree_of d)
 
 -- of an entry, whose change is given: what takes an operation back is kept with it; an undo goes by

@@ -1,6 +1,6 @@
 // The desk: a history, what is kept of its live operations, and the forest that they make, which may
 // lie on a store.
-ghost use Rattle.std.specs.Prelude.{◌≡◌, ◌⊎◌, ◌<◌, [], true, false, length, map, Some, None, OnOk, IfOk, IfErr, OnErr};
+ghost use Rattle.std.specs.Prelude.{◌≡◌, ◌⊎◌, [], true, false, length, Some, None, IsSome, OnOk, IfOk, IfErr, OnErr};
 ghost use Rattle.su_desk.specs.Version.{versions};
 ghost use Rattle.su_bytes.specs.declared.refusals.Refusal.TheVariants.{NoMemory};
 ghost use Rattle.su_op.specs.declared.operations.Change.TheVariants.{Do, Undo, Rekey};
@@ -8,6 +8,7 @@ ghost use Rattle.su_desk.specs.History.{entry_by, undo_by, rekey_by, live_number
 ghost use Rattle.su_desk.specs.Blocker.{blocker};
 ghost use Rattle.su_desk.specs.Answer.{format_refusal, live_refusal, refusal_of, rekey_refusal, undo_refusal};
 ghost use Rattle.su_desk.specs.Desk.{with_entry};
+ghost use Rattle.su_desk.specs.Applied.{written_by};
 ghost use Rattle.su_desk.specs.Trial.{tree_of};
 ghost use Rattle.su_part_inverse.specs.Kept.{inverse_areas, IsKeptOf};
 ghost use Rattle.su_op.specs.Action.{change_format, is_many};
@@ -16,20 +17,22 @@ ghost use Rattle.su_op.specs.Area.{has};
 ghost use Rattle.su_op.specs.declared.operations.Change.{Change as Change_};
 ghost use Rattle.su_table.specs.Cell.{Cell};
 ghost use Rattle.su_table.specs.Tree.{Tree};
+ghost use Rattle.su_live.specs.Live.{find_live};
 ghost use Rattle.su_stored_forest.specs.Shows.{Fails, Holds, Shows};
 ghost use Rattle.su_stored_desk.specs.Keeping.{PutsBack};
-ghost use Rattle.su_stored_desk.specs.Tried.{IsKeptAt};
+ghost use Rattle.su_stored_desk.specs.Tried.{IsKept};
 
 mod attempts;
 mod joining;
 
-use crate::kept::{KeptOperation, blocker_at, live_index, undo_index, unpack_at};
+use crate::kept::{check_live, check_undo};
 use crate::versions::{first_versions, raise};
 use std::alloc::Global;
 use su_block::BlockSource;
 use su_bytes::{Format, KEY_LENGTH, Principal, Refusal, Roster, User};
 use su_desk::{KeptBatch, KeptChange, KeptEntry, format_after};
 use su_kept_areas::KeptFootprint;
+use su_live::{LiveOperation, LiveOperations};
 use su_lms::PublicKey;
 use su_op::{Area, Batch, Change};
 use su_part_inverse::{Inverse, KeptInverse};
@@ -42,7 +45,9 @@ use su_used_keys::UsedKeys;
 pub(crate) struct Desk<S: BlockSource> {
     pub(crate) roster: Roster,
     pub(crate) entries: Vec<KeptEntry>,
-    pub(crate) kept: Vec<KeptOperation>,
+    pub(crate) kept: LiveOperations<KeptInverse>,
+    /// Up to this number, what is kept of operations was left on the store and packed.
+    pub(crate) left: u64,
     pub(crate) counters: Vec<(Principal, u64)>,
     pub(crate) used: UsedKeys,
     pub(crate) stored: StoredForest<S>,
@@ -69,7 +74,8 @@ impl<S: BlockSource + Drop> Desk<S> {
         Ok(Desk {
             roster,
             entries: Vec::new(alloc),
-            kept: Vec::new(alloc),
+            kept: LiveOperations::new(alloc),
+            left: 0,
             counters,
             used,
             stored,
@@ -90,6 +96,7 @@ impl<S: BlockSource + Drop> Desk<S> {
             roster,
             entries,
             kept,
+            left,
             counters,
             used,
             stored,
@@ -99,6 +106,7 @@ impl<S: BlockSource + Drop> Desk<S> {
             roster,
             entries,
             kept,
+            left,
             counters,
             used,
             stored: stored.with_source(source),
@@ -119,6 +127,7 @@ impl<S: BlockSource + Drop> Desk<S> {
             roster,
             entries,
             kept,
+            left,
             counters,
             used,
             stored,
@@ -127,6 +136,7 @@ impl<S: BlockSource + Drop> Desk<S> {
         self.roster = roster;
         self.entries = entries;
         self.kept = kept;
+        self.left = left;
         self.counters = counters;
         self.used = used;
         self.stored.take_forest(stored);
@@ -163,7 +173,7 @@ impl<S: BlockSource> Desk<S> {
             numbers.items ≡ live_numbers (state_of self.now).history) }
         ensures refused { IfErr result (λ e. e ≡ NoMemory) }
     {
-        numbers_of(self.alloc, &self.kept)
+        self.kept.numbers(self.alloc)
     }
 
     /// Returns what stands in the way of an undo of a live operation: the last live operation that
@@ -178,8 +188,8 @@ impl<S: BlockSource> Desk<S> {
         ensures refused { IsRight self.now → IfErr result (λ e.
             live_refusal (state_of self.now).history number ≡ Some e) }
     {
-        let index = live_index(&self.entries, &self.kept, number)?;
-        Ok(blocker_at(&self.kept, index))
+        check_live(&self.entries, &self.kept, number)?;
+        Ok(self.kept.blocker(number))
     }
 
     /// Finds why a change that has been there since the oldest format is refused in that format for
@@ -245,38 +255,43 @@ impl<S: BlockSource> Desk<S> {
         let inverse = self.stored.keep(self.alloc, footprint.writes.as_slice())?;
         let kept = KeptFootprint::new(self.alloc, &footprint)?;
         self.entries.reserve(1)?;
-        self.kept.reserve(1)?;
         let operations = KeptBatch::new(self.alloc, &batch)?;
-        self.stored.perform(&accepted, &footprint)?;
+        let number = self.entries.len() as u64 + 1;
+        let operation = LiveOperation {
+            number,
+            footprint: kept,
+            inverse: KeptInverse::new(inverse),
+        };
+        let Ok(()) = self.kept.add(operation) else {
+            return Err(Refusal::NoMemory);
+        };
+        if let Err(refusal) = self.stored.perform(&accepted, &footprint) {
+            self.kept.remove(number);
+            return Err(refusal);
+        }
         raise(&mut self.counters, author, footprint.writes.as_slice());
         let change = KeptChange::Do(operations);
         self.entries
             .push_reserved(KeptEntry::new(author, format, change));
-        let number = self.entries.len() as u64;
-        self.kept.push_reserved(KeptOperation {
-            number,
-            footprint: kept,
-            inverse: KeptInverse::new(inverse),
-        });
         Ok(number)
     }
 
-    /// Undoes an operation in that format, which may come next, adds that to the history, and
-    /// returns at which index what was kept of the operation stood, and what that was. Refused by
-    /// the first refusal in order, or as a load is; then the history is what it was.
+    /// Undoes an operation in that format, which may come next, adds that to the history, and returns
+    /// what was kept of the operation. Refused by the first refusal in order, or as a load is; then
+    /// the history is what it was.
     fn take_out(
         &mut self,
         format: Format,
         author: User,
         number: u64,
-    ) -> Result<(usize, KeptOperation), Refusal>
+    ) -> Result<LiveOperation<KeptInverse>, Refusal>
         requires { format_refusal (state_of self.old).history format (Undo number) ≡ None }
         ensures accepted { IsSure S.may_give self.old → OnOk result
             (undo_refusal self.old.roster (state_of self.old).history author number ≡ None) }
         ensures done { OnOk result
             (state_of self.new ≡ with_entry (state_of self.old) (undo_by author format number)) }
-        ensures kept { IsSure S.may_give self.old → IfOk result (λ out.
-            IsKeptAt self.old.roster (state_of self.old).history number out.0 out.1) }
+        ensures kept { IsSure S.may_give self.old → IfOk result (λ operation.
+            IsKept self.old.roster (state_of self.old).history number operation) }
         ensures right { IsSure S.may_give self.old → IsRight self.new }
         ensures refused { IsSure S.may_give self.old → IfErr result (λ e.
             FailsAt S.failed (state_of self.old) self.new e
@@ -286,37 +301,64 @@ impl<S: BlockSource> Desk<S> {
         ensures err { OnErr result (state_of self.new ≡ state_of self.old) }
         ensures source { MayBecome S.may_give S.follows self.old.stored.source self.new.stored.source }
     {
-        let index = undo_index(&self.roster, &self.entries, &self.kept, author, number)?;
-        let written = self.kept[index].footprint.writes(self.alloc)?;
+        let written = self.undoes(author, number)?;
         self.entries.reserve(1)?;
-        self.put_back(index)?;
-        let undone = self.kept.remove(index);
+        self.put_back(number)?;
+        let Some(undone) = self.kept.remove(number) else {
+            unreachable!()
+        };
         raise(&mut self.counters, author, written.as_slice());
         let change = KeptChange::Undo(number);
         self.entries
             .push_reserved(KeptEntry::new(author, format, change));
-        Ok((index, undone))
+        Ok(undone)
     }
 
-    /// Puts back what the cells held that the operation wrote which is kept at that index. Refused as a
-    /// load is. The history and what is kept stay the same.
-    fn put_back(&mut self, index: usize) -> Result<(), Refusal>
-        requires { index < length self.old.kept.items }
+    /// Checks whether the author may undo the operation of that number, and returns the areas that
+    /// the operation wrote. Refused as the undo is, but for loads.
+    pub(crate) fn undoes(&self, author: User, number: u64) -> Result<Vec<Area>, Refusal>
+        ensures kept { OnOk result (IsSome (find_live number self.now.kept)) }
+        ensures accepted { IsRight self.now → OnOk result
+            (undo_refusal self.now.roster (state_of self.now).history author number ≡ None) }
+        ensures written { IsRight self.now → IfOk result (λ areas.
+            areas.items ≡ written_by self.now.roster (state_of self.now).history number) }
+        ensures refused { IsRight self.now → IfErr result (λ e. (e ≡ NoMemory)
+            ⊎ (undo_refusal self.now.roster (state_of self.now).history author number ≡ Some e)) }
+    {
+        check_undo(&self.roster, &self.entries, &self.kept, author, number)?;
+        let Some(operation) = self.kept.find(number) else {
+            unreachable!()
+        };
+        operation.footprint.writes(self.alloc)
+    }
+
+    /// Puts back what the cells held that the operation of that number wrote, where something is kept
+    /// of it. Refused as a load is. The history and what is kept stay the same.
+    fn put_back(&mut self, number: u64) -> Result<(), Refusal>
         ensures done { (F T : Tree) → Shows S.may_give self.old.stored F
-            → PutsBack self.old.kept.items index F T → OnOk result (Holds self.new.stored T) }
+            → PutsBack self.old.kept number F T → OnOk result (Holds self.new.stored T) }
         ensures err { (F T : Tree) → Shows S.may_give self.old.stored F
-            → PutsBack self.old.kept.items index F T → OnErr result (Shows S.may_give self.new.stored F) }
+            → PutsBack self.old.kept number F T → OnErr result (Shows S.may_give self.new.stored F) }
         ensures refused { (F T : Tree) → Shows S.may_give self.old.stored F
-            → PutsBack self.old.kept.items index F T
+            → PutsBack self.old.kept number F T
             → IfErr result (Fails S.failed F self.new.stored) }
-        ensures same { self.new ≡ record self.old { stored = self.new.stored; kept = self.new.kept } }
-        ensures kept { self.new.kept.items ≡ self.old.kept.items }
+        ensures same { self.new ≡ record self.old { stored = self.new.stored } }
         ensures source { MayBecome S.may_give S.follows self.old.stored.source self.new.stored.source }
     {
-        unpack_at(self.alloc, &mut self.kept, index)?;
-        match self.kept[index].inverse.unpacked() {
-            Some(inverse) => self.stored.undo(self.alloc, inverse),
-            None => Err(Refusal::NoMemory),
+        let nothing = KeptInverse::nothing(self.alloc);
+        let Some(kept) = self.kept.replace_inverse(number, nothing) else {
+            return Ok(());
+        };
+        match kept.open(self.alloc) {
+            Ok(open) => {
+                let answer = self.stored.undo(self.alloc, open.inverse());
+                self.kept.replace_inverse(number, open.close());
+                answer
+            }
+            Err((kept, refusal)) => {
+                self.kept.replace_inverse(number, kept);
+                Err(refusal)
+            }
         }
     }
 
@@ -364,16 +406,4 @@ impl<S: BlockSource> Desk<S> {
         }
         Ok(())
     }
-}
-
-/// Returns the numbers of operations. Fails only with `NoMemory`.
-fn numbers_of(alloc: Global, kept: &[KeptOperation]) -> Result<Vec<u64>, Refusal>
-    ensures value { IfOk result (λ v. v.items ≡ map (λ k. k.number) kept.now) }
-    ensures refused { IfErr result (λ e. e ≡ NoMemory) }
-{
-    let mut numbers = Vec::with_capacity(alloc, kept.len())?;
-    for operation in kept {
-        numbers.push(operation.number)?;
-    }
-    Ok(numbers)
 }

@@ -1,7 +1,7 @@
 // What takes a change back.
-use crate::kept::KeptOperation;
 use su_bytes::{KEY_LENGTH, Principal};
-use su_part_inverse::Inverse;
+use su_live::LiveOperation;
+use su_part_inverse::{Inverse, KeptInverse};
 
 /// What takes the last entry of a desk back: the version numbers before it, and the rest by the kind
 /// of its change.
@@ -22,11 +22,10 @@ pub(crate) enum Means {
     Named([u8; KEY_LENGTH]),
 }
 
-/// An operation that was undone: what was kept of it, at which index, and what the cells that it
-/// wrote held until then.
+/// An operation that was undone: what was kept of it, and what the cells that it wrote held until
+/// then.
 #[derive(Drop)]
 pub(crate) struct Undone {
-    pub(crate) index: usize,
-    pub(crate) operation: KeptOperation,
+    pub(crate) operation: LiveOperation<KeptInverse>,
     pub(crate) held: Inverse,
 }

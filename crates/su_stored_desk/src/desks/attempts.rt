@@ -18,7 +18,6 @@ ghost use Rattle.su_stored_forest.specs.Shows.{Holds};
 ghost use Rattle.su_stored_desk.specs.Tried.{TakesBack, TakesLastBack, TakesUndoBack};
 
 use super::Desk;
-use crate::kept::undo_index;
 use crate::prepared::{Means, Tried, Undone};
 use crate::versions::carried_handles;
 use su_block::BlockSource;
@@ -73,12 +72,8 @@ impl<S: BlockSource> Desk<S> {
             }
             Change::Undo(number) => {
                 let held = self.hold(author, number)?;
-                let (index, operation) = self.take_out(format, author, number)?;
-                let undone = Undone {
-                    index,
-                    operation,
-                    held,
-                };
+                let operation = self.take_out(format, author, number)?;
+                let undone = Undone { operation, held };
                 Ok(Tried {
                     versions,
                     means: Means::Held(undone),
@@ -108,8 +103,7 @@ impl<S: BlockSource> Desk<S> {
             ⊎ (undo_refusal self.old.roster (state_of self.old).history author number ≡ Some e)) }
         ensures source { MayBecome S.may_give S.follows self.old.stored.source self.new.stored.source }
     {
-        let index = undo_index(&self.roster, &self.entries, &self.kept, author, number)?;
-        let written = self.kept[index].footprint.writes(self.alloc)?;
+        let written = self.undoes(author, number)?;
         self.stored.keep_whole(self.alloc, written.as_slice())
     }
 
@@ -211,34 +205,14 @@ impl<S: BlockSource> Desk<S> {
             → IfErr result (λ e. FailsAt S.failed (state_of self.old) self.new e.1) }
         ensures source { MayBecome S.may_give S.follows self.old.stored.source self.new.stored.source }
     {
-        if let Err(refusal) = self.put_back_last() {
+        let number = self.entries.len() as u64;
+        if let Err(refusal) = self.put_back(number) {
             return Err((numbers, refusal));
         }
-        self.kept.pop();
+        self.kept.remove(number);
         self.counters = numbers;
         self.entries.pop();
         Ok(())
-    }
-
-    /// Puts back what the cells held that the last operation wrote which something is kept of, if it
-    /// is of one. Refused as a load is.
-    fn put_back_last(&mut self) -> Result<(), Refusal>
-        ensures done { (d : DeskState) (x : Action) → IsSure S.may_give self.old
-            → state_of self.old ≡ with_entry d (entry_doing x)
-            → OnOk result (Holds self.new.stored (tree_of d)) }
-        ensures right { (d : DeskState) (x : Action) → IsSure S.may_give self.old
-            → state_of self.old ≡ with_entry d (entry_doing x) → OnErr result (IsRight self.new) }
-        ensures same { self.new ≡ record self.old { stored = self.new.stored; kept = self.new.kept } }
-        ensures kept { self.new.kept.items ≡ self.old.kept.items }
-        ensures refused { (d : DeskState) (x : Action) → IsSure S.may_give self.old
-            → state_of self.old ≡ with_entry d (entry_doing x)
-            → IfErr result (FailsAt S.failed (state_of self.old) self.new) }
-        ensures source { MayBecome S.may_give S.follows self.old.stored.source self.new.stored.source }
-    {
-        match self.kept.len().checked_sub(1) {
-            Some(last) => self.put_back(last),
-            None => Ok(()),
-        }
     }
 
     /// Takes the undo of the last entry back, before which these were the version numbers. Refused as
@@ -263,16 +237,18 @@ impl<S: BlockSource> Desk<S> {
             → IfErr result (λ r. FailsAt S.failed (state_of self.old) self.new r.2) }
         ensures source { MayBecome S.may_give S.follows self.old.stored.source self.new.stored.source }
     {
-        if self.kept.reserve(1).is_err() {
-            return Err((numbers, undone, Refusal::NoMemory));
+        let Undone { operation, held } = undone;
+        let number = operation.number;
+        if let Err(refused) = self.kept.add(operation) {
+            let operation = refused.value;
+            return Err((numbers, Undone { operation, held }, Refusal::NoMemory));
         }
-        if let Err(refusal) = self.stored.undo(self.alloc, &undone.held) {
-            return Err((numbers, undone, refusal));
+        if let Err(refusal) = self.stored.undo(self.alloc, &held) {
+            let Some(operation) = self.kept.remove(number) else {
+                unreachable!()
+            };
+            return Err((numbers, Undone { operation, held }, refusal));
         }
-        let index = undone.index.min(self.kept.len());
-        let Ok(()) = self.kept.insert(index, undone.operation) else {
-            unreachable!()
-        };
         self.counters = numbers;
         self.entries.pop();
         Ok(())

@@ -1,5 +1,5 @@
 // Operations that were made one by one are joined into one entry.
-ghost use Rattle.std.specs.Prelude.{◌≡◌, ◌++◌, ℕ, List, None, true, length, IfOk, IfErr, OnOk, OnErr};
+ghost use Rattle.std.specs.Prelude.{◌≡◌, ◌≤◌, ◌+◌, ◌-◌, ◌++◌, ℕ, List, None, true, length, IfOk, IfErr, OnOk, OnErr};
 ghost use Rattle.su_bytes.specs.declared.formats.Format.{Format as Format_};
 ghost use Rattle.su_bytes.specs.declared.refusals.Refusal.TheVariants.{NoMemory};
 ghost use Rattle.su_op.specs.Action.{is_many};
@@ -8,16 +8,16 @@ ghost use Rattle.su_op.specs.declared.operations.Change.TheVariants.{Do};
 ghost use Rattle.su_desk.specs.Answer.{format_refusal};
 ghost use Rattle.su_desk.specs.Desk.{DeskState, with_entry};
 ghost use Rattle.su_desk.specs.Version.{versions};
-ghost use Rattle.su_stored_desk.specs.Joined.{HasEach, IsJoined, IsKeptBefore, all_read, all_written};
+ghost use Rattle.su_stored_desk.specs.Joined.{HasEach, IsJoined, IsKeptBefore, all_read, all_written, live_from};
 
 use super::Desk;
-use crate::kept::KeptOperation;
 use crate::versions::raise;
 use std::alloc::Global;
 use su_block::BlockSource;
 use su_bytes::{Principal, Refusal};
 use su_desk::{Entry, KeptChange, KeptEntry};
 use su_kept_areas::KeptFootprint;
+use su_live::{LiveOperation, LiveOperations};
 use su_op::Footprint;
 use su_part_inverse::{Inverse, KeptInverse};
 
@@ -32,8 +32,13 @@ impl<S: BlockSource> Desk<S> {
             → length ops ≡ count → IsJoined d a f ops footprint) }
         ensures refused { IfErr result (λ e. e ≡ NoMemory) }
     {
-        let first = self.kept.len().saturating_sub(count);
-        footprint_of(self.alloc, &self.kept[first..])
+        let last = self.entries.len() as u64;
+        footprint_of(
+            self.alloc,
+            &self.kept,
+            last.saturating_sub(count as u64),
+            last,
+        )
     }
 
     /// Makes one entry of the last operations, which were made one by one in that format: that of
@@ -69,38 +74,48 @@ impl<S: BlockSource> Desk<S> {
         let mut counters = Vec::from_slice(self.alloc, numbers)?;
         let kept = KeptFootprint::new(self.alloc, &footprint)?;
         self.entries.reserve(1)?;
-        self.kept.reserve(1)?;
         let change = KeptChange::new(self.alloc, &entry.change)?;
-        raise(&mut counters, author, footprint.writes.as_slice());
-        self.counters = counters;
-        let first = self.entries.len().saturating_sub(count);
-        self.entries.truncate(first);
-        self.entries
-            .push_reserved(KeptEntry::new(author, entry.format, change));
-        let first = self.kept.len().saturating_sub(count);
-        let number = self.entries.len() as u64;
-        self.kept.truncate(first);
-        self.kept.push_reserved(KeptOperation {
-            number,
+        let before = self.entries.len().saturating_sub(count);
+        let operation = LiveOperation {
+            number: before as u64 + 1,
             footprint: kept,
             inverse: KeptInverse::new(inverse),
-        });
+        };
+        let Ok(()) = self.kept.join(operation) else {
+            return Err(Refusal::NoMemory);
+        };
+        raise(&mut counters, author, footprint.writes.as_slice());
+        self.counters = counters;
+        self.entries.truncate(before);
+        self.entries
+            .push_reserved(KeptEntry::new(author, entry.format, change));
         Ok(())
     }
 }
 
-/// Returns the cells of operations together. Fails only with `NoMemory`.
-fn footprint_of(alloc: Global, kept: &[KeptOperation]) -> Result<Footprint, Refusal>
-    ensures reads { IfOk result (λ f. f.reads.items ≡ all_read kept.now) }
-    ensures writes { IfOk result (λ f. f.writes.items ≡ all_written kept.now) }
+/// Returns the cells of the operations together whose numbers are above the one and up to the other.
+/// Fails only with `NoMemory`.
+fn footprint_of(
+    alloc: Global,
+    kept: &LiveOperations<KeptInverse>,
+    before: u64,
+    last: u64,
+) -> Result<Footprint, Refusal>
+    requires { before ≤ last }
+    ensures reads { IfOk result (λ f. f.reads.items
+        ≡ all_read (live_from (before + 1) (last - before) kept.now)) }
+    ensures writes { IfOk result (λ f. f.writes.items
+        ≡ all_written (live_from (before + 1) (last - before) kept.now)) }
     ensures refused { IfErr result (λ e. e ≡ NoMemory) }
 {
     let mut reads = Vec::new(alloc);
     let mut writes = Vec::new(alloc);
-    for operation in kept {
-        let mut more = operation.footprint.footprint(alloc)?;
-        reads.append(&mut more.reads)?;
-        writes.append(&mut more.writes)?;
+    for earlier in before..last {
+        if let Some(operation) = kept.find(earlier + 1) {
+            let mut more = operation.footprint.footprint(alloc)?;
+            reads.append(&mut more.reads)?;
+            writes.append(&mut more.writes)?;
+        }
     }
     Ok(Footprint { reads, writes })
 }

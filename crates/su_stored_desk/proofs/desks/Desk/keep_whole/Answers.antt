@@ -16,7 +16,7 @@ pub returns-clause-exact : goal.returns-clause-exact
 returns-clause-exact g c sure =
     let s = c.args.self.now in
     let d = state_of s in
-    for_each c.keep_whole.result _ _ _ (λ x accepted is. c.keep_whole.ensures.exact (tree_of d) (shows _ s sure) (kinds_whole d x (tree_of d) c.args.areas.now refl (sound_kept s.roster s.entries.items s.kept.items (tree_of d) sure.right.keeps) accepted is))
+    for_each c.keep_whole.result _ _ _ (λ x accepted is. c.keep_whole.ensures.exact (tree_of d) (shows _ s sure) (kinds_whole d x (tree_of d) c.args.areas.now refl (sound_kept s.roster s.entries.items s.kept (tree_of d) sure.right.keeps) accepted is))
 
 pub returns-clause-sure : goal.returns-clause-sure
 returns-clause-sure g c sure =

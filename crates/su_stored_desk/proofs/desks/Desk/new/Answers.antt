@@ -15,7 +15,7 @@ pub returns-clause-right : goal.returns-clause-right
 returns-clause-right g c =
     let ro = c.args.roster in
     right_at _ (record { roster = ro; history = [] }) (ap (λ h. record { roster = ro; history = h }) c.new.ensures.items)
-    (subst (λ ks. Keeps ro [] ks (tree_after ro [])) (sym c.new-2.ensures.items) (at_tree ro [] [] genesis (keeps_nothing ro)))
+    (subst (λ ks. Keeps ro [] ks (tree_after ro [])) (sym c.new-2.ensures) (at_tree ro [] [] genesis (keeps_nothing ro)))
     (subst (Holds c.in_ok-stored.stored) (keeps_tree ro [] [] genesis (keeps_nothing ro)) c.in_ok-stored.ensures.holds)
     c.in_ok-counters.ensures.value
     (subst (λ ks. HasJust ks c.in_ok-used.used) (sym (append-nil (roster_keys ro))) c.in_ok-used.ensures.value)

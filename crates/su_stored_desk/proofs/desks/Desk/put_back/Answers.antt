@@ -1,54 +1,65 @@
-use Rattle.std.proofs.Common.{◌≡◌, ◌∙◌, false, List, ℕ, ◌<◌, arith, sym, ap, subst, length, get_or}
-use Rattle.std.specs.Vec.{with_items}
-use Rattle.std.specs.Global.{Vec}
-use Rattle.std.proofs.lemmas.List.{get_or_default, with_items_is}
+use Rattle.std.proofs.Common.{◌≡◌, ◌∙◌, List, ℕ, Some, sym, ap, subst}
+use Rattle.std.specs.Option.{option_map}
 use Rattle.su_op.specs.Area.{has}
 use Rattle.su_table.specs.Tree.{Tree}
 use Rattle.su_part_inverse.specs.Kept.{IsPutBack}
 use Rattle.su_part_inverse.specs.Packed.{KeepsAlike}
 use Rattle.su_part_inverse.specs.declared.inverses.Inverse.{Inverse}
-use Rattle.su_stored_desk.specs.Keeping.{PutsBack}
-use Rattle.su_stored_desk.specs.declared.kept.KeptOperation.{KeptOperation}
+use Rattle.su_live.specs.Live.{find_live, with_inverse}
+use Rattle.su_live.proofs.Public.{no_inverse_put}
+use Rattle.su_stored_desk.specs.Keeping.{KeptOperation, PutsBack}
+use Rattle.su_stored_desk.proofs.ByNumber.{none_taken, put_own, put_twice, taken}
 use Rattle.su_stored_desk.proofs.desks.Desk.put_back.Goals as goal
 
 -- what keeps alike puts the same back
 alike : (i j : Inverse) (F T : Tree) → KeepsAlike i j → IsPutBack i F T → IsPutBack j F T
 alike i j F T a back = record { kept = a.kept T back.kept; others = λ c out. back.others c (ap (λ w. has w c) (sym a.areas) ∙ out) }
 
--- what was brought out at an index is what stands there
-lent : (ks ls : List KeptOperation) (n : ℕ) (k : KeptOperation) (j : Inverse) (F T : Tree) → ls ≡ ks → n < length ks → k ≡ get_or ls n k → KeepsAlike k.inverse j → PutsBack ks n F T → IsPutBack j F T
-lent ks ls n k j F T are within here a puts =
-    let o = puts.operation in
-    let same : o ≡ k = puts.there ∙ get_or_default ks n o k within ∙ sym (here ∙ ap (λ l. get_or l n k) are) in
-    alike k.inverse j F T a (subst (λ (x : KeptOperation). IsPutBack x.inverse F T) same puts.back)
+-- so does what was taken from an operation's place
+lent : (ks : List KeptOperation) (n : ℕ) (i j : Inverse) (F T : Tree) → Some i ≡ option_map (λ (k : KeptOperation). k.inverse) (find_live n ks) → KeepsAlike i j → PutsBack ks n F T → IsPutBack j F T
+lent ks n i j F T is a puts =
+    let t = taken n ks i is in
+    let both : Some puts.operation ≡ Some t.operation = sym puts.there ∙ t.found in
+    let one : puts.operation ≡ t.operation = cc in
+    alike i j F T a (subst (λ (x : Inverse). IsPutBack x F T) (ap (λ (x : KeptOperation). x.inverse) one ∙ sym t.same) puts.back)
 
--- elements in the place of equal ones
-stay : {X : Type 0} (v : Vec X) (were now : List X) → were ≡ v.items → now ≡ were → (with_items v now).items ≡ v.items
-stay v were now is same = with_items_is v now (ap length (same ∙ is) ∙ sym v.ok.0) ∙ same ∙ is
+-- what was taken comes back to its place
+again : (ks ls : List KeptOperation) (n : ℕ) (i j e : Inverse) → Some i ≡ option_map (λ (k : KeptOperation). k.inverse) (find_live n ks) → ls ≡ with_inverse n e ks → j ≡ i → with_inverse n j ls ≡ ks
+again ks ls n i j e is without same =
+    let t = taken n ks i is in
+    ap (with_inverse n j) without ∙ put_twice n e j ks ∙ ap (λ x. with_inverse n x ks) (same ∙ t.same) ∙ put_own n ks t.operation t.found
 
-pub returns-in_err-unpack_at-clause-kept : goal.returns-in_err-unpack_at-clause-kept
-returns-in_err-unpack_at-clause-kept g c = stay c.args.self.now.kept c.deref_mut.result.now c.unpack_at.new.kept c.deref_mut.ensures.value c.unpack_at.ensures.same
+pub returns-in_default-clause-same : goal.returns-in_default-clause-same
+returns-in_default-clause-same g c =
+    let s = c.args.self.now in
+    ap (λ ks. record s { kept = ks }) (c.in_default.ensures.others ∙ no_inverse_put c.args.number c.nothing-nothing.result s.kept (none_taken c.args.number s.kept c.in_default.ensures.value))
 
-pub returns-in-Some-clause-kept : goal.returns-in-Some-clause-kept
-returns-in-Some-clause-kept g c = stay c.args.self.now.kept c.deref_mut.result.now c.unpack_at.new.kept c.deref_mut.ensures.value c.unpack_at.ensures.same
+pub returns-in-Ok-clause-same : goal.returns-in-Ok-clause-same
+returns-in-Ok-clause-same g c =
+    let s = c.args.self.now in
+    ap (λ ks. record s { kept = ks; stored = c.undo-answer.new.self })
+    (c.replace_inverse-in-Ok.ensures.others ∙ again s.kept c.replace_inverse.new.self c.args.number c.in-Some.kept c.close.result c.nothing-nothing.result c.in-Some.ensures.value c.in-Some.ensures.others (c.close.ensures ∙ c.in-Ok.ensures.opened))
 
-pub returns-in-None-clause-kept : goal.returns-in-None-clause-kept
-returns-in-None-clause-kept g c = stay c.args.self.now.kept c.deref_mut.result.now c.unpack_at.new.kept c.deref_mut.ensures.value c.unpack_at.ensures.same
+pub returns-in-Err-clause-same : goal.returns-in-Err-clause-same
+returns-in-Err-clause-same g c =
+    let s = c.args.self.now in
+    ap (λ ks. record s { kept = ks })
+    (c.replace_inverse-in-Err.ensures.others ∙ again s.kept c.replace_inverse.new.self c.args.number c.in-Some.kept c.in-Err.kept c.nothing-nothing.result c.in-Some.ensures.value c.in-Some.ensures.others c.in-Err.ensures.given_back)
 
-pub returns-in-Some-clause-done : goal.returns-in-Some-clause-done
-returns-in-Some-clause-done g c F T shown puts =
-    let v = c.args.self.now.kept in
-    c.undo.ensures.done F T shown
-    (lent v.items _ c.args.index c.index.result.now c.in-Some.inverse.now F T (stay v c.deref_mut.result.now c.unpack_at.new.kept c.deref_mut.ensures.value c.unpack_at.ensures.same) c.requires c.index.ensures c.in-Some.ensures puts)
+pub returns-in-Ok-clause-done : goal.returns-in-Ok-clause-done
+returns-in-Ok-clause-done g c F T shown puts =
+    let s = c.args.self.now in
+    c.undo-answer.ensures.done F T shown
+    (lent s.kept c.args.number c.in-Some.kept c.inverse.result.now F T c.in-Some.ensures.value (subst (λ i. KeepsAlike i c.inverse.result.now) c.in-Ok.ensures.opened c.inverse.ensures) puts)
 
-pub returns-in-Some-clause-err : goal.returns-in-Some-clause-err
-returns-in-Some-clause-err g c F T shown puts =
-    let v = c.args.self.now.kept in
-    c.undo.ensures.err F T shown
-    (lent v.items _ c.args.index c.index.result.now c.in-Some.inverse.now F T (stay v c.deref_mut.result.now c.unpack_at.new.kept c.deref_mut.ensures.value c.unpack_at.ensures.same) c.requires c.index.ensures c.in-Some.ensures puts)
+pub returns-in-Ok-clause-err : goal.returns-in-Ok-clause-err
+returns-in-Ok-clause-err g c F T shown puts =
+    let s = c.args.self.now in
+    c.undo-answer.ensures.err F T shown
+    (lent s.kept c.args.number c.in-Some.kept c.inverse.result.now F T c.in-Some.ensures.value (subst (λ i. KeepsAlike i c.inverse.result.now) c.in-Ok.ensures.opened c.inverse.ensures) puts)
 
-pub returns-in-Some-clause-refused : goal.returns-in-Some-clause-refused
-returns-in-Some-clause-refused g c F T shown puts =
-    let v = c.args.self.now.kept in
-    c.undo.ensures.refused F T shown
-    (lent v.items _ c.args.index c.index.result.now c.in-Some.inverse.now F T (stay v c.deref_mut.result.now c.unpack_at.new.kept c.deref_mut.ensures.value c.unpack_at.ensures.same) c.requires c.index.ensures c.in-Some.ensures puts)
+pub returns-in-Ok-clause-refused : goal.returns-in-Ok-clause-refused
+returns-in-Ok-clause-refused g c F T shown puts =
+    let s = c.args.self.now in
+    c.undo-answer.ensures.refused F T shown
+    (lent s.kept c.args.number c.in-Some.kept c.inverse.result.now F T c.in-Some.ensures.value (subst (λ i. KeepsAlike i c.inverse.result.now) c.in-Ok.ensures.opened c.inverse.ensures) puts)
