@@ -6,7 +6,7 @@ use std::io;
 use std::io::Read;
 
 /// How many bytes are read of a log before a portion of it is given.
-const PORTION: usize = 1_048_576;
+const PORTION: usize = 262_144;
 
 /// How many bytes are read at a time.
 const STEP: usize = 65_536;
