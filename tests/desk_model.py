@@ -610,11 +610,13 @@ def answer(desk, line):
 
 class Dice:
     """Lines by chance over few users, groups, files and names, so that they have to do with each other. Most are made to
-    fit the tree that there is, the others are anything. Files as large as can be take long, so there are few, where they are asked for."""
+    fit the tree that there is, the others are anything. Files as large as can be take long, so there are few, where they are asked for.
+    Where undos are asked for, half of the lines are undos, at any depth."""
 
-    def __init__(self, seed, desk, largest_files=False):
+    def __init__(self, seed, desk, largest_files=False, undoes=False):
         self.random = random.Random(seed)
         self.desk = desk
+        self.undoes = undoes
         self.users = len(desk.roster.users)
         largest = LARGEST_FILE[desk.form]
         self.odd_sizes = (1048575, 1048576, 1048577, largest + 1, 2 ** 32)
@@ -741,7 +743,16 @@ class Dice:
         self.desk = desk
         return (user, "batch " + " + ".join(said)) if said else self.fitting_change()
 
+    def undo(self):
+        """A user, and an undo of an entry of his: mostly of a live operation, be it early or late, else of any entry."""
+        history = self.desk.history
+        live = self.desk.live(history)
+        n = self.pick(*live) if live and self.random.random() < 0.8 else self.random.randint(1, len(history))
+        return f"{self.rarely(self.user(), history[n - 1][0])} undo {n}"
+
     def line(self):
+        if self.undoes and self.desk.history and self.random.random() < 0.5:
+            return self.undo()
         chance = self.random.random()
         if chance < 0.2:
             return self.question()
@@ -758,7 +769,7 @@ def write_scripts(folder, count, lines):
     for seed in range(count):
         users, form = 1 + seed % 3, 1 + seed // 3 % NEWEST
         desk = KeptDesk(users, form)
-        dice = Dice(seed, desk, largest_files=seed % 20 == 13)
+        dice = Dice(seed, desk, largest_files=seed % 20 == 13, undoes=seed % 2 == 1)
         script, printed = [], []
 
         def say(line):

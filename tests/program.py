@@ -3,7 +3,7 @@
 on keys that other implementations know, on the scripts of desk_scripts.py, on streams that fail, on the deepest directory with
 little stack, and on scripts by chance against the second desk of desk_model.py.
 
-usage: program.py [--chance COUNT]    with --chance so many scripts by chance are tried, and nothing else
+usage: program.py [--chance COUNT [LINES]]    with --chance so many scripts by chance are tried, and nothing else
 
 SUNDR names another program to try. Prints a line for each case that isn't as it should be, and last 'N passed, M failed'.
 """
@@ -207,9 +207,9 @@ def at_a_keyboard(room):
     yield "why_a_line_is_bad", told == "sundr: line 2: an unknown command\n"
 
 
-def by_chance(room, count=CHANCE_SCRIPTS):
-    """Scripts by chance in all formats, against the second desk."""
-    model = [sys.executable, "-B", f"{HERE}/desk_model.py", room, str(count), str(CHANCE_LINES)]
+def by_chance(room, count=CHANCE_SCRIPTS, lines=CHANCE_LINES):
+    """Scripts by chance in all formats, against the second desk; of every other one half of the lines are undos, at any depth."""
+    model = [sys.executable, "-B", f"{HERE}/desk_model.py", room, str(count), str(lines)]
     subprocess.run(model, check=True)
     for n in range(count):
         script, arguments, wanted = (open(f"{room}/chance_{n}{end}").read() for end in ("", ".args", ".stdout"))
@@ -319,7 +319,7 @@ def main():
         return 1
     with tempfile.TemporaryDirectory() as room:
         if sys.argv[1:2] == ["--chance"]:
-            return tally.told("program", dict(by_chance(room, int(sys.argv[2]))))
+            return tally.told("program", dict(by_chance(room, *map(int, sys.argv[2:4]))))
         results = dict(examples())
         for part in (cases, keys, help_texts, faults, scripts, failing_streams, at_a_keyboard, deep, by_chance):
             results.update(part(room))
