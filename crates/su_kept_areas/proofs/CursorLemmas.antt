@@ -5,7 +5,7 @@ use Rattle.std.proofs.Math.Seq.{drop-append_seam}
 use Rattle.su_op.specs.declared.areas.Area.{Area}
 use Rattle.su_op.specs.declared.areas.Area.TheVariants.{Inode as InodeArea, Pointer as PointerArea}
 use Rattle.su_op.specs.declared.footprints.Footprint.{Footprint}
-use Rattle.su_kept_areas.specs.Spelling.{Spells}
+use Rattle.su_kept_areas.specs.Sided.{Spells}
 use Rattle.su_kept_areas.specs.declared.marks.Side.{Side}
 use Rattle.su_kept_areas.specs.Marks.{marks, all_marks, areas_on, marks_from, IsWithinFirst, GoesOver}
 use Rattle.su_kept_areas.proofs.Lists.{IsSplit, others_spelled}
@@ -34,13 +34,13 @@ within_first side (a ∷ areas) = length-marks side a
 pub record Begins (side : Side) (f : Footprint) (passed : ℕ) (a : Area) (behind : List ℕ) (i : ℕ) : Type 0 where
   pub others : List Area
   pub whole : drop passed (areas_on side f) ≡ a ∷ others
-  pub spelled : Spells behind others
+  pub spelled : Spells side behind others
   pub within : i < length (marks side a)
 
 pub begins : (side : Side) (f : Footprint) (passed : ℕ) (left : List ℕ) (i : ℕ) (a : Area) (behind : List ℕ)
-    → GoesOver side f passed left i → IsSplit left a behind → 0 < length left → Begins side f passed a behind i
+    → GoesOver side f passed left i → IsSplit side left a behind → 0 < length left → Begins side f passed a behind i
 begins side f passed left i a behind over split some =
-    let o = others_spelled left a behind split some (drop passed (areas_on side f)) over.spelled in
+    let o = others_spelled side left a behind split some (drop passed (areas_on side f)) over.spelled in
     record { others = o.0; whole = o.2; spelled = o.1; within = subst (IsWithinFirst side i) o.2 over.within }
 
 module _ (side : Side) (f : Footprint) (passed : ℕ) (a : Area) (behind : List ℕ) (i : ℕ) (b : Begins side f passed a behind i) where
@@ -76,7 +76,12 @@ module _ (side : Side) (f : Footprint) (passed : ℕ) (a : Area) (behind : List 
   over_next left over shorter =
       let rest : drop (passed + 1) (areas_on side f) ≡ b.others = drop_next passed (areas_on side f) a b.others b.whole in
       record {
-        spelled = subst (Spells behind) (sym rest) b.spelled;
+        spelled = subst (Spells side behind) (sym rest) b.spelled;
         within = within_first side (drop (passed + 1) (areas_on side f));
         few = omega (arith, over.few);
       }
+
+  -- where it isn't the last one
+  pub over_same : (left : List ℕ) → GoesOver side f passed left i → i + 1 < length (marks side a) → GoesOver side f passed left (i + 1)
+  over_same left over next =
+      record { spelled = over.spelled; within = subst (IsWithinFirst side (i + 1)) (sym b.whole) next; few = over.few }

@@ -1,8 +1,10 @@
 -- Worked examples of spellings.
 use Rattle.std.proofs.Common.{◌≡◌, [], ◌∷◌, refl}
-use Rattle.su_op.specs.declared.areas.Part.TheVariants.{Links, Name, Blocks}
+use Rattle.su_op.specs.declared.areas.Part.TheVariants.{Kind, Links, Name, Blocks}
 use Rattle.su_op.specs.declared.areas.Area.TheVariants.{Inode, Pointer}
 use Rattle.su_kept_areas.specs.Spelling.{area_bytes, areas_bytes}
+use Rattle.su_kept_areas.specs.Sided.{all_sided_bytes}
+use Rattle.su_kept_areas.specs.declared.sided.Sides.TheVariants as sides
 
 -- the pointer of number 1 of group 0
 a_pointer : area_bytes (Pointer (0, 1)) ≡ 0 ∷ 0 ∷ 0 ∷ 0 ∷ 0 ∷ 1 ∷ []
@@ -16,3 +18,9 @@ a_run = refl
 two : areas_bytes (Inode (0, 2) (Name (102 ∷ [])) ∷ Inode (0, 2) Links ∷ [])
     ≡ 6 ∷ 0 ∷ 0 ∷ 0 ∷ 0 ∷ 2 ∷ 1 ∷ 102 ∷ 2 ∷ 0 ∷ 0 ∷ 0 ∷ 0 ∷ 2 ∷ []
 two = refl
+
+-- a name that is made where it is known that none was: the kind of the directory is read, and the name
+-- is both read and written; so it is spelled once, and its first byte is 6 and 8 times 1
+made : all_sided_bytes ((sides.Read, Inode (0, 2) Kind) ∷ (sides.Both, Inode (0, 2) (Name (102 ∷ []))) ∷ [])
+    ≡ 1 ∷ 0 ∷ 0 ∷ 0 ∷ 0 ∷ 2 ∷ 14 ∷ 0 ∷ 0 ∷ 0 ∷ 0 ∷ 2 ∷ 1 ∷ 102 ∷ []
+made = refl

@@ -1,5 +1,5 @@
 -- Areas as a format: each has one spelling, which begins no other.
-use Rattle.std.proofs.Common.{◌≡◌, ℕ, ◌<◌, ◌≤◌, ◌^◌, ◌||◌, nat_eq, nat_lt, true, List, ◌++◌, length, inl, inr, refl, ap, append_assoc, arith}
+use Rattle.std.proofs.Common.{◌≡◌, ℕ, ◌<◌, ◌≤◌, ◌^◌, ◌||◌, nat_eq, nat_lt, true, List, ◌++◌, length, inl, inr, refl, sym, ap, subst, append_assoc, arith}
 use Rattle.std.proofs.lemmas.Bool.{or_parts, not-true, ltb-false}
 use Rattle.std.specs.Cmp.{first_so}
 use Rattle.su_bytes.specs.Principal.{is_user, is_group}
@@ -172,3 +172,17 @@ pub area_refused : (old : Reading) (e : Refusal) (a : Area) (rest : List ℕ) �
 area_refused old e a rest begins (inl none) = none
 area_refused old e a rest begins (inr (place, is, at)) =
     absurd (area_lawful.apart old.left a rest at.behind (area_begins old.left a rest begins) at.fails)
+
+-- ---- what comes of reading bytes that begin with what an area of a known kind has
+
+begins_here : (kind : AreaKind) (bytes : List ℕ) (a : Area) (rest : List ℕ) → kind ≡ kind_of a → bytes ≡ fields_bytes a ++ rest → IsArea a → (fields_format kind).Begins bytes a rest
+begins_here kind bytes a rest k l is =
+    subst (λ x. (fields_format x).Begins bytes a rest) (sym k) (subst (λ xs. (fields_format (kind_of a)).Begins xs a rest) (sym l) (fields_begins a rest is))
+
+pub fields_told : (kind : AreaKind) (bytes : List ℕ) (a b : Area) (rest left : List ℕ) → kind ≡ kind_of a → bytes ≡ fields_bytes a ++ rest → IsArea a → (fields_format kind).Begins bytes b left → (b ≡ a) × (left ≡ rest)
+fields_told kind bytes a b rest left k l is read = (fields_lawful kind).told bytes b a left rest read (begins_here kind bytes a rest k l is)
+
+pub fields_refused : (kind : AreaKind) (old : Reading) (e : Refusal) (a : Area) (rest : List ℕ) → kind ≡ kind_of a → old.left ≡ fields_bytes a ++ rest → IsArea a → Refuses (fields_format kind) old e → e ≡ NoMemory
+fields_refused kind old e a rest k l is (inl none) = none
+fields_refused kind old e a rest k l is (inr (place, so, at)) =
+    absurd ((fields_lawful kind).apart old.left a rest at.behind (begins_here kind old.left a rest k l is) at.fails)

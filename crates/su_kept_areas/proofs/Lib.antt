@@ -1,5 +1,7 @@
 pub mod Formats
 pub mod Lists
+pub mod SidedLemmas
+pub mod FewLemmas
 pub mod Tests
 pub mod MarksLemmas
 pub mod CursorLemmas

@@ -1,4 +1,5 @@
 pub mod Spelling
+pub mod Sided
 pub mod Lent
 pub mod Format
 pub mod Pointer

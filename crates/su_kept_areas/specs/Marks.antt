@@ -12,7 +12,7 @@ use Rattle.su_op.specs.declared.areas.Part.TheVariants.{Kind as KindPart, Links 
 use Rattle.su_op.specs.declared.areas.Area.{Area}
 use Rattle.su_op.specs.declared.areas.Area.TheVariants.{Inode as InodeArea, Pointer as PointerArea}
 use Rattle.su_op.specs.declared.footprints.Footprint.{Footprint}
-use Rattle.su_kept_areas.specs.Spelling.{Spells}
+use Rattle.su_kept_areas.specs.Sided.{Spells}
 use Rattle.su_kept_areas.specs.declared.marks.TheConstants.{FEW_BLOCKS, FACTOR}
 use Rattle.su_kept_areas.specs.declared.marks.Cells.{Cells}
 use Rattle.su_kept_areas.specs.declared.marks.Cells.TheVariants.{Kind, Links, Size, Name, Block, Broad, Any, Pointer}
@@ -111,7 +111,7 @@ marks_from side i areas = drop i (all_marks side areas)
 
 -- the bytes spell those areas of the footprint that are left, of the first of which so many marks were passed
 pub record GoesOver (side : Side) (f : Footprint) (passed : ℕ) (left : List ℕ) (i : ℕ) : Type 0 where
-  pub spelled : Spells left (drop passed (areas_on side f))
+  pub spelled : Spells side left (drop passed (areas_on side f))
   pub within : IsWithinFirst side i (drop passed (areas_on side f))
   pub few : passed + length left < 2 ^ 64
 

@@ -1,7 +1,7 @@
 -- Areas in bytes: which kind of area it is, of whose table and at which number it stands, and what
 -- the kind has besides. A kind that has no more is spelled in six bytes.
 use Rattle.std.specs.Prelude.{◌≡◌, ℕ, ◌<◌, ◌^◌, true, List, [], ◌∷◌, ◌++◌}
-use Rattle.std.specs.List.{AllByRecursion, flat_map}
+use Rattle.std.specs.List.{flat_map}
 use Rattle.su_bytes.specs.Principal.{is_user, is_group}
 use Rattle.su_bytes.specs.FileId.{is_inum}
 use Rattle.su_bytes.specs.Name.{is_name}
@@ -80,22 +80,9 @@ abbrev pub IsArea : Area → Type 0
 IsArea (InodeArea p part) = (is_user p.0 ≡ true) × (is_inum p.1 ≡ true) × IsPart part
 IsArea (PointerArea g) = (is_group g.0 ≡ true) × (is_inum g.1 ≡ true)
 
--- ---- bytes that spell areas
+-- ---- bytes that spell an area
 
 -- they begin with this area, and the rest comes behind
 pub record BeginsWith (bytes : List ℕ) (a : Area) (rest : List ℕ) : Type 0 where
   pub is : IsArea a
   pub spelled : bytes ≡ area_bytes a ++ rest
-
--- they are these areas
-pub record Spells (bytes : List ℕ) (areas : List Area) : Type 0 where
-  pub are : AllByRecursion IsArea areas
-  pub spelled : bytes ≡ areas_bytes areas
-
--- they begin with some area
-abbrev pub BeginWithOne : List ℕ → Type 0
-BeginWithOne bytes = (a : Area) × (rest : List ℕ) × BeginsWith bytes a rest
-
--- they are some areas
-abbrev pub SpellSome : List ℕ → Type 0
-SpellSome bytes = (areas : List Area) × Spells bytes areas

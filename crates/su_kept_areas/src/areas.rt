@@ -43,7 +43,7 @@ pub fn put_area(writer: &mut Writer, area: &Area) -> Result<(), AllocError>
 }
 
 /// Writes what an area has behind the byte of its kind. Fails where there is no room.
-fn put_fields(writer: &mut Writer, area: &Area) -> Result<(), AllocError>
+pub(crate) fn put_fields(writer: &mut Writer, area: &Area) -> Result<(), AllocError>
     ensures ok { OnOk result (writer.new ≡ writer.old ++ fields_bytes area.now) }
     ensures meant { OnOk result (IsArea area.now) }
 {
@@ -90,7 +90,7 @@ pub fn take_area(alloc: Global, reader: &mut Reader<'_>) -> Result<Area, Refusal
 }
 
 /// Takes an area whose name is lent. `Malformed` with the place of the first part that isn't there.
-pub(crate) fn take_lent<'a>(reader: &mut Reader<'a>) -> Result<LentArea<'a>, Refusal>
+fn take_lent<'a>(reader: &mut Reader<'a>) -> Result<LentArea<'a>, Refusal>
     ensures value { IfOk result (λ area. Took area_format reader.old (area_of area) reader.new) }
     ensures refused { IfErr result (λ e. Refuses area_format reader.old e) }
     ensures malformed { IfErr result (λ e. e ≢ NoMemory) }
@@ -117,7 +117,10 @@ fn take_kind(reader: &mut Reader<'_>) -> Result<AreaKind, Refusal>
 }
 
 /// Takes what an area of that kind has behind the byte of its kind.
-fn take_fields<'a>(reader: &mut Reader<'a>, kind: AreaKind) -> Result<LentArea<'a>, Refusal>
+pub(crate) fn take_fields<'a>(
+    reader: &mut Reader<'a>,
+    kind: AreaKind,
+) -> Result<LentArea<'a>, Refusal>
     ensures value { IfOk result (λ area.
         Took (fields_format kind) reader.old (area_of area) reader.new) }
     ensures refused { IfErr result (λ e. Refuses (fields_format kind) reader.old e) }

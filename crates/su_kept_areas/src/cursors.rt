@@ -4,7 +4,7 @@ ghost use Rattle.su_kept_areas.specs.Marks.{read_marks, written_marks};
 
 use crate::footprints::KeptFootprint;
 use crate::marks::Side;
-use crate::spelled::split_first;
+use crate::sided::split_first;
 use std::marker::Model;
 
 /// Marks that are gone over. Its model is those that are left.
@@ -41,7 +41,7 @@ impl<'a> MarksLeft<'a> {
         if self.left.is_empty() {
             return None;
         }
-        let (area, behind) = split_first(self.left);
+        let (area, behind) = split_first(self.left, self.side);
         let count = area.mark_count(self.side);
         let mark = area.mark(self.side, self.index);
         let next = self.index + 1;

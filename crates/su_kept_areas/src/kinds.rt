@@ -1,5 +1,5 @@
 // The kinds of areas, by the byte that each has in front.
-ghost use Rattle.std.specs.Prelude.{◌≡◌, IfSome, IfNone};
+ghost use Rattle.std.specs.Prelude.{◌≡◌, ◌<◌, IfSome, IfNone};
 ghost use Rattle.su_kept_areas.specs.Spelling.{kind_number, kind_of, part_kind};
 ghost use Rattle.su_kept_areas.specs.declared.kinds.AreaKind.{AreaKind as AreaKind_};
 
@@ -52,7 +52,8 @@ impl AreaKind {
 
     /// Returns the byte that tells it.
     pub(crate) fn number(self) -> u8
-        ensures { result ≡ kind_number self }
+        ensures value { result ≡ kind_number self }
+        ensures few { result < 8 }
     {
         match self {
             AreaKind::Pointer => 0,

@@ -8,6 +8,7 @@ mod footprints;
 mod kinds;
 mod lent;
 mod marks;
+mod sided;
 mod spelled;
 
 pub use areas::{put_area, take_area};
