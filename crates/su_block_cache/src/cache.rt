@@ -17,7 +17,7 @@ use su_block::BlockSource;
 use su_bytes::{Digest, Refusal};
 
 /// A source over another one that keeps the items that were got or put last, and gives those
-/// without asking the source within. An item of more than 8,192 bytes isn't kept, nor one for which
+/// without asking the source within. An item of more than 2,048 bytes isn't kept, nor one for which
 /// there is no memory: that is no refusal. Of 1,024 items it has 9 MB at most. Its model is the
 /// source within, the items that it keeps, each beside its digest, the one that was used last
 /// first, and the most items that it may keep.

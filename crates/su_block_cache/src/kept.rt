@@ -12,8 +12,8 @@ use std::num::NonZeroUsize;
 use su_bytes::{Digest, Refusal};
 
 /// How many bytes an item has at most that is kept. A node of a tree has fewer; what has more is a
-/// change, which is asked for once.
-const LONGEST_KEPT: usize = 8_192;
+/// block of contents or a change, which is asked for once.
+const LONGEST_KEPT: usize = 2_048;
 
 /// Items under digests, no more than a capacity. Where one more comes, the one goes that was used
 /// longest ago. Its model is the items, the one that was used last first, and the capacity.
@@ -85,7 +85,7 @@ impl KeptItems {
     }
 
     /// Keeps a copy of an item under a digest, as the newest, in place of what was there. One of more
-    /// than 8,192 bytes isn't kept, nor one for which there is no memory: then nothing changes.
+    /// than 2,048 bytes isn't kept, nor one for which there is no memory: then nothing changes.
     pub(crate) fn keep(&mut self, alloc: Global, digest: &Digest, item: &[u8])
         ensures keeps { Keeps self.old.capacity digest.now item.now self.old.items self.new.items }
         ensures capacity { self.new.capacity ≡ self.old.capacity }

@@ -20,7 +20,7 @@ const LONGEST_ENTRY: u64 = 200_000;
 
 /// How many bytes of items, or of contents that are read, may come into the tree in memory before it
 /// is left in the scratch.
-pub(crate) const MOST_GROWN: u64 = 1_048_576;
+pub(crate) const MOST_GROWN: u64 = 131_072;
 
 /// What of the items of a list a command needs.
 #[derive(Clone, Copy, Debug, PartialEq, Eq)]

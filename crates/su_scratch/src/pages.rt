@@ -11,10 +11,10 @@ use su_bytes::{Digest, FileId, Refusal};
 use su_format::{Reader, Writer};
 
 /// How many notes a page has.
-pub(crate) const NOTES_OF_A_PAGE: usize = 16;
+pub(crate) const NOTES_OF_A_PAGE: usize = 4;
 
 /// How many bytes a page has: 9 for the place of the page before it, and 44 for each note.
-pub(crate) const PAGE_LENGTH: usize = 713;
+pub(crate) const PAGE_LENGTH: usize = 185;
 
 /// What a page tells of a digest.
 #[derive(Clone, Copy, Debug)]
