@@ -50,12 +50,18 @@ IsRest rest = IsPartial rest ⊎ ((e : Refusal) × (fault rest ≡ Some e))
 
 -- ---- what is answered of it
 
+-- a whole message stands next
+abbrev pub StandsWhole : List ℕ → Type 0
+StandsWhole bytes =
+    (message rest : List ℕ) × IsMessage message × (bytes ≡ frame message ++ rest)
+
 -- The next message is asked for, where these bytes wait before and after: the first one is taken,
--- or nothing is whole yet, or its length is refused, or there is no memory.
+-- or nothing is whole yet, or its length is refused, or it is whole and there is no memory for it.
 abbrev pub Nexts : List ℕ → Result (Option (Vec ℕ)) Refusal → List ℕ → Type 0
 Nexts old (Ok (Some message)) new = IsMessage message.items × (old ≡ frame message.items ++ new)
 Nexts old (Ok None) new = IsPartial old × (new ≡ old)
-Nexts old (Err e) new = ((fault old ≡ Some e) ⊎ (e ≡ NoMemory)) × (new ≡ old)
+Nexts old (Err e) new =
+    ((fault old ≡ Some e) ⊎ ((e ≡ NoMemory) × StandsWhole old)) × (new ≡ old)
 
 -- how long the message is that stands next, where it is whole
 abbrev pub Measures : List ℕ → Result (Option ℕ) Refusal → Type 0

@@ -69,13 +69,17 @@ impl Frames {
 
     /// Takes the next message, if it has come whole. `Malformed` (at 0) where the length that
     /// stands next is 0, `TooLong` where it is above `LONGEST_MESSAGE`, and so ever after;
-    /// `NoMemory`. A refusal changes nothing.
+    /// `NoMemory`, where there is none for a message that has come whole. A refusal changes
+    /// nothing.
     pub fn next(&mut self) -> Result<Option<Vec<u8>>, Refusal>
         ensures { Nexts self.old result self.new }
     {
         match measure(self.waiting())? {
             Some(size) => {
-                let message = Vec::from_slice(self.alloc, &self.waiting()[4..4 + size])?;
+                let bytes = &self.waiting()[4..4 + size];
+                let Ok(message) = Vec::from_slice(self.alloc, bytes) else {
+                    return Err(Refusal::NoMemory);
+                };
                 self.start += 4 + size;
                 Ok(Some(message))
             }

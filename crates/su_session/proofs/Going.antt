@@ -1,18 +1,20 @@
 -- Parts of a session one after another are a part of it.
-use Rattle.std.proofs.Common.{◌≡◌, ◌∙◌, sym, refl, ap, subst, ℕ, zero, suc, ◌+◌, ◌<◌, ◌≤◌, Bool, true, false, List, [], ◌∷◌, ◌++◌, length, take, drop, Option, Some, append_assoc, append-nil, length-append, take-append-drop, length-drop, ◌⊎◌, ◌==◌, arith, All, inl, inr}
+use Rattle.std.proofs.Common.{◌≡◌, ◌∙◌, sym, refl, ap, subst, ℕ, zero, suc, ◌+◌, ◌<◌, ◌≤◌, Bool, true, false, List, [], ◌∷◌, ◌++◌, length, take, drop, Option, Some, None, append_assoc, append-nil, length-append, take-append-drop, length-drop, ◌⊎◌, ◌==◌, arith, All, inl, inr}
 use Rattle.std.specs.List.{flat_map}
 use Rattle.std.specs.Io.KnownBytes.{Consumes, Appends, IsAtEnd}
 use Rattle.std.proofs.KnownBytes.{Consumes-nil, Consumes-trans, Appends-nil, Appends-trans}
 use Rattle.std.proofs.lemmas.Bool.Decides.{nat_tests}
 use Rattle.std.proofs.lemmas.List.Elements.{All-append, All-nil}
 use Rattle.su_bytes.specs.declared.refusals.Refusal.{Refusal}
+use Rattle.su_bytes.specs.declared.refusals.Refusal.TheVariants.{NoMemory}
 use Rattle.su_message.specs.declared.requests.Request.{Request}
 use Rattle.su_message.specs.declared.replies.Reply.{Reply}
 use Rattle.su_session.specs.declared.sessions.End.{End}
 use Rattle.su_session.specs.declared.sessions.TheConstants.{MOST_READS}
 use Rattle.su_session.specs.declared.sessions.End.TheVariants as ended
 use Rattle.su_session.specs.declared.sessions.Progress.TheVariants as progress
-use Rattle.su_frames.specs.Stream.{frame, fault, stream, IsMessage, IsPartial}
+use Rattle.su_format.specs.Part.{u32_bytes}
+use Rattle.su_frames.specs.Stream.{frame, fault, stream, IsMessage, IsPartial, StandsWhole}
 use Rattle.su_session.specs.Answer.{refusal_reply, reply_frame, written_of, turn_by, turn_after, refusal_frame, Replies}
 use Rattle.su_session.specs.Session.{Breaks, CameBefore, Ends, Moment, Session}
 use Rattle.su_session.specs.Step.{SaysWhole, SaysPart, SaysNothing, Refusing, Goes, Steps}
@@ -62,14 +64,32 @@ ends-later ended.LinkFailed n known rest before rs out (inr b) = inr (record {
   cut = b.cut;
 })
 
--- as many bytes and more came
-pub came-later : (end : End) (before input : List ℕ) → CameBefore end input → CameBefore end (before ++ input)
-came-later ended.Closed before input c = tt
-came-later ended.Cut before input c = tt
-came-later ended.Refused before input c = tt
-came-later ended.ReadFailed before input c = tt
-came-later ended.Spent before input c = omega (arith, c, length-append before input)
-came-later ended.LinkFailed before input c = tt
+-- what waited behind messages, or came behind it, had come before them
+pub came-later : (end : End) (old before new input : List ℕ) (ms : List (List ℕ)) → old ++ before ≡ stream ms new → CameBefore end new input → CameBefore end old (before ++ input)
+came-later ended.Closed old before new input ms whole c = tt
+came-later ended.Cut old before new input ms whole c = tt
+came-later ended.Refused old before new input ms whole c = tt
+came-later ended.ReadFailed old before new input ms whole c = tt
+came-later ended.Spent old before new input ms whole c = omega (arith, c, length-append before input)
+came-later ended.LinkFailed old before new input ms whole c =
+    omega (arith, c, length-append before input, ap length whole, length-append old before, length-append (flat_map frame ms) new)
+
+-- a message on the stream is some bytes
+frame-some : (m rest : List ℕ) → 0 < length (frame m ++ rest)
+frame-some m rest = omega (arith, length-append (frame m) rest, length-append (u32_bytes (length m)) m)
+
+whole-some : (old m rest : List ℕ) → old ≡ frame m ++ rest → 0 < length old + 0
+whole-some old m rest e = omega (arith, ap length e, frame-some m rest)
+
+-- what is refused, and whose length isn't, is refused for want of memory
+pub lacked : (old : List ℕ) (e : Refusal) → (fault old ≡ Some e) ⊎ ((e ≡ NoMemory) × StandsWhole old) → fault old ≡ None → StandsWhole old
+lacked old e (inl f) n = absurd (let clash : Some e ≡ None = sym f ∙ n in cc)
+lacked old e (inr (wants, whole)) n = whole
+
+-- a length is refused only where it has come
+fault-some : (old : List ℕ) (e : Refusal) → fault old ≡ Some e → 0 < length old + 0
+fault-some [] e f = absurd cc
+fault-some (x ∷ xs) e f = omega arith
 
 -- nothing more was written
 pub breaks-nothing : (rest : List ℕ) (n : ℕ) (rs : List Reply) → n ≡ length rs → Breaks n rest rs (written_of rs)
@@ -173,14 +193,14 @@ module _ {S : Type 0} (step : S → Request → Reply → S → Type 0) where
     counted = omega (arith, p.counted, q.counted);
     turn_is = q.turn_is ∙ ap (λ t. turn_after t q.replies) p.turn_is ∙ sym (turn_after-append a.turn p.replies q.replies);
     ends = ends-later end q.count c.known q.rest p.replies q.replies q.out q.ends;
-    came = came-later end p.input q.input q.came;
+    came = came-later end a.waits p.input b.waits q.input p.messages p.whole q.came;
   }
 
   abbrev pub moment : S → Bool → ℕ → List ℕ → Option (List ℕ) → Option (List ℕ) → Moment S
   moment s turn n waits known held = record { service = s; turn = turn; answered = n; waits = waits; known = known; held = held }
 
   -- a rest of a session in which nothing is read
-  pub session-here : (a b : Moment S) (end : End) (ms : List (List ℕ)) (rest : List ℕ) (rs : List Reply) (out : List ℕ) (new : ℕ) → b.known ≡ a.known → a.waits ≡ stream ms rest → All IsMessage ms → Replies step a.service ms rs b.service → Appends a.held b.held out → b.answered ≡ a.answered + new → b.turn ≡ turn_after a.turn rs → Ends end new b.known rest rs out → CameBefore end [] → Session step a end b
+  pub session-here : (a b : Moment S) (end : End) (ms : List (List ℕ)) (rest : List ℕ) (rs : List Reply) (out : List ℕ) (new : ℕ) → b.known ≡ a.known → a.waits ≡ stream ms rest → All IsMessage ms → Replies step a.service ms rs b.service → Appends a.held b.held out → b.answered ≡ a.answered + new → b.turn ≡ turn_after a.turn rs → Ends end new b.known rest rs out → CameBefore end a.waits [] → Session step a end b
   session-here a b end ms rest rs out new known whole each run written counted turn ends came = record {
     input = [];
     messages = ms;
@@ -228,25 +248,25 @@ module _ {S : Type 0} (step : S → Request → Reply → S → Type 0) where
       → Session step (moment s turn n old known held) ended.LinkFailed (moment t turn' (n + 1) new known held')
   step-unsent s t turn turn' n old new m known held held' (good, cut) (r, run, turned, wrote) =
       session-here _ _ ended.LinkFailed (m ∷ []) new (r ∷ []) (written_of (r ∷ [])) 1 refl (one-message m old new cut) (all-one m good) (t, run, refl)
-      (subst (Appends held held') (sym (append-nil (reply_frame r))) wrote) refl turned (breaks-nothing new 1 (r ∷ []) refl) tt
+      (subst (Appends held held') (sym (append-nil (reply_frame r))) wrote) refl turned (breaks-nothing new 1 (r ∷ []) refl) (whole-some old m new cut)
 
   pub step-broken : (s t : S) (turn turn' : Bool) (n : ℕ) (old new m : List ℕ) (known held held' : Option (List ℕ)) → IsMessage m × (old ≡ frame m ++ new)
       → SaysPart step s turn m held t turn' held' ⊎ SaysNothing step s turn held t turn' held'
       → Session step (moment s turn n old known held) ended.LinkFailed (moment t turn' n new known held')
   step-broken s t turn turn' n old new m known held held' (good, cut) (inl (r, k, run, turned, lt, wrote)) =
-      session-here _ _ ended.LinkFailed (m ∷ []) new (r ∷ []) (take k (reply_frame r)) 0 refl (one-message m old new cut) (all-one m good) (t, run, refl) wrote (omega arith) turned (breaks-part new r k lt) tt
+      session-here _ _ ended.LinkFailed (m ∷ []) new (r ∷ []) (take k (reply_frame r)) 0 refl (one-message m old new cut) (all-one m good) (t, run, refl) wrote (omega arith) turned (breaks-part new r k lt) (whole-some old m new cut)
   step-broken s t turn turn' n old new m known held held' (good, cut) (inr (same, turned, wrote)) =
-      session-here _ _ ended.LinkFailed [] old [] [] 0 refl refl (All-nil IsMessage) same wrote (omega arith) turned (breaks-nothing old 0 [] refl) tt
+      session-here _ _ ended.LinkFailed [] old [] [] 0 refl refl (All-nil IsMessage) same wrote (omega arith) turned (breaks-nothing old 0 [] refl) (whole-some old m new cut)
 
-  pub step-memory : (s : S) (turn : Bool) (n : ℕ) (old new : List ℕ) (known held : Option (List ℕ)) → Session step (moment s turn n old known held) ended.LinkFailed (moment s turn n new known held)
-  step-memory s turn n old new known held =
-      session-here _ _ ended.LinkFailed [] old [] [] 0 refl refl (All-nil IsMessage) refl (Appends-nil held) (omega arith) refl (breaks-nothing old 0 [] refl) tt
+  pub step-memory : (s : S) (turn : Bool) (n : ℕ) (old new : List ℕ) (known held : Option (List ℕ)) → StandsWhole old → Session step (moment s turn n old known held) ended.LinkFailed (moment s turn n new known held)
+  step-memory s turn n old new known held (m, rest, good, cut) =
+      session-here _ _ ended.LinkFailed [] old [] [] 0 refl refl (All-nil IsMessage) refl (Appends-nil held) (omega arith) refl (breaks-nothing old 0 [] refl) (whole-some old m rest cut)
 
   pub step-refused : (end : End) (e : Refusal) (s : S) (turn : Bool) (n : ℕ) (old new : List ℕ) (known held held' : Option (List ℕ)) → fault old ≡ Some e → Refusing e held end held' → Session step (moment s turn n old known held) end (moment s turn n new known held')
   step-refused ended.Refused e s turn n old new known held held' f wrote =
       session-here _ _ ended.Refused [] old [] (reply_frame (refusal_reply e)) 0 refl refl (All-nil IsMessage) refl wrote (omega arith) refl (e, f, refl, refl) tt
   step-refused ended.LinkFailed e s turn n old new known held held' f (k, wrote) =
-      session-here _ _ ended.LinkFailed [] old [] (take k (reply_frame (refusal_reply e))) 0 refl refl (All-nil IsMessage) refl wrote (omega arith) refl (breaks-refusal old e k f) tt
+      session-here _ _ ended.LinkFailed [] old [] (take k (reply_frame (refusal_reply e))) 0 refl refl (All-nil IsMessage) refl wrote (omega arith) refl (breaks-refusal old e k f) (fault-some old e f)
   step-refused ended.Closed e s turn n old new known held held' f wrote = absurd wrote
   step-refused ended.Cut e s turn n old new known held held' f wrote = absurd wrote
   step-refused ended.ReadFailed e s turn n old new known held held' f wrote = absurd wrote
@@ -333,8 +353,8 @@ module _ {S : Type 0} (step : S → Request → Reply → S → Type 0) where
   }
 
   -- there was no memory for what was read
-  pub end-lost : (a b : Moment S) (piece : List ℕ) → b.service ≡ a.service → b.turn ≡ a.turn → b.answered ≡ a.answered → b.held ≡ a.held → Consumes a.known b.known piece → Session step a ended.LinkFailed b
-  end-lost a b piece s t n h read = record {
+  pub end-lost : (a b : Moment S) (piece : List ℕ) → b.service ≡ a.service → b.turn ≡ a.turn → b.answered ≡ a.answered → b.held ≡ a.held → Consumes a.known b.known piece → 0 < length piece → Session step a ended.LinkFailed b
+  end-lost a b piece s t n h read some = record {
     input = piece;
     messages = [];
     rest = a.waits ++ piece;
@@ -349,7 +369,7 @@ module _ {S : Type 0} (step : S → Request → Reply → S → Type 0) where
     counted = n ∙ omega arith;
     turn_is = t;
     ends = breaks-nothing (a.waits ++ piece) 0 [] refl;
-    came = tt;
+    came = omega (arith, some);
   }
 
   -- no read is left, and by each of so many a byte came at least

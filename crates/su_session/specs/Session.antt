@@ -57,10 +57,12 @@ Ends Spent answered known rest replies out = IsPartial rest × SaysAll answered 
 Ends LinkFailed answered known rest replies out = Breaks answered rest replies out
 
 -- That a reader was read as often as it may be is told only where so many bytes came, one at least
--- by each read.
-abbrev pub CameBefore : End → List ℕ → Type 0
-CameBefore Spent input = MOST_READS ≤ length input
-CameBefore end input = Unit {0}
+-- by each read; that the link failed, only where something waited or came, of which there was
+-- something to keep or to answer.
+abbrev pub CameBefore : End → (waits input : List ℕ) → Type 0
+CameBefore Spent waits input = MOST_READS ≤ length input
+CameBefore LinkFailed waits input = 0 < length waits + length input
+CameBefore end waits input = Unit {0}
 
 -- A moment of a session: the service, whether the turn is held, how many messages were answered,
 -- what was read and isn't answered, what the reader has left and what the writer holds, where these
@@ -125,7 +127,7 @@ module _ {S : Type 0} (answers : S → Request → Reply → S → Type 0) where
     pub counted : b.answered ≡ a.answered + count
     pub turn_is : b.turn ≡ turn_after a.turn replies
     pub ends : Ends end count b.known rest replies out
-    pub came : CameBefore end input
+    pub came : CameBefore end a.waits input
 
   -- a whole session, from its first moment to a turn given back
   pub record Serves (s : S) (known held : Option (List ℕ)) (served : Served)

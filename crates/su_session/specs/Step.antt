@@ -40,7 +40,7 @@ abbrev pub Keeps : Talk → List ℕ → Talk → Type 0
 Keeps old waits new =
     (new.frames ≡ waits) × (new.answered ≡ old.answered) × (new.turn ≡ old.turn)
 
--- what one read took waits, a byte at least; where there was no memory for it, some of it may be gone
+-- what one read took waits, a byte at least; where there was no memory for it, it is gone
 abbrev pub Refills : Talk → Option (List ℕ) → Refill → Talk → Option (List ℕ) → Type 0
 Refills old known refills.More new known' =
     (piece : List ℕ) × Consumes known known' piece × (0 < length piece)
@@ -49,7 +49,8 @@ Refills old known refills.Ended new known' =
     Consumes known known' [] × IsAtEnd known' × Keeps old old.frames new
 Refills old known refills.Failed new known' = Consumes known known' [] × Keeps old old.frames new
 Refills old known refills.Lost new known' =
-    (piece : List ℕ) × Consumes known known' piece × Keeps old old.frames new
+    (piece : List ℕ) × Consumes known known' piece × (0 < length piece)
+    × Keeps old old.frames new
 
 module _ {S : Type 0} (answers : S → Request → Reply → S → Type 0) where
   -- a message was answered, and its reply was written

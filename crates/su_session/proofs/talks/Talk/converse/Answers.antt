@@ -36,8 +36,8 @@ returns-in-Failed g c =
 pub returns-in-Lost : goal.returns-in-Lost
 returns-in-Lost g c =
     let ready = c.in_default.ensures.says (g.R.Read.remaining c.loop.reader) in
-    let (piece, read, (frames, answered, turn)) = c.in-Lost.ensures.bytes in
-    goes-end g.S.Service.answers _ _ _ _ (goes-then g.S.Service.answers _ _ _ c.loop.invariant.1 ready.0) (end-lost g.S.Service.answers _ _ piece refl turn answered refl read)
+    let (piece, read, some, (frames, answered, turn)) = c.in-Lost.ensures.bytes in
+    goes-end g.S.Service.answers _ _ _ _ (goes-then g.S.Service.answers _ _ _ c.loop.invariant.1 ready.0) (end-lost g.S.Service.answers _ _ piece refl turn answered refl read some)
 
 pub loop-preserved : goal.loop-preserved
 loop-preserved g c =

@@ -1,6 +1,6 @@
 use Rattle.std.proofs.Common.{◌∙◌, sym, refl, ap}
 use Rattle.su_frames.specs.Stream.{fault}
-use Rattle.su_session.proofs.Going.{step-waits, step-answered, step-unsent, step-broken, step-memory, step-refused}
+use Rattle.su_session.proofs.Going.{step-waits, step-answered, step-unsent, step-broken, step-memory, step-refused, lacked}
 use Rattle.su_session.proofs.talks.Talk.step.Goals as goal
 
 pub returns-in-Ok-None : goal.returns-in-Ok-None
@@ -19,4 +19,4 @@ pub returns-in-Some : goal.returns-in-Some
 returns-in-Some g c = record { reads = refl; says = λ known. step-refused g.S.Service.answers c.refuse.result c.in-Some.refusal _ _ _ _ _ known _ _ (ap fault (sym c.in-Err.ensures.1) ∙ sym c.failed.ensures ∙ c.in-Some.is) c.refuse.ensures }
 
 pub returns : goal.returns
-returns g c = record { reads = refl; says = λ known. step-memory g.S.Service.answers _ _ _ _ _ known _ }
+returns g c = record { reads = refl; says = λ known. step-memory g.S.Service.answers _ _ _ _ _ known _ (lacked _ _ c.in-Err.ensures.0 (ap fault (sym c.in-Err.ensures.1) ∙ sym c.failed.ensures ∙ c.in-None.is)) }
