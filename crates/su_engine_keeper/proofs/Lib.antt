@@ -1,0 +1,4 @@
+mod Examples
+mod KeeperLemmas
+mod KeptLemmas
+mod MachineLemmas
