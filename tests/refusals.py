@@ -1,8 +1,9 @@
 #!/usr/bin/env python3
 """Tries the program `refusals` where one call for memory is refused, for one after the other until a run meets none, by the library of
-failing.py: rows of signatures, lists of commits, plans and a book's seats, in which a call that is refused has changed nothing, and answers
-once more as the row says; or the values with which a row begins couldn't be made, and are made anew; or the program ends with status 1
-where its start or its output wants the memory. Each of these rows meets a refused call. (Of a desk memory.py tries each call for memory.)
+failing.py: rows of signatures, lists of commits, plans, views, books, shared items, and of desks, forests and trees that are left on a store
+before each call, in which a call that is refused has changed nothing, and answers once more as the row says; or the values with which a row
+begins couldn't be made, and are made anew; or the program ends with status 1 where its start or its output wants the memory. Each of these
+rows meets a refused call. (Of a desk all of which is in memory memory.py tries each call for memory.)
 
 Prints a line for each case that isn't as it should be, and last 'N passed, M failed'.
 """
@@ -26,20 +27,38 @@ GOOD = "as it should be"
 ANEW = f"{GOOD}, with values that were made anew"
 AGAIN = f"{GOOD}, with a call that was refused, and made once more"
 # The rows that take memory where a call of them could be refused; what fails within the others are reads, writes and calls of a source.
-ROWS = ("as many signatures as leaves", "lists that don't follow", "a wrong i-handle", "plans of two users", "two seats of a book")
+ROWS = (
+    "as many signatures as leaves", "lists that don't follow", "a wrong i-handle", "plans of two users", "two seats of a book",
+    "changes of a desk that is left on its store", "questions to a desk that is left on its store",
+    "plans on a desk that is left on its store", "what stands in the way, on a desk that is left on its store",
+    "operations on a forest that is left on its store", "trees that are left on a store", "parts of a forest that are left on a store",
+    "each call of a view", "why an operation isn't undone", "steps of a book", "turns at a shared book", "items that are shared",
+    "inodes in memory", "a forest in memory", "what is told of a forest that is left on its store", "changes of a desk in a row, and a draft",
+    "what is spelled",
+)
+TOLD = f"{os.path.dirname(HERE)}/crates/refusals/stdout"  # what the program prints, a line for each of its rows
+
+
+def places():
+    """The place of each row, from 1, by its name."""
+    with open(TOLD, encoding="utf-8") as lines:
+        return {line.partition(": ")[0]: place for place, line in enumerate(lines, 1)}
+
+
+PLACES = places()
 
 
 class Ended:
     """What a row says where the call for memory of that number is refused, and whether that came."""
 
-    def __init__(self, library, row, number):
+    def __init__(self, library, name, number):
         self.number, told = number, failing.Told(failing.Shim(library, "growth"), number)
-        words = [PROGRAM, str(row + 1)]
+        words = [PROGRAM, str(PLACES[name])]
         ended = subprocess.run(words, stdin=subprocess.DEVNULL, capture_output=True, timeout=WAIT, check=False, **told.how)
         told.read()
         self.met, self.calls, self.status, self.told = told.met, told.calls, ended.returncode, ended.stderr
-        name, _, self.said = ended.stdout.decode().removesuffix("\n").partition(": ")
-        self.is_row = name == ROWS[row]
+        row, _, self.said = ended.stdout.decode().removesuffix("\n").partition(": ")
+        self.is_row = row == name
 
     def kind(self):
         """What came of it; none where it isn't as it should be."""
@@ -53,12 +72,12 @@ class Ended:
         return f"call {self.number}: status {self.status}, {self.said!r}, told {self.told!r}"
 
 
-def row_refused(library, row):
-    name, whole = ROWS[row], Ended(library, row, 0)
+def row_refused(library, name):
+    whole = Ended(library, name, 0)
     yield f"{name}: without a refusal: {whole}", whole.kind() == "whole" and not whole.met
     with concurrent.futures.ThreadPoolExecutor(RUNS_AT_ONCE) as pool:
         numbers = [*failing.spread(whole.calls, RUNS), whole.calls + 100]
-        runs = list(pool.map(lambda number: Ended(library, row, number), numbers))
+        runs = list(pool.map(lambda number: Ended(library, name, number), numbers))
     yield f"{name}: nothing is refused behind its last call: {runs[-1]}", runs[-1].kind() == "whole" and not runs[-1].met
     wrong = [run for run in runs if run.kind() is None]
     yield f"{name}: a refusal changes nothing: {len(wrong)} of {len(runs)}, {wrong[:3]}", wrong == []
@@ -71,8 +90,8 @@ def row_refused(library, row):
 
 
 def refused_once(library):
-    for row in range(len(ROWS)):
-        yield from row_refused(library, row)
+    for name in ROWS:
+        yield from row_refused(library, name)
 
 
 def main():

@@ -56,14 +56,28 @@ pub(crate) fn client_over<S: BlockSource + Drop>(
     requires { S.is_checked ≡ true }
 {
     let whose = User::new(u64::from(user))?;
-    let key = OwnKey::new(signer(alloc, user)?);
+    let signer = signer(alloc, user)?;
     let view = View::new(alloc, roster(alloc)?, whose, source)?;
-    Ok(Client { view, key })
+    Ok(Client::of(view, signer))
 }
 
 /// Makes the client of a user, which holds no commits and no items.
 pub(crate) fn new_client(alloc: Global, user: u8) -> Result<Client<Items>, Refusal> {
     client_over(alloc, user, Checked::new(MemoryBlocks::new(alloc)))
+}
+
+/// Makes the clients of the users 0 and 1, which hold no commits and no items.
+pub(crate) fn two_clients(alloc: Global) -> Result<(Client<Items>, Client<Items>), Refusal> {
+    let (zero, one) = (signer(alloc, 0)?, signer(alloc, 1)?);
+    let keys = [*zero.public().as_bytes(), *one.public().as_bytes()];
+    let roster = Roster::of_keys(alloc, &keys)?;
+    let zero = Client::of(new_view(alloc, roster.copy()?, User::FIRST)?, zero);
+    let one = Client::of(new_view(alloc, roster, User::new(1)?)?, one);
+    Ok((zero, one))
+}
+
+fn new_view(alloc: Global, roster: Roster, whose: User) -> Result<View<Items>, Refusal> {
+    View::new(alloc, roster, whose, Checked::new(MemoryBlocks::new(alloc)))
 }
 
 /// The file of that number of group 0.
@@ -103,6 +117,14 @@ pub(crate) fn write(alloc: Global, number: u64, bytes: &[u8]) -> Result<Change, 
 }
 
 impl<S: BlockSource + Drop> Client<S> {
+    /// Makes the client of a view and its user's signer.
+    pub(crate) fn of(view: View<S>, signer: Signer<NoStore>) -> Client<S> {
+        Client {
+            view,
+            key: OwnKey::new(signer),
+        }
+    }
+
     /// Makes a commit of a change of its user.
     pub(crate) fn make(&mut self, change: Change) -> Result<Commit, ViewRefusal> {
         self.view.make(change, &mut self.key)
@@ -189,8 +211,8 @@ impl<S: BlockSource + Drop> Client<S> {
         of: &Client<T>,
         numbers: &[u64],
     ) -> Result<(), Fault> {
-        // names the type for the prover (docs/ARCHITECTURE.md, "Forms the kit wants")
-        let _none: Option<FileId> = None;
+        // names the types for the prover (docs/ARCHITECTURE.md, "Forms the kit wants")
+        let _none: (Option<FileId>, Option<Refusal>) = (None, None);
         for number in numbers {
             let (_bytes, item) = of.entry(*number)?;
             self.put(alloc, item)?;

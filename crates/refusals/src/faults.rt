@@ -33,6 +33,16 @@ pub(crate) enum Mistake {
     Reply,
     /// Another number of calls is made, or there is no end of them.
     Calls,
+    /// A file has other bytes.
+    Content,
+    /// Something else is found, or nothing is.
+    Found,
+    /// Something else is read of a tree.
+    Reading,
+    /// Something else has to be undone before an operation.
+    Reasons,
+    /// An item is there, or isn't, otherwise.
+    Item,
 }
 
 /// Why a row stops.
@@ -65,8 +75,8 @@ impl From<io::Error> for Stop {
 
 impl From<Fault> for Stop {
     fn from(fault: Fault) -> Stop {
-        // names the type for the prover (docs/ARCHITECTURE.md, "Forms the kit wants")
-        let _none: Option<FileId> = None;
+        // names the types for the prover (docs/ARCHITECTURE.md, "Forms the kit wants")
+        let _none: (Option<FileId>, Option<Refusal>) = (None, None);
         match fault {
             Fault::Refused(refusal) => Stop::Refused(refusal.number()),
             Fault::View => Stop::Refused(0),

@@ -27,8 +27,8 @@ fn create_below(alloc: Global) -> Result<su_op::Change, Refusal> {
     create(alloc, b"c", 4)
 }
 
-// A client takes the commit of that number of another one.
-fn follow(
+/// A client takes the commit of that number of another one.
+pub(crate) fn follow(
     alloc: Global,
     client: &mut Client<Items>,
     of: &Client<Items>,
@@ -126,8 +126,8 @@ pub(crate) fn with_a_wrong_handle(alloc: Global, seen: &mut Seen) -> Result<(), 
 
 // A list of the first commit with another handle of group 0, signed by its author.
 fn wrong_handle(alloc: Global, author: &Client<Items>) -> Result<Vec<u8>, Fault> {
-    // names the type for the prover (docs/ARCHITECTURE.md, "Forms the kit wants")
-    let _none: Option<FileId> = None;
+    // names the types for the prover (docs/ARCHITECTURE.md, "Forms the kit wants")
+    let _none: (Option<FileId>, Option<Refusal>) = (None, None);
     let commit = author.commit_at(alloc, 1)?;
     let mut bytes = commit.version().encode(alloc)?;
     // behind the first four, the author, three digests, the count of groups and the group

@@ -5,16 +5,37 @@
 //! row that is carried out alone.
 #![tactic(auto)]
 
+mod asked;
+mod asking;
+mod books;
 mod clients;
+mod commits;
+mod desks;
 mod faults;
+mod flaws;
+mod forests;
+mod inodes;
+mod items;
+mod keepers;
 mod lists;
+mod meets;
+mod parts;
+mod planned;
 mod plans;
 mod rows;
 mod seats;
 mod seen;
 mod sessions;
+mod shared_books;
 mod signatures;
 mod sources;
+mod stores;
+mod taking;
+mod told;
+mod trees;
+mod trying;
+mod views;
+mod whys;
 
 use faults::Stop;
 use rows::{ROWS, Row, carry_out};
@@ -25,7 +46,7 @@ use std::sync::Wait;
 use std::thread::Threads;
 use std::time::Clock;
 use std::{env, io};
-use su_bytes::FileId;
+use su_bytes::{FileId, Refusal};
 
 fn main(rt: HostRuntime) -> Result<(), Stop> {
     let chosen = chosen(&rt)?;
@@ -52,8 +73,8 @@ fn show<R: Print + Threads + Wait + Clock + Sync>(
     alloc: Global,
     row: Row,
 ) -> Result<(), Stop> {
-    // names the type for the prover (docs/ARCHITECTURE.md, "Forms the kit wants")
-    let _none: Option<FileId> = None;
+    // names the types for the prover (docs/ARCHITECTURE.md, "Forms the kit wants")
+    let _none: (Option<FileId>, Option<Refusal>) = (None, None);
     let mut seen = Seen::none();
     carry_out(rt, alloc, row, &mut seen)?;
     let (name, said) = (row.name(), seen.said());

@@ -142,8 +142,13 @@ fn is_take(operation: &Op, taken: FileId, number: u64) -> Result<bool, Refusal> 
     }
 }
 
-// Whether it makes the file of that number of group 0, of the same body, so.
-fn is_create(operation: &Op, place: FileId, called: &[u8], number: u64) -> Result<bool, Refusal> {
+/// Whether it makes the file of that number of group 0, of the same body, so.
+pub(crate) fn is_create(
+    operation: &Op,
+    place: FileId,
+    called: &[u8],
+    number: u64,
+) -> Result<bool, Refusal> {
     match operation {
         Op::Create(
             Create {

@@ -65,5 +65,41 @@ macro_rules! viewed_again {
     };
 }
 
+/// The same for a call that asks a source, also where it is refused as who meets the source's flaw.
+macro_rules! asked_again {
+    ($seen:expr, $flaw:expr, $is_same:expr, $call:expr) => {
+        match $call {
+            Err(refusal) => {
+                if refusal == Refusal::NoMemory || refusal == $flaw {
+                    $seen.note_call($is_same)?;
+                    $call
+                } else {
+                    Err(refusal)
+                }
+            }
+            told => told,
+        }
+    };
+}
+
+/// The same for a view's calls.
+macro_rules! view_asked_again {
+    ($seen:expr, $flaw:expr, $is_same:expr, $call:expr) => {
+        match $call {
+            Err(ViewRefusal::Plain(refusal)) => {
+                if refusal == Refusal::NoMemory || refusal == $flaw {
+                    $seen.note_call($is_same)?;
+                    $call
+                } else {
+                    Err(ViewRefusal::Plain(refusal))
+                }
+            }
+            told => told,
+        }
+    };
+}
+
 pub(crate) use again;
+pub(crate) use asked_again;
+pub(crate) use view_asked_again;
 pub(crate) use viewed_again;
