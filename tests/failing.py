@@ -207,7 +207,7 @@ def each(name, at, scenario, most=None, sure=None):
     call, and returns what the library told and what isn't as it should be. How many calls of a kind there are may go by the clock (a read
     finds what has come by then, of a message or of several): then the first ones, `sure` of them, come in each run and are all tried, and a
     run may have too few of the others."""
-    most = most or runs_of_a_kind
+    most, first = most or runs_of_a_kind, 1 if sure is None else sure
     def tried(number):
         folder = f"{at}/{name} {number}"
         os.makedirs(folder)
@@ -217,12 +217,12 @@ def each(name, at, scenario, most=None, sure=None):
 
     _, whole, wrong = tried(0)
     yield f"{name}_without_a_fault: {wrong}", wrong == [] and not whole.met
-    yield f"{name}_makes_such_calls: {whole.calls}", whole.calls >= (sure or 1)
-    numbers = sorted({*range(1, (sure or 1) + 1), *spread(whole.calls, most)})
+    yield f"{name}_makes_such_calls: {whole.calls}", whole.calls >= first
+    numbers = sorted({*range(1, first + 1), *spread(whole.calls, most)})
     with concurrent.futures.ThreadPoolExecutor(RUNS_AT_ONCE) as pool:
         runs = list(pool.map(tried, numbers))
     unmet = [number for number, told, _ in runs if not told.met]
-    passed_by = [number for number, told, _ in runs if not told.met and (told.calls >= number or number <= (sure or 1))]
+    passed_by = [number for number, told, _ in runs if not told.met and (told.calls >= number or number <= first)]
     wrong = [(number, wrong) for number, _, wrong in runs if wrong]
     yield f"{name}_each_call_that_came_is_met: {passed_by}", passed_by == []
     if sure is None:
@@ -441,6 +441,7 @@ def keys(at, library):
 
 LINES = [b"mkdir /a", b"create /a/f", b"write /a/f 0 6869", b"mkdir /b"]
 THERE = [b"a G0:2", b"b G0:4"]
+MOST_LINKS = 400  # calls of a client's connection: all of them
 LINK_FAILED = (b"no 43 LinkFailed", b"no 7 SourceFailed")
 
 
@@ -508,7 +509,8 @@ def links(at, library):
     room = serving.Room(at)
     for kinds in ("write", "read"):
         yield from each(f"a_{kinds}_of_a_client's_connection", at,
-                        lambda folder, number, kinds=kinds: link_fails(room, library, kinds, folder, number), sure=1 if kinds == "read" else None)
+                        lambda folder, number, kinds=kinds: link_fails(room, library, kinds, folder, number), MOST_LINKS,
+                        sure=1 if kinds == "read" else None)
         yield from each(f"a_{kinds}_of_a_server's_connection", at,
                         lambda folder, number, kinds=kinds: server_link_fails(room, library, kinds, folder, number), sure=1 if kinds == "read" else None)
         yield from each(f"a_{kinds}_of_the_connection_of_a_client_that_goes_on", at,
@@ -517,7 +519,8 @@ def links(at, library):
 
 # ---- a state folder
 
-def put_fails(room, library, kinds, folder, number):
+def put_fails(room, library, kinds, folder, number, is_of_link=False):
+    """A put of a folder where a call on its state folder, or on its link, fails: the same command goes on, and all that was put is got."""
     wrong, here = [], f"{folder}/here"
     key, team = f"{folder}/key", f"{folder}/team"
     with open(key, "wb") as file:
@@ -538,7 +541,7 @@ def put_fails(room, library, kinds, folder, number):
         with serving.Running(["init", "--server", f"127.0.0.1:{server.port}", "--team", team, "--user", "ann", "--key", key, here]) as made:
             if made.end()[2] != 0:
                 wrong.append("it isn't made")
-        told = Told(Shim(library, kinds, f"{here}/.sundr"), number)
+        told = Told(Shim(library, kinds, "" if is_of_link else f"{here}/.sundr"), number)
         status = said("put", "-r", f"{folder}/from", "/to", **told.how)[2]
         told.read()
         if status not in (0, 1):
@@ -557,6 +560,10 @@ def puts(at, library):
     room = serving.Room(at)
     for kinds in ("write", "sync", "read", "growth"):
         yield from each(f"a_{kinds}_of_the_state_folder", at, lambda folder, number, kinds=kinds: put_fails(room, library, kinds, folder, number))
+    for kinds in ("write", "read"):
+        yield from each(f"a_{kinds}_of_the_link_of_a_put", at,
+                        lambda folder, number, kinds=kinds: put_fails(room, library, kinds, folder, number, is_of_link=True),
+                        sure=0 if kinds == "read" else None)
 
 
 # ---- what a client leaves for a while
@@ -739,18 +746,24 @@ def goes_on(room, library, kinds, folder, number):
     return told, wrong
 
 
-def runs_again(library, words, wanted, folder, number):
-    """A program that changes nothing prints the same as without a fault, or says that memory is wanting and ends; and then the same again."""
-    wrong, told = [], Told(Shim(library, "growth"), number)
+def is_like(ended, wanted):
+    """Whether a run ended as it was to, but that it may say that a file can't be read, as a key that another run has."""
+    lines = [(line, other) for line, other in zip(ended[0], wanted[0]) if b"can't be read" not in line + other]
+    return ended[1:] == wanted[1:] and len(ended[0]) == len(wanted[0]) and all(line == other for line, other in lines)
+
+
+def runs_again(library, words, wanted, folder, number, kinds="growth"):
+    """A program that changes nothing prints the same as without a fault, or says that memory is wanting, or that its link failed, and ends;
+    and then the same again."""
+    wrong, told = [], Told(Shim(library, kinds), number)
     with serving.Running(words, cwd=folder, **told.how) as running:
         ended = running.end()
     told.read()
-    is_like = [line for line in ended[0] if b"can't be read" not in line] == [
-        line for line, said in zip(wanted[0], ended[0]) if b"can't be read" not in said]
-    if not is_want_of_memory(ended, wanted[0]) and not (ended[1:] == wanted[1:] and len(ended[0]) == len(wanted[0]) and is_like):
+    if not is_want_of_memory(ended, wanted[0]) and not is_like(ended, wanted):
         wrong.append(f"{ended}")
-    if said_of(*words) != wanted:
-        wrong.append(f"again: {said_of(*words)}")
+    again = said_of(*words)
+    if not is_like(again, wanted):
+        wrong.append(f"again: {again}, and before {wanted}")
     return told, wrong
 
 
@@ -789,11 +802,12 @@ def key_is_made(library, folder, number):
 
 
 KEY_SIZES = [64, 56]
-READING = (["ls", "-l", "/"], ["cat", "/to/f1"], ["history", "-n", "4"], ["show", "1"], ["status"], ["verify"], ["undo", "--why", "1"])
+ASKING = (["ls", "-l", "/"], ["cat", "/to/f1"], ["history", "-n", "4"], ["show", "1"], ["status"], ["undo", "--why", "1"])  # a server
+READING = (*ASKING, ["verify"])
 
 
-def readings_grow(room, library, at):
-    """Commands of people that commit nothing."""
+def readings_fail(room, library, at):
+    """Commands of people that commit nothing: where memory is wanting, and where their link fails."""
     team, here = f"{at}/team", f"{at}/ann"
     with open(team, "w", encoding="utf-8") as file:
         file.write("sundr team 1\n" + "".join(f"{name} {public.hex()}\n" for name, public in zip(("ann", "bob"), room.public_keys)))
@@ -805,12 +819,14 @@ def readings_grow(room, library, at):
         made = said_of("init", "--server", f"127.0.0.1:{server.port}", "--team", team, "--user", "ann", "--key", room.key_files[0], here)
         put = said_of("put", "-r", f"{at}/from", "/to", "--in", here)
         yield f"a_folder_with_two_files: {made} {put}", made[2] == put[2] == 0
-        for reading in READING:
-            def scenario(folder, number, reading=reading):
+        faults = [*((reading, "growth") for reading in READING), *itertools.product(ASKING, ("write", "read"))]
+        for reading, kinds in faults:
+            def scenario(folder, number, reading=reading, kinds=kinds):
                 shutil.copytree(here, f"{folder}/here")
                 words = [*reading, "--in", f"{folder}/here"]
-                return runs_again(library, words, said_of(*words), folder, number)
-            yield from each(f"a_growth_of_{reading[0]}", at, scenario)
+                return runs_again(library, words, said_of(*words), folder, number, kinds)
+            what = reading[0] if kinds == "growth" else f"the_link_of_{reading[0]}"
+            yield from each(f"a_{kinds}_of_{what}", at, scenario, sure=0 if kinds == "read" else None)
 
 
 def growths(at, library):
@@ -819,7 +835,7 @@ def growths(at, library):
     yield from each("a_growth_of_a_client_that_goes_on", at, lambda folder, number: goes_on(room, library, "growth", folder, number))
     yield from audits_grow(room, library, at)
     yield from each("a_growth_where_a_key_is_made", at, lambda folder, number: key_is_made(library, folder, number))
-    yield from readings_grow(room, library, at)
+    yield from readings_fail(room, library, at)
 
 
 PARTS = (store, keys, links, puts, gets, growths)
