@@ -156,13 +156,12 @@ PORTS = itertools.count(12_000 + os.getpid() % 8_000)
 
 
 def free_port():
+    """A port at which nobody listens. It isn't found by binding it: a program that another thread starts just then holds what is bound here
+    until it is executed, and the server finds its address in use."""
     for port in PORTS:
-        with socket.socket() as tried:  # not to be shared, as a server's port isn't
-            try:
-                tried.bind(("127.0.0.1", port))
+        with socket.socket() as tried:
+            if tried.connect_ex(("127.0.0.1", port)) != 0:
                 return port
-            except OSError:
-                continue
 
 
 class Shim:
@@ -455,13 +454,13 @@ def is_done_after(room, port, folder, done, wrong, may_fail=False):
     still be to come, the link may fail once more."""
     with serving.Running(room.words(port, 0, key=f"{folder}/key")) as client:
         client.write(b"\n".join([*LINES[done:], b"ls /", b"cat /a/f 0 9", b""]))
-        printed, _, status = client.end()
+        printed, told, status = client.end()
     if may_fail and status == 1 and printed and printed[-1] in LINK_FAILED:
         is_done_after(room, port, folder, min(done + done_of(printed), len(LINES)), wrong)
         return
     rest, seen = printed[:len(LINES) - done], printed[len(LINES) - done:]
     if status != 0 or done_of(rest) < len(rest) or sum(line.startswith(b"no ") for line in rest) > 1 or seen != [*THERE, b"6869"]:
-        wrong.append(f"after {done}: {printed}")
+        wrong.append(f"after {done}: {printed}, told {told} {client.asides}, status {status}")
 
 
 def link_fails(room, library, kinds, folder, number):
