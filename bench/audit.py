@@ -17,18 +17,20 @@ tell, but its signatures have a path of 20 hashes, where keys of `sundr keygen` 
 """
 import multiprocessing
 import os
+import subprocess
 import sys
 import tempfile
-import time
 
 HERE = os.path.dirname(os.path.abspath(__file__))
 TOP = os.path.dirname(HERE)
 PROGRAM = os.environ.get("SUNDR", f"{TOP}/crates/sundr/out/sundr")
 sys.path.insert(0, f"{TOP}/tests")
+sys.path.append(HERE)
 
 import desk_model  # noqa: E402
 import lms  # noqa: E402
 import logs  # noqa: E402
+import peak  # noqa: E402
 from desk_model import name_bits, number_bits, sha256  # noqa: E402
 
 
@@ -159,17 +161,10 @@ def front(path, count):
 
 def seconds_of(public, log, count):
     """Seconds by the clock, and megabytes at the peak."""
-    read, write = os.pipe()
-    to_pipe = [(os.POSIX_SPAWN_DUP2, write, 1), (os.POSIX_SPAWN_CLOSE, read)]
-    start = time.monotonic()
-    process = os.posix_spawn(PROGRAM, [PROGRAM, "audit", "--log", log, public], os.environ, file_actions=to_pipe)
-    os.close(write)
-    said = os.read(read, 1000)
-    os.close(read)
-    used = os.wait4(process, 0)[2]
-    if said != b"ok %d\n" % count:
-        sys.exit(f"bench/audit.py: of {count} commits it says {said}")
-    return time.monotonic() - start, used.ru_maxrss / 1000
+    took, highest, ran = peak.measured([PROGRAM, "audit", "--log", log, public], stdout=subprocess.PIPE)
+    if ran.stdout != b"ok %d\n" % count:
+        sys.exit(f"bench/audit.py: of {count} commits it says {ran.stdout}")
+    return took, highest
 
 
 def best_of(public, log, count):
@@ -185,12 +180,12 @@ def measure(public, log, count):
         one, _ = best_of(public, log, count)
     finally:
         os.sched_setaffinity(0, cores)
-    every, peak = best_of(public, log, count)
-    return one, every, peak, os.path.getsize(log) / 1e6
+    every, highest = best_of(public, log, count)
+    return one, every, highest, os.path.getsize(log) / 1e6
 
 
-def show(name, count, one, every, peak, size):
-    print(f"{name:34} {count:8} {size:6.0f} {one:8.2f} {every:8.2f} {count / one:8.0f} {count / every:8.0f} {peak:8.0f}", flush=True)
+def show(name, count, one, every, highest, size):
+    print(f"{name:34} {count:8} {size:6.0f} {one:8.2f} {every:8.2f} {count / one:8.0f} {count / every:8.0f} {highest:8.0f}", flush=True)
 
 
 def main():

@@ -38,6 +38,7 @@ import audit  # noqa: E402
 import desk_model  # noqa: E402
 import lms  # noqa: E402
 import logs  # noqa: E402
+import peak  # noqa: E402
 import relay  # noqa: E402
 import serving  # noqa: E402
 import store  # noqa: E402
@@ -183,6 +184,7 @@ def joined_by_log(room, log, count):
         file.write(signing_key().file(100))
     with storing.Keeping(store.Roster(f"{log}.pub"), f"{room}/empty") as server:
         run([audit.PROGRAM, "init", state, "--server", f"localhost:{server.port}", "--team", team, "--user", "ann", "--key", key])
+    shutil.copyfile(key, f"{state}/.sundr/key-{signing_key().public()[8:24].hex()}")  # to which the log goes on
     shutil.copyfile(log, f"{state}/.sundr/log")
     with open(f"{state}/.sundr/times", "wb") as file:
         file.write(bytes(8 * count))
@@ -214,13 +216,10 @@ def people(room, log, port, sizes, count):
 
 def run(words, **how):
     """Seconds that a command takes, and the megabytes that it has at the highest."""
-    started = time.monotonic()
-    process = subprocess.Popen(words, stdin=subprocess.DEVNULL, stdout=subprocess.DEVNULL, **how)
-    _, status, used = os.wait4(process.pid, 0)
-    process.returncode = os.waitstatus_to_exitcode(status)
-    if process.returncode:
-        sys.exit(f"bench/partial.py: {words} has status {process.returncode}")
-    return time.monotonic() - started, used.ru_maxrss / 1000
+    took, highest, ran = peak.measured(words, stdout=subprocess.DEVNULL, **how)
+    if ran.returncode:
+        sys.exit(f"bench/partial.py: {words} has status {ran.returncode}")
+    return took, highest
 
 
 def git(room, sizes):
