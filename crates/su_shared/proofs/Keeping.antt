@@ -147,6 +147,7 @@ held_step cells b receipts kept items seat act held within may =
     record {
       run = run_push b (step_of seat act) held.run may;
       room = held.room;
+      limit = held.limit;
       records = records_step b items seat act receipts held.records may;
       each = λ i. elim (cases_eq i seat) [
         | inl same ↦ get_or-set_at kept seat i (kept_by k act) nothing same within ∙ (ap (λ (x : Kept). kept_by x act) (held.each seat) ∙ (sym (kept_same seat j act) ∙ ap (λ (n : ℕ). kept_of n (j ++ step_of seat act ∷ [])) (sym same)))

@@ -1,5 +1,6 @@
 pub mod Knowing
 pub mod Keeping
+pub mod RegisterMoves
 pub mod Orders
 pub mod Closing
 pub mod Meeting

@@ -1,16 +1,19 @@
 -- What a seat may be refused.
-use Rattle.std.proofs.Common.{◌≡◌, ◌≢◌, ◌⊎◌, ℕ, ◌==◌, Bool, true, false, List, Option, None, Some, refl, ap, sym, ◌∙◌, subst, arith, inl, inr}
+use Rattle.std.proofs.Common.{◌≡◌, ◌≢◌, ◌⊎◌, ℕ, ◌<◌, ◌==◌, Bool, true, false, List, [], ◌∷◌, ◌++◌, Option, None, Some, refl, ap, sym, ◌∙◌, subst, arith, inl, inr}
 use Rattle.std.proofs.lemmas.Bool.Decides.{nat_tests}
 use Rattle.su_bytes.specs.declared.refusals.Refusal.{Refusal}
+use Rattle.su_bytes.specs.Order.{Line, RefusedBy, demand}
 use Rattle.su_bytes.proofs.Public.{EachSays, refused_says}
 use Rattle.su_version.specs.Commit.{Commit}
+use Rattle.su_version.specs.Chain.{next_order, tip}
 use Rattle.su_bytes.specs.declared.refusals.Refusal.TheVariants.{Busy, NotYourTurn, BookFull, SourceFailed, NoMemory}
 use Rattle.su_book.specs.declared.events.Event.{Event}
 use Rattle.su_book.specs.declared.events.Event.TheVariants as event
-use Rattle.su_book.specs.Machine.{BookState, storing_order, IsUnfit, IsRefused, holder_of}
+use Rattle.su_book.specs.Machine.{BookState, storing_order, IsRun, IsUnfit, IsRefused, count_of, holder_of, records_of}
 use Rattle.su_shared.specs.declared.seats.Kept.{Kept}
 use Rattle.std.specs.Global.{Vec}
-use Rattle.su_shared.specs.Shares.{IsCommitRefusal, IsStepRefusal, IsStorable, IsUnmadeStep, MayMeet, MayMeetOrFull, is_grant, has_turn}
+use Rattle.su_shared.proofs.Orders.{within}
+use Rattle.su_shared.specs.Shares.{IsBookOf, IsFull, IsCommitRefusal, IsStepRefusal, IsStorable, MayMeet, is_grant, has_turn}
 
 has_no_turn : (seat : ℕ) (h : Option ℕ) → h ≢ Some seat → has_turn seat h ≡ false
 has_no_turn seat None none = refl
@@ -92,42 +95,63 @@ module _ (b : BookState) (seat : ℕ) (k : Kept) (told : k.turn ≡ has_turn sea
   unfolding NotOfTheTurn
   failed_says x failed = ((λ n is. absurd cc), (λ is. absurd cc))
 
-  full_says : (x : Refusal) → x ≡ BookFull → NotOfTheTurn x
-  unfolding NotOfTheTurn
-  full_says x full = ((λ n is. absurd cc), (λ is. absurd cc))
-
   -- whose commit isn't stored, has the turn
   not_stored_meets : (e : Event) (x : Refusal) → NotOfTheTurn x → IsStorable b seat e → MayMeet k seat (is_grant e) x
   not_stored_meets event.Grant x other storable = absurd storable
   not_stored_meets (event.Commit bytes) x other (n, c, spelled, may) = holder_meets false x other may.turn
   not_stored_meets event.Give x other storable = absurd storable
 
-  meets : {F : Type 0} (e : Event) (x : Refusal) → IsStepRefusal F b seat e x → MayMeet k seat (is_grant e) x
+  pub meets : {F : Type 0} (e : Event) (x : Refusal) → IsStepRefusal F b seat e x → MayMeet k seat (is_grant e) x
   meets e x (inl refused) = refused_meets e x refused
   meets e x (inr (inl none)) = no_memory_meets k seat (is_grant e) x none.0
   meets e x (inr (inr (failed, may, storable))) = not_stored_meets e x (failed_says x failed) storable
 
-  pub unmade_meets : (F : Type 0) (e : Event) (x : Refusal) (taken : Option ℕ) → IsUnmadeStep F b seat e x taken → MayMeet k seat (is_grant e) x
-  unmade_meets F e x None refused = meets e x refused
-  unmade_meets F e x (Some number) (full, is, storable) = not_stored_meets e x (full_says x full) storable
-
 -- ---- the bytes of a commit
 
--- a seat that isn't the book's is refused so, and one that is as the book or the lock refuses it
-pub refused_commit : {F : Type 0} (b : BookState) (n : ℕ) (same : Vec ℕ) (bytes : List ℕ) (e : Refusal) (taken : Option ℕ) (Is : Type 0) → same.items ≡ bytes
-    → Is ⊎ ((e ≡ BookFull) × (taken ≡ None))
-    → (Is → IsUnmadeStep F b n (event.Commit same) e taken)
-    → IsCommitRefusal F n bytes e
-refused_commit b n same bytes e taken Is spelled (inr (full, none)) refused = inr (inr (inl full))
-refused_commit b n same bytes e None Is spelled (inl is) refused = elim (refused is) [
-  | inl by_book ↦ inl (b, same, spelled, by_book)
+-- a seat is refused them as the book refuses them that told it so
+pub refused_commit : {F : Type 0} (b : BookState) (cells n : ℕ) (k : Kept) (same : Vec ℕ) (bytes : List ℕ) (e : Refusal) → same.items ≡ bytes → IsBookOf cells n k b
+    → IsStepRefusal F b n (event.Commit same) e → IsCommitRefusal F cells k n bytes e
+refused_commit b cells n k same bytes e spelled of refused = elim refused [
+  | inl by_book ↦ inl (b, same, of, spelled, by_book)
   | inr (inl none) ↦ inr (inl none.0)
-  | inr (inr (failed, may, storable)) ↦ inr (inr (inr (failed, may)))
+  | inr (inr (failed, may, storable)) ↦ inr (inr (failed, may))
 ]
-refused_commit b n same bytes e (Some number) Is spelled (inl is) refused = inr (inr (inl (refused is).0))
 
--- what a seat of the book meets, and one that isn't told apart
-pub meets_or_full : (k : Kept) (n : ℕ) (grant : Bool) (e : Refusal) (taken : Option ℕ) (Is : Type 0)
-    → Is ⊎ ((e ≡ BookFull) × (taken ≡ None)) → (Is → MayMeet k n grant e) → MayMeetOrFull k n grant e
-meets_or_full k n grant e taken Is (inl is) meets = inl (meets is)
-meets_or_full k n grant e taken Is (inr (full, none)) meets = inr full
+-- ---- the book is full
+
+refused_behind : (xs ys : List (Line Refusal)) (e : Refusal) → RefusedBy (xs ++ ys) e → RefusedBy xs e ⊎ RefusedBy ys e
+refused_behind [] ys e p = inr p
+refused_behind (x ∷ xs) ys e (inl p) = inl (inl p)
+refused_behind (x ∷ xs) ys e (inr (holds, p)) = elim (refused_behind xs ys e p) [
+  | inl q ↦ inl (inr (holds, q))
+  | inr q ↦ inr q
+]
+
+NotFull : Refusal → Type 0
+NotFull e = e ≡ BookFull → ⊥
+
+not_full : {r : Refusal} → NotFull r → (e : Refusal) → e ≡ r → NotFull e
+not_full other e is = subst NotFull (sym is) other
+
+next_says : (b : BookState) (c : Commit) → EachSays NotFull (next_order b.roster (tip b.roster (records_of b.journal) c.version.author) c)
+unfolding NotFull
+next_says b c =
+    (not_full (λ is. absurd cc), (not_full (λ is. absurd cc), (not_full (λ is. absurd cc), (not_full (λ is. absurd cc), (not_full (λ is. absurd cc), (not_full (λ is. absurd cc), (not_full (λ is. absurd cc), tt)))))))
+
+-- where a commit is refused so, there are as many records as there may be
+full_means : (b : BookState) (seat : ℕ) (bytes : Vec ℕ) (e : Refusal) → IsRun b → IsRefused b seat (event.Commit bytes) e → e ≡ BookFull → count_of b.journal ≡ b.capacity
+unfolding NotFull
+full_means b seat bytes e run (inl (turn, none)) full = absurd cc
+full_means b seat bytes e run (inr (has, inl (place, is, _))) full = absurd cc
+full_means b seat bytes e run (inr (has, inr (c, _, _, refused))) full =
+    let next : List (Line Refusal) = next_order b.roster (tip b.roster (records_of b.journal) c.version.author) c in
+    elim (refused_behind next (demand (count_of b.journal < b.capacity) BookFull ∷ []) e refused) [
+      | inl early ↦ absurd (refused_says NotFull next (next_says b c) e early full)
+      | inr (inl (is, fails)) ↦ omega (arith, fails, within b run)
+      | inr (inr (holds, none)) ↦ absurd none
+    ]
+
+pub full_of : {F : Type 0} (cells n : ℕ) (k : Kept) (bytes : List ℕ) (e : Refusal) → IsCommitRefusal F cells k n bytes e → e ≡ BookFull → IsFull cells n k
+full_of cells n k bytes e (inl (b, same, of, spelled, by_book)) full = (b, of, full_means b n same e of.run by_book full ∙ of.room)
+full_of cells n k bytes e (inr (inl none)) full = absurd cc
+full_of cells n k bytes e (inr (inr (failed, may))) full = absurd cc

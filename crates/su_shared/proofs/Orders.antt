@@ -1,12 +1,16 @@
 -- What every run says of the seats.
-use Rattle.std.proofs.Common.{◌≡◌, ℕ, ◌+◌, ◌≤◌, ◌==◌, Bool, true, false, cond, List, [], ◌∷◌, length, Option, None, Some, refl, ap, sym, ◌∙◌, subst, arith, length-append}
+use Rattle.std.proofs.Common.{◌≡◌, ℕ, ◌+◌, ◌≤◌, ◌<◌, ◌==◌, Bool, true, false, cond, List, [], ◌∷◌, ◌++◌, length, Option, None, Some, refl, ap, sym, ◌∙◌, subst, arith, length-append}
 use Rattle.std.specs.List.{count_by}
 use Rattle.std.proofs.lemmas.List.Sums.{sum_by-cons}
+use Rattle.su_bytes.specs.Order.{demand}
+use Rattle.su_bytes.specs.declared.refusals.Refusal.TheVariants.{BookFull}
+use Rattle.su_bytes.proofs.Public.{passes_later}
 use Rattle.su_version.specs.Commit.{Commit}
+use Rattle.su_version.specs.Chain.{next_order, tip}
 use Rattle.su_book.specs.declared.steps.Step.{Step}
 use Rattle.su_book.specs.declared.steps.Act.{Act}
 use Rattle.su_book.specs.declared.steps.Act.TheVariants.{Granted, Stored, Given}
-use Rattle.su_book.specs.Machine.{BookState, IsRun, MayAct, MayFollow, stored_by, records_of, holder_of, turn_after, with_step}
+use Rattle.su_book.specs.Machine.{BookState, IsRun, MayAct, MayFollow, stored_by, records_of, holder_of, count_of, turn_after, with_step}
 use Rattle.su_book.proofs.Public.{records_push, holder_push, along}
 use Rattle.su_shared.specs.declared.seats.Kept.{Kept}
 use Rattle.su_shared.specs.Shares.{IsOrderly, has_turn, nothing, kept_by, kept_from, kept_of}
@@ -65,3 +69,17 @@ steps_from i k (s ∷ ss) =
     let more = one_more k s.act (s.seat == i) in
     let rest = steps_from i (cond (s.seat == i) (kept_by k s.act) k) ss in
     omega (arith, sum_by-cons (λ (x : Step). cond (x.seat == i) 1 0) s ss)
+
+within_act : (b : BookState) (seat : ℕ) (act : Act) → MayAct b seat act → count_of b.journal ≤ b.capacity → length (records_of b.journal ++ stored_by act) ≤ b.capacity
+within_act b seat (Granted n) may le = omega (arith, length-append (records_of b.journal) [])
+within_act b seat (Stored n c) may le =
+    let room = passes_later (next_order b.roster (tip b.roster (records_of b.journal) c.version.author) c) (demand (count_of b.journal < b.capacity) BookFull ∷ []) may.fits in
+    omega (arith, length-append (records_of b.journal) (c ∷ []), room.0)
+within_act b seat Given may le = omega (arith, length-append (records_of b.journal) [])
+
+-- a run has no more records than the book may store
+pub within : (b : BookState) → IsRun b → count_of b.journal ≤ b.capacity
+within b run =
+    along (λ v. count_of v.journal ≤ v.capacity)
+    (λ v s le may. subst (λ (l : List Commit). length l ≤ v.capacity) (sym (records_push v.journal s)) (within_act v s.seat s.act may le))
+    b (omega arith) run

@@ -27,12 +27,6 @@ pub record IsReceipt (cells : List ℕ) (number : ℕ) (note : Note Entry) : Typ
   pub first : 0 < number
   pub stands : slice_get cells (number - 1) ≡ Some note.cell
 
--- the note is of the cell of this number, and knows the record that it holds, whatever that is
-pub record IsTaken (cells : List ℕ) (number : ℕ) (note : Note Entry) : Type 0 where
-  pub some : note.known ≡ Some (shown note.known)
-  pub first : 0 < number
-  pub stands : slice_get cells (number - 1) ≡ Some note.cell
-
 abbrev pub names_of : List (Note Entry) → List ℕ
 names_of notes = map (λ n. n.cell) notes
 

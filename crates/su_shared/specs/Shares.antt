@@ -4,7 +4,7 @@ use Rattle.std.specs.Prelude.{◌≡◌, ◌≢◌, ◌⊎◌, ℕ, ◌+◌, ◌
 use Rattle.std.specs.List.{sum_by}
 use Rattle.std.specs.Global.{Vec}
 use Rattle.su_bytes.specs.declared.refusals.Refusal.{Refusal}
-use Rattle.su_bytes.specs.declared.refusals.Refusal.TheVariants.{Busy, NotYourTurn, BookFull, NoMemory, SourceFailed}
+use Rattle.su_bytes.specs.declared.refusals.Refusal.TheVariants.{Busy, NotYourTurn, NoMemory, SourceFailed}
 use Rattle.su_version.specs.Commit.{Commit, commit_bytes}
 use Rattle.su_book.specs.declared.steps.Step.{Step}
 use Rattle.su_book.specs.declared.steps.Act.{Act}
@@ -13,7 +13,7 @@ use Rattle.su_book.specs.declared.events.Event.{Event}
 use Rattle.su_book.specs.declared.events.Event.TheVariants as event
 use Rattle.su_book.specs.declared.events.BookReply.{BookReply}
 use Rattle.su_book.specs.declared.events.BookReply.TheVariants as reply
-use Rattle.su_book.specs.Machine.{BookState, MayBeStored, IsRefused, IsRun, Stepped, records_of, holder_of, count_of}
+use Rattle.su_book.specs.Machine.{BookState, IsCapacity, MayBeStored, IsRefused, IsRun, Stepped, records_of, holder_of, count_of}
 use Rattle.su_shared.specs.declared.seats.Kept.{Kept}
 use Rattle.su_keeper.specs.Kept.{KeptRecord, LeavesFound}
 use Rattle.su_shared.specs.Entry.{Entry, kept_as}
@@ -133,6 +133,7 @@ pub record IsHeld (cells : ℕ) (b : BookState) (receipts : List Entry) (kept : 
     : Type 0 where
   pub run : IsRun b
   pub room : b.capacity ≡ cells
+  pub limit : IsCapacity cells
   pub records : AreRecords receipts b.journal
   pub each : (i : ℕ) → slice_index_or kept i nothing ≡ kept_of i b.journal
   pub stored : sum_by (λ k. k.stored) kept ≡ count_of b.journal
@@ -158,14 +159,24 @@ IsFresh top reply.Given = Unit {0}
 abbrev pub IsSeat : SeatView → HeldView → Type 0
 IsSeat s h = (s.number < h.seats) × (s.kept ≡ kept_of s.number h.book.journal)
 
+-- a run of a book for so many records, whose steps say that this seat was told so
+pub record IsBookOf (cells seat : ℕ) (k : Kept) (b : BookState) : Type 0 where
+  pub run : IsRun b
+  pub room : b.capacity ≡ cells
+  pub told : k ≡ kept_of seat b.journal
+
+-- a book for so many records has as many, and told this seat so
+abbrev pub IsFull : ℕ → ℕ → Kept → Type 0
+IsFull cells seat k = (b : BookState) × IsBookOf cells seat k b × (count_of b.journal ≡ cells)
+
 abbrev pub is_grant : Event → Bool
 is_grant event.Grant = true
 is_grant (event.Commit _) = false
 is_grant event.Give = false
 
--- Which refusals a seat may meet that was told what is kept for it, of a grant or of another event:
--- with the turn neither of those that speak of it; and without it, of another event, that it hasn't
--- the turn, or want of memory.
+-- Which refusals a seat may meet that was told so, of a grant or of another event: with the turn
+-- neither of those that speak of it; and without it, of another event, that it hasn't the turn, or
+-- want of memory.
 pub record MayMeet (k : Kept) (seat : ℕ) (grant : Bool) (refusal : Refusal) : Type 0 where
   pub busy : (other : ℕ) → refusal ≡ Busy other
       → (k.turn ≡ false) × (other ≢ seat) × (grant ≡ true)
@@ -173,55 +184,39 @@ pub record MayMeet (k : Kept) (seat : ℕ) (grant : Bool) (refusal : Refusal) : 
   pub without : k.turn ≡ false → grant ≡ false
       → (refusal ≡ NotYourTurn) ⊎ (refusal ≡ NoMemory)
 
--- it may meet this refusal; or it was told something else than is kept for it, or the book takes no
--- more
-abbrev pub MayMeetOrFull : Kept → ℕ → Bool → Refusal → Type 0
-MayMeetOrFull k seat grant refusal = MayMeet k seat grant refusal ⊎ (refusal ≡ BookFull)
-
 -- the bytes are those of a commit that the book takes from this seat
 abbrev pub IsStorable : BookState → ℕ → Event → Type 0
 IsStorable b seat (event.Commit bytes) =
     (n : ℕ) × (c : Commit) × (bytes.items ≡ commit_bytes c) × MayBeStored b seat n c
 IsStorable b seat _ = ⊥
 
--- Why the step isn't made that a seat asks for: the book refuses it; or there is no memory, but for
--- giving the turn back; or the book takes the commit, and the keeper failed, where it may.
+-- Why the step isn't made that a seat asks for: the book refuses it; or there is no memory or no free
+-- cell, but for giving the turn back; or the book takes the commit, and the keeper failed, where it
+-- may.
 abbrev pub IsStepRefusal : Type 0 → BookState → ℕ → Event → Refusal → Type 0
 IsStepRefusal may_fail b seat e refusal =
     IsRefused b seat e refusal ⊎ (((refusal ≡ NoMemory) × (e ≢ event.Give))
     ⊎ ((refusal ≡ SourceFailed) × may_fail × IsStorable b seat e))
 
--- Why a record isn't stored that an act makes: there is no memory, or the keeper failed, where it may;
--- or this is its number, and the cell holds one already.
-abbrev pub IsUnstored : Type 0 → Act → Refusal → Option ℕ → Type 0
-IsUnstored may_fail act refusal None = (refusal ≡ NoMemory) ⊎ ((refusal ≡ SourceFailed) × may_fail)
-IsUnstored may_fail act refusal (Some number) =
-    (refusal ≡ BookFull) × ((c : Commit) × (act ≡ Stored number c))
+-- why a record isn't stored: there is no memory or no free cell, or the keeper failed, where it may
+abbrev pub IsUnstored : Type 0 → Refusal → Type 0
+IsUnstored may_fail refusal = (refusal ≡ NoMemory) ⊎ ((refusal ≡ SourceFailed) × may_fail)
 
--- The same of a step; or the book takes the commit, and this is the number of its record, of which
--- the cell holds one already.
-abbrev pub IsUnmadeStep : Type 0 → BookState → ℕ → Event → Refusal → Option ℕ → Type 0
-IsUnmadeStep may_fail b seat e refusal None = IsStepRefusal may_fail b seat e refusal
-IsUnmadeStep may_fail b seat e refusal (Some number) =
-    (refusal ≡ BookFull) × (number ≡ count_of b.journal + 1) × IsStorable b seat e
-
--- who takes the turn may be refused because another seat has it, for want of memory, or because the
--- seat was told something else than is kept for it
+-- who takes the turn may be refused because another seat has it, or for want of memory
 abbrev pub IsGrantRefusal : Refusal → Type 0
-IsGrantRefusal refusal =
-    ((other : ℕ) × (refusal ≡ Busy other)) ⊎ ((refusal ≡ NoMemory) ⊎ (refusal ≡ BookFull))
+IsGrantRefusal refusal = ((other : ℕ) × (refusal ≡ Busy other)) ⊎ (refusal ≡ NoMemory)
 
--- who hands in the bytes of a commit, as some book refuses them to this seat, or for the latter
--- reasons, or because they couldn't be kept, where that may be
-abbrev pub IsCommitRefusal : Type 0 → ℕ → List ℕ → Refusal → Type 0
-IsCommitRefusal may_fail seat bytes refusal =
-    ((b : BookState) × (same : Vec ℕ) × (same.items ≡ bytes)
+-- Who hands in the bytes of a commit, as the book of so many cells refuses them to this seat, which
+-- was told so by it; or for want of memory; or because they couldn't be kept, where that may be.
+abbrev pub IsCommitRefusal : Type 0 → ℕ → Kept → ℕ → List ℕ → Refusal → Type 0
+IsCommitRefusal may_fail cells k seat bytes refusal =
+    ((b : BookState) × (same : Vec ℕ) × IsBookOf cells seat k b × (same.items ≡ bytes)
     × IsRefused b seat (event.Commit same) refusal)
-    ⊎ ((refusal ≡ NoMemory) ⊎ ((refusal ≡ BookFull) ⊎ ((refusal ≡ SourceFailed) × may_fail)))
+    ⊎ ((refusal ≡ NoMemory) ⊎ ((refusal ≡ SourceFailed) × may_fail))
 
--- who gives the turn back, because it hasn't it, or because the seat was told something else
+-- who gives the turn back, because it hasn't it
 abbrev pub IsGiveRefusal : Refusal → Type 0
-IsGiveRefusal refusal = (refusal ≡ NotYourTurn) ⊎ (refusal ≡ BookFull)
+IsGiveRefusal refusal = refusal ≡ NotYourTurn
 
 -- ---- records of an earlier process
 
@@ -275,11 +270,11 @@ TakesUp b seat number b' =
     × Stepped between seat (event.Commit bytes) b' (reply.Stored number)
 
 -- why a record isn't taken up: it couldn't be read, or the seat wasn't granted the turn, or the
--- commit of its bytes is refused
-abbrev pub IsRecordRefusal : Type 0 → ℕ → Refusal → Type 0
-IsRecordRefusal may_fail seat refusal =
+-- commit of its bytes is refused, by a book of so many cells
+abbrev pub IsRecordRefusal : Type 0 → ℕ → ℕ → Refusal → Type 0
+IsRecordRefusal may_fail cells seat refusal =
     ((refusal ≡ SourceFailed) × may_fail) ⊎ (IsGrantRefusal refusal
-    ⊎ ((bytes : List ℕ) × IsCommitRefusal may_fail seat bytes refusal))
+    ⊎ ((bytes : List ℕ) × (k : Kept) × IsCommitRefusal may_fail cells k seat bytes refusal))
 
 -- ---- all seats
 

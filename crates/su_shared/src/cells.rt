@@ -1,4 +1,4 @@
-// The row of cells, one for each record, which are read without the lock.
+// The row of cells, one for each record, which are read without the lock, and what is made with it.
 ghost use Rattle.std.specs.Prelude.{◌≡◌, ℕ, ◌<◌, ◌-◌, ◌≤◌, length, replicate, true, None, ◌⊎◌, IfNone, IfErr, IfOk, IfSome, slice_get, Some};
 ghost use Rattle.once_cell.specs.Once.{cell_name};
 ghost use Rattle.sha2.specs.Sha256.{sha256};
@@ -9,7 +9,8 @@ ghost use Rattle.su_shared.specs.Entry.{IsBy, contents, kept_as};
 ghost use Rattle.su_shared.specs.Seats.{names_of, known_of};
 ghost use Rattle.su_shared.specs.Shares.{HoldsLast};
 
-use crate::notes::{Receipt, Taken};
+use crate::notes::Receipt;
+use crate::registers::Registers;
 use once_cell::race::{Note, OnceBox};
 use std::alloc::{AllocError, Global};
 use std::marker::{Brand, Model, PhantomData};
@@ -121,26 +122,67 @@ impl<K: Keeper> Record<K> {
     }
 }
 
-/// Names the cells of one book, and the ledger of its steps. Each run of a program picks them.
+/// Names the cells of one book, the table of its registers, and the ledger of its steps. Each run of
+/// a program picks them.
 pub trait BookName: Ledger {
-    ghost use Rattle.std.specs.Prelude.{List, ℕ};
+    ghost use Rattle.su_shared.specs.Cells.{CellsView};
 
-    ghost cells: { List ℕ };
+    ghost cells: { CellsView };
 }
 
 impl BookName for Brand {
-    ghost use Rattle.std.specs.Prelude.{[]};
+    ghost use Rattle.su_shared.specs.Cells.{no_cells};
 
-    ghost cells = { [] };
+    ghost cells = { no_cells };
 }
 
-/// A row of cells, one for each record that a book may store. Its model is their names.
+/// The cells of a book that isn't made yet, one for each record that it may store, and its registers,
+/// of which there are none yet. Its model is the names of the cells, and the table of the registers.
 #[derive(Drop)]
 pub struct Cells<K: Keeper> {
-    cells: Vec<OnceBox<Record<K>>>,
+    pub(crate) row: Row<K>,
+    pub(crate) registers: Registers,
 }
 
 impl<K: Keeper> Model for Cells<K> {
+    ghost use Rattle.std.specs.Prelude.{◌≡◌, []};
+    ghost use Rattle.su_shared.specs.Cells.{CellsView};
+
+    ghost Value = { CellsView };
+
+    ghost view = { λ c. record { names = c.row; table = c.registers.table } };
+
+    ghost invariant = { λ c. c.registers.values ≡ [] };
+}
+
+impl<K: Keeper> Cells<K> {
+    /// Makes the cells of a book that may store so many commits. `BadNumber` where they aren't 1 to
+    /// 1,000,000; else only `NoMemory`.
+    pub fn new(alloc: Global, capacity: u64) -> Result<Cells<K>, Refusal>
+        ensures length { IfOk result (λ cells. length cells.names ≡ capacity) }
+        ensures refused { IfErr result (λ e.
+            ((e ≡ BadNumber) × ¬ IsCapacity capacity) ⊎ (e ≡ NoMemory)) }
+    {
+        let row = Row::new(alloc, capacity)?;
+        let registers = Registers::new(alloc)?;
+        Ok(Cells { row, registers })
+    }
+
+    /// Returns how many there are.
+    pub fn len(&self) -> usize
+        ensures { result ≡ length self.now.names }
+    {
+        self.row.len()
+    }
+}
+
+/// A row of cells. Its model is their names.
+#[derive(Drop)]
+pub struct Row<K: Keeper> {
+    cells: Vec<OnceBox<Record<K>>>,
+}
+
+impl<K: Keeper> Model for Row<K> {
     ghost use Rattle.std.specs.Prelude.{List, ℕ, map};
     ghost use Rattle.once_cell.specs.Once.{cell_name};
 
@@ -149,11 +191,11 @@ impl<K: Keeper> Model for Cells<K> {
     ghost view = { λ c. map cell_name c.cells.items };
 }
 
-impl<K: Keeper> Cells<K> {
-    /// Makes the cells of a book that may store so many commits. `BadNumber` where they aren't 1 to
-    /// 1,000,000; else only `NoMemory`.
-    pub fn new(alloc: Global, capacity: u64) -> Result<Cells<K>, Refusal>
-        ensures length { IfOk result (λ cells. length cells ≡ capacity) }
+impl<K: Keeper> Row<K> {
+    /// Makes so many cells, which are empty. `BadNumber` where they aren't 1 to 1,000,000; else only
+    /// `NoMemory`.
+    fn new(alloc: Global, capacity: u64) -> Result<Row<K>, Refusal>
+        ensures length { IfOk result (λ row. length row ≡ capacity) }
         ensures refused { IfErr result (λ e.
             ((e ≡ BadNumber) × ¬ IsCapacity capacity) ⊎ (e ≡ NoMemory)) }
     {
@@ -166,7 +208,7 @@ impl<K: Keeper> Cells<K> {
                 return Err(Refusal::NoMemory);
             }
         }
-        Ok(Cells { cells })
+        Ok(Row { cells })
     }
 
     /// Returns how many there are.
@@ -188,26 +230,25 @@ impl<K: Keeper> Cells<K> {
         Ok(notes)
     }
 
-    /// Sets the cell of a record that the keeper holds, and gives a receipt for it. Where the cell
-    /// holds a record already, it tells so.
+    /// Sets the cell of a record that the keeper holds, and gives a receipt for it. `None` where the
+    /// cell holds a record already.
     pub(crate) fn publish<N: BookName>(
         &self,
         keeper: &K,
         entry: Box<Record<K>>,
-    ) -> Result<Receipt<N, K>, Taken<N, K>>
-        requires cells { self.now ≡ N.cells }
-        requires number { (0 < entry.value.number) × (entry.value.number ≤ length N.cells) }
+    ) -> Option<Receipt<N, K>>
+        requires cells { self.now ≡ N.cells.names }
+        requires number { (0 < entry.value.number) × (entry.value.number ≤ length N.cells.names) }
         requires kept { HoldsLast K.holds keeper.now (kept_as entry.value) }
-        ensures receipt { IfOk result (λ receipt. receipt ≡ entry.value) }
-        ensures taken { IfErr result (λ taken. taken ≡ entry.value.number) }
+        ensures receipt { IfSome result (λ receipt. receipt ≡ entry.value) }
     {
         let number = entry.number();
         let cell = self.cell((number - 1) as usize);
         let mut note = cell.note();
         if cell.set_as(entry, &mut note).is_err() {
-            return Err(Taken::of(number, note));
+            return None;
         }
-        Ok(Receipt::of(number, note))
+        Some(Receipt::of(number, note))
     }
 
     /// Lends the cell at this index.

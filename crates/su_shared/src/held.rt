@@ -1,20 +1,22 @@
 // What lies under the lock, beside the keeper.
-ghost use Rattle.std.specs.Prelude.{◌≡◌, ◌≢◌, ◌-◌, ◌+◌, ◌≤◌, ◌<◌, ◌++◌, [], ◌⊎◌, length, true, false, IfSome, IfNone, IfOk, IfErr, IsErrAnd, OnOk, OnErr, None, Some, vec_len, vec_capacity, option_to_list, replicate, map, slice_get, ℕ, List, ◌∷◌, IsPermutation};
+ghost use Rattle.std.specs.Prelude.{◌≡◌, ◌≢◌, ◌-◌, ◌+◌, ◌≤◌, ◌<◌, ◌++◌, [], ◌⊎◌, length, true, false, IfSome, IfNone, IfOk, IfErr, OnOk, OnErr, None, Some, vec_len, vec_capacity, option_to_list, replicate, map, slice_get, ℕ, List, ◌∷◌, IsPermutation};
 ghost use Rattle.std.specs.List.Sorted.{IsNonDecreasingBy};
-ghost use Rattle.su_bytes.specs.declared.refusals.Refusal.TheVariants.{NoMemory, BookFull, BadNumber, SourceFailed};
+ghost use Rattle.su_bytes.specs.declared.refusals.Refusal.TheVariants.{NoMemory, BadNumber, SourceFailed};
 ghost use Rattle.su_version.specs.Commit.{Commit, commit_bytes};
 ghost use Rattle.su_version.specs.Chain.{chain_key};
 ghost use Rattle.su_book.specs.declared.events.Event.TheVariants.{Grant, Give};
 ghost use Rattle.su_book.specs.declared.steps.Act.TheVariants.{Stored};
-ghost use Rattle.su_book.specs.Machine.{AsksFor, IsRun, Stepped, TellsRecords, count_of, records_of, stored_by};
+ghost use Rattle.su_book.specs.declared.books.TheConstants.{MOST_RECORDS};
+ghost use Rattle.su_book.specs.Machine.{AsksFor, IsCapacity, IsRun, Stepped, TellsRecords, count_of, records_of, stored_by};
 ghost use Rattle.su_keeper.specs.Kept.{KeptRecord};
 ghost use Rattle.su_shared.specs.Entry.{contents};
 ghost use Rattle.su_shared.specs.Seats.{Learns};
-ghost use Rattle.su_shared.specs.Shares.{kept_of, kept_after, kept_all, made_of, receipt_for, learned, AreRecords, AreInOrder, IsOrderly, IsFresh, IsUnmadeStep, IsUnstored, LeavesBehind, MayMeet, is_grant, Gives, nothing, AreAll, Knows, EachKnows, IsSeat, last_of};
+ghost use Rattle.su_shared.specs.Registers.{AreRegisters, IsRegister};
+ghost use Rattle.su_shared.specs.Shares.{kept_of, kept_after, kept_all, made_of, receipt_for, learned, AreRecords, AreInOrder, IsOrderly, IsFresh, IsBookOf, IsStepRefusal, IsUnstored, LeavesBehind, MayMeet, is_grant, Gives, nothing, AreAll, Knows, EachKnows, IsSeat, last_of};
 
-use crate::cells::{BookName, Cells, Record};
-use crate::faults::Unmade;
+use crate::cells::{BookName, Record, Row};
 use crate::notes::{Notes, Receipt};
+use crate::registers::{Register, Registers};
 use crate::seats::{Kept, Seat};
 use std::alloc::Global;
 use std::marker::Model;
@@ -25,19 +27,21 @@ use su_keeper::Keeper;
 use su_lms::PublicKey;
 
 /// What lies under the lock, beside the keeper: the book, a receipt for each of its records, what
-/// each seat was told, and the ledger of the seats' steps. Its model is the book, the number of
-/// seats, and the records.
+/// each seat was told, with the registers of that, and the ledger of the seats' steps. Its model is
+/// the book, the number of seats, and the records.
 #[derive(Drop)]
 pub struct Held<N: BookName, K: Keeper> {
     book: Book,
     receipts: Vec<Receipt<N, K>>,
     kept: Vec<Kept>,
+    registers: Registers,
     calls: Tally<N>,
     rest: Share<N>,
 }
 
 impl<N: BookName, K: Keeper> Model for Held<N, K> {
     ghost use Rattle.std.specs.Prelude.{length, ◌≡◌, ◌≤◌, ◌+◌};
+    ghost use Rattle.su_shared.specs.Registers.{AreRegisters};
     ghost use Rattle.su_shared.specs.Shares.{HeldView, IsHeld};
 
     ghost Value = { HeldView };
@@ -48,16 +52,18 @@ impl<N: BookName, K: Keeper> Model for Held<N, K> {
       records = h.receipts.items;
     } };
 
-    ghost invariant = { λ h. IsHeld (length N.cells) h.book h.receipts.items h.kept.items
+    ghost invariant = { λ h. IsHeld (length N.cells.names) h.book h.receipts.items h.kept.items
         × (h.calls.total ≡ length h.book.journal) × (h.rest.amount ≡ 0)
+        × AreRegisters N.cells.table h.kept.items h.registers
         × (257 ≤ h.rest.parts + length h.kept.items) };
 }
 
 impl<N: BookName, K: Keeper> Held<N, K> {
     /// Makes what lies under the lock of a book without seats and steps.
-    pub fn new(alloc: Global, book: Book, blank: Blank) -> Held<N, K>
+    pub(crate) fn new(alloc: Global, book: Book, blank: Blank, registers: Registers) -> Held<N, K>
         requires ledger { (blank.name ≡ N.name) × (blank.parts ≡ N.parts) × (257 ≤ N.parts) }
-        requires cells { book.capacity ≡ length N.cells }
+        requires cells { (book.capacity ≡ length N.cells.names) × IsCapacity book.capacity }
+        requires registers { AreRegisters N.cells.table [] registers }
         requires empty { book.journal ≡ [] }
         ensures { result ≡ record { book = book; seats = 0; records = [] } }
     {
@@ -66,6 +72,7 @@ impl<N: BookName, K: Keeper> Held<N, K> {
             book,
             receipts: Vec::new(alloc),
             kept: Vec::new(alloc),
+            registers,
             calls,
             rest,
         }
@@ -91,7 +98,9 @@ impl<N: BookName, K: Keeper> Held<N, K> {
         if self.kept.reserve(1).is_err() {
             return Err(Refusal::NoMemory);
         }
-        let seat = Seat::new(number as u16, notes, self.rest.split_off(1, 0));
+        let mark = self.rest.split_off(1, 0);
+        let register = self.registers.add();
+        let seat = Seat::new(number as u16, notes, mark, register);
         let kept = seat.kept();
         self.kept.push_reserved(kept);
         Ok(seat)
@@ -99,20 +108,19 @@ impl<N: BookName, K: Keeper> Held<N, K> {
 
     /// Makes the step of the book that a seat asks for. A record that it stores is kept, with the
     /// items that it needs, before its cell is set; where the keeper found one there, it has to be
-    /// that one. The refusals are those of `Book::step`; and `BookFull`, before these where what the
-    /// seat was told isn't what is kept for it; and after these `SourceFailed`, where the record
-    /// couldn't be kept, and `BookFull` where its cell holds one already, which is told then. A
-    /// refusal changes nothing but the keeper.
+    /// that one. The refusals are those of `Book::step`; and after these `SourceFailed`, where the
+    /// record couldn't be kept, and `NoMemory` where there is no free cell for it. A refusal changes
+    /// nothing but the keeper.
     pub fn step(
         &mut self,
         alloc: Global,
-        cells: &Cells<K>,
+        cells: &Row<K>,
         keeper: &mut K,
         seat: &mut Seat<N, K>,
         event: Event,
         items: &Vec<Vec<u8>>,
-    ) -> Result<(BookReply, Option<Receipt<N, K>>), Unmade<N, K>>
-        requires cells { cells.now ≡ N.cells }
+    ) -> Result<(BookReply, Option<Receipt<N, K>>), Refusal>
+        requires cells { cells.now ≡ N.cells.names }
         requires holds { ∥ K.holds keeper.old (kept_all self.old.records) ∥₁ }
         ensures holds { ∥ K.holds keeper.new (kept_all self.new.records) ∥₁ }
         ensures found { (rest : List (List ℕ)) → K.found keeper.old rest → K.is_clean keeper.new
@@ -138,19 +146,15 @@ impl<N: BookName, K: Keeper> Held<N, K> {
             IfSome r.1 (λ x. Learns seat.old.known x seat.new.known)) }
         ensures fresh { IfOk result (λ r. IsFresh seat.old.kept.top r.0) }
         ensures holder { OnOk result (event ≢ Grant → seat.old.kept.turn ≡ true) }
-        ensures meets { IsSeat seat.old self.old → IfErr result (λ u.
-            MayMeet seat.old.kept seat.old.number (is_grant event) u.refusal) }
+        ensures meets { IfErr result (MayMeet seat.old.kept seat.old.number (is_grant event)) }
         ensures err { OnErr result ((self.new ≡ self.old) × (seat.new ≡ seat.old)) }
-        ensures give { event ≡ Give → IfErr result (λ u. u.refusal ≢ NoMemory) }
-        ensures other { IsSeat seat.old self.old
-            ⊎ IsErrAnd result (λ u. (u.refusal ≡ BookFull) × (u.taken ≡ None)) }
-        ensures refused { IsSeat seat.old self.old → IfErr result (λ u.
-            IsUnmadeStep K.may_fail self.old.book seat.old.number event u.refusal u.taken) }
+        ensures give { event ≡ Give → IfErr result (λ e. e ≢ NoMemory) }
+        ensures of { IsBookOf (length N.cells.names) seat.old.number seat.old.kept self.old.book }
+        ensures refused { IfErr result
+            (IsStepRefusal K.may_fail self.old.book seat.old.number event) }
     {
         self.orders();
-        if !self.is_of(seat) {
-            return Err(Unmade::from(Refusal::BookFull));
-        }
+        self.meet(seat);
         let (reply, mut receipt, kept) = self.take(
             alloc,
             cells,
@@ -159,6 +163,7 @@ impl<N: BookName, K: Keeper> Held<N, K> {
             event,
             items,
             &mut seat.mark,
+            &mut seat.register,
         )?;
         seat.kept = kept;
         if let Some(receipt) = &mut receipt {
@@ -187,10 +192,12 @@ impl<N: BookName, K: Keeper> Held<N, K> {
         Some(receipt_at(&mut self.receipts, (number - 1) as usize))
     }
 
-    /// Tells that the steps are a run, that what they say of the seats is in order, and that the
-    /// records are those of the steps.
+    /// Tells that the steps are a run, that what they say of the seats is in order, that the records
+    /// are those of the steps, and that there are no more than a book may have.
     pub fn orders(&self)
         ensures run { IsRun self.now.book }
+        ensures room { self.now.book.capacity ≡ length N.cells.names }
+        ensures few { count_of self.now.book.journal ≤ MOST_RECORDS }
         ensures records { AreRecords self.now.records self.now.book.journal }
         ensures orderly { IsOrderly self.now.book.journal }
     {
@@ -239,6 +246,7 @@ impl<N: BookName, K: Keeper> Held<N, K> {
             book,
             receipts: _,
             kept: _,
+            registers: _,
             calls: _,
             rest: _,
         } = self;
@@ -254,30 +262,34 @@ impl<N: BookName, K: Keeper> Held<N, K> {
         check_all(&mut self.receipts, seat);
     }
 
-    /// Whether the seat is one of the book's, and was told what is kept for it.
-    fn is_of(&self, seat: &Seat<N, K>) -> bool
-        ensures is { result ≡ true → IsSeat seat.now self.now }
-        ensures not { result ≡ false → IsSeat seat.now self.now → ⊥ }
+    /// Compares the register of the seat with what is kept: the seat is one of the book's, and was told
+    /// what is kept for it.
+    fn meet(&mut self, seat: &mut Seat<N, K>)
+        ensures same { (self.new ≡ self.old) × (seat.new ≡ seat.old) }
+        ensures of { IsSeat seat.old self.old }
     {
-        let index = seat.number() as usize;
-        index < self.kept.len() && self.kept[index] == seat.kept()
+        self.registers.compare(&mut seat.register);
     }
 
-    /// Makes the step that the seat of this number asks for, and counts it in the ledger.
+    /// Makes the step that the seat of this number asks for, and counts it in the ledger. The seat's
+    /// register has then what is kept for it.
     fn take(
         &mut self,
         alloc: Global,
-        cells: &Cells<K>,
+        cells: &Row<K>,
         keeper: &mut K,
         number: u16,
         mut event: Event,
         items: &Vec<Vec<u8>>,
         mark: &mut Share<N>,
-    ) -> Result<(BookReply, Option<Receipt<N, K>>, Kept), Unmade<N, K>>
-        requires cells { cells.now ≡ N.cells }
+        register: &mut Register,
+    ) -> Result<(BookReply, Option<Receipt<N, K>>, Kept), Refusal>
+        requires cells { cells.now ≡ N.cells.names }
         requires holds { ∥ K.holds keeper.old (kept_all self.old.records) ∥₁ }
         requires number { number < self.old.seats }
         requires mark { 0 < mark.old.parts }
+        requires register { (register.old.table ≡ N.cells.table)
+            × (register.old.number ≡ number) }
         ensures holds { ∥ K.holds keeper.new (kept_all self.new.records) ∥₁ }
         ensures found { (rest : List (List ℕ)) → K.found keeper.old rest → K.is_clean keeper.new
             → OnOk result (LeavesBehind K.found event rest keeper.new) }
@@ -285,7 +297,8 @@ impl<N: BookName, K: Keeper> Held<N, K> {
         ensures end { ∥ K.is_at_end keeper.old ∥₁ → ∥ K.is_at_end keeper.new ∥₁ }
         ensures mark { OnOk result ((mark.new.parts ≡ mark.old.parts)
             × (mark.new.amount ≡ mark.old.amount + 1)) }
-        ensures same { OnErr result (mark.new ≡ mark.old) }
+        ensures register { IfOk result (λ r. IsRegister N.cells.table number r.2 register.new) }
+        ensures same { OnErr result ((mark.new ≡ mark.old) × (register.new ≡ register.old)) }
         ensures book { IfOk result (λ r.
             Stepped self.old.book number event self.new.book r.0) }
         ensures seats { OnOk result (self.new.seats ≡ self.old.seats) }
@@ -297,17 +310,16 @@ impl<N: BookName, K: Keeper> Held<N, K> {
             (r.2 ≡ kept_after (kept_of number self.old.book.journal) r.0)
             × (r.2 ≡ kept_of number self.new.book.journal)) }
         ensures err { OnErr result (self.new ≡ self.old) }
-        ensures refused { IfErr result (λ u.
-            IsUnmadeStep K.may_fail self.old.book number event u.refusal u.taken) }
+        ensures refused { IfErr result (IsStepRefusal K.may_fail self.old.book number event) }
     {
         let step = self.book.answer(number, &mut event)?;
         let Ok(reply) = self.book.reply(&step.act) else {
-            return Err(Unmade::from(Refusal::NoMemory));
+            return Err(Refusal::NoMemory);
         };
         let receipts = &mut self.receipts;
         let mut stored = store(alloc, cells, keeper, receipts, &step.act, event, items)?;
         let Ok(()) = self.book.apply(step) else {
-            return Err(Unmade::from(Refusal::NoMemory));
+            return Err(Refusal::NoMemory);
         };
         let _steps = self.book.len();
         self.calls.add(mark, 1);
@@ -315,26 +327,27 @@ impl<N: BookName, K: Keeper> Held<N, K> {
         let index = number as usize;
         let kept = self.kept[index].after(&reply);
         self.kept[index] = kept;
+        self.registers.set(register, &kept);
         let receipt = last(&mut self.receipts, &reply);
         Ok((reply, receipt, kept))
     }
 }
 
 /// Keeps a new record with these items, sets its cell, and gives a receipt for it. There is room for
-/// one more then.
+/// one more then. `NoMemory` also where the cell isn't free.
 fn store<N: BookName, K: Keeper>(
     alloc: Global,
-    cells: &Cells<K>,
+    cells: &Row<K>,
     keeper: &mut K,
     receipts: &mut Vec<Receipt<N, K>>,
     act: &Act,
     event: Event,
     items: &Vec<Vec<u8>>,
-) -> Result<Option<Receipt<N, K>>, Unmade<N, K>>
-    requires cells { cells.now ≡ N.cells }
+) -> Result<Option<Receipt<N, K>>, Refusal>
+    requires cells { cells.now ≡ N.cells.names }
     requires asked { AsksFor event act.now }
     requires number { (n : ℕ) (c : Commit) → act.now ≡ Stored n c
-        → (0 < n) × (n ≤ length N.cells) }
+        → (0 < n) × (n ≤ length N.cells.names) }
     requires holds { ∥ K.holds keeper.old (kept_all receipts.old.items) ∥₁ }
     ensures kept { IfOk result (λ o. ∥ K.holds keeper.new
         (kept_all (receipts.old.items ++ option_to_list o)) ∥₁) }
@@ -353,33 +366,28 @@ fn store<N: BookName, K: Keeper>(
           bytes = commit_bytes c;
           items = contents items.now.items;
         })) }
-    ensures refused { IfErr result (λ u.
-        IsUnstored K.may_fail act.now u.refusal u.taken × (event ≢ Grant) × (event ≢ Give)) }
+    ensures refused { IfErr result (λ e.
+        IsUnstored K.may_fail e × (event ≢ Grant) × (event ≢ Give)) }
 {
     let (Act::Stored(number, commit), Event::Commit(offer)) = (act, event) else {
         return Ok(None);
     };
     let bytes = offer.into_bytes();
     if receipts.reserve(1).is_err() {
-        return Err(Unmade::from(Refusal::NoMemory));
+        return Err(Refusal::NoMemory);
     }
     let entry = Record::new(alloc, *number, &bytes, items, commit)?;
     let Ok(entry) = Box::new(alloc, entry) else {
-        return Err(Unmade::from(Refusal::NoMemory));
+        return Err(Refusal::NoMemory);
     };
     let Ok(()) = keeper.keep(alloc, bytes.as_slice(), items.as_slice()) else {
-        return Err(Unmade::from(Refusal::SourceFailed));
+        return Err(Refusal::SourceFailed);
     };
-    match cells.publish(keeper, entry) {
-        Ok(receipt) => Ok(Some(receipt)),
-        Err(taken) => {
-            keeper.stop();
-            Err(Unmade {
-                refusal: Refusal::BookFull,
-                taken: Some(taken),
-            })
-        }
-    }
+    let Some(receipt) = cells.publish(keeper, entry) else {
+        keeper.stop();
+        return Err(Refusal::NoMemory);
+    };
+    Ok(Some(receipt))
 }
 
 /// Keeps a second receipt of a new record.

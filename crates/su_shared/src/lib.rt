@@ -3,18 +3,20 @@
 #![tactic(auto)]
 
 mod cells;
+mod claims;
 mod faults;
 mod held;
 mod laws;
 mod locked;
 mod notes;
+mod registers;
 mod seats;
 mod shared;
 
-pub use cells::{BookName, Cells, Record};
-pub use faults::{BookFault, Unmade};
+pub use cells::{BookName, Cells, Record, Row};
+pub use faults::BookFault;
 pub use held::Held;
 pub use laws::{runs_are_orderly, steps_are_counted};
-pub use notes::{Receipt, Taken};
+pub use notes::Receipt;
 pub use seats::{Kept, Seat};
 pub use shared::{Closed, SharedBook, Unshared};

@@ -1,5 +1,5 @@
 // The book under the lock, beside its keeper.
-ghost use Rattle.std.specs.Prelude.{◌≡◌, ◌+◌, ◌<◌, ℕ, List, [], ◌∷◌, ◌++◌, false, IfSome, IfNone, IfOk, IfErr, OnOk, OnErr};
+ghost use Rattle.std.specs.Prelude.{◌≡◌, ◌+◌, ◌<◌, ℕ, List, [], ◌∷◌, ◌++◌, length, false, IfSome, IfNone, IfOk, IfErr, OnOk, OnErr};
 ghost use Rattle.sha2.specs.Sha256.{sha256};
 ghost use Rattle.su_bytes.specs.declared.refusals.Refusal.TheVariants.{SourceFailed};
 ghost use Rattle.su_book.specs.Machine.{count_of};
@@ -7,7 +7,7 @@ ghost use Rattle.su_shared.specs.Shares.{kept_all, found_as, IsFirstFound, IsOpe
 ghost use Rattle.su_shared.specs.Seats.{Learns};
 ghost use Rattle.su_shared.specs.Faults.{IsRecordFault};
 
-use crate::cells::{BookName, Cells};
+use crate::cells::{BookName, Row};
 use crate::faults::BookFault;
 use crate::held::Held;
 use crate::seats::Seat;
@@ -41,10 +41,10 @@ impl<N: BookName, K: Keeper> Opening<N, K> {
     pub(crate) fn take_up(
         &mut self,
         alloc: Global,
-        cells: &Cells<K>,
+        cells: &Row<K>,
         seat: &mut Seat<N, K>,
     ) -> Result<u64, BookFault>
-        requires cells { cells.now ≡ N.cells }
+        requires cells { cells.now ≡ N.cells.names }
         requires none { self.old.held.book.journal ≡ [] }
         requires records { self.old.held.records ≡ [] }
         requires turn { seat.old.kept.turn ≡ false }
@@ -54,8 +54,8 @@ impl<N: BookName, K: Keeper> Opening<N, K> {
         ensures count { IfOk result (λ n. count_of self.new.held.book.journal ≡ n) }
         ensures seat { IfOk result (λ n. (seat.new.kept.stored ≡ seat.old.kept.stored + n)
             × (seat.new.kept.turn ≡ false)) }
-        ensures refused { IfErr result (λ f. IsRecordFault K.may_fail seat.old.number
-            (count_of self.new.held.book.journal + 1) f) }
+        ensures refused { IfErr result (λ f. IsRecordFault K.may_fail (length N.cells.names)
+            seat.old.number (count_of self.new.held.book.journal + 1) f) }
     {
         for number in 1..u64::MAX {
             match self.take_one(alloc, cells, seat) {
@@ -65,7 +65,8 @@ impl<N: BookName, K: Keeper> Opening<N, K> {
             }
         }
         // no book has so many
-        Err(BookFault::Record(u64::MAX, Refusal::BookFull))
+        self.held.orders();
+        unreachable!()
     }
 
     /// Takes up the next record that the keeper found, and returns its number. `None` where there
@@ -73,10 +74,10 @@ impl<N: BookName, K: Keeper> Opening<N, K> {
     fn take_one(
         &mut self,
         alloc: Global,
-        cells: &Cells<K>,
+        cells: &Row<K>,
         seat: &mut Seat<N, K>,
     ) -> Result<Option<u64>, Refusal>
-        requires cells { cells.now ≡ N.cells }
+        requires cells { cells.now ≡ N.cells.names }
         ensures end { IfOk result (λ o. IfNone o (K.is_at_end self.new.keeper)) }
         ensures same { IfOk result (λ o. IfNone o
             ((self.new.held ≡ self.old.held) × (seat.new ≡ seat.old))) }
@@ -97,7 +98,8 @@ impl<N: BookName, K: Keeper> Opening<N, K> {
             (seat.new.kept.stored ≡ seat.old.kept.stored + 1) × (seat.new.kept.turn ≡ false))) }
         ensures err { OnErr result
             (count_of self.new.held.book.journal ≡ count_of self.old.held.book.journal) }
-        ensures refused { IfErr result (IsRecordRefusal K.may_fail seat.old.number) }
+        ensures refused { IfErr result
+            (IsRecordRefusal K.may_fail (length N.cells.names) seat.old.number) }
     {
         let Ok(found) = self.keeper.next(alloc) else {
             return Err(Refusal::SourceFailed);

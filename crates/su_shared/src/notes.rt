@@ -1,9 +1,9 @@
 // What receipts and seats know of the cells.
 ghost use Rattle.std.specs.Prelude.{◌≡◌, ◌-◌, ◌+◌, ◌<◌, slice_get, slice_index_or, slice_set, length, replicate, IfSome, IfNone, IfOk, None, Some};
 ghost use Rattle.once_cell.specs.Once.{Agrees};
-ghost use Rattle.su_shared.specs.Seats.{known_at, shown, IsReceipt, IsTaken, Learns};
+ghost use Rattle.su_shared.specs.Seats.{known_at, shown, IsReceipt, Learns};
 
-use crate::cells::{BookName, Cells, Record};
+use crate::cells::{BookName, Record, Row};
 use once_cell::race::Note;
 use std::alloc::{AllocError, Global};
 use std::marker::{Model, PhantomData};
@@ -25,26 +25,7 @@ impl<N: BookName, K: Keeper> Model for Receipt<N, K> {
 
     ghost view = { λ r. shown r.note.known };
 
-    ghost invariant = { λ r. IsReceipt N.cells r.number r.note };
-}
-
-/// Knows that the cell of a number holds a record already. Its model is that number.
-#[derive(Drop)]
-pub struct Taken<N: BookName, K: Keeper> {
-    number: u64,
-    note: Note<Record<K>>,
-    of: PhantomData<N>,
-}
-
-impl<N: BookName, K: Keeper> Model for Taken<N, K> {
-    ghost use Rattle.std.specs.Prelude.{ℕ};
-    ghost use Rattle.su_shared.specs.Seats.{IsTaken};
-
-    ghost Value = { ℕ };
-
-    ghost view = { λ t. t.number };
-
-    ghost invariant = { λ t. IsTaken N.cells t.number t.note };
+    ghost invariant = { λ r. IsReceipt N.cells.names r.number r.note };
 }
 
 /// What one seat knows of each cell. Its model is the records that are known, by index.
@@ -63,13 +44,13 @@ impl<N: BookName, K: Keeper> Model for Notes<N, K> {
 
     ghost view = { λ s. known_of s.notes.items };
 
-    ghost invariant = { λ s. AreNotes N.cells s.notes.items };
+    ghost invariant = { λ s. AreNotes N.cells.names s.notes.items };
 }
 
 impl<N: BookName, K: Keeper> Receipt<N, K> {
     /// Makes the receipt of a note that knows its cell's record.
     pub(crate) fn of(number: u64, note: Note<Record<K>>) -> Receipt<N, K>
-        requires { IsReceipt N.cells number note }
+        requires { IsReceipt N.cells.names number note }
         ensures { result ≡ shown note.known }
     {
         Receipt {
@@ -98,25 +79,11 @@ impl<N: BookName, K: Keeper> Receipt<N, K> {
     }
 }
 
-impl<N: BookName, K: Keeper> Taken<N, K> {
-    /// Makes it of a note that knows what the cell of this number holds.
-    pub(crate) fn of(number: u64, note: Note<Record<K>>) -> Taken<N, K>
-        requires { IsTaken N.cells number note }
-        ensures { result ≡ number }
-    {
-        Taken {
-            number,
-            note,
-            of: PhantomData,
-        }
-    }
-}
-
 impl<N: BookName, K: Keeper> Notes<N, K> {
     /// Makes notes that know nothing.
-    pub fn new(alloc: Global, cells: &Cells<K>) -> Result<Notes<N, K>, AllocError>
-        requires { cells.now ≡ N.cells }
-        ensures { IfOk result (λ notes. notes ≡ replicate (length N.cells) None) }
+    pub fn new(alloc: Global, cells: &Row<K>) -> Result<Notes<N, K>, AllocError>
+        requires { cells.now ≡ N.cells.names }
+        ensures { IfOk result (λ notes. notes ≡ replicate (length N.cells.names) None) }
     {
         let notes = cells.notes(alloc)?;
         Ok(Notes {
@@ -127,9 +94,9 @@ impl<N: BookName, K: Keeper> Notes<N, K> {
 
     /// Makes a second note of one cell.
     fn note(&mut self, index: usize) -> Note<Record<K>>
-        requires { index < length N.cells }
+        requires { index < length N.cells.names }
         ensures same { self.new ≡ self.old }
-        ensures cell { slice_get N.cells index ≡ Some result.cell }
+        ensures cell { slice_get N.cells.names index ≡ Some result.cell }
         ensures known { result.known ≡ slice_index_or self.old index None }
         ensures numbered { IfSome result.known (λ r. r.number ≡ index + 1) }
     {
@@ -138,7 +105,7 @@ impl<N: BookName, K: Keeper> Notes<N, K> {
 
     /// Keeps a note of one cell in place of the old one.
     fn put(&mut self, index: usize, note: Note<Record<K>>)
-        requires cell { slice_get N.cells index ≡ Some note.cell }
+        requires cell { slice_get N.cells.names index ≡ Some note.cell }
         requires numbered { IfSome note.known (λ r. r.number ≡ index + 1) }
         ensures put { self.new ≡ slice_set self.old index note.known }
         ensures within { index < length self.old }
@@ -149,8 +116,8 @@ impl<N: BookName, K: Keeper> Notes<N, K> {
     #[tactic(auto, using(crate::proofs::Knowing::learns_set))]
     /// Reads one cell. What is known is found; what is found has the number that is asked for, and
     /// is known from then on.
-    pub fn read<'a>(&mut self, cells: &'a Cells<K>, number: u64) -> Option<&'a Record<K>>
-        requires { cells.now ≡ N.cells }
+    pub fn read<'a>(&mut self, cells: &'a Row<K>, number: u64) -> Option<&'a Record<K>>
+        requires { cells.now ≡ N.cells.names }
         ensures none { IfNone result ((self.new ≡ self.old)
             × (known_at self.old number ≡ None)) }
         ensures number { IfSome result (λ r. (r.now.number ≡ number) × (0 < number)) }

@@ -2,10 +2,12 @@
 ghost use Rattle.std.specs.Prelude.{◌≡◌, ◌-◌, ◌<◌, ◌+◌, ◌^◌, IfSome, IfNone, None, Some, slice_set};
 ghost use Rattle.once_cell.specs.Once.{Agrees};
 ghost use Rattle.su_shared.specs.Seats.{known_at, Learns};
+ghost use Rattle.su_shared.specs.Registers.{IsRegister};
 ghost use Rattle.su_shared.specs.Shares.{kept_after, after_grant, after_commit, after_give, nothing};
 
-use crate::cells::{BookName, Cells, Record};
+use crate::cells::{BookName, Record, Row};
 use crate::notes::{Notes, Receipt};
+use crate::registers::Register;
 use std::marker::Model;
 use std::sync::ledger::Share;
 use su_book::BookReply;
@@ -78,24 +80,33 @@ pub struct Seat<N: BookName, K: Keeper> {
     pub(crate) kept: Kept,
     pub(crate) notes: Notes<N, K>,
     pub(crate) mark: Share<N>,
+    pub(crate) register: Register,
 }
 
 impl<N: BookName, K: Keeper> Model for Seat<N, K> {
     ghost use Rattle.std.specs.Prelude.{◌≡◌, ◌<◌};
     ghost use Rattle.su_shared.specs.Seats.{SeatView};
+    ghost use Rattle.su_shared.specs.Registers.{IsRegister};
 
     ghost Value = { SeatView };
 
     ghost view = { λ s. record { number = s.number; kept = s.kept; known = s.notes } };
 
-    // the steps that the ledger has of it are those that it made
-    ghost invariant = { λ s. (0 < s.mark.parts) × (s.mark.amount ≡ s.kept.steps) };
+    // the steps that the ledger has of it are those that it made, and its register has what it was told
+    ghost invariant = { λ s. (0 < s.mark.parts) × (s.mark.amount ≡ s.kept.steps)
+        × IsRegister N.cells.table s.number s.kept s.register };
 }
 
 impl<N: BookName, K: Keeper> Seat<N, K> {
     /// Makes a seat that was told nothing.
-    pub(crate) fn new(number: u16, notes: Notes<N, K>, mark: Share<N>) -> Seat<N, K>
-        requires { (0 < mark.parts) × (mark.amount ≡ 0) }
+    pub(crate) fn new(
+        number: u16,
+        notes: Notes<N, K>,
+        mark: Share<N>,
+        register: Register,
+    ) -> Seat<N, K>
+        requires mark { (0 < mark.parts) × (mark.amount ≡ 0) }
+        requires register { IsRegister N.cells.table number nothing register }
         ensures { result ≡ record { number = number; kept = nothing; known = notes } }
     {
         let kept = Kept {
@@ -109,6 +120,7 @@ impl<N: BookName, K: Keeper> Seat<N, K> {
             kept,
             notes,
             mark,
+            register,
         }
     }
 
@@ -127,8 +139,8 @@ impl<N: BookName, K: Keeper> Seat<N, K> {
     }
 
     /// Reads one cell, as `SharedBook::published` does.
-    pub(crate) fn read<'a>(&mut self, cells: &'a Cells<K>, number: u64) -> Option<&'a Record<K>>
-        requires { cells.now ≡ N.cells }
+    pub(crate) fn read<'a>(&mut self, cells: &'a Row<K>, number: u64) -> Option<&'a Record<K>>
+        requires { cells.now ≡ N.cells.names }
         ensures none { IfNone result ((self.new ≡ self.old)
             × (known_at self.old.known number ≡ None)) }
         ensures number { IfSome result (λ r. r.now.number ≡ number) }

@@ -4,17 +4,17 @@ ghost use Rattle.std.specs.List.{sum_by};
 ghost use Rattle.std.specs.List.Sorted.{IsNonDecreasingBy};
 ghost use Rattle.once_cell.specs.Once.{Agrees};
 ghost use Rattle.sha2.specs.Sha256.{sha256};
-ghost use Rattle.su_bytes.specs.declared.refusals.Refusal.TheVariants.{BadNumber, BadKey, SourceFailed, NoMemory};
+ghost use Rattle.su_bytes.specs.declared.refusals.Refusal.TheVariants.{BadNumber, BadKey, BookFull, SourceFailed, NoMemory};
 ghost use Rattle.su_chain.specs.ChainEnd.{HasBadKey};
 ghost use Rattle.su_book.specs.declared.events.Event.TheVariants.{Grant};
 ghost use Rattle.su_book.specs.Machine.{IsCapacity, IsRun, TellsRecords, count_of};
 ghost use Rattle.su_shared.specs.declared.faults.BookFault.TheVariants.{Refused};
 ghost use Rattle.su_shared.specs.Faults.{IsRecordFault};
 ghost use Rattle.su_shared.specs.Seats.{known_at, Learns};
-ghost use Rattle.su_shared.specs.Shares.{nothing, kept_after, after_commit, after_give, learned, Gives, IsFresh, IsGrantRefusal, IsCommitRefusal, IsGiveRefusal, MayMeet, MayMeetOrFull, IsOpened, EndsWith, AreAll};
+ghost use Rattle.su_shared.specs.Shares.{nothing, kept_after, after_commit, after_give, learned, Gives, IsFresh, IsGrantRefusal, IsCommitRefusal, IsGiveRefusal, IsFull, MayMeet, IsOpened, EndsWith, AreAll};
 ghost use Rattle.su_shared.specs.Entry.{IsShown, contents};
 
-use crate::cells::{BookName, Cells, Record};
+use crate::cells::{BookName, Cells, Record, Row};
 use crate::faults::BookFault;
 use crate::held::Held;
 use crate::locked::{Locked, Opening};
@@ -33,9 +33,9 @@ use su_lms::PublicKey;
 /// it; each is kept before it can be read.
 #[derive(Drop)]
 pub struct SharedBook<N: BookName, K: Keeper> {
-    cells: Cells<K>,
+    cells: Row<K>,
     locked: Mutex<Locked<N, K>>,
-    ghost named: { cells ≡ N.cells },
+    ghost named: { cells ≡ N.cells.names },
 }
 
 impl<N: BookName, K: Keeper> SharedBook<N, K> {
@@ -53,12 +53,15 @@ impl<N: BookName, K: Keeper> SharedBook<N, K> {
         requires ledger { (blank.name ≡ N.name) × (blank.parts ≡ N.parts) × (257 ≤ N.parts) }
         requires holds { K.holds keeper [] }
         requires end { K.is_at_end keeper }
-        ensures refused { IfErr result (λ e. ((e ≡ BadNumber) × ¬ IsCapacity (length cells))
-            ⊎ ((e ≡ BadKey) × IsCapacity (length cells) × HasBadKey roster) ⊎ (e ≡ NoMemory)) }
+        ensures refused { IfErr result (λ e.
+            ((e ≡ BadNumber) × ¬ IsCapacity (length cells.names))
+            ⊎ ((e ≡ BadKey) × IsCapacity (length cells.names) × HasBadKey roster)
+            ⊎ (e ≡ NoMemory)) }
     {
         let book = Book::new(alloc, cells.len() as u64, roster)?;
-        let held = Held::new(alloc, book, blank);
-        Ok(SharedBook::share(cells, Opening { held, keeper }))
+        let Cells { row, registers } = cells;
+        let held = Held::new(alloc, book, blank, registers);
+        Ok(SharedBook::share(row, Opening { held, keeper }))
     }
 
     /// Makes a book and its first seat, and takes up each record that the keeper found, as a commit
@@ -79,23 +82,24 @@ impl<N: BookName, K: Keeper> SharedBook<N, K> {
             keeper r.2 r.1.known) }
         ensures seat { IfOk result (λ r. (r.1.kept.stored ≡ r.2) × (r.1.kept.turn ≡ false)) }
         ensures refused { IfErr result (λ f.
-            ((f ≡ Refused BadNumber) × ¬ IsCapacity (length cells))
-            ⊎ ((f ≡ Refused BadKey) × IsCapacity (length cells) × HasBadKey roster)
+            ((f ≡ Refused BadNumber) × ¬ IsCapacity (length cells.names))
+            ⊎ ((f ≡ Refused BadKey) × IsCapacity (length cells.names) × HasBadKey roster)
             ⊎ (f ≡ Refused NoMemory)
-            ⊎ ((n : ℕ) × (0 < n) × IsRecordFault K.may_fail 0 n f)) }
+            ⊎ ((n : ℕ) × (0 < n) × IsRecordFault K.may_fail (length cells.names) 0 n f)) }
     {
         let book = Book::new(alloc, cells.len() as u64, roster)?;
-        let notes = Notes::new(alloc, &cells)?;
-        let mut held = Held::new(alloc, book, blank);
+        let Cells { row, registers } = cells;
+        let notes = Notes::new(alloc, &row)?;
+        let mut held = Held::new(alloc, book, blank, registers);
         let mut seat = held.seat(notes)?;
         let mut opening = Opening { held, keeper };
-        let count = opening.take_up(alloc, &cells, &mut seat)?;
-        Ok((SharedBook::share(cells, opening), seat, count))
+        let count = opening.take_up(alloc, &row, &mut seat)?;
+        Ok((SharedBook::share(row, opening), seat, count))
     }
 
     /// Shares a book, when all that its keeper found is taken up.
-    fn share(cells: Cells<K>, opening: Opening<N, K>) -> SharedBook<N, K>
-        requires cells { cells ≡ N.cells }
+    fn share(cells: Row<K>, opening: Opening<N, K>) -> SharedBook<N, K>
+        requires cells { cells ≡ N.cells.names }
         requires end { K.is_at_end opening.keeper }
     {
         let Opening { held, keeper } = opening;
@@ -107,7 +111,7 @@ impl<N: BookName, K: Keeper> SharedBook<N, K> {
     /// else only `NoMemory`. Its notes, one of each cell, are made before the lock is taken.
     pub fn seat(&self, rt: &impl Wait, alloc: Global) -> Result<Seat<N, K>, Refusal>
         ensures kept { IfOk result (λ seat. seat.kept ≡ nothing) }
-        ensures known { IfOk result (λ seat. seat.known ≡ replicate (length N.cells) None) }
+        ensures known { IfOk result (λ seat. seat.known ≡ replicate (length N.cells.names) None) }
         ensures refused { IfErr result (λ e. (e ≡ NoMemory) ⊎ (e ≡ BadNumber)) }
     {
         let notes = Notes::new(alloc, &self.cells)?;
@@ -116,8 +120,7 @@ impl<N: BookName, K: Keeper> SharedBook<N, K> {
 
     /// Takes the turn. The count of records is no less than all that the seat was told before; the
     /// receipt is that of the last record. `Busy` with the seat that has the turn, where it is
-    /// another; `BookFull` where what the seat was told isn't what is kept for it; `NoMemory`. A
-    /// refusal leaves the seat as it was.
+    /// another; `NoMemory`. A refusal leaves the seat as it was.
     pub fn grant(
         &self,
         rt: &impl Wait,
@@ -134,7 +137,7 @@ impl<N: BookName, K: Keeper> SharedBook<N, K> {
         }) }
         ensures learns { IfOk result (λ r.
             IfSome r.1 (λ x. Learns seat.old.known x seat.new.known)) }
-        ensures meets { IfErr result (λ e. MayMeet seat.old.kept seat.old.number true e) }
+        ensures meets { IfErr result (MayMeet seat.old.kept seat.old.number true) }
         ensures refused { IfErr result IsGrantRefusal }
         ensures err { OnErr result (seat.new ≡ seat.old) }
     {
@@ -150,8 +153,8 @@ impl<N: BookName, K: Keeper> SharedBook<N, K> {
     /// Stores a commit by its bytes, which is kept with the items that it needs, and gives the turn
     /// back. The commit is examined while the lock isn't held, so that no seat waits while its
     /// signature is checked. The number is greater than all that the seat was told before; the
-    /// receipt is that of these bytes and items. The refusals are those of `Held::step`. A refusal
-    /// leaves the seat as it was.
+    /// receipt is that of these bytes and items. The refusals are those of `Held::step`: `BookFull`
+    /// only where the book has as many records as cells. A refusal leaves the seat as it was.
     pub fn commit(
         &self,
         rt: &impl Wait,
@@ -173,10 +176,11 @@ impl<N: BookName, K: Keeper> SharedBook<N, K> {
         }) }
         ensures learns { IfOk result (λ r. Learns seat.old.known r.1 seat.new.known) }
         ensures holder { OnOk result (seat.old.kept.turn ≡ true) }
-        ensures meets { IfErr result
-            (MayMeetOrFull seat.old.kept seat.old.number false) }
-        ensures refused { IfErr result (λ e.
-            IsCommitRefusal K.may_fail seat.old.number bytes.now e) }
+        ensures meets { IfErr result (MayMeet seat.old.kept seat.old.number false) }
+        ensures refused { IfErr result (IsCommitRefusal K.may_fail (length N.cells.names)
+            seat.old.kept seat.old.number bytes.now) }
+        ensures full { IfErr result (λ e. e ≡ BookFull
+            → IsFull (length N.cells.names) seat.old.number seat.old.kept) }
         ensures err { OnErr result (seat.new ≡ seat.old) }
     {
         let offer = self.offer(rt, alloc, seat.kept().turn, bytes)?;
@@ -226,8 +230,7 @@ impl<N: BookName, K: Keeper> SharedBook<N, K> {
         self.locked.lock(rt).held.key(user)
     }
 
-    /// Gives the turn back. The refusals are `NotYourTurn`, and `BookFull` where what the seat was
-    /// told isn't what is kept for it. A refusal leaves the seat as it was.
+    /// Gives the turn back. The refusal is `NotYourTurn`. It leaves the seat as it was.
     pub fn give(&self, rt: &impl Wait, alloc: Global, seat: &mut Seat<N, K>) -> Result<(), Refusal>
         ensures seat { OnOk result (seat.new ≡ record {
           number = seat.old.number;
@@ -235,8 +238,7 @@ impl<N: BookName, K: Keeper> SharedBook<N, K> {
           known = seat.old.known;
         }) }
         ensures holder { OnOk result (seat.old.kept.turn ≡ true) }
-        ensures meets { IfErr result
-            (MayMeetOrFull seat.old.kept seat.old.number false) }
+        ensures meets { IfErr result (MayMeet seat.old.kept seat.old.number false) }
         ensures refused { IfErr result IsGiveRefusal }
         ensures err { OnErr result (seat.new ≡ seat.old) }
     {
@@ -340,7 +342,7 @@ impl<N: BookName, K: Keeper> SharedBook<N, K> {
 /// that of what lay there beside the keeper.
 #[derive(Drop)]
 pub struct Unshared<N: BookName, K: Keeper> {
-    cells: Cells<K>,
+    cells: Row<K>,
     locked: Locked<N, K>,
 }
 
@@ -352,7 +354,7 @@ impl<N: BookName, K: Keeper> Model for Unshared<N, K> {
 
     ghost view = { λ u. u.locked.held };
 
-    ghost invariant = { λ u. u.cells ≡ N.cells };
+    ghost invariant = { λ u. u.cells ≡ N.cells.names };
 }
 
 impl<N: BookName, K: Keeper> Unshared<N, K> {

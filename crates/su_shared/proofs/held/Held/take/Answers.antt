@@ -6,6 +6,7 @@ use Rattle.su_book.specs.declared.events.BookReply.{BookReply}
 use Rattle.su_book.specs.Machine.{BookState, MayAct, with_step, records_of}
 use Rattle.su_shared.specs.Entry.{Entry, contents}
 use Rattle.su_shared.specs.declared.seats.Kept.{Kept}
+use Rattle.su_shared.specs.Registers.{RegistersView}
 use Rattle.su_shared.specs.Shares.{HeldView, IsHeld, nothing, kept_after, kept_all, kept_by, kept_of, made_of, receipt_for, Gives}
 use Rattle.su_shared.proofs.Keeping.{step_of, added, added_is, added_made, held_step, kept_fits, kept_same, kept_told, gives}
 use Rattle.su_shared.proofs.held.Held.take.Goals as goal
@@ -21,7 +22,7 @@ after-kept-requires g c =
     let within : i < length s.kept.items = subst (λ (v : HeldView). i < v.seats) (sym c.self.view_is) c.requires.number in
     let at : c.index.result.now ≡ get_or s.kept.items i nothing = get_or_read s.kept.items _ _ within c.index.ensures nothing in
     let book : c.apply.new.self ≡ with_step b (step_of i act) = c.in-Ok-apply.ensures.added ∙ ap (λ (n : ℕ). with_step b (step_of n act)) c.in_ok-step.ensures.seat in
-    let fits = kept_fits (length g.N.BookName.cells) b s.receipts.items s.kept.items i c.self.invariant.0 within in
+    let fits = kept_fits (length g.N.BookName.cells.names) b s.receipts.items s.kept.items i c.self.invariant.0 within in
     let more : length c.apply.new.self.journal ≡ length b.journal + 1 = ap (λ (v : BookState). length v.journal) book ∙ length-append b.journal (step_of i act ∷ []) in
     let len : c.len-steps.result ≡ length c.apply.new.self.journal = c.len-steps.ensures in
     let small : c.len-steps.result < 18446744073709551616 = c.len-steps.type_inv in
@@ -57,18 +58,20 @@ invariant_of-self-2 g c =
     let book : c.apply.new.self ≡ with_step b (step_of i act) = c.in-Ok-apply.ensures.added ∙ ap (λ (n : ℕ). with_step b (step_of n act)) c.in_ok-step.ensures.seat in
     let told : kept_after (get_or s.kept.items i nothing) r ≡ kept_by (get_or s.kept.items i nothing) act = kept_told (records_of b.journal) act r (get_or s.kept.items i nothing) c.in-Ok.ensures.told in
     let kept : c.after-kept.result ≡ kept_by (get_or s.kept.items i nothing) act = c.after-kept.ensures ∙ ap (λ (k : Kept). kept_after k r) at ∙ told in
-    let new = held_step (length g.N.BookName.cells) b s.receipts.items s.kept.items items i act c.self.invariant.0 within may in
+    let new = held_step (length g.N.BookName.cells.names) b s.receipts.items s.kept.items items i act c.self.invariant.0 within may in
     let receipts : c.last-receipt.new.receipts.items ≡ s.receipts.items ++ added items act =
     c.last-receipt.ensures.items ∙ (c.keep.ensures.items ∙ (ap (λ (l : List Entry). l ++ option_to_list c.in_ok-stored.stored) c.in_ok-stored.ensures.items
     ∙ (ap (λ (l : List Entry). s.receipts.items ++ l) (added_is items act c.in_ok-stored.stored c.in_ok-stored.ensures.none c.in_ok-stored.ensures.stored)))) in
-    let P : BookState → List Entry → Kept → Type 0 = λ v l k. IsHeld (length g.N.BookName.cells) v l (set s.kept.items i k) in
+    let P : BookState → List Entry → Kept → Type 0 = λ v l k. IsHeld (length g.N.BookName.cells.names) v l (set s.kept.items i k) in
     let more : length c.apply.new.self.journal ≡ length b.journal + 1 = ap (λ (v : BookState). length v.journal) book ∙ length-append b.journal (step_of i act ∷ []) in (
       subst (λ (v : BookState). P v c.last-receipt.new.receipts.items c.after-kept.result) (sym book)
           (subst (λ (l : List Entry). P (with_step b (step_of i act)) l c.after-kept.result) (sym receipts)
           (subst (λ (k : Kept). P (with_step b (step_of i act)) (s.receipts.items ++ added items act) k) (sym kept) new)),
       omega (arith, c.add.ensures.total, c.self.invariant.1, more),
       c.self.invariant.2,
-      omega (arith, c.self.invariant.3, length-set s.kept.items i c.after-kept.result),
+      c.set.ensures.registers ∙ (ap (λ (r : RegistersView). record { table = r.table; values = set r.values c.args.register.now.number c.after-kept.result }) c.self.invariant.3
+          ∙ ap (λ (n : ℕ). record { table = g.N.BookName.cells.table; values = set s.kept.items n c.after-kept.result }) c.requires.register.1),
+      omega (arith, c.self.invariant.4, length-set s.kept.items i c.after-kept.result),
     )
 
 pub returns-clause-receipt : goal.returns-clause-receipt

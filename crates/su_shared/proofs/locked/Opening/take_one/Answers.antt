@@ -1,4 +1,4 @@
-use Rattle.std.proofs.Common.{◌≡◌, ◌∙◌, ℕ, List, [], ◌∷◌, ◌++◌, Option, Some, IfSome, ap, refl, sym, subst, inr, arith}
+use Rattle.std.proofs.Common.{◌≡◌, ◌∙◌, ℕ, List, [], ◌∷◌, ◌++◌, length, Option, Some, IfSome, ap, refl, sym, subst, inr, arith}
 use Rattle.std.proofs.lemmas.List.{append-nil}
 use Rattle.std.specs.Global.{Vec}
 use Rattle.std.specs.Option.{option_map}
@@ -37,10 +37,11 @@ returns-in_err-reply-clause-err g c =
 pub returns-in_err-reply-clause-refused : goal.returns-in_err-reply-clause-refused
 returns-in_err-reply-clause-refused g c =
     let p = err_from_is_err_and c.from_residual-in_err-reply.result c.from_residual-in_err-reply.ensures.1 in
-    let e : Refusal = c.in_err-reply.field-0.0.refusal in
+    let e : Refusal = c.in_err-reply.field-0.0 in
+    let cells : ℕ = length g.N.BookName.cells.names in
     let number : c.step.new.seat.number ≡ c.args.seat.now.number = ap (λ (s : SeatView). s.number) c.in_ok-step.ensures.seat in
-    let refused = refused_commit c.step.new.self.book c.step.new.seat.number c.new.result c.new.result.items e c.in_err-reply.field-0.0.taken _ refl c.in_err-reply.ensures.other c.in_err-reply.ensures.refused in
-    rw (p.1, p.2) (subst (λ (n : ℕ). IsRecordRefusal g.K.Keeper.may_fail n e) number (inr (inr (c.new.result.items, refused))))
+    let refused = refused_commit c.step.new.self.book cells c.step.new.seat.number c.step.new.seat.kept c.new.result c.new.result.items e refl c.in_err-reply.ensures.of c.in_err-reply.ensures.refused in
+    rw (p.1, p.2) (subst (λ (n : ℕ). IsRecordRefusal g.K.Keeper.may_fail cells n e) number (inr (inr (c.new.result.items, c.step.new.seat.kept, refused))))
 
 pub returns-clause-taken : goal.returns-clause-taken
 returns-clause-taken g c =

@@ -7,7 +7,7 @@ use Rattle.su_shared.proofs.Knowing.{notes_put}
 use Rattle.su_shared.proofs.notes.Notes.put.Goals as goal
 
 pub invariant_of-self : goal.invariant_of-self
-invariant_of-self g c = notes_put g.N.BookName.cells c.self.inside.notes.items c.args.index c.args.note c.self.invariant c.requires.cell c.requires.numbered
+invariant_of-self g c = notes_put g.N.BookName.cells.names c.self.inside.notes.items c.args.index c.args.note c.self.invariant c.requires.cell c.requires.numbered
 
 pub returns-clause-put : goal.returns-clause-put
 returns-clause-put g c =

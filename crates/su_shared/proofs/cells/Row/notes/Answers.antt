@@ -3,7 +3,7 @@ use Rattle.std.proofs.lemmas.List.{get_or-map, length-map}
 use Rattle.once_cell.specs.Once.{cell_name}
 use Rattle.su_shared.specs.Seats.{names_of, known_of}
 use Rattle.su_shared.proofs.Knowing.{names_push, known_push}
-use Rattle.su_shared.proofs.cells.Cells.notes.Goals as goal
+use Rattle.su_shared.proofs.cells.Row.notes.Goals as goal
 
 pub loop-cell-preserved : goal.loop-cell-preserved
 loop-cell-preserved g c =

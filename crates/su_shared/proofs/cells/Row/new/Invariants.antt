@@ -1,5 +1,5 @@
 use Rattle.std.proofs.Common.{◌≡◌, vec_len}
-use Rattle.su_shared.proofs.cells.Cells.new.Given as goal
+use Rattle.su_shared.proofs.cells.Row.new.Given as goal
 
 abbrev pub invariant-loop : goal.invariant-loop
 invariant-loop g l = vec_len l.cells ≡ l.counter
