@@ -280,11 +280,12 @@ impl<'a, W: Wire, C: Clock, E: Watch> Engine for Standby<'a, W, C, E> {
         first: &[u8],
         end: &[u8],
     ) -> Result<Vec<Pair>, Unanswered> {
-        if self.leading.is_none() {
-            let found = self.wait(alloc, first, end)?;
-            if !found.is_empty() {
-                return Ok(found);
-            }
+        if self.leading.is_some() {
+            return self.read_led(alloc, first, end);
+        }
+        let found = self.wait(alloc, first, end)?;
+        if !found.is_empty() {
+            return Ok(found);
         }
         self.read_led(alloc, first, end)
     }
