@@ -8,7 +8,6 @@ use Rattle.su_gateway.specs.declared.targets.Target.{Target}
 use Rattle.su_gateway.specs.declared.targets.Target.TheVariants.{Range}
 use Rattle.su_gateway.specs.Requests.{page_text}
 use Rattle.su_gateway.specs.Replies.{IsReply, IsFound}
-use Rattle.su_etcd.specs.Told.{Answered}
 use Rattle.su_lead.specs.Standing.{Gave}
 
 pub gave : (told : Target → List ℕ → List ℕ → Type 0) (first end body reply : List ℕ) (d : Data)

@@ -1,5 +1,5 @@
 -- What a server is told that stands by for the lead. (This project's own, over etcd's API reference.)
-use Rattle.std.specs.Prelude.{◌≡◌, ◌≤◌, ◌+◌, ◌-◌, ◌*◌, ℕ, List, Option, codes, IsSomeAnd}
+use Rattle.std.specs.Prelude.{◌≡◌, ◌≤◌, ◌+◌, ◌-◌, ◌*◌, ℕ, List, codes}
 use Rattle.su_gateway.specs.declared.targets.Target.{Target}
 use Rattle.su_gateway.specs.declared.targets.Target.TheVariants.{Txn, Range, KeepAlive}
 use Rattle.su_gateway.specs.Requests.{lead_text, lease_text, page_text}

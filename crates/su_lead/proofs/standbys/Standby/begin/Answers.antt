@@ -1,11 +1,7 @@
-use Rattle.std.proofs.Common.{◌≡◌, ◌∙◌, ◌⊎◌, ℕ, List, Option, Some, None, inl, inr, sym, subst, refl}
-use Rattle.std.specs.Prelude.{Contains, IsSomeAnd, true}
-use Rattle.std.specs.Global.{Vec}
-use Rattle.su_engine.specs.Pairs.{pairs_of}
-use Rattle.su_engine.specs.declared.engines.Pair.{Pair}
+use Rattle.std.proofs.Common.{◌≡◌, ℕ, List, Some, sym, subst}
 use Rattle.su_gateway.specs.declared.targets.Target.{Target}
-use Rattle.su_etcd.specs.Told.{Has, Lacked}
-use Rattle.su_lead.specs.Standing.{Gave, IsLed, roster_key}
+use Rattle.su_etcd.specs.Told.{Has}
+use Rattle.su_lead.specs.Standing.{IsLed, roster_key}
 use Rattle.su_lead.proofs.StandingLemmas.{only, some_of}
 use Rattle.su_lead.proofs.standbys.Standby.begin.Goals as goal
 

@@ -1,8 +1,6 @@
-use Rattle.std.proofs.Common.{◌≡◌, ℕ, List, Option, None, inl, inr, rules}
-use Rattle.std.specs.Prelude.{IsSomeAnd}
+use Rattle.std.proofs.Common.{◌≡◌, ℕ, List, None, inl, inr, rules}
 use Rattle.su_gateway.specs.declared.targets.Target.{Target}
 use Rattle.su_etcd.specs.Told.{Has}
-use Rattle.su_lead.specs.Standing.{Gave}
 use Rattle.su_lead.proofs.StandingLemmas.{gave_stays, moved, either, either_none, weaker}
 use Rattle.su_lead.proofs.standbys.StandbyEngine.read_page.Goals as goal
 
