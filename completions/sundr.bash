@@ -42,7 +42,7 @@ _sundr() {
         keygen) options="--entropy --out --height --width" ;;
         audit) options="--log" files=-f ;;
         serve)
-            options="--port --listen --workers --capacity --turn-seconds --idle-minutes --sessions --store --cache" files=-f ;;
+            options="--port --listen --workers --capacity --turn-seconds --idle-minutes --sessions --store --etcd --cache" files=-f ;;
         client) options="--port --user --key --log --tries --leaves-ahead --next-key --stop --batch --keep-tree" files=-f ;;
         backup) options="--port --to" files=-f ;;
         help)
@@ -57,7 +57,7 @@ _sundr() {
         --format) _sundr_words "1 2 3 4" ;;
         --height) _sundr_words "5 10" ;;
         --width) _sundr_words "4 8" ;;
-        --server | --count | --users | --port | --listen | --workers | --capacity | --turn-seconds | --idle-minutes) ;;
+        --server | --count | --users | --port | --listen | --workers | --capacity | --turn-seconds | --idle-minutes | --etcd) ;;
         --sessions | --cache | --tries | --leaves-ahead) ;;
         --user) ;;
         *)

@@ -80,6 +80,7 @@ complete -c sundr -n '__sundr_at serve' -l turn-seconds -x -d 'How long a sessio
 complete -c sundr -n '__sundr_at serve' -l idle-minutes -x -d 'How long a session may be silent'
 complete -c sundr -n '__sundr_at serve' -l sessions -x -d 'It ends after so many'
 complete -c sundr -n '__sundr_at serve' -l store -x -a '(__fish_complete_directories)' -d 'The folder of what is stored'
+complete -c sundr -n '__sundr_at serve' -l etcd -x -d 'The members of the etcd of what is stored, IP:PORT,..'
 complete -c sundr -n '__sundr_at serve' -l cache -x -d 'MiB of items in memory at most'
 complete -c sundr -n '__sundr_at client' -l user -x -d 'The user who works'
 complete -c sundr -n '__sundr_at client' -l key -r -F -d 'The key file'

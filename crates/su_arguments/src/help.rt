@@ -128,6 +128,11 @@ anybody is told of it. Without --store all is kept in memory: with its end it is
 gone, but for what clients saved, and once the items of its commits fill --cache
 it takes no more.
 
+With --etcd 127.0.0.1:2379,.. in place of --store it keeps all in the etcd of
+these members, which several servers share: one of them serves, and the others
+stand by until it is gone. A commit is on the disks of most members then before
+anybody is told of it.
+
 It listens on 127.0.0.1, so that only this machine reaches it, and tunnels that
 end there; --listen 0.0.0.0 opens it to all addresses. Whoever connects can
 read, and can take the turn: a session that has it and says nothing keeps it for

@@ -9,7 +9,7 @@ use crate::keys::{keys_of, needed_keys};
 use crate::line::Line;
 use clap::{Arg, ArgMatches, Command};
 use std::alloc::{AllocError, Global};
-use std::net::{IpAddr, Ipv4Addr};
+use std::net::{IpAddr, Ipv4Addr, SocketAddr};
 use su_line::{Draft, LineFault, copy, flag, needed, option, usage};
 
 /// How many MiB of items a server has in memory at most, where nothing else is asked.
@@ -19,8 +19,8 @@ const CACHE: u32 = 256;
 /// of 1 to 1,000,000 commits of users with the public keys in these files, 1 to 64 of them: for so
 /// many sessions, 1 to 1,000,000, or until it is ended. A session that has the turn may be silent for
 /// so many seconds of it, 1 to 3,600, and another one for so many minutes, 1 to 1,440. What is stored
-/// is kept in a folder, or in memory alone; so many MiB of items are in memory at most, 1 to
-/// 1,000,000.
+/// is kept in a folder, or in the etcd of these members, or in memory alone; so many MiB of items are
+/// in memory at most, 1 to 1,000,000.
 #[derive(Debug, Drop)]
 pub struct ServeArgs {
     pub listen: IpAddr,
@@ -31,6 +31,7 @@ pub struct ServeArgs {
     pub capacity: u64,
     pub sessions: Option<u32>,
     pub store: Option<String>,
+    pub etcd: Vec<SocketAddr>,
     pub cache: u32,
     pub keys: Vec<String>,
 }
@@ -71,6 +72,7 @@ pub(crate) fn serve_command<'a>(alloc: Global) -> Result<Command<'a>, AllocError
         .arg(idle_minutes(alloc))
         .arg(sessions(alloc))
         .arg(store(alloc))
+        .arg(etcd(alloc))
         .arg(cache(alloc))
         .arg(needed_keys(alloc))
         .finish()
@@ -123,6 +125,11 @@ fn sessions<'a>(alloc: Global) -> Arg<'a> {
 fn store<'a>(alloc: Global) -> Arg<'a> {
     let help = "The folder in which it keeps all that is stored";
     option(alloc, "store", "DIR", help)
+}
+
+fn etcd<'a>(alloc: Global) -> Arg<'a> {
+    let help = "The members of the etcd in which it keeps all instead, IP:PORT,..";
+    option(alloc, "etcd", "MEMBERS", help)
 }
 
 fn cache<'a>(alloc: Global) -> Arg<'a> {
@@ -197,7 +204,7 @@ fn needed_port<'a>(alloc: Global, help: &'a str) -> Arg<'a> {
 }
 
 /// `serve --port P --workers W --capacity C [--listen ADDR] [--turn-seconds S] [--idle-minutes M]
-/// [--sessions N] [--store DIR] [--cache MIB] PUB..`
+/// [--sessions N] [--store DIR | --etcd MEMBERS] [--cache MIB] PUB..`
 pub(crate) fn serve_of(alloc: Global, values: &ArgMatches<'_>) -> Result<Line, LineFault>
     ensures { IfOk result HasGoodNumbers }
 {
@@ -216,7 +223,7 @@ pub(crate) fn serve_of(alloc: Global, values: &ArgMatches<'_>) -> Result<Line, L
     let Some(listen) = listen_of(values) else {
         return Err(usage(alloc, "error: --listen takes an IP address of this machine"));
     };
-    let store = copy(alloc, values.get_str("store"))?;
+    let (store, etcd) = places_of(alloc, values)?;
     let keys = keys_of(alloc, values)?;
     Ok(Line::Serve(ServeArgs {
         listen,
@@ -227,9 +234,46 @@ pub(crate) fn serve_of(alloc: Global, values: &ArgMatches<'_>) -> Result<Line, L
         capacity,
         sessions: sessions_of(values),
         store,
+        etcd,
         cache: cache_of(values).unwrap_or(CACHE),
         keys,
     }))
+}
+
+/// The folder in which a server keeps what is stored, if there is one, and the members of its etcd.
+fn places_of(
+    alloc: Global,
+    values: &ArgMatches<'_>,
+) -> Result<(Option<String>, Vec<SocketAddr>), LineFault> {
+    let store = copy(alloc, values.get_str("store"))?;
+    let etcd = match values.get_str("etcd") {
+        Some(text) => members_of(alloc, text)?,
+        None => Vec::new(alloc),
+    };
+    if store.is_some() && !etcd.is_empty() {
+        return Err(usage(
+            alloc,
+            "error: what is stored is kept in a folder or in an etcd, not in both",
+        ));
+    }
+    Ok((store, etcd))
+}
+
+/// Reads the addresses of the members of an etcd, between commas.
+fn members_of(alloc: Global, text: &str) -> Result<Vec<SocketAddr>, LineFault> {
+    let mut members = Vec::new(alloc);
+    for word in text.split(',') {
+        let Ok(member) = word.parse::<SocketAddr>() else {
+            return Err(usage(
+                alloc,
+                "error: --etcd takes addresses and ports, as in 127.0.0.1:2379,127.0.0.1:2479",
+            ));
+        };
+        if members.push(member).is_err() {
+            return Err(LineFault::NoMemory);
+        }
+    }
+    Ok(members)
 }
 
 /// `backup --port P --to DIR PUB..`

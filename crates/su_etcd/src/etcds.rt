@@ -121,6 +121,7 @@ impl<'a, W: Wire, C: Clock> Etcd<'a, W, C> {
             → Has (λ t q r. W.told self.new.wire t q r) self.new.lead k v }
         ensures lacked { (k : List ℕ) → Lacked (λ t q r. W.told self.old.wire t q r) k
             → Lacked (λ t q r. W.told self.new.wire t q r) k }
+        ensures lead { self.new.lead ≡ self.old.lead }
     {
         let text = create_text(alloc, self.lead, first, beside)?;
         let reply = self.ask_for(alloc, Target::Txn, text)?;
@@ -136,6 +137,7 @@ impl<'a, W: Wire, C: Clock> Etcd<'a, W, C> {
             → Has (λ t q r. W.told self.new.wire t q r) self.new.lead k v }
         ensures lacked { (k : List ℕ) → Lacked (λ t q r. W.told self.old.wire t q r) k
             → Lacked (λ t q r. W.told self.new.wire t q r) k }
+        ensures lead { self.new.lead ≡ self.old.lead }
     {
         let text = compare_text(alloc, first, beside)?;
         let reply = self.ask_for(alloc, Target::Txn, text)?;
@@ -153,6 +155,7 @@ impl<'a, W: Wire, C: Clock> Etcd<'a, W, C> {
             → Has (λ t q r. W.told self.new.wire t q r) self.new.lead k v }
         ensures lacked { (k : List ℕ) → Lacked (λ t q r. W.told self.old.wire t q r) k
             → Lacked (λ t q r. W.told self.new.wire t q r) k }
+        ensures lead { self.new.lead ≡ self.old.lead }
     {
         let text = range_text(alloc, key)?;
         let reply = self.ask_for(alloc, Target::Range, text)?;
@@ -175,6 +178,7 @@ impl<'a, W: Wire, C: Clock> Etcd<'a, W, C> {
             → Has (λ t q r. W.told self.new.wire t q r) self.new.lead k v }
         ensures lacked { (k : List ℕ) → Lacked (λ t q r. W.told self.old.wire t q r) k
             → Lacked (λ t q r. W.told self.new.wire t q r) k }
+        ensures lead { self.new.lead ≡ self.old.lead }
     {
         let text = page_text(alloc, first, end)?;
         let reply = self.ask_for(alloc, Target::Range, text)?;
@@ -209,7 +213,16 @@ impl<'a, W: Wire, C: Clock> Engine for Etcd<'a, W, C> {
         alloc: Global,
         first: &Pair,
         beside: &[Pair],
-    ) -> Result<bool, Unanswered> {
+    ) -> Result<bool, Unanswered>
+        ensures made { IfOk result (λ is. is ≡ true → (p : List ℕ × List ℕ)
+            → Contains ((first.now.key.items, first.now.value.items) ∷ pairs_of beside.now) p
+            → Has (λ t q r. W.told self.new.wire t q r) self.new.lead p.0 p.1) }
+        ensures held { (k v : List ℕ) → Has (λ t q r. W.told self.old.wire t q r) self.old.lead k v
+            → Has (λ t q r. W.told self.new.wire t q r) self.new.lead k v }
+        ensures lacked { (k : List ℕ) → Lacked (λ t q r. W.told self.old.wire t q r) k
+            → Lacked (λ t q r. W.told self.new.wire t q r) k }
+        ensures lead { self.new.lead ≡ self.old.lead }
+    {
         if self.create(alloc, first, beside)? {
             return Ok(true);
         }
@@ -217,7 +230,17 @@ impl<'a, W: Wire, C: Clock> Engine for Etcd<'a, W, C> {
         self.compare(alloc, first, beside)
     }
 
-    fn read(&mut self, alloc: Global, key: &[u8]) -> Result<Option<Vec<u8>>, Unanswered> {
+    fn read(&mut self, alloc: Global, key: &[u8]) -> Result<Option<Vec<u8>>, Unanswered>
+        ensures found { IfOk result (λ o. IfSome o (λ value.
+            Has (λ t q r. W.told self.new.wire t q r) self.new.lead key.now value.items)) }
+        ensures none { IfOk result (λ o. o ≡ None
+            → Lacked (λ t q r. W.told self.new.wire t q r) key.now) }
+        ensures held { (k v : List ℕ) → Has (λ t q r. W.told self.old.wire t q r) self.old.lead k v
+            → Has (λ t q r. W.told self.new.wire t q r) self.new.lead k v }
+        ensures lacked { (k : List ℕ) → Lacked (λ t q r. W.told self.old.wire t q r) k
+            → Lacked (λ t q r. W.told self.new.wire t q r) k }
+        ensures lead { self.new.lead ≡ self.old.lead }
+    {
         let pairs = self.pairs_at(alloc, key)?;
         value_of(pairs, key)
     }
@@ -227,7 +250,18 @@ impl<'a, W: Wire, C: Clock> Engine for Etcd<'a, W, C> {
         alloc: Global,
         first: &[u8],
         end: &[u8],
-    ) -> Result<Vec<Pair>, Unanswered> {
+    ) -> Result<Vec<Pair>, Unanswered>
+        ensures found { IfOk result (λ pairs. (p : List ℕ × List ℕ)
+            → Contains (pairs_of pairs.items) p
+            → Has (λ t q r. W.told self.new.wire t q r) self.new.lead p.0 p.1) }
+        ensures none { IfOk result (λ pairs. pairs.items ≡ []
+            → Lacked (λ t q r. W.told self.new.wire t q r) first.now) }
+        ensures held { (k v : List ℕ) → Has (λ t q r. W.told self.old.wire t q r) self.old.lead k v
+            → Has (λ t q r. W.told self.new.wire t q r) self.new.lead k v }
+        ensures lacked { (k : List ℕ) → Lacked (λ t q r. W.told self.old.wire t q r) k
+            → Lacked (λ t q r. W.told self.new.wire t q r) k }
+        ensures lead { self.new.lead ≡ self.old.lead }
+    {
         if !is_before(first, end) {
             return Err(Unanswered);
         }

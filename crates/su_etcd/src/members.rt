@@ -28,8 +28,10 @@ pub struct Members<'a, T: Net<Stream = TcpStream>> {
 }
 
 impl<'a, T: Net<Stream = TcpStream>> Members<'a, T> {
-    /// Makes the wire to these members.
-    pub fn new(host: &'a T, addresses: Vec<SocketAddr>) -> Members<'a, T> {
+    /// Makes the wire to these members, over which nothing was asked yet.
+    pub fn new(host: &'a T, addresses: Vec<SocketAddr>) -> Members<'a, T>
+        ensures { (t : Target) (q r : List ℕ) → Logged result.log.items t q r → ⊥ }
+    {
         Members {
             host,
             addresses,

@@ -13,7 +13,7 @@ pub(crate) struct Door<'a, T> {
     pub rt: &'a HostRuntime,
     pub host: &'a T,
     pub ends: &'a Ends,
-    pub port: &'a Port,
+    pub port: &'a Port<'a>,
     pub address: SocketAddr,
     pub sessions: Option<u32>,
 }
@@ -21,6 +21,9 @@ pub(crate) struct Door<'a, T> {
 impl<T: Net<Listener = TcpListener, Stream = TcpStream>> Gate for Door<'_, T> {
     fn open(&self, records: u64) {
         let address = self.address;
+        if self.ends.has_failed() {
+            return;
+        }
         if let Err(reason) = self.port.open(self.host, address) {
             self.ends.fail();
             tell_fault(self.rt, format_args!("listening on {address}: {reason}"));

@@ -9,7 +9,10 @@ mod ends;
 mod faults;
 mod fills;
 mod guards;
+mod leading;
+mod led_keepers;
 mod links;
+mod outlets;
 mod ports;
 mod serving;
 mod settings;
@@ -18,5 +21,5 @@ mod words;
 
 pub use backups::{Copied, backup};
 pub use links::{Link, connect};
-pub use serving::{Options, serve};
+pub use serving::{Options, Place, serve};
 pub use su_server::Patience;

@@ -1,20 +1,26 @@
 // The port of a server, at which nobody is served before its records are taken up.
+use crate::outlets::Outlet;
 use std::io;
 use std::io::ErrorKind;
 use std::net::{Net, OpenListener, SocketAddr, TcpListener, TcpStream};
 use std::sync::OnceLock;
+use su_lead::Lead;
 
 /// A port that is opened later than it is handed on. Before that nobody can connect to it.
 #[derive(Drop)]
-pub(crate) struct Port {
+pub(crate) struct Port<'a> {
     listener: OnceLock<TcpListener>,
+    clock: &'a HostRuntime,
+    lead: &'a Lead,
 }
 
-impl Port {
-    /// Makes one that isn't open.
-    pub fn new() -> Port {
+impl<'a> Port<'a> {
+    /// Makes one that isn't open, of a server with this lead.
+    pub fn new(clock: &'a HostRuntime, lead: &'a Lead) -> Port<'a> {
         Port {
             listener: OnceLock::new(),
+            clock,
+            lead,
         }
     }
 
@@ -42,11 +48,17 @@ impl Port {
     }
 }
 
-impl OpenListener for Port {
-    type Stream = TcpStream;
+impl<'a> OpenListener for Port<'a> {
+    type Stream = Outlet<'a>;
 
-    fn accept(&self) -> io::Result<(TcpStream, SocketAddr)> {
-        self.listener()?.accept()
+    fn accept(&self) -> io::Result<(Outlet<'a>, SocketAddr)> {
+        let (stream, peer) = self.listener()?.accept()?;
+        let outlet = Outlet {
+            stream,
+            clock: self.clock,
+            lead: self.lead,
+        };
+        Ok((outlet, peer))
     }
 
     fn set_nonblocking(&self, nonblocking: bool) -> io::Result<()> {

@@ -8,6 +8,7 @@ use crate::doors::{Door, wake};
 use crate::ends::Ends;
 use crate::faults::tell_fault;
 use crate::guards::{Closing, Guard};
+use crate::leading::serve_led;
 use crate::ports::Port;
 use crate::settings::Setting;
 use crate::stores::{DiskFile, FULL, Folder, options};
@@ -17,7 +18,7 @@ use std::net::{Net, SocketAddr, TcpListener, TcpStream};
 use std::sync::Wait;
 use std::thread;
 use std::thread::Threads;
-use su_bytes::Roster;
+use su_bytes::{Refusal, Roster};
 use su_keeper::{Forgetful, Keeper};
 use su_places::StoreVolume;
 use su_server::{Connections, Crowd, Patience, Report, Stop, serve_book};
@@ -33,10 +34,19 @@ use su_vault::{Shelf, Vault, Volume};
 /// How many bytes a MiB has.
 const MIB: usize = 1_048_576;
 
+/// Where a server keeps what is stored: in memory alone, in a folder, or in the etcd of these
+/// members.
+#[derive(Clone, Copy)]
+pub enum Place<'a> {
+    Memory,
+    Folder(&'a str),
+    Etcd(&'a [SocketAddr]),
+}
+
 /// What a server is asked for: its address, for how long a session may be silent, how many workers
-/// it has and commits it may store, after how many sessions it ends, if so, the folder in which it
-/// keeps what is stored, if there is one, and how many MiB items may take in memory: those that stay
-/// there, and as many again of those that are kept in the folder too.
+/// it has and commits it may store, after how many sessions it ends, if so, where it keeps what is
+/// stored, and how many MiB items may take in memory: those that stay there, and as many again of
+/// those that are kept elsewhere too.
 #[derive(Clone, Copy)]
 pub struct Options<'a> {
     pub address: SocketAddr,
@@ -44,14 +54,14 @@ pub struct Options<'a> {
     pub workers: usize,
     pub capacity: u64,
     pub sessions: Option<u32>,
-    pub store: Option<&'a str>,
+    pub place: Place<'a>,
     pub cache: u32,
 }
 
-/// The same, without the folder.
+/// The same, without that place.
 #[derive(Clone, Copy)]
-struct Terms {
-    address: SocketAddr,
+pub(crate) struct Terms {
+    pub address: SocketAddr,
     patience: Patience,
     workers: usize,
     capacity: u64,
@@ -60,7 +70,7 @@ struct Terms {
 
 /// Serves the sessions of an address over a book for the users of a roster, and returns whether it ended
 /// without a fault. With a store the book goes on from what is kept there, and each commit is on the
-/// disk before anybody is told of it. Standard error tells when it listens, what it served, and each
+/// disk before anybody is told of it. With an etcd it stands by until it leads. Standard error tells when it listens, what it served, and each
 /// fault: of the store's file, of the port, of a record that isn't taken up again, of a commit that
 /// couldn't be kept, after which it ends, and where fewer connections came than were asked for.
 pub fn serve<T>(rt: &HostRuntime, host: &T, options: Options<'_>, roster: Roster) -> bool
@@ -85,7 +95,7 @@ where
         blocks: &blocks,
         ends: &ends,
     };
-    serve_until_asked(&setting, terms, roster, options.store)
+    serve_until_asked(&setting, terms, roster, options.place)
 }
 
 /// Serves, and ends once standard input asks for it; where no thread can wait for that, at once, and
@@ -94,7 +104,7 @@ fn serve_until_asked<T>(
     setting: &Setting<'_, T>,
     terms: Terms,
     roster: Roster,
-    store: Option<&str>,
+    place: Place<'_>,
 ) -> bool
 where
     T: Net<Listener = TcpListener, Stream = TcpStream> + Threads + Wait + Sync,
@@ -118,9 +128,10 @@ where
                     "no thread for standard input, which may ask for the end",
                 );
             }
-            let good = match store {
-                Some(folder) => serve_kept(setting, terms, roster, folder),
-                None => serve_over(setting, terms, roster, Forgetful).0,
+            let good = match place {
+                Place::Folder(folder) => serve_kept(setting, terms, roster, folder),
+                Place::Etcd(members) => serve_led(setting, terms, roster, members),
+                Place::Memory => serve_over(setting, terms, roster, Forgetful).0,
             };
             over.set();
             good
@@ -220,7 +231,7 @@ where
 
 /// Serves over a new book with this keeper, which is handed back unless the book was refused. It
 /// listens once the records of the keeper are taken up.
-fn serve_over<K, T>(
+pub(crate) fn serve_over<K, T>(
     setting: &Setting<'_, T>,
     terms: Terms,
     roster: Roster,
@@ -235,7 +246,7 @@ where
     let sessions = terms.sessions;
     let count = sessions.unwrap_or(u32::MAX);
     let crowd = Crowd::new(terms.workers);
-    let port = Port::new();
+    let port = Port::new(rt, &ends.lead);
     let connections = Connections::new(
         rt.alloc(),
         &port,
@@ -293,6 +304,8 @@ fn tell_book(rt: &HostRuntime, ends: &Ends, fault: &BookFault) -> bool {
         return false;
     }
     match fault {
+        // it was asked to end before its records were taken up
+        BookFault::Record(_, Refusal::SourceFailed) if ends.stop.is_set() => true,
         BookFault::Refused(refusal) => tell_fault(rt, format_args!("serving: {refusal}")),
         BookFault::Record(number, refusal) => {
             let fault = format_args!(

@@ -9,7 +9,7 @@ use std::sync::Wait;
 use std::thread::Threads;
 use su_arguments::ServeArgs;
 use su_desk_script::Status;
-use su_host::{Options, Patience};
+use su_host::{Options, Patience, Place};
 
 /// Serves a shared folder, as the command line asks for it.
 /// `Fault` where a key can't be read, and where `su_host` ends with a fault, which standard error
@@ -36,12 +36,21 @@ where
         workers: args.workers,
         capacity: args.capacity,
         sessions: args.sessions,
-        store: args.store.as_ref().map(|folder| folder.as_str()),
+        place: place_of(args),
         cache: args.cache,
     };
     if su_host::serve(rt, host, options, roster) {
         Status::Finished
     } else {
         Status::Fault
+    }
+}
+
+/// Where the server keeps what is stored.
+fn place_of(args: &ServeArgs) -> Place<'_> {
+    match &args.store {
+        Some(folder) => Place::Folder(folder.as_str()),
+        None if args.etcd.is_empty() => Place::Memory,
+        None => Place::Etcd(args.etcd.as_slice()),
     }
 }
